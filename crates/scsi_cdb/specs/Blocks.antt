@@ -1,0 +1,100 @@
+-- The table of descriptor blocks (SPC-4, sections 6.6 and 6.33; SBC-3, sections 5.15 and 5.16 and
+-- the READ and WRITE commands).
+-- Each record is a list of rows over the 16 bytes; bits of no row are free, and are written 0.
+use Rattle.std.specs.Prelude.{◌≡◌, ℕ, Bool, false, ◌==◌, ◌&&◌, ◌||◌, List, [], ◌∷◌, length, replicate}
+use Rattle.std.specs.List.{list_any}
+use Rattle.scsi_cdb.specs.declared.block.Cdb.{Cdb}
+use Rattle.scsi_cdb.specs.declared.block.Cdb.TheVariants.{TestUnitReady, Inquiry, Capacity10, Read10, Write10, Read16, Write16, Capacity16, ReportLuns, Unknown}
+use Rattle.scsi_cdb.specs.declared.block.Transfer10.{Transfer10}
+use Rattle.scsi_cdb.specs.declared.block.Transfer16.{Transfer16}
+use Rattle.scsi_cdb.specs.Layout.{Row, always, Hold, AreFilled, put_all, bits_at, number_at}
+use Rattle.scsi_cdb.specs.Layout.Row.{bit, bits, bytes, raw}
+
+-- the operation code of a command, byte 0 of its block (SPC-4 and SBC-3)
+abbrev pub code : ℕ → Row
+code n = bytes 0 0 (always n)
+
+-- READ(10) and WRITE(10) (SBC-3), past their codes
+abbrev pub transfer10 : Transfer10 → List Row
+transfer10 t =
+    bytes 1 1 (always t.options)
+    ∷ bytes 2 5 (always t.logical_block_address)
+    ∷ bits 6 0x1f (always t.group_number)
+    ∷ bytes 7 8 (always t.blocks)
+    ∷ bytes 9 9 (always t.control)
+    ∷ []
+
+-- READ(16) and WRITE(16) (SBC-3), past their codes
+abbrev pub transfer16 : Transfer16 → List Row
+transfer16 t =
+    bytes 1 1 (always t.options)
+    ∷ bytes 2 9 (always t.logical_block_address)
+    ∷ bytes 10 13 (always t.blocks)
+    ∷ bits 14 0x1f (always t.group_number)
+    ∷ bytes 15 15 (always t.control)
+    ∷ []
+
+-- The rows of a record. TEST UNIT READY, INQUIRY and REPORT LUNS are SPC-4's, the others SBC-3's;
+-- Unknown is own profile.
+abbrev pub rows : Cdb → List Row
+rows (TestUnitReady control) =
+    code 0x00
+    ∷ bytes 5 5 (always control)
+    ∷ []
+rows (Inquiry evpd page allocation_length control) =
+    code 0x12
+    ∷ bit 1 0x01 (always evpd)
+    ∷ bytes 2 2 (always page)
+    ∷ bytes 3 4 (always allocation_length)
+    ∷ bytes 5 5 (always control)
+    ∷ []
+rows (Capacity10 control) =
+    code 0x25
+    ∷ bytes 9 9 (always control)
+    ∷ []
+rows (Read10 t) = code 0x28 ∷ transfer10 t
+rows (Write10 t) = code 0x2a ∷ transfer10 t
+rows (Read16 t) = code 0x88 ∷ transfer16 t
+rows (Write16 t) = code 0x8a ∷ transfer16 t
+rows (Capacity16 allocation_length control) =
+    code 0x9e
+    ∷ bits 1 0x1f (always 0x10)
+    ∷ bytes 10 13 (always allocation_length)
+    ∷ bytes 15 15 (always control)
+    ∷ []
+rows (ReportLuns select allocation_length control) =
+    code 0xa0
+    ∷ bytes 2 2 (always select)
+    ∷ bytes 6 9 (always allocation_length)
+    ∷ bytes 11 11 (always control)
+    ∷ []
+rows (Unknown block) = raw 0 15 (always block) ∷ []
+
+-- the block is one of those that have a record of their own: its code is one of the table's, 9e
+-- with service action 10
+abbrev pub is_listed : List ℕ → Bool
+is_listed b =
+    list_any (λ n. n == number_at 0 0 b)
+    (0x00 ∷ 0x12 ∷ 0x25 ∷ 0x28 ∷ 0x2a ∷ 0x88 ∷ 0x8a ∷ 0xa0 ∷ [])
+    || (number_at 0 0 b == 0x9e && bits_at 1 0x1f b == 0x10)
+
+-- Unknown is for blocks that have no record of their own
+abbrev pub IsUnlisted : Cdb → Type 0
+IsUnlisted (Unknown block) = is_listed block ≡ false
+IsUnlisted _ = Unit {0}
+
+-- What 16 bytes mean: each row of the record holds in them, and Unknown is for bytes of no other
+-- record.
+pub record IsRecord (b : List ℕ) (c : Cdb) : Type 0 where
+  pub size : length b ≡ 16
+  pub rows : Hold b (rows c)
+  pub unlisted : IsUnlisted c
+
+-- The record fits the table.
+pub record Fits (c : Cdb) : Type 0 where
+  pub filled : AreFilled (rows c)
+  pub unlisted : IsUnlisted c
+
+-- the one spelling of a record, in which each free bit is 0
+abbrev pub canonical : Cdb → List ℕ
+canonical c = put_all (rows c) (replicate 16 0)

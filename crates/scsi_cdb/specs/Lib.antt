@@ -1,0 +1,4 @@
+pub mod Layout
+pub mod Blocks
+pub mod Sense
+pub mod ParameterData

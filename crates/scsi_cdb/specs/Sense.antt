@@ -1,0 +1,20 @@
+-- Sense data (SPC-4, section 4.5.3).
+use Rattle.std.specs.Prelude.{ℕ, List, [], ◌∷◌}
+use Rattle.scsi_cdb.specs.declared.sense.Sense.{Sense}
+use Rattle.scsi_cdb.specs.declared.sense.Sense.TheVariants.{InvalidCode, OutOfRange, InvalidField, NoUnit, ReadError, WriteError}
+
+-- the sense key, the additional sense code and its qualifier (SPC-4, section 4.5)
+abbrev pub triple_of : Sense → ℕ × ℕ × ℕ
+triple_of InvalidCode = (0x5, 0x20, 0x00)
+triple_of OutOfRange = (0x5, 0x21, 0x00)
+triple_of InvalidField = (0x5, 0x24, 0x00)
+triple_of NoUnit = (0x5, 0x25, 0x00)
+triple_of ReadError = (0x3, 0x11, 0x00)
+triple_of WriteError = (0x3, 0x0c, 0x00)
+
+-- fixed format (SPC-4, section 4.5.3): the key in byte 2, the length of what follows in byte 7, the
+-- code and its qualifier in 12 and 13
+abbrev pub sense_bytes : Sense → List ℕ
+sense_bytes sense =
+    0x70 ∷ 0 ∷ (triple_of sense).0 ∷ 0 ∷ 0 ∷ 0 ∷ 0 ∷ 0x0a
+    ∷ 0 ∷ 0 ∷ 0 ∷ 0 ∷ (triple_of sense).1 ∷ (triple_of sense).2 ∷ 0 ∷ 0 ∷ 0 ∷ 0 ∷ []

@@ -1,0 +1,221 @@
+//! Blocks and data whose bytes were worked out by hand from the tables of SPC-4 and SBC-3.
+
+use super::*;
+use std::test::*;
+
+/// The block of which these are the words.
+fn block(words: [u32; 4]) -> [u8; 16] {
+    let mut bytes = [0; 16];
+    for (i, word) in words.iter().enumerate() {
+        bytes[4 * i..4 * i + 4].copy_from_slice(&word.to_be_bytes());
+    }
+    bytes
+}
+
+/// Each row is what comes, the record, and what is written for it.
+#[test]
+fn descriptor_blocks(rt: HostRuntime) {
+    let rows = [
+        (
+            [0x00ffffff, 0xff04ffff, 0xffffffff, 0xffffffff],
+            Cdb::TestUnitReady { control: 4 },
+            [0x00000000, 0x00040000, 0, 0],
+        ),
+        (
+            [0x12ff8301, 0x0204ffff, 0xffffffff, 0xffffffff],
+            Cdb::Inquiry {
+                evpd: true,
+                page: 0x83,
+                allocation_length: 0x0102,
+                control: 4,
+            },
+            [0x12018301, 0x02040000, 0, 0],
+        ),
+        (
+            [0x12fe0000, 0x24000000, 0, 0],
+            Cdb::Inquiry {
+                evpd: false,
+                page: 0,
+                allocation_length: 36,
+                control: 0,
+            },
+            [0x12000000, 0x24000000, 0, 0],
+        ),
+        (
+            [0x25ffffff, 0xffffffff, 0xff04ffff, 0xffffffff],
+            Cdb::Capacity10 { control: 4 },
+            [0x25000000, 0, 0x00040000, 0],
+        ),
+        (
+            [0x28000000, 0x0000ff00, 0x01001122, 0x33445566],
+            Cdb::Read10(Transfer10 {
+                options: 0,
+                logical_block_address: 0,
+                group_number: 31,
+                blocks: 1,
+                control: 0,
+            }),
+            [0x28000000, 0x00001f00, 0x01000000, 0],
+        ),
+        (
+            [0x2afb0102, 0x0304e105, 0x0607ffff, 0xffffffff],
+            Cdb::Write10(Transfer10 {
+                options: 0xfb,
+                logical_block_address: 0x01020304,
+                group_number: 1,
+                blocks: 0x0506,
+                control: 7,
+            }),
+            [0x2afb0102, 0x03040105, 0x06070000, 0],
+        ),
+        (
+            [0x88fb0102, 0x03040506, 0x0708090a, 0x0b0cff0d],
+            Cdb::Read16(Transfer16 {
+                options: 0xfb,
+                logical_block_address: 0x0102030405060708,
+                blocks: 0x090a0b0c,
+                group_number: 31,
+                control: 13,
+            }),
+            [0x88fb0102, 0x03040506, 0x0708090a, 0x0b0c1f0d],
+        ),
+        (
+            [0x8a000000, 0, 0xffff0000, 0x0001e000],
+            Cdb::Write16(Transfer16 {
+                options: 0,
+                logical_block_address: 0xffff,
+                blocks: 1,
+                group_number: 0,
+                control: 0,
+            }),
+            [0x8a000000, 0, 0xffff0000, 0x00010000],
+        ),
+        (
+            [0x9ef00102, 0x03040506, 0x07080000, 0x00200e0f],
+            Cdb::Capacity16 {
+                allocation_length: 32,
+                control: 15,
+            },
+            [0x9e100000, 0, 0, 0x0020000f],
+        ),
+        (
+            [0xa0ff02ff, 0xffff0102, 0x0304ff05, 0xffffffff],
+            Cdb::ReportLuns {
+                select: 2,
+                allocation_length: 0x01020304,
+                control: 5,
+            },
+            [0xa0000200, 0x00000102, 0x03040005, 0],
+        ),
+        (
+            [0x9ef10102, 0x03040506, 0x0708090a, 0x0b0c0d0e],
+            Cdb::Unknown(block([0x9ef10102, 0x03040506, 0x0708090a, 0x0b0c0d0e])),
+            [0x9ef10102, 0x03040506, 0x0708090a, 0x0b0c0d0e],
+        ),
+        (
+            [0x35ffffff, 0xffffffff, 0xffffffff, 0xffffffff],
+            Cdb::Unknown(block([0x35ffffff, 0xffffffff, 0xffffffff, 0xffffffff])),
+            [0x35ffffff, 0xffffffff, 0xffffffff, 0xffffffff],
+        ),
+    ];
+    for (i, (came, record, written)) in rows.iter().enumerate() {
+        let read = Cdb::read(&block(*came));
+        assert_eq!(rt; read, *record, "row {i}");
+        assert_eq!(rt; read.write(), block(*written), "row {i}");
+    }
+}
+
+#[test]
+fn sense_data(rt: HostRuntime) {
+    let rows = [
+        (Sense::InvalidCode, 5, 0x20),
+        (Sense::OutOfRange, 5, 0x21),
+        (Sense::InvalidField, 5, 0x24),
+        (Sense::NoUnit, 5, 0x25),
+        (Sense::ReadError, 3, 0x11),
+        (Sense::WriteError, 3, 0x0c),
+    ];
+    for (sense, key, code) in rows {
+        assert_eq!(rt; sense.triple(), (key, code, 0));
+        assert_eq!(rt;
+            sense.bytes(),
+            [
+                0x70, 0, key, 0, 0, 0, 0, 0x0a, 0, 0, 0, 0, code, 0, 0, 0, 0, 0
+            ]
+        );
+    }
+}
+
+#[test]
+fn inquiry_data(rt: HostRuntime) {
+    for (present, first) in [(true, 0x00), (false, 0x7f)] {
+        let bytes = inquiry_bytes(present);
+        assert_eq!(rt;
+            &bytes[..8],
+            [first, 0, 0x06, 0x12, 0x1f, 0, 0, 0x02].as_slice()
+        );
+        assert_eq!(rt; &bytes[8..], b"VERIDISKISCSI DISK      0001".as_slice());
+    }
+    let pages = [
+        (0x00, b"\x00\x00\x00\x03\x00\x80\x83".as_slice()),
+        (0x80, b"\x00\x80\x00\x0800000001".as_slice()),
+        (
+            0x83,
+            b"\x00\x83\x00\x14\x02\x01\x00\x10VERIDISK00000001".as_slice(),
+        ),
+    ];
+    for (page, want) in pages {
+        let shown = vpd_bytes(page).unwrap_or_default();
+        assert_eq!(rt; shown.as_slice(), want, "page {page}");
+    }
+    assert!(rt; vpd_bytes(0xb0).is_none());
+}
+
+#[test]
+fn capacities(rt: HostRuntime) {
+    let rows = [
+        (0, [0, 0, 0, 0, 0, 0, 2, 0]),
+        (2047, [0, 0, 0x07, 0xff, 0, 0, 2, 0]),
+        (0xffff_fffe, [0xff, 0xff, 0xff, 0xfe, 0, 0, 2, 0]),
+        (0xffff_ffff, [0xff, 0xff, 0xff, 0xff, 0, 0, 2, 0]),
+        (0x1_0000_0000, [0xff, 0xff, 0xff, 0xff, 0, 0, 2, 0]),
+    ];
+    for (last, want) in rows {
+        assert_eq!(rt; capacity10(last), want, "last block {last}");
+    }
+    assert_eq!(rt;
+        capacity16(0x0102_0304_0506_0708),
+        [
+            1, 2, 3, 4, 5, 6, 7, 8, 0, 0, 2, 0, 0, 0, 0, 0, 0, 0, 0, 0, 0, 0, 0, 0, 0, 0, 0, 0, 0,
+            0, 0, 0
+        ]
+    );
+}
+
+#[test]
+fn units(rt: HostRuntime) {
+    let rows = [
+        (
+            0,
+            [0, 0, 0, 8, 0, 0, 0, 0, 0, 0, 0, 0, 0, 0, 0, 0].as_slice(),
+        ),
+        (1, [0, 0, 0, 0, 0, 0, 0, 0].as_slice()),
+        (
+            2,
+            [0, 0, 0, 8, 0, 0, 0, 0, 0, 0, 0, 0, 0, 0, 0, 0].as_slice(),
+        ),
+    ];
+    for (select, want) in rows {
+        let list = report_luns(select).unwrap_or_default();
+        assert_eq!(rt; list.as_slice(), want, "select {select}");
+    }
+    assert!(rt; report_luns(3).is_none());
+}
+
+#[test]
+fn bytes_are_those_given(rt: HostRuntime) -> Result<(), Fail> {
+    let bytes = Bytes::from_vec([1, 2, 3].to_vec(rt.alloc())?);
+    assert_eq!(rt; bytes.as_slice(), [1, 2, 3].as_slice());
+    assert_eq!(rt; bytes.into_vec().as_slice(), [1, 2, 3].as_slice());
+    Ok(())
+}
