@@ -1,0 +1,5 @@
+use Rattle.iscsi_pdu.proofs.Headers.{Means-writable}
+use Rattle.iscsi_pdu.proofs.laws.meaning_is_writable.Goals as goal
+
+pub returns : goal.returns
+returns c b h d bytes m = Means-writable b h d bytes m

@@ -1,0 +1,23 @@
+//! iSCSI PDUs (RFC 7143, section 11): the head, read from and written to the 48 bytes of a header;
+//! padding; serial numbers.
+#![tactic(auto)]
+
+mod head;
+pub mod laws;
+mod pdu;
+mod serial;
+#[cfg(test)]
+mod tests;
+
+pub use head::{
+    AsyncMessage, DataIn, DataOut, Head, HeadFault, LoginRequest, LoginResponse, LogoutRequest,
+    LogoutResponse, NopIn, NopOut, ReadyToTransfer, Reject, ScsiCommand, ScsiResponse, TaskRequest,
+    TaskResponse, TextRequest, TextResponse, read_head, write_head,
+};
+pub use pdu::Pdu;
+pub use serial::{Serial, Window, pad};
+
+/// The reserved tag, ffffffff: as an initiator task tag it names no task, as a target transfer tag
+/// no transfer
+/// (RFC 7143, sections 11.2.1.8 and 11.7.4).
+pub const RESERVED_TAG: u32 = 0xffff_ffff;
