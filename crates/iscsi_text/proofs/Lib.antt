@@ -1,0 +1,12 @@
+pub mod Arranged
+pub mod Canonical
+pub mod Computed
+pub mod Digits
+pub mod Faults
+pub mod Keys
+pub mod Meanings
+pub mod Pairs
+pub mod ReadSoFar
+pub mod Rows
+pub mod Spelled
+pub mod TextLaws

@@ -1,0 +1,5 @@
+use Rattle.iscsi_text.proofs.Spelled as spelled
+use Rattle.iscsi_text.proofs.laws.canonical_number_is_least.Goals as goal
+
+pub returns : goal.returns
+returns c = record { spells = spelled.canonical_spells; least = spelled.canonical_least }

@@ -1,0 +1,5 @@
+use Rattle.iscsi_text.proofs.Faults as faults
+use Rattle.iscsi_text.proofs.laws.no_fault.Goals as goal
+
+pub returns : goal.returns
+returns c = record { none = faults.no_fault }

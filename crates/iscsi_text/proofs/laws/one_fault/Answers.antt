@@ -1,0 +1,5 @@
+use Rattle.iscsi_text.proofs.Faults as faults
+use Rattle.iscsi_text.proofs.laws.one_fault.Goals as goal
+
+pub returns : goal.returns
+returns c = record { one = faults.one_fault }

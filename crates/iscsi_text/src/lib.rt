@@ -1,0 +1,17 @@
+//! Texts of keys and values, as iSCSI's login and text requests carry them (RFC 7143, section 6.1).
+#![tactic(auto)]
+
+mod fault;
+mod key;
+pub mod laws;
+mod numeral;
+mod pair;
+mod text;
+mod value;
+
+pub use fault::TextFault;
+pub use key::{KeyKind, key_kind};
+pub use numeral::{read_number, write_number};
+pub use pair::Pair;
+pub use text::{Text, write_pairs};
+pub use value::Value;

@@ -1,0 +1,70 @@
+//! Numerals by example.
+
+use crate::{read_number, write_number};
+use std::alloc::AllocError;
+use std::process::Abort;
+use std::test::Fail;
+
+#[test]
+fn spellings_are_read(rt: HostRuntime) {
+    let rows = [
+        ("zero", b"0".as_slice(), Some(0)),
+        ("zero in hexadecimal", b"0x0", Some(0)),
+        ("a decimal", b"16777215", Some(16_777_215)),
+        ("the same in hexadecimal", b"0xffffff", Some(16_777_215)),
+        ("capital X and leading zeros", b"0X0040000", Some(262_144)),
+        ("capital digits", b"0xFFFFFFFFFFFFFFFF", Some(u64::MAX)),
+        (
+            "the largest, in decimal",
+            b"18446744073709551615",
+            Some(u64::MAX),
+        ),
+        ("2^64", b"18446744073709551616", None),
+        ("2^64 in hexadecimal", b"0x10000000000000000", None),
+        ("a leading zero", b"007", None),
+        ("no digit behind 0x", b"0x", None),
+        ("nothing", b"", None),
+        ("a sign", b"+1", None),
+        ("a letter that is no digit", b"0x1g", None),
+        ("a letter in a decimal", b"1a", None),
+    ];
+    for (name, text, want) in rows {
+        assert_eq!(rt; read_number(text), want, "{name}");
+    }
+}
+
+#[test]
+fn canonical_numerals_are_written(rt: HostRuntime) -> Result<(), Fail> {
+    let rows = [
+        (0, b"0".as_slice()),
+        (16_777_215, b"16777215"),
+        (999_999_999_999, b"999999999999"),
+        (1_000_000_000_000, b"0xe8d4a51000"),
+        (1_099_511_627_776, b"1099511627776"),
+        (u64::MAX, b"0xffffffffffffffff"),
+    ];
+    for (n, want) in rows {
+        let mut out = Vec::new(rt.alloc());
+        write_number(n, &mut out)?;
+        assert_eq!(rt; out.as_slice(), want, "{n}");
+    }
+    Ok(())
+}
+
+// Writes a number behind what `out` holds, again where memory ran out: that leaves `out` as it was.
+fn write_behind(rt: &impl Abort, out: &mut Vec<u8>, before: &[u8], want: &[u8]) {
+    if write_number(1_000_000_000_000, out) == Err(AllocError) {
+        assert_eq!(rt; out.as_slice(), before);
+        let again = write_number(1_000_000_000_000, out);
+        assert!(rt; again.is_ok());
+    }
+    assert_eq!(rt; out.as_slice(), want);
+}
+
+// What `rt try --test --fail-alloc N` is for.
+#[test]
+fn refused_memory_leaves_out_as_it_was(rt: HostRuntime) {
+    let mut out = Vec::new(rt.alloc());
+    write_behind(&rt, &mut out, b"", b"0xe8d4a51000");
+    write_behind(&rt, &mut out, b"0xe8d4a51000", b"0xe8d4a510000xe8d4a51000");
+}
