@@ -1,0 +1,5 @@
+pub mod Blocks
+pub mod Overlays
+pub mod Planned
+pub mod SparseBlocks
+pub mod Steps

@@ -1,0 +1,190 @@
+-- Blocks in extents.
+use Rattle.std.proofs.Common.{◌≡◌, ℕ, ◌+◌, ◌-◌, ◌*◌, ◌/◌, ◌%◌, ◌^◌, ◌<◌, ◌≤◌, Bool, true, false, cond, nat_lt, List, [], ◌∷◌, ◌++◌, length, take, drop, replicate, Option, Some, None, refl, sym, ◌∙◌, ap, ◌⊎◌, inl, inr, arith, rules, is_some, IsSome}
+use Rattle.std.proofs.lemmas.Bool.Decides.{nat_tests}
+use mathlib.Core.Path.{fun_ext}
+use Rattle.std.specs.Ordering.{nat_cmp}
+use Rattle.std.specs.Cmp.{nat_cmp_total}
+use Rattle.std.specs.FinMap.{FinMap, get, find, from_entries, get-from_entries, empty, get-empty}
+use Rattle.std.specs.Map.{lookup}
+use Rattle.std.specs.BTreeMap.{is_at}
+use Rattle.std.proofs.lemmas.Bool.{cases_order}
+use Rattle.std.proofs.lemmas.List.{length-replicate, append-nil}
+use borrow.Author.Tests.{lt-ltb, le-ltb}
+use Rattle.scsi_disk.specs.Disk.{IsDisk, cut, zeros, zero_blocks, overlaid, written}
+use Rattle.scsi_disk.specs.Sparse.{Extents, AreExtents, IsBlank, block_in, disk_in}
+use Rattle.std.proofs.lemmas.Slice.{take-put_mid}
+use borrow.Rule.Slice.PartMut.{put_mid}
+use Rattle.scsi_disk.specs.Disk.{joined}
+use Rattle.scsi_disk.proofs.Blocks.{length-cut, same_disk, cut-zeros_at}
+use Rattle.scsi_disk.proofs.Overlays.{overlaid_here, overlaid_apart}
+use Rattle.scsi_disk.proofs.Planned.{joined-add}
+
+find_at : (es : List (ℕ × List ℕ)) (q : ℕ) → find nat_cmp q es ≡ lookup (is_at (nat_cmp q)) es
+find_at [] q = refl
+find_at (e ∷ es) q = ap (cond (is_at (nat_cmp q) e.0) (Some e.1)) (find_at es q)
+
+-- what the map of the entries has is what a look-up finds
+pub get_at : (es : List (ℕ × List ℕ)) (q : ℕ) → get (from_entries {R = nat_cmp} es) q ≡ lookup (is_at (nat_cmp q)) es
+get_at es q = get-from_entries nat_cmp_total es q ∙ find_at es q
+
+length-block_in : (o : Option (List ℕ)) (m : ℕ) → ((bytes : List ℕ) → o ≡ Some bytes → length bytes ≡ 32768) → m < 64 → length (block_in 512 o m) ≡ 512
+unfolding block_in
+length-block_in None m whole few = length-replicate {A = ℕ} 512 0
+length-block_in (Some bytes) m whole few = length-cut 512 bytes m (let e = whole bytes refl in omega arith)
+
+pub sparse_is_disk : (s : Extents) → AreExtents s.count s.extents → IsDisk (disk_in s)
+sparse_is_disk s are = record {
+  some = are.some;
+  inside = λ n lt. rw (lt-ltb n s.count lt) (length-block_in (get s.extents (n / 64)) (n % 64) (are.whole (n / 64)) (omega arith));
+  outside = λ n ge. rw (le-ltb n s.count ge) refl;
+}
+
+zeros_at : (size count m n : ℕ) → (if_in : ℕ → Option (List ℕ)) → ((k : ℕ) → if_in k ≡ None) → cond (nat_lt n count) (block_in size (if_in m) (n % 64)) [] ≡ zero_blocks size count n
+unfolding block_in zero_blocks
+zeros_at size count m n if_in none = ap (λ o. cond (nat_lt n count) (block_in size o (n % 64)) []) (none m)
+
+pub fresh : (count : ℕ) → disk_in (record { count = count; extents = empty }) ≡ zeros count
+fresh count = same_disk _ _ refl (fun_ext (λ n. zeros_at 512 count (n / 64) n (get {R = nat_cmp} empty) (λ k. get-empty nat_cmp k)))
+
+pub none_yet : (count : ℕ) (es : List (ℕ × List ℕ)) → es ≡ [] → 0 < count → count ≤ 2 ^ 40 → AreExtents count (from_entries es)
+none_yet count es none some few = record {
+  some = some;
+  few = few;
+  whole = λ n bytes e. absurd (let h : Some bytes ≡ None = sym e ∙ ap (λ l. get (from_entries {R = nat_cmp} l) n) none ∙ get-empty nat_cmp n in cc);
+}
+
+-- block n, by the extent that holds it
+pub found : (count : ℕ) (es : List (ℕ × List ℕ)) (n : ℕ) (o : Option (List ℕ)) → o ≡ lookup (is_at (nat_cmp (n / 64))) es → n < count
+    → (disk_in (record { count = count; extents = from_entries es })).block n ≡ block_in 512 o (n % 64)
+found count es n o e lt = rw (lt-ltb n count lt) (ap (λ p. block_in 512 p (n % 64)) (get_at es (n / 64) ∙ sym e))
+
+pub block_in-some : (bytes : List ℕ) (m : ℕ) → block_in 512 (Some bytes) m ≡ cut 512 bytes m
+unfolding block_in
+block_in-some bytes m = refl
+
+pub block_in-none : (size m : ℕ) → block_in size None m ≡ replicate size 0
+unfolding block_in
+block_in-none size m = refl
+
+pub part_range : (bytes : List ℕ) (size m : ℕ) → take (size * m + size - size * m) (drop (size * m) bytes) ≡ cut size bytes m
+unfolding cut
+part_range bytes size m = ap (λ k. take k (drop (size * m) bytes)) (let e : size * m + size - size * m ≡ size = omega arith in e)
+
+joined-push : (block : ℕ → List ℕ) (first c : ℕ) → joined block first (c + 1) ≡ joined block first c ++ block (first + c)
+unfolding joined
+joined-push block first c = joined-add block first c 1 ∙ ap (λ t. joined block first c ++ t) (append-nil (block (first + c)))
+
+pub joined-none : (block : ℕ → List ℕ) (first : ℕ) → joined block first 0 ≡ []
+unfolding joined
+joined-none block first = refl
+
+pub one_more : (size : ℕ) (xs ys : List ℕ) (block : ℕ → List ℕ) (first i k : ℕ) → ys ≡ block (first + i) → length ys ≡ size → size * i ≤ length xs
+    → take (size * i) xs ≡ joined block first i → take (size * (i + 1)) (put_mid (size * i) k xs ys) ≡ joined block first (i + 1)
+one_more size xs ys block first i k is long room before =
+    let end : size * (i + 1) ≡ size * i + length ys = omega arith in
+    take-put_mid (size * i) k xs ys (size * (i + 1)) end room ∙ ap (λ t. t ++ ys) before ∙ ap (λ t. joined block first i ++ t) is ∙ sym (joined-push block first i)
+
+blank_at : (size blocks : ℕ) (bytes : List ℕ) (n : ℕ) → bytes ≡ replicate (size * blocks) 0 → n < blocks → block_in size (Some bytes) n ≡ block_in size None n
+unfolding block_in zero_blocks
+blank_at size blocks bytes n is lt = ap (λ b. cut size b n) is ∙ cut-zeros_at size blocks n ∙ ap (λ b. cond b (replicate size 0) []) (lt-ltb n blocks lt)
+
+pub blank : (blocks : ℕ) (bytes : List ℕ) → blocks ≡ 64 → bytes ≡ replicate (512 * blocks) 0 → IsBlank bytes
+blank blocks bytes e is = λ n lt. blank_at 512 blocks bytes n is (omega arith)
+
+-- what the extents are after an insert
+pub get_inserted : (es fs : List (ℕ × List ℕ)) (k : ℕ) (v : List ℕ) → ((q : ℕ) → lookup (is_at (nat_cmp q)) fs ≡ cond (is_at (nat_cmp k) q) (Some v) (lookup (is_at (nat_cmp q)) es))
+    → (q : ℕ) → get (from_entries {R = nat_cmp} fs) q ≡ cond (is_at (nat_cmp k) q) (Some v) (get (from_entries {R = nat_cmp} es) q)
+get_inserted es fs k v h q = get_at fs q ∙ h q ∙ ap (cond (is_at (nat_cmp k) q) (Some v)) (sym (get_at es q))
+
+either : (b : Bool) (v bytes : List ℕ) (o : Option (List ℕ)) → cond b (Some v) o ≡ Some bytes → (v ≡ bytes) ⊎ (o ≡ Some bytes)
+either true v bytes o e = inl (let h : Some v ≡ Some bytes = e in cc)
+either false v bytes o e = inr e
+
+pub inserted : (count : ℕ) (m n : FinMap nat_cmp (List ℕ)) (k : ℕ) (v : List ℕ) → ((q : ℕ) → get n q ≡ cond (is_at (nat_cmp k) q) (Some v) (get m q))
+    → length v ≡ 32768 → AreExtents count m → AreExtents count n
+inserted count m n k v h long are = record {
+  some = are.some;
+  few = are.few;
+  whole = λ q bytes e. elim (either (is_at (nat_cmp k) q) v bytes (get m q) (sym (h q) ∙ e)) [ inl p ↦ sym (ap length p) ∙ long | inr p ↦ are.whole q bytes p ];
+}
+
+same_blocks : (b : Bool) (m : Option (List ℕ)) (v : List ℕ) (n : ℕ) → IsBlank v → n < 64 → (b ≡ true → m ≡ None) → block_in 512 (cond b (Some v) m) n ≡ block_in 512 m n
+same_blocks true m v n blank lt none = blank n lt ∙ sym (ap (λ o. block_in 512 o n) (none refl))
+same_blocks false m v n blank lt none = refl
+
+-- nothing is seen of an extent of 00 that was missing
+pub unseen : (count : ℕ) (m n : FinMap nat_cmp (List ℕ)) (k : ℕ) (v : List ℕ) → ((q : ℕ) → get n q ≡ cond (is_at (nat_cmp k) q) (Some v) (get m q))
+    → IsBlank v → ((q : ℕ) → is_at (nat_cmp k) q ≡ true → get m q ≡ None) → disk_in (record { count = count; extents = n }) ≡ disk_in (record { count = count; extents = m })
+unseen count m n k v h blank none = same_disk _ _ refl (fun_ext (λ p.
+    ap (λ o. cond (nat_lt p count) (block_in 512 o (p % 64)) []) (h (p / 64))
+    ∙ ap (λ t. cond (nat_lt p count) t []) (same_blocks (is_at (nat_cmp k) (p / 64)) (get m (p / 64)) v (p % 64) blank (omega arith) (none (p / 64)))))
+
+at_key : (k q : ℕ) → is_at (nat_cmp k) q ≡ true → k ≡ q
+at_key k q e = grind (arith, nat_tests)
+
+at_itself : (k : ℕ) → is_at (nat_cmp k) k ≡ true
+at_itself k = grind (arith, nat_tests)
+
+none_of : (o : Option (List ℕ)) → is_some o ≡ false → o ≡ None
+none_of None e = refl
+none_of (Some x) e = absurd (let h : true ≡ false = e in cc)
+
+pub missing : (es : List (ℕ × List ℕ)) (k : ℕ) → is_some (lookup (is_at (nat_cmp k)) es) ≡ false → (q : ℕ) → is_at (nat_cmp k) q ≡ true → get (from_entries {R = nat_cmp} es) q ≡ None
+missing es k none q t =
+    get_at es q ∙ ap (λ x. lookup (is_at (nat_cmp x)) es) (sym (at_key k q t)) ∙ none_of (lookup (is_at (nat_cmp k)) es) none
+
+pub is_there : (o : Option (List ℕ)) (v : List ℕ) → o ≡ Some v → IsSome o
+is_there o v e = rw e (search rules)
+
+pub stays : (b : Bool) (v : List ℕ) (o p : Option (List ℕ)) → p ≡ cond b (Some v) o → IsSome o → IsSome p
+stays true v o p e some = is_there p v e
+stays false v o p e some = rw e some
+
+pub is_inserted : (m n : FinMap nat_cmp (List ℕ)) (k : ℕ) (v : List ℕ) → ((q : ℕ) → get n q ≡ cond (is_at (nat_cmp k) q) (Some v) (get m q)) → IsSome (get n k)
+is_inserted m n k v h = is_there (get n k) v (h k ∙ ap (λ b. cond b (Some v) (get m k)) (at_itself k))
+
+pub is_kept : (es : List (ℕ × List ℕ)) (k : ℕ) → is_some (lookup (is_at (nat_cmp k)) es) ≡ true → IsSome (get (from_entries {R = nat_cmp} es) k)
+is_kept es k e = rw (get_at es k) (let h = e in search rules)
+
+-- the extents where the one of block p has been written in that block
+module _ (count p : ℕ) (m n : FinMap nat_cmp (List ℕ)) (old new ys : List ℕ)
+    (h : (q : ℕ) → get n q ≡ cond (is_at (nat_cmp (p / 64)) q) (Some new) (get m q)) (before : get m (p / 64) ≡ Some old)
+    (parts : cut 512 new ≡ overlaid 512 (p % 64) ys (cut 512 old)) (long : length ys ≡ 512) where
+  there : (j : ℕ) → j < count → j ≡ p → block_in 512 (get n (j / 64)) (j % 64) ≡ ys
+  there j lt same =
+      ap (λ k. block_in 512 (get n (k / 64)) (k % 64)) same
+      ∙ ap (λ o. block_in 512 o (p % 64)) (h (p / 64) ∙ ap (λ b. cond b (Some new) (get m (p / 64))) (at_itself (p / 64)))
+      ∙ block_in-some new (p % 64) ∙ ap (λ f. f (p % 64)) parts ∙ overlaid_here 512 (p % 64) ys (cut 512 old) (omega arith) long
+
+  kept_by : (b : Bool) (j : ℕ) → is_at (nat_cmp (p / 64)) (j / 64) ≡ b → (j < p) ⊎ (p < j) → block_in 512 (cond b (Some new) (get m (j / 64))) (j % 64) ≡ block_in 512 (get m (j / 64)) (j % 64)
+  kept_by true j e differ =
+      let at : p / 64 ≡ j / 64 = at_key (p / 64) (j / 64) e in
+      let apart : (j % 64 < p % 64) ⊎ (p % 64 < j % 64) = elim differ [ inl low ↦ inl (omega arith) | inr high ↦ inr (omega arith) ] in
+      block_in-some new (j % 64) ∙ ap (λ f. f (j % 64)) parts ∙ overlaid_apart 512 (p % 64) ys (cut 512 old) (j % 64) long apart
+      ∙ sym (ap (λ o. block_in 512 o (j % 64)) (ap (λ k. get m k) (sym at) ∙ before) ∙ block_in-some old (j % 64))
+  kept_by false j e differ = refl
+
+  elsewhere : (j : ℕ) → (j < p) ⊎ (p < j) → block_in 512 (get n (j / 64)) (j % 64) ≡ block_in 512 (get m (j / 64)) (j % 64)
+  elsewhere j differ = ap (λ o. block_in 512 o (j % 64)) (h (j / 64)) ∙ kept_by (is_at (nat_cmp (p / 64)) (j / 64)) j refl differ
+
+  one_written_at : p < count → (j : ℕ) → (disk_in (record { count = count; extents = n })).block j ≡ overlaid 512 p ys (disk_in (record { count = count; extents = m })).block j
+  one_written_at inside j =
+      let block = (disk_in (record { count = count; extents = m })).block in
+      elim (cases_order j p) [
+        | inl same ↦
+            let low : j < count = omega arith in
+            ap (λ b. cond b (block_in 512 (get n (j / 64)) (j % 64)) []) (lt-ltb j count low) ∙ there j low same
+            ∙ sym (ap (overlaid 512 p ys block) same ∙ overlaid_here 512 p ys block (omega arith) long)
+        | inr differ ↦ ap (λ t. cond (nat_lt j count) t []) (elsewhere j differ) ∙ sym (overlaid_apart 512 p ys block j long differ)
+      ]
+
+  pub one_written : p < count → disk_in (record { count = count; extents = n }) ≡ written p ys (disk_in (record { count = count; extents = m }))
+  one_written inside = same_disk _ _ refl (fun_ext (one_written_at inside))
+
+-- an extent that is there is found
+pub some_at : (es : List (ℕ × List ℕ)) (k : ℕ) → IsSome (get (from_entries {R = nat_cmp} es) k) → IsSome (lookup (is_at (nat_cmp k)) es)
+some_at es k some = rw (get_at es k) at some
+
+pub never_none : (o : Option (List ℕ)) → None ≡ o → IsSome o → ⊥
+never_none None e some = search rules
+never_none (Some x) e some = (let h : None ≡ Some x = e in cc)

@@ -1,0 +1,56 @@
+use Rattle.std.proofs.Common.{◌≡◌, true, false, ap, sym, ◌∙◌, rules}
+use Rattle.std.specs.Ordering.{nat_cmp}
+use Rattle.std.specs.FinMap.{from_entries, get}
+use Rattle.scsi_disk.specs.Sparse.{disk_in}
+use Rattle.scsi_disk.proofs.SparseBlocks.{get_inserted, inserted, unseen, missing, is_inserted, stays, is_kept}
+use Rattle.scsi_disk.proofs.sparse.SparseStore.reserve.Goals as goal
+use Rattle.scsi_disk.proofs.sparse.SparseStore.reserve.Goals.{in-Some-1, in-None-1}
+
+pub invariant_of-self-in_ok-insert-2 : goal.invariant_of-self-in_ok-insert-2
+invariant_of-self-in_ok-insert-2 c =
+    let es = c.self.inside.extents.entries in
+    let fs = c.insert.new.self.entries in
+    let h = get_inserted es fs c.args.extent c.in_ok-blank.blank c.in_ok-insert.ensures.updates.0 in
+    inserted c.self.inside.blocks (from_entries es) (from_entries fs) c.args.extent c.in_ok-blank.blank h c.in_ok-blank.ensures.size c.self.invariant
+
+pub returns-in_ok-insert-clause-disk : goal.returns-in_ok-insert-clause-disk
+returns-in_ok-insert-clause-disk c =
+    let es = c.self.inside.extents.entries in
+    let fs = c.insert.new.self.entries in
+    let h = get_inserted es fs c.args.extent c.in_ok-blank.blank c.in_ok-insert.ensures.updates.0 in
+    let absent : c.contains_key.result ≡ false = search rules in
+    let none = missing es c.args.extent (sym c.contains_key.ensures ∙ absent) in
+    let same = unseen c.self.inside.blocks (from_entries es) (from_entries fs) c.args.extent c.in_ok-blank.blank h c.in_ok-blank.ensures.blank none in
+    elim c.match-branch-3.branch [
+      | in-Some-1 w ↦ ap disk_in w.self-is ∙ same ∙ ap disk_in c.self.view_is
+      | in-None-1 w ↦ ap disk_in w.self-is ∙ same ∙ ap disk_in c.self.view_is
+    ]
+
+pub returns-in_ok-insert-clause-there : goal.returns-in_ok-insert-clause-there
+returns-in_ok-insert-clause-there c =
+    let es = c.self.inside.extents.entries in
+    let fs = c.insert.new.self.entries in
+    let h = get_inserted es fs c.args.extent c.in_ok-blank.blank c.in_ok-insert.ensures.updates.0 in
+    let there = is_inserted (from_entries es) (from_entries fs) c.args.extent c.in_ok-blank.blank h in
+    elim c.match-branch-3.branch [
+      | in-Some-1 w ↦ rw w.self-is there
+      | in-None-1 w ↦ rw w.self-is there
+    ]
+
+pub returns-in_ok-insert-clause-kept : goal.returns-in_ok-insert-clause-kept
+returns-in_ok-insert-clause-kept c k some =
+    let es = c.self.inside.extents.entries in
+    let fs = c.insert.new.self.entries in
+    let h = get_inserted es fs c.args.extent c.in_ok-blank.blank c.in_ok-insert.ensures.updates.0 in
+    let before = rw (← c.self.view_is) at some in
+    let after = stays _ c.in_ok-blank.blank (get (from_entries {R = nat_cmp} es) k) (get (from_entries {R = nat_cmp} fs) k) (h k) before in
+    elim c.match-branch-3.branch [
+      | in-Some-1 w ↦ rw w.self-is after
+      | in-None-1 w ↦ rw w.self-is after
+    ]
+
+pub returns-else-not-contains_key-clause-there : goal.returns-else-not-contains_key-clause-there
+returns-else-not-contains_key-clause-there c =
+    let present : c.contains_key.result ≡ true = search rules in
+    let there = is_kept c.self.inside.extents.entries c.args.extent (sym c.contains_key.ensures ∙ present) in
+    rw (← c.self.view_is) there

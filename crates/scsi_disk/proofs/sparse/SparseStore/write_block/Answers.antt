@@ -1,0 +1,62 @@
+use Rattle.std.proofs.Common.{◌/◌, ap, sym, ◌∙◌}
+use Rattle.std.specs.Ordering.{nat_cmp}
+use Rattle.std.specs.FinMap.{get, from_entries}
+use Rattle.scsi_disk.specs.Disk.{written}
+use Rattle.scsi_disk.specs.Sparse.{disk_in}
+use Rattle.scsi_disk.proofs.SparseBlocks.{get_at, get_inserted, inserted, stays, one_written, some_at, never_none}
+use Rattle.scsi_disk.proofs.sparse.SparseStore.write_block.Goals as goal
+use Rattle.scsi_disk.proofs.sparse.SparseStore.write_block.Goals.{in-Some, in_default}
+
+pub invariant_of-self : goal.invariant_of-self
+invariant_of-self c =
+    let es = c.self.inside.extents.entries in
+    let k = c.args.n / 64 in
+    let here = rw (← c.self.view_is) at c.requires.there in
+    let there = some_at es k here in
+    elim c.match-get_mut.branch [
+      | in-Some w ↦
+          (let v = w.put.new.self in
+          let old = w.in-Some.extent.now in
+          let before = get_at es k ∙ sym w.in-Some.ensures.value in
+          let fs = (c.get_mut.follows.lender v).entries in
+          let h = get_inserted es fs k v ((c.get_mut.follows.holds v).3 there).0 in
+          rw w.self-inside-is
+          (inserted c.self.inside.blocks (from_entries es) (from_entries fs) k v h (w.put.ensures.size ∙ c.self.invariant.whole k old before) c.self.invariant))
+      | in_default w ↦ absurd (never_none _ w.in_default.ensures.value there)
+    ]
+
+pub returns-clause-disk : goal.returns-clause-disk
+returns-clause-disk c =
+    let es = c.self.inside.extents.entries in
+    let k = c.args.n / 64 in
+    let here = rw (← c.self.view_is) at c.requires.there in
+    let there = some_at es k here in
+    elim c.match-get_mut.branch [
+      | in-Some w ↦
+          (let v = w.put.new.self in
+          let old = w.in-Some.extent.now in
+          let before = get_at es k ∙ sym w.in-Some.ensures.value in
+          let fs = (c.get_mut.follows.lender v).entries in
+          let h = get_inserted es fs k v ((c.get_mut.follows.holds v).3 there).0 in
+          let inside = rw (← c.self.view_is) at c.requires.inside in
+          rw w.self-inside-is
+          (one_written c.self.inside.blocks c.args.n (from_entries es) (from_entries fs) old v c.args.bytes.now h before w.put.ensures.blocks c.requires.one inside
+          ∙ ap (λ s. written c.args.n c.args.bytes.now (disk_in s)) c.self.view_is))
+      | in_default w ↦ absurd (never_none _ w.in_default.ensures.value there)
+    ]
+
+pub returns-clause-kept : goal.returns-clause-kept
+returns-clause-kept c j some =
+    let es = c.self.inside.extents.entries in
+    let k = c.args.n / 64 in
+    let here = rw (← c.self.view_is) at c.requires.there in
+    let there = some_at es k here in
+    elim c.match-get_mut.branch [
+      | in-Some w ↦
+          (let v = w.put.new.self in
+          let fs = (c.get_mut.follows.lender v).entries in
+          let h = get_inserted es fs k v ((c.get_mut.follows.holds v).3 there).0 in
+          let before = rw (← c.self.view_is) at some in
+          rw w.self-inside-is (stays _ v (get (from_entries {R = nat_cmp} es) j) (get (from_entries {R = nat_cmp} fs) j) (h j) before))
+      | in_default w ↦ absurd (never_none _ w.in_default.ensures.value there)
+    ]

@@ -1,0 +1,45 @@
+-- A store that keeps only what was written, in extents of 64 blocks.
+use Rattle.std.specs.Prelude.{◌≡◌, ℕ, ◌+◌, ◌/◌, ◌%◌, ◌^◌, ◌<◌, ◌≤◌, if◌then◌else◌, nat_lt, List, [], length, replicate, Option, Some, None, IsSome, refl}
+use Rattle.std.specs.Coded.{Coded, code_by, coded×, coded_ℕ, coded_list}
+use Rattle.std.specs.FinMap as map
+use Rattle.std.specs.Ordering.{nat_cmp}
+use Rattle.std.specs.FinMap.{FinMap, get}
+use Rattle.scsi_disk.specs.Disk.{Disk, cut}
+
+-- how many blocks there are, and the bytes of 64 of them at each number where some were written
+pub record Extents : Type 0 where
+  pub count : ℕ
+  pub extents : FinMap nat_cmp (List ℕ)
+
+-- they are stored as a pair
+abbrev pub extents_code : Coded Extents
+extents_code =
+    code_by (ℕ × FinMap nat_cmp (List ℕ)) (coded× coded_ℕ (map.code coded_ℕ (coded_list coded_ℕ)))
+    (λ e. (e.count, e.extents)) (λ p. record { count = p.0; extents = p.1 }) (λ _. refl)
+
+-- block n of an extent, or 00 where there is none
+unfoldable pub block_in : ℕ → Option (List ℕ) → ℕ → List ℕ
+block_in size None n = replicate size 0
+block_in size (Some bytes) n = cut size bytes n
+
+-- the disk that they are
+abbrev pub disk_in : Extents → Disk
+disk_in s = record {
+  count = s.count;
+  block = λ n. if nat_lt n s.count then block_in 512 (get s.extents (n / 64)) (n % 64) else [];
+}
+
+-- there are 1 to 2^40 blocks, and each extent has 64
+pub record AreExtents (count : ℕ) (extents : FinMap nat_cmp (List ℕ)) : Type 0 where
+  pub some : 0 < count
+  pub few : count ≤ 2 ^ 40
+  pub whole : (n : ℕ) (bytes : List ℕ) → get extents n ≡ Some bytes → length bytes ≡ 32768
+
+-- the bytes read as if no extent were there
+abbrev pub IsBlank : List ℕ → Type 0
+IsBlank bytes = (n : ℕ) → n < 64 → block_in 512 (Some bytes) n ≡ block_in 512 None n
+
+-- the extents of so many blocks from the first on are there
+abbrev pub HasBlocks : FinMap nat_cmp (List ℕ) → ℕ → ℕ → Type 0
+HasBlocks extents first count =
+    (n : ℕ) → first ≤ n → n < first + count → IsSome (get extents (n / 64))

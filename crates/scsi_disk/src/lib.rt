@@ -1,0 +1,23 @@
+//! Disks of blocks in memory, and the commands to a logical unit that read and write them (SPC-4
+//! and SBC-3).
+#![tactic(auto)]
+
+mod execution;
+mod fail_at;
+mod memory;
+mod order;
+mod planning;
+mod running;
+mod sparse;
+mod store;
+#[cfg(test)]
+mod tests;
+
+pub use execution::execute;
+pub use fail_at::FailAt;
+pub use memory::MemoryStore;
+pub use order::{Order, Outcome, Plan};
+pub use planning::plan;
+pub use running::run_orders;
+pub use sparse::SparseStore;
+pub use store::{BlockStore, StoreFault};

@@ -1,0 +1,196 @@
+//! A store that keeps only what was written.
+
+ghost use Rattle.std.specs.Prelude.{◌≡◌, ◌+◌, ◌*◌, ◌/◌, ◌%◌, ◌^◌, ◌<◌, ◌≤◌, length, ℕ, IsOk, IfOk, IsSome, OnOk, IsErrOf};
+ghost use Rattle.std.specs.FinMap.{get};
+ghost use Rattle.scsi_disk.specs.Disk.{Disk, zeros, blocks_from, written, cut, overlaid};
+ghost use Rattle.scsi_disk.specs.Sparse.{disk_in, IsBlank, HasBlocks};
+
+use crate::memory::write_blocks;
+use crate::store::{BlockStore, StoreFault};
+use std::alloc::{AllocError, Global};
+use std::collections::BTreeMap;
+use std::marker::Model;
+
+/// How many blocks an extent has.
+const EXTENT_BLOCKS: u64 = 64;
+
+/// The bytes of 64 blocks.
+#[derive(Drop)]
+struct Extent {
+    bytes: Vec<u8>,
+}
+
+impl Model for Extent {
+    ghost use Rattle.std.specs.Prelude.{List, ℕ, ◌≡◌, length};
+
+    ghost Value = { List ℕ };
+
+    ghost view = { λ e. e.bytes.items };
+
+    ghost invariant = { λ e. length e.bytes.items ≡ 32768 };
+}
+
+impl Extent {
+    /// So many blocks of 00, of which an extent has 64.
+    fn blank(alloc: Global, blocks: usize) -> Result<Extent, AllocError>
+        requires { blocks ≡ 64 }
+        ensures blank { IfOk result IsBlank }
+        ensures size { IfOk result (λ e. length e ≡ 32768) }
+    {
+        let bytes = vec![in alloc; 0u8; 512 * blocks]?;
+        Ok(Extent { bytes })
+    }
+
+    /// Writes one block.
+    fn put(&mut self, n: usize, bytes: &[u8])
+        requires one { length bytes.now ≡ 512 }
+        requires inside { n < 64 }
+        ensures blocks { cut 512 self.new ≡ overlaid 512 n bytes.now (cut 512 self.old) }
+        ensures size { length self.new ≡ length self.old }
+    {
+        write_blocks(&mut self.bytes, n, bytes);
+    }
+}
+
+/// A store of 1 to 2^40 blocks. A block that was never written is 00.
+///
+/// It keeps extents of 64 blocks in an ordered map. A read takes no memory. A write takes memory
+/// for all its extents, of 00, before it changes a byte, so after `NoMemory` no block has changed.
+/// The device does not fail.
+#[derive(Drop)]
+pub struct SparseStore {
+    blocks: u64,
+    alloc: Global,
+    extents: BTreeMap<u64, Extent>,
+}
+
+impl Model for SparseStore {
+    ghost use Rattle.std.specs.Prelude.{◌<◌};
+    ghost use Rattle.std.specs.FinMap as map;
+    ghost use Rattle.scsi_disk.specs.Sparse.{Extents, AreExtents, extents_code};
+
+    ghost Value = { Extents };
+
+    ghost coded = { extents_code };
+
+    ghost view = { λ s. record { count = s.blocks; extents = map.from_entries s.extents.entries } };
+
+    ghost invariant = { λ s. AreExtents s.blocks (map.from_entries s.extents.entries) };
+}
+
+impl SparseStore {
+    /// A store of so many blocks of 00, from 1 to 2^40. It takes no memory.
+    pub fn new(alloc: Global, blocks: u64) -> SparseStore
+        requires some { 0 < blocks }
+        requires few { blocks ≤ 2 ^ 40 }
+        ensures { disk_in result ≡ zeros blocks }
+    {
+        SparseStore {
+            blocks,
+            alloc,
+            extents: BTreeMap::new(alloc),
+        }
+    }
+
+    /// Reads one block.
+    fn read_block(&self, n: u64, out: &mut [u8])
+        requires one { length out.old ≡ 512 }
+        requires inside { n < self.now.count }
+        ensures { out.new ≡ (disk_in self.now).block n }
+    {
+        let at = 512 * (n % EXTENT_BLOCKS) as usize;
+        match self.extents.get(&(n / EXTENT_BLOCKS)) {
+            Some(extent) => out.copy_from_slice(&extent.bytes[at..at + 512]),
+            None => out.fill(0),
+        }
+    }
+
+    /// Makes room for an extent. Nothing is seen of it.
+    fn reserve(&mut self, extent: u64) -> Result<(), AllocError>
+        ensures disk { disk_in self.new ≡ disk_in self.old }
+        ensures there { OnOk result (IsSome (get self.new.extents extent)) }
+        ensures kept { (k : ℕ) → IsSome (get self.old.extents k)
+            → IsSome (get self.new.extents k) }
+    {
+        if !self.extents.contains_key(&extent) {
+            let blank = Extent::blank(self.alloc, 64)?;
+            self.extents.insert(extent, blank)?;
+        }
+        Ok(())
+    }
+
+    /// Writes one block, whose extent is there.
+    fn write_block(&mut self, n: u64, bytes: &[u8])
+        requires one { length bytes.now ≡ 512 }
+        requires inside { n < self.old.count }
+        requires there { IsSome (get self.old.extents (n / 64)) }
+        ensures disk { disk_in self.new ≡ written n bytes.now (disk_in self.old) }
+        ensures kept { (k : ℕ) → IsSome (get self.old.extents k)
+            → IsSome (get self.new.extents k) }
+    {
+        if let Some(extent) = self.extents.get_mut(&(n / EXTENT_BLOCKS)) {
+            extent.put((n % EXTENT_BLOCKS) as usize, bytes);
+        }
+    }
+
+    /// Makes room for the extents of some blocks. Nothing is seen of it.
+    fn reserve_all(&mut self, first: u64, count: u64) -> Result<(), AllocError>
+        requires { first + count ≤ self.old.count }
+        ensures disk { disk_in self.new ≡ disk_in self.old }
+        ensures there { OnOk result (HasBlocks self.new.extents first count) }
+    {
+        prove!(first <= self.blocks);
+        for n in first..first + count {
+            self.reserve(n / EXTENT_BLOCKS)?;
+        }
+        Ok(())
+    }
+
+    /// Writes whole blocks, whose extents are there.
+    fn write_all(&mut self, first: u64, bytes: &[u8])
+        requires whole { length bytes.now % 512 ≡ 0 }
+        requires inside { first + length bytes.now / 512 ≤ self.old.count }
+        requires there { HasBlocks self.old.extents first (length bytes.now / 512) }
+        ensures { disk_in self.new ≡ written first bytes.now (disk_in self.old) }
+    {
+        prove!(first <= self.blocks);
+        for i in 0..bytes.len() / 512 {
+            self.write_block(first + i as u64, &bytes[512 * i..512 * i + 512]);
+        }
+    }
+}
+
+impl BlockStore for SparseStore {
+    ghost disk = { disk_in };
+
+    ghost failures = { λ _. 0 };
+
+    fn blocks(&self) -> u64 {
+        self.blocks
+    }
+
+    fn failures(&self) -> u64 {
+        0
+    }
+
+    fn read(&mut self, lba: u64, out: &mut [u8]) -> Result<(), StoreFault>
+        requires whole { length out.old % 512 ≡ 0 }
+        requires inside { 512 * lba + length out.old ≤ 512 * (disk_in self.old).count }
+        ensures works { IsOk result }
+        ensures read { out.new ≡ blocks_from (disk_in self.old) lba (length out.old / 512) }
+        ensures disk { disk_in self.new ≡ disk_in self.old }
+    {
+        prove!(lba <= self.blocks);
+        for i in 0..out.len() / 512 {
+            self.read_block(lba + i as u64, &mut out[512 * i..512 * i + 512]);
+        }
+        Ok(())
+    }
+
+    fn write(&mut self, lba: u64, bytes: &[u8]) -> Result<(), StoreFault> {
+        prove!(lba <= self.blocks);
+        self.reserve_all(lba, bytes.len() as u64 / 512)?;
+        self.write_all(lba, bytes);
+        Ok(())
+    }
+}
