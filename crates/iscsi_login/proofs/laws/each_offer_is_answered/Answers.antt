@@ -1,0 +1,5 @@
+use Rattle.iscsi_login.proofs.Answers.{answers_of_key}
+use Rattle.iscsi_login.proofs.laws.each_offer_is_answered.Goals as goal
+
+pub returns : goal.returns
+returns c = record { each = answers_of_key }

@@ -1,0 +1,65 @@
+-- What an end holds of a login: a value of each negotiated key, and what each end takes (RFC 7143, section 13).
+use Rattle.std.specs.Prelude.{ℕ, List, map, min, slice_index_or}
+use Rattle.iscsi_login.specs.declared.key.NegKey.{NegKey}
+use Rattle.iscsi_login.specs.declared.key.NegKey.TheVariants as keys
+use Rattle.iscsi_login.specs.declared.preferences.Answered.{Answered}
+use Rattle.iscsi_login.specs.declared.preferences.Answered.TheVariants.{Number, Reject}
+use Rattle.iscsi_login.specs.Key.{rule_of, default_of, all_keys, IsWithin}
+use Rattle.iscsi_login.specs.Negotiation.{Allows, max_recv_range}
+
+-- The held values (section 13).
+pub record Held : Type 0 where
+  -- one for each key, in the order of `all_keys`
+  pub values : List Answered
+  -- the most bytes that the initiator, and the target, take in one segment
+  pub initiator_max_recv : ℕ
+  pub target_max_recv : ℕ
+
+-- The values before anything is agreed or declared (sections 13 and 13.12).
+abbrev pub defaults : Held
+defaults = record {
+  values = map default_of all_keys;
+  initiator_max_recv = 8192;
+  target_max_recv = 8192;
+}
+
+-- A key's place in `all_keys` (own rule).
+abbrev pub place_of : NegKey → ℕ
+place_of keys.MaxConnections = 0
+place_of keys.InitialR2T = 1
+place_of keys.ImmediateData = 2
+place_of keys.MaxBurstLength = 3
+place_of keys.FirstBurstLength = 4
+place_of keys.DefaultTime2Wait = 5
+place_of keys.DefaultTime2Retain = 6
+place_of keys.MaxOutstandingR2T = 7
+place_of keys.DataPDUInOrder = 8
+place_of keys.DataSequenceInOrder = 9
+place_of keys.ErrorRecoveryLevel = 10
+place_of keys.HeaderDigest = 11
+place_of keys.DataDigest = 12
+place_of keys.AuthMethod = 13
+
+-- The value at a key's place (own rule).
+abbrev pub value_at : List Answered → NegKey → Answered
+value_at values key = slice_index_or values (place_of key) Reject
+
+-- The held value of a key (section 13).
+abbrev pub held_value : Held → NegKey → Answered
+held_value held key = value_at held.values key
+
+-- The number that a value is (section 13).
+abbrev pub number_of : Answered → ℕ
+number_of (Number n) = n
+number_of _ = 0
+
+-- How many bytes a command may send before it is asked for more (sections 13.13 and 13.14).
+abbrev pub first_burst : Held → ℕ
+first_burst held =
+    min (number_of (held_value held keys.FirstBurstLength)) (number_of (held_value held keys.MaxBurstLength))
+
+-- Each key has a value that it allows, and each length is one that may be declared (section 13).
+pub record IsHeld (held : Held) : Type 0 where
+  pub values : (key : NegKey) → Allows (rule_of key) (held_value held key)
+  pub initiator_max_recv : IsWithin max_recv_range held.initiator_max_recv
+  pub target_max_recv : IsWithin max_recv_range held.target_max_recv

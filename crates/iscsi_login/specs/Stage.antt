@@ -1,0 +1,11 @@
+-- The stages of a login, and the moves between them (RFC 7143, section 6.3).
+use Rattle.std.specs.Prelude.{Bool, true, false}
+use Rattle.iscsi_login.specs.declared.stage.Stage.{Stage}
+use Rattle.iscsi_login.specs.declared.stage.Stage.TheVariants.{Security, Operational, Full}
+
+-- A login may move from the first to the second: forward, and never back (section 6.3).
+abbrev pub may_move : Stage → Stage → Bool
+may_move Security Operational = true
+may_move Security Full = true
+may_move Operational Full = true
+may_move _ _ = false

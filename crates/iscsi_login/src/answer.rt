@@ -1,0 +1,155 @@
+//! The target's answer to a login text (RFC 7143, section 6.2).
+
+ghost use Rattle.std.specs.Prelude.{◌≡◌, ◌++◌, ◌∷◌, [], IfOk, OnOk, IsSome};
+ghost use Rattle.std.specs.Option.{option_map};
+ghost use Rattle.iscsi_text.specs.Value.{typed};
+ghost use Rattle.iscsi_text.specs.Text.{values_of, IsInOrder, Arranges};
+ghost use Rattle.iscsi_text.specs.Canonical.{canonical_text};
+ghost use Rattle.iscsi_text.specs.Inside.{shown, all_shown};
+ghost use Rattle.iscsi_login.specs.Answer.{answer_to, other_answer, answer_value, answers_to, declarations, answer};
+
+use crate::key::NegKey;
+use crate::negotiation::{answered_value, result, word};
+use crate::preferences::Preferences;
+use crate::stage::Session;
+use iscsi_text::{Pair, Text, Value, key_kind, write_pairs};
+use std::alloc::{AllocError, Global};
+
+/// The canonical answer to a login text.
+///
+/// A negotiated key is answered by its result, or in a discovery session by `Irrelevant` where it
+/// has no use there; `IFMarker` and `OFMarker` by `No`; `IFMarkInt`, `OFMarkInt` and `SendTargets`
+/// by `Reject`; a declared key by nothing; an unknown one by `NotUnderstood`. The target's portal
+/// group tag and the most bytes that it takes in one segment are declared where they are given.
+/// The only error is that memory ran out; nothing else changes (RFC 7143, sections 6.2, 13.9 and
+/// 13.12; which known keys are rejected is own rule).
+pub fn answer_text(
+    alloc: Global,
+    text: &Text,
+    preferences: &Preferences,
+    session: Session,
+    tag: Option<u16>,
+    max_recv: Option<u32>,
+) -> Result<Vec<u8>, AllocError>
+    ensures answer { IfOk result (λ bytes. bytes.items ≡
+        canonical_text (answer session preferences.now tag max_recv text.now)) }
+{
+    let mut pairs = declarations(alloc, tag, max_recv)?;
+    for n in 0..text.len() {
+        if let Some((key, offer)) = text.pair(n) {
+            add_answer(&mut pairs, key, &offer, preferences, session)?;
+        }
+    }
+    let mut out = Vec::new(alloc);
+    write_pairs(&pairs, &mut out)?;
+    Ok(out)
+}
+
+// What the target declares of itself.
+fn declarations<'a>(
+    alloc: Global,
+    tag: Option<u16>,
+    max_recv: Option<u32>,
+) -> Result<Vec<Pair<'a>>, AllocError>
+    ensures { IfOk result (λ pairs. all_shown pairs.items ≡ declarations tag max_recv) }
+{
+    let mut pairs = Vec::new(alloc);
+    if let Some(bytes) = max_recv {
+        pairs.push(Pair {
+            key: b"MaxRecvDataSegmentLength",
+            value: Value::Number(u64::from(bytes)),
+        })?;
+    }
+    if let Some(tag) = tag {
+        pairs.push(Pair {
+            key: b"TargetPortalGroupTag",
+            value: Value::Number(u64::from(tag)),
+        })?;
+    }
+    Ok(pairs)
+}
+
+// Puts the answer to an offer among the pairs, if it has one.
+fn add_answer<'a>(
+    pairs: &mut Vec<Pair<'a>>,
+    key: &'a [u8],
+    offer: &Value,
+    preferences: &Preferences,
+    session: Session,
+) -> Result<(), AllocError>
+    requires in_order { IsInOrder (all_shown pairs.old.items) }
+    requires new { IsSome (answer_value session preferences.now key.now (typed offer.now)) →
+        values_of key.now (all_shown pairs.old.items) ≡ [] }
+    ensures { OnOk result (Arranges
+        (all_shown pairs.old.items ++ answers_to session preferences.now (key.now, typed offer.now))
+        (all_shown pairs.new.items)) }
+{
+    if let Some(value) = answer_value(key, offer, preferences, session) {
+        add(pairs, Pair { key, value })?;
+    }
+    Ok(())
+}
+
+// Puts a pair of a new key among the pairs.
+fn add<'a>(pairs: &mut Vec<Pair<'a>>, pair: Pair<'a>) -> Result<(), AllocError>
+    requires in_order { IsInOrder (all_shown pairs.old.items) }
+    requires new { values_of pair.key.now (all_shown pairs.old.items) ≡ [] }
+    ensures { OnOk result (Arranges
+        (all_shown pairs.old.items ++ shown pair.entry ∷ [])
+        (all_shown pairs.new.items)) }
+{
+    let at = pairs.partition_point(|other| other.key.cmp(&pair.key).is_le());
+    pairs.insert(at, pair)?;
+    Ok(())
+}
+
+// The answer to a value of this key, if it has one.
+fn answer_value(
+    key: &[u8],
+    offer: &Value,
+    preferences: &Preferences,
+    session: Session,
+) -> Option<Value<'static>>
+    ensures { option_map typed result ≡
+        answer_value session preferences.now key.now (typed offer.now) }
+{
+    match NegKey::named(key) {
+        Some(negotiated) => Some(answer_to(negotiated, offer, preferences, session)),
+        None => other_answer(key),
+    }
+}
+
+const ANSWERED_NO: [&[u8]; 2] = [b"IFMarker", b"OFMarker"];
+
+const REJECTED: [&[u8]; 3] = [b"IFMarkInt", b"OFMarkInt", b"SendTargets"];
+
+// The answer to a key that isn't negotiated, whatever its value.
+fn other_answer(key: &[u8]) -> Option<Value<'static>>
+    ensures { option_map typed result ≡ other_answer key.now }
+{
+    if ANSWERED_NO.contains(&key) {
+        Some(Value::Boolean(false))
+    } else if REJECTED.contains(&key) {
+        Some(Value::Plain(b"Reject"))
+    } else if key_kind(key).is_some() {
+        None
+    } else {
+        Some(Value::Plain(b"NotUnderstood"))
+    }
+}
+
+// The answer to an offer.
+fn answer_to(
+    key: NegKey,
+    offer: &Value,
+    preferences: &Preferences,
+    session: Session,
+) -> Value<'static>
+    ensures { typed result ≡ answer_to session preferences.now key (typed offer.now) }
+{
+    if key.is_irrelevant(session) {
+        word(key.rule(), b"Irrelevant")
+    } else {
+        answered_value(key.rule(), result(key, offer, preferences))
+    }
+}

@@ -1,0 +1,25 @@
+//! The negotiation of an iSCSI login: keys, offers, answers, and what both ends hold (RFC 7143,
+//! sections 6 and 13).
+#![tactic(auto)]
+
+mod answer;
+mod key;
+pub mod laws;
+mod negotiation;
+mod offers;
+mod params;
+mod phase;
+mod preferences;
+mod stage;
+
+pub use answer::answer_text;
+pub use key::{NegKey, Range, Rule};
+pub use negotiation::{legal_answer, result};
+pub use offers::{Auth, Offers};
+pub use params::{Params, declares_well};
+pub use phase::{ConfigFault, Phase};
+pub use preferences::{Answered, Preferences};
+pub use stage::{Session, Stage};
+
+#[cfg(test)]
+mod tests;

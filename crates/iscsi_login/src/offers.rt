@@ -1,0 +1,192 @@
+//! What an initiator offers (RFC 7143, sections 6.3, 12.1 and 13).
+
+ghost use Rattle.std.specs.Prelude.{◌≡◌, ◌++◌, OnOk, OnErr};
+ghost use Rattle.iscsi_text.specs.Inside.{shown};
+ghost use Rattle.iscsi_login.specs.Offers.{auth_items, session_name, preferred_pair, max_recv_pair, proposed, security_offers, operational_offers, single_offers, text_of};
+
+use crate::key::NegKey;
+use crate::negotiation::answered_value;
+use crate::preferences::Preferences;
+use crate::stage::Session;
+use iscsi_text::{Pair, Value, write_pairs};
+use std::alloc::AllocError;
+
+/// Which ways of authentication an initiator offers (RFC 7143, section 12.1). None but `None` can
+/// be agreed here.
+#[derive(Clone, Copy, Debug, PartialEq, Eq)]
+pub enum Auth {
+    /// `None`.
+    None,
+    /// `CHAP,None`.
+    ChapOrNone,
+    /// `CHAP`, which the target of this workspace refuses.
+    Chap,
+}
+
+impl Auth {
+    // The items that are offered.
+    fn items(self) -> &'static [u8]
+        ensures { result.now ≡ auth_items self }
+    {
+        match self {
+            Auth::None => b"None",
+            Auth::ChapOrNone => b"CHAP,None",
+            Auth::Chap => b"CHAP",
+        }
+    }
+}
+
+/// What an initiator offers in a login, and the texts that say so.
+///
+/// Each text is canonical: `key=value` and a byte 0 for each pair, in the byte order of the keys.
+/// Names are taken as they are: that they have no byte 0, and that numbers are in range, is for the
+/// caller to see.
+#[derive(Clone, Copy, Debug, PartialEq, Eq)]
+pub struct Offers<'a> {
+    /// The initiator's name.
+    pub initiator: &'a [u8],
+    /// The name of the target, which a discovery session doesn't say.
+    pub target: &'a [u8],
+    /// What the session is for.
+    pub session: Session,
+    /// The ways of authentication.
+    pub auth: Auth,
+    /// The offered values.
+    pub prefs: Preferences,
+}
+
+impl Offers<'_> {
+    /// Appends the text of the security stage: `AuthMethod`, `InitiatorName`, `SessionType`, and in
+    /// a normal session `TargetName` (RFC 7143, sections 6.3.2, 12.1, 13.4, 13.5 and 13.21).
+    ///
+    /// After want of memory `out` is unchanged.
+    pub fn security_text(&self, out: &mut Vec<u8>) -> Result<(), AllocError>
+        ensures ok { OnOk result (out.new.items ≡
+            out.old.items ++ text_of (security_offers (proposed self.now))) }
+        ensures err { OnErr result (out.new.items ≡ out.old.items) }
+    {
+        let pairs = [
+            Pair {
+                key: b"AuthMethod",
+                value: Value::Items(self.auth.items()),
+            },
+            Pair {
+                key: b"InitiatorName",
+                value: Value::Plain(self.initiator),
+            },
+            Pair {
+                key: b"SessionType",
+                value: Value::Plain(session_name(self.session)),
+            },
+            Pair {
+                key: b"TargetName",
+                value: Value::Plain(self.target),
+            },
+        ];
+        match self.session {
+            Session::Normal => write_pairs(&pairs, out),
+            Session::Discovery => write_pairs(&pairs[..3], out),
+        }
+    }
+
+    /// Appends the text of the operational stage: the preference for each negotiated key but
+    /// `AuthMethod`, and `MaxRecvDataSegmentLength` (RFC 7143, sections 6.3.3 and 13).
+    ///
+    /// After want of memory `out` is unchanged.
+    pub fn operational_text(&self, out: &mut Vec<u8>) -> Result<(), AllocError>
+        ensures ok { OnOk result (out.new.items ≡
+            out.old.items ++ text_of (operational_offers (proposed self.now))) }
+        ensures err { OnErr result (out.new.items ≡ out.old.items) }
+    {
+        let pairs = [
+            self.preferred(NegKey::DataDigest),
+            self.preferred(NegKey::DataPDUInOrder),
+            self.preferred(NegKey::DataSequenceInOrder),
+            self.preferred(NegKey::DefaultTime2Retain),
+            self.preferred(NegKey::DefaultTime2Wait),
+            self.preferred(NegKey::ErrorRecoveryLevel),
+            self.preferred(NegKey::FirstBurstLength),
+            self.preferred(NegKey::HeaderDigest),
+            self.preferred(NegKey::ImmediateData),
+            self.preferred(NegKey::InitialR2T),
+            self.preferred(NegKey::MaxBurstLength),
+            self.preferred(NegKey::MaxConnections),
+            self.preferred(NegKey::MaxOutstandingR2T),
+            self.max_recv(),
+        ];
+        write_pairs(&pairs, out)
+    }
+
+    /// Appends the one text of a login that starts in the operational stage: all pairs of both
+    /// texts but `AuthMethod` (RFC 7143, section 6.3; that it is one text is own rule).
+    ///
+    /// After want of memory `out` is unchanged.
+    pub fn single_text(&self, out: &mut Vec<u8>) -> Result<(), AllocError>
+        ensures ok { OnOk result (out.new.items ≡
+            out.old.items ++ text_of (single_offers (proposed self.now))) }
+        ensures err { OnErr result (out.new.items ≡ out.old.items) }
+    {
+        let pairs = [
+            self.preferred(NegKey::DataDigest),
+            self.preferred(NegKey::DataPDUInOrder),
+            self.preferred(NegKey::DataSequenceInOrder),
+            self.preferred(NegKey::DefaultTime2Retain),
+            self.preferred(NegKey::DefaultTime2Wait),
+            self.preferred(NegKey::ErrorRecoveryLevel),
+            self.preferred(NegKey::FirstBurstLength),
+            self.preferred(NegKey::HeaderDigest),
+            self.preferred(NegKey::ImmediateData),
+            self.preferred(NegKey::InitialR2T),
+            Pair {
+                key: b"InitiatorName",
+                value: Value::Plain(self.initiator),
+            },
+            self.preferred(NegKey::MaxBurstLength),
+            self.preferred(NegKey::MaxConnections),
+            self.preferred(NegKey::MaxOutstandingR2T),
+            self.max_recv(),
+            Pair {
+                key: b"SessionType",
+                value: Value::Plain(session_name(self.session)),
+            },
+            Pair {
+                key: b"TargetName",
+                value: Value::Plain(self.target),
+            },
+        ];
+        match self.session {
+            Session::Normal => write_pairs(&pairs, out),
+            Session::Discovery => write_pairs(&pairs[..16], out),
+        }
+    }
+
+    // A key with the preference for it.
+    fn preferred(&self, key: NegKey) -> Pair<'static>
+        ensures { shown result ≡ preferred_pair self.now.prefs key }
+    {
+        Pair {
+            key: key.name(),
+            value: answered_value(key.rule(), self.prefs.of(key)),
+        }
+    }
+
+    // The most bytes that the initiator takes in one segment.
+    fn max_recv(&self) -> Pair<'static>
+        ensures { shown result ≡ max_recv_pair self.now.prefs }
+    {
+        Pair {
+            key: b"MaxRecvDataSegmentLength",
+            value: Value::Number(u64::from(self.prefs.max_recv)),
+        }
+    }
+}
+
+// The value of `SessionType`.
+fn session_name(session: Session) -> &'static [u8]
+    ensures { result.now ≡ session_name session }
+{
+    match session {
+        Session::Normal => b"Normal",
+        Session::Discovery => b"Discovery",
+    }
+}

@@ -1,0 +1,257 @@
+//! What an end holds of a login (RFC 7143, section 13).
+
+ghost use Rattle.std.specs.Prelude.{◌≡◌, ◌↔◌, IsTrue, map, IfSome};
+ghost use Rattle.iscsi_text.specs.Value.{typed};
+ghost use Rattle.iscsi_login.specs.Key.{rule_of, all_keys, IsWithin};
+ghost use Rattle.iscsi_login.specs.Negotiation.{Allows, IsInRange, max_recv_range};
+ghost use Rattle.iscsi_login.specs.Held.{defaults, first_burst, held_value, number_of, IsHeld};
+ghost use Rattle.iscsi_login.specs.Answer.{declared_max_recv, IsSegmentLength, DeclaresWell, value_after_offers, target_holds, value_after_answer, initiator_holds};
+
+use crate::key::{BYTES, NegKey};
+use crate::negotiation::{or_default, result, value};
+use crate::preferences::{Answered, Preferences};
+use crate::stage::Session;
+use iscsi_text::{Text, Value};
+use std::marker::Model;
+
+/// The value of each negotiated key, and the most bytes that each end takes in one segment.
+///
+/// Contracts see it as the list of the values and the two lengths. Each value is one that its key
+/// allows, and each length one that may be declared.
+#[derive(Debug, Drop)]
+pub struct Params {
+    values: [Answered; 14],
+    /// The most bytes that the initiator takes in one segment, 512 to 16777215.
+    pub initiator_max_recv: u32,
+    /// The most bytes that the target takes in one segment, 512 to 16777215.
+    pub target_max_recv: u32,
+}
+
+impl Model for Params {
+    ghost use Rattle.iscsi_login.specs.Held.{Held, IsHeld};
+
+    ghost Value = { Held };
+
+    ghost view = { λ p. record {
+      values = p.values;
+      initiator_max_recv = p.initiator_max_recv;
+      target_max_recv = p.target_max_recv;
+    } };
+
+    ghost invariant = { λ p. IsHeld (record {
+      values = p.values;
+      initiator_max_recv = p.initiator_max_recv;
+      target_max_recv = p.target_max_recv;
+    }) };
+}
+
+impl Params {
+    /// The default of each key, and 8192 bytes in a segment (RFC 7143, sections 13 and 13.12).
+    pub fn defaults() -> Params
+        ensures defaults { result ≡ defaults }
+    {
+        Params {
+            values: [
+                Answered::Number(1),
+                Answered::Flag(true),
+                Answered::Flag(true),
+                Answered::Number(262144),
+                Answered::Number(65536),
+                Answered::Number(2),
+                Answered::Number(20),
+                Answered::Number(1),
+                Answered::Flag(true),
+                Answered::Flag(true),
+                Answered::Number(0),
+                Answered::NoneItem,
+                Answered::NoneItem,
+                Answered::NoneItem,
+            ],
+            initiator_max_recv: 8192,
+            target_max_recv: 8192,
+        }
+    }
+
+    /// The held value of a key, which is one that the key allows and so never `Reject`.
+    pub fn get(&self, key: NegKey) -> Answered
+        ensures value { result ≡ held_value self.now key }
+        ensures allowed { Allows (rule_of key) result }
+        // So it is of every key, and both lengths may be declared.
+        ensures held { IsHeld self.now }
+    {
+        self.values[key.place()]
+    }
+
+    /// How many bytes a write may send before it is asked for more: the lesser of
+    /// `FirstBurstLength` and `MaxBurstLength` (RFC 7143, section 13.14).
+    pub fn first_burst(&self) -> u32
+        ensures bytes { result ≡ first_burst self.now }
+    {
+        self.number(NegKey::FirstBurstLength)
+            .min(self.number(NegKey::MaxBurstLength))
+    }
+
+    /// The held number of a key that has numbers, and 0 for another key.
+    pub fn number(&self, key: NegKey) -> u32
+        ensures number { result ≡ number_of (held_value self.now key) }
+    {
+        match self.get(key) {
+            Answered::Number(n) => n,
+            Answered::Flag(_) | Answered::NoneItem | Answered::Reject => 0,
+        }
+    }
+
+    /// At the target: holds what its answer to this text settles, the length that the text
+    /// declares, and the length that the answer declares, if they do.
+    ///
+    /// What the text declares is to be a length that may be declared: see `declares_well` first.
+    pub fn hold_offers(
+        &mut self,
+        text: &Text,
+        preferences: &Preferences,
+        session: Session,
+        max_recv: Option<u32>,
+    )
+        requires preferences { IsInRange preferences.now }
+        requires declared { DeclaresWell text.now }
+        requires declares { IfSome max_recv (IsWithin max_recv_range) }
+        ensures holds { self.new ≡ target_holds session preferences.now max_recv text.now self.old }
+    {
+        let values = self.values_after_offers(text, preferences, session);
+        let initiator_max_recv = declared_max_recv(text).unwrap_or(self.initiator_max_recv);
+        let target_max_recv = max_recv.unwrap_or(self.target_max_recv);
+        self.values = values;
+        self.initiator_max_recv = initiator_max_recv;
+        self.target_max_recv = target_max_recv;
+    }
+
+    /// At the initiator: holds what this answer settles, the length that the answered text
+    /// declared, and the length that the answer declares, if they do.
+    ///
+    /// An answer that is no value of its key, as `Reject`, settles the default. What the answer
+    /// declares is to be a length that may be declared: see `declares_well` first.
+    pub fn hold_answer(&mut self, answer: &Text, max_recv: Option<u32>)
+        requires declared { DeclaresWell answer.now }
+        requires declares { IfSome max_recv (IsWithin max_recv_range) }
+        ensures holds { self.new ≡ initiator_holds max_recv answer.now self.old }
+    {
+        let values = self.values_after_answer(answer);
+        let initiator_max_recv = max_recv.unwrap_or(self.initiator_max_recv);
+        let target_max_recv = declared_max_recv(answer).unwrap_or(self.target_max_recv);
+        self.values = values;
+        self.initiator_max_recv = initiator_max_recv;
+        self.target_max_recv = target_max_recv;
+    }
+
+    // What the target holds of each key once it has answered this text.
+    fn values_after_offers(
+        &self,
+        text: &Text,
+        preferences: &Preferences,
+        session: Session,
+    ) -> [Answered; 14]
+        ensures { result ≡
+            map (value_after_offers session preferences.now text.now self.now) all_keys }
+    {
+        [
+            self.after_offers(NegKey::MaxConnections, text, preferences, session),
+            self.after_offers(NegKey::InitialR2T, text, preferences, session),
+            self.after_offers(NegKey::ImmediateData, text, preferences, session),
+            self.after_offers(NegKey::MaxBurstLength, text, preferences, session),
+            self.after_offers(NegKey::FirstBurstLength, text, preferences, session),
+            self.after_offers(NegKey::DefaultTime2Wait, text, preferences, session),
+            self.after_offers(NegKey::DefaultTime2Retain, text, preferences, session),
+            self.after_offers(NegKey::MaxOutstandingR2T, text, preferences, session),
+            self.after_offers(NegKey::DataPDUInOrder, text, preferences, session),
+            self.after_offers(NegKey::DataSequenceInOrder, text, preferences, session),
+            self.after_offers(NegKey::ErrorRecoveryLevel, text, preferences, session),
+            self.after_offers(NegKey::HeaderDigest, text, preferences, session),
+            self.after_offers(NegKey::DataDigest, text, preferences, session),
+            self.after_offers(NegKey::AuthMethod, text, preferences, session),
+        ]
+    }
+
+    // What the target holds of a key once it has answered this text.
+    fn after_offers(
+        &self,
+        key: NegKey,
+        text: &Text,
+        preferences: &Preferences,
+        session: Session,
+    ) -> Answered
+        ensures { result ≡ value_after_offers session preferences.now text.now self.now key }
+    {
+        let Some(offer) = text.get(key.name(), 0) else {
+            return self.get(key);
+        };
+        if key.is_irrelevant(session) {
+            return key.default_value();
+        }
+        or_default(result(key, &offer, preferences), key.default_value())
+    }
+
+    // What the initiator holds of each key once it has this answer.
+    fn values_after_answer(&self, answer: &Text) -> [Answered; 14]
+        ensures { result ≡ map (value_after_answer answer.now self.now) all_keys }
+    {
+        [
+            self.after_answer(NegKey::MaxConnections, answer),
+            self.after_answer(NegKey::InitialR2T, answer),
+            self.after_answer(NegKey::ImmediateData, answer),
+            self.after_answer(NegKey::MaxBurstLength, answer),
+            self.after_answer(NegKey::FirstBurstLength, answer),
+            self.after_answer(NegKey::DefaultTime2Wait, answer),
+            self.after_answer(NegKey::DefaultTime2Retain, answer),
+            self.after_answer(NegKey::MaxOutstandingR2T, answer),
+            self.after_answer(NegKey::DataPDUInOrder, answer),
+            self.after_answer(NegKey::DataSequenceInOrder, answer),
+            self.after_answer(NegKey::ErrorRecoveryLevel, answer),
+            self.after_answer(NegKey::HeaderDigest, answer),
+            self.after_answer(NegKey::DataDigest, answer),
+            self.after_answer(NegKey::AuthMethod, answer),
+        ]
+    }
+
+    // What the initiator holds of a key once it has this answer.
+    fn after_answer(&self, key: NegKey, answer: &Text) -> Answered
+        ensures { result ≡ value_after_answer answer.now self.now key }
+    {
+        match answer.get(key.name(), 0) {
+            Some(answer) => or_default(value(key.rule(), &answer), key.default_value()),
+            None => self.get(key),
+        }
+    }
+}
+
+/// Whether `MaxRecvDataSegmentLength`, if the text has it, is a number from 512 to 16777215
+/// (RFC 7143, section 13.12).
+pub fn declares_well(text: &Text) -> bool
+    ensures declares { IsTrue result ↔ DeclaresWell text.now }
+{
+    match text.get(b"MaxRecvDataSegmentLength", 0) {
+        Some(value) => is_segment_length(&value),
+        None => true,
+    }
+}
+
+// Whether the value is a number of bytes that may be declared.
+fn is_segment_length(value: &Value) -> bool
+    ensures { IsTrue result ↔ IsSegmentLength (typed value.now) }
+{
+    match value {
+        Value::Number(bytes) => u64::from(BYTES.low) <= *bytes && *bytes <= u64::from(BYTES.high),
+        Value::Boolean(_) | Value::Items(_) | Value::Plain(_) | Value::Odd(_) => false,
+    }
+}
+
+// The most bytes in one segment that a text declares, if it does.
+fn declared_max_recv(text: &Text) -> Option<u32>
+    requires { DeclaresWell text.now }
+    ensures value { result ≡ declared_max_recv text.now }
+    ensures within { IfSome result (IsWithin max_recv_range) }
+{
+    match text.get(b"MaxRecvDataSegmentLength", 0) {
+        Some(Value::Number(bytes)) => Some(bytes as u32),
+        _ => None,
+    }
+}

@@ -1,0 +1,37 @@
+//! Kinds of session, and the stages of a login (RFC 7143, section 6.3).
+
+ghost use Rattle.std.specs.Prelude.{◌≡◌};
+ghost use Rattle.iscsi_login.specs.Stage.{may_move};
+
+/// What a session is for (RFC 7143, section 13.21).
+#[derive(Clone, Copy, Debug, PartialEq, Eq)]
+pub enum Session {
+    /// All that an initiator asks of a target.
+    Normal,
+    /// To learn the names of targets.
+    Discovery,
+}
+
+/// Where a login is (RFC 7143, section 6.3). On the wire the stages are 0, 1 and 3.
+#[derive(Clone, Copy, Debug, PartialEq, Eq)]
+pub enum Stage {
+    /// Security negotiation, 0.
+    Security,
+    /// Negotiation of operational keys, 1.
+    Operational,
+    /// Full feature phase, 3.
+    Full,
+}
+
+impl Stage {
+    /// Whether a login may move from this stage to the other: from security to each of the two
+    /// later ones, and from there to full feature phase (RFC 7143, section 6.3).
+    pub fn may_move(self, to: Stage) -> bool
+        ensures moves { result ≡ may_move self to }
+    {
+        matches!(
+            (self, to),
+            (Stage::Security, Stage::Operational | Stage::Full) | (Stage::Operational, Stage::Full)
+        )
+    }
+}
