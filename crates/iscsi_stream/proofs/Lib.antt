@@ -1,0 +1,13 @@
+pub mod Heads
+pub mod Settled
+pub mod Gathered
+pub mod Ready
+pub mod Padding
+pub mod Segments
+pub mod Meaning
+pub mod Taking
+pub mod Loops
+pub mod Writing
+pub mod PassOn
+pub mod Normals
+pub mod RunLaws

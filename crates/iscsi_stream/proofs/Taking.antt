@@ -1,0 +1,89 @@
+-- A framer that takes bytes and gives PDUs up, whichever pieces the bytes came in.
+use Rattle.std.proofs.Common.{◌≡◌, ℕ, ◌+◌, ◌-◌, ◌%◌, ◌^◌, ◌<◌, ◌≤◌, min, Bool, true, false, List, [], ◌∷◌, ◌++◌, length, take, drop, refl, sym, ap, subst, ◌∙◌, arith, append-nil, append_assoc}
+use Rattle.std.proofs.lemmas.List.{length-append, length-take}
+use Rattle.iscsi_pdu.specs.declared.head.Head.{Head}
+use Rattle.iscsi_pdu.specs.Meaning.{Means, padding}
+use Rattle.iscsi_stream.specs.declared.logins.Logins.{Logins}
+use Rattle.iscsi_stream.specs.Segment.{no_login, continues, after, segment_of}
+use Rattle.iscsi_stream.specs.Stream.{pdu_len, Message, ReadsAs, after_all, NoPdu, Splits}
+use Rattle.iscsi_stream.specs.Framing.{Framing, opening, settled, is_whole, IsBegun, Takes, HasTaken, Moves, given_up, message_of, last_place}
+use Rattle.iscsi_stream.proofs.Heads.{means-length}
+use Rattle.iscsi_stream.proofs.Settled.{settled-short, settled-append, length-settled, is_whole-settled, IsBegun-from_settled, Means-from_settled}
+use Rattle.iscsi_stream.proofs.Meaning.{reads_one_more, after_all-snoc, no_pdu_begun}
+
+settled-nil : settled [] ≡ []
+settled-nil = settled-short [] (omega arith)
+
+pub at_opening : (limit : ℕ) → HasTaken [] [] (opening limit)
+unfolding ReadsAs
+at_opening limit = record {
+  given = [];
+  rest = [];
+  whole = refl;
+  reads = refl;
+  place = refl;
+  logins = refl;
+  held = sym settled-nil;
+  begun = λ long. absurd (omega arith);
+  live = refl;
+}
+
+pub fed : (s : List ℕ) (ms : List Message) (v : Framing) (p : List ℕ) (n : ℕ) (w : Framing) → HasTaken s ms v → Takes v p n w → HasTaken (s ++ take n p) ms w
+fed s ms v p n w h t =
+    let q = take n p in
+    let held : settled (v.held ++ q) ≡ settled (h.rest ++ q) = ap (λ (x : List ℕ). settled (x ++ q)) h.held ∙ settled-append h.rest q in
+    let begun_at : (u : Framing) → w ≡ u → IsBegun u.limit u.held = λ u e. subst (λ (x : Framing). IsBegun x.limit x.held) e t.begun in
+    subst (HasTaken (s ++ q) ms) (sym t.gathered) (record {
+      given = h.given;
+      rest = h.rest ++ q;
+      whole = ap (λ (x : List ℕ). x ++ q) h.whole ∙ append_assoc h.given h.rest q;
+      reads = h.reads;
+      place = h.place;
+      logins = h.logins;
+      held = held;
+      begun = IsBegun-from_settled v.limit (h.rest ++ q) (subst (IsBegun v.limit) held (begun_at _ t.gathered));
+      live = h.live;
+    })
+
+pub gave : (s : List ℕ) (ms : List Message) (v : Framing) (h : Head) (d : List ℕ) → HasTaken s ms v → Means v.held h d → HasTaken s (ms ++ message_of v h d ∷ []) (given_up v h)
+gave s ms v h d t m =
+    let means = Means-from_settled t.rest h d (subst (λ (x : List ℕ). Means x h d) t.held m) in
+    let good = (t.begun (omega (arith, means.size))).1 in
+    let within : length d ≤ v.limit = omega (arith, means-length t.rest h d means, good.within) in
+    let flag : continues (after_all no_login ms) h ≡ continues v.logins h = ap (λ (x : Logins). continues x h) (sym t.logins) in
+    let held : length v.held ≡ length t.rest = ap length t.held ∙ length-settled t.rest in
+    record {
+      given = t.given ++ t.rest;
+      rest = [];
+      whole = t.whole ∙ sym (append-nil (t.given ++ t.rest));
+      reads = subst (λ (c : Bool). ReadsAs v.limit no_login (t.given ++ t.rest) (ms ++ record { head = h; segment = segment_of c h d } ∷ [])) flag (reads_one_more v.limit no_login t.given ms t.rest h d t.reads means within);
+      place = omega (arith, t.place, held, length-append t.given t.rest);
+      logins = ap (λ (x : Logins). after x h) t.logins ∙ sym (after_all-snoc no_login ms (message_of v h d));
+      held = sym settled-nil;
+      begun = λ long. absurd (omega arith);
+      live = t.live;
+    }
+
+pub taken_at : (s s' : List ℕ) (ms ms' : List Message) (v : Framing) → s ≡ s' → ms ≡ ms' → HasTaken s ms v → HasTaken s' ms' v
+taken_at s s' ms ms' v p q t = subst (λ (x : List ℕ). HasTaken x ms' v) p (subst (λ (x : List Message). HasTaken s x v) q t)
+
+pub moves_none : (v : Framing) → Moves v v [] []
+moves_none v s ms t = taken_at s (s ++ []) ms (ms ++ []) v (sym (append-nil s)) (sym (append-nil ms)) t
+
+pub moves_fed : (v : Framing) (p : List ℕ) (n : ℕ) (w : Framing) → Takes v p n w → Moves v w (take n p) []
+moves_fed v p n w takes s ms t = taken_at (s ++ take n p) (s ++ take n p) ms (ms ++ []) w refl (sym (append-nil ms)) (fed s ms v p n w t takes)
+
+pub moves_gave : (v : Framing) (h : Head) (d : List ℕ) → Means v.held h d → Moves v (given_up v h) [] (message_of v h d ∷ [])
+moves_gave v h d means s ms t = taken_at s (s ++ []) (ms ++ message_of v h d ∷ []) (ms ++ message_of v h d ∷ []) (given_up v h) (sym (append-nil s)) refl (gave s ms v h d t means)
+
+pub moves_then : (a b c : Framing) (x y : List ℕ) (ms ns : List Message) → Moves a b x ms → Moves b c y ns → Moves a c (x ++ y) (ms ++ ns)
+moves_then a b c x y ms ns p q s ks t =
+    taken_at ((s ++ x) ++ y) (s ++ (x ++ y)) ((ks ++ ms) ++ ns) (ks ++ (ms ++ ns)) c (append_assoc s x y) (append_assoc ks ms ns) (q (s ++ x) (ks ++ ms) (p s ks t))
+
+-- where no PDU is ready, the bytes taken split where the framer says
+pub splits_taken : (s : List ℕ) (ms : List Message) (v : Framing) (t : HasTaken s ms v) → is_whole v.held ≡ false → Splits v.limit s ms t.given t.rest
+splits_taken s ms v t part = record {
+  whole = t.whole;
+  reads = t.reads;
+  no_more = no_pdu_begun v.limit t.rest t.begun (sym (is_whole-settled t.rest) ∙ ap is_whole (sym t.held) ∙ part);
+}

@@ -1,0 +1,19 @@
+use Rattle.std.proofs.Common.{◌≡◌, Bool, true, false, refl, sym, ap, ◌∙◌}
+use Rattle.std.specs.Prelude.{not, ◌&&◌}
+use Rattle.iscsi_stream.specs.Segment.{is_last}
+use Rattle.iscsi_stream.proofs.Segments.{segment_plain, segment_text, segment_refused, none_whole}
+use Rattle.iscsi_stream.proofs.forms.text_of.Goals as goal
+use Rattle.iscsi_stream.proofs.forms.text_of.Goals.{then-continued-via-then-continued, then-continued-via-else-continued+then-not-is_last}
+
+pub returns-then-continued-clause-means : goal.returns-then-continued-clause-means
+returns-then-continued-clause-means c =
+    segment_plain c.args.continued c.args.pdu.now.head c.args.pdu.now.bytes.now (elim c.then-continued.branch [
+      | then-continued-via-then-continued w ↦ none_whole.0 c.args.continued (is_last c.args.pdu.now.head) w.if-continued.true
+      | then-continued-via-else-continued+then-not-is_last w ↦ none_whole.1 c.args.continued (is_last c.args.pdu.now.head) (sym w.is_last.ensures ∙ w.if-not-is_last.true)
+    ])
+
+pub returns-in-Ok-clause-means : goal.returns-in-Ok-clause-means
+returns-in-Ok-clause-means c = segment_text c.args.continued c.args.pdu.now.head c.args.pdu.now.bytes.now c.in-Ok.text c.if-continued.false (sym c.is_last.ensures ∙ c.if-not-is_last.false) c.in-Ok.ensures.found
+
+pub returns-in-Err-clause-means : goal.returns-in-Err-clause-means
+returns-in-Err-clause-means c = segment_refused c.args.continued c.args.pdu.now.head c.args.pdu.now.bytes.now c.in-Err.fault c.no_text.result c.if-continued.false (sym c.is_last.ensures ∙ c.if-not-is_last.false) c.in-Err.ensures.none c.no_text.ensures.ok c.no_text.ensures.memory

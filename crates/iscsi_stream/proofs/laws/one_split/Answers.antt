@@ -1,0 +1,7 @@
+use Rattle.std.proofs.Common.{sym, ◌∙◌}
+use Rattle.iscsi_stream.specs.Segment.{no_login}
+use Rattle.iscsi_stream.proofs.Meaning.{same_split}
+use Rattle.iscsi_stream.proofs.laws.one_split.Goals as goal
+
+pub returns : goal.returns
+returns c limit stream ms ns a b x y p q = same_split limit no_login a ms b x ns y p.reads p.no_more q.reads q.no_more (sym p.whole ∙ q.whole)

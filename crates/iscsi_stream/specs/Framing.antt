@@ -1,0 +1,119 @@
+-- What a framer holds, and what its calls do.
+use Rattle.std.specs.Prelude.{◌≡◌, ◌≤◌, ◌<◌, ℕ, ◌+◌, ◌-◌, ◌^◌, Bool, true, false, not, ◌&&◌, ◌==◌, nat_lt, List, [], ◌∷◌, ◌++◌, length, take, min, Some, replicate}
+use Rattle.scsi_cdb.specs.Layout.{number_at}
+use Rattle.iscsi_pdu.specs.declared.head.Head.{Head}
+use Rattle.iscsi_pdu.specs.Meaning.{IsHeader, fault_of}
+use Rattle.iscsi_stream.specs.declared.fault.StreamFault.{StreamFault}
+use Rattle.iscsi_stream.specs.declared.fault.StreamFault.TheVariants as faults
+use Rattle.iscsi_stream.specs.declared.logins.Logins.{Logins}
+use Rattle.iscsi_stream.specs.Segment.{no_login, continues, after, segment_of}
+use Rattle.iscsi_stream.specs.Stream.{pdu_len, Message, ReadsAs, after_all}
+
+-- A framer as its callers see it: the longest segment that it takes, the place of the PDU that is ready, begun or
+-- next, what the login PDUs before it said, the bytes gathered of it, and whether there was a fault. Padding counts
+-- as gathered, but its bytes are not kept: they stand as 0.
+pub record Framing : Type 0 where
+  pub limit : ℕ
+  pub place : ℕ
+  pub logins : Logins
+  pub held : List ℕ
+  pub failed : Bool
+
+-- a framer at the beginning of a stream
+abbrev pub opening : ℕ → Framing
+opening limit = record { limit = limit; place = 0; logins = no_login; held = []; failed = false }
+
+-- the length of the segment, as bytes 5 to 7 say it
+abbrev pub length_at : List ℕ → ℕ
+length_at bytes = number_at 5 7 bytes
+
+-- how much of a begun PDU is header and segment
+abbrev pub content_len : List ℕ → ℕ
+content_len bytes = 48 + length_at bytes
+
+-- the bytes of a begun PDU, with those of its padding as 0
+unfoldable pub settled : List ℕ → List ℕ
+settled bytes = take (content_len bytes) bytes ++ replicate (length bytes - content_len bytes) 0
+
+-- the bytes are as many as their header says
+unfoldable pub is_whole : List ℕ → Bool
+is_whole bytes = not (nat_lt (length bytes) 48) && (length bytes == pdu_len (length_at bytes))
+
+-- The bytes are a header within the limit, and as much of its segment and padding as has come.
+pub record IsGood (limit : ℕ) (bytes : List ℕ) (head : Head) : Type 0 where
+  pub header : IsHeader (take 48 bytes) head (length_at bytes)
+  pub within : length_at bytes ≤ limit
+  pub no_more : length bytes ≤ pdu_len (length_at bytes)
+
+-- Nothing is wrong with the bytes so far, of which the header may be whole or not.
+abbrev pub IsBegun : ℕ → List ℕ → Type 0
+IsBegun limit bytes = 48 ≤ length bytes → (head : Head) × IsGood limit bytes head
+
+abbrev pub is_ready : Framing → Bool
+is_ready v = not v.failed && is_whole v.held
+
+-- the farthest place that is told
+abbrev pub last_place : ℕ
+last_place = 2 ^ 64 - 1
+
+-- The framer takes the first n bytes of the piece. It leaves bytes only where a PDU is ready.
+pub record Takes (old : Framing) (piece : List ℕ) (n : ℕ) (new : Framing) : Type 0 where
+  pub live : old.failed ≡ false
+  pub bound : n ≤ length piece
+  pub gathered : new ≡ record old { held = settled (old.held ++ take n piece) }
+  pub begun : IsBegun new.limit new.held
+  pub stops : n < length piece → is_whole new.held ≡ true
+
+-- The piece reaches the last byte of a header.
+pub record ReachesHeader (held piece : List ℕ) : Type 0 where
+  pub before : length held < 48
+  pub reached : 48 ≤ length (held ++ piece)
+
+-- The piece completes a header of this head and length.
+pub record Completes (held piece : List ℕ) (head : Head) (len : ℕ) : Type 0 where
+  pub reaches : ReachesHeader held piece
+  pub header : IsHeader (take 48 (held ++ piece)) head len
+
+-- When feed answers each fault. Memory is asked for where a header is whole, for its segment alone.
+abbrev pub FeedFails : Framing → List ℕ → StreamFault → Type 0
+FeedFails old piece faults.NoMemory = (old.failed ≡ false) × ((head : Head) × (len : ℕ) × Completes old.held piece head len × (0 < len) × (len ≤ old.limit))
+FeedFails old piece (faults.Head fault place) = (old.failed ≡ false) × ReachesHeader old.held piece × (fault_of (take 48 (old.held ++ piece)) ≡ Some fault) × (place ≡ old.place)
+FeedFails old piece (faults.OverLimit place) = (old.failed ≡ false) × ((head : Head) × (len : ℕ) × Completes old.held piece head len × (old.limit < len)) × (place ≡ old.place)
+FeedFails old piece (faults.Truncated place) = ⊥
+FeedFails old piece faults.Failed = old.failed ≡ true
+
+-- when finish answers each fault
+abbrev pub FinishFails : Framing → StreamFault → Type 0
+FinishFails old faults.NoMemory = ⊥
+FinishFails old (faults.Head fault place) = ⊥
+FinishFails old (faults.OverLimit place) = ⊥
+FinishFails old (faults.Truncated place) = (old.failed ≡ false) × (0 < length old.held) × (is_whole old.held ≡ false) × (place ≡ old.place)
+FinishFails old faults.Failed = old.failed ≡ true
+
+-- a framer that answers Failed from now on, and holds nothing
+abbrev pub stopped : Framing → Framing
+stopped v = record v { held = []; failed = true }
+
+-- A PDU with this head is given up.
+abbrev pub given_up : Framing → Head → Framing
+given_up v head = record v { place = min (v.place + length v.held) last_place; logins = after v.logins head; held = [] }
+
+-- the message of a PDU that is ready
+abbrev pub message_of : Framing → Head → List ℕ → Message
+message_of v head segment = record { head = head; segment = segment_of (continues v.logins head) head segment }
+
+-- A framer that has taken these bytes of a stream and given up PDUs of these meanings, whichever pieces the bytes came in.
+pub record HasTaken (stream : List ℕ) (ms : List Message) (v : Framing) : Type 0 where
+  pub given : List ℕ
+  pub rest : List ℕ
+  pub whole : stream ≡ given ++ rest
+  pub reads : ReadsAs v.limit no_login given ms
+  pub place : v.place ≡ min (length given) last_place
+  pub logins : v.logins ≡ after_all no_login ms
+  pub held : v.held ≡ settled rest
+  pub begun : IsBegun v.limit rest
+  pub live : v.failed ≡ false
+
+-- Between the two states the framer took these bytes and gave up PDUs of these meanings.
+abbrev pub Moves : Framing → Framing → List ℕ → List Message → Type 0
+Moves old new bytes more = (stream : List ℕ) (ms : List Message) → HasTaken stream ms old → HasTaken (stream ++ bytes) (ms ++ more) new

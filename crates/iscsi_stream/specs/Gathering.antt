@@ -1,0 +1,64 @@
+-- What the parts of a framer keep. No reader of its contract needs these.
+use Rattle.std.specs.Prelude.{◌≡◌, ◌≤◌, ◌<◌, ℕ, ◌+◌, Bool, true, false, List, [], ◌++◌, length, take, Some, replicate}
+use Rattle.iscsi_pdu.specs.declared.head.Head.{Head}
+use Rattle.iscsi_pdu.specs.Meaning.{IsHeader, Fits, fault_of, padding}
+use Rattle.iscsi_stream.specs.declared.fault.StreamFault.{StreamFault}
+use Rattle.iscsi_stream.specs.declared.fault.StreamFault.TheVariants as faults
+use Rattle.iscsi_stream.specs.declared.gathering.Stage.{Stage}
+use Rattle.iscsi_stream.specs.declared.gathering.Stage.TheVariants.{Header, Body}
+use Rattle.iscsi_stream.specs.Framing.{settled, is_whole, IsBegun, ReachesHeader, Completes}
+
+-- the bytes gathered, with those of the padding as 0
+abbrev pub gathered : List ℕ → List ℕ → Stage → List ℕ
+gathered header segment (Header filled) = take filled header
+gathered header segment (Body head len padded) = header ++ (segment ++ replicate padded 0)
+
+-- What is kept of a PDU whose header is whole, in a buffer with room for so many bytes.
+pub record IsBody (limit : ℕ) (header segment : List ℕ) (room : ℕ) (head : Head) (len padded : ℕ) : Type 0 where
+  pub says : IsHeader header head len
+  pub fits : Fits head
+  pub within : len ≤ limit
+  pub has_room : len ≤ room
+  pub no_more : length segment ≤ len
+  pub no_more_padding : padded ≤ padding len
+  pub order : 0 < padded → length segment ≡ len
+
+-- this holds of what a framer keeps
+abbrev pub IsKept : ℕ → List ℕ → List ℕ → ℕ → Stage → Type 0
+IsKept limit header segment room (Header filled) = (length header ≡ 48) × (filled < 48) × (segment ≡ [])
+IsKept limit header segment room (Body head len padded) = (length header ≡ 48) × IsBody limit header segment room head len padded
+
+-- The first n bytes of the piece are gathered: all of the piece, or as many as make a whole PDU.
+pub record Gathers (limit : ℕ) (old piece : List ℕ) (n : ℕ) (new : List ℕ) : Type 0 where
+  pub bound : n ≤ length piece
+  pub gathered : new ≡ settled (old ++ take n piece)
+  pub begun : IsBegun limit new
+  pub stops : n < length piece → is_whole new ≡ true
+
+-- The first n bytes of the piece go to the segment and then to its padding: all of the piece, or as many as are missing.
+pub record FillsBody (len : ℕ) (segment : List ℕ) (padded : ℕ) (piece : List ℕ) (n : ℕ) (segment_new : List ℕ) (padded_new : ℕ) : Type 0 where
+  pub count : ℕ
+  pub bound : n ≤ length piece
+  pub parts : n + padded ≡ count + padded_new
+  pub count_bound : count ≤ n
+  pub appended : segment_new ≡ segment ++ take count piece
+  pub no_more : length segment_new ≤ len
+  pub no_more_padding : padded_new ≤ padding len
+  pub order : 0 < padded_new → length segment_new ≡ len
+  pub stops : n < length piece → (length segment_new ≡ len) × (padded_new ≡ padding len)
+
+-- when a whole header is refused
+abbrev pub HeaderFails : List ℕ → ℕ → ℕ → StreamFault → Type 0
+HeaderFails header limit place faults.NoMemory = (head : Head) × (len : ℕ) × IsHeader header head len × (0 < len) × (len ≤ limit)
+HeaderFails header limit place (faults.Head fault at) = (fault_of header ≡ Some fault) × (at ≡ place)
+HeaderFails header limit place (faults.OverLimit at) = ((head : Head) × (len : ℕ) × IsHeader header head len × (limit < len)) × (at ≡ place)
+HeaderFails header limit place (faults.Truncated at) = ⊥
+HeaderFails header limit place faults.Failed = ⊥
+
+-- when bytes of a piece are refused
+abbrev pub GatherFails : ℕ → ℕ → List ℕ → List ℕ → StreamFault → Type 0
+GatherFails limit place held piece faults.NoMemory = (head : Head) × (len : ℕ) × Completes held piece head len × (0 < len) × (len ≤ limit)
+GatherFails limit place held piece (faults.Head fault at) = ReachesHeader held piece × (fault_of (take 48 (held ++ piece)) ≡ Some fault) × (at ≡ place)
+GatherFails limit place held piece (faults.OverLimit at) = ((head : Head) × (len : ℕ) × Completes held piece head len × (limit < len)) × (at ≡ place)
+GatherFails limit place held piece (faults.Truncated at) = ⊥
+GatherFails limit place held piece faults.Failed = ⊥

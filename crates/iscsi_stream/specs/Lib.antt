@@ -1,0 +1,11 @@
+pub mod Segment
+pub mod Stream
+pub mod Canonical
+pub mod Framing
+pub mod Gathering
+pub mod Faults
+pub mod Input
+pub mod Texts
+pub mod Normalising
+pub mod Passing
+pub mod Runs

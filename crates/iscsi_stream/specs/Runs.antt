@@ -1,0 +1,32 @@
+-- Whole runs of a framer: any pieces, fed in any way, and each ready PDU taken when its caller likes.
+use Rattle.std.specs.Prelude.{◌≡◌, ℕ, List, [], ◌∷◌, ◌++◌, take}
+use Rattle.iscsi_pdu.specs.declared.head.Head.{Head}
+use Rattle.iscsi_pdu.specs.Meaning.{Means}
+use Rattle.iscsi_stream.specs.declared.logins.Logins.{Logins}
+use Rattle.iscsi_stream.specs.Segment.{continues, after, segment_of}
+use Rattle.iscsi_stream.specs.Stream.{Message}
+use Rattle.iscsi_stream.specs.Framing.{Framing, Takes, given_up, is_ready}
+use Rattle.std.specs.Bool.{IsTrue}
+
+-- a call of feed that took so many bytes of the piece, or a call of take that gave up the PDU
+pub data Call : Type 0 where
+  Feed : (piece : List ℕ) (taken : ℕ) → Call
+  Take : (head : Head) (segment : List ℕ) → Call
+
+-- the calls lead from one state to the other
+unfoldable pub Runs : Framing → List Call → Framing → Type 0
+Runs old [] new = old ≡ new
+Runs old (Feed piece taken ∷ calls) new = (mid : Framing) × Takes old piece taken mid × Runs mid calls new
+Runs old (Take head segment ∷ calls) new = IsTrue (is_ready old) × Means old.held head segment × Runs (given_up old head) calls new
+
+-- the bytes that the calls took, in order
+unfoldable pub bytes_of : List Call → List ℕ
+bytes_of [] = []
+bytes_of (Feed piece taken ∷ calls) = take taken piece ++ bytes_of calls
+bytes_of (Take head segment ∷ calls) = bytes_of calls
+
+-- the meanings of the PDUs that they gave up, in order
+unfoldable pub messages_of : Logins → List Call → List Message
+messages_of logins [] = []
+messages_of logins (Feed piece taken ∷ calls) = messages_of logins calls
+messages_of logins (Take head segment ∷ calls) = (record { head = head; segment = segment_of (continues logins head) head segment }) ∷ messages_of (after logins head) calls

@@ -1,0 +1,175 @@
+//! PDUs out of a stream that comes in pieces.
+
+ghost use Rattle.std.specs.Prelude.{◌≡◌, ◌≤◌, ◌<◌, ◌^◌, ◌+◌, ◌↔◌, [], false, true, length, IfOk, IfErr, OnErr, OnOk, ◌⊎◌, IfSome, IsSome, IsTrue, ℕ, List};
+ghost use Rattle.iscsi_pdu.specs.Meaning.{Means, Fits};
+ghost use Rattle.iscsi_pdu.specs.declared.head.Head.{Head};
+ghost use Rattle.iscsi_stream.specs.Segment.{continues};
+ghost use Rattle.iscsi_stream.specs.Framing.{opening, is_ready, Takes, FeedFails, stopped, FinishFails, given_up};
+
+use crate::fault::StreamFault;
+use crate::gathering::{HEADER, Stage, gather};
+use crate::logins::Logins;
+use iscsi_pdu::{Pdu, pad};
+use std::alloc::Global;
+use std::marker::Model;
+
+/// Gathers the PDUs of a stream, one at a time, from pieces of any length. It has one buffer, which is kept from PDU to
+/// PDU: a segment no longer than an earlier one asks for no memory.
+#[derive(Drop)]
+pub struct Framer {
+    limit: u32,
+    place: u64,
+    logins: Logins,
+    header: [u8; 48],
+    segment: Vec<u8>,
+    stage: Stage,
+    failed: bool,
+}
+
+impl Model for Framer {
+    ghost use Rattle.std.specs.Prelude.{◌≡◌, ◌<◌, ◌^◌, [], false, if◌then◌else◌, IsTrue};
+    ghost use Rattle.std.specs.Vec.{vec_capacity};
+    ghost use Rattle.iscsi_stream.specs.Framing.{Framing};
+    ghost use Rattle.iscsi_stream.specs.Gathering.{gathered, IsKept};
+
+    ghost Value = { Framing };
+
+    ghost view = { λ f. record { limit = f.limit; place = f.place; logins = f.logins; held = if f.failed then [] else gathered f.header f.segment.items f.stage; failed = f.failed } };
+
+    ghost invariant = { λ f. (f.limit < 2 ^ 24) × (f.failed ≡ false → IsKept f.limit f.header f.segment.items (vec_capacity f.segment) f.stage) };
+}
+
+impl Framer {
+    /// A framer at the beginning of a stream, for segments of at most `limit` bytes. It takes no memory.
+    pub fn new(alloc: Global, limit: u32) -> Framer
+        requires { limit < 2 ^ 24 }
+        ensures { result ≡ opening limit }
+    {
+        Framer {
+            limit,
+            place: 0,
+            logins: Logins::new(),
+            header: [0; 48],
+            segment: Vec::new(alloc),
+            stage: Stage::Header(0),
+            failed: false,
+        }
+    }
+
+    /// Takes bytes of the piece until a PDU is ready, and says how many it took: all of them, or fewer where a PDU is
+    /// ready then; none while one is ready already.
+    ///
+    /// With the last byte of a header it answers `Head` where the header is refused, `OverLimit` where its segment is
+    /// longer than the limit, and `NoMemory` where there is no memory for it. After a fault it answers `Failed`, and
+    /// holds nothing.
+    pub fn feed(&mut self, piece: &[u8]) -> Result<usize, StreamFault>
+        ensures ok { IfOk result (λ n. Takes self.old piece.now n self.new) }
+        ensures err { IfErr result (FeedFails self.old piece.now) }
+        ensures stopped { OnErr result (self.new ≡ stopped self.old) }
+        ensures bound { length self.new.held ≤ 48 + self.new.limit + 3 }
+    {
+        if self.failed {
+            return Err(StreamFault::Failed);
+        }
+        let result = gather(
+            &mut self.header,
+            &mut self.segment,
+            &mut self.stage,
+            self.limit,
+            self.place,
+            piece,
+        );
+        if result.is_err() {
+            self.failed = true;
+        }
+        result
+    }
+
+    /// The PDU that is ready. Its segment lies in the framer's buffer.
+    pub fn pdu(&self) -> Option<Pdu<'_>>
+        ensures ready { IsSome result ↔ IsTrue (is_ready self.now) }
+        ensures means { IfSome result (λ p. Means self.now.held p.head p.bytes.now) }
+        ensures fits { IfSome result (λ p. Fits p.head) }
+        ensures within { IfSome result (λ p. length p.bytes.now ≤ self.now.limit) }
+        ensures short { self.now.limit < 2 ^ 24 }
+    {
+        if self.failed {
+            return None;
+        }
+        let Stage::Body(head, len, padded) = self.stage else {
+            return None;
+        };
+        if self.segment.len() < len as usize || padded < pad(len) {
+            return None;
+        }
+        Some(Pdu {
+            head,
+            bytes: &self.segment,
+        })
+    }
+
+    /// The number of stream bytes before the PDU that is ready or begun, or before the next one.
+    pub fn place(&self) -> u64
+        ensures { result ≡ self.now.place }
+    {
+        self.place
+    }
+
+    /// Whether the ready PDU continues another login PDU; `false` where none is ready.
+    pub fn continued(&self) -> bool
+        ensures ready { IsTrue result → IsTrue (is_ready self.now) }
+        ensures value { (head : Head) (segment : List ℕ) → IsTrue (is_ready self.now) → Means self.now.held head segment → result ≡ continues self.now.logins head }
+    {
+        match self.pdu() {
+            Some(pdu) => self.logins.continues(&pdu.head),
+            None => false,
+        }
+    }
+
+    /// The number of stream bytes that are gathered and not given up; those of the padding count.
+    pub fn held(&self) -> usize
+        ensures value { result ≡ length self.now.held }
+        ensures bound { result ≤ 48 + self.now.limit + 3 }
+    {
+        if self.failed {
+            return 0;
+        }
+        match self.stage {
+            Stage::Header(filled) => filled,
+            Stage::Body(_, _, padded) => HEADER + self.segment.len() + padded as usize,
+        }
+    }
+
+    /// Gives the ready PDU up, and does nothing where none is ready.
+    pub fn take(&mut self)
+        ensures taken { (head : Head) (segment : List ℕ) → IsTrue (is_ready self.old) → Means self.old.held head segment → self.new ≡ given_up self.old head }
+        ensures none { is_ready self.old ≡ false → self.new ≡ self.old }
+    {
+        let Some(pdu) = self.pdu() else {
+            return;
+        };
+        let logins = self.logins.after(&pdu.head);
+        let held = self.held();
+        self.place = self.place.saturating_add(held as u64);
+        self.logins = logins;
+        self.segment.clear();
+        self.stage = Stage::Header(0);
+    }
+
+    /// Ends the stream. Answers `Truncated` where a PDU is begun and not whole, and `Failed` after a fault; a PDU that is
+    /// ready is none.
+    pub fn finish(&mut self) -> Result<(), StreamFault>
+        ensures ok { OnOk result ((self.old.failed ≡ false) × ((self.old.held ≡ []) ⊎ IsTrue (is_ready self.old)) × (self.new ≡ self.old)) }
+        ensures err { IfErr result (FinishFails self.old) }
+        ensures stopped { OnErr result (self.new ≡ stopped self.old) }
+    {
+        if self.failed {
+            return Err(StreamFault::Failed);
+        }
+        if self.held() > 0 && self.pdu().is_none() {
+            self.failed = true;
+            return Err(StreamFault::Truncated(self.place));
+        }
+        Ok(())
+    }
+}

@@ -1,0 +1,110 @@
+//! The bytes of one PDU, gathered piece by piece.
+
+ghost use Rattle.std.specs.Prelude.{◌≡◌, ◌≤◌, ◌<◌, ◌^◌, ◌+◌, [], ◌++◌, length, take, IfOk, IfErr};
+ghost use Rattle.std.specs.Vec.{vec_capacity};
+ghost use Rattle.iscsi_pdu.specs.Meaning.{IsHeader, Fits, padding};
+ghost use Rattle.iscsi_stream.specs.Stream.{pdu_len};
+ghost use Rattle.iscsi_stream.specs.Gathering.{gathered, IsBody, IsKept, Gathers, FillsBody, HeaderFails, GatherFails};
+
+use crate::fault::StreamFault;
+use iscsi_pdu::{Head, pad, read_head};
+
+pub(crate) const HEADER: usize = 48;
+
+/// How much of a PDU is gathered.
+#[derive(Clone, Copy)]
+pub(crate) enum Stage {
+    /// So many bytes of the header, fewer than 48.
+    Header(usize),
+    /// The whole header, which says this head and so many bytes of segment; and so many bytes of padding, which are
+    /// counted and not kept.
+    Body(Head, u32, u32),
+}
+
+// Takes bytes of the piece into the header, from this place on, and says how many.
+fn fill_header(header: &mut [u8; 48], filled: usize, piece: &[u8]) -> usize
+    requires { filled < 48 }
+    ensures bound { result ≤ length piece.now }
+    ensures taken { take (filled + result) header.new ≡ take filled header.old ++ take result piece.now }
+    ensures room { filled + result ≤ 48 }
+    ensures stops { result < length piece.now → filled + result ≡ 48 }
+{
+    let taken = piece.len().min(HEADER - filled);
+    header[filled..filled + taken].copy_from_slice(&piece[..taken]);
+    taken
+}
+
+// The head that a whole header says, and the length of its segment, for which the buffer then has room.
+fn begin(
+    header: &[u8; 48],
+    segment: &mut Vec<u8>,
+    limit: u32,
+    place: u64,
+) -> Result<(Head, u32), StreamFault>
+    requires { segment.old.items ≡ [] }
+    ensures ok { IfOk result (λ x. IsBody limit header.now segment.new.items (vec_capacity segment.new) x.0 x.1 0) }
+    ensures err { IfErr result (HeaderFails header.now limit place) }
+    ensures kept { segment.new.items ≡ [] }
+{
+    let (head, len) = match read_head(header) {
+        Ok(read) => read,
+        Err(fault) => return Err(StreamFault::Head(fault, place)),
+    };
+    if len > limit {
+        return Err(StreamFault::OverLimit(place));
+    }
+    segment.reserve(len as usize)?;
+    Ok((head, len))
+}
+
+// Takes bytes of the piece into a segment of this length, then into the padding, of which so many are there. Says how
+// many it took, and how many bytes of padding are there then.
+fn fill_body(segment: &mut Vec<u8>, len: u32, padded: u32, piece: &[u8]) -> (usize, u32)
+    requires room { len ≤ vec_capacity segment.old }
+    requires segment { length segment.old.items ≤ len }
+    requires padding { padded ≤ padding len }
+    requires order { 0 < padded → length segment.old.items ≡ len }
+    ensures fills { FillsBody len segment.old.items padded piece.now result.0 segment.new.items result.1 }
+    ensures room { len ≤ vec_capacity segment.new }
+{
+    let data = piece.len().min(len as usize - segment.len());
+    let Ok(()) = segment.extend_from_slice(&piece[..data]) else {
+        unreachable!()
+    };
+    let more = (piece.len() - data).min((pad(len) - padded) as usize);
+    (data + more, padded + more as u32)
+}
+
+// Takes bytes of the piece until the PDU is whole, and says how many.
+pub(crate) fn gather(
+    header: &mut [u8; 48],
+    segment: &mut Vec<u8>,
+    stage: &mut Stage,
+    limit: u32,
+    place: u64,
+    piece: &[u8],
+) -> Result<usize, StreamFault>
+    requires { IsKept limit header.old segment.old.items (vec_capacity segment.old) stage.old }
+    ensures ok { IfOk result (λ n. Gathers limit (gathered header.old segment.old.items stage.old) piece.now n (gathered header.new segment.new.items stage.new)) }
+    ensures kept { IfOk result (λ _. IsKept limit header.new segment.new.items (vec_capacity segment.new) stage.new) }
+    ensures err { IfErr result (GatherFails limit place (gathered header.old segment.old.items stage.old) piece.now) }
+{
+    match *stage {
+        Stage::Body(head, len, padded) => {
+            let (taken, padded) = fill_body(segment, len, padded, piece);
+            *stage = Stage::Body(head, len, padded);
+            Ok(taken)
+        }
+        Stage::Header(filled) => {
+            let taken = fill_header(header, filled, piece);
+            if filled + taken < HEADER {
+                *stage = Stage::Header(filled + taken);
+                return Ok(taken);
+            }
+            let (head, len) = begin(header, segment, limit, place)?;
+            let (more, padded) = fill_body(segment, len, 0, &piece[taken..]);
+            *stage = Stage::Body(head, len, padded);
+            Ok(taken + more)
+        }
+    }
+}

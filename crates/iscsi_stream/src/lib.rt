@@ -1,0 +1,27 @@
+//! Streams of iSCSI PDUs: framing, the canonical stream, and one line of text for each PDU (RFC 7143, section 11).
+#![tactic(auto)]
+
+mod counts;
+mod fault;
+mod forms;
+mod framer;
+mod gathering;
+mod input;
+mod lines;
+mod logins;
+mod normal;
+#[cfg(test)]
+mod tests;
+mod texts;
+
+pub use counts::Counts;
+pub use fault::{StreamFault, ToolFault};
+pub use forms::{canonical, canonical_head};
+pub use framer::Framer;
+pub use input::read_within;
+pub use lines::{show, show_line};
+pub use logins::Logins;
+pub use normal::{normalise, write_fully};
+pub use texts::normalise_text;
+
+pub mod laws;

@@ -1,0 +1,123 @@
+//! Memory that is refused, for `rt try --test --fail-alloc`: nothing but its want may come in place of an answer.
+
+use super::rows::{CANONICAL_NOP_OUT, NOP_OUT, ROWS};
+use super::{Part, stream_of};
+use crate::*;
+use hex::FromHexError;
+use std::alloc::Global;
+use std::test::Fail;
+
+// What a test stands on is made again where memory ran out.
+fn ample_stream_of(alloc: Global, parts: &[Part]) -> Result<Vec<u8>, FromHexError> {
+    match stream_of(alloc, parts) {
+        Ok(stream) => Ok(stream),
+        Err(_) => stream_of(alloc, parts),
+    }
+}
+
+#[test]
+fn refused_memory_changes_no_stream(rt: HostRuntime) -> Result<(), Fail> {
+    for row in ROWS {
+        let name = row.name;
+        let came = ample_stream_of(rt.alloc(), row.came)?;
+        let want = ample_stream_of(rt.alloc(), row.written)?;
+        let mut room = [0u8; 2048];
+        let mut source = came.as_slice();
+        let mut out = room.as_mut_slice();
+        let result = normalise(rt.alloc(), &mut source, &mut out);
+        let written = 2048usize.saturating_sub(out.len());
+        if result.is_err() {
+            assert_eq!(rt; result, Err(ToolFault::NoMemory), "{name}");
+            let front = room.get(..written).unwrap_or(&[]);
+            let mut pdus = Vec::new(rt.alloc());
+            let mut is_whole = front.is_empty();
+            for pdu in row.written {
+                pdus.extend_from_slice(&ample_stream_of(rt.alloc(), &[*pdu])?)?;
+                is_whole = is_whole || pdus.as_slice() == front;
+            }
+            assert!(rt; is_whole, "{name}");
+            let mut again = room.as_mut_slice();
+            let mut source = came.as_slice();
+            let result = normalise(rt.alloc(), &mut source, &mut again);
+            assert!(rt; result.is_ok(), "{name}");
+        }
+        assert_eq!(rt; room.get(..want.len()), Some(want.as_slice()), "{name}");
+    }
+    Ok(())
+}
+
+#[test]
+fn refused_memory_changes_no_line(rt: HostRuntime) -> Result<(), Fail> {
+    let stream = ample_stream_of(rt.alloc(), NOP_OUT)?;
+    let line =
+        b"0 NOP-Out i=1 itt=00000001 ttt=ffffffff cmdsn=00000005 expstatsn=00000002 data=3\n";
+    let mut room = [0u8; 128];
+    let mut source = stream.as_slice();
+    let mut out = room.as_mut_slice();
+    let result = show(rt.alloc(), &mut source, &mut out);
+    if result.is_err() {
+        assert_eq!(rt; result, Err(ToolFault::NoMemory));
+        assert_eq!(rt; out.len(), 128);
+        let mut again = room.as_mut_slice();
+        let mut source = stream.as_slice();
+        assert!(rt; show(rt.alloc(), &mut source, &mut again).is_ok());
+    }
+    assert_eq!(rt; room.get(..line.len()), Some(line.as_slice()));
+    Ok(())
+}
+
+/// A PDU at a time: what ran out of memory leaves what was there, and the next call gives what is due.
+#[test]
+fn refused_memory_leaves_what_was_there(rt: HostRuntime) -> Result<(), Fail> {
+    let stream = ample_stream_of(rt.alloc(), NOP_OUT)?;
+    let want = ample_stream_of(rt.alloc(), CANONICAL_NOP_OUT)?;
+    let mut framer = Framer::new(rt.alloc(), 3);
+    if framer.feed(&stream) == Err(StreamFault::NoMemory) {
+        assert_eq!(rt; framer.feed(&stream), Err(StreamFault::Failed));
+        assert_eq!(rt; framer.finish(), Err(StreamFault::Failed));
+        framer = Framer::new(rt.alloc(), 3);
+        assert_eq!(rt; framer.feed(&stream), Ok(52));
+    }
+    let pdu = framer.pdu().ok_or("not ready")?;
+    let mut out = Vec::new(rt.alloc());
+    if canonical(&pdu, false, &mut out).is_err() {
+        assert_eq!(rt; out.len(), 0);
+        canonical(&pdu, false, &mut out)?;
+    }
+    assert_eq!(rt; out.as_slice(), want.as_slice());
+    if show_line(0, &pdu, &mut out).is_err() {
+        assert_eq!(rt; out.as_slice(), want.as_slice());
+        show_line(0, &pdu, &mut out)?;
+    }
+    assert!(rt; out.len() > want.len());
+    Ok(())
+}
+
+/// The limit comes before memory is asked for.
+#[test]
+fn refused_memory_hides_no_limit(rt: HostRuntime) -> Result<(), Fail> {
+    let stream = ample_stream_of(rt.alloc(), NOP_OUT)?;
+    let mut framer = Framer::new(rt.alloc(), 2);
+    assert_eq!(rt; framer.feed(&stream), Err(StreamFault::OverLimit(0)));
+    Ok(())
+}
+
+/// A segment no longer than an earlier one asks for no memory, so no refusal reaches it.
+#[test]
+fn the_buffer_is_kept(rt: HostRuntime) -> Result<(), Fail> {
+    let stream = ample_stream_of(rt.alloc(), NOP_OUT)?;
+    let mut framer = Framer::new(rt.alloc(), 3);
+    if framer.feed(&stream) == Err(StreamFault::NoMemory) {
+        framer = Framer::new(rt.alloc(), 3);
+        assert_eq!(rt; framer.feed(&stream), Ok(52));
+    }
+    for _ in 0..100u64 {
+        framer.take();
+        assert_eq!(rt; framer.feed(&stream), Ok(52));
+        assert_eq!(rt;
+            framer.pdu().map(|pdu| pdu.bytes == b"abc".as_slice()),
+            Some(true)
+        );
+    }
+    Ok(())
+}
