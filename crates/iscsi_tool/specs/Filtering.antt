@@ -1,0 +1,83 @@
+-- What a filter writes for what it has read.
+use Rattle.std.specs.Prelude.{◌≡◌, ◌≤◌, ◌<◌, ℕ, Bool, true, false, List, [], length, take, Result, Ok, Err}
+use Rattle.iscsi_text.specs.Fault.{IsFirstFault}
+use Rattle.iscsi_stream.specs.declared.fault.ToolFault.{ToolFault}
+use Rattle.iscsi_stream.specs.declared.fault.ToolFault.TheVariants as tool
+use Rattle.iscsi_stream.specs.Stream.{Message, StreamMeans}
+use Rattle.iscsi_stream.specs.Canonical.{canon}
+use Rattle.iscsi_stream.specs.Normalising.{Parts, Wrote, RestFails, NormaliseFails}
+use Rattle.iscsi_stream.specs.Texts.{CanonicalOf, NormalisesText, longest_text}
+use Rattle.iscsi_tool.specs.declared.filter.Filter.{Filter}
+use Rattle.iscsi_tool.specs.declared.filter.Work.{Work}
+use Rattle.iscsi_tool.specs.declared.filter.Work.TheVariants.{Show, Normalise, Text}
+use Rattle.iscsi_tool.specs.HexText.{BytesOf, IsNotHex, hex_line}
+
+-- how a filter ends: done, or why not
+abbrev pub Outcome : Type 0
+Outcome = Result (Unit {0}) ToolFault
+
+-- ---- bytes
+
+-- The canonical stream of what was read is written, or what normalising leaves at a fault.
+abbrev pub NormalisesBytes : Outcome → List ℕ → List ℕ → Type 0
+NormalisesBytes (Ok done) read written = (ms : List Message) × StreamMeans read ms × (written ≡ canon ms)
+NormalisesBytes (Err fault) read written = NormaliseFails fault read written
+
+-- ---- hex text
+
+-- What is due for the bytes of a stream: its canonical stream, or that of all PDUs before its fault.
+abbrev pub DueOfStream : List ℕ → Outcome → List ℕ → Type 0
+DueOfStream bytes (Ok done) due = (ms : List Message) × StreamMeans bytes ms × (due ≡ canon ms)
+DueOfStream bytes (Err (tool.Stream fault)) due = Parts (λ ms given rest. Wrote bytes ms given rest due × RestFails fault given rest)
+DueOfStream bytes (Err fault) due = ⊥
+
+-- What is due for the bytes of a text: its canonical text, or nothing where it is refused.
+abbrev pub DueOfText : List ℕ → Outcome → List ℕ → Type 0
+DueOfText bytes (Ok done) due = CanonicalOf bytes due × (length bytes ≤ longest_text)
+DueOfText bytes (Err (tool.Text fault)) due = IsFirstFault bytes fault × (length bytes ≤ longest_text) × (due ≡ [])
+DueOfText bytes (Err tool.TextTooLong) due = (longest_text < length bytes) × (due ≡ [])
+DueOfText bytes (Err fault) due = ⊥
+
+-- what is due for the bytes of a text or of a stream
+abbrev pub Due : Bool → List ℕ → Outcome → List ℕ → Type 0
+Due true bytes outcome due = DueOfText bytes outcome due
+Due false bytes outcome due = DueOfStream bytes outcome due
+
+-- The line that is due for bytes, with this outcome.
+pub record IsLine (text : Bool) (bytes : List ℕ) (outcome : Outcome) (line : List ℕ) : Type 0 where
+  pub due : List ℕ
+  pub is_due : Due text bytes outcome due
+  pub spelled : line ≡ hex_line due
+
+-- the line that is due for hex text
+abbrev pub LineOf : Bool → List ℕ → Outcome → List ℕ → Type 0
+LineOf text read outcome line = (bytes : List ℕ) × BytesOf read bytes × IsLine text bytes outcome line
+
+-- what a filter of hex text has written where it answers a fault
+abbrev pub HexFails : Bool → ToolFault → List ℕ → List ℕ → Type 0
+HexFails text tool.NoMemory read written = written ≡ []
+HexFails text (tool.Stream fault) read written = LineOf text read (Err (tool.Stream fault)) written
+HexFails text (tool.Text fault) read written = LineOf text read (Err (tool.Text fault)) written
+HexFails text tool.TextTooLong read written = LineOf text read (Err tool.TextTooLong) written
+HexFails text tool.Read read written = written ≡ []
+HexFails text tool.Write read written = (outcome : Outcome) × (line : List ℕ) × (n : ℕ) × LineOf text read outcome line × (written ≡ take n line)
+HexFails text tool.NotHex read written = IsNotHex read × (written ≡ [])
+
+-- The canonical form of what the hex text means is written as a line of hex, or what is due at a fault.
+abbrev pub NormalisesHex : Bool → Outcome → List ℕ → List ℕ → Type 0
+NormalisesHex text (Ok done) read written = LineOf text read (Ok done) written
+NormalisesHex text (Err fault) read written = HexFails text fault read written
+
+-- ---- filters
+
+-- What a work writes; the lines that Show writes are not stated.
+abbrev pub Does : Work → Bool → Outcome → List ℕ → List ℕ → Type 0
+Does Show hex outcome read written = Unit {0}
+Does Normalise true outcome read written = NormalisesHex false outcome read written
+Does Normalise false outcome read written = NormalisesBytes outcome read written
+Does Text true outcome read written = NormalisesHex true outcome read written
+Does Text false outcome read written = NormalisesText outcome read written
+
+-- what a filter has read and written where it answers
+abbrev pub Filters : Filter → Outcome → List ℕ → List ℕ → Type 0
+Filters filter outcome read written = Does filter.work filter.hex outcome read written
