@@ -6,8 +6,8 @@ use Rattle.iscsi_pdu.specs.Meaning.{IsHeader, fault_of}
 use Rattle.iscsi_stream.specs.declared.fault.StreamFault.{StreamFault}
 use Rattle.iscsi_stream.specs.declared.fault.StreamFault.TheVariants as faults
 use Rattle.iscsi_stream.specs.declared.logins.Logins.{Logins}
-use Rattle.iscsi_stream.specs.Segment.{no_login, continues, after, segment_of}
-use Rattle.iscsi_stream.specs.Stream.{pdu_len, Message, ReadsAs, after_all}
+use Rattle.iscsi_stream.specs.Segment.{no_login, continues, after}
+use Rattle.iscsi_stream.specs.Stream.{pdu_len, Message, message, ReadsAs, after_all}
 
 -- A framer as its callers see it: the longest segment that it takes, the place of the PDU that is ready, begun or
 -- next, what the login PDUs before it said, the bytes gathered of it, and whether there was a fault. Padding counts
@@ -100,7 +100,7 @@ given_up v head = record v { place = min (v.place + length v.held) last_place; l
 
 -- the message of a PDU that is ready
 abbrev pub message_of : Framing → Head → List ℕ → Message
-message_of v head segment = record { head = head; segment = segment_of (continues v.logins head) head segment }
+message_of v head segment = message (continues v.logins head) head segment
 
 -- A framer that has taken these bytes of a stream and given up PDUs of these meanings, whichever pieces the bytes came in.
 pub record HasTaken (stream : List ℕ) (ms : List Message) (v : Framing) : Type 0 where

@@ -18,6 +18,10 @@ pub record Message : Type 0 where
   pub head : Head
   pub segment : Segment
 
+-- the message of a PDU with these bytes in its segment, which continues another or does not
+abbrev pub message : Bool → Head → List ℕ → Message
+message continued head bytes = record { head = head; segment = segment_of continued head bytes }
+
 -- The stream begins with a PDU of this meaning, whose segment is within the limit; the rest follows it.
 pub record Begins (limit : ℕ) (logins : Logins) (stream : List ℕ) (m : Message) (bytes segment rest : List ℕ) : Type 0 where
   pub whole : stream ≡ bytes ++ rest

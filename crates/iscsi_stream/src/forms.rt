@@ -3,7 +3,8 @@
 ghost use Rattle.std.specs.Prelude.{◌≡◌, ◌≤◌, ◌<◌, ◌^◌, ◌++◌, ℕ, List, Option, None, Some, not, ◌&&◌, length, IfOk, IfSome, OnOk, OnErr, take, replicate};
 ghost use Rattle.iscsi_text.specs.Canonical.{canonical_text};
 ghost use Rattle.iscsi_pdu.specs.Meaning.{Fits, header, padding};
-ghost use Rattle.iscsi_stream.specs.Segment.{is_last, text_or_bytes, segment_of, segment_bytes};
+ghost use Rattle.iscsi_stream.specs.Segment.{is_last, text_or_bytes, segment_of};
+ghost use Rattle.iscsi_stream.specs.Stream.{message};
 ghost use Rattle.iscsi_stream.specs.Canonical.{canonical_header, canonical_bytes};
 
 use iscsi_pdu::{Head, Pdu, pad, write_head};
@@ -29,8 +30,10 @@ fn text_of<'a>(
     pdu: &Pdu<'a>,
     continued: bool,
 ) -> Result<Option<Text<'a>>, AllocError>
-    ensures means { IfOk result (λ text. text_or_bytes text pdu.now.bytes.now ≡ segment_of continued pdu.now.head pdu.now.bytes.now) }
-    ensures no_longer { IfOk result (λ text. IfSome text (λ pairs. length (canonical_text pairs) ≤ length pdu.now.bytes.now)) }
+    ensures means { IfOk result (λ text. text_or_bytes text pdu.now.bytes.now
+        ≡ segment_of continued pdu.now.head pdu.now.bytes.now) }
+    ensures no_longer { IfOk result (λ text. IfSome text
+        (λ pairs. length (canonical_text pairs) ≤ length pdu.now.bytes.now)) }
 {
     if continued || !is_last(&pdu.head) {
         return Ok(None);
@@ -57,7 +60,8 @@ fn no_text<'a>(fault: TextFault) -> Result<Option<Text<'a>>, AllocError>
 pub fn canonical_head(alloc: Global, pdu: &Pdu<'_>, continued: bool) -> Result<[u8; 48], AllocError>
     requires fits { Fits pdu.now.head }
     requires short { length pdu.now.bytes.now < 2 ^ 24 }
-    ensures { IfOk result (λ bytes. bytes ≡ canonical_header (record { head = pdu.now.head; segment = segment_of continued pdu.now.head pdu.now.bytes.now })) }
+    ensures { IfOk result (λ bytes. bytes
+        ≡ canonical_header (message continued pdu.now.head pdu.now.bytes.now)) }
 {
     match text_of(alloc, pdu, continued)? {
         Some(text) => Ok(write_head(&pdu.head, text.canonical_len() as u32)),
@@ -71,7 +75,8 @@ pub fn canonical_head(alloc: Global, pdu: &Pdu<'_>, continued: bool) -> Result<[
 pub fn canonical(pdu: &Pdu<'_>, continued: bool, out: &mut Vec<u8>) -> Result<(), AllocError>
     requires fits { Fits pdu.now.head }
     requires short { length pdu.now.bytes.now < 2 ^ 24 }
-    ensures ok { OnOk result (out.new.items ≡ out.old.items ++ canonical_bytes (record { head = pdu.now.head; segment = segment_of continued pdu.now.head pdu.now.bytes.now })) }
+    ensures ok { OnOk result (out.new.items ≡ out.old.items
+        ++ canonical_bytes (message continued pdu.now.head pdu.now.bytes.now)) }
     ensures err { OnErr result (out.new.items ≡ out.old.items) }
 {
     let start = out.len();
@@ -86,7 +91,8 @@ pub fn canonical(pdu: &Pdu<'_>, continued: bool, out: &mut Vec<u8>) -> Result<()
 fn append(pdu: &Pdu<'_>, continued: bool, out: &mut Vec<u8>) -> Result<(), AllocError>
     requires fits { Fits pdu.now.head }
     requires short { length pdu.now.bytes.now < 2 ^ 24 }
-    ensures ok { OnOk result (out.new.items ≡ out.old.items ++ canonical_bytes (record { head = pdu.now.head; segment = segment_of continued pdu.now.head pdu.now.bytes.now })) }
+    ensures ok { OnOk result (out.new.items ≡ out.old.items
+        ++ canonical_bytes (message continued pdu.now.head pdu.now.bytes.now)) }
     ensures front { take (length out.old.items) out.new.items ≡ out.old.items }
 {
     match text_of(*out.allocator(), pdu, continued)? {
@@ -99,7 +105,9 @@ fn append(pdu: &Pdu<'_>, continued: bool, out: &mut Vec<u8>) -> Result<(), Alloc
 fn append_text(head: &Head, text: &Text<'_>, out: &mut Vec<u8>) -> Result<(), AllocError>
     requires fits { Fits head.now }
     requires short { length (canonical_text text.now) < 2 ^ 24 }
-    ensures ok { OnOk result (out.new.items ≡ out.old.items ++ (header head.now (length (canonical_text text.now)) ++ canonical_text text.now ++ replicate (padding (length (canonical_text text.now))) 0)) }
+    ensures ok { OnOk result (out.new.items ≡ out.old.items
+        ++ (header head.now (length (canonical_text text.now)) ++ canonical_text text.now
+        ++ replicate (padding (length (canonical_text text.now))) 0)) }
     ensures front { take (length out.old.items) out.new.items ≡ out.old.items }
 {
     let len = text.canonical_len() as u32;
@@ -115,7 +123,8 @@ fn append_text(head: &Head, text: &Text<'_>, out: &mut Vec<u8>) -> Result<(), Al
 fn append_bytes(head: &Head, bytes: &[u8], out: &mut Vec<u8>) -> Result<(), AllocError>
     requires fits { Fits head.now }
     requires short { length bytes.now < 2 ^ 24 }
-    ensures ok { OnOk result (out.new.items ≡ out.old.items ++ (header head.now (length bytes.now) ++ bytes.now ++ replicate (padding (length bytes.now)) 0)) }
+    ensures ok { OnOk result (out.new.items ≡ out.old.items ++ (header head.now (length bytes.now)
+        ++ bytes.now ++ replicate (padding (length bytes.now)) 0)) }
     ensures front { take (length out.old.items) out.new.items ≡ out.old.items }
 {
     let len = bytes.len() as u32;

@@ -118,7 +118,8 @@ impl Framer {
     /// Whether the ready PDU continues another login PDU; `false` where none is ready.
     pub fn continued(&self) -> bool
         ensures ready { IsTrue result → IsTrue (is_ready self.now) }
-        ensures value { (head : Head) (segment : List ℕ) → IsTrue (is_ready self.now) → Means self.now.held head segment → result ≡ continues self.now.logins head }
+        ensures value { (head : Head) (segment : List ℕ) → IsTrue (is_ready self.now)
+            → Means self.now.held head segment → result ≡ continues self.now.logins head }
     {
         match self.pdu() {
             Some(pdu) => self.logins.continues(&pdu.head),
@@ -142,7 +143,8 @@ impl Framer {
 
     /// Gives the ready PDU up, and does nothing where none is ready.
     pub fn take(&mut self)
-        ensures taken { (head : Head) (segment : List ℕ) → IsTrue (is_ready self.old) → Means self.old.held head segment → self.new ≡ given_up self.old head }
+        ensures taken { (head : Head) (segment : List ℕ) → IsTrue (is_ready self.old)
+            → Means self.old.held head segment → self.new ≡ given_up self.old head }
         ensures none { is_ready self.old ≡ false → self.new ≡ self.old }
     {
         let Some(pdu) = self.pdu() else {
@@ -159,7 +161,8 @@ impl Framer {
     /// Ends the stream. Answers `Truncated` where a PDU is begun and not whole, and `Failed` after a fault; a PDU that is
     /// ready is none.
     pub fn finish(&mut self) -> Result<(), StreamFault>
-        ensures ok { OnOk result ((self.old.failed ≡ false) × ((self.old.held ≡ []) ⊎ IsTrue (is_ready self.old)) × (self.new ≡ self.old)) }
+        ensures ok { OnOk result ((self.old.failed ≡ false)
+            × ((self.old.held ≡ []) ⊎ IsTrue (is_ready self.old)) × (self.new ≡ self.old)) }
         ensures err { IfErr result (FinishFails self.old) }
         ensures stopped { OnErr result (self.new ≡ stopped self.old) }
     {

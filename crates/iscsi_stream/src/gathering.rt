@@ -25,7 +25,8 @@ pub(crate) enum Stage {
 fn fill_header(header: &mut [u8; 48], filled: usize, piece: &[u8]) -> usize
     requires { filled < 48 }
     ensures bound { result ≤ length piece.now }
-    ensures taken { take (filled + result) header.new ≡ take filled header.old ++ take result piece.now }
+    ensures taken { take (filled + result) header.new ≡ take filled header.old
+        ++ take result piece.now }
     ensures room { filled + result ≤ 48 }
     ensures stops { result < length piece.now → filled + result ≡ 48 }
 {
@@ -42,7 +43,8 @@ fn begin(
     place: u64,
 ) -> Result<(Head, u32), StreamFault>
     requires { segment.old.items ≡ [] }
-    ensures ok { IfOk result (λ x. IsBody limit header.now segment.new.items (vec_capacity segment.new) x.0 x.1 0) }
+    ensures ok { IfOk result (λ x. IsBody limit header.now segment.new.items
+        (vec_capacity segment.new) x.0 x.1 0) }
     ensures err { IfErr result (HeaderFails header.now limit place) }
     ensures kept { segment.new.items ≡ [] }
 {
@@ -64,7 +66,8 @@ fn fill_body(segment: &mut Vec<u8>, len: u32, padded: u32, piece: &[u8]) -> (usi
     requires segment { length segment.old.items ≤ len }
     requires padding { padded ≤ padding len }
     requires order { 0 < padded → length segment.old.items ≡ len }
-    ensures fills { FillsBody len segment.old.items padded piece.now result.0 segment.new.items result.1 }
+    ensures fills { FillsBody len segment.old.items padded piece.now
+        result.0 segment.new.items result.1 }
     ensures room { len ≤ vec_capacity segment.new }
 {
     let data = piece.len().min(len as usize - segment.len());
@@ -85,9 +88,12 @@ pub(crate) fn gather(
     piece: &[u8],
 ) -> Result<usize, StreamFault>
     requires { IsKept limit header.old segment.old.items (vec_capacity segment.old) stage.old }
-    ensures ok { IfOk result (λ n. Gathers limit (gathered header.old segment.old.items stage.old) piece.now n (gathered header.new segment.new.items stage.new)) }
-    ensures kept { IfOk result (λ _. IsKept limit header.new segment.new.items (vec_capacity segment.new) stage.new) }
-    ensures err { IfErr result (GatherFails limit place (gathered header.old segment.old.items stage.old) piece.now) }
+    ensures ok { IfOk result (λ n. Gathers limit (gathered header.old segment.old.items stage.old)
+        piece.now n (gathered header.new segment.new.items stage.new)) }
+    ensures kept { IfOk result (λ _. IsKept limit header.new segment.new.items
+        (vec_capacity segment.new) stage.new) }
+    ensures err { IfErr result (GatherFails limit place
+        (gathered header.old segment.old.items stage.old) piece.now) }
 {
     match *stage {
         Stage::Body(head, len, padded) => {

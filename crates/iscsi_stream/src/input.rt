@@ -19,9 +19,11 @@ pub fn read_within<R: Read>(
     limit: usize,
 ) -> Result<Option<Vec<u8>>, ToolFault>
     requires { limit < 2 ^ 32 }
-    ensures ok { IfOk result (λ bytes. (read : List ℕ) × Consumes (R.remaining r.old) (R.remaining r.new) read
+    ensures ok { IfOk result (λ bytes. (read : List ℕ)
+        × Consumes (R.remaining r.old) (R.remaining r.new) read
         × ReadWithin limit read (option_map (λ v. v.items) bytes) (IsAtEnd (R.remaining r.new))) }
-    ensures err { IfErr result (λ fault. ((fault ≡ tool.NoMemory) ⊎ (fault ≡ tool.Read)) × ((read : List ℕ) × Consumes (R.remaining r.old) (R.remaining r.new) read)) }
+    ensures err { IfErr result (λ fault. ((fault ≡ tool.NoMemory) ⊎ (fault ≡ tool.Read))
+        × ((read : List ℕ) × Consumes (R.remaining r.old) (R.remaining r.new) read)) }
 {
     let mut bytes = Vec::new(alloc);
     let mut buffer = [0u8; PIECE];

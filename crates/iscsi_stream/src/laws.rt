@@ -14,77 +14,99 @@ ghost use Rattle.iscsi_stream.specs.Runs.{Call, Runs, bytes_of, messages_of};
 
 /// A stream has one meaning.
 pub fn one_meaning()
-    ensures { (stream : List ℕ) (ms ns : List Message) → StreamMeans stream ms → StreamMeans stream ns → ms ≡ ns }
+    ensures { (stream : List ℕ) (ms ns : List Message) → StreamMeans stream ms
+        → StreamMeans stream ns → ms ≡ ns }
 {}
 
 /// The canonical stream of a stream's meaning has that meaning, so it is in the profile.
 pub fn canonical_meaning()
-    ensures { (stream : List ℕ) (ms : List Message) → AreBytes stream → StreamMeans stream ms → StreamMeans (canon ms) ms }
+    ensures { (stream : List ℕ) (ms : List Message) → AreBytes stream → StreamMeans stream ms
+        → StreamMeans (canon ms) ms }
 {}
 
 /// The canonical stream is not longer than the stream.
 pub fn not_longer()
-    ensures { (stream : List ℕ) (ms : List Message) → AreBytes stream → StreamMeans stream ms → length (canon ms) ≤ length stream }
+    ensures { (stream : List ℕ) (ms : List Message) → AreBytes stream → StreamMeans stream ms
+        → length (canon ms) ≤ length stream }
 {}
 
 /// Two streams mean the same exactly if their canonical streams are equal.
 pub fn same_meaning()
-    ensures { (s t : List ℕ) (ms ns : List Message) → AreBytes s → AreBytes t → StreamMeans s ms → StreamMeans t ns → (ms ≡ ns) ↔ (canon ms ≡ canon ns) }
+    ensures { (s t : List ℕ) (ms ns : List Message) → AreBytes s → AreBytes t → StreamMeans s ms
+        → StreamMeans t ns → (ms ≡ ns) ↔ (canon ms ≡ canon ns) }
 {}
 
 /// Normalising twice is once.
 pub fn twice_is_once()
-    ensures { (stream : List ℕ) (ms ns : List Message) → AreBytes stream → StreamMeans stream ms → StreamMeans (canon ms) ns → canon ns ≡ canon ms }
+    ensures { (stream : List ℕ) (ms ns : List Message) → AreBytes stream → StreamMeans stream ms
+        → StreamMeans (canon ms) ns → canon ns ≡ canon ms }
 {}
 
 /// A stream splits into PDUs within a limit and a rest in one way.
 pub fn one_split()
-    ensures { (limit : ℕ) (stream : List ℕ) (ms ns : List Message) (a b x y : List ℕ) → Splits limit stream ms a b → Splits limit stream ns x y → (ms ≡ ns) × (a ≡ x) }
+    ensures { (limit : ℕ) (stream : List ℕ) (ms ns : List Message) (a b x y : List ℕ)
+        → Splits limit stream ms a b → Splits limit stream ns x y → (ms ≡ ns) × (a ≡ x) }
 {}
 
 /// What a stream splits off is its longest prefix of PDUs within the limit.
 pub fn longest_prefix()
-    ensures { (limit : ℕ) (stream given rest p q : List ℕ) (ms ns : List Message) → Splits limit stream ms given rest → stream ≡ p ++ q → ReadsAs limit no_login p ns → length p ≤ length given }
+    ensures { (limit : ℕ) (stream given rest p q : List ℕ) (ms ns : List Message)
+        → Splits limit stream ms given rest → stream ≡ p ++ q → ReadsAs limit no_login p ns
+        → length p ≤ length given }
 {}
 
 /// A stream of the profile leaves no rest, so no fault comes in it.
 pub fn no_rest()
-    ensures { (stream given rest : List ℕ) (ms ns : List Message) → StreamMeans stream ns → Splits longest_segment stream ms given rest → rest ≡ [] }
+    ensures { (stream given rest : List ℕ) (ms ns : List Message) → StreamMeans stream ns
+        → Splits longest_segment stream ms given rest → rest ≡ [] }
 {}
 
 /// Cuts make no difference: a framer that took some bytes goes on to take the next, whatever pieces they come in.
 pub fn any_pieces()
-    ensures { (stream piece : List ℕ) (ms : List Message) (n : ℕ) (old new : Framing) → HasTaken stream ms old → Takes old piece n new → HasTaken (stream ++ take n piece) ms new }
+    ensures { (stream piece : List ℕ) (ms : List Message) (n : ℕ) (old new : Framing)
+        → HasTaken stream ms old → Takes old piece n new
+        → HasTaken (stream ++ take n piece) ms new }
 {}
 
 /// A PDU that a framer gives up is the stream's next.
 pub fn next_given()
-    ensures { (stream segment : List ℕ) (ms : List Message) (head : Head) (old : Framing) → HasTaken stream ms old → Means old.held head segment → HasTaken stream (ms ++ message_of old head segment ∷ []) (given_up old head) }
+    ensures { (stream segment : List ℕ) (ms : List Message) (head : Head) (old : Framing)
+        → HasTaken stream ms old → Means old.held head segment
+        → HasTaken stream (ms ++ message_of old head segment ∷ []) (given_up old head) }
 {}
 
 /// Where no PDU is ready, the PDUs that a framer gave up are those of the longest prefix of what it took, and its place
 /// is the length of that prefix.
 pub fn given_so_far()
-    ensures { (stream : List ℕ) (ms : List Message) (v : Framing) → HasTaken stream ms v → is_ready v ≡ false → (given : List ℕ) × (rest : List ℕ) × Splits v.limit stream ms given rest × (v.place ≡ min (length given) last_place) }
+    ensures { (stream : List ℕ) (ms : List Message) (v : Framing) → HasTaken stream ms v
+        → is_ready v ≡ false → (given : List ℕ) × (rest : List ℕ)
+        × Splits v.limit stream ms given rest × (v.place ≡ min (length given) last_place) }
 {}
 
 /// Whichever pieces the bytes come in, and however they are fed and taken: a new framer gives up the PDUs of the longest
 /// prefix of the bytes that it took, but for the one that is ready.
 pub fn every_run()
-    ensures { (limit : ℕ) (calls : List Call) (v : Framing) → Runs (opening limit) calls v → is_ready v ≡ false
-        → (given : List ℕ) × (rest : List ℕ) × Splits v.limit (bytes_of calls) (messages_of no_login calls) given rest × (v.place ≡ min (length given) last_place) }
+    ensures { (limit : ℕ) (calls : List Call) (v : Framing) → Runs (opening limit) calls v
+        → is_ready v ≡ false
+        → (given : List ℕ) × (rest : List ℕ)
+        × Splits v.limit (bytes_of calls) (messages_of no_login calls) given rest
+        × (v.place ≡ min (length given) last_place) }
 {}
 
 /// A fault of a header comes where the rest begins with such a header, and names the place of the rest.
 pub fn header_fault()
-    ensures { (stream piece : List ℕ) (ms : List Message) (fault : HeadFault) (place : ℕ) (v : Framing) → HasTaken stream ms v → FeedFails v piece (faults.Head fault place)
-        → (given : List ℕ) × (rest : List ℕ) × Splits v.limit (stream ++ piece) ms given rest × (fault_of (take 48 rest) ≡ Some fault) × (place ≡ min (length given) last_place) }
+    ensures { (stream piece : List ℕ) (ms : List Message) (fault : HeadFault) (place : ℕ)
+        (v : Framing) → HasTaken stream ms v → FeedFails v piece (faults.Head fault place)
+        → (given : List ℕ) × (rest : List ℕ) × Splits v.limit (stream ++ piece) ms given rest
+        × (fault_of (take 48 rest) ≡ Some fault) × (place ≡ min (length given) last_place) }
 {}
 
 /// A segment is refused where the rest begins with a header that says one over the limit, and the fault names the place
 /// of the rest.
 pub fn limit_fault()
-    ensures { (stream piece : List ℕ) (ms : List Message) (place : ℕ) (v : Framing) → HasTaken stream ms v → FeedFails v piece (faults.OverLimit place)
+    ensures { (stream piece : List ℕ) (ms : List Message) (place : ℕ) (v : Framing)
+        → HasTaken stream ms v → FeedFails v piece (faults.OverLimit place)
         → (given : List ℕ) × (rest : List ℕ) × Splits v.limit (stream ++ piece) ms given rest
-        × ((head : Head) × (len : ℕ) × IsHeader (take 48 rest) head len × (v.limit < len)) × (place ≡ min (length given) last_place) }
+        × ((head : Head) × (len : ℕ) × IsHeader (take 48 rest) head len × (v.limit < len))
+        × (place ≡ min (length given) last_place) }
 {}

@@ -78,7 +78,9 @@ fn show_piece(
 /// the end, `NoMemory` where memory runs out, and `Write` where a write fails. What was written before these belongs to
 /// whole PDUs, in full, but after `Write` it is a part of what was due.
 pub fn show<R: Read, W: Write>(alloc: Global, r: &mut R, w: &mut W) -> Result<Counts, ToolFault>
-    ensures moves { (read : List ℕ) × (written : List ℕ) × Consumes (R.remaining r.old) (R.remaining r.new) read × Appends (W.contents w.old) (W.contents w.new) written }
+    ensures moves { (read : List ℕ) × (written : List ℕ)
+        × Consumes (R.remaining r.old) (R.remaining r.new) read
+        × Appends (W.contents w.old) (W.contents w.new) written }
     ensures end { OnOk result (IsAtEnd (R.remaining r.new)) }
 {
     let mut framer = Framer::new(alloc, LONGEST_SEGMENT);

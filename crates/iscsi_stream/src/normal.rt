@@ -24,7 +24,8 @@ pub(crate) const LONGEST_SEGMENT: u32 = 16_777_215;
 /// Writes all of the bytes. Answers `Write` where a write fails or takes no byte, and has then written a front of them.
 pub fn write_fully<W: Write>(w: &mut W, bytes: &[u8]) -> Result<(), ToolFault>
     ensures ok { OnOk result (Appends (W.contents w.old) (W.contents w.new) bytes.now) }
-    ensures err { IfErr result (λ e. (e ≡ ToolFault.Write) × WroteFront (W.contents w.old) (W.contents w.new) bytes.now) }
+    ensures err { IfErr result (λ e. (e ≡ ToolFault.Write)
+        × WroteFront (W.contents w.old) (W.contents w.new) bytes.now) }
 {
     let mut rest = bytes;
     while !rest.is_empty() {
@@ -47,7 +48,9 @@ fn append_ready(
     out: &mut Vec<u8>,
     counts: &mut Counts,
 ) -> Result<(), AllocError>
-    ensures ok { OnOk result ((more : List Message) × PassesOn framer.old framer.new [] more out.old.items out.new.items counts.old counts.new) }
+    ensures ok { OnOk result ((more : List Message)
+        × PassesOn framer.old framer.new [] more out.old.items out.new.items counts.old
+        counts.new) }
     ensures err { OnErr result (out.new.items ≡ out.old.items) }
 {
     let Some(pdu) = framer.pdu() else {
@@ -72,7 +75,9 @@ fn pass_on(
     requires unready { is_ready framer.old ≡ false }
     ensures bytes { AreBytes piece.now }
     ensures appended { Appended framer.old piece.now out.old.items out.new.items }
-    ensures ok { OnOk result ((more : List Message) × PassesOn framer.old framer.new piece.now more out.old.items out.new.items counts.old counts.new) }
+    ensures ok { OnOk result ((more : List Message)
+        × PassesOn framer.old framer.new piece.now more out.old.items out.new.items counts.old
+        counts.new) }
     ensures err { IfErr result (PassFails framer.old piece.now out.old.items out.new.items) }
 {
     let mut rest = piece;
@@ -95,7 +100,8 @@ pub fn normalise<R: Read, W: Write>(
     r: &mut R,
     w: &mut W,
 ) -> Result<Counts, ToolFault>
-    ensures writes { (read : List ℕ) × (written : List ℕ) × AreBytes read × Consumes (R.remaining r.old) (R.remaining r.new) read
+    ensures writes { (read : List ℕ) × (written : List ℕ) × AreBytes read
+        × Consumes (R.remaining r.old) (R.remaining r.new) read
         × Appends (W.contents w.old) (W.contents w.new) written × Normalises result read written }
     ensures end { AtEnd result (IsAtEnd (R.remaining r.new)) }
 {

@@ -50,8 +50,10 @@ pub fn normalise_text<R: Read, W: Write>(
     r: &mut R,
     w: &mut W,
 ) -> Result<(), ToolFault>
-    ensures writes { (read : List ℕ) × (written : List ℕ) × Consumes (R.remaining r.old) (R.remaining r.new) read
-        × Appends (W.contents w.old) (W.contents w.new) written × NormalisesText result read written }
+    ensures writes { (read : List ℕ) × (written : List ℕ)
+        × Consumes (R.remaining r.old) (R.remaining r.new) read
+        × Appends (W.contents w.old) (W.contents w.new) written
+        × NormalisesText result read written }
     ensures end { TextAtEnd result (IsAtEnd (R.remaining r.new)) }
 {
     let Some(bytes) = read_within(alloc, r, LONGEST_TEXT)? else {

@@ -42,8 +42,10 @@ pub fn run_filter<R: Read, W: Write>(
     r: &mut R,
     w: &mut W,
 ) -> Result<(), ToolFault>
-    ensures filters { (read : List ℕ) × (written : List ℕ) × Consumes (R.remaining r.old) (R.remaining r.new) read
-        × Appends (W.contents w.old) (W.contents w.new) written × Filters filter result read written }
+    ensures filters { (read : List ℕ) × (written : List ℕ)
+        × Consumes (R.remaining r.old) (R.remaining r.new) read
+        × Appends (W.contents w.old) (W.contents w.new) written
+        × Filters filter result read written }
     ensures end { OnOk result (IsAtEnd (R.remaining r.new)) }
 {
     match filter.work {
@@ -72,7 +74,9 @@ fn show_as<R: Read, W: Write>(
     r: &mut R,
     w: &mut W,
 ) -> Result<(), ToolFault>
-    ensures moves { (read : List ℕ) × (written : List ℕ) × Consumes (R.remaining r.old) (R.remaining r.new) read × Appends (W.contents w.old) (W.contents w.new) written }
+    ensures moves { (read : List ℕ) × (written : List ℕ)
+        × Consumes (R.remaining r.old) (R.remaining r.new) read
+        × Appends (W.contents w.old) (W.contents w.new) written }
     ensures end { OnOk result (IsAtEnd (R.remaining r.new)) }
 {
     if hex {
@@ -87,8 +91,10 @@ fn show_as<R: Read, W: Write>(
 
 // The canonical stream of a stream of bytes.
 fn normalise_bytes<R: Read, W: Write>(alloc: Global, r: &mut R, w: &mut W) -> Result<(), ToolFault>
-    ensures normalises { (read : List ℕ) × (written : List ℕ) × Consumes (R.remaining r.old) (R.remaining r.new) read
-        × Appends (W.contents w.old) (W.contents w.new) written × NormalisesBytes result read written }
+    ensures normalises { (read : List ℕ) × (written : List ℕ)
+        × Consumes (R.remaining r.old) (R.remaining r.new) read
+        × Appends (W.contents w.old) (W.contents w.new) written
+        × NormalisesBytes result read written }
     ensures end { OnOk result (IsAtEnd (R.remaining r.new)) }
 {
     match normalise(alloc, r, w) {
@@ -99,8 +105,10 @@ fn normalise_bytes<R: Read, W: Write>(alloc: Global, r: &mut R, w: &mut W) -> Re
 
 // The canonical text of a text's bytes.
 fn text_bytes<R: Read, W: Write>(alloc: Global, r: &mut R, w: &mut W) -> Result<(), ToolFault>
-    ensures normalises { (read : List ℕ) × (written : List ℕ) × Consumes (R.remaining r.old) (R.remaining r.new) read
-        × Appends (W.contents w.old) (W.contents w.new) written × NormalisesText result read written }
+    ensures normalises { (read : List ℕ) × (written : List ℕ)
+        × Consumes (R.remaining r.old) (R.remaining r.new) read
+        × Appends (W.contents w.old) (W.contents w.new) written
+        × NormalisesText result read written }
     ensures end { OnOk result (IsAtEnd (R.remaining r.new)) }
 {
     normalise_text(alloc, r, w)?;
@@ -114,8 +122,10 @@ fn normalise_hex<R: Read, W: Write>(
     r: &mut R,
     w: &mut W,
 ) -> Result<(), ToolFault>
-    ensures normalises { (read : List ℕ) × (written : List ℕ) × Consumes (R.remaining r.old) (R.remaining r.new) read
-        × Appends (W.contents w.old) (W.contents w.new) written × NormalisesHex text result read written }
+    ensures normalises { (read : List ℕ) × (written : List ℕ)
+        × Consumes (R.remaining r.old) (R.remaining r.new) read
+        × Appends (W.contents w.old) (W.contents w.new) written
+        × NormalisesHex text result read written }
     ensures end { OnOk result (IsAtEnd (R.remaining r.new)) }
 {
     let bytes = read_bytes(alloc, r)?;

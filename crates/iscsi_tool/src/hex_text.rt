@@ -28,8 +28,11 @@ fn digits(alloc: Global, text: &[u8]) -> Result<Vec<u8>, AllocError>
 /// or where it has more than 1,048,576 bytes; `Read` where a read fails or 16,777,216 of them did not reach the end;
 /// and `NoMemory` where memory runs out.
 pub fn read_bytes<R: Read>(alloc: Global, r: &mut R) -> Result<Vec<u8>, ToolFault>
-    ensures ok { IfOk result (λ bytes. (read : List ℕ) × Consumes (R.remaining r.old) (R.remaining r.new) read × IsAtEnd (R.remaining r.new) × BytesOf read bytes.items) }
-    ensures err { IfErr result (λ fault. (read : List ℕ) × Consumes (R.remaining r.old) (R.remaining r.new) read × HexTextFails fault read) }
+    ensures ok { IfOk result (λ bytes. (read : List ℕ)
+        × Consumes (R.remaining r.old) (R.remaining r.new) read × IsAtEnd (R.remaining r.new)
+        × BytesOf read bytes.items) }
+    ensures err { IfErr result (λ fault. (read : List ℕ)
+        × Consumes (R.remaining r.old) (R.remaining r.new) read × HexTextFails fault read) }
 {
     let Some(text) = read_within(alloc, r, LONGEST_TEXT)? else {
         return Err(ToolFault::NotHex);

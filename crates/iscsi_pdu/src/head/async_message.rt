@@ -1,4 +1,4 @@
-//! The header of a Asynchronous Message (RFC 7143, section 11.9).
+//! The header of an Asynchronous Message (RFC 7143, section 11.9).
 
 ghost use Rattle.std.specs.Prelude.{◌≡◌};
 ghost use Rattle.scsi_cdb.specs.Layout.{Hold, AreFilled, HaveRoom, put_all};

@@ -31,7 +31,7 @@ pub struct ScsiResponse {
     pub exp_cmd_sn: u32,
     /// MaxCmdSN: the last CmdSN that the target takes.
     pub max_cmd_sn: u32,
-    /// ExpDataSN: how many R2T and Data-In PDUs the target sent for the command. It is there where
+    /// ExpDataSN: how many Data-In PDUs the target sent for the command. It is there where
     /// `response` is 0.
     pub exp_data_sn: Option<u32>,
     /// Bytes. It is there where one of the two bidirectional bits is set.
