@@ -1,6 +1,6 @@
 //! Memory that is refused, for `rt try --test --fail-alloc`: nothing but its want may come in place of an answer.
 
-use super::rows::{CANONICAL_NOP_OUT, NOP_OUT, ROWS};
+use super::rows::{CANONICAL_NOP_OUT, NOP_OUT};
 use super::{Part, stream_of};
 use crate::*;
 use hex::FromHexError;
@@ -13,37 +13,6 @@ fn ample_stream_of(alloc: Global, parts: &[Part]) -> Result<Vec<u8>, FromHexErro
         Ok(stream) => Ok(stream),
         Err(_) => stream_of(alloc, parts),
     }
-}
-
-#[test]
-fn refused_memory_changes_no_stream(rt: HostRuntime) -> Result<(), Fail> {
-    for row in ROWS {
-        let name = row.name;
-        let came = ample_stream_of(rt.alloc(), row.came)?;
-        let want = ample_stream_of(rt.alloc(), row.written)?;
-        let mut room = [0u8; 2048];
-        let mut source = came.as_slice();
-        let mut out = room.as_mut_slice();
-        let result = normalise(rt.alloc(), &mut source, &mut out);
-        let written = 2048usize.saturating_sub(out.len());
-        if result.is_err() {
-            assert_eq!(rt; result, Err(ToolFault::NoMemory), "{name}");
-            let front = room.get(..written).unwrap_or(&[]);
-            let mut pdus = Vec::new(rt.alloc());
-            let mut is_whole = front.is_empty();
-            for pdu in row.written {
-                pdus.extend_from_slice(&ample_stream_of(rt.alloc(), &[*pdu])?)?;
-                is_whole = is_whole || pdus.as_slice() == front;
-            }
-            assert!(rt; is_whole, "{name}");
-            let mut again = room.as_mut_slice();
-            let mut source = came.as_slice();
-            let result = normalise(rt.alloc(), &mut source, &mut again);
-            assert!(rt; result.is_ok(), "{name}");
-        }
-        assert_eq!(rt; room.get(..want.len()), Some(want.as_slice()), "{name}");
-    }
-    Ok(())
 }
 
 #[test]
