@@ -1,5 +1,9 @@
 //! The words of the command line.
 
+ghost use Rattle.std.specs.Prelude.{◌≡◌, [], true, Ok};
+ghost use Rattle.iscsi_tool.specs.declared.filter.Work.TheVariants.{Normalise};
+ghost use Rattle.iscsi_tool.specs.declared.words.Job.TheVariants as job;
+
 use crate::filter::{Filter, Work};
 use clap::error::ErrorKind;
 use clap::{Arg, ArgAction, ArgMatches, Command, Error};
@@ -91,7 +95,10 @@ fn command<'a>(alloc: Global) -> Result<Command<'a>, AllocError> {
 
 /// The job that the words of a command line ask for, without the program's name. Words that are no job, and those that
 /// ask for help, give `Usage` with the text to print.
-pub fn read_words<S: AsStr>(alloc: Global, words: &[S]) -> Result<Job, LineFault> {
+pub fn read_words<S: AsStr>(alloc: Global, words: &[S]) -> Result<Job, LineFault>
+    ensures unasked { words.now ≡ [] →
+        result ≡ Ok (job.Filter (record { work = Normalise; hex = true })) }
+{
     if words.is_empty() {
         return Ok(UNASKED);
     }
