@@ -1,5 +1,5 @@
 -- The target's answer to a login text, and what each end holds after it (RFC 7143, sections 6.2 and 13).
-use Rattle.std.specs.Prelude.{ℕ, false, List, [], ◌∷◌, ◌++◌, map, unwrap_or, Option, Some, None, is_some, if◌then◌else◌, codes}
+use Rattle.std.specs.Prelude.{ℕ, Bool, false, ◌&&◌, nat_le, List, [], ◌∷◌, ◌++◌, map, unwrap_or, Option, Some, None, is_some, if◌then◌else◌, codes}
 use Rattle.std.specs.List.{flat_map}
 use Rattle.std.specs.Option.{option_map, option_map_or}
 use Rattle.iscsi_text.specs.Key.{is_among, kind_of}
@@ -109,6 +109,12 @@ declared_max_recv pairs = first_number (values_of max_recv_key pairs)
 abbrev pub IsSegmentLength : Typed → Type 0
 IsSegmentLength (values.Number n) = IsWithin max_recv_range n
 IsSegmentLength _ = ⊥
+
+-- The test of it (section 13.12).
+abbrev pub is_segment_length : Typed → Bool
+is_segment_length (values.Number n) =
+    nat_le max_recv_range.low n && nat_le n max_recv_range.high
+is_segment_length _ = false
 
 -- There is no value, or the first may be declared (section 13.12).
 abbrev pub IsLengthOrNone : List Typed → Type 0

@@ -1,3 +1,4 @@
+pub mod Name
 pub mod Stage
 pub mod Key
 pub mod Negotiation

@@ -1,5 +1,5 @@
 -- What an offer and a preference give, and which answers are legal (RFC 7143, sections 6.2, 13 and 12.1).
-use Rattle.std.specs.Prelude.{◌≡◌, ℕ, ◌==◌, ◌⊎◌, Bool, true, false, ◌&&◌, ◌||◌, IsTrue, List, [], ◌∷◌, nat_le, min, max, if◌then◌else◌, codes}
+use Rattle.std.specs.Prelude.{◌≡◌, ℕ, ◌==◌, ◌⊎◌, Bool, true, false, not, ◌&&◌, ◌||◌, IsTrue, List, [], ◌∷◌, nat_le, min, max, if◌then◌else◌, codes}
 use Rattle.std.specs.List.{list_any, slice_split}
 use Rattle.std.specs.Str.{bytes_eq}
 use Rattle.iscsi_text.specs.Key.{is_among}
@@ -140,6 +140,29 @@ pub record IsChoice (key : NegKey) (offer answer : Typed) : Type 0 where
 -- The answer is one of the words, or a choice (section 6.2).
 abbrev pub IsLegal : NegKey → Typed → Typed → Type 0
 IsLegal key offer answer = IsTrue (is_word answer) ⊎ IsChoice key offer answer
+
+-- ---- the test
+
+-- Some preference that the rule allows gives this value from this offer (section 6.2).
+abbrev pub is_given : Rule → Answered → Answered → Bool
+is_given (rules.Minimum range) (Number offer) (Number answer) = nat_le answer offer
+is_given (rules.Maximum range) (Number offer) (Number answer) = nat_le offer answer
+is_given rules.Or (Flag offer) (Flag answer) = not offer || answer
+is_given rules.And (Flag offer) (Flag answer) = offer || not answer
+is_given rules.NoneItem NoneItem NoneItem = true
+is_given _ _ _ = false
+
+-- An answered list has one item (section 6.2.1).
+abbrev pub is_one_item : Typed → Bool
+is_one_item (values.Items bytes) = bytes_eq bytes (codes "None")
+is_one_item _ = true
+
+-- The test of `IsLegal` (section 6.2).
+abbrev pub is_legal : NegKey → Typed → Typed → Bool
+is_legal key offer answer =
+    is_word answer
+    || (is_given (rule_of key) (value_of (rule_of key) offer) (value_of (rule_of key) answer)
+    && is_one_item answer)
 
 -- ---- held values
 

@@ -1,7 +1,13 @@
 -- The stages of a login, and the moves between them (RFC 7143, section 6.3).
-use Rattle.std.specs.Prelude.{Bool, true, false}
+use Rattle.std.specs.Prelude.{ℕ, Bool, true, false}
 use Rattle.iscsi_login.specs.declared.stage.Stage.{Stage}
 use Rattle.iscsi_login.specs.declared.stage.Stage.TheVariants.{Security, Operational, Full}
+
+-- The number that a stage has on the wire (section 11.12.3).
+abbrev pub stage_number : Stage → ℕ
+stage_number Security = 0
+stage_number Operational = 1
+stage_number Full = 3
 
 -- A login may move from the first to the second: forward, and never back (section 6.3).
 abbrev pub may_move : Stage → Stage → Bool

@@ -5,6 +5,7 @@
 mod answer;
 mod key;
 pub mod laws;
+mod name;
 mod negotiation;
 mod offers;
 mod params;
@@ -14,6 +15,7 @@ mod stage;
 
 pub use answer::answer_text;
 pub use key::{NegKey, Range, Rule};
+pub use name::is_name;
 pub use negotiation::{legal_answer, result};
 pub use offers::{Auth, Offers};
 pub use params::{Params, declares_well};

@@ -2,7 +2,7 @@
 
 ghost use Rattle.std.specs.Prelude.{◌≡◌, ◌↔◌, IsTrue, ◌==◌};
 ghost use Rattle.iscsi_text.specs.Value.{typed};
-ghost use Rattle.iscsi_login.specs.Negotiation.{result_of, IsLegal, has_none, chosen, value_of, is_word, word, answered_value, or_default};
+ghost use Rattle.iscsi_login.specs.Negotiation.{result_of, is_legal, IsLegal, has_none, chosen, value_of, is_word, word, answered_value, or_default};
 
 use crate::key::{NegKey, Rule};
 use crate::preferences::{Answered, Preferences};
@@ -25,6 +25,7 @@ pub fn result(key: NegKey, offer: &Value, preferences: &Preferences) -> Answered
 /// that the key allows (RFC 7143, section 6.2).
 pub fn legal_answer(key: NegKey, offer: &Value, answer: &Value) -> bool
     ensures legal { IsTrue result ↔ IsLegal key (typed offer.now) (typed answer.now) }
+    ensures test { result ≡ is_legal key (typed offer.now) (typed answer.now) }
 {
     if is_word(answer) {
         return true;

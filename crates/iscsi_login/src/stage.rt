@@ -1,7 +1,7 @@
 //! Kinds of session, and the stages of a login (RFC 7143, section 6.3).
 
 ghost use Rattle.std.specs.Prelude.{◌≡◌};
-ghost use Rattle.iscsi_login.specs.Stage.{may_move};
+ghost use Rattle.iscsi_login.specs.Stage.{may_move, stage_number};
 
 /// What a session is for (RFC 7143, section 13.21).
 #[derive(Clone, Copy, Debug, PartialEq, Eq)]
@@ -24,6 +24,17 @@ pub enum Stage {
 }
 
 impl Stage {
+    /// The number that the stage has on the wire (RFC 7143, section 11.12.3).
+    pub fn number(self) -> u8
+        ensures number { result ≡ stage_number self }
+    {
+        match self {
+            Stage::Security => 0,
+            Stage::Operational => 1,
+            Stage::Full => 3,
+        }
+    }
+
     /// Whether a login may move from this stage to the other: from security to each of the two
     /// later ones, and from there to full feature phase (RFC 7143, section 6.3).
     pub fn may_move(self, to: Stage) -> bool

@@ -335,6 +335,10 @@ fn first_bursts_moves_and_faults(rt: HostRuntime) -> Result<(), Fail> {
     for (from, to, may) in moves {
         assert_eq!(rt; from.may_move(to), may, "{from:?} to {to:?}");
     }
+    assert_eq!(rt;
+        [Stage::Security, Stage::Operational, Stage::Full].map(Stage::number),
+        [0, 1, 3]
+    );
     let faults = [
         (ConfigFault::NoMemory, "memory"),
         (ConfigFault::BadName, "bad name"),

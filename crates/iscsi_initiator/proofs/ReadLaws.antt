@@ -1,0 +1,221 @@
+-- The Data-In of a read tile its data.
+use Rattle.std.proofs.Common.{◌≡◌, refl, ap, sym, ◌∙◌, subst, Bool, true, false, List, [], ◌∷◌, ◌++◌, ℕ, ◌+◌, ◌⊎◌, inl, inr, Option, Some, None, length, append_assoc, append-nil, arith, length-append}
+use Rattle.std.specs.Prelude.{if◌then◌else◌, not, ◌==◌, nat_lt, unwrap_or}
+use Rattle.std.proofs.lemmas.Bool.{and_parts, eqb-true}
+use Rattle.iscsi_pdu.specs.Fields.{is_tag}
+use Rattle.iscsi_pdu.specs.declared.head.Head.{Head}
+use Rattle.iscsi_pdu.specs.declared.head.Head.TheVariants as heads
+use Rattle.iscsi_pdu.specs.declared.head.scsi_response.ScsiResponse.{ScsiResponse}
+use Rattle.iscsi_pdu.specs.declared.head.data_in.DataIn.{DataIn}
+use Rattle.iscsi_stream.specs.Segment.{segment_bytes}
+use Rattle.iscsi_stream.specs.Stream.{Message}
+use Rattle.iscsi_login.specs.declared.phase.Phase.{Phase}
+use Rattle.iscsi_login.specs.declared.phase.Phase.TheVariants as phases
+use Rattle.iscsi_initiator.specs.declared.request.Done.TheVariants as done
+use Rattle.iscsi_initiator.specs.declared.open.Open.{Open}
+use Rattle.iscsi_initiator.specs.declared.open.Open.TheVariants.{In, Out, Ping, Text, Logout}
+use Rattle.iscsi_initiator.specs.Progress.{Reading}
+use Rattle.iscsi_initiator.specs.State.{Machine, next, reserved_tag}
+use Rattle.iscsi_initiator.specs.Steps.{Stepped, breaks, quiet}
+use Rattle.iscsi_initiator.specs.Full.{Due, Asked, Data, Response, Notice, Refusal, on_due, outcome_with, sense_of, takes, due, due_to, answer_due, tag_of, fits_reading, passed, is_in_turn, checked_stat_sn, completes, has_received, read_outcome, residual}
+use Rattle.iscsi_initiator.specs.Machine.{step, step_in}
+use Rattle.iscsi_initiator.specs.Laws.{TilesFrom, data_piece, data_pieces, piece_bytes, hears, IsReceiving, HasReceived, ReadsTile}
+
+-- the read goes on with these bytes, or has them as its data
+abbrev pub Stands : Machine → List ℕ → Type 0
+Stands m bytes = IsReceiving m bytes ⊎ HasReceived m bytes
+
+abbrev pub Pieces : Type 0
+Pieces = List (ℕ × List ℕ)
+
+-- behind these bytes a message brought these pieces
+pub record Got (a : List ℕ) (ps : Pieces) (n : Machine) : Type 0 where
+  pub full : n.phase ≡ phases.Full
+  pub tiles : TilesFrom (length a) ps (length a + length (piece_bytes ps))
+  pub now : Stands n (a ++ piece_bytes ps)
+
+-- it did, or it closed the session
+pub data Gets (a : List ℕ) (ps : Pieces) (n : Machine) : Type 0 where
+  shut : n.phase ≡ phases.Closed → Gets a ps n
+  got : Got a ps n → Gets a ps n
+
+gets_if : (a : List ℕ) (ps : Pieces) (b : Bool) (x y : Stepped) → Gets a ps x.machine → Gets a ps y.machine → Gets a ps (if b then x else y).machine
+gets_if a ps true x y p q = p
+gets_if a ps false x y p q = q
+
+stands_at : (m n : Machine) (a : List ℕ) → n.open_request ≡ m.open_request → n.done ≡ m.done → Stands m a → Stands n a
+stands_at m n a e f (inl i) = inl (record { reading = i.reading; is = e ∙ i.is; received = i.received })
+stands_at m n a e f (inr h) = inr (record { response = h.response; status = h.status; sense = h.sense; residual = h.residual; none = e ∙ h.none; outcome = f ∙ h.outcome })
+
+-- a message without data leaves the read as it is
+nothing : (m n : Machine) (a : List ℕ) → n.phase ≡ phases.Full → n.open_request ≡ m.open_request → n.done ≡ m.done → Stands m a → Gets a [] n
+nothing m n a p e f s = got (record { full = p; tiles = omega arith; now = subst (λ (x : List ℕ). Stands n x) (sym (append-nil a)) (stands_at m n a e f s) })
+
+-- ---- the open read
+
+abbrev IsRead : Option Open → Type 0
+IsRead None = Unit {0}
+IsRead (Some (In r)) = Unit {0}
+IsRead (Some (Out w)) = ⊥
+IsRead (Some Ping) = ⊥
+IsRead (Some Text) = ⊥
+IsRead (Some Logout) = ⊥
+
+is_read : (m : Machine) (a : List ℕ) (q : Option Open) → m.open_request ≡ q → Stands m a → IsRead q
+is_read m a q e (inl i) = subst (λ (o : Option Open). IsRead o) (sym i.is ∙ e) tt
+is_read m a q e (inr h) = subst (λ (o : Option Open). IsRead o) (sym h.none ∙ e) tt
+
+abbrev read_or : Option Open → Reading → Reading
+read_or (Some (In r)) s = r
+read_or _ s = s
+
+abbrev IsSome : Option Open → Type 0
+IsSome None = ⊥
+IsSome (Some o) = Unit {0}
+
+-- what the open read has received
+has : (m : Machine) (a : List ℕ) (r : Reading) → m.open_request ≡ Some (In r) → Stands m a → r.received ≡ a
+has m a r e (inl i) = ap (λ (o : Option Open). (read_or o r).received) (sym e ∙ i.is) ∙ i.received
+has m a r e (inr h) = absurd (subst (λ (o : Option Open). IsSome o) (sym e ∙ h.none) tt)
+
+one_piece : (a bytes : List ℕ) (offset : ℕ) → offset ≡ length a → TilesFrom (length a) ((offset, bytes) ∷ []) (length a + length (bytes ++ []))
+one_piece a bytes offset e = (e, ap (λ (x : List ℕ). length a + length x) (sym (append-nil bytes)))
+
+more_bytes : (a b bytes : List ℕ) → b ≡ a → b ++ bytes ≡ a ++ (bytes ++ [])
+more_bytes a b bytes e = ap (λ (x : List ℕ). x ++ bytes) e ∙ ap (λ (x : List ℕ). a ++ x) (sym (append-nil bytes))
+
+data_gets : (b c : Bool) (m : Machine) (a : List ℕ) (r : Reading) (h : DataIn) (bytes : List ℕ) → m.phase ≡ phases.Full → r.received ≡ a → fits_reading r h bytes ≡ b
+    → Gets a ((h.buffer_offset, bytes) ∷ []) (if not b then breaks m 3 else (if c then completes m (read_outcome (r.received ++ bytes) h) else quiet (has_received m r bytes))).machine
+data_gets false c m a r h bytes p e f = shut refl
+data_gets true true m a r h bytes p e f =
+    let at : h.buffer_offset ≡ length a = eqb-true _ _ (and_parts _ _ (and_parts _ _ f).0).1 ∙ ap (λ (x : List ℕ). length x) e in
+    got (record {
+      full = p;
+      tiles = one_piece a bytes h.buffer_offset at;
+      now = inr (record {
+        response = 0;
+        status = unwrap_or h.status 0;
+        sense = [];
+        residual = residual (unwrap_or h.overflow false) (unwrap_or h.underflow false) (unwrap_or h.residual 0);
+        none = refl;
+        outcome = ap (λ (x : List ℕ). Some (done.Command 0 (unwrap_or h.status 0) [] x (residual (unwrap_or h.overflow false) (unwrap_or h.underflow false) (unwrap_or h.residual 0)))) (more_bytes a r.received bytes e);
+      });
+    })
+data_gets true false m a r h bytes p e f =
+    let at : h.buffer_offset ≡ length a = eqb-true _ _ (and_parts _ _ (and_parts _ _ f).0).1 ∙ ap (λ (x : List ℕ). length x) e in
+    got (record {
+      full = p;
+      tiles = one_piece a bytes h.buffer_offset at;
+      now = inl (record { reading = record r { received = r.received ++ bytes; next_data_sn = next r.next_data_sn }; is = refl; received = more_bytes a r.received bytes e });
+    })
+
+response_gets : (o : Option (List ℕ)) (m : Machine) (a : List ℕ) (r : Reading) (h : ScsiResponse) → m.phase ≡ phases.Full → r.received ≡ a → Gets a [] (outcome_with o m r.received h).machine
+response_gets None m a r h p e = shut refl
+response_gets (Some sense) m a r h p e =
+    got (record {
+      full = p;
+      tiles = omega arith;
+      now = inr (record {
+        response = h.response;
+        status = unwrap_or h.status 0;
+        sense = sense;
+        residual = residual h.overflow h.underflow (unwrap_or h.residual 0);
+        none = refl;
+        outcome = ap (λ (x : List ℕ). Some (done.Command h.response (unwrap_or h.status 0) sense x (residual h.overflow h.underflow (unwrap_or h.residual 0)))) (e ∙ sym (append-nil a));
+      });
+    })
+
+some_gets : (a : List ℕ) (ps : Pieces) (m : Machine) (d : Due) (bytes : List ℕ) → Gets a ps (on_due (passed m d) d bytes).machine → Gets a ps (takes (Some d) m bytes).machine
+some_gets a ps m d bytes g =
+    gets_if a ps (nat_lt m.held.initiator_max_recv (length bytes)) _ _ (shut refl) (gets_if a ps (not (is_in_turn m.exp_stat_sn (checked_stat_sn d))) _ _ (shut refl) g)
+
+due_gets : (q : Option Open) (head : Head) (m : Machine) (bytes a : List ℕ) → m.phase ≡ phases.Full → m.open_request ≡ q → Stands m a → Gets a (data_piece head bytes) (takes (due_to q head) m bytes).machine
+due_gets None head m bytes a p e s = shut refl
+due_gets (Some Ping) head m bytes a p e s = absurd (is_read m a _ e s)
+due_gets (Some Text) head m bytes a p e s = absurd (is_read m a _ e s)
+due_gets (Some Logout) head m bytes a p e s = absurd (is_read m a _ e s)
+due_gets (Some (Out w)) head m bytes a p e s = absurd (is_read m a _ e s)
+due_gets (Some (In r)) (heads.DataIn h) m bytes a p e s =
+    some_gets a _ m (Data r h) bytes (data_gets (fits_reading r h bytes) h.has_status (passed m (Data r h)) a r h bytes p (has m a r e s) refl)
+due_gets (Some (In r)) (heads.ScsiResponse h) m bytes a p e s =
+    some_gets a _ m (Response r.received h) bytes (response_gets (sense_of bytes) (passed m (Response r.received h)) a r h p (has m a r e s))
+due_gets (Some (In r)) _ m bytes a p e s = shut refl
+
+takes_gets : (a : List ℕ) (ps : Pieces) (b : Bool) (x y : Option Due) (m : Machine) (bytes : List ℕ) → Gets a ps (takes x m bytes).machine → Gets a ps (takes y m bytes).machine
+    → Gets a ps (takes (if b then x else y) m bytes).machine
+takes_gets a ps true x y m bytes p q = p
+takes_gets a ps false x y m bytes p q = q
+
+answer_gets : (head : Head) (m : Machine) (bytes a : List ℕ) → m.phase ≡ phases.Full → Stands m a → Gets a (data_piece head bytes) (takes (answer_due m head) m bytes).machine
+answer_gets head m bytes a p s =
+    takes_gets a (data_piece head bytes) (tag_of head == m.initiator_task_tag) (due_to m.open_request head) None m bytes (due_gets m.open_request head m bytes a p refl s) (shut refl)
+
+full_gets : (head : Head) (m : Machine) (bytes a : List ℕ) → m.phase ≡ phases.Full → Stands m a → Gets a (data_piece head bytes) (takes (due m head) m bytes).machine
+full_gets (heads.NopIn h) m bytes a p s =
+    takes_gets a [] (h.initiator_task_tag == reserved_tag) (Some (Asked h)) (answer_due m (heads.NopIn h)) m bytes
+    (some_gets a [] m (Asked h) bytes (gets_if a [] (is_tag h.target_transfer_tag) _ _ (nothing m _ a p refl refl s) (nothing m _ a p refl refl s)))
+    (answer_gets (heads.NopIn h) m bytes a p s)
+full_gets (heads.AsyncMessage h) m bytes a p s = some_gets a [] m (Notice h) bytes (nothing m _ a p refl refl s)
+full_gets (heads.Reject h) m bytes a p s = some_gets a [] m (Refusal h) bytes (shut refl)
+full_gets head m bytes a p s = answer_gets head m bytes a p s
+
+step_gets : (m : Machine) (message : Message) (a : List ℕ) → m.phase ≡ phases.Full → Stands m a → Gets a (data_piece message.head (segment_bytes message.segment)) (step m message).machine
+unfolding step
+step_gets m message a p s =
+    subst (λ (x : Phase). Gets a (data_piece message.head (segment_bytes message.segment)) (step_in x m message).machine) (sym p) (full_gets message.head m (segment_bytes message.segment) a p s)
+
+-- ---- many messages
+
+closed_step : (m : Machine) (message : Message) → m.phase ≡ phases.Closed → (step m message).machine.phase ≡ phases.Closed
+unfolding step
+closed_step m message e = subst (λ (x : Phase). (step_in x m message).machine.phase ≡ phases.Closed) (sym e) e
+
+closed_hears : (m : Machine) (messages : List Message) → m.phase ≡ phases.Closed → (hears m messages).phase ≡ phases.Closed
+closed_hears m [] e = e
+closed_hears m (message ∷ messages) e = closed_hears (step m message).machine messages (closed_step m message e)
+
+abbrev IsShut : Phase → Type 0
+IsShut phases.Closed = Unit {0}
+IsShut _ = ⊥
+
+tiles_then : (x mid end : ℕ) (ps qs : Pieces) → TilesFrom x ps mid → TilesFrom mid qs end → TilesFrom x (ps ++ qs) end
+tiles_then x mid end [] qs t u = subst (λ (n : ℕ). TilesFrom n qs end) (sym t) u
+tiles_then x mid end (p ∷ ps) qs t u = (t.0, tiles_then (x + length p.1) mid end ps qs t.1 u)
+
+bytes_then : (ps qs : Pieces) → piece_bytes (ps ++ qs) ≡ piece_bytes ps ++ piece_bytes qs
+bytes_then [] qs = refl
+bytes_then (p ∷ ps) qs = ap (λ (x : List ℕ). p.1 ++ x) (bytes_then ps qs) ∙ sym (append_assoc p.1 (piece_bytes ps) (piece_bytes qs))
+
+pub record Heard (m : Machine) (a : List ℕ) (messages : List Message) : Type 0 where
+  pub tiles : TilesFrom (length a) (data_pieces messages) (length a + length (piece_bytes (data_pieces messages)))
+  pub now : Stands (hears m messages) (a ++ piece_bytes (data_pieces messages))
+
+joins : (m : Machine) (a : List ℕ) (message : Message) (messages : List Message)
+    → Got a (data_piece message.head (segment_bytes message.segment)) (step m message).machine
+    → Heard (step m message).machine (a ++ piece_bytes (data_piece message.head (segment_bytes message.segment))) messages → Heard m a (message ∷ messages)
+joins m a message messages g h =
+    let ps : Pieces = data_piece message.head (segment_bytes message.segment) in
+    let qs : Pieces = data_pieces messages in
+    let whole : a ++ piece_bytes ps ++ piece_bytes qs ≡ a ++ piece_bytes (ps ++ qs) = append_assoc a (piece_bytes ps) (piece_bytes qs) ∙ ap (λ (x : List ℕ). a ++ x) (sym (bytes_then ps qs)) in
+    let len : length (a ++ piece_bytes ps) ≡ length a + length (piece_bytes ps) = length-append a (piece_bytes ps) in
+    let end : length (a ++ piece_bytes ps) + length (piece_bytes qs) ≡ length a + length (piece_bytes (ps ++ qs)) =
+    sym (length-append (a ++ piece_bytes ps) (piece_bytes qs)) ∙ ap (λ (x : List ℕ). length x) whole ∙ length-append a (piece_bytes (ps ++ qs)) in
+    record {
+      tiles = tiles_then (length a) (length (a ++ piece_bytes ps)) (length a + length (piece_bytes (ps ++ qs))) ps qs
+          (subst (λ (n : ℕ). TilesFrom (length a) ps n) (sym len) g.tiles)
+          (subst (λ (n : ℕ). TilesFrom (length (a ++ piece_bytes ps)) qs n) end h.tiles);
+      now = subst (λ (x : List ℕ). Stands (hears (step m message).machine messages) x) whole h.now;
+    }
+
+hears_all : (m : Machine) (a : List ℕ) (messages : List Message) → m.phase ≡ phases.Full → Stands m a → (hears m messages).phase ≡ phases.Full → Heard m a messages
+hears_all m a [] p s f = record { tiles = omega arith; now = subst (λ (x : List ℕ). Stands m x) (sym (append-nil a)) s }
+hears_all m a (message ∷ messages) p s f =
+    elim (step_gets m message a p s) [
+      | shut e ↦ absurd (subst (λ (x : Phase). IsShut x) (sym (closed_hears (step m message).machine messages e) ∙ f) tt)
+      | got g ↦ joins m a message messages g (hears_all (step m message).machine (a ++ piece_bytes (data_piece message.head (segment_bytes message.segment))) messages g.full g.now f)
+    ]
+
+pub reads_tile : ReadsTile
+reads_tile m messages p i f =
+    let h : Heard m [] messages = hears_all m [] messages p (inl i) f in
+    record { tiles = subst (λ (n : ℕ). TilesFrom 0 (data_pieces messages) n) (omega arith) h.tiles; carries = h.now }

@@ -1,0 +1,192 @@
+-- What the calls of an initiator do: a stream that comes in pieces, and requests (RFC 7143, sections
+-- 4 and 11; own rule).
+use Rattle.std.specs.Prelude.{◌≡◌, ℕ, ◌≤◌, ◌⊎◌, true, false, max, List, [], ◌++◌, length, take, drop, Option, Some, None, Result, Ok, Err}
+use Rattle.iscsi_stream.specs.declared.fault.StreamFault.{StreamFault}
+use Rattle.iscsi_stream.specs.declared.fault.StreamFault.TheVariants as stream
+use Rattle.iscsi_stream.specs.Stream.{Message}
+use Rattle.iscsi_stream.specs.Canonical.{canon}
+use Rattle.iscsi_stream.specs.Framing as framings
+use Rattle.iscsi_stream.specs.Framing.{Framing, is_ready, Moves, FeedFails, FinishFails}
+use Rattle.iscsi_login.specs.declared.phase.Phase.{Phase}
+use Rattle.iscsi_login.specs.declared.phase.Phase.TheVariants as phases
+use Rattle.iscsi_initiator.specs.declared.fault.InitiatorFault.{InitiatorFault}
+use Rattle.iscsi_initiator.specs.declared.fault.InitiatorFault.TheVariants as faults
+use Rattle.iscsi_initiator.specs.declared.request.Request.{Request}
+use Rattle.iscsi_initiator.specs.declared.request.Refused.{Refused}
+use Rattle.iscsi_initiator.specs.declared.request.SubmitFault.{SubmitFault}
+use Rattle.iscsi_initiator.specs.declared.request.SubmitFault.TheVariants as refusals
+use Rattle.iscsi_initiator.specs.State.{Settings, Machine, opening, is_closed}
+use Rattle.iscsi_initiator.specs.Steps.{Stepped, closed}
+use Rattle.iscsi_initiator.specs.Login.{start_step}
+use Rattle.iscsi_initiator.specs.Machine.{steps, taken}
+use Rattle.iscsi_initiator.specs.Submitted.{submitted}
+
+-- An initiator between two calls: its session, and what it has of the next PDU (own rule).
+pub record Connection : Type 0 where
+  pub machine : Machine
+  pub framing : Framing
+
+-- The longest segment that an initiator takes (section 13.12; the 8192 are own profile).
+abbrev pub limit : Settings → ℕ
+limit settings = max 8192 settings.proposal.prefs.max_recv
+
+-- An initiator to which nothing came (own rule).
+abbrev pub opening_connection : Settings → Connection
+opening_connection settings = record {
+  machine = opening settings;
+  framing = framings.opening (limit settings);
+}
+
+-- ---- one step
+
+-- The call left what the step leaves, and appended what it sends (own rule).
+pub record StepDone (stepped : Stepped) (old new : Connection) (before after : List ℕ) : Type 0 where
+  pub machine : new.machine ≡ stepped.machine
+  pub output : after ≡ before ++ canon stepped.output
+  pub framing : new.framing ≡ old.framing
+
+-- Memory ran out: nothing is written, and the session is closed (own rule).
+pub record OutOfMemory (old new : Connection) (before after : List ℕ) : Type 0 where
+  pub live : is_closed old.machine ≡ false
+  pub machine : new.machine ≡ closed old.machine
+  pub output : after ≡ before
+
+-- A closed session stays as it is (own rule).
+pub record Stays (old new : Connection) (before after : List ℕ) : Type 0 where
+  pub closed : is_closed old.machine ≡ true
+  pub connection : new ≡ old
+  pub output : after ≡ before
+
+-- What a start leaves that failed (section 6.3; own rule).
+abbrev pub StartFails : InitiatorFault → Connection → Connection → List ℕ → List ℕ → Type 0
+StartFails faults.NoMemory old new before after = OutOfMemory old new before after
+StartFails faults.Closed old new before after = Stays old new before after
+StartFails fault old new before after =
+    (is_closed old.machine ≡ false) × StepDone (start_step old.machine) old new before after
+    × ((start_step old.machine).fault ≡ Some fault)
+
+-- What a call of start does (section 6.3).
+abbrev pub Starts : Result (Unit {0}) InitiatorFault → Connection → Connection → List ℕ → List ℕ → Type 0
+Starts (Ok _) old new before after =
+    (is_closed old.machine ≡ false) × StepDone (start_step old.machine) old new before after
+    × ((start_step old.machine).fault ≡ None)
+Starts (Err fault) old new before after = StartFails fault old new before after
+
+-- ---- a call of feed
+
+-- What a call heard of its piece: so many bytes, which complete PDUs of these meanings (own rule).
+pub record Heard (old : Connection) (piece : List ℕ) : Type 0 where
+  pub count : ℕ
+  pub some : count ≤ length piece
+  pub messages : List Message
+  pub framing : Framing
+  pub moves : Moves old.framing framing (take count piece) messages
+
+-- The steps that these PDUs lead to (own rule).
+abbrev pub heard_steps : (old : Connection) (piece : List ℕ) → Heard old piece → Stepped
+heard_steps old piece heard = steps old.machine heard.messages
+
+-- The whole piece is heard, and the session is open (own rule).
+pub record HearsAll (old : Connection) (piece : List ℕ) (heard : Heard old piece)
+    (new : Connection) (before after : List ℕ) (phase : Phase) : Type 0 where
+  pub all : heard.count ≡ length piece
+  pub live : is_closed (heard_steps old piece heard).machine ≡ false
+  pub unready : is_ready heard.framing ≡ false
+  pub connection : new
+      ≡ record { machine = (heard_steps old piece heard).machine; framing = heard.framing }
+  pub output : after ≡ before ++ canon (heard_steps old piece heard).output
+  pub answered : phase ≡ (heard_steps old piece heard).machine.phase
+
+-- The last PDU that is heard closes the session; the rest of the piece is dropped (own rule).
+pub record ClosesAt (old : Connection) (piece : List ℕ) (heard : Heard old piece)
+    (new : Connection) (before after : List ℕ) (fault : Option InitiatorFault) : Type 0 where
+  pub closes : is_closed (heard_steps old piece heard).machine ≡ true
+  pub machine : new.machine ≡ (heard_steps old piece heard).machine
+  pub output : after ≡ before ++ canon (heard_steps old piece heard).output
+  pub cause : (heard_steps old piece heard).fault ≡ fault
+
+-- What follows the PDUs that are heard is refused by the framer (own rule).
+pub record StreamEnds (old : Connection) (piece : List ℕ) (heard : Heard old piece)
+    (new : Connection) (before after : List ℕ) (fault : StreamFault) : Type 0 where
+  pub live : is_closed (heard_steps old piece heard).machine ≡ false
+  pub refused : FeedFails heard.framing (drop heard.count piece) fault
+  pub machine : new.machine ≡ closed (heard_steps old piece heard).machine
+  pub output : after ≡ before ++ canon (heard_steps old piece heard).output
+
+-- Memory ran out behind some PDUs: nothing is written, and the session is closed (own rule).
+pub record MemoryEnds (old : Connection) (piece : List ℕ) (heard : Heard old piece)
+    (new : Connection) (before after : List ℕ) : Type 0 where
+  pub live : is_closed (heard_steps old piece heard).machine ≡ false
+  pub machine : new.machine ≡ closed (heard_steps old piece heard).machine
+  pub output : after ≡ before
+
+-- No fault of the stream is want of memory (own rule).
+abbrev pub StreamFails : StreamFault → (old : Connection) (piece : List ℕ) → Connection → List ℕ → List ℕ → Type 0
+StreamFails stream.NoMemory old piece new before after = ⊥
+StreamFails fault old piece new before after =
+    (heard : Heard old piece) × StreamEnds old piece heard new before after fault
+
+-- What a call of feed leaves that failed (own rule).
+abbrev pub FeedEnds : InitiatorFault → (old : Connection) (piece : List ℕ) → Connection → List ℕ → List ℕ → Type 0
+FeedEnds faults.NoMemory old piece new before after =
+    (heard : Heard old piece) × MemoryEnds old piece heard new before after
+FeedEnds (faults.Stream fault) old piece new before after =
+    StreamFails fault old piece new before after
+FeedEnds faults.Closed old piece new before after = Stays old new before after
+FeedEnds fault old piece new before after =
+    (heard : Heard old piece) × ClosesAt old piece heard new before after (Some fault)
+
+-- What a call of feed does with a piece of the stream (own rule).
+abbrev pub Feeds : Result Phase InitiatorFault → (old : Connection) (piece : List ℕ) → Connection → List ℕ → List ℕ → Type 0
+Feeds (Ok phase) old piece new before after = (is_closed old.machine ≡ false)
+    × ((heard : Heard old piece) × (HearsAll old piece heard new before after phase
+    ⊎ (ClosesAt old piece heard new before after None × (phase ≡ phases.Closed))))
+Feeds (Err fault) old piece new before after = FeedEnds fault old piece new before after
+
+-- ---- a call of submit
+
+-- A request was accepted, and is written (own rule).
+pub record Accepts (old : Connection) (request : Request) (new : Connection)
+    (before after : List ℕ) : Type 0 where
+  pub none : (submitted old.machine request).refusal ≡ None
+  pub connection : new ≡ record old { machine = (submitted old.machine request).machine }
+  pub output : after ≡ before ++ canon (submitted old.machine request).output
+
+-- What the machine refuses the request for; want of memory comes last (own rule).
+abbrev pub refused_for : SubmitFault → Option SubmitFault
+refused_for refusals.NoMemory = None
+refused_for fault = Some fault
+
+-- A request was refused, and comes back (own rule).
+pub record HandsBack (old : Connection) (request : Request) (new : Connection)
+    (before after : List ℕ) (refused : Refused) : Type 0 where
+  pub same : refused.request ≡ request
+  pub cause : (submitted old.machine request).refusal ≡ refused_for refused.fault
+  pub connection : new ≡ old
+  pub output : after ≡ before
+
+-- What a call of submit does (own rule).
+abbrev pub Submits : Result (Unit {0}) Refused → Connection → Request → Connection → List ℕ → List ℕ → Type 0
+Submits (Ok _) old request new before after = Accepts old request new before after
+Submits (Err refused) old request new before after = HandsBack old request new before after refused
+
+-- ---- the other calls
+
+-- What a call of finish leaves that failed (own rule).
+abbrev pub FinishEnds : InitiatorFault → Connection → Connection → Type 0
+FinishEnds faults.Closed old new = (is_closed old.machine ≡ true) × (new ≡ old)
+FinishEnds (faults.Stream fault) old new =
+    (is_closed old.machine ≡ false) × FinishFails old.framing fault
+    × (new.machine ≡ closed old.machine)
+FinishEnds _ old new = ⊥
+
+-- What a call of finish does: the stream ends between two PDUs, or within one (own rule).
+abbrev pub Finishes : Result (Unit {0}) InitiatorFault → Connection → Connection → Type 0
+Finishes (Ok _) old new =
+    (is_closed old.machine ≡ false)
+    × ((old.framing.held ≡ []) ⊎ (is_ready old.framing ≡ true)) × (new ≡ old)
+Finishes (Err fault) old new = FinishEnds fault old new
+
+-- The outcome is taken (own rule).
+abbrev pub after_taking : Connection → Connection
+after_taking old = record old { machine = taken old.machine }

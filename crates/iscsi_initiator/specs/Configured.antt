@@ -1,0 +1,39 @@
+-- What an initiator is configured with, and what is refused (RFC 7143, section 6.3; own rule).
+use Rattle.std.specs.Prelude.{◌≡◌, ℕ, ◌≤◌, Result, Ok, Err}
+use Rattle.iscsi_login.specs.declared.stage.Stage.{Stage}
+use Rattle.iscsi_login.specs.declared.stage.Stage.TheVariants as stages
+use Rattle.iscsi_login.specs.declared.phase.ConfigFault.{ConfigFault}
+use Rattle.iscsi_login.specs.declared.phase.ConfigFault.TheVariants.{NoMemory, BadName, OutOfRange}
+use Rattle.iscsi_login.specs.Name.{IsName}
+use Rattle.iscsi_login.specs.Negotiation.{IsInRange}
+use Rattle.iscsi_initiator.specs.State.{Settings}
+
+-- Both names are names (section 4.2.7).
+pub record AreNames (settings : Settings) : Type 0 where
+  pub initiator : IsName settings.proposal.initiator
+  pub target : IsName settings.proposal.target
+
+-- A login starts at one of the first two stages (section 6.3).
+abbrev pub IsStart : Stage → Type 0
+IsStart stages.Security = Unit {0}
+IsStart stages.Operational = Unit {0}
+IsStart stages.Full = ⊥
+
+-- Each number and the stage are in their ranges (section 13; that of the segment is own rule).
+pub record AreInRange (settings : Settings) : Type 0 where
+  pub preferences : IsInRange settings.proposal.prefs
+  pub start : IsStart settings.start
+  pub least : 64 ≤ settings.login_segment
+  pub most : settings.login_segment ≤ 8192
+
+-- Settings that are not refused (own rule).
+pub record AreValid (settings : Settings) : Type 0 where
+  pub names : AreNames settings
+  pub in_range : AreInRange settings
+
+-- The settings are those that were given; each fault has its cause, the names' first (own rule).
+abbrev pub Configures : Settings → Result Settings ConfigFault → Type 0
+Configures given (Ok settings) = AreValid given × (settings ≡ given)
+Configures given (Err BadName) = ¬ AreNames given
+Configures given (Err OutOfRange) = AreNames given × (¬ AreInRange given)
+Configures given (Err NoMemory) = AreValid given

@@ -1,0 +1,286 @@
+-- The initiator in full feature phase (RFC 7143, sections 4.2 and 11).
+use Rattle.std.specs.Prelude.{ℕ, Bool, true, false, not, ◌+◌, ◌*◌, ◌==◌, ◌&&◌, nat_le, nat_lt, if◌then◌else◌, List, [], ◌∷◌, ◌++◌, length, take, drop, zero, suc, Option, Some, None, unwrap_or}
+use Rattle.std.specs.Bool.{then_some}
+use Rattle.scsi_cdb.specs.declared.residual.Residual.{Residual}
+use Rattle.scsi_cdb.specs.declared.residual.Residual.TheVariants.{Exact, Under, Over}
+use Rattle.iscsi_pdu.specs.declared.head.Head.{Head}
+use Rattle.iscsi_pdu.specs.declared.head.Head.TheVariants as heads
+use Rattle.iscsi_pdu.specs.declared.head.nop_out.NopOut.{NopOut}
+use Rattle.iscsi_pdu.specs.declared.head.nop_in.NopIn.{NopIn}
+use Rattle.iscsi_pdu.specs.declared.head.scsi_response.ScsiResponse.{ScsiResponse}
+use Rattle.iscsi_pdu.specs.declared.head.text_response.TextResponse.{TextResponse}
+use Rattle.iscsi_pdu.specs.declared.head.data_in.DataIn.{DataIn}
+use Rattle.iscsi_pdu.specs.declared.head.data_out.DataOut.{DataOut}
+use Rattle.iscsi_pdu.specs.declared.head.logout_response.LogoutResponse.{LogoutResponse}
+use Rattle.iscsi_pdu.specs.declared.head.ready_to_transfer.ReadyToTransfer.{ReadyToTransfer}
+use Rattle.iscsi_pdu.specs.declared.head.async_message.AsyncMessage.{AsyncMessage}
+use Rattle.iscsi_pdu.specs.declared.head.reject.Reject.{Reject}
+use Rattle.iscsi_pdu.specs.declared.serial.Window.{Window}
+use Rattle.iscsi_pdu.specs.Fields.{is_tag}
+use Rattle.iscsi_pdu.specs.Serial.{moved}
+use Rattle.iscsi_stream.specs.Segment.{Bytes}
+use Rattle.iscsi_stream.specs.Stream.{Message}
+use Rattle.iscsi_login.specs.declared.key.NegKey.TheVariants.{MaxBurstLength}
+use Rattle.iscsi_login.specs.Held.{held_value, number_of}
+use Rattle.iscsi_initiator.specs.declared.request.Done.{Done}
+use Rattle.iscsi_initiator.specs.declared.request.Done.TheVariants as done
+use Rattle.iscsi_initiator.specs.declared.open.Open.{Open}
+use Rattle.iscsi_initiator.specs.declared.open.Open.TheVariants.{In, Out, Ping, Text, Logout}
+use Rattle.iscsi_initiator.specs.State.{Machine, next, serial, reserved_tag, sent_exp_stat_sn}
+use Rattle.iscsi_initiator.specs.Progress.{Reading, Writing}
+use Rattle.iscsi_initiator.specs.Login.{is_expected}
+use Rattle.iscsi_initiator.specs.Steps.{Stepped, closed, breaks, quiet, sends}
+
+-- ---- which messages are due
+
+-- A message that is due, with what it is due to (section 11.2.1.8). Asked is a NOP-In that answers
+-- no ping, Response an answer to a command that has received these bytes.
+pub data Due : Type 0 where
+  Asked : NopIn → Due
+  Pong : NopIn → Due
+  Data : Reading → DataIn → Due
+  Ready : Writing → ReadyToTransfer → Due
+  Response : List ℕ → ScsiResponse → Due
+  TextAnswer : TextResponse → Due
+  LogoutAnswer : LogoutResponse → Due
+  Notice : AsyncMessage → Due
+  Refusal : Reject → Due
+
+-- What a message is due to, by the open request and the message's kind (section 11).
+abbrev pub due_to : Option Open → Head → Option Due
+due_to (Some Ping) (heads.NopIn h) = Some (Pong h)
+due_to (Some (In r)) (heads.DataIn h) = Some (Data r h)
+due_to (Some (In r)) (heads.ScsiResponse h) = Some (Response r.received h)
+due_to (Some (Out w)) (heads.ReadyToTransfer h) = Some (Ready w h)
+due_to (Some (Out w)) (heads.ScsiResponse h) = Some (Response [] h)
+due_to (Some Text) (heads.TextResponse h) = Some (TextAnswer h)
+due_to (Some Logout) (heads.LogoutResponse h) = Some (LogoutAnswer h)
+due_to _ _ = None
+
+-- The task tag of the kinds that answer a request (section 11.2.1.8).
+abbrev pub tag_of : Head → ℕ
+tag_of (heads.NopIn h) = h.initiator_task_tag
+tag_of (heads.DataIn h) = h.initiator_task_tag
+tag_of (heads.ScsiResponse h) = h.initiator_task_tag
+tag_of (heads.ReadyToTransfer h) = h.initiator_task_tag
+tag_of (heads.TextResponse h) = h.initiator_task_tag
+tag_of (heads.LogoutResponse h) = h.initiator_task_tag
+tag_of _ = reserved_tag
+
+-- What answers the open request has its tag (section 11.2.1.8).
+abbrev pub answer_due : Machine → Head → Option Due
+answer_due m head = if tag_of head == m.initiator_task_tag then due_to m.open_request head else None
+
+-- What a message is due to, if it is due (section 11).
+abbrev pub due : Machine → Head → Option Due
+due m (heads.NopIn h) =
+    if h.initiator_task_tag == reserved_tag then Some (Asked h) else answer_due m (heads.NopIn h)
+due m (heads.AsyncMessage h) = Some (Notice h)
+due m (heads.Reject h) = Some (Refusal h)
+due m head = answer_due m head
+
+-- ---- what each of them counts
+
+-- The StatSN that has to be the expected one (section 4.2.2.2).
+abbrev pub checked_stat_sn : Due → Option ℕ
+checked_stat_sn (Asked h) = None
+checked_stat_sn (Pong h) = Some h.stat_sn
+checked_stat_sn (Data r h) = h.stat_sn
+checked_stat_sn (Ready w h) = None
+checked_stat_sn (Response received h) = Some h.stat_sn
+checked_stat_sn (TextAnswer h) = Some h.stat_sn
+checked_stat_sn (LogoutAnswer h) = Some h.stat_sn
+checked_stat_sn (Notice h) = Some h.stat_sn
+checked_stat_sn (Refusal h) = Some h.stat_sn
+
+-- The window after a message that is due (section 4.2.2.1).
+abbrev pub window_after : Window → Due → Window
+window_after w (Asked h) = moved w (serial h.exp_cmd_sn) (serial h.max_cmd_sn)
+window_after w (Pong h) = moved w (serial h.exp_cmd_sn) (serial h.max_cmd_sn)
+window_after w (Data r h) = moved w (serial h.exp_cmd_sn) (serial h.max_cmd_sn)
+window_after w (Ready x h) = moved w (serial h.exp_cmd_sn) (serial h.max_cmd_sn)
+window_after w (Response received h) = moved w (serial h.exp_cmd_sn) (serial h.max_cmd_sn)
+window_after w (TextAnswer h) = moved w (serial h.exp_cmd_sn) (serial h.max_cmd_sn)
+window_after w (LogoutAnswer h) = moved w (serial h.exp_cmd_sn) (serial h.max_cmd_sn)
+window_after w (Notice h) = moved w (serial h.exp_cmd_sn) (serial h.max_cmd_sn)
+window_after w (Refusal h) = moved w (serial h.exp_cmd_sn) (serial h.max_cmd_sn)
+
+-- A StatSN that has to be the expected one is (section 4.2.2.2).
+abbrev pub is_in_turn : Option ℕ → Option ℕ → Bool
+is_in_turn expected None = true
+is_in_turn expected (Some stat_sn) = is_expected expected stat_sn
+
+-- The number expected after it (section 4.2.2.2).
+abbrev pub stat_sn_after : Option ℕ → Option ℕ → Option ℕ
+stat_sn_after expected None = expected
+stat_sn_after expected (Some stat_sn) = Some (next stat_sn)
+
+-- The session once a message has passed (section 4.2.2).
+abbrev pub passed : Machine → Due → Machine
+passed m d = record m {
+  exp_stat_sn = stat_sn_after m.exp_stat_sn (checked_stat_sn d);
+  window = window_after m.window d;
+}
+
+-- ---- what each of them does
+
+-- The open request has this outcome (section 11).
+abbrev pub completes : Machine → Done → Stepped
+completes m outcome = quiet (record m { open_request = None; done = Some outcome })
+
+-- The residual that a response names; overflow is looked at first (sections 11.4.1 and 11.4.5).
+abbrev pub residual : Bool → Bool → ℕ → Residual
+residual true under n = Over n
+residual false true n = Under n
+residual false false n = Exact
+
+-- The head of a NOP-Out that answers and asks for nothing (section 11.18).
+abbrev pub nop_answer : Machine → NopIn → NopOut
+nop_answer m h = record {
+  immediate = true;
+  lun = h.lun;
+  initiator_task_tag = reserved_tag;
+  target_transfer_tag = h.target_transfer_tag;
+  cmd_sn = m.cmd_sn;
+  exp_stat_sn = sent_exp_stat_sn m;
+}
+
+-- A NOP-In of the target's own is answered where it has a transfer tag (section 11.19).
+abbrev pub on_asked : Machine → NopIn → Stepped
+on_asked m h =
+    if is_tag h.target_transfer_tag
+    then sends m (record { head = heads.NopOut (nop_answer m h); segment = Bytes [] } ∷ [])
+    else quiet m
+
+-- The read has received these bytes more (section 11.7).
+abbrev pub has_received : Machine → Reading → List ℕ → Machine
+has_received m r bytes = record m {
+  open_request = Some (In (record r {
+    received = r.received ++ bytes;
+    next_data_sn = next r.next_data_sn;
+  }));
+}
+
+-- The next DataSN, the next offset, and no byte more than expected (sections 11.7.4 and 11.7.5).
+abbrev pub fits_reading : Reading → DataIn → List ℕ → Bool
+fits_reading r h bytes =
+    (h.data_sn == r.next_data_sn) && (h.buffer_offset == length r.received)
+    && nat_le (length r.received + length bytes) r.expected
+
+-- A field without a value counts as 0 (section 11.7.3).
+abbrev pub read_outcome : List ℕ → DataIn → Done
+read_outcome received h = done.Command 0 (unwrap_or h.status 0) [] received
+    (residual (unwrap_or h.overflow false) (unwrap_or h.underflow false) (unwrap_or h.residual 0))
+
+-- Data of a read; with a status they complete it (section 11.7).
+abbrev pub on_data : Machine → Reading → DataIn → List ℕ → Stepped
+on_data m r h bytes =
+    if not (fits_reading r h bytes) then breaks m 3
+    else (if h.has_status then completes m (read_outcome (r.received ++ bytes) h)
+    else quiet (has_received m r bytes))
+
+-- The bytes in pieces of at most n, in at most so many (section 11.7).
+abbrev pub pieces_of : ℕ → ℕ → List ℕ → List (List ℕ)
+pieces_of zero n bytes = []
+pieces_of (suc more) n [] = []
+pieces_of (suc more) n (byte ∷ bytes) =
+    take n (byte ∷ bytes) ∷ pieces_of more n (drop n (byte ∷ bytes))
+
+-- The bytes in pieces of n, the last with the rest (section 11.7).
+abbrev pub pieces : ℕ → List ℕ → List (List ℕ)
+pieces n bytes = pieces_of (length bytes) n bytes
+
+-- No piece follows (section 11.7.1).
+abbrev pub is_last : List (List ℕ) → Bool
+is_last [] = true
+is_last (piece ∷ pieces) = false
+
+-- Data-Out PDUs with these pieces: DataSN and offset go on, and the last alone is final (section
+-- 11.7).
+abbrev pub data_outs : DataOut → List (List ℕ) → List Message
+data_outs h [] = []
+data_outs h (piece ∷ more) =
+    record { head = heads.DataOut (record h { is_final = is_last more }); segment = Bytes piece }
+    ∷ data_outs (record h {
+      data_sn = next h.data_sn;
+      buffer_offset = h.buffer_offset + length piece;
+    }) more
+
+-- One sequence of Data-Out PDUs: these bytes from this offset on (section 11.7).
+abbrev pub sequence : Machine → Option ℕ → ℕ → ℕ → List ℕ → List Message
+sequence m lun target_transfer_tag offset bytes =
+    data_outs (record {
+      is_final = false;
+      lun = lun;
+      initiator_task_tag = m.initiator_task_tag;
+      target_transfer_tag = target_transfer_tag;
+      exp_stat_sn = sent_exp_stat_sn m;
+      data_sn = 0;
+      buffer_offset = offset;
+    }) (pieces m.held.target_max_recv bytes)
+
+-- The next R2TSN, the next offset, 1 to MaxBurstLength bytes, all within the data (section 11.8).
+abbrev pub fits_writing : Machine → Writing → ReadyToTransfer → Bool
+fits_writing m w h =
+    (h.r2t_sn == w.next_r2t_sn) && (h.buffer_offset == w.sent)
+    && nat_le 1 h.desired_data_transfer_length
+    && nat_le h.desired_data_transfer_length (number_of (held_value m.held MaxBurstLength))
+    && nat_le (w.sent + h.desired_data_transfer_length) (length w.bytes)
+
+-- The write has sent so many bytes more, and was asked once more (section 11.8).
+abbrev pub has_sent : Machine → Writing → ℕ → Machine
+has_sent m w n = record m {
+  open_request = Some (Out (record w { sent = w.sent + n; next_r2t_sn = next w.next_r2t_sn }));
+}
+
+-- A request for data is answered with one sequence (section 11.8).
+abbrev pub on_ready : Machine → Writing → ReadyToTransfer → Stepped
+on_ready m w h =
+    if fits_writing m w h
+    then sends (has_sent m w h.desired_data_transfer_length)
+    (sequence m (then_some (is_tag h.target_transfer_tag) h.lun) h.target_transfer_tag w.sent
+    (take h.desired_data_transfer_length (drop w.sent w.bytes)))
+    else breaks m 3
+
+-- The sense bytes behind their length; none where the segment is empty (section 11.4.7).
+abbrev pub sense_of : List ℕ → Option (List ℕ)
+sense_of [] = Some []
+sense_of (high ∷ []) = None
+sense_of (high ∷ low ∷ bytes) =
+    then_some (nat_le (high * 256 + low) (length bytes)) (take (high * 256 + low) bytes)
+
+-- A response completes its command, unless its sense is cut off (section 11.4).
+abbrev pub outcome_with : Option (List ℕ) → Machine → List ℕ → ScsiResponse → Stepped
+outcome_with None m received h = breaks m 3
+outcome_with (Some sense) m received h =
+    completes m (done.Command h.response (unwrap_or h.status 0) sense received
+    (residual h.overflow h.underflow (unwrap_or h.residual 0)))
+
+-- An answer to a text is to be whole (section 11.11.1; own profile).
+abbrev pub on_text : Machine → TextResponse → List ℕ → Stepped
+on_text m h bytes =
+    if h.is_final && not h.continues then completes m (done.Text bytes) else breaks m 4
+
+-- What a message that passed does (section 11).
+abbrev pub on_due : Machine → Due → List ℕ → Stepped
+on_due m (Asked h) bytes = on_asked m h
+on_due m (Pong h) bytes = completes m (done.Ping bytes)
+on_due m (Data r h) bytes = on_data m r h bytes
+on_due m (Ready w h) bytes = on_ready m w h
+on_due m (Response received h) bytes = outcome_with (sense_of bytes) m received h
+on_due m (TextAnswer h) bytes = on_text m h bytes
+on_due m (LogoutAnswer h) bytes = completes (closed m) done.Closed
+on_due m (Notice h) bytes = quiet m
+on_due m (Refusal h) bytes = breaks m 8
+
+-- Kind and tag come first, then the length of the segment, then StatSN (section 7.7; own rule).
+abbrev pub takes : Option Due → Machine → List ℕ → Stepped
+takes None m bytes = breaks m 1
+takes (Some d) m bytes =
+    if nat_lt m.held.initiator_max_recv (length bytes) then breaks m 2
+    else (if not (is_in_turn m.exp_stat_sn (checked_stat_sn d)) then breaks m 6
+    else on_due (passed m d) d bytes)
+
+-- A message in full feature phase (section 4.2).
+abbrev pub full_step : Machine → Head → List ℕ → Stepped
+full_step m head bytes = takes (due m head) m bytes

@@ -1,0 +1,173 @@
+-- What holds of every run of the initiator's machine.
+use Rattle.std.specs.Prelude.{◌⊎◌, ◌≡◌, ◌≤◌, ℕ, ◌+◌, if◌then◌else◌, List, [], ◌∷◌, ◌++◌, length, Option, Some, None}
+use Rattle.std.specs.List.{flat_map}
+use Rattle.scsi_cdb.specs.declared.residual.Residual.{Residual}
+use Rattle.iscsi_pdu.specs.declared.head.Head.{Head}
+use Rattle.iscsi_pdu.specs.declared.head.Head.TheVariants as heads
+use Rattle.iscsi_stream.specs.Segment.{segment_bytes}
+use Rattle.iscsi_stream.specs.Stream.{Message}
+use Rattle.iscsi_login.specs.declared.stage.Stage.TheVariants as stages
+use Rattle.iscsi_login.specs.declared.phase.Phase.TheVariants as phases
+use Rattle.iscsi_initiator.specs.declared.request.Done.{Done}
+use Rattle.iscsi_initiator.specs.declared.request.Done.TheVariants as done
+use Rattle.iscsi_initiator.specs.declared.request.Request.{Request}
+use Rattle.iscsi_initiator.specs.declared.request.Request.TheVariants as requests
+use Rattle.iscsi_initiator.specs.declared.request.SubmitFault.{SubmitFault}
+use Rattle.iscsi_initiator.specs.declared.open.Open.TheVariants as opens
+use Rattle.iscsi_initiator.specs.Progress.{Reading}
+use Rattle.iscsi_initiator.specs.State.{Settings, Machine, opening, is_closed}
+use Rattle.iscsi_initiator.specs.Steps.{closed}
+use Rattle.iscsi_initiator.specs.Login.{start_step}
+use Rattle.iscsi_initiator.specs.Machine.{step, taken}
+use Rattle.iscsi_initiator.specs.Submitted.{submitted, refusal}
+
+-- ---- runs
+
+-- What happens to a session: it is started, a message comes, a request is handed in, the outcome is
+-- taken, or a faulty stream or want of memory ends it.
+pub data Event : Type 0 where
+  Starts : Event
+  Comes : Message → Event
+  Asks : Request → Event
+  Takes : Event
+  Ends : Event
+
+-- The session after an event.
+abbrev pub after : Machine → Event → Machine
+after m Starts = if is_closed m then m else (start_step m).machine
+after m (Comes message) = (step m message).machine
+after m (Asks request) = (submitted m request).machine
+after m Takes = taken m
+after m Ends = closed m
+
+-- The session after events.
+abbrev pub run : Machine → List Event → Machine
+run m [] = m
+run m (event ∷ events) = run (after m event) events
+
+-- The request, unless it is refused.
+abbrev pub accepted_if : Option SubmitFault → Request → List Request
+accepted_if None request = request ∷ []
+accepted_if (Some fault) request = []
+
+-- The request that an event hands in, if it is accepted.
+abbrev pub accepted_in : Machine → Event → List Request
+accepted_in m (Asks request) = accepted_if (refusal m request) request
+accepted_in m _ = []
+
+-- The requests that are accepted.
+abbrev pub accepted : Machine → List Event → List Request
+accepted m [] = []
+accepted m (event ∷ events) = accepted_in m event ++ accepted (after m event) events
+
+-- The outcome, if there is one.
+abbrev pub listed : Option Done → List Done
+listed None = []
+listed (Some outcome) = outcome ∷ []
+
+-- The outcome that an event takes, if there is one.
+abbrev pub given_in : Machine → Event → List Done
+given_in m Takes = listed m.done
+given_in m _ = []
+
+-- The outcomes that are taken.
+abbrev pub given : Machine → List Event → List Done
+given m [] = []
+given m (event ∷ events) = given_in m event ++ given (after m event) events
+
+-- ---- what is agreed stays
+
+-- Once the login is completed, what is held never changes (section 6.3).
+abbrev pub HeldStays : Settings → Type 0
+HeldStays settings = (events more : List Event) →
+    (run (opening settings) events).stage ≡ stages.Full →
+    ((run (run (opening settings) events) more).stage ≡ stages.Full)
+    × ((run (run (opening settings) events) more).held ≡ (run (opening settings) events).held)
+
+-- ---- outcomes
+
+-- An outcome of this kind of request: a read has no more than was expected, a write no data
+-- (section 11.4).
+abbrev pub IsOutcomeOf : Request → Done → Type 0
+IsOutcomeOf (requests.In lun cdb expected) (done.Command response status sense bytes residual) =
+    length bytes ≤ expected
+IsOutcomeOf (requests.Out lun cdb sent) (done.Command response status sense bytes residual) =
+    bytes ≡ []
+IsOutcomeOf (requests.Ping sent) (done.Ping bytes) = Unit {0}
+IsOutcomeOf (requests.Text sent) (done.Text bytes) = Unit {0}
+IsOutcomeOf requests.Logout done.Closed = Unit {0}
+IsOutcomeOf _ _ = ⊥
+
+-- Each request has its outcome, in order; the last one may still wait for it.
+abbrev pub AreOutcomesOf : List Request → List Done → Type 0
+AreOutcomesOf requests [] = length requests ≤ 1
+AreOutcomesOf [] (outcome ∷ outcomes) = ⊥
+AreOutcomesOf (request ∷ requests) (outcome ∷ outcomes) =
+    IsOutcomeOf request outcome × AreOutcomesOf requests outcomes
+
+-- The k-th outcome is that of the k-th accepted request.
+abbrev pub OutcomesInOrder : Settings → Type 0
+OutcomesInOrder settings = (events : List Event) →
+    AreOutcomesOf (accepted (opening settings) events)
+    (given (opening settings) events ++ listed (run (opening settings) events).done)
+
+-- ---- pieces
+
+-- The pieces lie one behind the other from this offset, and end at the other (section 11.7.5).
+abbrev pub TilesFrom : ℕ → List (ℕ × List ℕ) → ℕ → Type 0
+TilesFrom offset [] end = offset ≡ end
+TilesFrom offset (piece ∷ pieces) end =
+    (piece.0 ≡ offset) × TilesFrom (offset + length piece.1) pieces end
+
+-- The offset and bytes of a PDU with data (section 11.7).
+abbrev pub data_piece : Head → List ℕ → List (ℕ × List ℕ)
+data_piece (heads.DataOut h) bytes = (h.buffer_offset, bytes) ∷ []
+data_piece (heads.DataIn h) bytes = (h.buffer_offset, bytes) ∷ []
+data_piece _ bytes = []
+
+-- The offsets and bytes of the PDUs with data (section 11.7).
+abbrev pub data_pieces : List Message → List (ℕ × List ℕ)
+data_pieces messages = flat_map (λ m. data_piece m.head (segment_bytes m.segment)) messages
+
+-- The bytes of pieces, one after the other.
+abbrev pub piece_bytes : List (ℕ × List ℕ) → List ℕ
+piece_bytes pieces = flat_map (λ p. p.1) pieces
+
+-- A sequence of Data-Out PDUs carries these bytes, from this offset on (section 11.7).
+pub record IsSequence (offset : ℕ) (bytes : List ℕ) (messages : List Message) : Type 0 where
+  pub tiles : TilesFrom offset (data_pieces messages) (offset + length bytes)
+  pub carries : piece_bytes (data_pieces messages) ≡ bytes
+
+-- ---- what a read receives
+
+-- The session after these messages.
+abbrev pub hears : Machine → List Message → Machine
+hears m [] = m
+hears m (message ∷ messages) = hears (step m message).machine messages
+
+-- The open read has received these bytes (section 11.7).
+pub record IsReceiving (m : Machine) (bytes : List ℕ) : Type 0 where
+  pub reading : Reading
+  pub is : m.open_request ≡ Some (opens.In reading)
+  pub received : reading.received ≡ bytes
+
+-- The read is completed, and these bytes are its data (sections 11.4 and 11.7).
+pub record HasReceived (m : Machine) (bytes : List ℕ) : Type 0 where
+  pub response : ℕ
+  pub status : ℕ
+  pub sense : List ℕ
+  pub residual : Residual
+  pub none : m.open_request ≡ None
+  pub outcome : m.done ≡ Some (done.Command response status sense bytes residual)
+
+-- The Data-In that came for a read tile its data: each lies where the last one ended, and what is
+-- received, or the outcome has, are their bytes (section 11.7.5).
+pub record TilesRead (m : Machine) (messages : List Message) : Type 0 where
+  pub tiles : TilesFrom 0 (data_pieces messages) (length (piece_bytes (data_pieces messages)))
+  pub carries : IsReceiving (hears m messages) (piece_bytes (data_pieces messages))
+      ⊎ HasReceived (hears m messages) (piece_bytes (data_pieces messages))
+
+-- So it is of every read, as long as no fault closes the session.
+abbrev pub ReadsTile : Type 0
+ReadsTile = (m : Machine) (messages : List Message) → m.phase ≡ phases.Full →
+    IsReceiving m [] → (hears m messages).phase ≡ phases.Full → TilesRead m messages

@@ -1,0 +1,11 @@
+pub mod Progress
+pub mod State
+pub mod Configured
+pub mod Steps
+pub mod Login
+pub mod Full
+pub mod Machine
+pub mod Block
+pub mod Submitted
+pub mod Calls
+pub mod Laws

@@ -1,0 +1,155 @@
+-- The initiator's login (RFC 7143, sections 6.3, 11.12 and 11.13).
+use Rattle.std.specs.Prelude.{ℕ, Bool, true, false, not, ◌==◌, ◌&&◌, ◌||◌, nat_le, if◌then◌else◌, List, [], ◌∷◌, length, take, drop, Option, Some, None, unwrap_or}
+use Rattle.std.specs.Bool.{then_some}
+use Rattle.iscsi_text.specs.Text.{Pairs}
+use Rattle.iscsi_text.specs.Canonical.{canonical_text}
+use Rattle.iscsi_pdu.specs.declared.head.Head.{Head}
+use Rattle.iscsi_pdu.specs.declared.head.Head.TheVariants as heads
+use Rattle.iscsi_pdu.specs.declared.head.login_request.LoginRequest.{LoginRequest}
+use Rattle.iscsi_pdu.specs.declared.head.login_response.LoginResponse.{LoginResponse}
+use Rattle.iscsi_pdu.specs.Serial.{moved}
+use Rattle.iscsi_stream.specs.Segment.{Segment, Text, Bytes}
+use Rattle.iscsi_stream.specs.Stream.{Message}
+use Rattle.iscsi_login.specs.declared.stage.Stage.{Stage}
+use Rattle.iscsi_login.specs.declared.stage.Stage.TheVariants.{Security, Operational, Full}
+use Rattle.iscsi_login.specs.declared.phase.Phase.TheVariants as phases
+use Rattle.iscsi_login.specs.Answer.{initiator_holds, in_order}
+use Rattle.iscsi_login.specs.Check.{bad_key}
+use Rattle.iscsi_login.specs.Stage.{stage_number}
+use Rattle.iscsi_login.specs.Offers.{Proposal, security_offers, operational_offers, single_offers}
+use Rattle.iscsi_initiator.specs.declared.fault.InitiatorFault.TheVariants.{Refused, BadAnswer}
+use Rattle.iscsi_initiator.specs.State.{Machine, next, serial, sent_exp_stat_sn}
+use Rattle.iscsi_initiator.specs.Steps.{Stepped, fails, breaks, quiet, sends}
+
+-- ---- what is sent
+
+-- What is offered at a stage, by the stage where the login started (section 6.3).
+abbrev pub offers_at : Proposal → Stage → Stage → Pairs
+offers_at proposal start Security = security_offers proposal
+offers_at proposal Operational stage = single_offers proposal
+offers_at proposal start stage = operational_offers proposal
+
+-- What the present text offers, in the order of the keys (section 6.3).
+abbrev pub offered : Machine → Pairs
+offered m = in_order (offers_at m.settings.proposal m.settings.start m.stage)
+
+-- The stage that a text of this stage asks for (section 11.12.3; that none is left out is own rule).
+abbrev pub asked_from : Stage → Stage
+asked_from Security = Operational
+asked_from _ = Full
+
+-- The stage that the present text asks for (section 11.12.3).
+abbrev pub asked : Machine → Stage
+asked m = asked_from m.stage
+
+-- The head of a login PDU, which is the last of its text or is not (section 11.12).
+abbrev pub login_request : Machine → Bool → LoginRequest
+login_request m is_last = record {
+  transits = is_last;
+  continues = not is_last;
+  current_stage = stage_number m.stage;
+  next_stage = then_some is_last (stage_number (asked m));
+  version_max = 0;
+  version_min = 0;
+  isid = m.settings.isid;
+  tsih = 0;
+  initiator_task_tag = 0;
+  connection_id = 0;
+  cmd_sn = m.settings.first_cmd_sn;
+  exp_stat_sn = sent_exp_stat_sn m;
+}
+
+-- A login PDU, the last of its text or not (section 11.12).
+abbrev pub login_message : Machine → Bool → Segment → Message
+login_message m is_last segment =
+    record { head = heads.LoginRequest (login_request m is_last); segment = segment }
+
+-- The text fits one segment (own rule).
+abbrev pub fits_segment : Machine → List ℕ → Bool
+fits_segment m text = nat_le (length text) m.settings.login_segment
+
+-- A longer text goes in segments of that length, and the rest waits (sections 6.2 and 11.12.2).
+abbrev pub sends_cut : Machine → List ℕ → Bool → Stepped
+sends_cut m text is_last = sends (record m { left = drop m.settings.login_segment text })
+    (login_message m is_last (Bytes (take m.settings.login_segment text)) ∷ [])
+
+-- The present text goes whole, or its first segment does (sections 6.2 and 11.12.2).
+abbrev pub sends_text : Machine → Stepped
+sends_text m =
+    if fits_segment m (canonical_text (offered m))
+    then sends (record m { left = [] }) (login_message m true (Text (offered m)) ∷ [])
+    else sends_cut m (canonical_text (offered m)) false
+
+-- The next segment of the present text goes (sections 6.2 and 11.12.2).
+abbrev pub sends_more : Machine → Stepped
+sends_more m = sends_cut m m.left (fits_segment m m.left)
+
+-- ---- an answer
+
+-- The number is the expected one; the first sets it (section 4.2.2.2).
+abbrev pub is_expected : Option ℕ → ℕ → Bool
+is_expected None n = true
+is_expected (Some expected) n = n == expected
+
+-- The StatSN and the window of an answer are counted (sections 4.2.2.1 and 4.2.2.2).
+abbrev pub counted : Machine → LoginResponse → Machine
+counted m h = record m {
+  exp_stat_sn = Some (next (unwrap_or h.stat_sn 0));
+  window = moved m.window (serial h.exp_cmd_sn) (serial h.max_cmd_sn);
+}
+
+-- The stage moves, and the next text goes out, if there is one (section 6.3).
+abbrev pub enters : Stage → Machine → Stepped
+enters Full m = quiet (record m { stage = Full; phase = phases.Full })
+enters stage m = sends_text (record m { stage = stage })
+
+-- An answer is judged; a good one settles what is held (section 6.2).
+abbrev pub judged : Option (List ℕ) → Machine → LoginResponse → Pairs → Stepped
+judged (Some key) m h answer = fails m (BadAnswer key)
+judged None m h answer =
+    enters (asked m) (record (counted m h) { held = initiator_holds None answer m.held })
+
+-- The text that answers the present one; bytes that are no text break a rule (section 6.1).
+abbrev pub text_answered : Machine → LoginResponse → Segment → Stepped
+text_answered m h (Bytes bytes) = breaks m 4
+text_answered m h (Text answer) = judged (bad_key (offered m) answer) m h answer
+
+-- There is nothing in the segment (own rule).
+abbrev pub is_empty_segment : Segment → Bool
+is_empty_segment (Text pairs) = length pairs == 0
+is_empty_segment (Bytes bytes) = length bytes == 0
+
+-- The flags and stages of an answer in the midst of a text (sections 6.2 and 11.13).
+abbrev pub goes_on : Machine → LoginResponse → Segment → Bool
+goes_on m h segment =
+    not h.transits && not h.continues && (h.current_stage == stage_number m.stage)
+    && is_empty_segment segment
+
+-- The flags and stages of an answer to the last segment of a text (sections 6.3 and 11.13).
+abbrev pub moves_on : Machine → LoginResponse → Bool
+moves_on m h =
+    h.transits && not h.continues && (h.current_stage == stage_number m.stage)
+    && (unwrap_or h.next_stage 0 == stage_number (asked m))
+
+-- An answer to a segment: with a part of the text left, it was not the last (section 11.13).
+abbrev pub in_turn : List ℕ → Machine → LoginResponse → Segment → Stepped
+in_turn [] m h segment = if moves_on m h then text_answered m h segment else breaks m 7
+in_turn (byte ∷ bytes) m h segment =
+    if goes_on m h segment then sends_more (counted m h) else breaks m 7
+
+-- An answer: a refusal, a wrong StatSN, or one in turn (sections 11.13.5 and 4.2.2.2).
+abbrev pub answered : Machine → LoginResponse → Segment → Stepped
+answered m h segment =
+    if not (h.status_class == 0) then fails m (Refused h.status_class h.status_detail)
+    else (if not (is_expected m.exp_stat_sn (unwrap_or h.stat_sn 0)) then breaks m 6
+    else in_turn m.left m h segment)
+
+-- A message in the login; another kind or tag is not due (section 6.3).
+abbrev pub login_step : Machine → Head → Segment → Stepped
+login_step m (heads.LoginResponse h) segment =
+    if h.initiator_task_tag == 0 then answered m h segment else breaks m 1
+login_step m _ segment = breaks m 1
+
+-- The login is started; a second start breaks a rule (section 6.3; own rule).
+abbrev pub start_step : Machine → Stepped
+start_step m = if m.started then breaks m 1 else sends_text (record m { started = true })

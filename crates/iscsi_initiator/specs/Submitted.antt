@@ -1,0 +1,226 @@
+-- A request is handed in (RFC 7143, sections 4.2 and 11.3).
+use Rattle.std.specs.Prelude.{ℕ, Bool, true, false, not, ◌+◌, ◌^◌, ◌==◌, ◌&&◌, ◌||◌, nat_le, nat_lt, if◌then◌else◌, List, [], ◌∷◌, length, take, drop, min, Option, Some, None, is_some}
+use Rattle.iscsi_pdu.specs.declared.head.Head.TheVariants as heads
+use Rattle.iscsi_pdu.specs.declared.head.scsi_command.ScsiCommand.{ScsiCommand}
+use Rattle.iscsi_pdu.specs.declared.serial.Window.{Window}
+use Rattle.iscsi_pdu.specs.Serial.{distance}
+use Rattle.iscsi_stream.specs.Segment.{Bytes}
+use Rattle.iscsi_stream.specs.Stream.{Message}
+use Rattle.iscsi_login.specs.declared.key.NegKey.TheVariants.{InitialR2T, ImmediateData}
+use Rattle.iscsi_login.specs.declared.preferences.Answered.{Answered}
+use Rattle.iscsi_login.specs.declared.preferences.Answered.TheVariants.{Flag}
+use Rattle.iscsi_login.specs.declared.phase.Phase.{Phase}
+use Rattle.iscsi_login.specs.declared.phase.Phase.TheVariants as phases
+use Rattle.iscsi_login.specs.Held.{held_value, first_burst}
+use Rattle.iscsi_initiator.specs.declared.request.Request.{Request}
+use Rattle.iscsi_initiator.specs.declared.request.Request.TheVariants.{In, Out, Ping, Text, Logout}
+use Rattle.iscsi_initiator.specs.declared.request.SubmitFault.{SubmitFault}
+use Rattle.iscsi_initiator.specs.declared.request.SubmitFault.TheVariants as refusals
+use Rattle.iscsi_initiator.specs.declared.open.Open.{Open}
+use Rattle.iscsi_initiator.specs.declared.open.Open.TheVariants as opens
+use Rattle.iscsi_initiator.specs.State.{Machine, next, next_tag, reserved_tag, sent_exp_stat_sn}
+use Rattle.iscsi_initiator.specs.Block.{record_of}
+use Rattle.iscsi_initiator.specs.Full.{sequence}
+
+-- The session after a request, what is sent, and why it is refused, if it is (own rule).
+pub record Submitted : Type 0 where
+  pub machine : Machine
+  pub output : List Message
+  pub refusal : Option SubmitFault
+
+-- ---- refusals, in their order
+
+-- The number is one of those that the target takes (section 4.2.2.1).
+abbrev pub is_within : ℕ → Window → Bool
+is_within n w =
+    nat_lt (distance w.exp.0 w.max.0) (2 ^ 31)
+    && nat_le (distance w.exp.0 n) (distance w.exp.0 w.max.0)
+
+-- The most bytes that one command moves (own profile).
+abbrev pub most_bytes : ℕ
+most_bytes = 4194304
+
+-- The request has or asks for more bytes than may go (section 13.12; that of commands is own
+-- profile).
+abbrev pub is_too_long : Machine → Request → Bool
+is_too_long m (In lun cdb expected) = nat_lt most_bytes expected
+is_too_long m (Out lun cdb bytes) = nat_lt most_bytes (length bytes)
+is_too_long m (Ping bytes) = nat_lt m.held.target_max_recv (length bytes)
+is_too_long m (Text bytes) = nat_lt m.held.target_max_recv (length bytes)
+is_too_long m Logout = false
+
+-- Why a request is refused in full feature phase (own rule).
+abbrev pub refusal_when_full : Machine → Request → Option SubmitFault
+refusal_when_full m request =
+    if is_some m.open_request || is_some m.done then Some refusals.Busy
+    else (if not (is_within m.cmd_sn m.window) then Some refusals.Shut
+    else (if is_too_long m request then Some refusals.TooLong else None))
+
+-- Why a request is refused, by the phase (own rule).
+abbrev pub refusal_in : Phase → Machine → Request → Option SubmitFault
+refusal_in phases.Closed m request = Some refusals.Closed
+refusal_in phases.Login m request = Some refusals.NotReady
+refusal_in phases.Full m request = refusal_when_full m request
+
+-- Why a request is refused, if it is (own rule).
+abbrev pub refusal : Machine → Request → Option SubmitFault
+refusal m request = refusal_in m.phase m request
+
+-- ---- requests that are accepted
+
+-- The session with a new request, whose tag and CmdSN are the next (section 4.2.2.1).
+abbrev pub begun : Machine → Open → Machine
+begun m request = record m {
+  initiator_task_tag = next_tag m.initiator_task_tag;
+  cmd_sn = next m.cmd_sn;
+  open_request = Some request;
+}
+
+-- A request is accepted, and these go out (own rule).
+abbrev pub accepts : Machine → List Message → Submitted
+accepts m messages = record { machine = m; output = messages; refusal = None }
+
+-- The held value is `Yes` (section 6.1).
+abbrev pub is_yes : Answered → Bool
+is_yes (Flag b) = b
+is_yes _ = false
+
+-- How many bytes may go out before the target asks for them (section 13.14).
+abbrev pub burst : Machine → List ℕ → ℕ
+burst m bytes = min (first_burst m.held) (length bytes)
+
+-- The bytes that the command itself carries (section 13.11).
+abbrev pub immediate : Machine → List ℕ → List ℕ
+immediate m bytes =
+    if is_yes (held_value m.held ImmediateData)
+    then take (min (burst m bytes) m.held.target_max_recv) bytes else []
+
+-- Bytes of the first burst are left, and follow without being asked for (section 13.10).
+abbrev pub has_more : Machine → List ℕ → Bool
+has_more m bytes =
+    not (is_yes (held_value m.held InitialR2T))
+    && nat_lt (length (immediate m bytes)) (burst m bytes)
+
+-- The bytes that follow the command without being asked for (section 13.10).
+abbrev pub unsolicited : Machine → List ℕ → List ℕ
+unsolicited m bytes =
+    if has_more m bytes then drop (length (immediate m bytes)) (take (burst m bytes) bytes) else []
+
+-- What a command moves: R, W and the expected length (section 11.3).
+pub record Moves : Type 0 where
+  pub read : Bool
+  pub write : Bool
+  pub expected : ℕ
+
+-- The head of a command of simple order (sections 11.3 and 11.3.1).
+abbrev pub command : Machine → Bool → ℕ → List ℕ → Moves → ScsiCommand
+command m is_final lun cdb moves = record {
+  immediate = false;
+  is_final = is_final;
+  read = moves.read;
+  write = moves.write;
+  attribute = 1;
+  lun = lun;
+  initiator_task_tag = next_tag m.initiator_task_tag;
+  expected_data_transfer_length = moves.expected;
+  cmd_sn = m.cmd_sn;
+  exp_stat_sn = sent_exp_stat_sn m;
+  cdb = record_of cdb;
+}
+
+-- A command that may read begins (section 11.3).
+abbrev pub reads : Machine → ℕ → List ℕ → ℕ → Submitted
+reads m lun cdb expected =
+    accepts (begun m (opens.In (record { expected = expected; received = []; next_data_sn = 0 })))
+    (record {
+      head = heads.ScsiCommand (command m true lun cdb
+          (record { read = not (expected == 0); write = false; expected = expected }));
+      segment = Bytes [];
+    } ∷ [])
+
+-- The session with a new command that may write (section 11.3).
+abbrev pub write_begun : Machine → List ℕ → Machine
+write_begun m bytes = begun m (opens.Out (record {
+  bytes = bytes;
+  sent = length (immediate m bytes) + length (unsolicited m bytes);
+  next_r2t_sn = 0;
+}))
+
+-- A command that may write begins: it, with its immediate data, and the unsolicited data (sections
+-- 11.3 and 11.7).
+abbrev pub writes : Machine → ℕ → List ℕ → List ℕ → Submitted
+writes m lun cdb bytes =
+    accepts (write_begun m bytes)
+    (record {
+      head = heads.ScsiCommand (command m (not (has_more m bytes)) lun cdb
+          (record { read = false; write = not (length bytes == 0); expected = length bytes }));
+      segment = Bytes (immediate m bytes);
+    } ∷ sequence (write_begun m bytes) None reserved_tag (length (immediate m bytes))
+    (unsolicited m bytes))
+
+-- A ping begins (section 11.18).
+abbrev pub pings : Machine → List ℕ → Submitted
+pings m bytes =
+    accepts (begun m opens.Ping)
+    (record {
+      head = heads.NopOut (record {
+        immediate = false;
+        lun = None;
+        initiator_task_tag = next_tag m.initiator_task_tag;
+        target_transfer_tag = reserved_tag;
+        cmd_sn = m.cmd_sn;
+        exp_stat_sn = sent_exp_stat_sn m;
+      });
+      segment = Bytes bytes;
+    } ∷ [])
+
+-- A text request begins (section 11.10).
+abbrev pub asks : Machine → List ℕ → Submitted
+asks m bytes =
+    accepts (begun m opens.Text)
+    (record {
+      head = heads.TextRequest (record {
+        immediate = false;
+        is_final = true;
+        continues = false;
+        lun = None;
+        initiator_task_tag = next_tag m.initiator_task_tag;
+        target_transfer_tag = reserved_tag;
+        cmd_sn = m.cmd_sn;
+        exp_stat_sn = sent_exp_stat_sn m;
+      });
+      segment = Bytes bytes;
+    } ∷ [])
+
+-- A logout begins, of the whole session (section 11.14).
+abbrev pub leaves : Machine → Submitted
+leaves m =
+    accepts (begun m opens.Logout)
+    (record {
+      head = heads.LogoutRequest (record {
+        immediate = false;
+        reason = 0;
+        initiator_task_tag = next_tag m.initiator_task_tag;
+        connection_id = None;
+        cmd_sn = m.cmd_sn;
+        exp_stat_sn = sent_exp_stat_sn m;
+      });
+      segment = Bytes [];
+    } ∷ [])
+
+-- A request that is accepted begins (section 11).
+abbrev pub accepted : Machine → Request → Submitted
+accepted m (In lun cdb expected) = reads m lun cdb expected
+accepted m (Out lun cdb bytes) = writes m lun cdb bytes
+accepted m (Ping bytes) = pings m bytes
+accepted m (Text bytes) = asks m bytes
+accepted m Logout = leaves m
+
+-- A refused request changes and sends nothing (own rule).
+abbrev pub or_accepted : Option SubmitFault → Machine → Request → Submitted
+or_accepted None m request = accepted m request
+or_accepted (Some fault) m request = record { machine = m; output = []; refusal = Some fault }
+
+-- A request is handed in (section 4.2).
+unfoldable pub submitted : Machine → Request → Submitted
+submitted m request = or_accepted (refusal m request) m request

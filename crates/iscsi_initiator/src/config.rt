@@ -1,0 +1,111 @@
+//! Configurations of an initiator.
+
+ghost use Rattle.std.specs.Prelude.{◌≡◌};
+ghost use Rattle.iscsi_login.specs.Offers.{proposed};
+ghost use Rattle.iscsi_initiator.specs.Configured.{Configures};
+
+use iscsi_login::{Auth, ConfigFault, Offers, Preferences, Session, Stage, is_name};
+use std::alloc::Global;
+use std::marker::Model;
+
+/// What an initiator offers, and how it logs in. Names, numbers and stage are valid.
+#[derive(Drop)]
+pub struct Config {
+    initiator: Vec<u8>,
+    target: Vec<u8>,
+    session: Session,
+    auth: Auth,
+    prefs: Preferences,
+    start: Stage,
+    isid: [u8; 6],
+    first_cmd_sn: u32,
+    login_segment: u32,
+}
+
+impl Model for Config {
+    ghost use Rattle.iscsi_initiator.specs.State.{Settings};
+    ghost use Rattle.iscsi_initiator.specs.Configured.{AreValid};
+
+    ghost Value = { Settings };
+
+    ghost view = { λ c. record {
+      proposal = record {
+        initiator = c.initiator.items;
+        target = c.target.items;
+        session = c.session;
+        auth = c.auth;
+        prefs = c.prefs;
+      };
+      start = c.start;
+      isid = c.isid;
+      first_cmd_sn = c.first_cmd_sn;
+      login_segment = c.login_segment;
+    } };
+
+    ghost invariant = { λ c. AreValid (record {
+      proposal = record {
+        initiator = c.initiator.items;
+        target = c.target.items;
+        session = c.session;
+        auth = c.auth;
+        prefs = c.prefs;
+      };
+      start = c.start;
+      isid = c.isid;
+      first_cmd_sn = c.first_cmd_sn;
+      login_segment = c.login_segment;
+    }) };
+}
+
+impl Config {
+    /// A configuration: what is offered, the stage where the login starts (`Security` or
+    /// `Operational`), the ISID, the first CmdSN, and the most bytes of one segment of a login text,
+    /// 64 to 8192 (RFC 7143, sections 6.3 and 11.12; the segment is own rule).
+    ///
+    /// A bad name is refused first, then a number or stage out of its range; want of memory comes
+    /// last.
+    pub fn new(
+        alloc: Global,
+        offers: Offers<'_>,
+        start: Stage,
+        isid: [u8; 6],
+        first_cmd_sn: u32,
+        login_segment: u32,
+    ) -> Result<Config, ConfigFault>
+        ensures configures { Configures (record {
+          proposal = proposed offers.entry;
+          start = start;
+          isid = isid;
+          first_cmd_sn = first_cmd_sn;
+          login_segment = login_segment;
+        }) result }
+    {
+        if !is_name(offers.initiator) || !is_name(offers.target) {
+            return Err(ConfigFault::BadName);
+        }
+        if !offers.prefs.in_range()
+            || start == Stage::Full
+            || login_segment < 64
+            || login_segment > 8192
+        {
+            return Err(ConfigFault::OutOfRange);
+        }
+        let Ok(initiator) = offers.initiator.to_vec(alloc) else {
+            return Err(ConfigFault::NoMemory);
+        };
+        let Ok(target) = offers.target.to_vec(alloc) else {
+            return Err(ConfigFault::NoMemory);
+        };
+        Ok(Config {
+            initiator,
+            target,
+            session: offers.session,
+            auth: offers.auth,
+            prefs: offers.prefs,
+            start,
+            isid,
+            first_cmd_sn,
+            login_segment,
+        })
+    }
+}

@@ -1,0 +1,40 @@
+//! Laws of the initiator's machine: functions with no work, whose contracts are of the definitions
+//! alone.
+
+ghost use Rattle.std.specs.Prelude.{◌≡◌, ◌<◌, ℕ, List, Option, length};
+ghost use Rattle.scsi_cdb.specs.Blocks.{IsRecord};
+ghost use Rattle.iscsi_initiator.specs.Block.{record_of};
+ghost use Rattle.iscsi_initiator.specs.State.{Settings, Machine};
+ghost use Rattle.iscsi_initiator.specs.Full.{sequence};
+ghost use Rattle.iscsi_initiator.specs.Configured.{IsStart};
+ghost use Rattle.iscsi_initiator.specs.Laws.{HeldStays, IsSequence, OutcomesInOrder, ReadsTile};
+
+/// Once the login is completed, what is agreed never changes, whatever comes, is handed in or fails
+/// later (RFC 7143, section 6.3).
+pub fn held_stays()
+    ensures stays { (settings : Settings) → IsStart settings.start → HeldStays settings }
+{}
+
+/// What a write sends in one sequence are its bytes, one piece behind the other from the sequence's
+/// offset on (RFC 7143, section 11.7).
+pub fn sequences()
+    ensures tiles { (m : Machine) (lun : Option ℕ) (target_transfer_tag offset : ℕ)
+        (bytes : List ℕ) → 0 < m.held.target_max_recv →
+        IsSequence offset bytes (sequence m lun target_transfer_tag offset bytes) }
+{}
+
+/// The k-th outcome is that of the k-th accepted request, over every list of events.
+pub fn outcomes_in_order()
+    ensures order { (settings : Settings) → OutcomesInOrder settings }
+{}
+
+/// The Data-In of a read tile its data, and are the data of its outcome (RFC 7143, section 11.7).
+pub fn reads_tile()
+    ensures tiles { ReadsTile }
+{}
+
+/// The record that is sent for a descriptor block is the one that the block means (SPC-4 and
+/// SBC-3).
+pub fn record_of_a_block()
+    ensures record_is { (block : List ℕ) → length block ≡ 16 → IsRecord block (record_of block) }
+{}

@@ -1,0 +1,14 @@
+//! The initiator's end of an iSCSI session: its login, its requests and their outcomes (RFC 7143).
+#![tactic(auto)]
+
+mod config;
+mod fault;
+pub mod laws;
+mod open;
+mod request;
+#[cfg(test)]
+mod tests;
+
+pub use config::Config;
+pub use fault::{InitiatorFault, Key};
+pub use request::{Done, Refused, Request, SubmitFault};
