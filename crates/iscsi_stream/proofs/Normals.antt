@@ -137,6 +137,7 @@ not_truncated tool.Write v piece before after Ended fails = tt
 not_truncated (tool.Text f) v piece before after Ended fails = tt
 not_truncated tool.TextTooLong v piece before after Ended fails = tt
 not_truncated tool.NotHex v piece before after Ended fails = tt
+not_truncated (tool.Protocol rule) v piece before after Ended fails = tt
 
 pub pass_stops : (e : ToolFault) (v : Framing) (k : Counts) (i : ℕ) (r0 r1 r2 w0 w1 w2 : Option (List ℕ)) (piece out : List ℕ) → i < 16777216 → length piece ≤ 4096 → AreBytes piece → NormalisedUpTo v k i r0 r1 w0 w1 → Consumes r1 r2 piece
     → Appended v piece [] out → PassFails v piece [] out e → Appends w1 w2 out → Answered r0 r2 w0 w2 (NormaliseFails e)
@@ -165,6 +166,7 @@ pass_stops tool.Write v k i r0 r1 r2 w0 w1 w2 piece out lt le bytes up read part
 pass_stops (tool.Text f) v k i r0 r1 r2 w0 w1 w2 piece out lt le bytes up read part fails wrote = absurd fails
 pass_stops tool.TextTooLong v k i r0 r1 r2 w0 w1 w2 piece out lt le bytes up read part fails wrote = absurd fails
 pass_stops tool.NotHex v k i r0 r1 r2 w0 w1 w2 piece out lt le bytes up read part fails wrote = absurd fails
+pass_stops (tool.Protocol rule) v k i r0 r1 r2 w0 w1 w2 piece out lt le bytes up read part fails wrote = absurd fails
 
 pub write_stops : (e : ToolFault) (v : Framing) (k : Counts) (i : ℕ) (r0 r1 r2 w0 w1 w2 : Option (List ℕ)) (piece out : List ℕ) → AreBytes piece → NormalisedUpTo v k i r0 r1 w0 w1 → Consumes r1 r2 piece
     → Appended v piece [] out → e ≡ tool.Write → WroteFront w1 w2 out → Answered r0 r2 w0 w2 (NormaliseFails e)

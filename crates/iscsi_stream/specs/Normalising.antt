@@ -54,6 +54,7 @@ NormaliseFails tool.Write read written = Parts (λ ms given rest. WrotePart read
 NormaliseFails (tool.Text fault) read written = ⊥
 NormaliseFails tool.TextTooLong read written = ⊥
 NormaliseFails tool.NotHex read written = ⊥
+NormaliseFails (tool.Protocol rule) read written = ⊥
 
 -- What normalise has read and written where it answers.
 abbrev pub Normalises : Result Counts ToolFault → List ℕ → List ℕ → Type 0

@@ -46,3 +46,4 @@ PassFails old piece before after tool.Write = ⊥
 PassFails old piece before after (tool.Text fault) = ⊥
 PassFails old piece before after tool.TextTooLong = ⊥
 PassFails old piece before after tool.NotHex = ⊥
+PassFails old piece before after (tool.Protocol rule) = ⊥

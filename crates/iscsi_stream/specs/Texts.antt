@@ -33,6 +33,7 @@ TextRefused bytes tool.TextTooLong = ⊥
 TextRefused bytes tool.Read = ⊥
 TextRefused bytes tool.Write = ⊥
 TextRefused bytes tool.NotHex = ⊥
+TextRefused bytes (tool.Protocol rule) = ⊥
 
 -- what normalise_text has read and written where it answers a fault
 abbrev pub TextFails : ToolFault → List ℕ → List ℕ → Type 0
@@ -43,6 +44,7 @@ TextFails tool.TextTooLong read written = (longest_text < length read) × (writt
 TextFails tool.Read read written = written ≡ []
 TextFails tool.Write read written = (canonical : List ℕ) × (n : ℕ) × CanonicalOf read canonical × (written ≡ take n canonical)
 TextFails tool.NotHex read written = ⊥
+TextFails (tool.Protocol rule) read written = ⊥
 
 -- What normalise_text has read and written where it answers.
 abbrev pub NormalisesText : Result (Unit {0}) ToolFault → List ℕ → List ℕ → Type 0

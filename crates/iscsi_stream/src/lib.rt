@@ -21,7 +21,7 @@ pub use framer::Framer;
 pub use input::read_within;
 pub use lines::{show, show_line};
 pub use logins::Logins;
-pub use normal::{normalise, write_fully};
+pub use normal::{PIECE, READS, normalise, write_fully};
 pub use texts::normalise_text;
 
 pub mod laws;

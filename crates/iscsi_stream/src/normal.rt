@@ -15,9 +15,9 @@ use std::alloc::{AllocError, Global};
 use std::io::{Read, Write};
 
 /// How many reads a reader is asked for; after these it counts as failed.
-pub(crate) const READS: u32 = 16_777_216;
+pub const READS: u32 = 16_777_216;
 /// How many bytes a read takes at most.
-pub(crate) const PIECE: usize = 4096;
+pub const PIECE: usize = 4096;
 /// The longest segment that a header can say.
 pub(crate) const LONGEST_SEGMENT: u32 = 16_777_215;
 
