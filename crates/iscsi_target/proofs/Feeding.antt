@@ -1,0 +1,529 @@
+-- A stream that is fed in pieces.
+use Rattle.std.proofs.Common.{◌≡◌, ◌<◌, ◌≤◌, ◌⊎◌, inl, inr, ℕ, Bool, true, false, List, [], ◌∷◌, ◌++◌, length, take, drop, Option, Some, None, Result, Ok, Err, refl, sym, ap, subst, ◌∙◌, arith, append_assoc}
+use Rattle.std.specs.Prelude.{nat_lt}
+use Rattle.std.specs.List.{flat_map}
+use Rattle.std.proofs.lemmas.Bool.{lt-ltb}
+use Rattle.std.proofs.lemmas.List.{append-nil, take-append-drop, take_all}
+use Rattle.std.proofs.lemmas.Grind.{flat_map-append}
+use Rattle.scsi_disk.specs.Disk.{Disk}
+use Rattle.scsi_disk.specs.Effect.{effect}
+use Rattle.iscsi_pdu.specs.Meaning.{IsHeader, fault_of}
+use Rattle.iscsi_pdu.proofs.Headers.{IsHeader-unique}
+use Rattle.iscsi_stream.specs.declared.fault.StreamFault.{StreamFault}
+use Rattle.iscsi_stream.specs.declared.fault.StreamFault.TheVariants as stream
+use Rattle.iscsi_stream.specs.Segment.{Segment, Bytes, no_login, continues, segment_bytes}
+use Rattle.iscsi_stream.specs.Stream.{Message, ReadsAs, StreamMeans, after_all, longest_segment, Splits}
+use Rattle.iscsi_stream.specs.Canonical.{canonical_bytes, canon}
+use Rattle.iscsi_stream.specs.Framing.{Framing, HasTaken, FeedFails, is_ready, is_whole}
+use Rattle.iscsi_stream.proofs.Settled.{settled-short, length-settled, is_whole-settled}
+use Rattle.iscsi_stream.proofs.Ready.{unready_of, not_whole-nil}
+use Rattle.iscsi_stream.proofs.Taking.{taken_at, at_opening}
+use Rattle.iscsi_stream.proofs.Heads.{bad_header}
+use Rattle.iscsi_login.specs.declared.phase.Phase.{Phase}
+use Rattle.iscsi_target.specs.declared.fault.TargetFault.{TargetFault}
+use Rattle.iscsi_target.specs.declared.fault.TargetFault.TheVariants as faults
+use Rattle.iscsi_target.specs.Configured.{Settings}
+use Rattle.iscsi_target.specs.State.{Machine, Write, Stepped, Reply, closed, limit, opening, on, nothing, shut}
+use Rattle.iscsi_target.specs.Transfer.{joined, is_whole as write_is_whole, is_idle}
+use Rattle.iscsi_target.specs.Login.{login_step}
+use Rattle.iscsi_target.specs.Execution.{Device}
+use Rattle.iscsi_target.specs.Command.{proceed, opened}
+use Rattle.iscsi_target.specs.Machine.{is_closed, is_over_limit, step, answers, then_stepped, first_rule}
+use Rattle.iscsi_target.specs.Laws.{joined_stepped}
+use Rattle.iscsi_target.specs.Feed.{Connection, Store, Answers, Ends, Feeds, Fed, HasAnswered, GoesWell, FedAll, FedIf, Stays, Meets, opening_connection, Writes}
+use Rattle.iscsi_target.proofs.StepParts.{by_cases, Parts, step_parts}
+use Rattle.iscsi_target.proofs.Replies.{IsReply, login_logs, nothing_reply, shut_reply, reject_reply, breach_reply, nop_reply, task_reply, text_reply_is, logout_reply}
+use Rattle.iscsi_target.proofs.Numbers.{closed_answers, answers_settings}
+use Rattle.iscsi_target.proofs.Appending.{answers_append}
+use Rattle.iscsi_target.proofs.Joining.{answers_joined}
+use Rattle.iscsi_target.proofs.Accepted.{apart}
+use Rattle.iscsi_target.proofs.Prefixes.{Rests, Heads, prefix_of, begins_with, no_bad_header, none_whole, long_bytes, Leaves, prefix_split, header_or_none, none_begun}
+
+-- ---- a broken rule closes the session
+
+record Closes (r : Stepped) : Type 0 where
+  is : (k : ℕ) → r.rule ≡ Some k → is_closed r.machine ≡ true
+
+reply_closes : (s : Machine) (disk : Disk) (r : Reply) → IsReply s r → Closes (on disk r)
+reply_closes s disk r c = record { is = c.rule }
+
+proceed_closes : (device : Device) (s : Machine) (disk : Disk) (w : Write) → Closes (proceed device s disk w)
+proceed_closes device s disk w =
+    by_cases (write_is_whole w) (λ h. rw h (record { is = λ k e. absurd cc }))
+    (λ h. by_cases (is_idle w.due) (λ g. rw (h, g) (record { is = λ k e. absurd cc })) (λ g. rw (h, g) (record { is = λ k e. absurd cc })))
+
+parts_close : (device : Device) (disk : Disk) → Parts device disk (λ s m r. Closes r) (λ s m r. Closes r)
+parts_close device disk = record {
+  nothing_ = λ s m c. reply_closes s disk _ (nothing_reply s);
+  shut_ = λ s m rule. reply_closes s disk _ (shut_reply s rule);
+  reject_ = λ s reason m a. reply_closes s disk _ (reject_reply s reason m);
+  breach_ = λ s rule m. reply_closes s disk _ (breach_reply s rule m);
+  login_ = λ s m k. reply_closes (login_logs s m).from disk (login_step s m) (login_logs s m).is;
+  taken_ = λ s m h w more k e g f. proceed_closes device s disk more;
+  immediate_ = λ s m r a w c h. record { is = h.is };
+  in_turn_ = λ s m n r a c w h. record { is = h.is };
+  refused_ = λ s m rule. reply_closes s disk _ (breach_reply s rule m);
+  nop_ = λ s m h k. reply_closes s disk _ (nop_reply s h (segment_bytes m.segment));
+  task_ = λ s m h k. reply_closes s disk _ (task_reply s h);
+  text_ = λ s m h k. reply_closes s disk _ (text_reply_is s m h (segment_bytes m.segment));
+  logout_ = λ s m h k. reply_closes s disk _ (logout_reply s m h);
+  execute_ = λ s m h k none. record { is = λ n e. absurd cc };
+  opened_ = λ s m h total k e f. proceed_closes device s disk (opened h total (segment_bytes m.segment));
+}
+
+step_closes : (s : Machine) (disk : Disk) (m : Message) → Closes (step s disk m)
+step_closes s disk m = step_parts effect disk (λ s m r. Closes r) (λ s m r. Closes r) (parts_close effect disk) s m
+
+rule_case : (first later : Option ℕ) (k : ℕ) → first_rule first later ≡ Some k → (first ≡ Some k) ⊎ (later ≡ Some k)
+rule_case None later k e = inr e
+rule_case (Some rule) later k e = inl e
+
+pub answers_close : (s : Machine) (disk : Disk) (ms : List Message) (k : ℕ) → (answers s disk ms).rule ≡ Some k → is_closed (answers s disk ms).machine ≡ true
+unfolding answers
+answers_close s disk [] k e = absurd cc
+answers_close s disk (m ∷ ms) k e =
+    let first : Stepped = step s disk m in
+    let later : Stepped = answers first.machine first.disk ms in
+    elim (rule_case first.rule later.rule k e) [
+      | inl a ↦ let c = (step_closes s disk m).is k a in ap (λ (r : Stepped). is_closed r.machine) (closed_answers first.machine first.disk ms c) ∙ c
+      | inr b ↦ answers_close first.machine first.disk ms k b
+    ]
+
+-- ---- what was taken so far
+
+-- the session is open, and has answered what it took
+record Live (settings : Settings) (n : ℕ) (disk : Disk) (taken : List ℕ) (now : Connection) (disk_now : Disk) (written : List ℕ) : Type 0 where
+  has : HasAnswered settings n disk taken now disk_now written
+  ready : is_ready now.framing ≡ false
+  bound : now.framing.limit ≡ limit settings
+
+-- it is closed, whatever follows in the stream
+record Over (settings : Settings) (n : ℕ) (disk : Disk) (taken : List ℕ) (now : Connection) (disk_now : Disk) (written : List ℕ) : Type 0 where
+  over : (more : List ℕ) (ms : List Message) → StreamMeans (taken ++ more) ms → Meets settings n disk ms now disk_now written
+
+canon_append : (a b : List Message) → canon (a ++ b) ≡ canon a ++ canon b
+canon_append a b = flat_map-append canonical_bytes a b
+
+-- what a call answered, told from the opening state
+pub record Told (settings : Settings) (n : ℕ) (disk : Disk) (ms : List Message) (r : Stepped) (disk_now : Disk) (written : List ℕ) : Type 0 where
+  pub machine : joined r.machine ≡ joined (answers (opening settings n) disk ms).machine
+  pub disk_is : disk_now ≡ (answers (opening settings n) disk ms).disk
+  pub output_is : written ≡ canon (answers (opening settings n) disk ms).answers
+
+pub told : (settings : Settings) (n : ℕ) (disk : Disk) (taken : List ℕ) (old : Connection) (before : Store) (out : List ℕ) (bytes : List ℕ) (framing : Framing) (more : List Message) (r : Stepped) (after : Store) (written : List ℕ)
+    → (h : HasAnswered settings n disk taken old before.disk out) → Answers old before out bytes framing more r after written → after.failures ≡ before.failures
+    → Told settings n disk (h.messages ++ more) r after.disk written
+told settings n disk taken old before out bytes framing more r after written h a works =
+    let first : Stepped = answers (opening settings n) disk h.messages in
+    let later : Stepped = answers first.machine first.disk more in
+    let e : joined_stepped r ≡ joined_stepped later =
+    ap joined_stepped (a.works works)
+    ∙ ap (λ (s : Machine). joined_stepped (answers s before.disk more)) h.machine
+    ∙ ap (λ (d : Disk). joined_stepped (answers (joined first.machine) d more)) h.disk_is
+    ∙ answers_joined first.machine first.disk more in
+    let both : answers (opening settings n) disk (h.messages ++ more) ≡ then_stepped first later = answers_append (opening settings n) disk h.messages more in
+    record {
+      machine = ap (λ (x : Stepped). x.machine) e ∙ ap (λ (x : Stepped). joined x.machine) (sym both);
+      disk_is = a.disk ∙ ap (λ (x : Stepped). x.disk) e ∙ ap (λ (x : Stepped). x.disk) (sym both);
+      output_is = a.output_is ∙ ap (λ (x : List ℕ). x ++ canon r.answers) h.output_is
+          ∙ ap (λ (x : Stepped). canon first.answers ++ canon x.answers) e
+          ∙ sym (canon_append first.answers later.answers) ∙ ap (λ (x : Stepped). canon x.answers) (sym both);
+    }
+
+-- a closed session, whatever comes behind these messages
+pub closed_meets : (settings : Settings) (n : ℕ) (disk : Disk) (first more : List Message) (now : Connection) (disk_now : Disk) (written : List ℕ)
+    → is_closed (answers (opening settings n) disk first).machine ≡ true → Meets settings n disk first now disk_now written → Meets settings n disk (first ++ more) now disk_now written
+closed_meets settings n disk first more now disk_now written c m =
+    let a : Stepped = answers (opening settings n) disk first in
+    let e : answers (opening settings n) disk (first ++ more) ≡ then_stepped a (on a.disk (nothing a.machine)) =
+    answers_append (opening settings n) disk first more ∙ ap (λ (r : Stepped). then_stepped a r) (closed_answers a.machine a.disk more c) in
+    record {
+      machine = m.machine ∙ ap (λ (r : Stepped). joined r.machine) (sym e);
+      disk_is = m.disk_is ∙ ap (λ (r : Stepped). r.disk) (sym e);
+      output_is = m.output_is ∙ ap (λ (ms : List Message). canon ms) (sym (append-nil a.answers)) ∙ ap (λ (r : Stepped). canon r.answers) (sym e);
+    }
+
+-- a session in which a segment longer than the limit comes
+over_meets : (settings : Settings) (n : ℕ) (disk : Disk) (first : List Message) (m : Message) (more : List Message) (now : Connection) (disk_now : Disk) (written : List ℕ)
+    → is_closed (answers (opening settings n) disk first).machine ≡ false → is_over_limit (answers (opening settings n) disk first).machine m.segment ≡ true
+    → now.machine ≡ closed (answers (opening settings n) disk first).machine → disk_now ≡ (answers (opening settings n) disk first).disk
+    → written ≡ canon (answers (opening settings n) disk first).answers → Meets settings n disk (first ++ m ∷ more) now disk_now written
+unfolding answers
+over_meets settings n disk first m more now disk_now written live long is_now is_disk is_written =
+    let a : Stepped = answers (opening settings n) disk first in
+    let one : step a.machine a.disk m ≡ on a.disk (shut a.machine None) = rw (live, long) refl in
+    let e : answers (opening settings n) disk (first ++ m ∷ more) ≡ then_stepped a (then_stepped (on a.disk (shut a.machine None)) (on a.disk (nothing (closed a.machine)))) =
+    answers_append (opening settings n) disk first (m ∷ more)
+    ∙ ap (λ (r : Stepped). then_stepped a (then_stepped r (answers r.machine r.disk more))) one
+    ∙ ap (λ (r : Stepped). then_stepped a (then_stepped (on a.disk (shut a.machine None)) r)) (closed_answers (closed a.machine) a.disk more refl) in
+    record {
+      machine = is_now ∙ ap (λ (r : Stepped). joined r.machine) (sym e);
+      disk_is = is_disk ∙ ap (λ (r : Stepped). r.disk) (sym e);
+      output_is = is_written ∙ ap (λ (ms : List Message). canon ms) (sym (append-nil a.answers)) ∙ ap (λ (r : Stepped). canon r.answers) (sym e);
+    }
+
+-- ---- a stream and what was taken of it
+
+whole_stream : (taken piece more given rest : List ℕ) (count : ℕ) → taken ++ take count piece ≡ given ++ rest → (taken ++ piece) ++ more ≡ given ++ ((rest ++ drop count piece) ++ more)
+whole_stream taken piece more given rest count e =
+    ap (λ (x : List ℕ). (taken ++ x) ++ more) (sym (take-append-drop count piece))
+    ∙ ap (λ (x : List ℕ). x ++ more) (sym (append_assoc taken (take count piece) (drop count piece)))
+    ∙ ap (λ (x : List ℕ). (x ++ drop count piece) ++ more) e
+    ∙ ap (λ (x : List ℕ). x ++ more) (append_assoc given rest (drop count piece))
+    ∙ append_assoc given (rest ++ drop count piece) more
+
+rests : (taken piece more : List ℕ) (count : ℕ) (first ms : List Message) (v : Framing) → (t : HasTaken (taken ++ take count piece) first v) → StreamMeans ((taken ++ piece) ++ more) ms
+    → Rests no_login first ms ((t.rest ++ drop count piece) ++ more)
+rests taken piece more count first ms v t p =
+    prefix_of v.limit no_login t.given first ((t.rest ++ drop count piece) ++ more) ms t.reads
+    (subst (λ (x : List ℕ). ReadsAs longest_segment no_login x ms) (whole_stream taken piece more t.given t.rest count t.whole) p)
+
+-- where a header isn't whole, what is held is the rest
+held_is : (s : List ℕ) (ms : List Message) (v : Framing) → (t : HasTaken s ms v) → length v.held < 48 → v.held ≡ t.rest
+held_is s ms v t lt =
+    let n : length v.held ≡ length t.rest = ap (λ (x : List ℕ). length x) t.held ∙ length-settled t.rest in
+    t.held ∙ settled-short t.rest (omega (arith, n, lt))
+
+-- what is said where the framer refuses what follows
+fault_meets : (settings : Settings) (n : ℕ) (disk : Disk) (taken piece : List ℕ) (count : ℕ) (first : List Message) (v : Framing) (now : Connection) (disk_now : Disk) (written : List ℕ) (fault : StreamFault)
+    → (t : HasTaken (taken ++ take count piece) first v) → v.limit ≡ limit settings → (fault ≡ stream.NoMemory → ⊥) → FeedFails v (drop count piece) fault
+    → is_closed (answers (opening settings n) disk first).machine ≡ false
+    → now.machine ≡ closed (answers (opening settings n) disk first).machine → disk_now ≡ (answers (opening settings n) disk first).disk
+    → written ≡ canon (answers (opening settings n) disk first).answers → (more : List ℕ) (ms : List Message) → StreamMeans ((taken ++ piece) ++ more) ms → Meets settings n disk ms now disk_now written
+fault_meets settings n disk taken piece count first v now disk_now written stream.NoMemory t bound none f live is_now is_disk is_written more ms p = absurd (none refl)
+fault_meets settings n disk taken piece count first v now disk_now written (stream.Head fault place) t bound none f live is_now is_disk is_written more ms p =
+    let r = rests taken piece more count first ms v t p in
+    let held : v.held ≡ t.rest = held_is (taken ++ take count piece) first v t f.1.before in
+    let long : 48 ≤ length (t.rest ++ drop count piece) = subst (λ (x : List ℕ). 48 ≤ length (x ++ drop count piece)) held f.1.reached in
+    let bad : fault_of (take 48 (t.rest ++ drop count piece)) ≡ Some fault = subst (λ (x : List ℕ). fault_of (take 48 (x ++ drop count piece)) ≡ Some fault) held f.2 in
+    absurd (no_bad_header (after_all no_login first) (t.rest ++ drop count piece) more r.more fault long bad r.reads)
+fault_meets settings n disk taken piece count first v now disk_now written (stream.OverLimit place) t bound none f live is_now is_disk is_written more ms p =
+    let r = rests taken piece more count first ms v t p in
+    let a : Stepped = answers (opening settings n) disk first in
+    let held : v.held ≡ t.rest = held_is (taken ++ take count piece) first v t f.1.2.reaches.before in
+    let long : 48 ≤ length (t.rest ++ drop count piece) = subst (λ (x : List ℕ). 48 ≤ length (x ++ drop count piece)) held f.1.2.reaches.reached in
+    let h : Heads (after_all no_login first) r.more (take 48 (t.rest ++ drop count piece)) = begins_with (after_all no_login first) (t.rest ++ drop count piece) more r.more long r.reads in
+    let header : IsHeader (take 48 (t.rest ++ drop count piece)) f.1.0 f.1.1 = subst (λ (x : List ℕ). IsHeader (take 48 (x ++ drop count piece)) f.1.0 f.1.1) held f.1.2.header in
+    let size : length h.segment ≡ f.1.1 = (IsHeader-unique (take 48 (t.rest ++ drop count piece)) h.m.head f.1.0 (length h.segment) f.1.1 h.says header).1 in
+    let past : limit settings < length h.segment = omega (arith, f.1.3, size, bound) in
+    let bytes : h.m.segment ≡ Bytes h.segment = h.meaning ∙ long_bytes (continues (after_all no_login first) h.m.head) h.m.head h.segment h.says.login (omega (arith, past)) in
+    let same : a.machine.settings ≡ settings = answers_settings (opening settings n) disk first in
+    let over : is_over_limit a.machine h.m.segment ≡ true =
+    ap (λ (x : Segment). is_over_limit a.machine x) bytes ∙ ap (λ (x : Settings). nat_lt (limit x) (length h.segment)) same ∙ lt-ltb (limit settings) (length h.segment) past in
+    subst (λ (x : List Message). Meets settings n disk x now disk_now written) (sym (r.whole ∙ ap (λ (x : List Message). first ++ x) h.is))
+    (over_meets settings n disk first h.m h.more now disk_now written live over is_now is_disk is_written)
+fault_meets settings n disk taken piece count first v now disk_now written (stream.Truncated place) t bound none f live is_now is_disk is_written more ms p = absurd f
+fault_meets settings n disk taken piece count first v now disk_now written stream.Failed t bound none f live is_now is_disk is_written more ms p = absurd (apart f t.live)
+
+-- ---- one call
+
+abbrev Either : Settings → ℕ → Disk → List ℕ → Connection → Disk → List ℕ → Type 0
+Either settings n disk taken now disk_now written =
+    ((is_closed now.machine ≡ false) × Live settings n disk taken now disk_now written) ⊎ ((is_closed now.machine ≡ true) × Over settings n disk taken now disk_now written)
+
+-- a call that closed the session after these messages
+closing : (settings : Settings) (n : ℕ) (disk : Disk) (taken piece : List ℕ) (count : ℕ) (first : List Message) (v : Framing) (r : Stepped) (new : Connection) (disk_now : Disk) (written : List ℕ)
+    → HasTaken (taken ++ take count piece) first v → Told settings n disk first r disk_now written → new.machine ≡ joined r.machine → is_closed r.machine ≡ true
+    → Either settings n disk (taken ++ piece) new disk_now written
+closing settings n disk taken piece count first v r new disk_now written t told_ e c =
+    let there : is_closed (answers (opening settings n) disk first).machine ≡ true = sym (ap is_closed told_.machine) ∙ c in
+    let meets : Meets settings n disk first new disk_now written = record { machine = e ∙ told_.machine; disk_is = told_.disk_is; output_is = told_.output_is } in
+    inr (
+      ap is_closed e ∙ c,
+      record {
+        over = λ more ms p.
+            let x = rests taken piece more count first ms v t p in
+            subst (λ (xs : List Message). Meets settings n disk xs new disk_now written) (sym x.whole) (closed_meets settings n disk first x.more new disk_now written there meets);
+      },
+    )
+
+ends_go : (settings : Settings) (n : ℕ) (disk : Disk) (taken piece : List ℕ) (count : ℕ) (first : List Message) (v : Framing) (r : Stepped) (new : Connection) (disk_now : Disk) (written : List ℕ) (result : Result Phase TargetFault)
+    → HasTaken (taken ++ take count piece) first v → Told settings n disk first r disk_now written → v.limit ≡ limit settings → is_ready v ≡ false
+    → ((k : ℕ) → r.rule ≡ Some k → is_closed r.machine ≡ true) → (result ≡ Err faults.NoMemory → ⊥) → Ends piece result v count r new
+    → Either settings n disk (taken ++ piece) new disk_now written
+ends_go settings n disk taken piece count first v r new disk_now written (Ok phase) t told_ bound ready closes memory e =
+    elim e.3 [
+      | inl c ↦ closing settings n disk taken piece count first v r new disk_now written t told_ e.1 c
+      | inr g ↦ inl (
+        ap is_closed e.1 ∙ g.live,
+        record {
+          has = record {
+            messages = first;
+            taken = subst (λ (x : Framing). HasTaken (taken ++ piece) first x) (sym g.framing_is)
+                (taken_at (taken ++ take count piece) (taken ++ piece) first first v (ap (λ (x : List ℕ). taken ++ x) (take_all count piece (omega (arith, g.all)))) refl t);
+            machine = e.1 ∙ told_.machine;
+            disk_is = told_.disk_is;
+            output_is = told_.output_is;
+          };
+          ready = ap is_ready g.framing_is ∙ ready;
+          bound = ap (λ (x : Framing). x.limit) g.framing_is ∙ bound;
+        },
+      )
+    ]
+ends_go settings n disk taken piece count first v r new disk_now written (Err faults.NoMemory) t told_ bound ready closes memory e = absurd (memory refl)
+ends_go settings n disk taken piece count first v r new disk_now written (Err (faults.Stream fault)) t told_ bound ready closes memory e =
+    let live : is_closed (answers (opening settings n) disk first).machine ≡ false = sym (ap is_closed told_.machine) ∙ e.0.live in
+    let now_is : new.machine ≡ closed (answers (opening settings n) disk first).machine = e.3 ∙ ap closed told_.machine in
+    inr (
+      ap is_closed e.3,
+      record {
+        over = λ more ms p.
+            fault_meets settings n disk taken piece count first v new disk_now written fault t bound e.1 e.2 live now_is told_.disk_is told_.output_is more ms p;
+      },
+    )
+ends_go settings n disk taken piece count first v r new disk_now written (Err (faults.Protocol rule)) t told_ bound ready closes memory e =
+    closing settings n disk taken piece count first v r new disk_now written t told_ e.1 (closes rule e.0)
+ends_go settings n disk taken piece count first v r new disk_now written (Err faults.Closed) t told_ bound ready closes memory e = absurd e
+
+feed_goes : (settings : Settings) (n : ℕ) (disk : Disk) (taken : List ℕ) (old : Connection) (before : Store) (out piece : List ℕ) (result : Result Phase TargetFault) (new : Connection) (after : Store) (written : List ℕ)
+    → Live settings n disk taken old before.disk out → Feeds old before out piece result new after written → GoesWell result before after
+    → Either settings n disk (taken ++ piece) new after.disk written
+feed_goes settings n disk taken old before out piece result new after written live f well =
+    let h : HasAnswered settings n disk taken old before.disk out = live.has in
+    let t : HasTaken (taken ++ take f.count piece) (h.messages ++ f.messages) f.framing = f.answered.taken taken h.messages h.taken in
+    ends_go settings n disk taken piece f.count (h.messages ++ f.messages) f.framing f.stepped new after.disk written result t
+    (told settings n disk taken old before out (take f.count piece) f.framing f.messages f.stepped after written h f.answered well.device)
+    (f.answered.limit ∙ live.bound) f.answered.ready
+    (λ k e. let w = f.answered.works well.device in
+    ap (λ (x : Stepped). is_closed x.machine) w ∙ answers_close old.machine before.disk f.messages k (sym (ap (λ (x : Stepped). x.rule) w) ∙ e))
+    well.memory f.ends
+
+-- ---- all calls
+
+live_meets : (settings : Settings) (n : ℕ) (disk : Disk) (taken : List ℕ) (now : Connection) (disk_now : Disk) (written : List ℕ) (ms : List Message)
+    → Live settings n disk taken now disk_now written → StreamMeans taken ms → Meets settings n disk ms now disk_now written
+live_meets settings n disk taken now disk_now written ms live p =
+    let h : HasAnswered settings n disk taken now disk_now written = live.has in
+    let t : HasTaken taken h.messages now.framing = h.taken in
+    let r : Rests no_login h.messages ms t.rest =
+    prefix_of now.framing.limit no_login t.given h.messages t.rest ms t.reads (subst (λ (x : List ℕ). ReadsAs longest_segment no_login x ms) t.whole p) in
+    let part : is_whole t.rest ≡ false = sym (is_whole-settled t.rest) ∙ ap is_whole (sym t.held) ∙ unready_of now.framing.failed now.framing.held t.live live.ready in
+    let none : r.more ≡ [] = none_whole now.framing.limit (after_all no_login h.messages) t.rest r.more t.begun part r.reads in
+    let same : h.messages ≡ ms = sym (r.whole ∙ ap (λ (x : List Message). h.messages ++ x) none ∙ append-nil h.messages) in
+    subst (λ (x : List Message). Meets settings n disk x now disk_now written) same (record { machine = h.machine; disk_is = h.disk_is; output_is = h.output_is })
+
+either_meets : (settings : Settings) (n : ℕ) (disk : Disk) (taken : List ℕ) (now : Connection) (disk_now : Disk) (written : List ℕ) (ms : List Message)
+    → Either settings n disk taken now disk_now written → StreamMeans taken ms → Meets settings n disk ms now disk_now written
+either_meets settings n disk taken now disk_now written ms (inl l) p = live_meets settings n disk taken now disk_now written ms l.1 p
+either_meets settings n disk taken now disk_now written ms (inr o) p =
+    o.1.over [] ms (subst (λ (x : List ℕ). StreamMeans x ms) (sym (append-nil taken)) p)
+
+stays_over : (settings : Settings) (n : ℕ) (disk : Disk) (taken piece : List ℕ) (now : Connection) (disk_now : Disk) (written : List ℕ)
+    → Over settings n disk taken now disk_now written → Over settings n disk (taken ++ piece) now disk_now written
+stays_over settings n disk taken piece now disk_now written o =
+    record { over = λ more ms p. o.over (piece ++ more) ms (subst (λ (x : List ℕ). StreamMeans x ms) (append_assoc taken piece more) p) }
+
+next_either : (settings : Settings) (n : ℕ) (disk : Disk) (taken : List ℕ) (old : Connection) (before : Store) (out piece : List ℕ) (result : Result Phase TargetFault) (new : Connection) (after : Store) (written : List ℕ)
+    → Either settings n disk taken old before.disk out → Fed old before out piece result new after written → GoesWell result before after
+    → Either settings n disk (taken ++ piece) new after.disk written
+next_either settings n disk taken old before out piece result new after written (inl l) f well =
+    feed_goes settings n disk taken old before out piece result new after written l.1 (subst (λ (b : Bool). FedIf b old before out piece result new after written) l.0 f) well
+next_either settings n disk taken old before out piece result new after written (inr o) f well =
+    let s : Stays old before out result new after written = subst (λ (b : Bool). FedIf b old before out piece result new after written) o.0 f in
+    let over : Over settings n disk (taken ++ piece) old before.disk out = stays_over settings n disk taken piece old before.disk out o.1 in
+    inr (
+      ap (λ (x : Connection). is_closed x.machine) s.connection ∙ o.0,
+      subst (λ (x : Connection). Over settings n disk (taken ++ piece) x after.disk written) (sym s.connection)
+          (subst (λ (x : Store). Over settings n disk (taken ++ piece) old x.disk written) (sym s.store)
+          (subst (λ (x : List ℕ). Over settings n disk (taken ++ piece) old before.disk x) (sym s.output_is) over)),
+    )
+
+fed_from : (settings : Settings) (n : ℕ) (disk : Disk) (taken : List ℕ) (pieces : List (List ℕ)) (old : Connection) (before : Store) (out : List ℕ) (new : Connection) (after : Store) (written : List ℕ) (ms : List Message)
+    → Either settings n disk taken old before.disk out → FedAll old before out pieces new after written → StreamMeans (taken ++ flat_map (λ x. x) pieces) ms
+    → Meets settings n disk ms new after.disk written
+unfolding FedAll
+fed_from settings n disk taken [] old before out new after written ms e f p =
+    subst (λ (x : Connection). Meets settings n disk ms x after.disk written) (sym f.0)
+    (subst (λ (x : Store). Meets settings n disk ms old x.disk written) (sym f.1)
+    (subst (λ (x : List ℕ). Meets settings n disk ms old before.disk x) (sym f.2)
+    (either_meets settings n disk taken old before.disk out ms e (subst (λ (x : List ℕ). StreamMeans x ms) (append-nil taken) p))))
+fed_from settings n disk taken (piece ∷ pieces) old before out new after written ms e f p =
+    fed_from settings n disk (taken ++ piece) pieces f.1 f.2 f.3 new after written ms
+    (next_either settings n disk taken old before out piece f.0 f.1 f.2 f.3 e f.4 f.5) f.6
+    (subst (λ (x : List ℕ). StreamMeans x ms) (sym (append_assoc taken piece (flat_map (λ x. x) pieces))) p)
+
+opening_live : (settings : Settings) (n : ℕ) (disk : Disk) → Live settings n disk [] (opening_connection settings n) disk []
+unfolding answers
+opening_live settings n disk = record {
+  has = record { messages = []; taken = at_opening (limit settings); machine = refl; disk_is = refl; output_is = refl };
+  ready = not_whole-nil;
+  bound = refl;
+}
+
+-- a stream that was fed in pieces
+pub fed_stream : (settings : Settings) (n : ℕ) (store : Store) (pieces : List (List ℕ)) (new : Connection) (after : Store) (written : List ℕ) (ms : List Message)
+    → FedAll (opening_connection settings n) store [] pieces new after written → StreamMeans (flat_map (λ x. x) pieces) ms → Meets settings n store.disk ms new after.disk written
+fed_stream settings n store pieces new after written ms f p =
+    fed_from settings n store.disk [] pieces (opening_connection settings n) store [] new after written ms (inl (refl, opening_live settings n store.disk)) f p
+
+-- ---- a stream that isn't all PDUs
+
+-- the session is closed, and nothing is written any more
+record Stopped (settings : Settings) (n : ℕ) (disk : Disk) (taken : List ℕ) (disk_now : Disk) (written : List ℕ) : Type 0 where
+  over : (more : List ℕ) (ms : List Message) (given rest : List ℕ) → Splits longest_segment (taken ++ more) ms given rest → Writes settings n disk ms disk_now written
+
+abbrev Fate : Settings → ℕ → Disk → List ℕ → Connection → Disk → List ℕ → Type 0
+Fate settings n disk taken now disk_now written =
+    ((is_closed now.machine ≡ false) × Live settings n disk taken now disk_now written) ⊎ ((is_closed now.machine ≡ true) × Stopped settings n disk taken disk_now written)
+
+abbrev Fits : Settings → Type 0
+Fits settings = limit settings ≤ longest_segment
+
+left : (taken piece more : List ℕ) (count : ℕ) (first ms : List Message) (given rest : List ℕ) (v : Framing) → v.limit ≤ longest_segment → (t : HasTaken (taken ++ take count piece) first v)
+    → Splits longest_segment ((taken ++ piece) ++ more) ms given rest → Leaves no_login first ms ((t.rest ++ drop count piece) ++ more) rest
+left taken piece more count first ms given rest v le t s =
+    prefix_split v.limit no_login t.given first ((t.rest ++ drop count piece) ++ more) given ms rest le t.reads s.reads s.no_more
+    (sym (whole_stream taken piece more t.given t.rest count t.whole) ∙ s.whole)
+
+writes_of : (settings : Settings) (n : ℕ) (disk : Disk) (ms : List Message) (now : Connection) (disk_now : Disk) (written : List ℕ) → Meets settings n disk ms now disk_now written
+    → Writes settings n disk ms disk_now written
+writes_of settings n disk ms now disk_now written m = record { disk_is = m.disk_is; output_is = m.output_is }
+
+-- no PDU is left
+writes_all : (settings : Settings) (n : ℕ) (disk : Disk) (first ms more : List Message) (disk_now : Disk) (written : List ℕ) → ms ≡ first ++ more → more ≡ []
+    → Writes settings n disk first disk_now written → Writes settings n disk ms disk_now written
+writes_all settings n disk first ms more disk_now written e none w =
+    subst (λ (x : List Message). Writes settings n disk x disk_now written) (sym (e ∙ ap (λ (x : List Message). first ++ x) none ∙ append-nil first)) w
+
+stopping : (settings : Settings) (n : ℕ) (disk : Disk) (taken piece : List ℕ) (count : ℕ) (first : List Message) (v : Framing) (r : Stepped) (new : Connection) (disk_now : Disk) (written : List ℕ)
+    → v.limit ≤ longest_segment → HasTaken (taken ++ take count piece) first v → Told settings n disk first r disk_now written → new.machine ≡ joined r.machine → is_closed r.machine ≡ true
+    → Fate settings n disk (taken ++ piece) new disk_now written
+stopping settings n disk taken piece count first v r new disk_now written le t told_ e c =
+    let there : is_closed (answers (opening settings n) disk first).machine ≡ true = sym (ap is_closed told_.machine) ∙ c in
+    let meets : Meets settings n disk first new disk_now written = record { machine = e ∙ told_.machine; disk_is = told_.disk_is; output_is = told_.output_is } in
+    inr (
+      ap is_closed e ∙ c,
+      record {
+        over = λ more ms given rest s.
+            let x = left taken piece more count first ms given rest v le t s in
+            subst (λ (xs : List Message). Writes settings n disk xs disk_now written) (sym x.whole)
+            (writes_of settings n disk (first ++ x.more) new disk_now written (closed_meets settings n disk first x.more new disk_now written there meets));
+      },
+    )
+
+fault_writes : (settings : Settings) (n : ℕ) (disk : Disk) (taken piece : List ℕ) (count : ℕ) (first : List Message) (v : Framing) (now : Connection) (disk_now : Disk) (written : List ℕ) (fault : StreamFault)
+    → (t : HasTaken (taken ++ take count piece) first v) → v.limit ≡ limit settings → v.limit ≤ longest_segment → (fault ≡ stream.NoMemory → ⊥) → FeedFails v (drop count piece) fault
+    → is_closed (answers (opening settings n) disk first).machine ≡ false
+    → now.machine ≡ closed (answers (opening settings n) disk first).machine → disk_now ≡ (answers (opening settings n) disk first).disk
+    → written ≡ canon (answers (opening settings n) disk first).answers → (more : List ℕ) (ms : List Message) (given rest : List ℕ) → Splits longest_segment ((taken ++ piece) ++ more) ms given rest
+    → Writes settings n disk ms disk_now written
+fault_writes settings n disk taken piece count first v now disk_now written stream.NoMemory t bound le none f live is_now is_disk is_written more ms given rest s = absurd (none refl)
+fault_writes settings n disk taken piece count first v now disk_now written (stream.Head fault place) t bound le none f live is_now is_disk is_written more ms given rest s =
+    let x = left taken piece more count first ms given rest v le t s in
+    let held : v.held ≡ t.rest = held_is (taken ++ take count piece) first v t f.1.before in
+    let long : 48 ≤ length (t.rest ++ drop count piece) = subst (λ (y : List ℕ). 48 ≤ length (y ++ drop count piece)) held f.1.reached in
+    let bad : fault_of (take 48 (t.rest ++ drop count piece)) ≡ Some fault = subst (λ (y : List ℕ). fault_of (take 48 (y ++ drop count piece)) ≡ Some fault) held f.2 in
+    elim (header_or_none (after_all no_login first) (t.rest ++ drop count piece) more x.given rest x.more long x.reads x.bytes_are) [
+      | inl e ↦ writes_all settings n disk first ms x.more disk_now written x.whole e (record { disk_is = is_disk; output_is = is_written })
+      | inr h ↦ absurd (bad_header (take 48 (t.rest ++ drop count piece)) h.m.head (length h.segment) fault h.says bad)
+    ]
+fault_writes settings n disk taken piece count first v now disk_now written (stream.OverLimit place) t bound le none f live is_now is_disk is_written more ms given rest s =
+    let x = left taken piece more count first ms given rest v le t s in
+    let a : Stepped = answers (opening settings n) disk first in
+    let held : v.held ≡ t.rest = held_is (taken ++ take count piece) first v t f.1.2.reaches.before in
+    let long : 48 ≤ length (t.rest ++ drop count piece) = subst (λ (y : List ℕ). 48 ≤ length (y ++ drop count piece)) held f.1.2.reaches.reached in
+    let header : IsHeader (take 48 (t.rest ++ drop count piece)) f.1.0 f.1.1 = subst (λ (y : List ℕ). IsHeader (take 48 (y ++ drop count piece)) f.1.0 f.1.1) held f.1.2.header in
+    elim (header_or_none (after_all no_login first) (t.rest ++ drop count piece) more x.given rest x.more long x.reads x.bytes_are) [
+      | inl e ↦ writes_all settings n disk first ms x.more disk_now written x.whole e (record { disk_is = is_disk; output_is = is_written })
+      | inr h ↦
+          let size : length h.segment ≡ f.1.1 = (IsHeader-unique (take 48 (t.rest ++ drop count piece)) h.m.head f.1.0 (length h.segment) f.1.1 h.says header).1 in
+          let past : limit settings < length h.segment = omega (arith, f.1.3, size, bound) in
+          let bytes : h.m.segment ≡ Bytes h.segment = h.meaning ∙ long_bytes (continues (after_all no_login first) h.m.head) h.m.head h.segment h.says.login (omega (arith, past)) in
+          let same : a.machine.settings ≡ settings = answers_settings (opening settings n) disk first in
+          let over : is_over_limit a.machine h.m.segment ≡ true =
+          ap (λ (y : Segment). is_over_limit a.machine y) bytes ∙ ap (λ (y : Settings). nat_lt (limit y) (length h.segment)) same ∙ lt-ltb (limit settings) (length h.segment) past in
+          subst (λ (y : List Message). Writes settings n disk y disk_now written) (sym (x.whole ∙ ap (λ (y : List Message). first ++ y) h.is))
+          (writes_of settings n disk (first ++ h.m ∷ h.more) now disk_now written
+          (over_meets settings n disk first h.m h.more now disk_now written live over is_now is_disk is_written))
+    ]
+fault_writes settings n disk taken piece count first v now disk_now written (stream.Truncated place) t bound le none f live is_now is_disk is_written more ms given rest s = absurd f
+fault_writes settings n disk taken piece count first v now disk_now written stream.Failed t bound le none f live is_now is_disk is_written more ms given rest s = absurd (apart f t.live)
+
+-- what a call ends in, for such a stream
+ends_fate : (settings : Settings) (n : ℕ) (disk : Disk) (taken piece : List ℕ) (count : ℕ) (first : List Message) (v : Framing) (r : Stepped) (new : Connection) (disk_now : Disk) (written : List ℕ) (result : Result Phase TargetFault)
+    → Fits settings → HasTaken (taken ++ take count piece) first v → Told settings n disk first r disk_now written → v.limit ≡ limit settings → is_ready v ≡ false
+    → ((k : ℕ) → r.rule ≡ Some k → is_closed r.machine ≡ true) → (result ≡ Err faults.NoMemory → ⊥) → Ends piece result v count r new
+    → Fate settings n disk (taken ++ piece) new disk_now written
+ends_fate settings n disk taken piece count first v r new disk_now written (Ok phase) le t told_ bound ready closes memory e =
+    elim (ends_go settings n disk taken piece count first v r new disk_now written (Ok phase) t told_ bound ready closes memory e) [
+      | inl l ↦ inl l
+      | inr o ↦ stopping settings n disk taken piece count first v r new disk_now written (omega (arith, le, bound)) t told_ e.1 (sym (ap is_closed e.1) ∙ o.0)
+    ]
+ends_fate settings n disk taken piece count first v r new disk_now written (Err faults.NoMemory) le t told_ bound ready closes memory e = absurd (memory refl)
+ends_fate settings n disk taken piece count first v r new disk_now written (Err (faults.Stream fault)) le t told_ bound ready closes memory e =
+    let live : is_closed (answers (opening settings n) disk first).machine ≡ false = sym (ap is_closed told_.machine) ∙ e.0.live in
+    let now_is : new.machine ≡ closed (answers (opening settings n) disk first).machine = e.3 ∙ ap closed told_.machine in
+    inr (
+      ap is_closed e.3,
+      record {
+        over = λ more ms given rest s.
+            fault_writes settings n disk taken piece count first v new disk_now written fault t bound (omega (arith, le, bound)) e.1 e.2 live now_is told_.disk_is told_.output_is more ms given rest s;
+      },
+    )
+ends_fate settings n disk taken piece count first v r new disk_now written (Err (faults.Protocol rule)) le t told_ bound ready closes memory e =
+    stopping settings n disk taken piece count first v r new disk_now written (omega (arith, le, bound)) t told_ e.1 (closes rule e.0)
+ends_fate settings n disk taken piece count first v r new disk_now written (Err faults.Closed) le t told_ bound ready closes memory e = absurd e
+
+next_fate : (settings : Settings) (n : ℕ) (disk : Disk) (taken : List ℕ) (old : Connection) (before : Store) (out piece : List ℕ) (result : Result Phase TargetFault) (new : Connection) (after : Store) (written : List ℕ)
+    → Fits settings → Fate settings n disk taken old before.disk out → Fed old before out piece result new after written → GoesWell result before after
+    → Fate settings n disk (taken ++ piece) new after.disk written
+next_fate settings n disk taken old before out piece result new after written le (inl l) fed well =
+    let f : Feeds old before out piece result new after written = subst (λ (b : Bool). FedIf b old before out piece result new after written) l.0 fed in
+    let h : HasAnswered settings n disk taken old before.disk out = l.1.has in
+    let t : HasTaken (taken ++ take f.count piece) (h.messages ++ f.messages) f.framing = f.answered.taken taken h.messages h.taken in
+    ends_fate settings n disk taken piece f.count (h.messages ++ f.messages) f.framing f.stepped new after.disk written result le t
+    (told settings n disk taken old before out (take f.count piece) f.framing f.messages f.stepped after written h f.answered well.device)
+    (f.answered.limit ∙ l.1.bound) f.answered.ready
+    (λ k e. let w = f.answered.works well.device in
+    ap (λ (x : Stepped). is_closed x.machine) w ∙ answers_close old.machine before.disk f.messages k (sym (ap (λ (x : Stepped). x.rule) w) ∙ e))
+    well.memory f.ends
+next_fate settings n disk taken old before out piece result new after written le (inr o) fed well =
+    let s : Stays old before out result new after written = subst (λ (b : Bool). FedIf b old before out piece result new after written) o.0 fed in
+    let stopped : Stopped settings n disk (taken ++ piece) before.disk out = record {
+      over = λ more ms given rest q.
+          o.1.over (piece ++ more) ms given rest (subst (λ (x : List ℕ). Splits longest_segment x ms given rest) (append_assoc taken piece more) q);
+    } in
+    inr (
+      ap (λ (x : Connection). is_closed x.machine) s.connection ∙ o.0,
+      subst (λ (x : Store). Stopped settings n disk (taken ++ piece) x.disk written) (sym s.store)
+          (subst (λ (x : List ℕ). Stopped settings n disk (taken ++ piece) before.disk x) (sym s.output_is) stopped),
+    )
+
+live_writes : (settings : Settings) (n : ℕ) (disk : Disk) (taken : List ℕ) (now : Connection) (disk_now : Disk) (written : List ℕ) (ms : List Message) (given rest : List ℕ)
+    → Fits settings → Live settings n disk taken now disk_now written → Splits longest_segment taken ms given rest → Writes settings n disk ms disk_now written
+live_writes settings n disk taken now disk_now written ms given rest le live s =
+    let h : HasAnswered settings n disk taken now disk_now written = live.has in
+    let t : HasTaken taken h.messages now.framing = h.taken in
+    let x : Leaves no_login h.messages ms t.rest rest =
+    prefix_split now.framing.limit no_login t.given h.messages t.rest given ms rest (omega (arith, le, live.bound)) t.reads s.reads s.no_more (sym t.whole ∙ s.whole) in
+    let part : is_whole t.rest ≡ false = sym (is_whole-settled t.rest) ∙ ap is_whole (sym t.held) ∙ unready_of now.framing.failed now.framing.held t.live live.ready in
+    writes_all settings n disk h.messages ms x.more disk_now written x.whole
+    (none_begun now.framing.limit (after_all no_login h.messages) t.rest x.given rest x.more t.begun part x.reads x.bytes_are)
+    (record { disk_is = h.disk_is; output_is = h.output_is })
+
+fate_writes : (settings : Settings) (n : ℕ) (disk : Disk) (taken : List ℕ) (now : Connection) (disk_now : Disk) (written : List ℕ) (ms : List Message) (given rest : List ℕ)
+    → Fits settings → Fate settings n disk taken now disk_now written → Splits longest_segment taken ms given rest → Writes settings n disk ms disk_now written
+fate_writes settings n disk taken now disk_now written ms given rest le (inl l) s = live_writes settings n disk taken now disk_now written ms given rest le l.1 s
+fate_writes settings n disk taken now disk_now written ms given rest le (inr o) s =
+    o.1.over [] ms given rest (subst (λ (x : List ℕ). Splits longest_segment x ms given rest) (sym (append-nil taken)) s)
+
+fed_fate : (settings : Settings) (n : ℕ) (disk : Disk) (taken : List ℕ) (pieces : List (List ℕ)) (old : Connection) (before : Store) (out : List ℕ) (new : Connection) (after : Store) (written : List ℕ)
+    (ms : List Message) (given rest : List ℕ) → Fits settings
+    → Fate settings n disk taken old before.disk out → FedAll old before out pieces new after written → Splits longest_segment (taken ++ flat_map (λ x. x) pieces) ms given rest
+    → Writes settings n disk ms after.disk written
+unfolding FedAll
+fed_fate settings n disk taken [] old before out new after written ms given rest le e f p =
+    subst (λ (x : Store). Writes settings n disk ms x.disk written) (sym f.1)
+    (subst (λ (x : List ℕ). Writes settings n disk ms before.disk x) (sym f.2)
+    (fate_writes settings n disk taken old before.disk out ms given rest le e (subst (λ (x : List ℕ). Splits longest_segment x ms given rest) (append-nil taken) p)))
+fed_fate settings n disk taken (piece ∷ pieces) old before out new after written ms given rest le e f p =
+    fed_fate settings n disk (taken ++ piece) pieces f.1 f.2 f.3 new after written ms given rest le
+    (next_fate settings n disk taken old before out piece f.0 f.1 f.2 f.3 le e f.4 f.5) f.6
+    (subst (λ (x : List ℕ). Splits longest_segment x ms given rest) (sym (append_assoc taken piece (flat_map (λ x. x) pieces))) p)
+
+-- any stream that was fed in pieces
+pub fed_any : (settings : Settings) (n : ℕ) (store : Store) (pieces : List (List ℕ)) (new : Connection) (after : Store) (written : List ℕ) (ms : List Message) (given rest : List ℕ)
+    → Fits settings → FedAll (opening_connection settings n) store [] pieces new after written → Splits longest_segment (flat_map (λ x. x) pieces) ms given rest
+    → Writes settings n store.disk ms after.disk written
+fed_any settings n store pieces new after written ms given rest le f s =
+    fed_fate settings n store.disk [] pieces (opening_connection settings n) store [] new after written ms given rest le (inl (refl, opening_live settings n store.disk)) f s

@@ -1,0 +1,71 @@
+-- The disk after messages, over a store that may fail.
+use Rattle.std.proofs.Common.{◌≡◌, List, [], ◌∷◌, ◌++◌, refl, sym, subst}
+use Rattle.std.specs.List.{AllByRecursion}
+use Rattle.scsi_disk.specs.Disk.{Disk}
+use Rattle.iscsi_stream.specs.Segment.{segment_bytes}
+use Rattle.iscsi_stream.specs.Stream.{Message}
+use Rattle.iscsi_target.specs.State.{Machine, Write, Execution, Stepped, data_of}
+use Rattle.iscsi_target.specs.Transfer.{is_whole, is_idle}
+use Rattle.iscsi_target.specs.Execution.{Device}
+use Rattle.iscsi_target.specs.Command.{proceed, opened}
+use Rattle.iscsi_target.specs.Machine.{step_on, IsAllowed, MayStep, MayAnswer}
+use Rattle.iscsi_target.specs.Laws.{Leads}
+use Rattle.iscsi_target.proofs.StepParts.{by_cases, Parts, step_parts}
+
+-- what was executed led from disk to disk as the device did it
+abbrev Does : Device → Disk → List Execution → Disk → Type 0
+Does device disk [] last = last ≡ disk
+Does device disk (e ∷ es) last = (e.disk ≡ disk) × Does device (device e.disk e.order (data_of e.pieces)).disk es last
+
+record Goes (device : Device) (disk : Disk) (r : Stepped) : Type 0 where
+  is : Does device disk r.executed r.disk
+
+proceed_does : (device : Device) (s : Machine) (disk : Disk) (w : Write) → Goes device disk (proceed device s disk w)
+proceed_does device s disk w =
+    by_cases (is_whole w) (λ h. rw h (record { is = (refl, refl) }))
+    (λ h. by_cases (is_idle w.due) (λ g. rw (h, g) (record { is = refl })) (λ g. rw (h, g) (record { is = refl })))
+
+parts_do : (device : Device) (disk : Disk) → Parts device disk (λ s m r. Goes device disk r) (λ s m r. Goes device disk r)
+parts_do device disk = record {
+  nothing_ = λ s m c. record { is = refl };
+  shut_ = λ s m rule. record { is = refl };
+  reject_ = λ s reason m a. record { is = refl };
+  breach_ = λ s rule m. record { is = refl };
+  login_ = λ s m k. record { is = refl };
+  taken_ = λ s m h w more k e g f. proceed_does device s disk more;
+  immediate_ = λ s m r a w c f. record { is = f.is };
+  in_turn_ = λ s m n r a c w f. record { is = f.is };
+  refused_ = λ s m rule. record { is = refl };
+  nop_ = λ s m h k. record { is = refl };
+  task_ = λ s m h k. record { is = refl };
+  text_ = λ s m h k. record { is = refl };
+  logout_ = λ s m h k. record { is = refl };
+  execute_ = λ s m h k none. record { is = (refl, refl) };
+  opened_ = λ s m h total k e f. proceed_does device s disk (opened h total (segment_bytes m.segment));
+}
+
+step_does : (device : Device) (s : Machine) (disk : Disk) (m : Message) → Goes device disk (step_on device s disk m)
+step_does device s disk m = step_parts device disk (λ s m r. Goes device disk r) (λ s m r. Goes device disk r) (parts_do device disk) s m
+
+leads_of : (device : Device) (disk : Disk) (es : List Execution) (last : Disk) → Does device disk es last → AllByRecursion (IsAllowed device) es → Leads disk es last
+unfolding Leads
+leads_of device disk [] last d a = d
+leads_of device disk (e ∷ es) last d a =
+    (device e.disk e.order (data_of e.pieces), d.0, a.0, leads_of device (device e.disk e.order (data_of e.pieces)).disk es last d.1 a.1)
+
+leads_append : (disk mid last : Disk) (a b : List Execution) → Leads disk a mid → Leads mid b last → Leads disk (a ++ b) last
+unfolding Leads
+leads_append disk mid last [] b p q = subst (λ (d : Disk). Leads d b last) p q
+leads_append disk mid last (e ∷ a) b p q = (p.0, p.1, p.2, leads_append p.0.disk mid last a b p.3 q)
+
+step_leads : (s : Machine) (disk : Disk) (m : Message) (r : Stepped) → MayStep s disk m r → Leads disk r.executed r.disk
+step_leads s disk m r p =
+    let d : Goes p.device disk r = subst (λ (x : Stepped). Goes p.device disk x) (sym p.is) (step_does p.device s disk m) in
+    leads_of p.device disk r.executed r.disk d.is p.allowed
+
+pub may_leads : (s : Machine) (disk : Disk) (ms : List Message) (r : Stepped) → MayAnswer s disk ms r → Leads disk r.executed r.disk
+unfolding MayAnswer Leads
+may_leads s disk [] r e = subst (λ (x : Stepped). Leads disk x.executed x.disk) (sym e) refl
+may_leads s disk (m ∷ ms) r e =
+    subst (λ (x : Stepped). Leads disk x.executed x.disk) (sym e.4)
+    (leads_append disk e.0.disk e.1.disk e.0.executed e.1.executed (step_leads s disk m e.0 e.2) (may_leads e.0.machine e.0.disk ms e.1 e.3))

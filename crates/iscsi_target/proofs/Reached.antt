@@ -1,0 +1,122 @@
+-- What holds in each state that messages lead to from the opening state.
+use Rattle.std.proofs.Common.{◌≡◌, ◌<◌, ◌≤◌, ℕ, List, Bool, true, false, length, Some, refl, sym, ap, ◌∙◌, subst, arith}
+use Rattle.std.specs.Prelude.{nat_lt}
+use Rattle.std.proofs.lemmas.Bool.{ltb-false, ltb-true}
+use Rattle.scsi_disk.specs.Disk.{Disk}
+use Rattle.scsi_disk.specs.Effect.{effect}
+use Rattle.iscsi_pdu.specs.declared.head.Head.{Head}
+use Rattle.iscsi_pdu.specs.declared.head.Head.TheVariants.{NopOut, ScsiCommand, TaskRequest, TextRequest, LogoutRequest}
+use Rattle.iscsi_stream.specs.Segment.{Segment, Bytes, Text, segment_bytes}
+use Rattle.iscsi_stream.specs.Stream.{Message}
+use Rattle.iscsi_login.specs.declared.key.NegKey.{NegKey}
+use Rattle.iscsi_login.specs.declared.key.NegKey.TheVariants as keys
+use Rattle.iscsi_login.specs.declared.phase.Phase.{Phase}
+use Rattle.iscsi_login.specs.declared.preferences.Answered.{Answered}
+use Rattle.iscsi_login.specs.declared.preferences.Answered.TheVariants as answered
+use Rattle.iscsi_login.specs.Key.{rule_of}
+use Rattle.iscsi_login.specs.Negotiation.{Allows, IsInRange}
+use Rattle.iscsi_login.specs.Held.{Held, IsHeld, defaults, held_value, number_of}
+use Rattle.iscsi_login.proofs.Agreement.{default_allowed}
+use Rattle.iscsi_target.specs.Configured.{Settings}
+use Rattle.iscsi_target.specs.State.{Machine, Stepped, opening, on, nothing, limit, is_within, max_cmd_sn}
+use Rattle.iscsi_target.specs.Machine.{step, answers, is_closed, is_closed_phase, is_over_limit, full_step, phase_step, due_step, request}
+use Rattle.iscsi_target.specs.Tiles.{TilesDataIn}
+use Rattle.iscsi_target.specs.Laws.{IsOutside, cmd_sn_of, cmd_sn_if}
+use Rattle.iscsi_target.proofs.StepParts.{by_cases}
+use Rattle.iscsi_target.proofs.Telling.{StepTells, step_tells, CanGive}
+use Rattle.iscsi_target.proofs.Numbers.{IsFit, answers_fit, answers_settings}
+
+-- ---- what is held
+
+default_held : (key : NegKey) → Allows (rule_of key) (held_value defaults key)
+default_held keys.MaxConnections = default_allowed keys.MaxConnections
+default_held keys.InitialR2T = default_allowed keys.InitialR2T
+default_held keys.ImmediateData = default_allowed keys.ImmediateData
+default_held keys.MaxBurstLength = default_allowed keys.MaxBurstLength
+default_held keys.FirstBurstLength = default_allowed keys.FirstBurstLength
+default_held keys.DefaultTime2Wait = default_allowed keys.DefaultTime2Wait
+default_held keys.DefaultTime2Retain = default_allowed keys.DefaultTime2Retain
+default_held keys.MaxOutstandingR2T = default_allowed keys.MaxOutstandingR2T
+default_held keys.DataPDUInOrder = default_allowed keys.DataPDUInOrder
+default_held keys.DataSequenceInOrder = default_allowed keys.DataSequenceInOrder
+default_held keys.ErrorRecoveryLevel = default_allowed keys.ErrorRecoveryLevel
+default_held keys.HeaderDigest = default_allowed keys.HeaderDigest
+default_held keys.DataDigest = default_allowed keys.DataDigest
+default_held keys.AuthMethod = default_allowed keys.AuthMethod
+
+opening_fit : (settings : Settings) (n : ℕ) → IsFit (opening settings n)
+opening_fit settings n = record {
+  held = λ p. record { values = default_held; initiator_max_recv = (omega arith, omega arith); target_max_recv = (omega arith, omega arith) };
+  limit = omega arith;
+}
+
+pub reached_fit : (settings : Settings) (n : ℕ) (disk : Disk) (ms : List Message) → IsFit (answers (opening settings n) disk ms).machine
+reached_fit settings n disk ms = answers_fit (opening settings n) disk ms (opening_fit settings n)
+
+pub reached_held : (settings : Settings) (n : ℕ) (disk : Disk) (ms : List Message) → IsInRange settings.preferences → IsHeld (answers (opening settings n) disk ms).machine.held
+reached_held settings n disk ms p =
+    (reached_fit settings n disk ms).held (subst (λ (x : Settings). IsInRange x.preferences) (sym (answers_settings (opening settings n) disk ms)) p)
+
+burst_some : (value : Answered) → Allows (rule_of keys.MaxBurstLength) value → 0 < number_of value
+burst_some (answered.Number n) a = omega (arith, a.0)
+burst_some (answered.Flag b) a = absurd a
+burst_some answered.NoneItem a = absurd a
+burst_some answered.Reject a = absurd a
+
+can_give : (held : Held) → IsHeld held → CanGive held
+can_give held h = record { burst = burst_some (held_value held keys.MaxBurstLength) (h.values keys.MaxBurstLength); most = omega (arith, h.initiator_max_recv.0) }
+
+-- ---- Data-In
+
+pub reached_data_in : (settings : Settings) (n : ℕ) (disk : Disk) (ms : List Message) (m : Message) → IsInRange settings.preferences
+    → TilesDataIn (step (answers (opening settings n) disk ms).machine (answers (opening settings n) disk ms).disk m)
+reached_data_in settings n disk ms m p =
+    let r : Stepped = answers (opening settings n) disk ms in
+    let t : StepTells effect r.machine m (step r.machine r.disk m) = step_tells effect r.disk r.machine m in
+    record { tags = t.gives_tags; tiled = t.gives (can_give r.machine.held (reached_held settings n disk ms p)); none = t.gives_none }
+
+-- ---- outside the window
+
+outside_if : (s : Machine) (disk : Disk) (m : Message) (i : Bool) (cmd_sn n : ℕ) → cmd_sn_if i cmd_sn ≡ Some n
+    → is_within n s.exp_cmd_sn (max_cmd_sn s) ≡ false → request effect s disk m i cmd_sn ≡ on disk (nothing s)
+outside_if s disk m true cmd_sn n e o = absurd cc
+outside_if s disk m false cmd_sn n e o =
+    let f : cmd_sn ≡ n = cc in
+    rw f (rw o refl)
+
+outside_due : (s : Machine) (disk : Disk) (m : Message) (head : Head) (n : ℕ) → cmd_sn_of head ≡ Some n
+    → is_within n s.exp_cmd_sn (max_cmd_sn s) ≡ false → due_step effect s disk m head ≡ on disk (nothing s)
+outside_due s disk m (NopOut h) n e o = outside_if s disk m h.immediate h.cmd_sn n e o
+outside_due s disk m (ScsiCommand h) n e o = outside_if s disk m h.immediate h.cmd_sn n e o
+outside_due s disk m (TaskRequest h) n e o = outside_if s disk m h.immediate h.cmd_sn n e o
+outside_due s disk m (TextRequest h) n e o = outside_if s disk m h.immediate h.cmd_sn n e o
+outside_due s disk m (LogoutRequest h) n e o = outside_if s disk m h.immediate h.cmd_sn n e o
+outside_due s disk m _ n e o = absurd cc
+
+outside_full : (s : Machine) (disk : Disk) (m : Message) → IsOutside s m → full_step effect s disk m ≡ on disk (nothing s)
+outside_full s disk m o = rw (o.kind, o.size) (outside_due s disk m m.head o.number o.is_number o.outside)
+
+within_limit : (s : Machine) (segment : Segment) → nat_lt s.held.target_max_recv (length (segment_bytes segment)) ≡ false
+    → s.held.target_max_recv ≤ limit s.settings → is_over_limit s segment ≡ false
+unfolding segment_bytes
+within_limit s (Bytes bytes) e le =
+    by_cases (nat_lt (limit s.settings) (length bytes))
+    (λ f. absurd (omega (arith, le, ltb-false s.held.target_max_recv (length bytes) e, ltb-true (limit s.settings) (length bytes) f))) (λ f. f)
+within_limit s (Text pairs) e le = refl
+
+pub outside_step : (s : Machine) (disk : Disk) (m : Message) → s.held.target_max_recv ≤ limit s.settings → IsOutside s m → step s disk m ≡ on disk (nothing s)
+outside_step s disk m le o =
+    let open_ : is_closed s ≡ false = ap is_closed_phase o.phase in
+    let short : is_over_limit s m.segment ≡ false = within_limit s m.segment o.size le in
+    rw (open_, short) (ap (λ (p : Phase). phase_step effect p s disk m) o.phase ∙ outside_full s disk m o)
+
+pub reached_outside : (settings : Settings) (n : ℕ) (disk : Disk) (ms : List Message) (m : Message) → IsOutside (answers (opening settings n) disk ms).machine m
+    → step (answers (opening settings n) disk ms).machine (answers (opening settings n) disk ms).disk m
+    ≡ on (answers (opening settings n) disk ms).disk (nothing (answers (opening settings n) disk ms).machine)
+reached_outside settings n disk ms m o =
+    let r : Stepped = answers (opening settings n) disk ms in
+    outside_step r.machine r.disk m (reached_fit settings n disk ms).limit o
+
+pub reached_limit : (settings : Settings) (n : ℕ) (disk : Disk) (ms : List Message) → (answers (opening settings n) disk ms).machine.held.target_max_recv ≤ limit settings
+reached_limit settings n disk ms =
+    subst (λ (x : Settings). (answers (opening settings n) disk ms).machine.held.target_max_recv ≤ limit x) (answers_settings (opening settings n) disk ms) (reached_fit settings n disk ms).limit

@@ -1,0 +1,13 @@
+use Rattle.std.proofs.Common.{◌≤◌, length, arith, rules}
+use Rattle.scsi_disk.specs.Plan.{first_refusal}
+use Rattle.iscsi_target.specs.Command.{order_of}
+use Rattle.iscsi_target.proofs.Orders.{takes_is, staged_at}
+use Rattle.iscsi_target.proofs.course.Course.open.Goals.{then-command, else-command}
+use Rattle.iscsi_target.proofs.course.Course.open.Goals as goal
+
+pub invariant_of-write : goal.invariant_of-write
+invariant_of-write g c =
+    let said = takes_is (first_refusal (order_of c.args.command.now) (g.S.BlockStore.disk c.args.store.now).count) (order_of c.args.command.now) c.args.total (g.S.BlockStore.disk c.args.store.now).count c.requires.plan in
+    let size : length c.extend_from_slice.new.self.items ≤ c.args.total = search rules in
+    staged_at c.order_of.result (order_of c.args.command.now) c.args.total c.extend_from_slice.new.self.items c.if-command.write c.order_of.ensures said.0 said.1 size
+    (elim c.if-command.branch [ then-command w ↦ rw w.write-is (omega arith) | else-command w ↦ rw w.write-is (omega arith) ])

@@ -1,0 +1,15 @@
+use Rattle.std.proofs.Common.{◌∙◌, sym}
+use Rattle.iscsi_target.specs.Machine.{answers}
+use Rattle.iscsi_target.proofs.DiskFold.{answers_fold}
+use Rattle.iscsi_target.proofs.Numbers.{answers_tags}
+use Rattle.iscsi_target.proofs.Leading.{may_leads}
+use Rattle.iscsi_target.proofs.Accepted.{opening_in_order, tags_of_tasks}
+use Rattle.iscsi_target.proofs.laws.one_disk.Goals as goal
+
+pub returns : goal.returns
+returns c = record {
+  fold = answers_fold;
+  may = may_leads;
+  answered = λ s disk ms. answers_tags s disk ms ∙ sym (tags_of_tasks (answers s disk ms).executed);
+  order = opening_in_order;
+}

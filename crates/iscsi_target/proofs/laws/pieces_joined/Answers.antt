@@ -1,0 +1,10 @@
+use Rattle.iscsi_target.specs.Machine.{step_on}
+use Rattle.iscsi_target.proofs.Joining.{step_joined}
+use Rattle.iscsi_target.proofs.Continuing.{may_apart, may_same}
+use Rattle.iscsi_target.proofs.laws.pieces_joined.Goals as goal
+
+pub returns : goal.returns
+returns c = record {
+  same = step_joined;
+  may = λ s disk m a p. (step_on p.device s disk m, may_apart s disk m a p, may_same s disk m a p);
+}

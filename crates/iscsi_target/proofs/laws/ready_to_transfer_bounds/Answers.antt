@@ -1,0 +1,6 @@
+use Rattle.iscsi_target.proofs.Sound.{reached_keeps}
+use Rattle.iscsi_target.proofs.Asked.{opening_asks}
+use Rattle.iscsi_target.proofs.laws.ready_to_transfer_bounds.Goals as goal
+
+pub returns : goal.returns
+returns c = record { modest = λ settings n disk ms m. (reached_keeps settings n disk ms m).modest; one = opening_asks }

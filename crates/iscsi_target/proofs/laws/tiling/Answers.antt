@@ -1,0 +1,6 @@
+use Rattle.iscsi_target.proofs.Sound.{reached_keeps}
+use Rattle.iscsi_target.proofs.Reached.{reached_data_in}
+use Rattle.iscsi_target.proofs.laws.tiling.Goals as goal
+
+pub returns : goal.returns
+returns c = record { data_in = reached_data_in; writes = λ settings n disk ms m. (reached_keeps settings n disk ms m).tiled }

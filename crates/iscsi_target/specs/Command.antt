@@ -1,0 +1,139 @@
+-- SCSI commands, and the data that writes take (RFC 7143, sections 11.3, 11.7 and 11.8).
+use Rattle.std.specs.Prelude.{ℕ, Bool, false, not, ◌==◌, ◌&&◌, ◌||◌, nat_lt, nat_le, min, if◌then◌else◌, List, [], ◌∷◌, length, Option, Some, None}
+use Rattle.scsi_disk.specs.Disk.{Disk}
+use Rattle.scsi_disk.specs.Plan.{plan_of}
+use Rattle.scsi_disk.specs.declared.order.Order.{Order}
+use Rattle.scsi_disk.specs.declared.order.Plan.{Plan}
+use Rattle.scsi_disk.specs.declared.order.Plan.TheVariants.{Take}
+use Rattle.iscsi_pdu.specs.declared.head.scsi_command.ScsiCommand.{ScsiCommand}
+use Rattle.iscsi_pdu.specs.declared.head.data_out.DataOut.{DataOut}
+use Rattle.iscsi_pdu.specs.declared.head.Head.{Head}
+use Rattle.iscsi_pdu.specs.declared.head.Head.TheVariants as heads
+use Rattle.iscsi_stream.specs.Stream.{Message}
+use Rattle.iscsi_login.specs.declared.key.NegKey.{NegKey}
+use Rattle.iscsi_login.specs.declared.key.NegKey.TheVariants as keys
+use Rattle.iscsi_login.specs.declared.preferences.Answered.{Answered}
+use Rattle.iscsi_login.specs.declared.preferences.Answered.TheVariants.{Flag}
+use Rattle.iscsi_login.specs.Held.{Held, held_value, first_burst}
+use Rattle.iscsi_target.specs.State.{Machine, Write, Stepped, Reply, on, message, nothing, max_cmd_sn}
+use Rattle.iscsi_target.specs.Rejecting.{breach, data_out_of_order}
+use Rattle.iscsi_target.specs.declared.due.Due.TheVariants.{Nothing, Unsolicited}
+use Rattle.iscsi_target.specs.Transfer.{received, with_piece, is_whole, taken, asking, desired, is_idle}
+use Rattle.iscsi_target.specs.Execution.{Device, execute}
+
+-- ---- a command
+
+-- What a command orders of the disk (section 11.3).
+abbrev pub order_of : ScsiCommand → Order
+order_of h = record {
+  cdb = h.cdb;
+  lun = h.lun;
+  read = h.read;
+  write = h.write;
+  expected = h.expected_data_transfer_length;
+}
+
+-- The value of a boolean key (section 6.1).
+abbrev pub flag_of : Answered → Bool
+flag_of (Flag b) = b
+flag_of _ = false
+
+-- The held value of the key is `Yes` (section 6.1).
+abbrev pub is_on : Held → NegKey → Bool
+is_on held key = flag_of (held_value held key)
+
+-- How many bytes of a command may come unasked (sections 13.11 and 13.14).
+abbrev pub unasked : Held → ScsiCommand → ℕ
+unasked held h = min h.expected_data_transfer_length (first_burst held)
+
+-- Immediate data come that may not be there, or too many of them (section 13.11).
+abbrev pub is_bad_segment : Held → ScsiCommand → ℕ → Bool
+is_bad_segment held h n =
+    nat_lt 0 n
+    && (not h.write || (not (is_on held keys.ImmediateData) || nat_lt (unasked held h) n))
+
+-- More data are announced where none may come unasked (section 13.10).
+abbrev pub is_bad_announcement : Held → ScsiCommand → ℕ → Bool
+is_bad_announcement held h n =
+    h.write && (not h.is_final && (is_on held keys.InitialR2T || nat_le (unasked held h) n))
+
+-- A command with so many immediate bytes breaks the rules of the first burst (sections 13.10, 13.11
+-- and 13.14).
+abbrev pub breaks_burst_rules : Held → ScsiCommand → ℕ → Bool
+breaks_burst_rules held h n = is_bad_segment held h n || is_bad_announcement held h n
+
+-- ---- a write
+
+-- The head of the R2T that goes out next (section 11.8).
+abbrev pub r2t_head : Machine → Write → Head
+r2t_head s w = heads.ReadyToTransfer (record {
+  lun = w.order.lun;
+  initiator_task_tag = w.initiator_task_tag;
+  target_transfer_tag = w.asked;
+  stat_sn = s.stat_sn;
+  exp_cmd_sn = s.exp_cmd_sn;
+  max_cmd_sn = max_cmd_sn s;
+  r2t_sn = w.asked;
+  buffer_offset = received w;
+  desired_data_transfer_length = desired s.held w;
+})
+
+-- An R2T goes out, which advances no StatSN (section 11.8).
+abbrev pub ask : Machine → Write → Reply
+ask s w = record {
+  machine = record s { write = Some (asking s.held w) };
+  answers = message (r2t_head s w) [] ∷ [];
+  rule = None;
+}
+
+-- A write that is open: it is executed when all bytes are there; else an R2T goes out where no
+-- sequence is due (sections 4.2.5.2 and 11.8; that all blocks are written at once is own rule).
+abbrev pub proceed : Device → Machine → Disk → Write → Stepped
+proceed device s disk w =
+    if is_whole w
+    then execute device (record s { write = None }) disk w.initiator_task_tag w.order w.pieces
+    else if is_idle w.due then on disk (ask (record s { write = Some w }) w)
+    else on disk (nothing (record s { write = Some w }))
+
+-- The write of so many bytes that a command with these immediate bytes opens (section 11.3).
+abbrev pub opened : ScsiCommand → ℕ → List ℕ → Write
+opened h total bytes = record {
+  initiator_task_tag = h.initiator_task_tag;
+  order = order_of h;
+  total = total;
+  pieces = with_piece [] 0 bytes;
+  due = if h.is_final then Nothing else Unsolicited 0;
+  asked = 0;
+}
+
+-- A command by its plan: a write is opened, any other command is executed. One that is refused
+-- doesn't wait for its data (section 11.4; own rule).
+abbrev pub planned : Device → Machine → Disk → ScsiCommand → List ℕ → Plan → Stepped
+planned device s disk h bytes (Take total) = proceed device s disk (opened h total bytes)
+planned device s disk h bytes _ = execute device s disk h.initiator_task_tag (order_of h) []
+
+-- A SCSI Command (section 11.3).
+abbrev pub scsi_command : Device → Machine → Disk → Message → ScsiCommand → List ℕ → Stepped
+scsi_command device s disk m h bytes =
+    if breaks_burst_rules s.held h (length bytes) then on disk (breach s data_out_of_order m)
+    else planned device s disk h bytes (plan_of (order_of h) disk.count)
+
+-- ---- a Data-Out
+
+-- The open write with the Data-Out, or none where that wasn't due (section 11.7).
+abbrev pub data_taken : Device → Machine → Disk → Message → Option Write → Stepped
+data_taken device s disk m None = on disk (breach s data_out_of_order m)
+data_taken device s disk m (Some w) = proceed device s disk w
+
+-- The open write with its tag takes a Data-Out; where there is none it is dropped (section 11.7;
+-- own rule).
+abbrev pub data_for : Device → Machine → Disk → Message → DataOut → List ℕ → Option Write → Stepped
+data_for device s disk m h bytes None = on disk (nothing s)
+data_for device s disk m h bytes (Some w) =
+    if h.initiator_task_tag == w.initiator_task_tag
+    then data_taken device s disk m (taken (first_burst s.held) w h bytes)
+    else on disk (nothing s)
+
+-- A Data-Out (section 11.7).
+abbrev pub data_out : Device → Machine → Disk → Message → DataOut → List ℕ → Stepped
+data_out device s disk m h bytes = data_for device s disk m h bytes s.write

@@ -1,0 +1,142 @@
+-- The execution of an order: its data in Data-In PDUs, and its response (RFC 7143, sections 11.4
+-- and 11.7).
+use Rattle.std.specs.Prelude.{ℕ, zero, suc, ◌+◌, Bool, true, false, List, [], ◌∷◌, ◌++◌, length, take, drop, Option, Some, None}
+use Rattle.std.specs.List.{flat_map}
+use Rattle.scsi_cdb.specs.Sense.{sense_bytes}
+use Rattle.scsi_cdb.specs.declared.sense.Sense.{Sense}
+use Rattle.scsi_cdb.specs.declared.residual.Residual.{Residual}
+use Rattle.scsi_cdb.specs.declared.residual.Residual.TheVariants.{Exact, Under, Over}
+use Rattle.scsi_disk.specs.Disk.{Disk}
+use Rattle.scsi_disk.specs.Effect.{Effect}
+use Rattle.scsi_disk.specs.declared.order.Order.{Order}
+use Rattle.scsi_disk.specs.declared.order.Outcome.{Outcome}
+use Rattle.iscsi_pdu.specs.declared.head.Head.{Head}
+use Rattle.iscsi_pdu.specs.declared.head.Head.TheVariants as heads
+use Rattle.iscsi_stream.specs.Stream.{Message}
+use Rattle.iscsi_login.specs.Held.{Held}
+use Rattle.iscsi_target.specs.State.{Machine, Pieces, data_of, Execution, Stepped, message, counted, max_cmd_sn, reserved_tag}
+use Rattle.iscsi_target.specs.Transfer.{max_burst}
+
+-- What a store does with an order and its data; one that doesn't fail does `effect` (own rule).
+abbrev pub Device : Type 0
+Device = Disk → Order → List ℕ → Effect
+
+-- ---- data that a command gives
+
+-- Parts of at most so many bytes; the first number counts down to no part (section 11.7).
+abbrev pub parts_within : ℕ → ℕ → List ℕ → List (List ℕ)
+parts_within zero size bytes = []
+parts_within (suc more) size [] = []
+parts_within (suc more) size (byte ∷ bytes) =
+    take size (byte ∷ bytes) ∷ parts_within more size (drop size (byte ∷ bytes))
+
+-- Bytes in parts of a size, of which the last has what is left (section 11.7).
+abbrev pub parts : ℕ → List ℕ → List (List ℕ)
+parts size bytes = parts_within (length bytes) size bytes
+
+-- The parts of a run, of which the last is marked (section 11.7.1).
+abbrev pub marked : List (List ℕ) → List (List ℕ × Bool)
+marked [] = []
+marked (part ∷ []) = (part, true) ∷ []
+marked (part ∷ next ∷ more) = (part, false) ∷ marked (next ∷ more)
+
+-- A run of data in parts, each of at most what the initiator takes in one segment (section 13.12).
+abbrev pub run_given : Held → List ℕ → List (List ℕ × Bool)
+run_given held run = marked (parts held.initiator_max_recv run)
+
+-- Data in runs of MaxBurstLength bytes (sections 11.7.1 and 13.13).
+abbrev pub parts_given : Held → List ℕ → List (List ℕ × Bool)
+parts_given held bytes = flat_map (run_given held) (parts (max_burst held) bytes)
+
+-- The head of a Data-In; the status comes in a response of its own (section 11.7; own rule).
+abbrev pub data_in_head : Machine → ℕ → ℕ → ℕ → Bool → Head
+data_in_head s tag data_sn offset is_final = heads.DataIn (record {
+  is_final = is_final;
+  acknowledge = false;
+  overflow = None;
+  underflow = None;
+  has_status = false;
+  status = None;
+  lun = None;
+  initiator_task_tag = tag;
+  target_transfer_tag = reserved_tag;
+  stat_sn = None;
+  exp_cmd_sn = s.exp_cmd_sn;
+  max_cmd_sn = max_cmd_sn s;
+  data_sn = data_sn;
+  buffer_offset = offset;
+  residual = None;
+})
+
+-- The Data-In of these parts, from a DataSN and an offset on (sections 11.7.4 and 11.7.5).
+abbrev pub data_ins : Machine → ℕ → ℕ → ℕ → List (List ℕ × Bool) → List Message
+data_ins s tag data_sn offset [] = []
+data_ins s tag data_sn offset (part ∷ more) =
+    message (data_in_head s tag data_sn offset part.1) part.0
+    ∷ data_ins s tag (data_sn + 1) (offset + length part.0) more
+
+-- ---- the response
+
+-- The command had fewer bytes than were expected (section 11.4.1).
+abbrev pub is_under : Residual → Bool
+is_under (Under n) = true
+is_under _ = false
+
+-- The command had more bytes than were expected (section 11.4.1).
+abbrev pub is_over : Residual → Bool
+is_over (Over n) = true
+is_over _ = false
+
+-- By how many (section 11.4.5).
+abbrev pub residual_count : Residual → Option ℕ
+residual_count Exact = None
+residual_count (Under n) = Some n
+residual_count (Over n) = Some n
+
+-- The head of the response to a command that gave so many Data-In (section 11.4).
+abbrev pub response_head : Machine → ℕ → Outcome → ℕ → Head
+response_head s tag outcome count = heads.ScsiResponse (record {
+  bidirectional_overflow = false;
+  bidirectional_underflow = false;
+  overflow = is_over outcome.residual;
+  underflow = is_under outcome.residual;
+  response = 0;
+  status = Some outcome.status;
+  initiator_task_tag = tag;
+  stat_sn = s.stat_sn;
+  exp_cmd_sn = s.exp_cmd_sn;
+  max_cmd_sn = max_cmd_sn s;
+  exp_data_sn = Some count;
+  bidirectional_residual = None;
+  residual = residual_count outcome.residual;
+})
+
+-- The sense data behind their length (section 11.4.7).
+abbrev pub sense_segment : Option Sense → List ℕ
+sense_segment None = []
+sense_segment (Some sense) = 0x00 ∷ 0x12 ∷ sense_bytes sense
+
+-- The Data-In of a command, and then its response (section 11.4).
+abbrev pub command_answers : Machine → ℕ → Outcome → List (List ℕ × Bool) → List Message
+command_answers s tag outcome given =
+    data_ins s tag 0 0 given
+    ++ message (response_head s tag outcome (length given)) (sense_segment outcome.sense) ∷ []
+
+-- An order was executed with this effect: its data go out, and its response (section 11.4).
+abbrev pub told : Machine → Execution → Effect → Stepped
+told s e effect = record {
+  machine = counted s;
+  disk = effect.disk;
+  answers =
+      command_answers s e.initiator_task_tag effect.outcome
+      (parts_given s.held effect.outcome.bytes);
+  rule = None;
+  accepted = [];
+  executed = e ∷ [];
+}
+
+-- An order of a task is executed, with the data of these pieces (section 11.4).
+abbrev pub execute : Device → Machine → Disk → ℕ → Order → Pieces → Stepped
+execute device s disk tag order pieces =
+    told s (record { initiator_task_tag = tag; disk = disk; order = order; pieces = pieces })
+    (device disk order (data_of pieces))

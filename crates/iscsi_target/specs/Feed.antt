@@ -1,0 +1,174 @@
+-- What the calls of a target do: a stream that comes in pieces (RFC 7143, section 11; own rule).
+use Rattle.std.specs.Prelude.{◌≡◌, ◌≢◌, ◌≤◌, ◌⊎◌, ℕ, Bool, true, false, List, [], ◌∷◌, ◌++◌, length, take, drop, Some, None, Result, Ok, Err}
+use Rattle.std.specs.List.{flat_map}
+use Rattle.scsi_disk.specs.Disk.{Disk}
+use Rattle.iscsi_stream.specs.declared.fault.StreamFault.TheVariants as stream
+use Rattle.iscsi_stream.specs.Stream.{Message}
+use Rattle.iscsi_stream.specs.Canonical.{canon}
+use Rattle.iscsi_stream.specs.Framing as framing
+use Rattle.iscsi_stream.specs.Framing.{Framing, Moves, FeedFails, FinishFails, HasTaken, is_ready}
+use Rattle.iscsi_login.specs.declared.phase.Phase.{Phase}
+use Rattle.iscsi_target.specs.declared.fault.TargetFault.{TargetFault}
+use Rattle.iscsi_target.specs.declared.fault.TargetFault.TheVariants as faults
+use Rattle.iscsi_target.specs.Configured.{Settings}
+use Rattle.iscsi_target.specs.State.{Machine, Stepped, closed, limit, opening}
+use Rattle.iscsi_target.specs.Transfer.{joined}
+use Rattle.iscsi_target.specs.Machine.{is_closed, answers, MayAnswer}
+
+-- A target between two calls: its session, and what it has of the next PDU (own rule).
+pub record Connection : Type 0 where
+  pub machine : Machine
+  pub framing : Framing
+
+-- A target to which nothing came (own rule).
+abbrev pub opening_connection : Settings → ℕ → Connection
+opening_connection settings first_stat_sn = record {
+  machine = opening settings first_stat_sn;
+  framing = framing.opening (limit settings);
+}
+
+-- A store: its blocks, and how often its device failed (own rule).
+pub record Store : Type 0 where
+  pub disk : Disk
+  pub failures : ℕ
+
+-- ---- a call of feed
+
+-- A call took bytes that complete these PDUs, and answered them one after another. Where the device
+-- didn't fail the answers are those of the machine; else they are any that the store may lead to.
+pub record Answers (old : Connection) (before : Store) (output bytes : List ℕ) (framing : Framing)
+    (ms : List Message) (r : Stepped) (after : Store) (written : List ℕ) : Type 0 where
+  pub taken : Moves old.framing framing bytes ms
+  pub limit : framing.limit ≡ old.framing.limit
+  pub ready : is_ready framing ≡ false
+  pub may : MayAnswer old.machine before.disk ms r
+  pub works : after.failures ≡ before.failures → r ≡ answers old.machine before.disk ms
+  pub disk : after.disk ≡ r.disk
+  pub output_is : written ≡ output ++ canon r.answers
+
+-- The session is closed by a fault, with what it held and the stage that it was in (own rule).
+abbrev pub IsShut : Machine → Machine → Type 0
+IsShut machine new = new ≡ closed machine
+
+-- The session goes on, and the whole piece was taken (own rule).
+pub record GoesOn (piece : List ℕ) (framing : Framing) (n : ℕ) (r : Stepped)
+    (new : Connection) : Type 0 where
+  pub live : is_closed r.machine ≡ false
+  pub all : n ≡ length piece
+  pub framing_is : new.framing ≡ framing
+
+-- No rule was broken, and the session isn't closed (own rule).
+pub record IsLive (r : Stepped) : Type 0 where
+  pub rule : r.rule ≡ None
+  pub live : is_closed r.machine ≡ false
+
+-- What the call answers says what the last PDU led to, and what follows it (own rule).
+abbrev pub Ends : List ℕ → Result Phase TargetFault → Framing → ℕ → Stepped → Connection → Type 0
+-- it goes on; or it was closed, and the rest of the piece is dropped
+Ends piece (Ok phase) framing n r new =
+    (r.rule ≡ None) × (new.machine ≡ joined r.machine) × (phase ≡ r.machine.phase)
+    × ((is_closed r.machine ≡ true) ⊎ GoesOn piece framing n r new)
+-- memory was refused at the next PDU: it changes nothing but that the session is closed
+Ends piece (Err faults.NoMemory) framing n r new = IsLive r × IsShut r.machine new.machine
+-- the rest of the stream so far begins with what the framer refuses
+Ends piece (Err (faults.Stream fault)) framing n r new =
+    IsLive r × (fault ≢ stream.NoMemory) × FeedFails framing (drop n piece) fault
+    × IsShut r.machine new.machine
+-- the last PDU broke a rule
+Ends piece (Err (faults.Protocol rule)) framing n r new =
+    (r.rule ≡ Some rule) × (new.machine ≡ joined r.machine)
+Ends piece (Err faults.Closed) framing n r new = ⊥
+
+-- A call in a session that isn't closed took the first bytes of the piece, and answered the PDUs
+-- that they complete (own rule).
+pub record Feeds (old : Connection) (before : Store) (output piece : List ℕ)
+    (result : Result Phase TargetFault) (new : Connection) (after : Store)
+    (written : List ℕ) : Type 0 where
+  pub framing : Framing
+  pub count : ℕ
+  pub some : count ≤ length piece
+  pub messages : List Message
+  pub stepped : Stepped
+  pub answered : Answers old before output (take count piece) framing messages stepped after written
+  pub ends : Ends piece result framing count stepped new
+
+-- A closed session stays as it is (own rule).
+pub record Stays (old : Connection) (before : Store) (output : List ℕ)
+    (result : Result Phase TargetFault) (new : Connection) (after : Store)
+    (written : List ℕ) : Type 0 where
+  pub result_is : result ≡ Err faults.Closed
+  pub connection : new ≡ old
+  pub store : after ≡ before
+  pub output_is : written ≡ output
+
+-- What a call of feed does, by whether the session is closed (own rule).
+abbrev pub FedIf : Bool → Connection → Store → List ℕ → List ℕ → Result Phase TargetFault
+    → Connection → Store → List ℕ → Type 0
+FedIf true old before output piece result new after written =
+    Stays old before output result new after written
+FedIf false old before output piece result new after written =
+    Feeds old before output piece result new after written
+
+-- What a call of feed does with a piece of the stream (own rule).
+abbrev pub Fed : Connection → Store → List ℕ → List ℕ → Result Phase TargetFault
+    → Connection → Store → List ℕ → Type 0
+Fed old before output piece result new after written =
+    FedIf (is_closed old.machine) old before output piece result new after written
+
+-- ---- a call of finish
+
+-- What a call of finish does: the stream ends between two PDUs, or within one (own rule).
+abbrev pub Finishes : Connection → Result (Unit {0}) TargetFault → Connection → Type 0
+Finishes old (Ok _) new = (is_closed old.machine ≡ false) × (new ≡ old) × (old.framing.held ≡ [])
+Finishes old (Err faults.Closed) new = (is_closed old.machine ≡ true) × (new ≡ old)
+Finishes old (Err (faults.Stream fault)) new =
+    (is_closed old.machine ≡ false) × FinishFails old.framing fault × IsShut old.machine new.machine
+Finishes old (Err faults.NoMemory) new = ⊥
+Finishes old (Err (faults.Protocol rule)) new = ⊥
+
+-- ---- a whole stream, in whatever pieces
+
+-- From the opening state this stream was taken, and these bytes were written (own rule).
+pub record HasAnswered (settings : Settings) (first_stat_sn : ℕ) (disk : Disk) (stream : List ℕ)
+    (now : Connection) (disk_now : Disk) (written : List ℕ) : Type 0 where
+  pub messages : List Message
+  pub taken : HasTaken stream messages now.framing
+  pub machine :
+      now.machine ≡ joined (answers (opening settings first_stat_sn) disk messages).machine
+  pub disk_is : disk_now ≡ (answers (opening settings first_stat_sn) disk messages).disk
+  pub output_is : written ≡ canon (answers (opening settings first_stat_sn) disk messages).answers
+
+-- The stream that comes in these pieces (own rule).
+abbrev pub stream_of : List (List ℕ) → List ℕ
+stream_of pieces = flat_map (λ piece. piece) pieces
+
+-- Memory was there, and the device didn't fail (own rule).
+pub record GoesWell (result : Result Phase TargetFault) (before after : Store) : Type 0 where
+  pub memory : result ≢ Err faults.NoMemory
+  pub device : after.failures ≡ before.failures
+
+-- Calls of feed with pieces of a stream, one after another, which all go well (own rule).
+unfoldable pub FedAll : Connection → Store → List ℕ → List (List ℕ)
+    → Connection → Store → List ℕ → Type 0
+FedAll old before output [] new after written =
+    (new ≡ old) × (after ≡ before) × (written ≡ output)
+FedAll old before output (piece ∷ pieces) new after written =
+    (result : Result Phase TargetFault) × (now : Connection) × (store : Store) × (out : List ℕ)
+    × Fed old before output piece result now store out × GoesWell result before store
+    × FedAll now store out pieces new after written
+
+-- The target is where these messages lead to from the opening state, and so are the blocks and what
+-- was written; of the open write the program keeps the bytes as one piece (own rule).
+pub record Meets (settings : Settings) (first_stat_sn : ℕ) (disk : Disk) (messages : List Message)
+    (now : Connection) (disk_now : Disk) (written : List ℕ) : Type 0 where
+  pub machine :
+      now.machine ≡ joined (answers (opening settings first_stat_sn) disk messages).machine
+  pub disk_is : disk_now ≡ (answers (opening settings first_stat_sn) disk messages).disk
+  pub output_is : written ≡ canon (answers (opening settings first_stat_sn) disk messages).answers
+
+-- The blocks and what was written are those that these messages lead to from the opening state (own
+-- rule).
+pub record Writes (settings : Settings) (first_stat_sn : ℕ) (disk : Disk) (messages : List Message)
+    (disk_now : Disk) (written : List ℕ) : Type 0 where
+  pub disk_is : disk_now ≡ (answers (opening settings first_stat_sn) disk messages).disk
+  pub output_is : written ≡ canon (answers (opening settings first_stat_sn) disk messages).answers

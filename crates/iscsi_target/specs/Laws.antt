@@ -1,0 +1,164 @@
+-- The words of the laws: what holds of every list of messages (RFC 7143, sections 4.2, 11.7 and
+-- 11.8).
+use Rattle.std.specs.Prelude.{◌≡◌, ◌⊎◌, ℕ, ◌+◌, ◌≤◌, ◌<◌, ◌^◌, ◌%◌, Bool, true, false, List, [], ◌∷◌, ◌++◌, length, map, slice_index, Option, Some, None}
+use Rattle.std.specs.List.{flat_map}
+use Rattle.scsi_disk.specs.Disk.{Disk}
+use Rattle.scsi_disk.specs.Effect.{Effect, effect, FailsBy}
+use Rattle.scsi_disk.specs.Plan.{plan_of}
+use Rattle.scsi_disk.specs.Runs.{Supplied}
+use Rattle.scsi_disk.specs.declared.order.Order.{Order}
+use Rattle.iscsi_pdu.specs.declared.head.Head.{Head}
+use Rattle.iscsi_pdu.specs.declared.head.Head.TheVariants as heads
+use Rattle.iscsi_stream.specs.Stream.{Message}
+use Rattle.iscsi_login.specs.declared.phase.Phase.TheVariants as phases
+use Rattle.iscsi_target.specs.State.{Machine, Write, Execution, data_of, Stepped, is_within, max_cmd_sn}
+use Rattle.iscsi_target.specs.Transfer.{with_piece, joined}
+use Rattle.iscsi_target.specs.Command.{order_of}
+use Rattle.iscsi_target.specs.Machine.{is_closed, is_due_kind, is_too_long}
+
+-- ---- numbers
+
+-- The k-th is the first and k, round the circle of 2^32 (section 4.2.2).
+abbrev pub CountOn : ℕ → List ℕ → Type 0
+CountOn n numbers = (k : ℕ) → k < length numbers → slice_index numbers k ≡ (n + k) % 2 ^ 32
+
+-- The numbers that there are (own rule).
+abbrev pub given_number : Option ℕ → List ℕ
+given_number None = []
+given_number (Some n) = n ∷ []
+
+-- The StatSN of an answer that carries and advances it (section 4.2.2.2).
+abbrev pub stat_sn_of : Head → Option ℕ
+stat_sn_of (heads.LoginResponse h) = h.stat_sn
+stat_sn_of (heads.NopIn h) = Some h.stat_sn
+stat_sn_of (heads.ScsiResponse h) = Some h.stat_sn
+stat_sn_of (heads.TaskResponse h) = Some h.stat_sn
+stat_sn_of (heads.TextResponse h) = Some h.stat_sn
+stat_sn_of (heads.LogoutResponse h) = Some h.stat_sn
+stat_sn_of (heads.Reject h) = Some h.stat_sn
+stat_sn_of _ = None
+
+-- The StatSN of the answers that carry and advance it (section 4.2.2.2).
+abbrev pub stat_sns : List Message → List ℕ
+stat_sns ms = flat_map (λ m. given_number (stat_sn_of m.head)) ms
+
+-- The CmdSN of a request that isn't immediate (section 4.2.2.1).
+abbrev pub cmd_sn_if : Bool → ℕ → Option ℕ
+cmd_sn_if true n = None
+cmd_sn_if false n = Some n
+
+-- The CmdSN of a request that isn't immediate (section 4.2.2.1).
+abbrev pub cmd_sn_of : Head → Option ℕ
+cmd_sn_of (heads.NopOut h) = cmd_sn_if h.immediate h.cmd_sn
+cmd_sn_of (heads.ScsiCommand h) = cmd_sn_if h.immediate h.cmd_sn
+cmd_sn_of (heads.TaskRequest h) = cmd_sn_if h.immediate h.cmd_sn
+cmd_sn_of (heads.TextRequest h) = cmd_sn_if h.immediate h.cmd_sn
+cmd_sn_of (heads.LogoutRequest h) = cmd_sn_if h.immediate h.cmd_sn
+cmd_sn_of _ = None
+
+-- The CmdSN of the requests that aren't immediate (section 4.2.2.1).
+abbrev pub cmd_sns : List Message → List ℕ
+cmd_sns ms = flat_map (λ m. given_number (cmd_sn_of m.head)) ms
+
+-- A number of 32 bits, if there is one (section 11).
+abbrev pub FitsNumber : Option ℕ → Type 0
+FitsNumber None = Unit {0}
+FitsNumber (Some n) = n < 2 ^ 32
+
+-- The CmdSN that a login begins with (section 11.12.8).
+abbrev pub login_cmd_sn : Head → Option ℕ
+login_cmd_sn (heads.LoginRequest h) = Some h.cmd_sn
+login_cmd_sn _ = None
+
+-- CmdSN is a number of 32 bits, as in each PDU (section 11).
+pub record HasCmdSn (m : Message) : Type 0 where
+  pub request : FitsNumber (cmd_sn_of m.head)
+  pub login : FitsNumber (login_cmd_sn m.head)
+
+-- ---- one disk
+
+-- A command by its tag and what it orders (section 11.3).
+abbrev pub Task : Type 0
+Task = ℕ × Order
+
+-- The command of a request, if it is one (section 11.3).
+abbrev pub task_in : Head → List Task
+task_in (heads.ScsiCommand h) = (h.initiator_task_tag, order_of h) ∷ []
+task_in _ = []
+
+-- The commands among requests (section 11.3).
+abbrev pub tasks_in : List Message → List Task
+tasks_in ms = flat_map (λ m. task_in m.head) ms
+
+-- The command that was executed (section 11.3).
+abbrev pub task_of : Execution → Task
+task_of e = (e.initiator_task_tag, e.order)
+
+-- The commands that were executed (section 11.3).
+abbrev pub tasks_done : List Execution → List Task
+tasks_done es = map task_of es
+
+-- An order that was executed, with its data (section 11.3).
+abbrev pub supplied : Execution → Supplied
+supplied e = (e.order, data_of e.pieces)
+
+-- What was executed did what the order does, or what it may do where the device fails, and left
+-- this (own rule).
+abbrev pub MayLeave : Execution → Effect → Type 0
+MayLeave e after =
+    (after ≡ effect e.disk e.order (data_of e.pieces))
+    ⊎ FailsBy (plan_of e.order e.disk.count) e.disk e.order (data_of e.pieces) after
+
+-- What was executed, one after another, leads from one disk to another, each on the disk that the
+-- one before left (own rule).
+unfoldable pub Leads : Disk → List Execution → Disk → Type 0
+Leads disk [] last = last ≡ disk
+Leads disk (e ∷ es) last =
+    (after : Effect) × (e.disk ≡ disk) × MayLeave e after × Leads after.disk es last
+
+-- The command of the open write (section 11.3).
+abbrev pub task_open : Option Write → List Task
+task_open None = []
+task_open (Some w) = (w.initiator_task_tag, w.order) ∷ []
+
+-- The tag of the command that an answer is the response to (section 11.4).
+abbrev pub response_tag : Head → List ℕ
+response_tag (heads.ScsiResponse h) = h.initiator_task_tag ∷ []
+response_tag _ = []
+
+-- The tags of the commands whose response went out (section 11.4).
+abbrev pub response_tags : List Message → List ℕ
+response_tags ms = flat_map (λ m. response_tag m.head) ms
+
+-- The commands that were accepted are those that were executed, in their order, and at most one
+-- more: the open write, unless the session is closed (section 4.2.2.1).
+pub record AreInOrder (r : Stepped) : Type 0 where
+  pub more : List Task
+  pub order : tasks_in r.accepted ≡ tasks_done r.executed ++ more
+  pub few : length more ≤ 1
+  pub open_write : is_closed r.machine ≡ false → more ≡ task_open r.machine.write
+
+-- ---- the window
+
+-- A request that isn't immediate came outside the window, and may come in its phase and length
+-- (section 4.2.2.1).
+pub record IsOutside (s : Machine) (m : Message) : Type 0 where
+  pub phase : s.phase ≡ phases.Full
+  pub kind : is_due_kind s.session m.head ≡ true
+  pub size : is_too_long s m ≡ false
+  pub number : ℕ
+  pub is_number : cmd_sn_of m.head ≡ Some number
+  pub outside : is_within number s.exp_cmd_sn (max_cmd_sn s) ≡ false
+
+-- ---- pieces joined
+
+-- What was executed, with its bytes as one piece (own rule).
+abbrev pub joined_execution : Execution → Execution
+joined_execution e = record e { pieces = with_piece [] 0 (data_of e.pieces) }
+
+-- What a message does, with the bytes of each write as one piece (own rule).
+abbrev pub joined_stepped : Stepped → Stepped
+joined_stepped r = record r {
+  machine = joined r.machine;
+  executed = map joined_execution r.executed;
+}

@@ -1,0 +1,17 @@
+pub mod Configured
+pub mod State
+pub mod Rejecting
+pub mod LoginText
+pub mod Login
+pub mod Discovery
+pub mod Requests
+pub mod Transfer
+pub mod Execution
+pub mod Command
+pub mod Machine
+pub mod Tiles
+pub mod Worked
+pub mod Sessions
+pub mod Feed
+pub mod Inside
+pub mod Laws

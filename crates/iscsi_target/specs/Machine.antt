@@ -1,0 +1,182 @@
+-- The target machine: what each PDU leads to, over whole messages (RFC 7143, sections 4 to 11).
+--
+-- `step` is one message, and `answers` any number of them. A login stands in `Login`, SCSI commands
+-- in `Command`, the other requests in `Requests` and `Discovery`.
+use Rattle.std.specs.Prelude.{◌≡◌, ◌⊎◌, ℕ, Bool, true, false, not, nat_lt, if◌then◌else◌, List, [], ◌∷◌, ◌++◌, length, Option, Some, None}
+use Rattle.std.specs.List.{AllByRecursion}
+use Rattle.scsi_disk.specs.Disk.{Disk}
+use Rattle.scsi_disk.specs.Effect.{effect, FailsBy}
+use Rattle.scsi_disk.specs.Plan.{plan_of}
+use Rattle.iscsi_pdu.specs.declared.head.Head.{Head}
+use Rattle.iscsi_pdu.specs.declared.head.Head.TheVariants as heads
+use Rattle.iscsi_stream.specs.Segment.{Segment, Bytes, Text, segment_bytes}
+use Rattle.iscsi_stream.specs.Stream.{Message}
+use Rattle.iscsi_login.specs.declared.phase.Phase.{Phase}
+use Rattle.iscsi_login.specs.declared.phase.Phase.TheVariants as phases
+use Rattle.iscsi_login.specs.declared.stage.Session.{Session}
+use Rattle.iscsi_target.specs.State.{Machine, Write, Execution, data_of, Stepped, limit, on, nothing, shut, next_sn, is_within, max_cmd_sn}
+use Rattle.iscsi_target.specs.Rejecting.{reject, breach, kind_not_due, segment_too_long, too_many_immediate}
+use Rattle.iscsi_target.specs.LoginText.{is_normal}
+use Rattle.iscsi_target.specs.Login.{login_step}
+use Rattle.iscsi_target.specs.Discovery.{text_request}
+use Rattle.iscsi_target.specs.Execution.{Device}
+use Rattle.iscsi_target.specs.Requests.{nop_out, task_request, logout_request}
+use Rattle.iscsi_target.specs.Command.{scsi_command, data_out}
+
+-- ---- full feature phase
+
+-- The kinds of PDU that may come in a session (section 4.2.4; which come in a discovery session,
+-- and that the others close it, is own rule).
+abbrev pub is_due_kind : Session → Head → Bool
+is_due_kind session (heads.NopOut h) = true
+is_due_kind session (heads.TextRequest h) = true
+is_due_kind session (heads.LogoutRequest h) = true
+is_due_kind session (heads.ScsiCommand h) = is_normal session
+is_due_kind session (heads.DataOut h) = is_normal session
+is_due_kind session (heads.TaskRequest h) = is_normal session
+is_due_kind session _ = false
+
+-- A request that is accepted, by its kind (section 4.2.4).
+abbrev pub handled : Device → Machine → Disk → Message → Head → Stepped
+handled device s disk m (heads.NopOut h) = on disk (nop_out s h (segment_bytes m.segment))
+handled device s disk m (heads.TaskRequest h) = on disk (task_request s h)
+handled device s disk m (heads.TextRequest h) =
+    on disk (text_request s m h (segment_bytes m.segment))
+handled device s disk m (heads.LogoutRequest h) = on disk (logout_request s m h)
+handled device s disk m (heads.ScsiCommand h) =
+    scsi_command device s disk m h (segment_bytes m.segment)
+handled device s disk m _ = on disk (breach s kind_not_due m)
+
+-- What follows is of a request that was accepted (section 4.2.2.1).
+abbrev pub accepting : Message → Stepped → Stepped
+accepting m r = record r { accepted = m ∷ [] }
+
+-- A write is open (own rule).
+abbrev pub has_write : Option Write → Bool
+has_write None = false
+has_write (Some w) = true
+
+-- An immediate request takes no CmdSN; while a write is open there is no room for it (section
+-- 4.2.2.1; how much room there is, is own rule).
+abbrev pub immediate : Device → Machine → Disk → Message → Stepped
+immediate device s disk m =
+    if has_write s.write then on disk (reject s too_many_immediate m)
+    else accepting m (handled device s disk m m.head)
+
+-- The CmdSN that was due is taken (section 4.2.2.1).
+abbrev pub advanced : Machine → Machine
+advanced s = record s { exp_cmd_sn = next_sn s.exp_cmd_sn }
+
+-- A request outside the window is dropped (section 4.2.2.1).
+abbrev pub in_turn : Device → Machine → Disk → Message → ℕ → Stepped
+in_turn device s disk m cmd_sn =
+    if is_within cmd_sn s.exp_cmd_sn (max_cmd_sn s)
+    then accepting m (handled device (advanced s) disk m m.head)
+    else on disk (nothing s)
+
+-- A request that is immediate or has this CmdSN (section 11.2.1.1).
+abbrev pub request : Device → Machine → Disk → Message → Bool → ℕ → Stepped
+request device s disk m is_immediate cmd_sn =
+    if is_immediate then immediate device s disk m else in_turn device s disk m cmd_sn
+
+-- A PDU that is due, by its kind; a Data-Out has no CmdSN (section 4.2.2.1).
+abbrev pub due_step : Device → Machine → Disk → Message → Head → Stepped
+due_step device s disk m (heads.DataOut h) = data_out device s disk m h (segment_bytes m.segment)
+due_step device s disk m (heads.NopOut h) = request device s disk m h.immediate h.cmd_sn
+due_step device s disk m (heads.TaskRequest h) = request device s disk m h.immediate h.cmd_sn
+due_step device s disk m (heads.TextRequest h) = request device s disk m h.immediate h.cmd_sn
+due_step device s disk m (heads.LogoutRequest h) = request device s disk m h.immediate h.cmd_sn
+due_step device s disk m (heads.ScsiCommand h) = request device s disk m h.immediate h.cmd_sn
+due_step device s disk m _ = on disk (breach s kind_not_due m)
+
+-- The segment has more bytes than the target takes (section 13.12).
+abbrev pub is_too_long : Machine → Message → Bool
+is_too_long s m = nat_lt s.held.target_max_recv (length (segment_bytes m.segment))
+
+-- A PDU in full feature phase: its kind is judged before its length, and that before its CmdSN
+-- (section 4.2.4; the order is own rule).
+abbrev pub full_step : Device → Machine → Disk → Message → Stepped
+full_step device s disk m =
+    if not (is_due_kind s.session m.head) then on disk (breach s kind_not_due m)
+    else if is_too_long s m then on disk (breach s segment_too_long m)
+    else due_step device s disk m m.head
+
+-- ---- one message
+
+-- A segment is longer than the framer takes (own rule).
+abbrev pub is_over_limit : Machine → Segment → Bool
+is_over_limit s (Bytes bytes) = nat_lt (limit s.settings) (length bytes)
+is_over_limit s (Text pairs) = false
+
+-- A message, by the phase; a closed session answers nothing (sections 4.2.3 and 4.2.4).
+abbrev pub phase_step : Device → Phase → Machine → Disk → Message → Stepped
+phase_step device phases.Login s disk m = on disk (login_step s m)
+phase_step device phases.Full s disk m = full_step device s disk m
+phase_step device phases.Closed s disk m = on disk (nothing s)
+
+-- The session is over (own rule).
+abbrev pub is_closed_phase : Phase → Bool
+is_closed_phase phases.Closed = true
+is_closed_phase _ = false
+
+-- The session is over (own rule).
+abbrev pub is_closed : Machine → Bool
+is_closed s = is_closed_phase s.phase
+
+-- One message, over a store that does so with orders; one over the limit closes the session (own
+-- rule).
+abbrev pub step_on : Device → Machine → Disk → Message → Stepped
+step_on device s disk m =
+    if is_closed s then on disk (nothing s)
+    else if is_over_limit s m.segment then on disk (shut s None)
+    else phase_step device s.phase s disk m
+
+-- One message, over a store that doesn't fail (own rule).
+abbrev pub step : Machine → Disk → Message → Stepped
+step s disk m = step_on effect s disk m
+
+-- ---- messages one after another
+
+-- The rule that was broken first (own rule).
+abbrev pub first_rule : Option ℕ → Option ℕ → Option ℕ
+first_rule None later = later
+first_rule (Some rule) later = Some rule
+
+-- What came first, and what came then (own rule).
+abbrev pub then_stepped : Stepped → Stepped → Stepped
+then_stepped first later = record {
+  machine = later.machine;
+  disk = later.disk;
+  answers = first.answers ++ later.answers;
+  rule = first_rule first.rule later.rule;
+  accepted = first.accepted ++ later.accepted;
+  executed = first.executed ++ later.executed;
+}
+
+-- Any messages, over a store that doesn't fail (own rule).
+unfoldable pub answers : Machine → Disk → List Message → Stepped
+answers s disk [] = on disk (nothing s)
+answers s disk (m ∷ ms) =
+    then_stepped (step s disk m) (answers (step s disk m).machine (step s disk m).disk ms)
+
+-- ---- a store that may fail
+
+-- What the store did is what the order does, or what it may do where the device fails (own rule).
+abbrev pub IsAllowed : Device → Execution → Type 0
+IsAllowed device e =
+    (device e.disk e.order (data_of e.pieces) ≡ effect e.disk e.order (data_of e.pieces))
+    ⊎ FailsBy (plan_of e.order e.disk.count) e.disk e.order (data_of e.pieces)
+    (device e.disk e.order (data_of e.pieces))
+
+-- One message, over a store that may fail (own rule).
+pub record MayStep (s : Machine) (disk : Disk) (m : Message) (r : Stepped) : Type 0 where
+  pub device : Device
+  pub is : r ≡ step_on device s disk m
+  pub allowed : AllByRecursion (IsAllowed device) r.executed
+
+-- Any messages, over a store that may fail (own rule).
+unfoldable pub MayAnswer : Machine → Disk → List Message → Stepped → Type 0
+MayAnswer s disk [] r = r ≡ on disk (nothing s)
+MayAnswer s disk (m ∷ ms) r =
+    (first : Stepped) × (later : Stepped) × MayStep s disk m first
+    × MayAnswer first.machine first.disk ms later × (r ≡ then_stepped first later)

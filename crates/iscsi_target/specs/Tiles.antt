@@ -1,0 +1,124 @@
+-- What tiles a transfer, and what R2Ts ask for (RFC 7143, sections 11.7 and 11.8).
+use Rattle.std.specs.Prelude.{◌≡◌, ℕ, ◌+◌, ◌≤◌, Bool, true, ◌==◌, ◌&&◌, if◌then◌else◌, List, [], ◌∷◌, length, Option, Some, None, is_some}
+use Rattle.std.specs.List.{flat_map, AllByRecursion}
+use Rattle.scsi_disk.specs.Disk.{Disk}
+use Rattle.scsi_disk.specs.Effect.{effect}
+use Rattle.scsi_disk.specs.Plan.{plan_of}
+use Rattle.scsi_disk.specs.declared.order.Plan.{Plan}
+use Rattle.scsi_disk.specs.declared.order.Plan.TheVariants.{Take}
+use Rattle.iscsi_pdu.specs.declared.head.data_out.DataOut.{DataOut}
+use Rattle.iscsi_pdu.specs.declared.head.Head.{Head}
+use Rattle.iscsi_pdu.specs.declared.head.Head.TheVariants as heads
+use Rattle.iscsi_stream.specs.Segment.{segment_bytes}
+use Rattle.iscsi_stream.specs.Stream.{Message}
+use Rattle.iscsi_login.specs.Held.{Held, first_burst}
+use Rattle.iscsi_target.specs.State.{Machine, Write, Execution, Pieces, data_of, Stepped}
+use Rattle.iscsi_target.specs.declared.due.Due.{Due}
+use Rattle.iscsi_target.specs.declared.due.Due.TheVariants.{Solicited}
+use Rattle.iscsi_target.specs.Transfer.{max_burst, taken}
+use Rattle.iscsi_target.specs.Machine.{step}
+
+-- ---- pieces tile a transfer
+
+-- The offsets ascend from one on, each piece begins where the last ended, and the end is n (section
+-- 11.7.5).
+abbrev pub TilesFrom : ℕ → Pieces → ℕ → Type 0
+TilesFrom at [] n = n ≡ at
+TilesFrom at (piece ∷ pieces) n = (piece.0 ≡ at) × TilesFrom (at + length piece.1) pieces n
+
+-- The offsets ascend from 0, each piece begins where the last ended, and the lengths add up to n
+-- (section 11.7.5).
+abbrev pub Tiles : Pieces → ℕ → Type 0
+Tiles pieces n = TilesFrom 0 pieces n
+
+-- Pieces that tile these bytes (section 11.7.5).
+abbrev pub TileBytes : Pieces → List ℕ → Type 0
+TileBytes pieces bytes = Tiles pieces (length bytes) × (data_of pieces ≡ bytes)
+
+-- A Data-In by its offset and bytes (section 11.7).
+abbrev pub data_in_piece : Message → Head → Pieces
+data_in_piece m (heads.DataIn h) = (h.buffer_offset, segment_bytes m.segment) ∷ []
+data_in_piece m _ = []
+
+-- The Data-In among answers (section 11.7).
+abbrev pub data_in_pieces : List Message → Pieces
+data_in_pieces ms = flat_map (λ m. data_in_piece m m.head) ms
+
+-- The tag of a Data-In (section 11.7).
+abbrev pub data_in_tag : Head → List ℕ
+data_in_tag (heads.DataIn h) = h.initiator_task_tag ∷ []
+data_in_tag _ = []
+
+-- The tags of the Data-In among answers (section 11.7).
+abbrev pub data_in_tags : List Message → List ℕ
+data_in_tags ms = flat_map (λ m. data_in_tag m.head) ms
+
+-- The bytes that a command gave (section 11.7).
+abbrev pub bytes_given : Execution → List ℕ
+bytes_given e = (effect e.disk e.order (data_of e.pieces)).outcome.bytes
+
+-- Each of these is the tag of what was executed (section 11.7).
+abbrev pub AreTags : List ℕ → Execution → Type 0
+AreTags tags e = AllByRecursion (λ tag. tag ≡ e.initiator_task_tag) tags
+
+-- The Data-In of what a message made the target execute have its tag, and tile what it gave;
+-- without it there are none (section 11.7).
+pub record TilesDataIn (r : Stepped) : Type 0 where
+  pub tags : AllByRecursion (AreTags (data_in_tags r.answers)) r.executed
+  pub tiled : AllByRecursion (λ e. TileBytes (data_in_pieces r.answers) (bytes_given e)) r.executed
+  pub none : r.executed ≡ [] → data_in_pieces r.answers ≡ []
+
+-- The pieces of the data of an order tile what it takes, by its plan (section 11.7).
+abbrev pub TilesPlan : Plan → Pieces → Type 0
+TilesPlan (Take n) pieces = Tiles pieces n
+TilesPlan _ pieces = pieces ≡ []
+
+-- The pieces that came for an order tile what it takes (section 11.7).
+abbrev pub IsTiled : Execution → Type 0
+IsTiled e = TilesPlan (plan_of e.order e.disk.count) e.pieces
+
+-- ---- R2Ts
+
+-- What an R2T asks for: where, and how many bytes (section 11.8.4).
+abbrev pub r2t_range : Head → List (ℕ × ℕ)
+r2t_range (heads.ReadyToTransfer h) = (h.buffer_offset, h.desired_data_transfer_length) ∷ []
+r2t_range _ = []
+
+-- What the R2Ts among answers ask for (section 11.8.4).
+abbrev pub r2t_ranges : List Message → List (ℕ × ℕ)
+r2t_ranges ms = flat_map (λ m. r2t_range m.head) ms
+
+-- An R2T asks for at most a burst, and for nothing past the transfer (sections 11.8.4 and 13.13).
+pub record IsModest (held : Held) (total : ℕ) (range : ℕ × ℕ) : Type 0 where
+  pub burst : range.1 ≤ max_burst held
+  pub inside : range.0 + range.1 ≤ total
+
+-- How many bytes the open write takes (section 11.3).
+abbrev pub total_of : Option Write → ℕ
+total_of None = 0
+total_of (Some w) = w.total
+
+-- The Data-Out is the last that an R2T asked for (section 11.8).
+abbrev pub ends_r2t : Due → Bool → ℕ
+ends_r2t (Solicited tag data_sn end) true = 1
+ends_r2t _ _ = 0
+
+-- How many R2Ts a Data-Out answers, if it is due (section 11.8).
+abbrev pub data_answers : ℕ → DataOut → List ℕ → Option Write → ℕ
+data_answers first_burst h bytes None = 0
+data_answers first_burst h bytes (Some w) =
+    if h.initiator_task_tag == w.initiator_task_tag && is_some (taken first_burst w h bytes)
+    then ends_r2t w.due h.is_final
+    else 0
+
+-- How many R2Ts a PDU answers (section 11.8).
+abbrev pub pdu_answers : Machine → Message → Head → ℕ
+pdu_answers s m (heads.DataOut h) =
+    data_answers (first_burst s.held) h (segment_bytes m.segment) s.write
+pdu_answers s m _ = 0
+
+-- How many R2Ts are answered by messages (section 11.8).
+unfoldable pub r2ts_answered : Machine → Disk → List Message → ℕ
+r2ts_answered s disk [] = 0
+r2ts_answered s disk (m ∷ ms) =
+    pdu_answers s m m.head + r2ts_answered (step s disk m).machine (step s disk m).disk ms

@@ -1,0 +1,109 @@
+-- The data of a write: immediate, unsolicited, and asked for by R2Ts (RFC 7143, sections 4.2.5.2,
+-- 11.7 and 11.8).
+use Rattle.std.specs.Prelude.{ℕ, ◌+◌, ◌-◌, Bool, true, false, not, ◌==◌, ◌&&◌, ◌||◌, nat_lt, min, if◌then◌else◌, List, [], ◌∷◌, ◌++◌, length, Option, Some, None, option_map}
+use Rattle.iscsi_text.specs.Reading.{is_empty}
+use Rattle.iscsi_pdu.specs.declared.head.data_out.DataOut.{DataOut}
+use Rattle.iscsi_login.specs.declared.key.NegKey.TheVariants as keys
+use Rattle.iscsi_login.specs.Held.{Held, held_value, number_of}
+use Rattle.iscsi_target.specs.State.{Machine, Write, Pieces, data_of, reserved_tag, next_sn}
+use Rattle.iscsi_target.specs.declared.due.Due.{Due}
+use Rattle.iscsi_target.specs.declared.due.Due.TheVariants.{Nothing, Unsolicited, Solicited}
+
+-- How many bytes a sequence of data has at most (section 13.13).
+abbrev pub max_burst : Held → ℕ
+max_burst held = number_of (held_value held keys.MaxBurstLength)
+
+-- How many bytes of a write came (section 11.7.5).
+abbrev pub received : Write → ℕ
+received w = length (data_of w.pieces)
+
+-- A piece behind the others; one of no bytes is left out (section 11.7.5).
+abbrev pub with_piece : Pieces → ℕ → List ℕ → Pieces
+with_piece pieces offset bytes =
+    if is_empty bytes then pieces else pieces ++ (offset, bytes) ∷ []
+
+-- All bytes of the write are there (section 11.7).
+abbrev pub is_whole : Write → Bool
+is_whole w = w.total == received w
+
+-- ---- a Data-Out
+
+-- Where the unsolicited bytes end at the latest, if so many may come unasked (section 13.14).
+abbrev pub unsolicited_end : ℕ → Write → ℕ
+unsolicited_end first_burst w = min w.total first_burst
+
+-- The bytes stay before the end, or the last PDU of the sequence reaches it (section 11.7.1).
+abbrev pub is_unsolicited_piece : ℕ → ℕ → Bool → Bool
+is_unsolicited_piece reached end is_final = nat_lt reached end || (reached == end && is_final)
+
+-- The bytes stay before the end, and the last PDU of the sequence reaches it (section 11.7.1).
+abbrev pub is_solicited_piece : ℕ → ℕ → Bool → Bool
+is_solicited_piece reached end is_final =
+    (nat_lt reached end && not is_final) || (reached == end && is_final)
+
+-- The Data-Out has the next DataSN, and begins where the bytes before it end (sections 11.7.4 and
+-- 11.7.5).
+abbrev pub is_next : Write → DataOut → ℕ → Bool
+is_next w h data_sn = h.data_sn == data_sn && h.buffer_offset == received w
+
+-- The Data-Out is one of the sequence that is due, if so many may come unasked, and with it so many
+-- bytes are reached. LUN and ExpStatSN aren't looked at (sections 11.7 and 11.8; own rule).
+abbrev pub is_in_sequence : ℕ → Write → DataOut → ℕ → Due → Bool
+is_in_sequence first_burst w h reached Nothing = false
+is_in_sequence first_burst w h reached (Unsolicited data_sn) =
+    is_next w h data_sn
+    && (h.target_transfer_tag == reserved_tag
+    && is_unsolicited_piece reached (unsolicited_end first_burst w) h.is_final)
+is_in_sequence first_burst w h reached (Solicited tag data_sn end) =
+    is_next w h data_sn
+    && (h.target_transfer_tag == tag && is_solicited_piece reached end h.is_final)
+
+-- What is due after a Data-Out that isn't the last of its sequence; DataSN counts round (section
+-- 11.7.4; own rule).
+abbrev pub continued : Due → Due
+continued Nothing = Nothing
+continued (Unsolicited data_sn) = Unsolicited (next_sn data_sn)
+continued (Solicited tag data_sn end) = Solicited tag (next_sn data_sn) end
+
+-- The write with the bytes of a Data-Out (section 11.7).
+abbrev pub with_data : Write → DataOut → List ℕ → Write
+with_data w h bytes = record w {
+  pieces = with_piece w.pieces (received w) bytes;
+  due = if h.is_final then Nothing else continued w.due;
+}
+
+-- The write with a Data-Out that is due; none where it isn't (section 11.7).
+abbrev pub taken : ℕ → Write → DataOut → List ℕ → Option Write
+taken first_burst w h bytes =
+    if is_in_sequence first_burst w h (received w + length bytes) w.due
+    then Some (with_data w h bytes)
+    else None
+
+-- ---- R2Ts
+
+-- Nothing is due: an R2T goes out next (section 11.8).
+abbrev pub is_idle : Due → Bool
+is_idle Nothing = true
+is_idle _ = false
+
+-- How many bytes the next R2T asks for: a burst, or the rest (section 11.8.4).
+abbrev pub desired : Held → Write → ℕ
+desired held w = min (w.total - received w) (max_burst held)
+
+-- The write once an R2T went out: its sequence is due (section 11.8).
+abbrev pub asking : Held → Write → Write
+asking held w = record w {
+  due = Solicited w.asked 0 (received w + desired held w);
+  asked = w.asked + 1;
+}
+
+-- ---- a write as a program keeps it
+
+-- The write with its bytes as one piece: where one ended and the next began, no step looks at (own
+-- rule).
+abbrev pub joined_write : Write → Write
+joined_write w = record w { pieces = with_piece [] 0 (data_of w.pieces) }
+
+-- The session with the bytes of its open write as one piece (own rule).
+abbrev pub joined : Machine → Machine
+joined s = record s { write = option_map joined_write s.write }

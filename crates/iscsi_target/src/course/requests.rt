@@ -1,0 +1,100 @@
+//! Requests with one answer: pings, task management, logouts.
+
+ghost use Rattle.std.specs.Prelude.{◌≡◌, ◌<◌, ◌^◌, length, OnOk, OnErr, IfOk};
+ghost use Rattle.iscsi_pdu.specs.Meaning.{Fits};
+ghost use Rattle.iscsi_stream.specs.Stream.{message};
+ghost use Rattle.iscsi_target.specs.Requests.{nop_out, task_request, logout_request};
+ghost use Rattle.iscsi_target.specs.Inside.{Replied};
+
+use super::{Course, LOGOUT_REASON};
+use iscsi_pdu::{
+    Head, LogoutRequest, LogoutResponse, NopIn, NopOut, Pdu, RESERVED_TAG, TaskRequest,
+    TaskResponse,
+};
+use std::alloc::AllocError;
+
+impl Course {
+    // A ping, answered with as many of its bytes as the initiator takes. Without a tag it asks for
+    // no answer (RFC 7143, sections 11.18 and 11.19).
+    pub(super) fn nop_out(
+        &mut self,
+        request: &NopOut,
+        bytes: &[u8],
+        out: &mut Vec<u8>,
+    ) -> Result<Option<u8>, AllocError>
+        requires { length bytes.now < 2 ^ 24 }
+        ensures ok { IfOk result (λ rule. Replied (nop_out self.old request.now bytes.now) rule
+            self.new out.old.items out.new.items) }
+        ensures err { OnErr result (self.new ≡ self.old) }
+        ensures unwritten { OnErr result (out.new.items ≡ out.old.items) }
+    {
+        if request.initiator_task_tag == RESERVED_TAG {
+            return Ok(None);
+        }
+        let head = Head::NopIn(NopIn {
+            lun: None,
+            initiator_task_tag: request.initiator_task_tag,
+            target_transfer_tag: RESERVED_TAG,
+            stat_sn: self.stat_sn,
+            exp_cmd_sn: self.exp_cmd_sn,
+            max_cmd_sn: self.max_cmd_sn(),
+        });
+        let len = bytes.len().min(self.held.initiator_max_recv as usize);
+        self.say(&head, &bytes[..len], out)
+    }
+
+    // No task management function is supported (RFC 7143, section 11.6.1).
+    pub(super) fn task_request(
+        &mut self,
+        request: &TaskRequest,
+        out: &mut Vec<u8>,
+    ) -> Result<Option<u8>, AllocError>
+        ensures ok { IfOk result (λ rule. Replied (task_request self.old request.now) rule
+            self.new out.old.items out.new.items) }
+        ensures err { OnErr result (self.new ≡ self.old) }
+        ensures unwritten { OnErr result (out.new.items ≡ out.old.items) }
+    {
+        let head = Head::TaskResponse(TaskResponse {
+            response: 5,
+            initiator_task_tag: request.initiator_task_tag,
+            stat_sn: self.stat_sn,
+            exp_cmd_sn: self.exp_cmd_sn,
+            max_cmd_sn: self.max_cmd_sn(),
+        });
+        self.say(&head, &[], out)
+    }
+
+    // A session or its connection may be closed (RFC 7143, sections 11.14 and 11.15). Answers the
+    // rule that is broken, if one is.
+    pub(super) fn logout_request(
+        &mut self,
+        request: &LogoutRequest,
+        pdu: &Pdu<'_>,
+        continued: bool,
+        out: &mut Vec<u8>,
+    ) -> Result<Option<u8>, AllocError>
+        requires fits { Fits pdu.now.head }
+        requires short { length pdu.now.bytes.now < 2 ^ 24 }
+        ensures ok { IfOk result (λ rule. Replied (logout_request self.old
+            (message continued pdu.now.head pdu.now.bytes.now) request.now) rule
+            self.new out.old.items out.new.items) }
+        ensures err { OnErr result (self.new ≡ self.old) }
+        ensures unwritten { OnErr result (out.new.items ≡ out.old.items) }
+    {
+        if request.reason > 1 {
+            return self.breach(LOGOUT_REASON, pdu, continued, out);
+        }
+        let head = Head::LogoutResponse(LogoutResponse {
+            response: 0,
+            initiator_task_tag: request.initiator_task_tag,
+            stat_sn: self.stat_sn,
+            exp_cmd_sn: self.exp_cmd_sn,
+            max_cmd_sn: self.max_cmd_sn(),
+            time2wait: 0,
+            time2retain: 0,
+        });
+        self.say(&head, &[], out)?;
+        self.close();
+        Ok(None)
+    }
+}

@@ -1,0 +1,34 @@
+//! Why a target's session ends.
+
+ghost use Rattle.std.specs.Prelude.{◌≡◌};
+ghost use Rattle.iscsi_target.specs.declared.fault.TargetFault.TheVariants.{NoMemory};
+
+use iscsi_stream::StreamFault;
+use std::alloc::AllocError;
+use thiserror::Error;
+
+/// Why a target's session ends. Every later call answers `Closed`.
+#[derive(Clone, Copy, Debug, PartialEq, Eq, Error)]
+pub enum TargetFault {
+    /// Memory ran out. The PDU that needed it wrote nothing and changed no block.
+    #[error("memory")]
+    NoMemory,
+    /// The stream is refused; the fault is never `NoMemory`.
+    #[error(transparent)]
+    Stream(StreamFault),
+    /// A PDU of the initiator broke the rule of this number, 1 to 5: a kind that is not due, a
+    /// segment too long, data out of order, a text at fault, a logout for another reason.
+    #[error("protocol: rule {0}")]
+    Protocol(u8),
+    /// The session was closed before.
+    #[error("closed")]
+    Closed,
+}
+
+impl From<AllocError> for TargetFault {
+    ghost from_gives = { λ _ e. e ≡ NoMemory };
+
+    fn from(_e: AllocError) -> TargetFault {
+        TargetFault::NoMemory
+    }
+}

@@ -1,0 +1,172 @@
+//! Laws of the target machine: functions that do nothing, whose contracts are the theorems. They
+//! speak of the definitions in `specs`, which the contracts of the working functions cite too.
+
+ghost use Rattle.std.specs.Prelude.{◌≡◌, ◌≤◌, ◌<◌, ◌+◌, ◌%◌, ◌^◌, ◌++◌, ◌∷◌, [], ℕ, List, length, map};
+ghost use Rattle.std.specs.List.{AllByRecursion};
+ghost use Rattle.scsi_disk.specs.Disk.{Disk};
+ghost use Rattle.scsi_disk.specs.Runs.{disk_after};
+ghost use Rattle.iscsi_pdu.specs.declared.head.Head.TheVariants as heads;
+ghost use Rattle.iscsi_pdu.specs.declared.head.login_request.LoginRequest.{LoginRequest};
+ghost use Rattle.iscsi_stream.specs.Stream.{Message, StreamMeans, AreBytes, Splits, longest_segment};
+ghost use Rattle.iscsi_stream.specs.Canonical.{canon};
+ghost use Rattle.iscsi_login.specs.Negotiation.{IsInRange};
+ghost use Rattle.iscsi_login.specs.Held.{IsHeld};
+ghost use Rattle.iscsi_target.specs.Configured.{Settings};
+ghost use Rattle.iscsi_target.specs.State.{Machine, Stepped, opening, on, nothing, limit};
+ghost use Rattle.iscsi_target.specs.Transfer.{joined};
+ghost use Rattle.iscsi_target.specs.Execution.{Device};
+ghost use Rattle.iscsi_target.specs.Machine.{step, step_on, answers, then_stepped, MayStep, MayAnswer};
+ghost use Rattle.iscsi_target.specs.Feed.{Connection, Store, opening_connection, stream_of, FedAll, Meets, Writes};
+ghost use Rattle.iscsi_target.specs.Tiles.{TilesDataIn, IsTiled, IsModest, total_of, r2t_ranges, r2ts_answered};
+ghost use Rattle.iscsi_target.specs.Sessions.{LoginIsAnswered, LoginLeads, WriteIsAnswered};
+ghost use Rattle.iscsi_target.specs.Laws.{CountOn, stat_sns, cmd_sns, HasCmdSn, supplied, Leads, tasks_done, response_tags, AreInOrder, IsOutside, joined_stepped};
+
+/// Worked sessions: a login, where it leads, and a write, to the last byte. Others are computed
+/// where this is proved.
+pub fn worked_sessions()
+    ensures login { LoginIsAnswered }
+    ensures leads { LoginLeads }
+    ensures write { WriteIsAnswered }
+{}
+
+/// One disk: it is what the commands that were executed make of it, one after another. They are
+/// those whose response went out, in the order in which they were accepted, and no accepted one is
+/// left out but the open write, or the command at which the session was closed.
+pub fn one_disk()
+    ensures fold { (s : Machine) (disk : Disk) (ms : List Message)
+        → (answers s disk ms).disk ≡ disk_after (map supplied (answers s disk ms).executed) disk }
+    // Over a store that may fail, each does what it does, or what it may do where the device fails.
+    ensures may { (s : Machine) (disk : Disk) (ms : List Message) (r : Stepped)
+        → MayAnswer s disk ms r → Leads disk r.executed r.disk }
+    ensures answered { (s : Machine) (disk : Disk) (ms : List Message)
+        → response_tags (answers s disk ms).answers
+        ≡ map (λ task. task.0) (tasks_done (answers s disk ms).executed) }
+    ensures order { (settings : Settings) (n : ℕ) (disk : Disk) (ms : List Message)
+        → AllByRecursion HasCmdSn ms → AreInOrder (answers (opening settings n) disk ms) }
+{}
+
+/// The order of acceptance is that of CmdSN: the requests that were accepted and aren't immediate
+/// have numbers one after another, from that of the first login request on.
+pub fn command_numbers()
+    ensures count_on { (settings : Settings) (n : ℕ) (disk : Disk) (first : Message)
+        (ms : List Message) (request : LoginRequest) → first.head ≡ heads.LoginRequest request
+        → AllByRecursion HasCmdSn (first ∷ ms)
+        → CountOn request.cmd_sn
+        (cmd_sns (answers (opening settings n) disk (first ∷ ms)).accepted) }
+    // In a stream of bytes each CmdSN is a number of 32 bits.
+    ensures streams { (stream : List ℕ) (ms : List Message) → AreBytes stream
+        → StreamMeans stream ms → AllByRecursion HasCmdSn ms }
+{}
+
+/// Status numbers: the answers that carry StatSN and advance it have numbers one after another,
+/// round the circle of 2^32.
+pub fn status_numbers()
+    ensures count_on { (s : Machine) (disk : Disk) (ms : List Message) → s.stat_sn < 2 ^ 32
+        → CountOn s.stat_sn (stat_sns (answers s disk ms).answers) }
+    ensures next { (s : Machine) (disk : Disk) (ms : List Message) → s.stat_sn < 2 ^ 32
+        → (answers s disk ms).machine.stat_sn
+        ≡ (s.stat_sn + length (stat_sns (answers s disk ms).answers)) % 2 ^ 32 }
+{}
+
+/// Tiling: whatever came before, the Data-In that a message leads to tile what the command gives,
+/// and the pieces of a write that is executed tile its transfer.
+pub fn tiling()
+    ensures data_in { (settings : Settings) (n : ℕ) (disk : Disk) (ms : List Message) (m : Message)
+        → IsInRange settings.preferences
+        → let r = answers (opening settings n) disk ms in TilesDataIn (step r.machine r.disk m) }
+    ensures writes { (settings : Settings) (n : ℕ) (disk : Disk) (ms : List Message) (m : Message)
+        → let r = answers (opening settings n) disk ms in
+        AllByRecursion IsTiled (step r.machine r.disk m).executed }
+{}
+
+/// Ready-to-transfer bounds: whatever came before, an R2T asks for at most a burst, and for nothing
+/// past the transfer; and at most one R2T is unanswered.
+pub fn ready_to_transfer_bounds()
+    ensures modest { (settings : Settings) (n : ℕ) (disk : Disk) (ms : List Message) (m : Message)
+        → let r = answers (opening settings n) disk ms in let t = step r.machine r.disk m in
+        AllByRecursion (IsModest t.machine.held (total_of t.machine.write)) (r2t_ranges t.answers) }
+    ensures one { (settings : Settings) (n : ℕ) (disk : Disk) (ms : List Message)
+        → AllByRecursion HasCmdSn ms
+        → length (r2t_ranges (answers (opening settings n) disk ms).answers)
+        ≤ r2ts_answered (opening settings n) disk ms + 1 }
+{}
+
+/// Silence outside the window: whatever came before, a request that isn't immediate and comes
+/// outside the window changes nothing and has no answer.
+pub fn silence_outside_the_window()
+    ensures silent { (settings : Settings) (n : ℕ) (disk : Disk) (ms : List Message) (m : Message)
+        → let r = answers (opening settings n) disk ms in IsOutside r.machine m
+        → step r.machine r.disk m ≡ on r.disk (nothing r.machine) }
+{}
+
+/// What is held stays in range, and a segment of the length that the target declared is one that
+/// its framer takes.
+pub fn held_in_range()
+    ensures held { (settings : Settings) (n : ℕ) (disk : Disk) (ms : List Message)
+        → IsInRange settings.preferences
+        → IsHeld (answers (opening settings n) disk ms).machine.held }
+    ensures limit { (settings : Settings) (n : ℕ) (disk : Disk) (ms : List Message)
+        → (answers (opening settings n) disk ms).machine.held.target_max_recv ≤ limit settings }
+{}
+
+/// Messages in two parts are answered as at once, also over a store that may fail.
+pub fn in_two_parts()
+    ensures together { (s : Machine) (disk : Disk) (ms more : List Message)
+        → answers s disk (ms ++ more) ≡ then_stepped (answers s disk ms)
+        (answers (answers s disk ms).machine (answers s disk ms).disk more) }
+    ensures may { (s : Machine) (disk : Disk) (ms more : List Message) (a b : Stepped)
+        → MayAnswer s disk ms a → MayAnswer a.machine a.disk more b
+        → MayAnswer s disk (ms ++ more) (then_stepped a b) }
+{}
+
+/// Where one piece of a write ended and the next began makes no difference, whatever the store
+/// does.
+pub fn pieces_joined()
+    ensures same { (device : Device) (s : Machine) (disk : Disk) (m : Message)
+        → joined_stepped (step_on device (joined s) disk m)
+        ≡ joined_stepped (step_on device s disk m) }
+    ensures may { (s : Machine) (disk : Disk) (m : Message) (a : Stepped)
+        → MayStep (joined s) disk m a
+        → (b : Stepped) × MayStep s disk m b × (joined_stepped a ≡ joined_stepped b) }
+{}
+
+/// Two streams of one meaning get the same answers, and so do a stream and its canonical form.
+pub fn one_meaning_one_answer()
+    ensures streams { (settings : Settings) (n : ℕ) (disk : Disk) (s t : List ℕ)
+        (ms ns : List Message) → AreBytes s → AreBytes t → StreamMeans s ms
+        → StreamMeans t ns → canon ms ≡ canon ns
+        → answers (opening settings n) disk ms ≡ answers (opening settings n) disk ns }
+    ensures canonical { (settings : Settings) (n : ℕ) (disk : Disk) (stream : List ℕ)
+        (ms ns : List Message) → AreBytes stream → StreamMeans stream ms → StreamMeans (canon ms) ns
+        → answers (opening settings n) disk ns ≡ answers (opening settings n) disk ms }
+{}
+
+/// Cuts make no difference: whatever pieces a stream of the profile comes in, what is written, the
+/// blocks and the session are those that its messages lead to, also where the session is closed
+/// before the end.
+pub fn any_pieces()
+    ensures meets { (settings : Settings) (n : ℕ) (store after : Store) (pieces : List (List ℕ))
+        (target : Connection) (written : List ℕ) (ms : List Message)
+        → FedAll (opening_connection settings n) store [] pieces target after written
+        → StreamMeans (stream_of pieces) ms
+        → Meets settings n store.disk ms target after.disk written }
+    // Of any stream, what is written and the blocks are those of its longest prefix in the profile.
+    ensures writes { (settings : Settings) (n : ℕ) (store after : Store)
+        (pieces : List (List ℕ)) (target : Connection) (written : List ℕ) (ms : List Message)
+        (given rest : List ℕ) → IsInRange settings.preferences
+        → FedAll (opening_connection settings n) store [] pieces target after written
+        → Splits longest_segment (stream_of pieces) ms given rest
+        → Writes settings n store.disk ms after.disk written }
+{}
+
+/// A target writes the same bytes for a stream and for its canonical form, in whatever pieces they
+/// come, and holds the same blocks, values, stage and phase afterwards.
+pub fn canonical_form()
+    ensures same { (settings : Settings) (n : ℕ) (store first second : Store)
+        (pieces others : List (List ℕ)) (a b : Connection) (written rewritten : List ℕ)
+        (ms : List Message) → AreBytes (stream_of pieces) → StreamMeans (stream_of pieces) ms
+        → stream_of others ≡ canon ms
+        → FedAll (opening_connection settings n) store [] pieces a first written
+        → FedAll (opening_connection settings n) store [] others b second rewritten
+        → (rewritten ≡ written) × (second.disk ≡ first.disk) × (b.machine ≡ a.machine) }
+{}

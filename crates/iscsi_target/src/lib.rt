@@ -1,0 +1,22 @@
+//! A target's session: its login, and its full feature phase (RFC 7143).
+#![tactic(auto)]
+
+mod config;
+mod course;
+mod due;
+mod fault;
+pub mod laws;
+mod open_write;
+mod response;
+mod status;
+mod target;
+#[cfg(test)]
+mod tests;
+mod texts;
+mod writing;
+
+pub use config::Config;
+pub use due::Due;
+pub use fault::TargetFault;
+pub use status::Status;
+pub use target::Target;

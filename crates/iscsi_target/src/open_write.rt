@@ -1,0 +1,177 @@
+//! The write that is open.
+
+ghost use Rattle.std.specs.Prelude.{◌≡◌, ◌<◌, ◌≤◌, ◌^◌, ◌+◌, ◌-◌, ◌==◌, ◌&&◌, true, false, length, min, IfOk, OnErr, IsTrue};
+ghost use Rattle.iscsi_target.specs.Inside.{asking_for};
+ghost use Rattle.iscsi_target.specs.Transfer.{received, is_whole, is_idle, is_in_sequence, with_data, joined_write, continued};
+
+use crate::due::Due;
+use iscsi_pdu::{DataOut, RESERVED_TAG};
+use scsi_disk::Order;
+use std::alloc::AllocError;
+use std::marker::Model;
+
+/// A write whose data are not all there.
+#[derive(Debug, Drop)]
+pub struct OpenWrite {
+    pub initiator_task_tag: u32,
+    pub order: Order,
+    /// How many bytes it takes.
+    pub total: u32,
+    /// The bytes that came.
+    pub data: Vec<u8>,
+    pub due: Due,
+    /// How many R2Ts went out.
+    pub asked: u32,
+}
+
+impl Model for OpenWrite {
+    ghost use Rattle.std.specs.Prelude.{[]};
+    ghost use Rattle.iscsi_target.specs.State.{Write};
+    ghost use Rattle.iscsi_target.specs.Transfer.{with_piece};
+    ghost use Rattle.iscsi_target.specs.Inside.{IsStaged};
+
+    ghost Value = { Write };
+
+    // The bytes stand as one piece.
+    ghost view = { λ w. record {
+      initiator_task_tag = w.initiator_task_tag;
+      order = w.order;
+      total = w.total;
+      pieces = with_piece [] 0 w.data.items;
+      due = w.due;
+      asked = w.asked;
+    } };
+
+    ghost invariant = { λ w. IsStaged w.order w.total w.data.items w.due w.asked };
+}
+
+impl OpenWrite {
+    /// How many bytes came.
+    #[tactic(auto, using(crate::proofs::OpenWrites::data_of_one))]
+    pub fn received(&self) -> u32
+        ensures value { result ≡ received self.now }
+        ensures fits { received self.now ≤ self.now.total }
+    {
+        let _total = self.total;
+        self.data.len() as u32
+    }
+
+    /// Whether all bytes came.
+    pub fn is_whole(&self) -> bool
+        ensures { result ≡ is_whole self.now }
+    {
+        self.total == self.received()
+    }
+
+    /// Whether nothing is due: an R2T goes out next, or all bytes are there.
+    pub fn is_idle(&self) -> bool
+        ensures { result ≡ is_idle self.now.due }
+    {
+        matches!(self.due, Due::Nothing)
+    }
+
+    /// How many bytes the next R2T asks for: a burst, or the rest.
+    pub fn desired(&self, burst: u32) -> u32
+        ensures { result ≡ min (self.now.total - received self.now) burst }
+    {
+        (self.total - self.received()).min(burst)
+    }
+
+    /// An R2T for so many bytes went out: its sequence is due.
+    pub fn ask(&mut self, desired: u32)
+        requires idle { is_idle self.old.due ≡ true }
+        requires some { 0 < desired }
+        requires fits { received self.old + desired ≤ self.old.total }
+        ensures { self.new ≡ asking_for desired self.old }
+    {
+        self.due = Due::Solicited {
+            target_transfer_tag: self.asked,
+            data_sn: 0,
+            end: self.received() + desired,
+        };
+        self.asked += 1;
+    }
+
+    /// Takes the bytes of a Data-Out, where it is due; so many bytes may come unasked. Where memory
+    /// runs out it is as it was.
+    pub fn take(
+        &mut self,
+        first_burst: u32,
+        head: &DataOut,
+        bytes: &[u8],
+    ) -> Result<bool, AllocError>
+        requires { length bytes.now < 2 ^ 24 }
+        ensures due { IfOk result (λ taken. taken ≡ is_in_sequence first_burst self.old head.now
+            (received self.old + length bytes.now) self.old.due) }
+        ensures taken { IfOk result (λ taken. IsTrue taken
+            → self.new ≡ joined_write (with_data self.old head.now bytes.now)) }
+        ensures refused { IfOk result (λ taken. taken ≡ false → self.new ≡ self.old) }
+        ensures err { OnErr result (self.new ≡ self.old) }
+    {
+        let reached = u64::from(self.received()) + bytes.len() as u64;
+        if !self.is_in_sequence(first_burst, head, reached) {
+            return Ok(false);
+        }
+        self.data.extend_from_slice(bytes)?;
+        self.due = if head.is_final {
+            Due::Nothing
+        } else {
+            continued(self.due)
+        };
+        Ok(true)
+    }
+
+    // Whether the Data-Out, with which so many bytes have come, is one of the sequence that is due.
+    fn is_in_sequence(&self, first_burst: u32, head: &DataOut, reached: u64) -> bool
+        ensures { result ≡ is_in_sequence first_burst self.now head.now reached self.now.due }
+    {
+        match self.due {
+            Due::Nothing => false,
+            Due::Unsolicited { data_sn } => {
+                let end = u64::from(self.total.min(first_burst));
+                self.is_next(head, data_sn)
+                    && head.target_transfer_tag == RESERVED_TAG
+                    && (reached < end || reached == end && head.is_final)
+            }
+            Due::Solicited {
+                target_transfer_tag,
+                data_sn,
+                end,
+            } => {
+                let end = u64::from(end);
+                self.is_next(head, data_sn)
+                    && head.target_transfer_tag == target_transfer_tag
+                    && (reached < end && !head.is_final || reached == end && head.is_final)
+            }
+        }
+    }
+
+    // Whether the Data-Out has this number, and goes on where the bytes end.
+    fn is_next(&self, head: &DataOut, data_sn: u32) -> bool
+        ensures { result ≡ (head.now.data_sn == data_sn
+            && head.now.buffer_offset == received self.now) }
+    {
+        head.data_sn == data_sn && head.buffer_offset == self.received()
+    }
+}
+
+// What is due after a Data-Out that isn't the last of its sequence.
+fn continued(due: Due) -> Due
+    ensures { result ≡ continued due }
+{
+    match due {
+        Due::Nothing => Due::Nothing,
+        Due::Unsolicited { data_sn } => Due::Unsolicited {
+            data_sn: data_sn.wrapping_add(1),
+        },
+        Due::Solicited {
+            target_transfer_tag,
+            data_sn,
+            end,
+        } => Due::Solicited {
+            target_transfer_tag,
+            data_sn: data_sn.wrapping_add(1),
+            end,
+        },
+    }
+}

@@ -1,0 +1,228 @@
+//! A target's session over a stream.
+
+ghost use Rattle.std.specs.Prelude.{◌≡◌, ◌++◌, ℕ, List, false, IfOk, IfErr, OnOk, OnErr};
+ghost use Rattle.iscsi_stream.specs.Framing.{Takes, is_ready, stopped};
+ghost use Rattle.iscsi_target.specs.State.{limit, closed};
+ghost use Rattle.iscsi_target.specs.Machine.{is_closed};
+ghost use Rattle.iscsi_target.specs.Feed.{opening_connection, Feeds, Fed, Finishes, HasAnswered};
+ghost use Rattle.iscsi_target.specs.Configured.{Settings};
+ghost use Rattle.scsi_disk.specs.Disk.{Disk};
+ghost use Rattle.iscsi_target.specs.Inside.{connection, store_of, target_fault, AnswersReady, ShutsReady, RestFails};
+
+use crate::config::Config;
+use crate::course::Course;
+use crate::fault::TargetFault;
+use iscsi_login::{Params, Phase, Stage};
+use iscsi_stream::{Framer, StreamFault};
+use scsi_disk::BlockStore;
+use std::alloc::{AllocError, Global};
+use std::marker::Model;
+
+/// The longest segment of a login PDU, in bytes (RFC 7143, section 13.12).
+const LOGIN_SEGMENT: u32 = 8192;
+
+/// A target's session: it takes the bytes of an initiator and appends its answers.
+///
+/// | Phase | What holds |
+/// |---|---|
+/// | `Login` | Login Requests are answered or refused; another PDU closes the session |
+/// | `Full` | requests are answered, commands executed on the store; at most one write is open |
+/// | `Closed` | each call answers `Closed` |
+#[derive(Drop)]
+pub struct Target {
+    course: Course,
+    framer: Framer,
+}
+
+impl Model for Target {
+    ghost use Rattle.std.specs.Prelude.{◌≡◌, false};
+    ghost use Rattle.iscsi_stream.specs.Framing.{is_ready};
+    ghost use Rattle.iscsi_target.specs.State.{limit};
+    ghost use Rattle.iscsi_target.specs.Feed.{Connection};
+
+    ghost Value = { Connection };
+
+    ghost view = { λ t. record { machine = t.course; framing = t.framer } };
+
+    ghost invariant = { λ t. (t.framer.limit ≡ limit t.course.settings)
+        × (is_ready t.framer ≡ false) };
+}
+
+impl Target {
+    /// A session in which nothing came, whose first answer has this StatSN. It takes no memory.
+    pub fn new(alloc: Global, config: Config, first_statsn: u32) -> Target
+        ensures opening { result ≡ opening_connection config first_statsn }
+    {
+        let limit = config.preferences().max_recv.max(LOGIN_SEGMENT);
+        Target {
+            course: Course::new(alloc, config, first_statsn),
+            framer: Framer::new(alloc, limit),
+        }
+    }
+
+    /// Takes a piece of the stream, and appends the answers to the PDUs that it completes. Says in
+    /// which phase the session is then.
+    ///
+    /// A login that is refused and a logout answer `Closed`, and the rest of the piece is dropped.
+    /// After a fault the session is closed: `out` has the whole answers to the PDUs before the one
+    /// at fault, and of that one a Reject where it broke a rule in full feature phase. The PDU at
+    /// which memory ran out wrote nothing and changed no block. A closed session answers `Closed`
+    /// and takes nothing (RFC 7143, sections 6 and 11; the rules and their order are own).
+    pub fn feed<S: BlockStore>(
+        &mut self,
+        piece: &[u8],
+        store: &mut S,
+        out: &mut Vec<u8>,
+    ) -> Result<Phase, TargetFault>
+        ensures fed { Fed self.old (store_of (S.disk store.old) (S.failures store.old))
+            out.old.items piece.now result self.new
+            (store_of (S.disk store.new) (S.failures store.new)) out.new.items }
+        // Whatever pieces a stream comes in, it has the answers to its PDUs.
+        ensures stream { (settings : Settings) (n : ℕ) (disk : Disk) (stream : List ℕ)
+            → S.failures store.new ≡ S.failures store.old → is_closed self.new.machine ≡ false
+            → HasAnswered settings n disk stream self.old (S.disk store.old) out.old.items
+            → HasAnswered settings n disk (stream ++ piece.now) self.new (S.disk store.new)
+            out.new.items }
+    {
+        if self.course.is_closed() {
+            return Err(TargetFault::Closed);
+        }
+        feed_all(&mut self.course, &mut self.framer, piece, store, out)
+    }
+
+    /// What the session holds of its login (RFC 7143, section 13).
+    pub fn params(&self) -> &Params
+        ensures held { result.now ≡ self.now.machine.held }
+    {
+        self.course.params()
+    }
+
+    /// What the session is doing.
+    pub fn phase(&self) -> Phase
+        ensures phase { result ≡ self.now.machine.phase }
+    {
+        self.course.phase()
+    }
+
+    /// Where the login is: security at first, then the stage of the first request that isn't
+    /// refused by its head, then as answers move it. A closed session keeps it (RFC 7143, section
+    /// 6.3).
+    pub fn stage(&self) -> Stage
+        ensures stage { result ≡ self.now.machine.stage }
+    {
+        self.course.stage()
+    }
+
+    /// Ends the stream. Answers `Stream` with `Truncated` where it ends within a PDU, which closes
+    /// the session, and `Closed` where it was closed before.
+    pub fn finish(&mut self) -> Result<(), TargetFault>
+        ensures finishes { Finishes self.old result self.new }
+    {
+        if self.course.is_closed() {
+            return Err(TargetFault::Closed);
+        }
+        match self.framer.finish() {
+            Ok(()) => Ok(()),
+            Err(fault) => {
+                self.course.close();
+                Err(TargetFault::Stream(fault))
+            }
+        }
+    }
+}
+
+// Takes a piece of the stream in a session that isn't closed.
+fn feed_all<S: BlockStore>(
+    course: &mut Course,
+    framer: &mut Framer,
+    piece: &[u8],
+    store: &mut S,
+    out: &mut Vec<u8>,
+) -> Result<Phase, TargetFault>
+    requires limit { framer.old.limit ≡ limit course.old.settings }
+    requires unready { is_ready framer.old ≡ false }
+    requires live { is_closed course.old ≡ false }
+    ensures fed { Feeds (connection course.old framer.old)
+        (store_of (S.disk store.old) (S.failures store.old)) out.old.items piece.now result
+        (connection course.new framer.new)
+        (store_of (S.disk store.new) (S.failures store.new)) out.new.items }
+    ensures limit { framer.new.limit ≡ limit course.new.settings }
+    ensures unready { is_ready framer.new ≡ false }
+{
+    let mut rest = piece;
+    while !rest.is_empty() {
+        let taken = take_bytes(course, framer, rest)?;
+        rest = &rest[taken..];
+        let broken = answer_ready(course, framer, store, out)?;
+        let phase = course.phase();
+        if let Some(rule) = broken {
+            return Err(TargetFault::Protocol(rule));
+        }
+        if course.is_closed() {
+            return Ok(phase);
+        }
+    }
+    Ok(course.phase())
+}
+
+// Takes bytes up to the end of a PDU. A fault closes the session.
+fn take_bytes(course: &mut Course, framer: &mut Framer, piece: &[u8]) -> Result<usize, TargetFault>
+    ensures ok { IfOk result (λ n. Takes framer.old piece.now n framer.new) }
+    ensures kept { OnOk result (course.new ≡ course.old) }
+    ensures err { IfErr result (RestFails framer.old piece.now) }
+    ensures shut { OnErr result (course.new ≡ closed course.old) }
+    ensures stopped { OnErr result (framer.new ≡ stopped framer.old) }
+{
+    match framer.feed(piece) {
+        Ok(taken) => Ok(taken),
+        Err(fault) => {
+            course.close();
+            Err(stream_fault(fault))
+        }
+    }
+}
+
+// A stream's want of memory is the target's own.
+fn stream_fault(fault: StreamFault) -> TargetFault
+    ensures { result ≡ target_fault fault }
+{
+    match fault {
+        StreamFault::NoMemory => TargetFault::NoMemory,
+        _ => TargetFault::Stream(fault),
+    }
+}
+
+// Answers the PDU that is ready, if one is, and gives it up. Says which rule it broke, if it broke
+// one. Want of memory closes the session.
+fn answer_ready<S: BlockStore>(
+    course: &mut Course,
+    framer: &mut Framer,
+    store: &mut S,
+    out: &mut Vec<u8>,
+) -> Result<Option<u8>, AllocError>
+    requires limit { framer.old.limit ≡ limit course.old.settings }
+    requires live { is_closed course.old ≡ false }
+    ensures ok { IfOk result (λ rule. AnswersReady (connection course.old framer.old)
+        (store_of (S.disk store.old) (S.failures store.old)) out.old.items rule
+        (connection course.new framer.new)
+        (store_of (S.disk store.new) (S.failures store.new)) out.new.items) }
+    ensures err { OnErr result (ShutsReady (connection course.old framer.old)
+        (store_of (S.disk store.old) (S.failures store.old)) out.old.items
+        (connection course.new framer.new)
+        (store_of (S.disk store.new) (S.failures store.new)) out.new.items) }
+{
+    let Some(pdu) = framer.pdu() else {
+        return Ok(None);
+    };
+    match course.answer_pdu(&pdu, framer.continued(), store, out) {
+        Ok(broken) => {
+            framer.take();
+            Ok(broken)
+        }
+        Err(error) => {
+            course.close();
+            framer.take();
+            Err(error)
+        }
+    }
+}
