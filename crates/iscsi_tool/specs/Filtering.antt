@@ -9,7 +9,10 @@ use Rattle.iscsi_stream.specs.Normalising.{Parts, Wrote, RestFails, NormaliseFai
 use Rattle.iscsi_stream.specs.Texts.{CanonicalOf, NormalisesText, longest_text}
 use Rattle.iscsi_tool.specs.declared.filter.Filter.{Filter}
 use Rattle.iscsi_tool.specs.declared.filter.Work.{Work}
-use Rattle.iscsi_tool.specs.declared.filter.Work.TheVariants.{Show, Normalise, Text}
+use Rattle.iscsi_tool.specs.declared.filter.Work.TheVariants.{Show, Normalise, Text, Answer}
+use Rattle.iscsi_tool.specs.declared.words.Job.{Job}
+use Rattle.iscsi_tool.specs.declared.words.Job.TheVariants as job
+use Rattle.iscsi_tool.specs.Answering.{AnswersBytes}
 use Rattle.iscsi_tool.specs.HexText.{BytesOf, IsNotHex, hex_line}
 
 -- how a filter ends: done, or why not
@@ -62,6 +65,7 @@ HexFails text tool.TextTooLong read written = LineOf text read (Err tool.TextToo
 HexFails text tool.Read read written = written ≡ []
 HexFails text tool.Write read written = (outcome : Outcome) × (line : List ℕ) × (n : ℕ) × LineOf text read outcome line × (written ≡ take n line)
 HexFails text tool.NotHex read written = IsNotHex read × (written ≡ [])
+HexFails text (tool.Protocol rule) read written = ⊥
 
 -- The canonical form of what the hex text means is written as a line of hex, or what is due at a fault.
 abbrev pub NormalisesHex : Bool → Outcome → List ℕ → List ℕ → Type 0
@@ -70,9 +74,25 @@ NormalisesHex text (Err fault) read written = HexFails text fault read written
 
 -- ---- filters
 
--- What a work writes; the lines that Show writes are not stated.
+-- The disk of a target has 1 to 65536 blocks (own profile).
+abbrev pub HasDisk : Work → Type 0
+HasDisk (Answer blocks) = (0 < blocks) × (blocks ≤ 65536)
+HasDisk _ = Unit {0}
+
+-- the same of a job
+abbrev pub IsJob : Job → Type 0
+IsJob (job.Filter filter) = HasDisk filter.work
+
+-- so it is, but for answers, which end where the session is closed
+abbrev pub ReadsOn : Work → Type 0 → Type 0
+ReadsOn (Answer blocks) is_at_end = Unit {0}
+ReadsOn _ is_at_end = is_at_end
+
+-- What a work writes; the lines that Show writes, and answers as hex, are not stated.
 abbrev pub Does : Work → Bool → Outcome → List ℕ → List ℕ → Type 0
 Does Show hex outcome read written = Unit {0}
+Does (Answer blocks) true outcome read written = Unit {0}
+Does (Answer blocks) false outcome read written = AnswersBytes blocks outcome read written
 Does Normalise true outcome read written = NormalisesHex false outcome read written
 Does Normalise false outcome read written = NormalisesBytes outcome read written
 Does Text true outcome read written = NormalisesHex true outcome read written

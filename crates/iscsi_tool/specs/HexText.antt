@@ -39,3 +39,4 @@ HexTextFails tool.TextTooLong read = ⊥
 HexTextFails tool.Read read = Unit {0}
 HexTextFails tool.Write read = ⊥
 HexTextFails tool.NotHex read = IsNotHex read
+HexTextFails (tool.Protocol rule) read = ⊥

@@ -1,2 +1,3 @@
 pub mod HexText
+pub mod Answering
 pub mod Filtering

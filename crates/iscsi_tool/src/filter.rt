@@ -1,11 +1,12 @@
 //! The filters from one reader to one writer.
 
-ghost use Rattle.std.specs.Prelude.{◌≡◌, ◌⊎◌, ℕ, List, true, false, OnOk, IfOk, IfErr};
+ghost use Rattle.std.specs.Prelude.{◌≡◌, ◌<◌, ◌≤◌, ◌⊎◌, ℕ, List, true, false, OnOk, IfOk, IfErr};
 ghost use Rattle.std.specs.Io.KnownBytes.{Appends, Consumes, IsAtEnd};
 ghost use Rattle.iscsi_stream.specs.declared.fault.ToolFault.TheVariants as tool;
 ghost use Rattle.iscsi_stream.specs.Texts.{NormalisesText};
-ghost use Rattle.iscsi_tool.specs.Filtering.{Filters, IsLine, NormalisesBytes, NormalisesHex};
+ghost use Rattle.iscsi_tool.specs.Filtering.{Filters, HasDisk, IsLine, NormalisesBytes, NormalisesHex, ReadsOn};
 
+use crate::answering::answer;
 use crate::hex_text::{line, read_bytes};
 use iscsi_stream::{ToolFault, normalise, normalise_text, show, write_fully};
 use std::alloc::Global;
@@ -20,6 +21,11 @@ pub enum Work {
     Normalise,
     /// Writes the canonical text of one text.
     Text,
+    /// Writes a target's answers.
+    Answer {
+        /// How many blocks of 512 bytes the target's disk has, 1 to 65536.
+        blocks: u64,
+    },
 }
 
 /// A filter, and whether its input is hex text and its bytes are written as a line of hex.
@@ -42,11 +48,13 @@ pub fn run_filter<R: Read, W: Write>(
     r: &mut R,
     w: &mut W,
 ) -> Result<(), ToolFault>
+    requires disk { HasDisk filter.work }
     ensures filters { (read : List ℕ) × (written : List ℕ)
         × Consumes (R.remaining r.old) (R.remaining r.new) read
         × Appends (W.contents w.old) (W.contents w.new) written
         × Filters filter result read written }
-    ensures end { OnOk result (IsAtEnd (R.remaining r.new)) }
+    // Answers end where the session is closed.
+    ensures end { OnOk result (ReadsOn filter.work (IsAtEnd (R.remaining r.new))) }
 {
     match filter.work {
         Work::Show => show_as(alloc, filter.hex, r, w),
@@ -64,7 +72,38 @@ pub fn run_filter<R: Read, W: Write>(
                 text_bytes(alloc, r, w)
             }
         }
+        Work::Answer { blocks } => {
+            if filter.hex {
+                answer_hex(alloc, blocks, r, w)
+            } else {
+                answer(alloc, blocks, r, w)
+            }
+        }
     }
+}
+
+// A target's answers to a stream that comes as hex text, as a line of hex.
+fn answer_hex<R: Read, W: Write>(
+    alloc: Global,
+    blocks: u64,
+    r: &mut R,
+    w: &mut W,
+) -> Result<(), ToolFault>
+    requires some { 0 < blocks }
+    requires few { blocks ≤ 65536 }
+    ensures moves { (read : List ℕ) × (written : List ℕ)
+        × Consumes (R.remaining r.old) (R.remaining r.new) read
+        × Appends (W.contents w.old) (W.contents w.new) written }
+{
+    let bytes = read_bytes(alloc, r)?;
+    let mut source = bytes.as_slice();
+    let mut out = Vec::new(alloc);
+    let outcome = answer(alloc, blocks, &mut source, &mut out);
+    if let Err(ToolFault::NoMemory | ToolFault::Read | ToolFault::Write) = outcome {
+        return Err(ToolFault::NoMemory);
+    }
+    write_fully(w, &line(alloc, &out)?)?;
+    outcome
 }
 
 // The lines of a stream, which may come as hex text.

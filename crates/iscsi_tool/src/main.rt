@@ -1,19 +1,25 @@
-//! The command `lanthovur`: shows and normalises iSCSI byte streams.
+//! The command `lanthovur`: shows, normalises and answers iSCSI byte streams.
 #![tactic(auto)]
 
+mod answering;
 mod filter;
 mod hex_text;
 #[cfg(test)]
 mod tests;
 mod words;
 
-use crate::filter::run_filter;
+ghost use Rattle.std.specs.Prelude.{IfOk};
+ghost use Rattle.iscsi_tool.specs.Filtering.{HasDisk, IsJob};
+
+use crate::filter::{Filter, run_filter};
 use crate::words::{Job, LineFault, read_words};
 use iscsi_stream::ToolFault;
 use std::process::ExitCode;
 
 /// The words of the command line, judged before any input is read.
-fn job_of(rt: &HostRuntime) -> Result<Job, LineFault> {
+fn job_of(rt: &HostRuntime) -> Result<Job, LineFault>
+    ensures disk { IfOk result IsJob }
+{
     let alloc = rt.alloc();
     let Ok(words) = std::env::args(rt) else {
         return Err(LineFault::NoMemory);
@@ -25,24 +31,20 @@ fn job_of(rt: &HostRuntime) -> Result<Job, LineFault> {
 /// The exit status that says a fault: 1 where the input is refused, 3 for memory, 4 for reading and writing.
 fn status(fault: &ToolFault) -> u8 {
     match fault {
-        ToolFault::Stream(_) | ToolFault::Text(_) | ToolFault::TextTooLong | ToolFault::NotHex => 1,
+        ToolFault::Stream(_)
+        | ToolFault::Text(_)
+        | ToolFault::TextTooLong
+        | ToolFault::NotHex
+        | ToolFault::Protocol(_) => 1,
         ToolFault::NoMemory => 3,
         ToolFault::Read | ToolFault::Write => 4,
     }
 }
 
-fn main(rt: HostRuntime) -> ExitCode {
-    let filter = match job_of(&rt) {
-        Ok(Job::Filter(filter)) => filter,
-        Err(LineFault::NoMemory) => {
-            let _ = eprintln!(rt; "memory");
-            return ExitCode::from(3);
-        }
-        Err(LineFault::Usage(text)) => {
-            let _ = eprint!(rt; "{text}");
-            return ExitCode::from(2);
-        }
-    };
+/// Runs a filter from the standard input to the standard output.
+fn run(rt: &HostRuntime, filter: Filter) -> ExitCode
+    requires disk { HasDisk filter.work }
+{
     let mut input = rt.stdin();
     let mut output = rt.stdout();
     match run_filter(rt.alloc(), filter, &mut input, &mut output) {
@@ -50,6 +52,20 @@ fn main(rt: HostRuntime) -> ExitCode {
         Err(fault) => {
             let _ = eprintln!(rt; "{fault}");
             ExitCode::from(status(&fault))
+        }
+    }
+}
+
+fn main(rt: HostRuntime) -> ExitCode {
+    match job_of(&rt) {
+        Ok(Job::Filter(filter)) => run(&rt, filter),
+        Err(LineFault::NoMemory) => {
+            let _ = eprintln!(rt; "memory");
+            ExitCode::from(3)
+        }
+        Err(LineFault::Usage(text)) => {
+            let _ = eprint!(rt; "{text}");
+            ExitCode::from(2)
         }
     }
 }

@@ -1,5 +1,6 @@
 //! Runs of the filters and readings of words.
 
+mod answers;
 mod session;
 
 use crate::filter::{Filter, Work, run_filter};
@@ -43,6 +44,13 @@ const TEXT_HEX: Filter = Filter {
     hex: true,
 };
 
+fn answer(blocks: u64, hex: bool) -> Filter {
+    Filter {
+        work: Work::Answer { blocks },
+        hex,
+    }
+}
+
 // A NOP-Out with free bits set and three bytes of data: as hex text, its canonical form and its line.
 const PING: &[u8] = b"c0800000 00000003 11111111 11111111 00000001 ffffffff 00000005 00000002 \
     00000000 00000000 00000000 00000000 616263ff";
@@ -80,6 +88,12 @@ fn words_that_are_a_job(rt: HostRuntime) -> Result<(), Fail> {
         (["normalise", "--text"].as_slice(), TEXT),
         (["normalise", "--text", "--hex"].as_slice(), TEXT_HEX),
         (["normalise", "--hex", "--text"].as_slice(), TEXT_HEX),
+        (["answer", "--blocks", "1"].as_slice(), answer(1, false)),
+        (
+            ["answer", "--hex", "--blocks=65536"].as_slice(),
+            answer(65_536, true),
+        ),
+        (["answer", "--blocks", "0008"].as_slice(), answer(8, false)),
     ];
     for (words, want) in rows {
         match read_words(rt.alloc(), words) {
@@ -110,6 +124,15 @@ fn words_that_are_no_job(rt: HostRuntime) -> Result<(), Fail> {
         ["--text"].as_slice(),
         ["serve"].as_slice(),
         ["answer"].as_slice(),
+        ["answer", "--blocks"].as_slice(),
+        ["answer", "--blocks", "0"].as_slice(),
+        ["answer", "--blocks", "65537"].as_slice(),
+        ["answer", "--blocks", "+8"].as_slice(),
+        ["answer", "--blocks", "0x8"].as_slice(),
+        ["answer", "--blocks="].as_slice(),
+        ["answer", "--blocks", "18446744073709551617"].as_slice(),
+        ["answer", "--blocks", "8", "--blocks", "8"].as_slice(),
+        ["normalise", "--blocks", "8"].as_slice(),
         ["loop"].as_slice(),
         ["serve", "--port", "0"].as_slice(),
         ["--port", "0"].as_slice(),

@@ -1,6 +1,7 @@
 //! The words of the command line.
 
-ghost use Rattle.std.specs.Prelude.{◌≡◌, [], true, Ok};
+ghost use Rattle.std.specs.Prelude.{◌≡◌, ◌<◌, ◌≤◌, [], true, Ok, IfOk, IfSome};
+ghost use Rattle.iscsi_tool.specs.Filtering.{HasDisk, IsJob};
 ghost use Rattle.iscsi_tool.specs.declared.filter.Work.TheVariants.{Normalise};
 ghost use Rattle.iscsi_tool.specs.declared.words.Job.TheVariants as job;
 
@@ -37,6 +38,9 @@ impl<T: Drop> From<AllocFailed<T>> for LineFault {
         LineFault::NoMemory
     }
 }
+
+/// The most blocks that the disk of a target has.
+const MOST_BLOCKS: u64 = 65_536;
 
 /// What is done with no words.
 const UNASKED: Job = Job::Filter(Filter {
@@ -78,9 +82,27 @@ fn normalise_program<'a>(alloc: Global) -> Result<Command<'a>, AllocError> {
     .arg(text)
 }
 
+fn answer_program<'a>(alloc: Global) -> Result<Command<'a>, AllocError> {
+    let blocks = Arg::new(alloc, "blocks")
+        .long("blocks")
+        .value_name("N")
+        .required(true)
+        .action(ArgAction::Set)
+        .help("how many blocks of 512 bytes the target's disk has, 1 to 65536");
+    program(
+        alloc,
+        "answer",
+        "Writes a target's answers to the standard input",
+    )?
+    .arg(blocks)
+}
+
 fn command<'a>(alloc: Global) -> Result<Command<'a>, AllocError> {
     Command::new(alloc, "lanthovur")
-        .about("Shows and normalises iSCSI byte streams; with no words it does 'normalise --hex'.")
+        .about(
+            "Shows, normalises and answers iSCSI byte streams; with no words it does 'normalise \
+            --hex'.",
+        )
         .no_binary_name(true)
         .disable_version_flag(true)
         .disable_help_subcommand(true)
@@ -90,7 +112,8 @@ fn command<'a>(alloc: Global) -> Result<Command<'a>, AllocError> {
             "show",
             "Writes a line for each PDU of the standard input",
         )?)?
-        .subcommand(normalise_program(alloc)?)
+        .subcommand(normalise_program(alloc)?)?
+        .subcommand(answer_program(alloc)?)
 }
 
 /// The job that the words of a command line ask for, without the program's name. Words that are no job, and those that
@@ -98,6 +121,8 @@ fn command<'a>(alloc: Global) -> Result<Command<'a>, AllocError> {
 pub fn read_words<S: AsStr>(alloc: Global, words: &[S]) -> Result<Job, LineFault>
     ensures unasked { words.now ≡ [] →
         result ≡ Ok (job.Filter (record { work = Normalise; hex = true })) }
+    // A disk has 1 to 65536 blocks.
+    ensures disk { IfOk result IsJob }
 {
     if words.is_empty() {
         return Ok(UNASKED);
@@ -110,17 +135,51 @@ pub fn read_words<S: AsStr>(alloc: Global, words: &[S]) -> Result<Job, LineFault
         return Ok(UNASKED);
     };
     Ok(Job::Filter(Filter {
-        work: work_of(name, asked),
+        work: work_of(alloc, name, asked)?,
         hex: asked.get_flag("hex"),
     }))
 }
 
-fn work_of(name: &str, asked: &ArgMatches<'_>) -> Work {
+fn work_of(alloc: Global, name: &str, asked: &ArgMatches<'_>) -> Result<Work, LineFault>
+    ensures disk { IfOk result HasDisk }
+{
     if name == "show" {
-        return Work::Show;
+        return Ok(Work::Show);
+    }
+    if name == "answer" {
+        return match asked.get_str("blocks").and_then(blocks_of) {
+            Some(blocks) => Ok(Work::Answer { blocks }),
+            None => Err(bad_blocks(alloc)),
+        };
     }
     if asked.get_flag("text") {
-        return Work::Text;
+        return Ok(Work::Text);
     }
-    Work::Normalise
+    Ok(Work::Normalise)
+}
+
+// The number of blocks that digits say, from 1 to 65536.
+fn blocks_of(digits: &str) -> Option<u64>
+    ensures range { IfSome result (λ n. (0 < n) × (n ≤ 65536)) }
+{
+    if !digits.bytes().all(|c| c.is_ascii_digit()) {
+        return None;
+    }
+    match digits.parse::<u64>() {
+        Ok(blocks) if 0 < blocks && blocks <= MOST_BLOCKS => Some(blocks),
+        _ => None,
+    }
+}
+
+fn bad_blocks(alloc: Global) -> LineFault {
+    let Ok(mut program) = answer_program(alloc) else {
+        return LineFault::NoMemory;
+    };
+    match program.error(
+        ErrorKind::ValueValidation,
+        "'--blocks <N>' is a number from 1 to 65536",
+    ) {
+        Ok(error) => usage(alloc, error),
+        Err(_) => LineFault::NoMemory,
+    }
 }
