@@ -11,9 +11,10 @@ mod configs;
 mod dialogues;
 mod rows;
 
-use rows::{Part, Segment};
-
 const NAME: &[u8] = b"iqn.2026-01.example:disk";
+
+/// How many characters a header has in a line of a dialogue.
+const HEADER: usize = 107;
 
 // A target that has just begun.
 fn target_of(alloc: Global) -> Result<Target, ConfigFault> {
@@ -32,27 +33,27 @@ fn bytes_of(alloc: Global, text: &str) -> Result<Vec<u8>, FromHexError> {
     hex::decode(alloc, digits)
 }
 
-// PDUs one after another, each with the padding of its segment.
-fn stream_of(alloc: Global, parts: &[Part]) -> Result<Vec<u8>, Fail> {
-    let mut stream = Vec::new(alloc);
-    for (header, segment) in parts {
-        stream.extend_from_slice(&bytes_of(alloc, header)?)?;
-        let len = match segment {
-            Segment::Bytes(bytes) => {
-                stream.extend_from_slice(bytes)?;
-                bytes.len()
-            }
-            Segment::Fill(byte, len) => {
-                for _ in 0..*len {
-                    stream.push(*byte)?;
-                }
-                *len
-            }
-        };
-        let padding = (4 - len % 4) % 4;
-        stream.extend_from_slice([0u8; 3].get(..padding).unwrap_or(&[]))?;
+// The PDU of a line of a dialogue, behind its mark: header, segment and padding.
+fn pdu_of(alloc: Global, line: &str, out: &mut Vec<u8>) -> Result<(), Fail> {
+    let header = line.get(..HEADER).ok_or("no header")?;
+    let segment = line.get(HEADER..).unwrap_or("").trim();
+    out.extend_from_slice(&bytes_of(alloc, header)?)?;
+    let start = out.len();
+    if let Some(text) = segment.strip_prefix('\'') {
+        for byte in text.bytes() {
+            out.push(if byte == b'|' { 0 } else { byte })?;
+        }
+    } else if let Some((byte, count)) = segment.split_once('*') {
+        let byte = bytes_of(alloc, byte)?;
+        for _ in 0..count.parse::<u32>()? {
+            out.extend_from_slice(&byte)?;
+        }
+    } else {
+        out.extend_from_slice(&bytes_of(alloc, segment)?)?;
     }
-    Ok(stream)
+    let len = out.len().wrapping_sub(start);
+    out.extend_from_slice([0u8; 3].get(..(4 - len % 4) % 4).unwrap_or(&[]))?;
+    Ok(())
 }
 
 // Feeds what comes in a turn in pieces of this length, and gives the last answer.

@@ -1,7 +1,7 @@
 //! Sessions by example, in pieces of any length.
 
-use super::rows::{DIALOGUES, FAILING, LOGIN, Turn};
-use super::{feed_pieces, stream_of, target_of};
+use super::rows::{DIALOGUES, FAILING, LOGIN};
+use super::{feed_pieces, pdu_of, target_of};
 use crate::*;
 use iscsi_login::{Phase, Stage};
 use iscsi_stream::StreamFault;
@@ -10,7 +10,21 @@ use std::alloc::Global;
 use std::process::Abort;
 use std::test::Fail;
 
-// Checks each turn of a session, whose stream comes in pieces of this length.
+// What a call answers, as a line of a dialogue says it.
+fn result_of(word: &str) -> Result<Phase, TargetFault> {
+    match word {
+        "login" => Ok(Phase::Login),
+        "full" => Ok(Phase::Full),
+        "closed" => Ok(Phase::Closed),
+        "rule 1" => Err(TargetFault::Protocol(1)),
+        "rule 3" => Err(TargetFault::Protocol(3)),
+        "rule 4" => Err(TargetFault::Protocol(4)),
+        "rule 5" => Err(TargetFault::Protocol(5)),
+        _ => Err(TargetFault::Closed),
+    }
+}
+
+// Goes through the lines of a session, whose stream comes in pieces of this length.
 fn check<S: BlockStore>(
     rt: &impl Abort,
     alloc: Global,
@@ -18,36 +32,44 @@ fn check<S: BlockStore>(
     len: usize,
     target: &mut Target,
     store: &mut S,
-    turns: &[Turn],
+    lines: &str,
 ) -> Result<(), Fail> {
-    let mut number = 0u32;
-    for turn in turns {
-        let stream = stream_of(alloc, turn.came)?;
-        let want = stream_of(alloc, turn.answers)?;
-        let mut out = Vec::new(alloc);
-        let result = feed_pieces(target, &stream, len, store, &mut out);
-        assert_eq!(rt;
-            out.as_slice(),
-            want.as_slice(),
-            "{name}, turn {number}, pieces of {len}"
-        );
-        assert_eq!(rt;
-            result,
-            turn.result,
-            "{name}, turn {number}, pieces of {len}"
-        );
-        number = number.wrapping_add(1);
+    let mut came = Vec::new(alloc);
+    let mut want = Vec::new(alloc);
+    for line in lines.lines() {
+        let rest = line.get(2..).unwrap_or("");
+        if line.starts_with('>') {
+            pdu_of(alloc, rest, &mut came)?;
+        } else if line.starts_with('<') {
+            pdu_of(alloc, rest, &mut want)?;
+        } else {
+            let mut out = Vec::new(alloc);
+            let result = feed_pieces(target, &came, len, store, &mut out);
+            assert_eq!(rt;
+                out.as_slice(),
+                want.as_slice(),
+                "{name}, pieces of {len}, to {line}"
+            );
+            assert_eq!(rt;
+                result,
+                result_of(rest),
+                "{name}, pieces of {len}, at {line}"
+            );
+            came.clear();
+            want.clear();
+        }
     }
+    assert_eq!(rt; came.len(), 0, "{name}");
     Ok(())
 }
 
 #[test]
 fn dialogues(rt: HostRuntime) -> Result<(), Fail> {
-    for dialogue in DIALOGUES {
+    for (name, is_fresh, lines) in DIALOGUES {
         for len in [1usize, 47, 48, 100_000] {
             let mut target = target_of(rt.alloc())?;
             let mut store = MemoryStore::new(rt.alloc(), 2048)?;
-            if !dialogue.is_fresh {
+            if !is_fresh {
                 check(
                     &rt,
                     rt.alloc(),
@@ -58,15 +80,7 @@ fn dialogues(rt: HostRuntime) -> Result<(), Fail> {
                     LOGIN,
                 )?;
             }
-            check(
-                &rt,
-                rt.alloc(),
-                dialogue.name,
-                len,
-                &mut target,
-                &mut store,
-                dialogue.turns,
-            )?;
+            check(&rt, rt.alloc(), name, len, &mut target, &mut store, lines)?;
         }
     }
     Ok(())
@@ -75,7 +89,7 @@ fn dialogues(rt: HostRuntime) -> Result<(), Fail> {
 /// The session goes on after a failure of its store.
 #[test]
 fn stores_that_fail(rt: HostRuntime) -> Result<(), Fail> {
-    for dialogue in FAILING {
+    for (name, _, lines) in FAILING {
         for len in [1usize, 47, 48, 100_000] {
             let mut target = target_of(rt.alloc())?;
             let mut store = FailAt::new(MemoryStore::new(rt.alloc(), 2048)?, 0);
@@ -88,15 +102,7 @@ fn stores_that_fail(rt: HostRuntime) -> Result<(), Fail> {
                 &mut store,
                 LOGIN,
             )?;
-            check(
-                &rt,
-                rt.alloc(),
-                dialogue.name,
-                len,
-                &mut target,
-                &mut store,
-                dialogue.turns,
-            )?;
+            check(&rt, rt.alloc(), name, len, &mut target, &mut store, lines)?;
         }
     }
     Ok(())
