@@ -70,10 +70,18 @@ const CANONICAL_PING_BYTES: &[u8] =
     b"\x40\x80\0\0\0\0\0\x03\0\0\0\0\0\0\0\0\0\0\0\x01\xff\xff\xff\xff\
     \0\0\0\x05\0\0\0\x02\0\0\0\0\0\0\0\0\0\0\0\0\0\0\0\0abc\0";
 
+// One of the constants above, which need no disk: `answer` has rows of its own.
 fn run(alloc: Global, filter: Filter, input: &[u8]) -> (Result<(), ToolFault>, Vec<u8>) {
     let mut source = input;
     let mut out = Vec::new(alloc);
-    let result = run_filter(alloc, filter, &mut source, &mut out);
+    let work = match filter.work {
+        Work::Show => Work::Show,
+        Work::Normalise => Work::Normalise,
+        Work::Text => Work::Text,
+        Work::Answer { .. } => Work::Answer { blocks: 1 },
+    };
+    let hex = filter.hex;
+    let result = run_filter(alloc, Filter { work, hex }, &mut source, &mut out);
     (result, out)
 }
 

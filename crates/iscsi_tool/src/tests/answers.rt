@@ -1,70 +1,46 @@
-//! Answers of a target: headers in words of hex and texts, worked out by hand from RFC 7143 and the rules of the profile.
+//! Answers of a target, worked out by hand from RFC 7143 and the rules of the profile: a line for each
+//! PDU, with its header in hex and, behind an apostrophe, the text of its segment, in which `|` stands
+//! for a byte 00. The padding is left out.
 
 use crate::filter::{Filter, Work, run_filter};
 use iscsi_stream::{StreamFault, ToolFault};
 use std::alloc::Global;
 use std::test::Fail;
 
-/// A header in hex, and the segment and padding that follow it.
-type Part = (&'static str, &'static [u8]);
+// The first request of a login, and the first bytes of another.
+const CUT: &str =
+    "43810000 0000006e 40000001 00000000 00000000 00000000 00000001 00000000 00000000 00000000 00000000 00000000 'AuthMethod=None|InitiatorName=iqn.2026-01.example:host|SessionType=Normal|TargetName=iqn.2026-01.example:disk|\n\
+    4387";
 
-// The first request of a login in the security stage, and the second in the operational one.
-const FIRST_REQUEST: Part = (
-    "43810000 0000006e 40000001 00000000 00000000 00000000 \
-    00000001 00000000 00000000 00000000 00000000 00000000",
-    b"AuthMethod=None\0InitiatorName=iqn.2026-01.example:host\0SessionType=Normal\0\
-    TargetName=iqn.2026-01.example:disk\0\0\0",
-);
+const FIRST_ANSWER: &str =
+    "23810000 00000027 40000001 00000000 00000000 00000000 00000001 00000001 00000001 00000000 00000000 00000000 'AuthMethod=None|TargetPortalGroupTag=1|";
 
-const FIRST_ANSWER: Part = (
-    "23810000 00000027 40000001 00000000 00000000 00000000 \
-    00000001 00000001 00000001 00000000 00000000 00000000",
-    b"AuthMethod=None\0TargetPortalGroupTag=1\0\0",
-);
+// A login and a ping.
+const REQUESTS: &str =
+    "43810000 0000006e 40000001 00000000 00000000 00000000 00000001 00000000 00000000 00000000 00000000 00000000 'AuthMethod=None|InitiatorName=iqn.2026-01.example:host|SessionType=Normal|TargetName=iqn.2026-01.example:disk|\n\
+    43870000 0000006e 40000001 00000000 00000000 00000000 00000001 00000002 00000000 00000000 00000000 00000000 'HeaderDigest=CRC32C,None|IFMarker=No|InitialR2T=No|MaxBurstLength=1024|MaxRecvDataSegmentLength=4096|X-test=1|\n\
+    40800000 00000000 00000000 00000000 00000001 ffffffff 00000001 00000003 00000000 00000000 00000000 00000000";
 
-const SECOND_REQUEST: Part = (
-    "43870000 0000006e 40000001 00000000 00000000 00000000 \
-    00000001 00000002 00000000 00000000 00000000 00000000",
-    b"HeaderDigest=CRC32C,None\0IFMarker=No\0InitialR2T=No\0MaxBurstLength=1024\0\
-    MaxRecvDataSegmentLength=4096\0X-test=1\0\0\0",
-);
+const ANSWERS: &str =
+    "23810000 00000027 40000001 00000000 00000000 00000000 00000001 00000001 00000001 00000000 00000000 00000000 'AuthMethod=None|TargetPortalGroupTag=1|\n\
+    23870000 00000073 40000001 00000001 00000000 00000000 00000002 00000001 00000001 00000000 00000000 00000000 'HeaderDigest=None|IFMarker=No|InitialR2T=No|MaxBurstLength=1024|MaxRecvDataSegmentLength=8192|X-test=NotUnderstood|\n\
+    20800000 00000000 00000000 00000000 00000001 ffffffff 00000003 00000001 00000001 00000000 00000000 00000000";
 
-const SECOND_ANSWER: Part = (
-    "23870000 00000073 40000001 00000001 00000000 00000000 \
-    00000002 00000001 00000001 00000000 00000000 00000000",
-    b"HeaderDigest=None\0IFMarker=No\0InitialR2T=No\0MaxBurstLength=1024\0\
-    MaxRecvDataSegmentLength=8192\0X-test=NotUnderstood\0\0",
-);
+// A first request without the initiator's name, and a ping.
+const NAMELESS: &str =
+    "43810000 00000047 40000001 00000000 00000000 00000000 00000001 00000000 00000000 00000000 00000000 00000000 'AuthMethod=None|SessionType=Normal|TargetName=iqn.2026-01.example:disk|\n\
+    40800000 00000000 00000000 00000000 00000001 ffffffff 00000001 00000003 00000000 00000000 00000000 00000000";
 
-// A ping, and its answer.
-const PING: Part = (
-    "40800000 00000000 00000000 00000000 00000001 ffffffff \
-    00000001 00000003 00000000 00000000 00000000 00000000",
-    b"",
-);
+const REFUSAL: &str =
+    "23000000 00000000 40000001 00000000 00000000 00000000 00000000 00000001 00000001 02070000 00000000 00000000";
 
-const PONG: Part = (
-    "20800000 00000000 00000000 00000000 00000001 ffffffff \
-    00000003 00000001 00000001 00000000 00000000 00000000",
-    b"",
-);
+const PING: &str =
+    "40800000 00000000 00000000 00000000 00000001 ffffffff 00000001 00000003 00000000 00000000 00000000 00000000";
 
-// A first request without the initiator's name, and its refusal.
-const NAMELESS: Part = (
-    "43810000 00000047 40000001 00000000 00000000 00000000 \
-    00000001 00000000 00000000 00000000 00000000 00000000",
-    b"AuthMethod=None\0SessionType=Normal\0TargetName=iqn.2026-01.example:disk\0\0",
-);
-
-const REFUSAL: Part = (
-    "23000000 00000000 40000001 00000000 00000000 00000000 \
-    00000000 00000001 00000001 02070000 00000000 00000000",
-    b"",
-);
-
-fn bytes_of(alloc: Global, parts: &[Part]) -> Result<Vec<u8>, Fail> {
+fn bytes_of(alloc: Global, lines: &str) -> Result<Vec<u8>, Fail> {
     let mut stream = Vec::new(alloc);
-    for (header, rest) in parts {
+    for line in lines.lines() {
+        let (header, text) = line.split_once('\'').unwrap_or((line, ""));
         let digits: Vec<u8> = header
             .as_bytes()
             .iter()
@@ -72,39 +48,25 @@ fn bytes_of(alloc: Global, parts: &[Part]) -> Result<Vec<u8>, Fail> {
             .filter(|b| *b != b' ')
             .collect(alloc)?;
         stream.extend_from_slice(&hex::decode(alloc, digits)?)?;
-        stream.extend_from_slice(rest)?;
+        for byte in text.bytes() {
+            stream.push(if byte == b'|' { 0 } else { byte })?;
+        }
+        stream.extend_from_slice([0u8; 3].get(..(4 - text.len() % 4) % 4).unwrap_or(&[]))?;
     }
     Ok(stream)
 }
 
 #[test]
 fn answers_to_streams(rt: HostRuntime) -> Result<(), Fail> {
-    let whole = [FIRST_REQUEST, SECOND_REQUEST, PING];
-    let answered = [FIRST_ANSWER, SECOND_ANSWER, PONG];
     let rows = [
-        ("nothing", [].as_slice(), [].as_slice(), Ok(())),
-        (
-            "a login and a ping",
-            whole.as_slice(),
-            answered.as_slice(),
-            Ok(()),
-        ),
-        (
-            "a login that is refused, and what follows it",
-            [NAMELESS, PING].as_slice(),
-            [REFUSAL].as_slice(),
-            Ok(()),
-        ),
-        (
-            "a ping before the login",
-            [PING].as_slice(),
-            [].as_slice(),
-            Err(ToolFault::Protocol(1)),
-        ),
+        ("nothing", "", "", Ok(())),
+        ("a login and a ping", REQUESTS, ANSWERS, Ok(())),
+        ("a login that is refused", NAMELESS, REFUSAL, Ok(())),
+        ("a ping alone", PING, "", Err(ToolFault::Protocol(1))),
         (
             "a part of a header",
-            [FIRST_REQUEST, ("4387", b"")].as_slice(),
-            [FIRST_ANSWER].as_slice(),
+            CUT,
+            FIRST_ANSWER,
             Err(ToolFault::Stream(StreamFault::Truncated(160))),
         ),
     ];
