@@ -16,18 +16,12 @@ use Rattle.iscsi_login.specs.declared.phase.Phase.TheVariants as phases
 use Rattle.iscsi_login.specs.Answer.{initiator_holds, in_order}
 use Rattle.iscsi_login.specs.Check.{bad_key}
 use Rattle.iscsi_login.specs.Stage.{stage_number}
-use Rattle.iscsi_login.specs.Offers.{Proposal, security_offers, operational_offers, single_offers}
+use Rattle.iscsi_login.specs.Offers.{offers_at}
 use Rattle.iscsi_initiator.specs.declared.fault.InitiatorFault.TheVariants.{Refused, BadAnswer}
 use Rattle.iscsi_initiator.specs.State.{Machine, next, serial, sent_exp_stat_sn}
 use Rattle.iscsi_initiator.specs.Steps.{Stepped, fails, breaks, quiet, sends}
 
 -- ---- what is sent
-
--- What is offered at a stage, by the stage where the login started (section 6.3).
-abbrev pub offers_at : Proposal → Stage → Stage → Pairs
-offers_at proposal start Security = security_offers proposal
-offers_at proposal Operational stage = single_offers proposal
-offers_at proposal start stage = operational_offers proposal
 
 -- What the present text offers, in the order of the keys (section 6.3).
 abbrev pub offered : Machine → Pairs

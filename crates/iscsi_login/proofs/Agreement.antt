@@ -49,14 +49,14 @@ default_allowed keys.ErrorRecoveryLevel = (omega arith, omega arith)
 default_allowed _ = tt
 
 -- the number is in the range, or the value is `Reject`
-in_range_cases : (range : Range) (n : ℕ) → (in_range range n ≡ Reject) ⊎ ((in_range range n ≡ Number n) × IsWithin range n)
+pub in_range_cases : (range : Range) (n : ℕ) → (in_range range n ≡ Reject) ⊎ ((in_range range n ≡ Number n) × IsWithin range n)
 in_range_cases range n = by (nat_le range.low n && nat_le n range.high) refl
   where
     by : (t : Bool) → (nat_le range.low n && nat_le n range.high) ≡ t → (in_range range n ≡ Reject) ⊎ ((in_range range n ≡ Number n) × IsWithin range n)
     by true e = inr (ap (λ b. cond b (Number n) Reject) e, (grind (arith, nat_tests), grind (arith, nat_tests)))
     by false e = inl (ap (λ b. cond b (Number n) Reject) e)
 
-in_range_within : (range : Range) (n : ℕ) → IsWithin range n → in_range range n ≡ Number n
+pub in_range_within : (range : Range) (n : ℕ) → IsWithin range n → in_range range n ≡ Number n
 in_range_within range n is = ap (λ b. cond b (Number n) Reject) (and_from (nat_le range.low n) (nat_le n range.high) (le-leb range.low n is.0) (le-leb n range.high is.1))
 
 -- The function of a key gives an allowed value, or `Reject`.
@@ -167,7 +167,7 @@ target_allowed session p is key offer = by (is_irrelevant session key)
     by false = or_default_allowed key (result_of key offer p) (outcome (rule_of key) offer (preference p key) (preference_allowed p is key))
 
 -- a typed value stands for one that the rule allows, or for none
-value_cases : (rule : Rule) (v : Typed) → (value_of rule v ≡ Reject) ⊎ Allows rule (value_of rule v)
+pub value_cases : (rule : Rule) (v : Typed) → (value_of rule v ≡ Reject) ⊎ Allows rule (value_of rule v)
 value_cases (rules.Minimum range) (values.Number n) = elim (in_range_cases range n) [
   | inl out ↦ inl out
   | inr within ↦ inr (subst (Allows (rules.Minimum range)) (sym within.0) within.1)

@@ -74,7 +74,7 @@ answers_match session p is key [] le = tt
 answers_match session p is key (offer ∷ []) le = answer_legal session p is key offer
 answers_match session p is key (a ∷ b ∷ offers) le = absurd (omega arith)
 
-not_address : (key : NegKey) → name_of key ≢ target_address
+pub not_address : (key : NegKey) → name_of key ≢ target_address
 not_address key same = let yes = bytes_eq_same (name_of key) target_address same in absurd (no key yes)
   where
     no : (key : NegKey) → bytes_eq (name_of key) target_address ≡ true → ⊥

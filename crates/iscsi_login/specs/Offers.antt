@@ -5,6 +5,8 @@ use Rattle.iscsi_text.specs.Value as values
 use Rattle.iscsi_text.specs.Text.{Pairs}
 use Rattle.iscsi_text.specs.Canonical.{canonical_text}
 use Rattle.iscsi_login.specs.declared.key.NegKey.{NegKey}
+use Rattle.iscsi_login.specs.declared.stage.Stage.{Stage}
+use Rattle.iscsi_login.specs.declared.stage.Stage.TheVariants.{Security, Operational}
 use Rattle.iscsi_login.specs.declared.stage.Session.{Session}
 use Rattle.iscsi_login.specs.declared.stage.Session.TheVariants.{Normal, Discovery}
 use Rattle.iscsi_login.specs.declared.preferences.Preferences.{Preferences}
@@ -73,6 +75,12 @@ operational_offers o = max_recv_pair o.prefs ∷ map (preferred_pair o.prefs) op
 -- Both, without the authentication, where a login starts in the operational stage (section 6.3; own rule).
 abbrev pub single_offers : Proposal → Pairs
 single_offers o = names o ++ operational_offers o
+
+-- What is offered at a stage, by the stage where the login started (section 6.3).
+abbrev pub offers_at : Proposal → Stage → Stage → Pairs
+offers_at proposal start Security = security_offers proposal
+offers_at proposal Operational stage = single_offers proposal
+offers_at proposal start stage = operational_offers proposal
 
 -- The canonical text of these pairs (own rule of section 6.1).
 abbrev pub text_of : Pairs → List ℕ

@@ -11,7 +11,7 @@ ghost use Rattle.iscsi_login.specs.Negotiation.{IsInRange, IsLegal, max_recv_ran
 ghost use Rattle.iscsi_login.specs.Held.{Held};
 ghost use Rattle.iscsi_login.specs.Answer.{answer_to, held_by_target, held_by_initiator, declared_max_recv, answer, in_order, initiator_holds, target_holds};
 ghost use Rattle.iscsi_login.specs.Offers.{Proposal, security_offers, operational_offers, single_offers};
-ghost use Rattle.iscsi_login.specs.Check.{IsOffer, IsGoodAnswer};
+ghost use Rattle.iscsi_login.specs.Check.{IsOffer, IsGoodAnswer, bad_key};
 
 /// Whatever is offered of a key, in a session of either kind: the answer of a target with
 /// preferences in range is legal, and after it both ends hold the same value.
@@ -52,6 +52,15 @@ pub fn answer_is_good()
         (tag max_recv : Option ℕ) → IfSome max_recv (IsWithin max_recv_range) →
         (offered : Pairs) → IsOffer offered →
         IsGoodAnswer offered (answer session p tag max_recv offered) }
+{}
+
+/// An initiator takes the good answers to what it says, and no others: it finds a key for which to
+/// refuse an answer exactly where the answer isn't good.
+pub fn judged_answers()
+    ensures good { (offered answer : Pairs) → IsOffer offered → IsMeaning answer →
+        bad_key offered answer ≡ None → IsGoodAnswer offered answer }
+    ensures taken { (offered answer : Pairs) → IsGoodAnswer offered answer →
+        bad_key offered answer ≡ None }
 {}
 
 /// The answer to what a text means is what a text means.

@@ -3,6 +3,7 @@
 #![tactic(auto)]
 
 mod answer;
+mod check;
 mod key;
 pub mod laws;
 mod name;

@@ -1,13 +1,16 @@
 //! What an initiator offers (RFC 7143, sections 6.3, 12.1 and 13).
 
-ghost use Rattle.std.specs.Prelude.{◌≡◌, ◌++◌, OnOk, OnErr};
-ghost use Rattle.iscsi_text.specs.Inside.{shown};
-ghost use Rattle.iscsi_login.specs.Offers.{auth_items, session_name, preferred_pair, max_recv_pair, proposed, security_offers, operational_offers, single_offers, text_of};
+ghost use Rattle.std.specs.Prelude.{◌≡◌, ◌++◌, OnOk, OnErr, codes};
+ghost use Rattle.iscsi_text.specs.Value as values;
+ghost use Rattle.iscsi_text.specs.Inside.{shown, all_shown};
+ghost use Rattle.iscsi_login.specs.Answer.{in_order};
+ghost use Rattle.iscsi_login.specs.Offers.{auth_items, session_name, preferred_pair, max_recv_pair, proposed, security_offers, operational_offers, single_offers, offers_at, text_of};
+ghost use Rattle.iscsi_login.specs.Inside.{said};
 
 use crate::key::NegKey;
 use crate::negotiation::answered_value;
 use crate::preferences::Preferences;
-use crate::stage::Session;
+use crate::stage::{Session, Stage};
 use iscsi_text::{Pair, Value, write_pairs};
 use std::alloc::AllocError;
 
@@ -56,6 +59,30 @@ pub struct Offers<'a> {
 }
 
 impl Offers<'_> {
+    /// Appends the text of a stage, in a login that started at `start`: the security text, the one
+    /// text of a login that starts in the operational stage, or the operational text behind the
+    /// security stage (RFC 7143, section 6.3).
+    ///
+    /// After want of memory `out` is unchanged.
+    pub fn write_text(
+        &self,
+        start: Stage,
+        stage: Stage,
+        out: &mut Vec<u8>,
+    ) -> Result<(), AllocError>
+        ensures ok { OnOk result (out.new.items ≡
+            out.old.items ++ text_of (offers_at (proposed self.now) start stage)) }
+        ensures err { OnErr result (out.new.items ≡ out.old.items) }
+    {
+        match (start, stage) {
+            (_, Stage::Security) => self.security_text(out),
+            (Stage::Operational, Stage::Operational | Stage::Full) => self.single_text(out),
+            (Stage::Security | Stage::Full, Stage::Operational | Stage::Full) => {
+                self.operational_text(out)
+            }
+        }
+    }
+
     /// Appends the text of the security stage: `AuthMethod`, `InitiatorName`, `SessionType`, and in
     /// a normal session `TargetName` (RFC 7143, sections 6.3.2, 12.1, 13.4, 13.5 and 13.21).
     ///
@@ -65,28 +92,7 @@ impl Offers<'_> {
             out.old.items ++ text_of (security_offers (proposed self.now))) }
         ensures err { OnErr result (out.new.items ≡ out.old.items) }
     {
-        let pairs = [
-            Pair {
-                key: b"AuthMethod",
-                value: Value::Items(self.auth.items()),
-            },
-            Pair {
-                key: b"InitiatorName",
-                value: Value::Plain(self.initiator),
-            },
-            Pair {
-                key: b"SessionType",
-                value: Value::Plain(session_name(self.session)),
-            },
-            Pair {
-                key: b"TargetName",
-                value: Value::Plain(self.target),
-            },
-        ];
-        match self.session {
-            Session::Normal => write_pairs(&pairs, out),
-            Session::Discovery => write_pairs(&pairs[..3], out),
-        }
+        write_pairs(said(&self.security_pairs(), self.session), out)
     }
 
     /// Appends the text of the operational stage: the preference for each negotiated key but
@@ -98,23 +104,7 @@ impl Offers<'_> {
             out.old.items ++ text_of (operational_offers (proposed self.now))) }
         ensures err { OnErr result (out.new.items ≡ out.old.items) }
     {
-        let pairs = [
-            self.preferred(NegKey::DataDigest),
-            self.preferred(NegKey::DataPDUInOrder),
-            self.preferred(NegKey::DataSequenceInOrder),
-            self.preferred(NegKey::DefaultTime2Retain),
-            self.preferred(NegKey::DefaultTime2Wait),
-            self.preferred(NegKey::ErrorRecoveryLevel),
-            self.preferred(NegKey::FirstBurstLength),
-            self.preferred(NegKey::HeaderDigest),
-            self.preferred(NegKey::ImmediateData),
-            self.preferred(NegKey::InitialR2T),
-            self.preferred(NegKey::MaxBurstLength),
-            self.preferred(NegKey::MaxConnections),
-            self.preferred(NegKey::MaxOutstandingR2T),
-            self.max_recv(),
-        ];
-        write_pairs(&pairs, out)
+        write_pairs(&self.operational_pairs(), out)
     }
 
     /// Appends the one text of a login that starts in the operational stage: all pairs of both
@@ -126,7 +116,30 @@ impl Offers<'_> {
             out.old.items ++ text_of (single_offers (proposed self.now))) }
         ensures err { OnErr result (out.new.items ≡ out.old.items) }
     {
-        let pairs = [
+        write_pairs(said(&self.single_pairs(), self.session), out)
+    }
+
+    // The pairs of the security stage, and the target's name in any session.
+    pub(crate) fn security_pairs(&self) -> [Pair; 4]
+        ensures { said self.now.session (all_shown result) ≡
+            in_order (security_offers (proposed self.now)) }
+    {
+        [
+            Pair {
+                key: b"AuthMethod",
+                value: Value::Items(self.auth.items()),
+            },
+            self.initiator_name(),
+            self.session_type(),
+            self.target_name(),
+        ]
+    }
+
+    // The pairs of the operational stage.
+    pub(crate) fn operational_pairs(&self) -> [Pair; 14]
+        ensures { all_shown result ≡ in_order (operational_offers (proposed self.now)) }
+    {
+        [
             self.preferred(NegKey::DataDigest),
             self.preferred(NegKey::DataPDUInOrder),
             self.preferred(NegKey::DataSequenceInOrder),
@@ -137,26 +150,67 @@ impl Offers<'_> {
             self.preferred(NegKey::HeaderDigest),
             self.preferred(NegKey::ImmediateData),
             self.preferred(NegKey::InitialR2T),
-            Pair {
-                key: b"InitiatorName",
-                value: Value::Plain(self.initiator),
-            },
             self.preferred(NegKey::MaxBurstLength),
             self.preferred(NegKey::MaxConnections),
             self.preferred(NegKey::MaxOutstandingR2T),
             self.max_recv(),
-            Pair {
-                key: b"SessionType",
-                value: Value::Plain(session_name(self.session)),
-            },
-            Pair {
-                key: b"TargetName",
-                value: Value::Plain(self.target),
-            },
-        ];
-        match self.session {
-            Session::Normal => write_pairs(&pairs, out),
-            Session::Discovery => write_pairs(&pairs[..16], out),
+        ]
+    }
+
+    // All pairs of a login that starts in the operational stage, and the target's name in any
+    // session.
+    pub(crate) fn single_pairs(&self) -> [Pair; 17]
+        ensures { said self.now.session (all_shown result) ≡
+            in_order (single_offers (proposed self.now)) }
+    {
+        [
+            self.preferred(NegKey::DataDigest),
+            self.preferred(NegKey::DataPDUInOrder),
+            self.preferred(NegKey::DataSequenceInOrder),
+            self.preferred(NegKey::DefaultTime2Retain),
+            self.preferred(NegKey::DefaultTime2Wait),
+            self.preferred(NegKey::ErrorRecoveryLevel),
+            self.preferred(NegKey::FirstBurstLength),
+            self.preferred(NegKey::HeaderDigest),
+            self.preferred(NegKey::ImmediateData),
+            self.preferred(NegKey::InitialR2T),
+            self.initiator_name(),
+            self.preferred(NegKey::MaxBurstLength),
+            self.preferred(NegKey::MaxConnections),
+            self.preferred(NegKey::MaxOutstandingR2T),
+            self.max_recv(),
+            self.session_type(),
+            self.target_name(),
+        ]
+    }
+
+    // Who speaks.
+    fn initiator_name(&self) -> Pair
+        ensures { shown result ≡ (codes "InitiatorName", values.Plain self.now.initiator.now) }
+    {
+        Pair {
+            key: b"InitiatorName",
+            value: Value::Plain(self.initiator),
+        }
+    }
+
+    // What the session is for.
+    fn session_type(&self) -> Pair<'static>
+        ensures { shown result ≡ (codes "SessionType", values.Plain (session_name self.now.session)) }
+    {
+        Pair {
+            key: b"SessionType",
+            value: Value::Plain(session_name(self.session)),
+        }
+    }
+
+    // To whom.
+    fn target_name(&self) -> Pair
+        ensures { shown result ≡ (codes "TargetName", values.Plain self.now.target.now) }
+    {
+        Pair {
+            key: b"TargetName",
+            value: Value::Plain(self.target),
         }
     }
 
@@ -178,6 +232,16 @@ impl Offers<'_> {
             key: b"MaxRecvDataSegmentLength",
             value: Value::Number(u64::from(self.prefs.max_recv)),
         }
+    }
+}
+
+// The pairs but the last, the target's name, which a discovery session doesn't say.
+pub(crate) fn said<'b, 'a>(pairs: &'b [Pair<'a>], session: Session) -> &'b [Pair<'a>]
+    ensures { all_shown result.now ≡ said session (all_shown pairs.now) }
+{
+    match session {
+        Session::Normal => pairs,
+        Session::Discovery => &pairs[..pairs.len().saturating_sub(1)],
     }
 }
 

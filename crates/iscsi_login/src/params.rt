@@ -5,7 +5,7 @@ ghost use Rattle.iscsi_text.specs.Value.{typed};
 ghost use Rattle.iscsi_login.specs.Key.{rule_of, all_keys, IsWithin};
 ghost use Rattle.iscsi_login.specs.Negotiation.{Allows, IsInRange, max_recv_range};
 ghost use Rattle.iscsi_login.specs.Held.{defaults, first_burst, held_value, number_of, IsHeld};
-ghost use Rattle.iscsi_login.specs.Answer.{declared_max_recv, IsSegmentLength, DeclaresWell, value_after_offers, target_holds, value_after_answer, initiator_holds};
+ghost use Rattle.iscsi_login.specs.Answer.{declared_max_recv, IsSegmentLength, is_segment_length, DeclaresWell, value_after_offers, target_holds, value_after_answer, initiator_holds};
 
 use crate::key::{BYTES, NegKey};
 use crate::negotiation::{or_default, result, value};
@@ -50,6 +50,16 @@ impl Params {
     pub fn defaults() -> Params
         ensures defaults { result ≡ defaults }
     {
+        Params::declaring(8192)
+    }
+
+    /// The defaults, but the most bytes that the initiator takes in one segment, 512 to 16777215:
+    /// what an initiator holds before its login, in which it declares that length (RFC 7143,
+    /// section 13.12).
+    pub fn declaring(max_recv: u32) -> Params
+        requires { IsWithin max_recv_range max_recv }
+        ensures declares { result ≡ record defaults { initiator_max_recv = max_recv } }
+    {
         Params {
             values: [
                 Answered::Number(1),
@@ -67,7 +77,7 @@ impl Params {
                 Answered::NoneItem,
                 Answered::NoneItem,
             ],
-            initiator_max_recv: 8192,
+            initiator_max_recv: max_recv,
             target_max_recv: 8192,
         }
     }
@@ -235,8 +245,9 @@ pub fn declares_well(text: &Text) -> bool
 }
 
 // Whether the value is a number of bytes that may be declared.
-fn is_segment_length(value: &Value) -> bool
-    ensures { IsTrue result ↔ IsSegmentLength (typed value.now) }
+pub(crate) fn is_segment_length(value: &Value) -> bool
+    ensures length { IsTrue result ↔ IsSegmentLength (typed value.now) }
+    ensures test { result ≡ is_segment_length (typed value.now) }
 {
     match value {
         Value::Number(bytes) => u64::from(BYTES.low) <= *bytes && *bytes <= u64::from(BYTES.high),

@@ -13,5 +13,5 @@ pub use fault::TextFault;
 pub use key::{KeyKind, key_kind};
 pub use numeral::{read_number, write_number};
 pub use pair::Pair;
-pub use text::{Text, write_pairs};
+pub use text::{Text, value_in, write_pairs};
 pub use value::Value;

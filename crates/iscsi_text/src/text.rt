@@ -85,12 +85,21 @@ impl<'a> Text<'a> {
         Some((pair.key, pair.value))
     }
 
+    /// The pairs in the canonical order.
+    pub fn pairs(&self) -> &[Pair<'a>]
+        ensures pairs { all_shown result.now ≡ self.now }
+        // Every text is one that some bytes mean.
+        ensures meaning { IsMeaning self.now }
+    {
+        self.pairs.as_slice()
+    }
+
     /// The i-th value of the key, from 0, and `None` where it has no more. Only `TargetAddress` can
     /// have more than one (RFC 7143, section 13.8). The pairs are looked through one by one.
     pub fn get(&self, key: &[u8], i: usize) -> Option<Value<'a>>
         ensures value { option_map typed result ≡ slice_get (values_of key.now self.now) i }
     {
-        get(&self.pairs, key, i)
+        value_in(&self.pairs, key, i)
     }
 
     /// How many bytes the canonical text has. They are at most those that were read.
@@ -113,8 +122,9 @@ impl<'a> Text<'a> {
     }
 }
 
-// The i-th value of the key among these pairs.
-fn get<'a>(pairs: &[Pair<'a>], key: &[u8], i: usize) -> Option<Value<'a>>
+/// The i-th value of the key among these pairs, from 0, and `None` where it has no more. The pairs
+/// are looked through one by one.
+pub fn value_in<'a>(pairs: &[Pair<'a>], key: &[u8], i: usize) -> Option<Value<'a>>
     ensures { option_map typed result ≡ slice_get (values_of key.now (all_shown pairs.now)) i }
 {
     let pair = pairs.iter().filter(|pair| pair.key == key).nth(i)?;

@@ -1,6 +1,6 @@
 //! Texts by example.
 
-use crate::{Text, TextFault, Value};
+use crate::{Text, TextFault, Value, value_in};
 use std::alloc::{AllocError, Global};
 use std::process::Abort;
 use std::test::Fail;
@@ -158,6 +158,11 @@ fn values_have_their_keys_types(rt: HostRuntime) -> Result<(), Fail> {
     assert_eq!(rt; text.get(b"TargetAddress", 1), Some(Value::Plain(b"a")));
     assert_eq!(rt; text.get(b"TargetAddress", 2), None);
     assert_eq!(rt; text.get(b"X-other", 0), None);
+    assert_eq!(rt; text.pairs().len(), rows.len());
+    assert_eq!(rt;
+        value_in(text.pairs(), b"TargetAddress", 1),
+        Some(Value::Plain(b"a"))
+    );
     Ok(())
 }
 
