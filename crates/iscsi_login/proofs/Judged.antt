@@ -87,6 +87,13 @@ unanswered_size answer (Some p) is = by (key_named p.0) (named_is p.0) (and_part
     by None name some = absurd cc
     by (Some key) name some = subst (λ bytes. length bytes ≤ 63) name (leb-true (length (name_of key)) 63 (name_is_short key))
 
+-- an offered key that is left out has a name, and is found by it
+pub name_back : (name : List ℕ) (key : NegKey) → key_named name ≡ Some key → name_of key ≡ name
+name_back name key is = subst (λ k. IfSome k (λ key. name_of key ≡ name)) is (named_is name)
+
+pub unanswered_named : (answer : Pairs) (pair : List ℕ × Typed) → is_unanswered answer pair ≡ true → key_named pair.0 ≢ None
+unanswered_named answer pair is none = let some : false ≡ true = sym (ap is_some none) ∙ (and_parts (is_some (key_named pair.0)) (is_none (slice_get (values_of pair.0 answer) 0)) is).0 in cc
+
 pub key_is_short : (offered answer : Pairs) → IsMeaning answer → IfSome (bad_key offered answer) (λ key. length key ≤ 63)
 key_is_short offered answer meaning =
     short_of (find (is_bad offered) answer) (key_or (find (is_unanswered answer) offered) None)
@@ -187,6 +194,7 @@ lengths_pass answer name all = by (bytes_eq name max_recv_key) refl
     none_asked : (vs : List Typed) → AllByRecursion (λ v. false ≡ true → is_segment_length v ≡ true) vs
     none_asked [] = tt
     none_asked (v ∷ vs) = (λ e. cc, none_asked vs)
+
     by : (t : Bool) → bytes_eq name max_recv_key ≡ t → AllByRecursion (λ v. t ≡ true → is_segment_length v ≡ true) (values_of name answer)
     by false e = none_asked (values_of name answer)
     by true e = all_from IsSegmentLength (λ v. true ≡ true → is_segment_length v ≡ true) (values_of name answer) (λ v is _. length_passes v is) (subst (λ k. AllByRecursion IsSegmentLength (values_of k answer)) (sym (same_key name max_recv_key e)) all)
@@ -218,6 +226,7 @@ answered_at offered answer good name = by (key_named name) (named_is name)
     unasked : (vs : List Typed) → AllByRecursion (λ v. false ≡ false) vs
     unasked [] = tt
     unasked (v ∷ vs) = (refl, unasked vs)
+
     by : (k : Option NegKey) → IfSome k (λ key. name_of key ≡ name) → AllByRecursion (λ v. (is_some k && is_none (slice_get (values_of name answer) 0)) ≡ false) (values_of name offered)
     by (Some key) same = subst (λ n. AllByRecursion (λ v. is_none (slice_get (values_of n answer) 0) ≡ false) (values_of n offered)) same (all_answered key (values_of (name_of key) offered) (values_of (name_of key) answer) (good.negotiated key))
     by None same = unasked (values_of name offered)

@@ -62,12 +62,12 @@ choice key offer answer given one =
     let preferred = value_of (rule_of key) answer in
     let some : preferred ≢ Reject = given_some rule (value_of rule offer) preferred given in
     let same : chosen rule (value_of rule offer) preferred ≡ preferred = given_chosen rule (value_of rule offer) preferred given in
-    let allowed : Allows rule preferred = elim (value_cases rule answer) [ | inl out ↦ absurd (some out) | inr is ↦ is ] in
+    let allowed : Allows rule preferred = elim (value_cases rule answer) [ inl out ↦ absurd (some out) | inr is ↦ is ] in
     record {
       preferred = preferred;
       allowed = allowed;
       result = subst (Allows rule) (sym same) allowed;
-      same = elim (spelled rule answer one) [ | inl out ↦ absurd (some out) | inr is ↦ is ∙ ap (answered_value rule) (sym same) ];
+      same = elim (spelled rule answer one) [ inl out ↦ absurd (some out) | inr is ↦ is ∙ ap (answered_value rule) (sym same) ];
     }
 
 -- what passes the test is legal

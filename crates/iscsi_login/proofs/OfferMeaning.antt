@@ -13,10 +13,9 @@ use Rattle.iscsi_login.specs.declared.stage.Session.{Session}
 use Rattle.iscsi_login.specs.declared.stage.Session.TheVariants.{Normal, Discovery}
 use Rattle.iscsi_login.specs.Key.{name_of, all_keys}
 use Rattle.iscsi_login.specs.Answer.{in_order}
-use Rattle.iscsi_login.specs.Offers.{Proposal, auth_items, target_pair, security_offers, operational_offers, single_offers}
+use Rattle.iscsi_login.specs.Offers.{Proposal, auth_items, session_name, target_pair, security_offers, operational_offers, single_offers}
 use Rattle.iscsi_login.specs.Check.{described, IsOffer}
 use Rattle.iscsi_login.proofs.Order.{values_in_order}
-use Rattle.iscsi_login.proofs.OfferOrder.{name_pair, session_pair}
 
 -- no later pair has this key
 abbrev is_new : List ℕ → Pairs → Bool
@@ -59,6 +58,12 @@ offer_from ps new among = record {
   single = λ key other. subst (λ vs. length vs ≤ 1) (sym (values_in_order key ps)) (at_most_one key ps new);
   keys = λ key some. all_among offer_names ps among key (subst (λ vs. 0 < length vs) (values_in_order key ps) some);
 }
+
+abbrev name_pair : List ℕ → List ℕ × Typed
+name_pair name = (codes "InitiatorName", values.Plain name)
+
+abbrev session_pair : Session → List ℕ × Typed
+session_pair session = (codes "SessionType", values.Plain (session_name session))
 
 pub security_is_offer : (o : Proposal) → IsOffer (in_order (security_offers o))
 security_is_offer o = by o.session

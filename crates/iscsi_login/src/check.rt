@@ -25,12 +25,7 @@ impl Offers<'_> {
     /// to 16777215. If there is none, it is the first offered key with a result function that the
     /// answer leaves out (RFC 7143, sections 6.2, 13.6, 13.8, 13.9 and 13.12; the order is own
     /// rule).
-    pub fn bad_key<'b>(
-        &'b self,
-        start: Stage,
-        stage: Stage,
-        answer: &'b Text,
-    ) -> Option<&'b [u8]>
+    pub fn bad_key<'b>(&self, start: Stage, stage: Stage, answer: &Text<'b>) -> Option<&'b [u8]>
         ensures key { option_map (λ key. key.now) result ≡
             bad_key (in_order (offers_at (proposed self.now) start stage)) answer.now }
         // No key of a text is longer, and no negotiated one.
@@ -49,7 +44,7 @@ impl Offers<'_> {
 }
 
 // The key for which the answer to these offers is refused.
-fn bad_key<'b>(offered: &[Pair<'b>], answer: &Text<'b>) -> Option<&'b [u8]>
+fn bad_key<'b>(offered: &[Pair], answer: &Text<'b>) -> Option<&'b [u8]>
     ensures key { option_map (λ key. key.now) result ≡
         bad_key (all_shown offered.now) answer.now }
     ensures short { IfSome result (λ key. length key.now ≤ 63) }
@@ -71,12 +66,13 @@ fn first_bad<'b>(offered: &[Pair], answer: &[Pair<'b>]) -> Option<&'b [u8]>
 }
 
 // The first offered key that the answer leaves out.
-fn first_unanswered<'b>(answer: &Text, offered: &[Pair<'b>]) -> Option<&'b [u8]>
+fn first_unanswered(answer: &Text, offered: &[Pair]) -> Option<&'static [u8]>
     ensures { option_map (λ key. key.now) result ≡
         key_or (find (is_unanswered answer.now) (all_shown offered.now)) None }
 {
     let pair = offered.iter().find(|pair| is_unanswered(answer, pair))?;
-    Some(pair.key)
+    let key = NegKey::named(pair.key)?;
+    Some(key.name())
 }
 
 // Whether the pair may not stand in an answer to these offers.

@@ -63,6 +63,14 @@ pub fn judged_answers()
         bad_key offered answer ≡ None }
 {}
 
+/// The target's answer to what an initiator says is one that the initiator takes.
+pub fn answer_is_taken()
+    ensures taken { (session : Session) (p : Preferences) → IsInRange p →
+        (tag max_recv : Option ℕ) → IfSome max_recv (IsWithin max_recv_range) →
+        (offered : Pairs) → IsOffer offered →
+        bad_key offered (answer session p tag max_recv offered) ≡ None }
+{}
+
 /// The answer to what a text means is what a text means.
 pub fn answer_is_text()
     ensures meaning { (session : Session) (p : Preferences) → IsInRange p →

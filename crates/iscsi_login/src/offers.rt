@@ -74,12 +74,12 @@ impl Offers<'_> {
             out.old.items ++ text_of (offers_at (proposed self.now) start stage)) }
         ensures err { OnErr result (out.new.items ≡ out.old.items) }
     {
-        match (start, stage) {
-            (_, Stage::Security) => self.security_text(out),
-            (Stage::Operational, Stage::Operational | Stage::Full) => self.single_text(out),
-            (Stage::Security | Stage::Full, Stage::Operational | Stage::Full) => {
-                self.operational_text(out)
-            }
+        match stage {
+            Stage::Security => self.security_text(out),
+            Stage::Operational | Stage::Full => match start {
+                Stage::Operational => self.single_text(out),
+                Stage::Security | Stage::Full => self.operational_text(out),
+            },
         }
     }
 

@@ -139,7 +139,8 @@ impl Params {
     /// declared, and the length that the answer declares, if they do.
     ///
     /// An answer that is no value of its key, as `Reject`, settles the default. What the answer
-    /// declares is to be a length that may be declared: see `declares_well` first.
+    /// declares is to be a length that may be declared: see `declares_well` first, or
+    /// `Offers::bad_key`, which takes no other answer.
     pub fn hold_answer(&mut self, answer: &Text, max_recv: Option<u32>)
         requires declared { DeclaresWell answer.now }
         requires declares { IfSome max_recv (IsWithin max_recv_range) }

@@ -280,6 +280,112 @@ fn both_ends_hold_the_same(rt: HostRuntime) -> Result<(), Fail> {
     Ok(())
 }
 
+// A good answer to the operational text, but for `DataDigest` and `MaxBurstLength`.
+const REST: &[u8] = b"DataPDUInOrder=Yes\0DataSequenceInOrder=Yes\0DefaultTime2Retain=20\0\
+    DefaultTime2Wait=2\0ErrorRecoveryLevel=0\0FirstBurstLength=65536\0HeaderDigest=None\0\
+    ImmediateData=No\0InitialR2T=Yes\0MaxConnections=1\0MaxOutstandingR2T=Irrelevant\0";
+
+// Answers to the security text, and the key for which each is refused.
+const SECURITY_ANSWERS: [(&[u8], Option<&[u8]>); 8] = [
+    (b"AuthMethod=None\0TargetPortalGroupTag=1\0", None),
+    (
+        b"AuthMethod=Reject\0TargetAddress=a\0TargetAddress=b\0TargetAlias=x\0",
+        None,
+    ),
+    (b"AuthMethod=CHAP\0", Some(b"AuthMethod")),
+    (b"TargetPortalGroupTag=1\0", Some(b"AuthMethod")),
+    (b"", Some(b"AuthMethod")),
+    (
+        b"AuthMethod=None\0HeaderDigest=None\0",
+        Some(b"HeaderDigest"),
+    ),
+    (
+        b"AuthMethod=None\0TargetName=iqn.2026-01.example:disk\0",
+        Some(b"TargetName"),
+    ),
+    (b"X-test=NotUnderstood\0", Some(b"X-test")),
+];
+
+// What stands in an answer to the operational text beside `REST`, and the key for which the answer
+// is refused.
+const OPERATIONAL_ANSWERS: [(&[u8], Option<&[u8]>); 10] = [
+    (b"DataDigest=None\0MaxBurstLength=262144\0", None),
+    (
+        b"DataDigest=None\0MaxBurstLength=512\0MaxRecvDataSegmentLength=512\0",
+        None,
+    ),
+    (
+        b"DataDigest=None\0MaxBurstLength=262145\0",
+        Some(b"MaxBurstLength"),
+    ),
+    (
+        b"DataDigest=None\0MaxBurstLength=511\0",
+        Some(b"MaxBurstLength"),
+    ),
+    (b"MaxBurstLength=262144\0", Some(b"DataDigest")),
+    (b"DataDigest=None\0", Some(b"MaxBurstLength")),
+    (b"MaxBurstLength=262145\0", Some(b"MaxBurstLength")),
+    (
+        b"AuthMethod=None\0DataDigest=None\0MaxBurstLength=262144\0",
+        Some(b"AuthMethod"),
+    ),
+    (
+        b"DataDigest=None\0MaxBurstLength=262144\0MaxRecvDataSegmentLength=511\0",
+        Some(b"MaxRecvDataSegmentLength"),
+    ),
+    (
+        b"DataDigest=None\0MaxBurstLength=262144\0MaxRecvDataSegmentLength=16777216\0",
+        Some(b"MaxRecvDataSegmentLength"),
+    ),
+];
+
+// The answer is refused for this key; one that is taken is held.
+fn judge(rt: &impl Abort, start: Stage, stage: Stage, answer: &Text, want: Option<&[u8]>) {
+    let offers = normal_offers();
+    let key = offers.bad_key(start, stage, answer);
+    assert_eq!(rt; key, want, "{start:?} {stage:?}");
+    if key.is_none() {
+        let mut params = Params::declaring(4096);
+        params.hold_answer(answer, None);
+        assert_eq!(rt; params.initiator_max_recv, 4096);
+    }
+}
+
+#[test]
+fn judged_answers(rt: HostRuntime) -> Result<(), Fail> {
+    for (answer, want) in SECURITY_ANSWERS {
+        let answer = Text::read(rt.alloc(), answer)?;
+        judge(&rt, Stage::Security, Stage::Security, &answer, want);
+    }
+    for (part, want) in OPERATIONAL_ANSWERS {
+        let mut answer = Vec::from_slice(rt.alloc(), REST)?;
+        answer.extend_from_slice(part)?;
+        let answer = Text::read(rt.alloc(), answer.as_slice())?;
+        judge(&rt, Stage::Security, Stage::Operational, &answer, want);
+        judge(&rt, Stage::Operational, Stage::Operational, &answer, want);
+    }
+    Ok(())
+}
+
+// The text of a stage, by the stage where the login started.
+#[test]
+fn texts_of_stages(rt: HostRuntime) -> Result<(), Fail> {
+    let rows = [
+        (Stage::Security, Stage::Security, SECURITY),
+        (Stage::Security, Stage::Operational, OPERATIONAL),
+        (Stage::Operational, Stage::Operational, SINGLE),
+    ];
+    for (start, stage, want) in rows {
+        let mut out = vec![in rt.alloc(); b'.']?;
+        if normal_offers().write_text(start, stage, &mut out).is_err() {
+            assert_eq!(rt; out.as_slice(), b".".as_slice());
+            normal_offers().write_text(start, stage, &mut out)?;
+        }
+        assert_eq!(rt; &out[1..], want, "{start:?} {stage:?}");
+    }
+    Ok(())
+}
+
 // What is appended to these bytes is the text; where memory runs out nothing is.
 #[test]
 fn offer_texts(rt: HostRuntime) -> Result<(), Fail> {
@@ -318,6 +424,11 @@ fn offer_texts(rt: HostRuntime) -> Result<(), Fail> {
 #[test]
 fn first_bursts_moves_and_faults(rt: HostRuntime) -> Result<(), Fail> {
     assert_eq!(rt; Params::defaults().first_burst(), 65536);
+    assert_eq!(rt; Params::defaults().initiator_max_recv, 8192);
+    let declaring = Params::declaring(16777215);
+    assert_eq!(rt; declaring.initiator_max_recv, 16777215);
+    assert_eq!(rt; declaring.target_max_recv, 8192);
+    assert_eq!(rt; declaring.number(NegKey::MaxBurstLength), 262144);
     let text = Text::read(rt.alloc(), b"FirstBurstLength=65536\0MaxBurstLength=512\0")?;
     let preferences = Preferences::standard();
     let mut params = Params::defaults();

@@ -8,8 +8,8 @@ pub returns-in-Security-start : goal.returns-in-Security-start
 returns-in-Security-start c =
     let o = proposed c.args.self.now in
     let behind : offers_at o c.args.start c.args.stage ≡ operational_offers o = elim c.in-Operational.is [
-      | inl stage ↦ elim c.in-Security-start.is [ | inl start ↦ λ i. offers_at o (start i) (stage i) | inr start ↦ λ i. offers_at o (start i) (stage i) ]
-      | inr stage ↦ elim c.in-Security-start.is [ | inl start ↦ λ i. offers_at o (start i) (stage i) | inr start ↦ λ i. offers_at o (start i) (stage i) ]
+      | inl stage ↦ elim c.in-Security-start.is [ inl start ↦ λ i. offers_at o (start i) (stage i) | inr start ↦ λ i. offers_at o (start i) (stage i) ]
+      | inr stage ↦ elim c.in-Security-start.is [ inl start ↦ λ i. offers_at o (start i) (stage i) | inr start ↦ λ i. offers_at o (start i) (stage i) ]
     ] in
     record {
       key = c.bad_key-in-Security-start.ensures.key ∙ ap (λ ps. bad_key ps c.args.answer.now) (c.operational_pairs.ensures ∙ ap in_order (sym behind));
