@@ -5,7 +5,7 @@ use Rattle.std.specs.Option.{IfSome}
 use Rattle.std.specs.Str.{bytes_eq}
 use Rattle.std.proofs.lemmas.Bool.{and_parts, and_from, or_cases, or_left, or_right, not-false, not_from_true, leb-true, le-leb}
 use Rattle.std.proofs.lemmas.List.Folds.{list_any-append}
-use Rattle.iscsi_text.specs.Key.{is_among, IsKey}
+use Rattle.iscsi_text.specs.Key.{is_among}
 use Rattle.iscsi_text.specs.Value.{Typed}
 use Rattle.iscsi_text.specs.Value as values
 use Rattle.iscsi_text.specs.Text.{Pairs, values_of, IsPair, IsMeaning}

@@ -1,18 +1,16 @@
 -- The test of a legal answer, and what it tests.
-use Rattle.std.proofs.Common.{◌≡◌, ◌≢◌, ℕ, ◌⊎◌, Bool, true, false, cond, ◌&&◌, List, [], ◌∷◌, nat_le, min, max, refl, sym, ap, subst, ◌∙◌, inl, inr, arith, codes}
-use Rattle.std.specs.Str.{bytes_eq}
+use Rattle.std.proofs.Common.{◌≡◌, ◌≢◌, ◌⊎◌, Bool, true, false, cond, ◌&&◌, min, max, refl, sym, ap, subst, ◌∙◌, inl, inr, arith, codes}
 use Rattle.std.proofs.lemmas.Bool.{and_parts, and_from, or_cases, or_left, or_right, leb-true, le-leb}
 use Rattle.iscsi_text.specs.Value.{Typed}
 use Rattle.iscsi_text.specs.Value as values
 use Rattle.iscsi_text.proofs.Keys.{same_key}
 use Rattle.iscsi_login.specs.declared.key.NegKey.{NegKey}
-use Rattle.iscsi_login.specs.declared.key.Range.{Range}
 use Rattle.iscsi_login.specs.declared.key.Rule.{Rule}
 use Rattle.iscsi_login.specs.declared.key.Rule.TheVariants as rules
 use Rattle.iscsi_login.specs.declared.preferences.Answered.{Answered}
 use Rattle.iscsi_login.specs.declared.preferences.Answered.TheVariants.{Number, Flag, NoneItem, Reject}
 use Rattle.iscsi_login.specs.Key.{rule_of}
-use Rattle.iscsi_login.specs.Negotiation.{Allows, in_range, has_none, value_of, chosen, is_word, answered_value, IsChoice, IsLegal, is_given, is_one_item, is_legal}
+use Rattle.iscsi_login.specs.Negotiation.{Allows, has_none, value_of, chosen, is_word, answered_value, IsChoice, IsLegal, is_given, is_one_item, is_legal}
 use Rattle.iscsi_login.proofs.Agreement.{in_range_cases, in_range_within, value_cases}
 
 -- the offer and this value as the preference give the value
