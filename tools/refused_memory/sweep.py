@@ -2,10 +2,17 @@
 """Refuses each allocation of the built program in turn, and looks at what it answers and has written then.
 
 Each run ends as with ample memory, or with status 3, the line `memory`, and a part of the output that is due: whole
-PDUs or lines, and nothing of a line of hex or a text. It also counts the allocations for 1, 2 and 1000 PDUs of 4,096
-bytes, which are the same where the segment buffer is kept.
+PDUs or lines, of `answer` all answers to some first PDUs, and nothing of a line of hex or a text. It also counts the
+allocations for 1, 2 and 1000 PDUs of 4,096 bytes, which are the same where the segment buffer is kept.
+
+The sessions of `answer` are the dialogues of iscsi_target's tests, with the answers that stand there, and one that reads
+back the eight blocks of its write. A session ends where memory is refused, and its disk with the program. So from outside
+one sees that the answers stop before those of the PDU that memory was refused for: no R2T and no response comes for it or
+after it, and no read shows a part of a write. That the eight blocks are then all old or all new is a clause: `fed` of
+`Target::feed`, by which such a PDU leaves the blocks as they were.
 """
 import os
+import re
 import subprocess
 import sys
 import tempfile
@@ -14,10 +21,24 @@ TOP = os.path.dirname(os.path.dirname(os.path.dirname(os.path.abspath(__file__))
 PROGRAM = f"{TOP}/crates/iscsi_tool/out/iscsi_tool"
 ROOM = tempfile.mkdtemp()
 
+# A read of the eight blocks that the session "writes" has written, in sequences of MaxBurstLength bytes.
+READ_BACK = """\
+> 01c10000 00000000 00000000 00000000 00000003 00001000 00000003 00000005 28000000 00000000 08000000 00000000
+< 25800000 00000400 00000000 00000000 00000003 ffffffff 00000000 00000004 00000004 00000000 00000000 00000000 5a*1024
+< 25800000 00000400 00000000 00000000 00000003 ffffffff 00000000 00000004 00000004 00000001 00000400 00000000 5a*1024
+< 25800000 00000400 00000000 00000000 00000003 ffffffff 00000000 00000004 00000004 00000002 00000800 00000000 5a*1024
+< 25800000 00000400 00000000 00000000 00000003 ffffffff 00000000 00000004 00000004 00000003 00000c00 00000000 5a*1024
+< 21800000 00000000 00000000 00000000 00000003 00000000 00000005 00000004 00000004 00000004 00000000 00000000
+= full"""
+
 
 def run(words, data, fail_at=0):
+    """From a file, so that reads are cut in the same way each time."""
     env = {**os.environ, "LD_PRELOAD": f"{ROOM}/refuse.so", "FAIL_LOG": f"{ROOM}/log", "FAIL_AT": str(fail_at)}
-    ran = subprocess.run([PROGRAM, *words], input=data, env=env, capture_output=True)
+    with open(f"{ROOM}/input", "wb") as file:
+        file.write(data)
+    with open(f"{ROOM}/input", "rb") as file:
+        ran = subprocess.run([PROGRAM, *words], stdin=file, env=env, capture_output=True)
     count, refused = open(f"{ROOM}/log").read().split()
     return (ran.returncode, ran.stdout, ran.stderr), int(count), refused == "1"
 
@@ -32,16 +53,74 @@ def ends(stream):
     return found
 
 
-def is_part(words, whole, part):
+def places(words, whole):
+    """The lengths at which this output may stop."""
     if "show" in words:
-        return whole.startswith(part) and (part == b"" or part.endswith(b"\n"))
-    if words == ["normalise"]:
-        return whole.startswith(part) and len(part) in ends(whole)
-    return part == b""
+        return {0} | {at + 1 for at, byte in enumerate(whole) if byte == 10}
+    return ends(whole) if words == ["normalise"] else {0}
 
 
 def of_hex(path):
     return bytes.fromhex("".join(open(f"{TOP}/{path}").read().split()))
+
+
+def unquoted(literal):
+    return re.sub(r"\\\n\s*", "", literal).replace("\\n", "\n")
+
+
+def pdu(line):
+    """The PDU of a line of a dialogue, as crates/iscsi_target/src/tests/rows.rt says it."""
+    header, segment = bytes.fromhex(line[:107]), line[107:].strip()
+    if segment.startswith("'"):
+        data = segment[1:].replace("|", "\0").encode()
+    elif "*" in segment:
+        byte, count = segment.split("*")
+        data = bytes.fromhex(byte) * int(count)
+    else:
+        data = bytes.fromhex(segment)
+    return header + data + bytes(-len(data) % 4)
+
+
+def dialogues():
+    """The name of each session, what comes, the lengths of the answers before each PDU, the answers, and the status."""
+    rows = open(f"{TOP}/crates/iscsi_target/src/tests/rows.rt").read().split("pub const FAILING")[0]
+    login = unquoted(re.search(r'LOGIN: &str =\s*"(.*?)";', rows, re.S)[1])
+    found = re.findall(r'\(\s*"([^"]*)",\s*(true|false),\s*"([^"]*)",\s*\)', rows)
+    sessions = [("login", "true", login)] + [(name, fresh, unquoted(lines)) for name, fresh, lines in found]
+    writes = next(lines for name, _, lines in sessions if name == "writes")
+    sessions.append(("reads back a write", "false", f"{writes}\n{READ_BACK}"))
+    for name, fresh, lines in sessions:
+        lines = (lines if fresh == "true" else f"{login}\n{lines}").split("\n")
+        came, due, stops, status = b"", b"", set(), 0
+        for line in lines:
+            if line.startswith(">"):
+                came += pdu(line[2:])
+                stops.add(len(due))
+            elif line.startswith("<"):
+                due += pdu(line[2:])
+            elif line.startswith("= rule"):
+                status = 1
+        yield name, came, stops, due, status
+
+
+def sweep(name, words, data, stops=None):
+    """Refuses each allocation of a run in turn, and answers how many runs ended wrongly."""
+    ample, count, _ = run(words, data)
+    stops = (places(words, ample[1]) if stops is None else stops) | {len(ample[1])}
+    refused, at, failed, met = 0, 0, 0, set()
+    while True:
+        at += 1
+        (status, out, err), _, was_refused = run(words, data, at)
+        if not was_refused:
+            break
+        refused += 1
+        met.add(len(out))
+        is_part = ample[1].startswith(out) and len(out) in stops
+        if (status, out, err) != ample and not (status == 3 and err == b"memory\n" and is_part):
+            failed += 1
+            print(f"{name} at {at}: status {status}, {out[:40]!r}, {err[:60]!r}")
+    print(f"{name}: {refused} of {count} allocations refused in turn; output of {len(met)} lengths")
+    return failed
 
 
 def main():
@@ -55,20 +134,15 @@ def main():
         (["normalise", "--text", "--hex"], text.hex().encode()), (["normalise"], ping + ping[:47]), (["normalise", "--hex"], b"4g"),
         (["normalise", "--text"], b"A=1"), (["serve"], b""),
     ]
-    failed = 0
-    for words, data in cases:
-        ample, count, _ = run(words, data)
-        refused, at = 0, 0
-        while True:
-            at += 1
-            (status, out, err), _, was_refused = run(words, data, at)
-            if not was_refused:
-                break
-            refused += 1
-            if (status, out, err) != ample and not (status == 3 and err == b"memory\n" and is_part(words, ample[1], out)):
-                failed += 1
-                print(f"{words} at {at}: status {status}, {out[:40]!r}, {err[:60]!r}")
-        print(f"{words}: {refused} of {count} allocations refused in turn")
+    failed = sum(sweep(" ".join(words), words, data) for words, data in cases)
+    answer = ["answer", "--blocks", "2048"]
+    for name, came, stops, due, status in dialogues():
+        if run(answer, came)[0][:2] != (status, due):
+            failed += 1
+            print(f"answer, {name}: not the answers of the dialogue")
+        failed += sweep(f"answer, {name}", answer, came, stops)
+        if name in ("login", "reads back a write"):
+            failed += sweep(f"answer --hex, {name}", [*answer, "--hex"], came.hex().encode())
     long_pdu = ping[:5] + (4048).to_bytes(3, "big") + ping[8:48] + bytes(4048)
     counts = [run(["normalise"], long_pdu * n)[1] for n in (1, 2, 1000)]
     print(f"allocations for 1, 2 and 1000 PDUs: {counts}")
