@@ -11,10 +11,13 @@ mod lines;
 mod memory;
 mod normal;
 mod rows;
+mod runs;
 mod texts;
 
-/// A header in hex, and the segment and padding that follow it.
-type Part = (&'static str, &'static [u8]);
+use runs::{SURE, run_with};
+
+/// How many characters a header has in a line of a row.
+const HEADER: usize = 107;
 
 // The bytes of hex text, in which blanks part the words.
 fn bytes_of(alloc: Global, text: &str) -> Result<Vec<u8>, FromHexError> {
@@ -27,21 +30,61 @@ fn bytes_of(alloc: Global, text: &str) -> Result<Vec<u8>, FromHexError> {
     hex::decode(alloc, digits)
 }
 
-fn stream_of(alloc: Global, parts: &[Part]) -> Result<Vec<u8>, FromHexError> {
+// A segment with its padding, as a row spells it.
+fn segment_of(alloc: Global, segment: &str) -> Result<Vec<u8>, FromHexError> {
+    if let Some(text) = segment.strip_prefix('\'') {
+        return Ok(
+            text.bytes()
+                .map(|byte| match byte {
+                    b'|' => 0,
+                    b'~' => 0xff,
+                    _ => byte,
+                })
+                .collect(alloc)?,
+        );
+    }
+    let (bytes, count) = segment.split_once('*').unwrap_or((segment, "1"));
+    let bytes = bytes_of(alloc, bytes)?;
+    let mut out = Vec::new(alloc);
+    for _ in 0..count.parse::<u32>().unwrap_or(0) {
+        out.extend_from_slice(&bytes)?;
+    }
+    Ok(out)
+}
+
+// The PDU of a line of a row, behind its mark: header, segment and padding.
+fn pdu_of(alloc: Global, line: &str, out: &mut Vec<u8>) -> Result<(), FromHexError> {
+    let (header, segment) = line.split_at_checked(HEADER).unwrap_or((line, ""));
+    out.extend_from_slice(&bytes_of(alloc, header)?)?;
+    out.extend_from_slice(&segment_of(alloc, segment.trim())?)?;
+    Ok(())
+}
+
+// The PDUs of the lines of a row that have this mark.
+fn marked(alloc: Global, lines: &str, mark: &str) -> Result<Vec<u8>, FromHexError> {
     let mut stream = Vec::new(alloc);
-    for (header, rest) in parts {
-        stream.extend_from_slice(&bytes_of(alloc, header)?)?;
-        stream.extend_from_slice(rest)?;
+    for line in lines.lines() {
+        if let Some(pdu) = line.strip_prefix(mark) {
+            pdu_of(alloc, pdu, &mut stream)?;
+        }
     }
     Ok(stream)
 }
 
+// The stream of a row that comes.
+fn came_of(alloc: Global, lines: &str) -> Result<Vec<u8>, FromHexError> {
+    marked(alloc, lines, "> ")
+}
+
+// Its canonical stream.
+fn written_of(alloc: Global, lines: &str) -> Result<Vec<u8>, FromHexError> {
+    marked(alloc, lines, "< ")
+}
+
 // The canonical stream, or the fault, and what was written.
-fn normal_of(alloc: Global, stream: &[u8]) -> Result<(Result<Counts, ToolFault>, Vec<u8>), Fail> {
-    let mut source = stream;
-    let mut out = Vec::new(alloc);
-    let result = normalise(alloc, &mut source, &mut out);
-    Ok((result, out))
+fn normal_of(alloc: Global, stream: &[u8]) -> (Result<Counts, ToolFault>, Vec<u8>) {
+    let run = run_with(alloc, false, stream, SURE, SURE);
+    (run.result, run.written)
 }
 
 // Feeds a piece, and appends the canonical form of each PDU that it makes whole.

@@ -1,23 +1,31 @@
 //! Memory that is refused, for `rt try --test --fail-alloc`: nothing but its want may come in place of an answer.
 
-use super::rows::{CANONICAL_NOP_OUT, NOP_OUT};
-use super::{Part, stream_of};
+use super::rows::{NOP_OUT, lines_of};
+use super::{came_of, written_of};
 use crate::*;
 use hex::FromHexError;
 use std::alloc::Global;
+use std::process::Abort;
 use std::test::Fail;
 
 // What a test stands on is made again where memory ran out.
-fn ample_stream_of(alloc: Global, parts: &[Part]) -> Result<Vec<u8>, FromHexError> {
-    match stream_of(alloc, parts) {
+fn ample_came_of(alloc: Global, lines: &str) -> Result<Vec<u8>, FromHexError> {
+    match came_of(alloc, lines) {
         Ok(stream) => Ok(stream),
-        Err(_) => stream_of(alloc, parts),
+        Err(_) => came_of(alloc, lines),
+    }
+}
+
+fn ample_written_of(alloc: Global, lines: &str) -> Result<Vec<u8>, FromHexError> {
+    match written_of(alloc, lines) {
+        Ok(stream) => Ok(stream),
+        Err(_) => written_of(alloc, lines),
     }
 }
 
 #[test]
 fn refused_memory_changes_no_line(rt: HostRuntime) -> Result<(), Fail> {
-    let stream = ample_stream_of(rt.alloc(), NOP_OUT)?;
+    let stream = ample_came_of(rt.alloc(), lines_of(NOP_OUT))?;
     let line =
         b"0 NOP-Out i=1 itt=00000001 ttt=ffffffff cmdsn=00000005 expstatsn=00000002 data=3\n";
     let mut room = [0u8; 128];
@@ -35,25 +43,39 @@ fn refused_memory_changes_no_line(rt: HostRuntime) -> Result<(), Fail> {
     Ok(())
 }
 
-/// A PDU at a time: what ran out of memory leaves what was there, and the next call gives what is due.
-#[test]
-fn refused_memory_leaves_what_was_there(rt: HostRuntime) -> Result<(), Fail> {
-    let stream = ample_stream_of(rt.alloc(), NOP_OUT)?;
-    let want = ample_stream_of(rt.alloc(), CANONICAL_NOP_OUT)?;
-    let mut framer = Framer::new(rt.alloc(), 3);
-    if framer.feed(&stream) == Err(StreamFault::NoMemory) {
-        assert_eq!(rt; framer.feed(&stream), Err(StreamFault::Failed));
-        assert_eq!(rt; framer.finish(), Err(StreamFault::Failed));
-        framer = Framer::new(rt.alloc(), 3);
-        assert_eq!(rt; framer.feed(&stream), Ok(52));
+// A framer with the stream's PDU ready, made again where memory ran out.
+fn ready_framer(rt: &impl Abort, alloc: Global, stream: &[u8]) -> Framer {
+    let mut framer = Framer::new(alloc, 3);
+    if framer.feed(stream) != Err(StreamFault::NoMemory) {
+        return framer;
     }
+    assert_eq!(rt; framer.feed(stream), Err(StreamFault::Failed));
+    assert_eq!(rt; framer.finish(), Err(StreamFault::Failed));
+    let mut again = Framer::new(alloc, 3);
+    assert_eq!(rt; again.feed(stream), Ok(52));
+    again
+}
+
+// The canonical form of the ready PDU, for which nothing is written where memory runs out.
+fn canonical_at_last(rt: &impl Abort, alloc: Global, framer: &Framer) -> Result<Vec<u8>, Fail> {
     let pdu = framer.pdu().ok_or("not ready")?;
-    let mut out = Vec::new(rt.alloc());
+    let mut out = Vec::new(alloc);
     if canonical(&pdu, false, &mut out).is_err() {
         assert_eq!(rt; out.len(), 0);
         canonical(&pdu, false, &mut out)?;
     }
+    Ok(out)
+}
+
+/// A PDU at a time: what ran out of memory leaves what was there, and the next call gives what is due.
+#[test]
+fn refused_memory_leaves_what_was_there(rt: HostRuntime) -> Result<(), Fail> {
+    let stream = ample_came_of(rt.alloc(), lines_of(NOP_OUT))?;
+    let want = ample_written_of(rt.alloc(), lines_of(NOP_OUT))?;
+    let framer = ready_framer(&rt, rt.alloc(), &stream);
+    let mut out = canonical_at_last(&rt, rt.alloc(), &framer)?;
     assert_eq!(rt; out.as_slice(), want.as_slice());
+    let pdu = framer.pdu().ok_or("not ready")?;
     if show_line(0, &pdu, &mut out).is_err() {
         assert_eq!(rt; out.as_slice(), want.as_slice());
         show_line(0, &pdu, &mut out)?;
@@ -65,7 +87,7 @@ fn refused_memory_leaves_what_was_there(rt: HostRuntime) -> Result<(), Fail> {
 /// The limit comes before memory is asked for.
 #[test]
 fn refused_memory_hides_no_limit(rt: HostRuntime) -> Result<(), Fail> {
-    let stream = ample_stream_of(rt.alloc(), NOP_OUT)?;
+    let stream = ample_came_of(rt.alloc(), lines_of(NOP_OUT))?;
     let mut framer = Framer::new(rt.alloc(), 2);
     assert_eq!(rt; framer.feed(&stream), Err(StreamFault::OverLimit(0)));
     Ok(())
@@ -74,12 +96,8 @@ fn refused_memory_hides_no_limit(rt: HostRuntime) -> Result<(), Fail> {
 /// A segment no longer than an earlier one asks for no memory, so no refusal reaches it.
 #[test]
 fn the_buffer_is_kept(rt: HostRuntime) -> Result<(), Fail> {
-    let stream = ample_stream_of(rt.alloc(), NOP_OUT)?;
-    let mut framer = Framer::new(rt.alloc(), 3);
-    if framer.feed(&stream) == Err(StreamFault::NoMemory) {
-        framer = Framer::new(rt.alloc(), 3);
-        assert_eq!(rt; framer.feed(&stream), Ok(52));
-    }
+    let stream = ample_came_of(rt.alloc(), lines_of(NOP_OUT))?;
+    let mut framer = ready_framer(&rt, rt.alloc(), &stream);
     for _ in 0..100u64 {
         framer.take();
         assert_eq!(rt; framer.feed(&stream), Ok(52));

@@ -1,73 +1,60 @@
 //! One text from a reader to a writer.
 
+use super::runs::{SURE, Source, Target};
+use super::segment_of;
 use crate::*;
-use iscsi_text::TextFault;
 use std::alloc::Global;
 use std::test::Fail;
 
 fn normal_text_of(alloc: Global, text: &[u8]) -> (Result<(), ToolFault>, Vec<u8>) {
-    let mut source = text;
-    let mut out = Vec::new(alloc);
-    let result = normalise_text(alloc, &mut source, &mut out);
-    (result, out)
+    let mut source = Source::new(text, SURE);
+    let mut target = Target::new(alloc, SURE);
+    let result = normalise_text(alloc, &mut source, &mut target);
+    (result, target.taken)
 }
+
+// A text and its canonical text, as rows of streams spell segments.
+const TEXTS: &str = "' = '\n\
+    00*16384 = '\n\
+    'MaxBurstLength=0X0040000||InitialR2T=Yes| = 'InitialR2T=Yes|MaxBurstLength=262144|\n\
+    'TargetAddress=b|A=0x05|TargetAddress=a| = 'A=0x05|TargetAddress=b|TargetAddress=a|";
+
+// A text, what is answered, and the line of the fault.
+const REFUSED: &str = "'A=1 = Err(Text(Unterminated(0))) = text: unterminated at 0\n\
+    'A=1|B| = Err(Text(NoEquals(4))) = text: no equals at 4\n\
+    '9A=1| = Err(Text(BadKey(0))) = text: bad key at 0\n\
+    'InitialR2T=Yes|InitialR2T=No| = Err(Text(Repeated(15))) = text: repeated key at 15\n\
+    00*16385 = Err(TextTooLong) = text: over 16384 bytes";
 
 #[test]
 fn canonical_texts(rt: HostRuntime) -> Result<(), Fail> {
-    let rows = [
-        (b"".as_slice(), b"".as_slice()),
-        (&[0; 16_384], b""),
-        (
-            b"MaxBurstLength=0X0040000\0\0InitialR2T=Yes\0",
-            b"InitialR2T=Yes\0MaxBurstLength=262144\0",
-        ),
-        (
-            b"TargetAddress=b\0A=0x05\0TargetAddress=a\0",
-            b"A=0x05\0TargetAddress=b\0TargetAddress=a\0",
-        ),
-    ];
-    for (text, want) in rows {
-        let (result, out) = normal_text_of(rt.alloc(), text);
-        assert_eq!(rt; result, Ok(()), "{want:?}");
-        assert_eq!(rt; out.as_slice(), want, "{want:?}");
+    for row in TEXTS.lines() {
+        let (text, want) = row.split_once(" = ").ok_or("no canonical text")?;
+        let came = segment_of(rt.alloc(), text)?;
+        let due = segment_of(rt.alloc(), want)?;
+        let (result, out) = normal_text_of(rt.alloc(), &came);
+        assert_eq!(rt; result, Ok(()), "{row}");
+        assert_eq!(rt; out.as_slice(), due.as_slice(), "{row}");
     }
     Ok(())
 }
 
 #[test]
 fn refused_texts(rt: HostRuntime) -> Result<(), Fail> {
-    let rows = [
-        (
-            b"A=1".as_slice(),
-            ToolFault::Text(TextFault::Unterminated(0)),
-            "text: unterminated at 0",
-        ),
-        (
-            b"A=1\0B\0",
-            ToolFault::Text(TextFault::NoEquals(4)),
-            "text: no equals at 4",
-        ),
-        (
-            b"9A=1\0",
-            ToolFault::Text(TextFault::BadKey(0)),
-            "text: bad key at 0",
-        ),
-        (
-            b"InitialR2T=Yes\0InitialR2T=No\0",
-            ToolFault::Text(TextFault::Repeated(15)),
-            "text: repeated key at 15",
-        ),
-        (
-            &[0; 16_385],
-            ToolFault::TextTooLong,
-            "text: over 16384 bytes",
-        ),
-    ];
-    for (text, fault, line) in rows {
-        let (result, out) = normal_text_of(rt.alloc(), text);
-        assert_eq!(rt; result, Err(fault), "{line}");
-        assert_eq!(rt; out.len(), 0, "{line}");
-        assert_eq!(rt; format!(in rt.alloc(); "{fault}")?.as_str(), line);
+    for row in REFUSED.lines() {
+        let (text, want) = row.split_once(" = ").ok_or("no answer")?;
+        let (answer, line) = want.split_once(" = ").ok_or("no line")?;
+        let came = segment_of(rt.alloc(), text)?;
+        let (result, out) = normal_text_of(rt.alloc(), &came);
+        assert_eq!(rt;
+            format!(in rt.alloc(); "{result:?}")?.as_str(),
+            answer,
+            "{row}"
+        );
+        assert_eq!(rt; out.len(), 0, "{row}");
+        if let Err(fault) = result {
+            assert_eq!(rt; format!(in rt.alloc(); "{fault}")?.as_str(), line);
+        }
     }
     Ok(())
 }
