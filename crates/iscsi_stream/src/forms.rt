@@ -1,8 +1,8 @@
 //! The canonical form of a PDU.
 
-ghost use Rattle.std.specs.Prelude.{◌≡◌, ◌≤◌, ◌<◌, ◌^◌, ◌++◌, ℕ, List, Option, None, Some, not, ◌&&◌, length, IfOk, IfSome, OnOk, OnErr, take, replicate};
+ghost use Rattle.std.specs.Prelude.{◌≡◌, ◌≤◌, ◌<◌, ◌+◌, ◌^◌, ◌++◌, ℕ, List, Option, None, Some, not, ◌&&◌, length, IfOk, IfSome, IsOk, OnOk, OnErr, take, replicate, vec_len, vec_capacity};
 ghost use Rattle.iscsi_text.specs.Canonical.{canonical_text};
-ghost use Rattle.iscsi_pdu.specs.Meaning.{Fits, header, padding};
+ghost use Rattle.iscsi_pdu.specs.Meaning.{Fits, header, padding, whole};
 ghost use Rattle.iscsi_stream.specs.Segment.{is_last, text_or_bytes, segment_of};
 ghost use Rattle.iscsi_stream.specs.Stream.{message};
 ghost use Rattle.iscsi_stream.specs.Canonical.{canonical_header, canonical_bytes};
@@ -24,8 +24,9 @@ fn is_last(head: &Head) -> bool
     }
 }
 
-// The text of a login PDU that has a whole one.
-fn text_of<'a>(
+/// The text of a login PDU that has a whole one: a PDU that neither continues another nor is continued, and whose
+/// segment is a text (RFC 7143, section 6.1). Answers `AllocError` where memory runs out.
+pub fn text_of<'a>(
     alloc: Global,
     pdu: &Pdu<'a>,
     continued: bool,
@@ -87,6 +88,24 @@ pub fn canonical(pdu: &Pdu<'_>, continued: bool, out: &mut Vec<u8>) -> Result<()
     result
 }
 
+/// Appends a PDU with this head and segment, free bits as the profile writes them and padding 00. Answers `AllocError`
+/// where memory runs out, and leaves `out` as it was; with room for 51 bytes more than the segment it appends.
+#[tactic(auto, using(crate::proofs::Padding::whole_is))]
+pub fn write_pdu(head: &Head, segment: &[u8], out: &mut Vec<u8>) -> Result<(), AllocError>
+    requires fits { Fits head.now }
+    requires short { length segment.now < 2 ^ 24 }
+    ensures ok { OnOk result (out.new.items ≡ out.old.items ++ whole head.now segment.now) }
+    ensures err { OnErr result (out.new.items ≡ out.old.items) }
+    ensures room { vec_len out.old + length segment.now + 51 ≤ vec_capacity out.old → IsOk result }
+{
+    let held = out.len();
+    let result = append_bytes(head, segment, out);
+    if result.is_err() {
+        out.truncate(held);
+    }
+    result
+}
+
 // Appends the canonical form, of which a front may stand where memory ran out.
 fn append(pdu: &Pdu<'_>, continued: bool, out: &mut Vec<u8>) -> Result<(), AllocError>
     requires fits { Fits pdu.now.head }
@@ -126,6 +145,7 @@ fn append_bytes(head: &Head, bytes: &[u8], out: &mut Vec<u8>) -> Result<(), Allo
     ensures ok { OnOk result (out.new.items ≡ out.old.items ++ (header head.now (length bytes.now)
         ++ bytes.now ++ replicate (padding (length bytes.now)) 0)) }
     ensures front { take (length out.old.items) out.new.items ≡ out.old.items }
+    ensures room { vec_len out.old + length bytes.now + 51 ≤ vec_capacity out.old → IsOk result }
 {
     let len = bytes.len() as u32;
     let padding = pad(len) as usize;

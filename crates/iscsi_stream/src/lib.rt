@@ -16,7 +16,7 @@ mod texts;
 
 pub use counts::Counts;
 pub use fault::{StreamFault, ToolFault};
-pub use forms::{canonical, canonical_head};
+pub use forms::{canonical, canonical_head, text_of, write_pdu};
 pub use framer::Framer;
 pub use input::read_within;
 pub use lines::{show, show_line};

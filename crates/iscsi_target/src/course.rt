@@ -19,10 +19,9 @@ mod requests;
 use crate::config::Config;
 use crate::open_write::OpenWrite;
 use crate::response::Numbers;
-use crate::writing::append;
 use iscsi_login::{Params, Phase, Session, Stage};
 use iscsi_pdu::{Head, Pdu, Reject};
-use iscsi_stream::canonical_head;
+use iscsi_stream::{canonical_head, write_pdu};
 use std::alloc::{AllocError, Global};
 use std::marker::Model;
 
@@ -172,7 +171,7 @@ impl Course {
         ensures err { OnErr result (self.new ≡ self.old) }
         ensures unwritten { OnErr result (out.new.items ≡ out.old.items) }
     {
-        append(head, bytes, out)?;
+        write_pdu(head, bytes, out)?;
         self.count();
         Ok(None)
     }

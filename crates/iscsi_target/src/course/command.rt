@@ -16,9 +16,10 @@ use super::{Course, DATA_OUT_OF_ORDER};
 use crate::due::Due;
 use crate::open_write::OpenWrite;
 use crate::response::response_head;
-use crate::writing::{append, append_response};
+use crate::writing::append_response;
 use iscsi_login::{Answered, NegKey};
 use iscsi_pdu::{DataIn, DataOut, Head, Pdu, RESERVED_TAG, ReadyToTransfer, ScsiCommand};
+use iscsi_stream::write_pdu;
 use scsi_disk::{BlockStore, Order, Outcome, Plan, execute, plan};
 use std::alloc::AllocError;
 
@@ -197,7 +198,7 @@ impl Course {
         while !rest.is_empty() {
             let len = most.min(rest.len());
             let head = self.data_in(tag, sent, len == rest.len());
-            append(&head, &rest[..len], out)?;
+            write_pdu(&head, &rest[..len], out)?;
             sent = Sent {
                 count: sent.count + 1,
                 bytes: sent.bytes + len as u32,
@@ -332,7 +333,7 @@ impl Course {
         let mut write = write;
         let desired = write.desired(self.max_burst());
         let head = self.r2t_head(&write, desired);
-        append(&head, &[], out)?;
+        write_pdu(&head, &[], out)?;
         let _received = write.received();
         write.ask(desired);
         self.keep_write(write);

@@ -16,9 +16,9 @@ use super::Course;
 use super::login_text::given_with;
 use crate::status::Status;
 use crate::texts::read_text;
-use crate::writing::append;
 use iscsi_login::{Phase, Stage, answer_text};
 use iscsi_pdu::{Head, LoginRequest, LoginResponse};
+use iscsi_stream::write_pdu;
 use iscsi_text::Text;
 use std::alloc::{AllocError, Global};
 
@@ -334,7 +334,7 @@ impl Course {
             status_detail: why.detail,
             ..self.response(request)
         });
-        append(&head, &[], out)?;
+        write_pdu(&head, &[], out)?;
         self.close();
         Ok(None)
     }

@@ -12,4 +12,4 @@ ask-requires-clause-some c =
 pub returns-clause-ok : goal.returns-clause-ok
 returns-clause-ok c =
     let wanted : c.desired-desired.result ≡ desired c.args.self.now.held c.args.write = c.desired-desired.ensures ∙ ap (λ (n : ℕ). min (c.args.write.total - received c.args.write) n) c.max_burst.ensures.value in
-    asked_out c.args.self.now c.args.write c.ask.new.self c.r2t_head-head.result c.desired-desired.result c.keep_write.new.self c.args.out.now.items c.append.new.out.items wanted c.ask.ensures c.keep_write.ensures c.r2t_head-head.ensures.head c.in_ok-append.ensures.ok
+    asked_out c.args.self.now c.args.write c.ask.new.self c.r2t_head-head.result c.desired-desired.result c.keep_write.new.self c.args.out.now.items c.write_pdu.new.out.items wanted c.ask.ensures c.keep_write.ensures c.r2t_head-head.ensures.head c.in_ok-write_pdu.ensures.ok

@@ -5,5 +5,5 @@ use Rattle.iscsi_target.proofs.course.Course.refuse.Goals as goal
 
 pub returns-clause-ok : goal.returns-clause-ok
 returns-clause-ok c =
-    refused c.args.self.now c.args.request.now c.args.why (record c.response.result { status_class = c.args.why.class; status_detail = c.args.why.detail }) c.close.new.self c.args.out.now.items c.append.new.out.items
-    (ap (λ (h : Response). record h { status_class = c.args.why.class; status_detail = c.args.why.detail }) c.response.ensures) c.close.ensures c.in_ok-append.ensures.ok
+    refused c.args.self.now c.args.request.now c.args.why (record c.response.result { status_class = c.args.why.class; status_detail = c.args.why.detail }) c.close.new.self c.args.out.now.items c.write_pdu.new.out.items
+    (ap (λ (h : Response). record h { status_class = c.args.why.class; status_detail = c.args.why.detail }) c.response.ensures) c.close.ensures c.in_ok-write_pdu.ensures.ok
