@@ -2,6 +2,13 @@ pub mod Rows
 mod CommandRows
 pub mod HeldLaws
 pub mod SequenceLaws
+pub mod Sending
+pub mod Passing
+pub mod Writing
+pub mod Stepping
+pub mod Faults
+pub mod Hearing
+pub mod Pieces
 pub mod OutcomeLaws
 pub mod BlockLaws
 pub mod ReadLaws

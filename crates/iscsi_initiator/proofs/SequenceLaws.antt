@@ -12,7 +12,7 @@ abbrev pub joined : List (List ℕ) → List ℕ
 joined [] = []
 joined (piece ∷ more) = piece ++ joined more
 
-shorter : (n k : ℕ) (x : ℕ) (xs : List ℕ) → 0 < n → length (x ∷ xs) ≤ suc k → length (drop n (x ∷ xs)) ≤ k
+pub shorter : (n k : ℕ) (x : ℕ) (xs : List ℕ) → 0 < n → length (x ∷ xs) ≤ suc k → length (drop n (x ∷ xs)) ≤ k
 shorter n k x xs some le = rw (length-drop n (x ∷ xs)) (omega arith)
 
 joined_pieces : (k n : ℕ) (bytes : List ℕ) → 0 < n → length bytes ≤ k → joined (pieces_of k n bytes) ≡ bytes

@@ -8,4 +8,5 @@ pub mod Machine
 pub mod Block
 pub mod Submitted
 pub mod Calls
+pub mod Inside
 pub mod Laws

@@ -1,5 +1,5 @@
 -- The initiator's login (RFC 7143, sections 6.3, 11.12 and 11.13).
-use Rattle.std.specs.Prelude.{ℕ, Bool, true, false, not, ◌==◌, ◌&&◌, ◌||◌, nat_le, if◌then◌else◌, List, [], ◌∷◌, length, take, drop, Option, Some, None, unwrap_or}
+use Rattle.std.specs.Prelude.{ℕ, Bool, true, false, not, ◌==◌, ◌&&◌, nat_le, if◌then◌else◌, List, [], ◌∷◌, length, take, drop, Option, Some, None, unwrap_or}
 use Rattle.std.specs.Bool.{then_some}
 use Rattle.iscsi_text.specs.Text.{Pairs}
 use Rattle.iscsi_text.specs.Canonical.{canonical_text}

@@ -2,6 +2,9 @@
 use Rattle.std.specs.Prelude.{ℕ, Bool, true, false, not, ◌+◌, ◌^◌, ◌==◌, ◌&&◌, ◌||◌, nat_le, nat_lt, if◌then◌else◌, List, [], ◌∷◌, length, take, drop, min, Option, Some, None, is_some}
 use Rattle.iscsi_pdu.specs.declared.head.Head.TheVariants as heads
 use Rattle.iscsi_pdu.specs.declared.head.scsi_command.ScsiCommand.{ScsiCommand}
+use Rattle.iscsi_pdu.specs.declared.head.nop_out.NopOut.{NopOut}
+use Rattle.iscsi_pdu.specs.declared.head.text_request.TextRequest.{TextRequest}
+use Rattle.iscsi_pdu.specs.declared.head.logout_request.LogoutRequest.{LogoutRequest}
 use Rattle.iscsi_pdu.specs.declared.serial.Window.{Window}
 use Rattle.iscsi_pdu.specs.Serial.{distance}
 use Rattle.iscsi_stream.specs.Segment.{Bytes}
@@ -158,19 +161,47 @@ writes m lun cdb bytes =
     } ∷ sequence (write_begun m bytes) None reserved_tag (length (immediate m bytes))
     (unsolicited m bytes))
 
+-- The head of a ping (section 11.18).
+abbrev pub ping : Machine → NopOut
+ping m = record {
+  immediate = false;
+  lun = None;
+  initiator_task_tag = next_tag m.initiator_task_tag;
+  target_transfer_tag = reserved_tag;
+  cmd_sn = m.cmd_sn;
+  exp_stat_sn = sent_exp_stat_sn m;
+}
+
+-- The head of a text request (section 11.10).
+abbrev pub text_request : Machine → TextRequest
+text_request m = record {
+  immediate = false;
+  is_final = true;
+  continues = false;
+  lun = None;
+  initiator_task_tag = next_tag m.initiator_task_tag;
+  target_transfer_tag = reserved_tag;
+  cmd_sn = m.cmd_sn;
+  exp_stat_sn = sent_exp_stat_sn m;
+}
+
+-- The head of a logout of the whole session (section 11.14).
+abbrev pub logout_request : Machine → LogoutRequest
+logout_request m = record {
+  immediate = false;
+  reason = 0;
+  initiator_task_tag = next_tag m.initiator_task_tag;
+  connection_id = None;
+  cmd_sn = m.cmd_sn;
+  exp_stat_sn = sent_exp_stat_sn m;
+}
+
 -- A ping begins (section 11.18).
 abbrev pub pings : Machine → List ℕ → Submitted
 pings m bytes =
     accepts (begun m opens.Ping)
     (record {
-      head = heads.NopOut (record {
-        immediate = false;
-        lun = None;
-        initiator_task_tag = next_tag m.initiator_task_tag;
-        target_transfer_tag = reserved_tag;
-        cmd_sn = m.cmd_sn;
-        exp_stat_sn = sent_exp_stat_sn m;
-      });
+      head = heads.NopOut (ping m);
       segment = Bytes bytes;
     } ∷ [])
 
@@ -179,16 +210,7 @@ abbrev pub asks : Machine → List ℕ → Submitted
 asks m bytes =
     accepts (begun m opens.Text)
     (record {
-      head = heads.TextRequest (record {
-        immediate = false;
-        is_final = true;
-        continues = false;
-        lun = None;
-        initiator_task_tag = next_tag m.initiator_task_tag;
-        target_transfer_tag = reserved_tag;
-        cmd_sn = m.cmd_sn;
-        exp_stat_sn = sent_exp_stat_sn m;
-      });
+      head = heads.TextRequest (text_request m);
       segment = Bytes bytes;
     } ∷ [])
 
@@ -197,14 +219,7 @@ abbrev pub leaves : Machine → Submitted
 leaves m =
     accepts (begun m opens.Logout)
     (record {
-      head = heads.LogoutRequest (record {
-        immediate = false;
-        reason = 0;
-        initiator_task_tag = next_tag m.initiator_task_tag;
-        connection_id = None;
-        cmd_sn = m.cmd_sn;
-        exp_stat_sn = sent_exp_stat_sn m;
-      });
+      head = heads.LogoutRequest (logout_request m);
       segment = Bytes [];
     } ∷ [])
 

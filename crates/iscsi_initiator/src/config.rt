@@ -1,11 +1,16 @@
 //! Configurations of an initiator.
 
-ghost use Rattle.std.specs.Prelude.{◌≡◌};
-ghost use Rattle.iscsi_login.specs.Offers.{proposed};
+ghost use Rattle.std.specs.Prelude.{◌≡◌, ◌≤◌, ◌++◌, None, OnOk, OnErr};
+ghost use Rattle.iscsi_login.specs.Negotiation.{IsInRange};
+ghost use Rattle.iscsi_login.specs.Answer.{in_order, DeclaresWell};
+ghost use Rattle.iscsi_login.specs.Check.{bad_key};
+ghost use Rattle.iscsi_login.specs.Offers.{proposed, text_of, offers_at};
 ghost use Rattle.iscsi_initiator.specs.Configured.{Configures};
 
+use crate::fault::Key;
 use iscsi_login::{Auth, ConfigFault, Offers, Preferences, Session, Stage, is_name};
-use std::alloc::Global;
+use iscsi_text::Text;
+use std::alloc::{AllocError, Global};
 use std::marker::Model;
 
 /// What an initiator offers, and how it logs in. Names, numbers and stage are valid.
@@ -107,5 +112,70 @@ impl Config {
             first_cmd_sn,
             login_segment,
         })
+    }
+
+    pub(crate) fn preferences(&self) -> &Preferences
+        ensures preferences { result.now ≡ self.now.proposal.prefs }
+        ensures range { IsInRange self.now.proposal.prefs }
+    {
+        &self.prefs
+    }
+
+    pub(crate) fn start(&self) -> Stage
+        ensures { result ≡ self.now.start }
+    {
+        self.start
+    }
+
+    pub(crate) fn isid(&self) -> [u8; 6]
+        ensures { result ≡ self.now.isid }
+    {
+        self.isid
+    }
+
+    pub(crate) fn first_cmd_sn(&self) -> u32
+        ensures { result ≡ self.now.first_cmd_sn }
+    {
+        self.first_cmd_sn
+    }
+
+    pub(crate) fn login_segment(&self) -> u32
+        ensures most { result ≡ self.now.login_segment }
+        ensures range { (64 ≤ result) × (result ≤ 8192) }
+    {
+        self.login_segment
+    }
+
+    // What the initiator says at each stage of the login.
+    pub(crate) fn offers(&self) -> Offers<'_>
+        ensures { proposed result ≡ self.now.proposal }
+    {
+        Offers {
+            initiator: &self.initiator,
+            target: &self.target,
+            session: self.session,
+            auth: self.auth,
+            prefs: self.prefs,
+        }
+    }
+
+    // Appends the text of this stage. After want of memory `out` is unchanged.
+    pub(crate) fn write_text(&self, stage: Stage, out: &mut Vec<u8>) -> Result<(), AllocError>
+        ensures ok { OnOk result (out.new.items ≡ out.old.items
+            ++ text_of (offers_at self.now.proposal self.now.start stage)) }
+        ensures err { OnErr result (out.new.items ≡ out.old.items) }
+    {
+        self.offers().write_text(self.start, stage, out)
+    }
+
+    // The key for which the answer to the text of this stage is refused.
+    pub(crate) fn bad_key(&self, stage: Stage, answer: &Text<'_>) -> Option<Key>
+        ensures key { result
+            ≡ bad_key (in_order (offers_at self.now.proposal self.now.start stage)) answer.now }
+        ensures declares { result ≡ None → DeclaresWell answer.now }
+    {
+        self.offers()
+            .bad_key(self.start, stage, answer)
+            .map(Key::new)
     }
 }

@@ -2,7 +2,9 @@
 #![tactic(auto)]
 
 mod config;
+mod course;
 mod fault;
+mod initiator;
 pub mod laws;
 mod open;
 mod request;
@@ -11,4 +13,5 @@ mod tests;
 
 pub use config::Config;
 pub use fault::{InitiatorFault, Key};
+pub use initiator::Initiator;
 pub use request::{Done, Refused, Request, SubmitFault};

@@ -1,6 +1,17 @@
 //! The request that waits for its answer.
 
+ghost use Rattle.std.specs.Prelude.{◌≡◌, ◌≤◌, ◌+◌, ◌++◌, length, take, drop, OnOk, OnErr};
+ghost use Rattle.iscsi_login.specs.declared.key.NegKey.TheVariants.{MaxBurstLength};
+ghost use Rattle.iscsi_login.specs.Held.{held_value, number_of};
+ghost use Rattle.iscsi_initiator.specs.State.{Machine, next};
+ghost use Rattle.iscsi_initiator.specs.Full.{fits_reading, fits_writing};
+
+use iscsi_pdu::{DataIn, ReadyToTransfer};
+use std::alloc::AllocError;
 use std::marker::Model;
+
+/// The most bytes that one command moves.
+pub(crate) const MOST_BYTES: usize = 4_194_304;
 
 /// How far a command that may read is.
 #[derive(Drop)]
@@ -25,6 +36,31 @@ impl Model for Reading {
     } };
 }
 
+impl Reading {
+    /// Whether data have the next DataSN and the next offset, and are no more than expected.
+    pub(crate) fn fits(&self, h: &DataIn, bytes: &[u8]) -> bool
+        ensures { result ≡ fits_reading self.now h.now bytes.now }
+    {
+        let reached = self.received.len().saturating_add(bytes.len());
+        h.data_sn == self.next_data_sn
+            && h.buffer_offset as usize == self.received.len()
+            && reached <= self.expected as usize
+    }
+
+    /// Takes these data. Where memory runs out it is as it was.
+    pub(crate) fn receive(&mut self, bytes: &[u8]) -> Result<(), AllocError>
+        ensures ok { OnOk result (self.new ≡ record self.old {
+          received = self.old.received ++ bytes.now;
+          next_data_sn = next self.old.next_data_sn;
+        }) }
+        ensures err { OnErr result (self.new ≡ self.old) }
+    {
+        self.received.extend_from_slice(bytes)?;
+        self.next_data_sn = self.next_data_sn.wrapping_add(1);
+        Ok(())
+    }
+}
+
 /// How far a command that may write is.
 #[derive(Drop)]
 pub(crate) struct Writing {
@@ -37,6 +73,7 @@ pub(crate) struct Writing {
 }
 
 impl Model for Writing {
+    ghost use Rattle.std.specs.Prelude.{◌≤◌, length};
     ghost use Rattle.iscsi_initiator.specs.Progress.{Writing as Progress};
 
     ghost Value = { Progress };
@@ -46,6 +83,47 @@ impl Model for Writing {
       sent = w.sent;
       next_r2t_sn = w.next_r2t_sn;
     } };
+
+    ghost invariant = { λ w. length w.bytes.items ≤ 4194304 };
+}
+
+impl Writing {
+    /// Whether a request for data has the next R2TSN and the next offset, and asks for 1 to
+    /// `most_burst` bytes, all of them within the data.
+    pub(crate) fn fits(&self, h: &ReadyToTransfer, most_burst: u32) -> bool
+        ensures { (m : Machine) → number_of (held_value m.held MaxBurstLength) ≡ most_burst
+            → result ≡ fits_writing m self.now h.now }
+    {
+        let desired = h.desired_data_transfer_length;
+        h.r2t_sn == self.next_r2t_sn
+            && h.buffer_offset as usize == self.sent
+            && desired >= 1
+            && desired <= most_burst
+            && self.sent.saturating_add(desired as usize) <= self.bytes.len()
+    }
+
+    /// The bytes that are asked for.
+    pub(crate) fn asked(&self, h: &ReadyToTransfer) -> &[u8]
+        requires { self.now.sent + h.now.desired_data_transfer_length ≤ length self.now.bytes }
+        ensures bytes { result.now ≡ take h.now.desired_data_transfer_length
+            (drop self.now.sent self.now.bytes) }
+        ensures most { self.now.sent + length result.now ≤ 4194304 }
+    {
+        let end = self.sent + h.desired_data_transfer_length as usize;
+        &self.bytes[self.sent..end]
+    }
+
+    /// The bytes that were asked for are sent.
+    pub(crate) fn count(&mut self, h: &ReadyToTransfer)
+        requires { self.old.sent + h.now.desired_data_transfer_length ≤ length self.old.bytes }
+        ensures { self.new ≡ record self.old {
+          sent = self.old.sent + h.now.desired_data_transfer_length;
+          next_r2t_sn = next self.old.next_r2t_sn;
+        } }
+    {
+        self.sent += h.desired_data_transfer_length as usize;
+        self.next_r2t_sn = self.next_r2t_sn.wrapping_add(1);
+    }
 }
 
 /// The request that waits for its answer, and what came of it so far.

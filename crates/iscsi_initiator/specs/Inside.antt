@@ -1,0 +1,148 @@
+-- What the functions of a session and of its stream see (RFC 7143, section 4; own rule).
+use Rattle.std.specs.Prelude.{◌≡◌, ◌≢◌, ◌⊎◌, ℕ, Bool, true, false, not, nat_lt, length, take, if◌then◌else◌, List, [], ◌++◌, Option, None, Some, Result, Err}
+use Rattle.iscsi_pdu.specs.Serial.{moved}
+use Rattle.iscsi_pdu.specs.declared.head.data_out.DataOut.{DataOut}
+use Rattle.iscsi_pdu.specs.declared.head.data_in.DataIn.{DataIn}
+use Rattle.iscsi_pdu.specs.declared.head.ready_to_transfer.ReadyToTransfer.{ReadyToTransfer}
+use Rattle.iscsi_pdu.specs.Meaning.{Means}
+use Rattle.iscsi_pdu.specs.declared.head.Head.{Head}
+use Rattle.iscsi_stream.specs.declared.fault.StreamFault.{StreamFault}
+use Rattle.iscsi_stream.specs.declared.fault.StreamFault.TheVariants as stream
+use Rattle.iscsi_stream.specs.Framing.{Framing, FeedFails, is_ready, given_up, message_of}
+use Rattle.iscsi_stream.specs.Canonical.{canon}
+use Rattle.iscsi_login.specs.declared.phase.Phase.{Phase}
+use Rattle.iscsi_initiator.specs.declared.fault.InitiatorFault.TheVariants as faults
+use Rattle.iscsi_initiator.specs.declared.fault.InitiatorFault.{InitiatorFault}
+use Rattle.iscsi_initiator.specs.declared.open.Open.{Open}
+use Rattle.iscsi_initiator.specs.declared.open.Open.TheVariants as opens
+use Rattle.iscsi_initiator.specs.State.{Machine, is_closed, serial, next_tag, reserved_tag, sent_exp_stat_sn}
+use Rattle.iscsi_initiator.specs.Steps.{Stepped, closed, breaks}
+use Rattle.iscsi_initiator.specs.Machine.{step}
+use Rattle.iscsi_initiator.specs.Calls.{Connection, Heard, heard_steps, Feeds}
+use Rattle.iscsi_initiator.specs.Submitted.{immediate}
+use Rattle.iscsi_initiator.specs.Full.{is_in_turn, stat_sn_after, on_data, on_ready}
+
+-- The step was taken: the session, the output and the fault are its own (own rule).
+pub record Did (stepped : Stepped) (fault : Option InitiatorFault) (new : Machine)
+    (before after : List ℕ) : Type 0 where
+  pub machine : new ≡ stepped.machine
+  pub output : after ≡ before ++ canon stepped.output
+  pub fault_is : fault ≡ stepped.fault
+
+-- What a message counts before it is answered is taken back (own rule).
+abbrev pub uncounted : Machine → Machine → Machine
+uncounted old new = record new { exp_stat_sn = old.exp_stat_sn; window = old.window }
+
+-- The rule that a message breaks that is due, by the length of its segment and the StatSN that has
+-- to be the expected one (sections 4.2.2.2 and 13.12).
+abbrev pub broken : Machine → ℕ → Option ℕ → Option ℕ
+broken m n stat_sn =
+    if nat_lt m.held.initiator_max_recv n then Some 2
+    else (if not (is_in_turn m.exp_stat_sn stat_sn) then Some 6 else None)
+
+-- The session once a message of these numbers has passed (section 4.2.2).
+abbrev pub passed_by : Machine → Option ℕ → ℕ → ℕ → Machine
+passed_by m stat_sn exp_cmd_sn max_cmd_sn = record m {
+  exp_stat_sn = stat_sn_after m.exp_stat_sn stat_sn;
+  window = moved m.window (serial exp_cmd_sn) (serial max_cmd_sn);
+}
+
+-- The bytes that the open request has received (section 11.7).
+abbrev pub received_by : Option Open → List ℕ
+received_by (Some (opens.In r)) = r.received
+received_by _ = []
+
+-- Data that have passed, by the open request (section 11.7).
+abbrev pub received : Option Open → Machine → DataIn → List ℕ → Stepped
+received (Some (opens.In r)) m h bytes = on_data m r h bytes
+received _ m h bytes = breaks m 1
+
+-- A request for data that has passed, by the open request (section 11.8).
+abbrev pub readied : Option Open → Machine → ReadyToTransfer → Stepped
+readied (Some (opens.Out w)) m h = on_ready m w h
+readied _ m h = breaks m 1
+
+-- The session with this open request (own rule).
+abbrev pub opened : Machine → Open → Machine
+opened m request = record m { open_request = Some request }
+
+-- The head of the first unsolicited Data-Out of a write of these bytes (section 11.7).
+abbrev pub unsolicited_head : Machine → List ℕ → DataOut
+unsolicited_head m bytes = record {
+  is_final = false;
+  lun = None;
+  initiator_task_tag = next_tag m.initiator_task_tag;
+  target_transfer_tag = reserved_tag;
+  exp_stat_sn = sent_exp_stat_sn m;
+  data_sn = 0;
+  buffer_offset = length (immediate m bytes);
+}
+
+-- ---- the stream
+
+-- The two parts of an initiator between two calls (own rule).
+abbrev pub connection : Machine → Framing → Connection
+connection machine framing = record { machine = machine; framing = framing }
+
+-- No PDU is ready, and nothing was done (own rule).
+pub record IsUnready (old : Connection) (fault : Option InitiatorFault) (new : Connection)
+    (before after : List ℕ) : Type 0 where
+  pub unready : is_ready old.framing ≡ false
+  pub connection_is : new ≡ old
+  pub output_is : after ≡ before
+  pub fault_is : fault ≡ None
+
+-- The PDU that is ready was taken and given up (own rule).
+pub record IsHeard (old : Connection) (fault : Option InitiatorFault) (new : Connection)
+    (before after : List ℕ) : Type 0 where
+  pub head : Head
+  pub segment : List ℕ
+  pub means : Means old.framing.held head segment
+  pub framing_is : new.framing ≡ given_up old.framing head
+  pub did : Did (step old.machine (message_of old.framing head segment)) fault new.machine before after
+
+-- The PDU that is ready was taken, if one is (own rule).
+abbrev pub HearsReady : Connection → Option InitiatorFault → Connection → List ℕ → List ℕ → Type 0
+HearsReady old fault new before after =
+    IsUnready old fault new before after ⊎ IsHeard old fault new before after
+
+-- Memory ran out at the PDU that is ready: the session is closed, and the PDU is given up (own
+-- rule).
+pub record ShutsReady (old new : Connection) (before after : List ℕ) : Type 0 where
+  pub machine : new.machine ≡ closed old.machine
+  pub unready : is_ready new.framing ≡ false
+  pub output_is : after ≡ before
+
+-- The rest of a stream is refused so (own rule).
+abbrev pub RestFails : Framing → List ℕ → InitiatorFault → Type 0
+RestFails framing rest faults.NoMemory = Unit {0}
+RestFails framing rest (faults.Stream fault) =
+    (fault ≢ stream.NoMemory) × FeedFails framing rest fault
+RestFails framing rest _ = ⊥
+
+-- A stream's want of memory is the initiator's own (own rule).
+abbrev pub initiator_fault : StreamFault → InitiatorFault
+initiator_fault stream.NoMemory = faults.NoMemory
+initiator_fault (stream.Head fault place) = faults.Stream (stream.Head fault place)
+initiator_fault (stream.OverLimit place) = faults.Stream (stream.OverLimit place)
+initiator_fault (stream.Truncated place) = faults.Stream (stream.Truncated place)
+initiator_fault stream.Failed = faults.Stream stream.Failed
+
+-- Memory ran out behind some PDUs, and what was written before stands (own rule).
+pub record RanOut (old : Connection) (piece : List ℕ) (heard : Heard old piece) (new : Connection)
+    (before after : List ℕ) : Type 0 where
+  pub live : is_closed (heard_steps old piece heard).machine ≡ false
+  pub machine : new.machine ≡ closed (heard_steps old piece heard).machine
+  pub front : take (length before) after ≡ before
+
+-- Memory ran out in a call of feed (own rule).
+abbrev pub has_run_out : Result Phase InitiatorFault → Bool
+has_run_out (Err faults.NoMemory) = true
+has_run_out _ = false
+
+-- What a call of feed does, but where memory runs out the end of what is written is not taken back
+-- (own rule).
+abbrev pub FedUntil : Result Phase InitiatorFault → (old : Connection) (piece : List ℕ) → Connection → List ℕ → List ℕ → Type 0
+FedUntil (Err faults.NoMemory) old piece new before after =
+    (heard : Heard old piece) × RanOut old piece heard new before after
+FedUntil result old piece new before after = Feeds result old piece new before after

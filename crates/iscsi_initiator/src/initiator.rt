@@ -1,0 +1,254 @@
+//! An initiator's session over a stream.
+
+ghost use Rattle.std.specs.Prelude.{◌≡◌, false, length, take, IfOk, IfErr, OnOk, OnErr};
+ghost use Rattle.iscsi_stream.specs.Framing.{Takes, is_ready, stopped};
+ghost use Rattle.iscsi_initiator.specs.State.{is_closed};
+ghost use Rattle.iscsi_initiator.specs.Steps.{closed};
+ghost use Rattle.iscsi_initiator.specs.Calls.{opening_connection, Starts, Feeds, Submits, Finishes, after_taking};
+ghost use Rattle.iscsi_initiator.specs.Inside.{connection, initiator_fault, HearsReady, ShutsReady, RestFails, FedUntil, has_run_out};
+
+use crate::config::Config;
+use crate::course::Course;
+use crate::fault::InitiatorFault;
+use crate::request::{Done, Refused, Request};
+use iscsi_login::{Params, Phase, Stage};
+use iscsi_stream::{Framer, StreamFault};
+use std::alloc::{AllocError, Global};
+use std::marker::Model;
+
+/// The longest segment of a login PDU, in bytes (RFC 7143, section 13.12).
+const LOGIN_SEGMENT: u32 = 8192;
+
+/// An initiator's session: it takes the bytes of a target, appends what it sends, and gives the
+/// outcome of each request.
+///
+/// | Phase | What holds |
+/// |---|---|
+/// | `Login` | the login runs, once it is started; requests are refused |
+/// | `Full` | one request at a time is sent, and its outcome can be taken |
+/// | `Closed` | each call answers `Closed`; an outcome can still be taken |
+#[derive(Drop)]
+pub struct Initiator {
+    course: Course,
+    framer: Framer,
+}
+
+impl Model for Initiator {
+    ghost use Rattle.std.specs.Prelude.{◌≡◌, false};
+    ghost use Rattle.iscsi_stream.specs.Framing.{is_ready};
+    ghost use Rattle.iscsi_initiator.specs.Calls.{Connection};
+
+    ghost Value = { Connection };
+
+    ghost view = { λ i. record { machine = i.course; framing = i.framer } };
+
+    ghost invariant = { λ i. is_ready i.framer ≡ false };
+}
+
+impl Initiator {
+    /// A session that is not started. It takes no memory.
+    pub fn new(alloc: Global, config: Config) -> Initiator
+        ensures opening { result ≡ opening_connection config }
+    {
+        let limit = config.preferences().max_recv.max(LOGIN_SEGMENT);
+        Initiator {
+            course: Course::new(alloc, config),
+            framer: Framer::new(alloc, limit),
+        }
+    }
+
+    /// Starts the login: appends the first text, or a part of it (RFC 7143, section 6.3).
+    ///
+    /// A second start answers `Protocol` with rule 1. After `NoMemory` `out` is as it was. Both close
+    /// the session; a closed session answers `Closed`.
+    pub fn start(&mut self, out: &mut Vec<u8>) -> Result<(), InitiatorFault>
+        ensures starts { Starts result self.old self.new out.old.items out.new.items }
+    {
+        if self.course.is_closed() {
+            return Err(InitiatorFault::Closed);
+        }
+        match self.course.start(out) {
+            Ok(None) => Ok(()),
+            Ok(Some(fault)) => Err(fault),
+            Err(_) => {
+                self.course.close();
+                Err(InitiatorFault::NoMemory)
+            }
+        }
+    }
+
+    /// Takes a piece of the stream, and appends what the PDUs lead to that it completes. Says in which
+    /// phase the session is then.
+    ///
+    /// The answer to a logout answers `Closed`, and the rest of the piece is dropped. After a fault the
+    /// session is closed: `out` has what the PDUs before the one at fault led to, but after `NoMemory`
+    /// it is as it was. A closed session answers `Closed` and takes nothing (RFC 7143, sections 6 and
+    /// 11; the rules and their order are own).
+    pub fn feed(&mut self, piece: &[u8], out: &mut Vec<u8>) -> Result<Phase, InitiatorFault>
+        ensures feeds { Feeds result self.old piece.now self.new out.old.items out.new.items }
+    {
+        if self.course.is_closed() {
+            return Err(InitiatorFault::Closed);
+        }
+        let held = out.len();
+        let result = feed_all(&mut self.course, &mut self.framer, piece, out);
+        if has_run_out(&result) {
+            out.truncate(held);
+            return result;
+        }
+        result
+    }
+
+    /// Hands in a request, and appends what it sends (RFC 7143, sections 4.2 and 11).
+    ///
+    /// A refused request comes back as it was, and nothing has changed; the refusals come in the order
+    /// of `SubmitFault`.
+    pub fn submit(&mut self, request: Request, out: &mut Vec<u8>) -> Result<(), Refused>
+        ensures submits { Submits result self.old request self.new out.old.items out.new.items }
+    {
+        self.course.submit(request, out)
+    }
+
+    /// Takes the outcome of the last request, once it is there.
+    pub fn outcome(&mut self) -> Option<Done>
+        ensures outcome { result ≡ self.old.machine.done }
+        ensures taken { self.new ≡ after_taking self.old }
+    {
+        self.course.outcome()
+    }
+
+    /// What the session holds of its login (RFC 7143, section 13).
+    pub fn params(&self) -> &Params
+        ensures held { result.now ≡ self.now.machine.held }
+    {
+        self.course.params()
+    }
+
+    /// What the session is doing.
+    pub fn phase(&self) -> Phase
+        ensures phase { result ≡ self.now.machine.phase }
+    {
+        self.course.phase()
+    }
+
+    /// Where the login is: the stage where it starts, then the one that the last good answer moved to.
+    /// A closed session keeps it (RFC 7143, section 6.3).
+    pub fn stage(&self) -> Stage
+        ensures stage { result ≡ self.now.machine.stage }
+    {
+        self.course.stage()
+    }
+
+    /// Ends the stream. Answers `Stream` with `Truncated` where it ends within a PDU, which closes the
+    /// session, and `Closed` where it was closed before.
+    pub fn finish(&mut self) -> Result<(), InitiatorFault>
+        ensures finishes { Finishes result self.old self.new }
+    {
+        if self.course.is_closed() {
+            return Err(InitiatorFault::Closed);
+        }
+        match self.framer.finish() {
+            Ok(()) => Ok(()),
+            Err(fault) => {
+                self.course.close();
+                Err(InitiatorFault::Stream(fault))
+            }
+        }
+    }
+}
+
+// Whether memory ran out.
+fn has_run_out(fed: &Result<Phase, InitiatorFault>) -> bool
+    ensures { result ≡ has_run_out fed.now }
+{
+    matches!(fed, Err(InitiatorFault::NoMemory))
+}
+
+// Takes a piece of the stream in a session that isn't closed. Where memory runs out the end of `out`
+// is not as it was.
+fn feed_all(
+    course: &mut Course,
+    framer: &mut Framer,
+    piece: &[u8],
+    out: &mut Vec<u8>,
+) -> Result<Phase, InitiatorFault>
+    requires unready { is_ready framer.old ≡ false }
+    requires live { is_closed course.old ≡ false }
+    ensures fed { FedUntil result (connection course.old framer.old) piece.now
+        (connection course.new framer.new) out.old.items out.new.items }
+    ensures unready { is_ready framer.new ≡ false }
+{
+    let mut rest = piece;
+    while !rest.is_empty() {
+        let taken = take_bytes(course, framer, rest)?;
+        rest = &rest[taken..];
+        let fault = hear_ready(course, framer, out)?;
+        if course.is_closed() {
+            return match fault {
+                Some(fault) => Err(fault),
+                None => Ok(Phase::Closed),
+            };
+        }
+    }
+    Ok(course.phase())
+}
+
+// Takes bytes up to the end of a PDU. A fault closes the session.
+fn take_bytes(
+    course: &mut Course,
+    framer: &mut Framer,
+    piece: &[u8],
+) -> Result<usize, InitiatorFault>
+    ensures ok { IfOk result (λ n. Takes framer.old piece.now n framer.new) }
+    ensures kept { OnOk result (course.new ≡ course.old) }
+    ensures err { IfErr result (RestFails framer.old piece.now) }
+    ensures shut { OnErr result (course.new ≡ closed course.old) }
+    ensures stopped { OnErr result (framer.new ≡ stopped framer.old) }
+{
+    match framer.feed(piece) {
+        Ok(taken) => Ok(taken),
+        Err(fault) => {
+            course.close();
+            Err(stream_fault(fault))
+        }
+    }
+}
+
+// A stream's want of memory is the initiator's own.
+fn stream_fault(fault: StreamFault) -> InitiatorFault
+    ensures { result ≡ initiator_fault fault }
+{
+    match fault {
+        StreamFault::NoMemory => InitiatorFault::NoMemory,
+        _ => InitiatorFault::Stream(fault),
+    }
+}
+
+// Takes the PDU that is ready, if one is, and gives it up. Says which fault it led to, if it led to
+// one. Want of memory closes the session.
+fn hear_ready(
+    course: &mut Course,
+    framer: &mut Framer,
+    out: &mut Vec<u8>,
+) -> Result<Option<InitiatorFault>, AllocError>
+    requires live { is_closed course.old ≡ false }
+    ensures ok { IfOk result (λ fault. HearsReady (connection course.old framer.old) fault
+        (connection course.new framer.new) out.old.items out.new.items) }
+    ensures err { OnErr result (ShutsReady (connection course.old framer.old)
+        (connection course.new framer.new) out.old.items out.new.items) }
+{
+    let Some(pdu) = framer.pdu() else {
+        return Ok(None);
+    };
+    match course.step(&pdu, framer.continued(), out) {
+        Ok(fault) => {
+            framer.take();
+            Ok(fault)
+        }
+        Err(error) => {
+            course.close();
+            framer.take();
+            Err(error)
+        }
+    }
+}
