@@ -38,12 +38,12 @@ impl Model for Reading {
 
 impl Reading {
     /// Whether data have the next DataSN and the next offset, and are no more than expected.
-    pub(crate) fn fits(&self, h: &DataIn, bytes: &[u8]) -> bool
-        ensures { result ≡ fits_reading self.now h.now bytes.now }
+    pub(crate) fn fits(&self, head: &DataIn, bytes: &[u8]) -> bool
+        ensures { result ≡ fits_reading self.now head.now bytes.now }
     {
         let reached = self.received.len().saturating_add(bytes.len());
-        h.data_sn == self.next_data_sn
-            && h.buffer_offset as usize == self.received.len()
+        head.data_sn == self.next_data_sn
+            && head.buffer_offset as usize == self.received.len()
             && reached <= self.expected as usize
     }
 
@@ -90,38 +90,38 @@ impl Model for Writing {
 impl Writing {
     /// Whether a request for data has the next R2TSN and the next offset, and asks for 1 to
     /// `most_burst` bytes, all of them within the data.
-    pub(crate) fn fits(&self, h: &ReadyToTransfer, most_burst: u32) -> bool
+    pub(crate) fn fits(&self, head: &ReadyToTransfer, most_burst: u32) -> bool
         ensures { (m : Machine) → number_of (held_value m.held MaxBurstLength) ≡ most_burst
-            → result ≡ fits_writing m self.now h.now }
+            → result ≡ fits_writing m self.now head.now }
     {
-        let desired = h.desired_data_transfer_length;
-        h.r2t_sn == self.next_r2t_sn
-            && h.buffer_offset as usize == self.sent
+        let desired = head.desired_data_transfer_length;
+        head.r2t_sn == self.next_r2t_sn
+            && head.buffer_offset as usize == self.sent
             && desired >= 1
             && desired <= most_burst
             && self.sent.saturating_add(desired as usize) <= self.bytes.len()
     }
 
     /// The bytes that are asked for.
-    pub(crate) fn asked(&self, h: &ReadyToTransfer) -> &[u8]
-        requires { self.now.sent + h.now.desired_data_transfer_length ≤ length self.now.bytes }
-        ensures bytes { result.now ≡ take h.now.desired_data_transfer_length
+    pub(crate) fn asked(&self, head: &ReadyToTransfer) -> &[u8]
+        requires { self.now.sent + head.now.desired_data_transfer_length ≤ length self.now.bytes }
+        ensures bytes { result.now ≡ take head.now.desired_data_transfer_length
             (drop self.now.sent self.now.bytes) }
         ensures most { self.now.sent + length result.now ≤ 4194304 }
     {
-        let end = self.sent + h.desired_data_transfer_length as usize;
+        let end = self.sent + head.desired_data_transfer_length as usize;
         &self.bytes[self.sent..end]
     }
 
     /// The bytes that were asked for are sent.
-    pub(crate) fn count(&mut self, h: &ReadyToTransfer)
-        requires { self.old.sent + h.now.desired_data_transfer_length ≤ length self.old.bytes }
+    pub(crate) fn count(&mut self, head: &ReadyToTransfer)
+        requires { self.old.sent + head.now.desired_data_transfer_length ≤ length self.old.bytes }
         ensures { self.new ≡ record self.old {
-          sent = self.old.sent + h.now.desired_data_transfer_length;
+          sent = self.old.sent + head.now.desired_data_transfer_length;
           next_r2t_sn = next self.old.next_r2t_sn;
         } }
     {
-        self.sent += h.desired_data_transfer_length as usize;
+        self.sent += head.desired_data_transfer_length as usize;
         self.next_r2t_sn = self.next_r2t_sn.wrapping_add(1);
     }
 }

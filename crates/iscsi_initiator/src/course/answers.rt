@@ -40,12 +40,12 @@ impl Course {
         ensures unwritten { OnErr result (out.new.items ≡ out.old.items) }
     {
         match head {
-            Head::NopIn(h) => self.on_pong(h, bytes, out),
-            Head::DataIn(h) => self.on_data(h, bytes, out),
-            Head::ScsiResponse(h) => self.on_response(h, bytes, out),
-            Head::ReadyToTransfer(h) => self.on_ready(h, bytes, out),
-            Head::TextResponse(h) => self.on_text_answer(h, bytes, out),
-            Head::LogoutResponse(h) => self.on_logout(h, bytes, out),
+            Head::NopIn(head) => self.on_pong(head, bytes, out),
+            Head::DataIn(head) => self.on_data(head, bytes, out),
+            Head::ScsiResponse(head) => self.on_response(head, bytes, out),
+            Head::ReadyToTransfer(head) => self.on_ready(head, bytes, out),
+            Head::TextResponse(head) => self.on_text_answer(head, bytes, out),
+            Head::LogoutResponse(head) => self.on_logout(head, bytes, out),
             _ => Ok(self.breaks(KIND_NOT_DUE)),
         }
     }
@@ -54,12 +54,12 @@ impl Course {
     #[tactic(auto, using(crate::proofs::Passing::takes_broken, crate::proofs::Passing::takes_passed))]
     fn on_pong(
         &mut self,
-        h: &NopIn,
+        head: &NopIn,
         bytes: &[u8],
         out: &mut Vec<u8>,
     ) -> Result<Option<InitiatorFault>, AllocError>
         ensures ok { IfOk result (λ fault. Did
-            (takes (due_to self.old.open_request (heads.NopIn h.now)) self.old bytes.now)
+            (takes (due_to self.old.open_request (heads.NopIn head.now)) self.old bytes.now)
             fault self.new out.old.items out.new.items) }
         ensures err { OnErr result (uncounted self.old self.new ≡ self.old) }
         ensures unwritten { OnErr result (out.new.items ≡ out.old.items) }
@@ -67,10 +67,10 @@ impl Course {
         let Some(Open::Ping) = self.open_request else {
             return Ok(self.breaks(KIND_NOT_DUE));
         };
-        if let Some(rule) = self.broken(bytes.len(), Some(h.stat_sn)) {
+        if let Some(rule) = self.broken(bytes.len(), Some(head.stat_sn)) {
             return Ok(self.breaks(rule));
         }
-        self.pass(Some(h.stat_sn), h.exp_cmd_sn, h.max_cmd_sn);
+        self.pass(Some(head.stat_sn), head.exp_cmd_sn, head.max_cmd_sn);
         let bytes = Bytes::from_vec(bytes.to_vec(*out.allocator())?);
         self.complete(Done::Ping { bytes });
         Ok(None)
@@ -80,12 +80,12 @@ impl Course {
     #[tactic(auto, using(crate::proofs::Passing::takes_broken, crate::proofs::Passing::takes_passed))]
     fn on_data(
         &mut self,
-        h: &DataIn,
+        head: &DataIn,
         bytes: &[u8],
         out: &mut Vec<u8>,
     ) -> Result<Option<InitiatorFault>, AllocError>
         ensures ok { IfOk result (λ fault. Did
-            (takes (due_to self.old.open_request (heads.DataIn h.now)) self.old bytes.now)
+            (takes (due_to self.old.open_request (heads.DataIn head.now)) self.old bytes.now)
             fault self.new out.old.items out.new.items) }
         ensures err { OnErr result (uncounted self.old self.new ≡ self.old) }
         ensures unwritten { OnErr result (out.new.items ≡ out.old.items) }
@@ -93,27 +93,27 @@ impl Course {
         let Some(Open::In(_)) = &self.open_request else {
             return Ok(self.breaks(KIND_NOT_DUE));
         };
-        if let Some(rule) = self.broken(bytes.len(), h.stat_sn) {
+        if let Some(rule) = self.broken(bytes.len(), head.stat_sn) {
             return Ok(self.breaks(rule));
         }
-        self.pass(h.stat_sn, h.exp_cmd_sn, h.max_cmd_sn);
-        self.receive(h, bytes, out)
+        self.pass(head.stat_sn, head.exp_cmd_sn, head.max_cmd_sn);
+        self.receive(head, bytes, out)
     }
 
     // Data that have passed.
     fn receive(
         &mut self,
-        h: &DataIn,
+        head: &DataIn,
         bytes: &[u8],
         out: &mut Vec<u8>,
     ) -> Result<Option<InitiatorFault>, AllocError>
         ensures ok { IfOk result (λ fault. Did
-            (received self.old.open_request self.old h.now bytes.now) fault self.new out.old.items out.new.items) }
+            (received self.old.open_request self.old head.now bytes.now) fault self.new out.old.items out.new.items) }
         ensures err { OnErr result (self.new ≡ self.old) }
         ensures unwritten { OnErr result (out.new.items ≡ out.old.items) }
     {
         match self.open_request.take() {
-            Some(Open::In(reading)) => self.receive_for(reading, h, bytes, out),
+            Some(Open::In(reading)) => self.receive_for(reading, head, bytes, out),
             open => {
                 self.open_request = open;
                 Ok(self.breaks(KIND_NOT_DUE))
@@ -125,17 +125,17 @@ impl Course {
     fn receive_for(
         &mut self,
         mut reading: Reading,
-        h: &DataIn,
+        head: &DataIn,
         bytes: &[u8],
         out: &mut Vec<u8>,
     ) -> Result<Option<InitiatorFault>, AllocError>
         ensures ok { IfOk result (λ fault. Did
-            (on_data (opened self.old (opens.In reading)) reading h.now bytes.now)
+            (on_data (opened self.old (opens.In reading)) reading head.now bytes.now)
             fault self.new out.old.items out.new.items) }
         ensures err { OnErr result (self.new ≡ opened self.old (opens.In reading)) }
         ensures unwritten { OnErr result (out.new.items ≡ out.old.items) }
     {
-        if !reading.fits(h, bytes) {
+        if !reading.fits(head, bytes) {
             self.open_request = Some(Open::In(reading));
             return Ok(self.breaks(DATA_OUT_OF_ORDER));
         }
@@ -144,29 +144,29 @@ impl Course {
             return Err(error);
         }
         self.open_request = Some(Open::In(reading));
-        if !h.has_status {
+        if !head.has_status {
             return Ok(None);
         }
-        self.complete_read(h, *out.allocator());
+        self.complete_read(head, *out.allocator());
         Ok(None)
     }
 
     // A field without a value counts as 0.
-    fn complete_read(&mut self, h: &DataIn, alloc: Global)
+    fn complete_read(&mut self, head: &DataIn, alloc: Global)
         ensures { self.new ≡ record self.old {
           open_request = None;
-          done = Some (read_outcome (received_by self.old.open_request) h.now);
+          done = Some (read_outcome (received_by self.old.open_request) head.now);
         } }
     {
         let residual = residual(
-            h.overflow.unwrap_or(false),
-            h.underflow.unwrap_or(false),
-            h.residual.unwrap_or(0),
+            head.overflow.unwrap_or(false),
+            head.underflow.unwrap_or(false),
+            head.residual.unwrap_or(0),
         );
         let bytes = self.take_received(alloc);
         self.complete(Done::Command {
             response: 0,
-            status: h.status.unwrap_or(0),
+            status: head.status.unwrap_or(0),
             sense: Bytes::from_vec(Vec::new(alloc)),
             bytes,
             residual,
@@ -196,12 +196,12 @@ impl Course {
     #[tactic(auto, using(crate::proofs::Passing::takes_broken, crate::proofs::Passing::takes_passed))]
     fn on_response(
         &mut self,
-        h: &ScsiResponse,
+        head: &ScsiResponse,
         bytes: &[u8],
         out: &mut Vec<u8>,
     ) -> Result<Option<InitiatorFault>, AllocError>
         ensures ok { IfOk result (λ fault. Did
-            (takes (due_to self.old.open_request (heads.ScsiResponse h.now)) self.old bytes.now)
+            (takes (due_to self.old.open_request (heads.ScsiResponse head.now)) self.old bytes.now)
             fault self.new out.old.items out.new.items) }
         ensures err { OnErr result (uncounted self.old self.new ≡ self.old) }
         ensures unwritten { OnErr result (out.new.items ≡ out.old.items) }
@@ -209,21 +209,21 @@ impl Course {
         if !matches!(self.open_request, Some(Open::In(_) | Open::Out(_))) {
             return Ok(self.breaks(KIND_NOT_DUE));
         }
-        if let Some(rule) = self.broken(bytes.len(), Some(h.stat_sn)) {
+        if let Some(rule) = self.broken(bytes.len(), Some(head.stat_sn)) {
             return Ok(self.breaks(rule));
         }
-        self.pass(Some(h.stat_sn), h.exp_cmd_sn, h.max_cmd_sn);
+        self.pass(Some(head.stat_sn), head.exp_cmd_sn, head.max_cmd_sn);
         let Some(sense) = sense_of(bytes) else {
             return Ok(self.breaks(DATA_OUT_OF_ORDER));
         };
         let sense = Bytes::from_vec(sense.to_vec(*out.allocator())?);
         let bytes = self.take_received(*out.allocator());
         self.complete(Done::Command {
-            response: h.response,
-            status: h.status.unwrap_or(0),
+            response: head.response,
+            status: head.status.unwrap_or(0),
             sense,
             bytes,
-            residual: residual(h.overflow, h.underflow, h.residual.unwrap_or(0)),
+            residual: residual(head.overflow, head.underflow, head.residual.unwrap_or(0)),
         });
         Ok(None)
     }
@@ -232,12 +232,12 @@ impl Course {
     #[tactic(auto, using(crate::proofs::Passing::takes_broken, crate::proofs::Passing::takes_passed))]
     fn on_ready(
         &mut self,
-        h: &ReadyToTransfer,
+        head: &ReadyToTransfer,
         bytes: &[u8],
         out: &mut Vec<u8>,
     ) -> Result<Option<InitiatorFault>, AllocError>
         ensures ok { IfOk result (λ fault. Did
-            (takes (due_to self.old.open_request (heads.ReadyToTransfer h.now)) self.old bytes.now)
+            (takes (due_to self.old.open_request (heads.ReadyToTransfer head.now)) self.old bytes.now)
             fault self.new out.old.items out.new.items) }
         ensures err { OnErr result (uncounted self.old self.new ≡ self.old) }
         ensures unwritten { OnErr result (out.new.items ≡ out.old.items) }
@@ -248,24 +248,24 @@ impl Course {
         if let Some(rule) = self.broken(bytes.len(), None) {
             return Ok(self.breaks(rule));
         }
-        self.pass(None, h.exp_cmd_sn, h.max_cmd_sn);
-        self.send_asked(h, out)
+        self.pass(None, head.exp_cmd_sn, head.max_cmd_sn);
+        self.send_asked(head, out)
     }
 
     // A request for data that has passed.
     fn send_asked(
         &mut self,
-        h: &ReadyToTransfer,
+        head: &ReadyToTransfer,
         out: &mut Vec<u8>,
     ) -> Result<Option<InitiatorFault>, AllocError>
         ensures ok { IfOk result (λ fault. Did
-            (readied self.old.open_request self.old h.now)
+            (readied self.old.open_request self.old head.now)
             fault self.new out.old.items out.new.items) }
         ensures err { OnErr result (self.new ≡ self.old) }
         ensures unwritten { OnErr result (out.new.items ≡ out.old.items) }
     {
         match self.open_request.take() {
-            Some(Open::Out(writing)) => self.send_asked_of(writing, h, out),
+            Some(Open::Out(writing)) => self.send_asked_of(writing, head, out),
             open => {
                 self.open_request = open;
                 Ok(self.breaks(KIND_NOT_DUE))
@@ -277,25 +277,25 @@ impl Course {
     fn send_asked_of(
         &mut self,
         mut writing: Writing,
-        h: &ReadyToTransfer,
+        head: &ReadyToTransfer,
         out: &mut Vec<u8>,
     ) -> Result<Option<InitiatorFault>, AllocError>
         ensures ok { IfOk result (λ fault. Did
-            (on_ready (opened self.old (opens.Out writing)) writing h.now)
+            (on_ready (opened self.old (opens.Out writing)) writing head.now)
             fault self.new out.old.items out.new.items) }
         ensures err { OnErr result (self.new ≡ opened self.old (opens.Out writing)) }
         ensures unwritten { OnErr result (out.new.items ≡ out.old.items) }
     {
-        if !writing.fits(h, self.held.number(NegKey::MaxBurstLength)) {
+        if !writing.fits(head, self.held.number(NegKey::MaxBurstLength)) {
             self.open_request = Some(Open::Out(writing));
             return Ok(self.breaks(DATA_OUT_OF_ORDER));
         }
-        let first = self.first_data_out(h);
-        if let Err(error) = write_sequence(first, self.most_sent(), writing.asked(h), out) {
+        let first = self.first_data_out(head);
+        if let Err(error) = write_sequence(first, self.most_sent(), writing.asked(head), out) {
             self.open_request = Some(Open::Out(writing));
             return Err(error);
         }
-        writing.count(h);
+        writing.count(head);
         self.open_request = Some(Open::Out(writing));
         Ok(None)
     }
@@ -311,26 +311,26 @@ impl Course {
     }
 
     // The head of the first Data-Out that a request for data is answered with.
-    fn first_data_out(&self, h: &ReadyToTransfer) -> DataOut
+    fn first_data_out(&self, head: &ReadyToTransfer) -> DataOut
         ensures value { result ≡ record {
           is_final = false;
-          lun = then_some (is_tag h.now.target_transfer_tag) h.now.lun;
+          lun = then_some (is_tag head.now.target_transfer_tag) head.now.lun;
           initiator_task_tag = self.now.initiator_task_tag;
-          target_transfer_tag = h.now.target_transfer_tag;
+          target_transfer_tag = head.now.target_transfer_tag;
           exp_stat_sn = sent_exp_stat_sn self.now;
           data_sn = 0;
-          buffer_offset = h.now.buffer_offset;
+          buffer_offset = head.now.buffer_offset;
         } }
         ensures fits { Fits (heads.DataOut result) }
     {
         DataOut {
             is_final: false,
-            lun: (h.target_transfer_tag != RESERVED_TAG).then_some(h.lun),
+            lun: (head.target_transfer_tag != RESERVED_TAG).then_some(head.lun),
             initiator_task_tag: self.initiator_task_tag,
-            target_transfer_tag: h.target_transfer_tag,
+            target_transfer_tag: head.target_transfer_tag,
             exp_stat_sn: self.sent_exp_stat_sn(),
             data_sn: 0,
-            buffer_offset: h.buffer_offset,
+            buffer_offset: head.buffer_offset,
         }
     }
 
@@ -338,12 +338,12 @@ impl Course {
     #[tactic(auto, using(crate::proofs::Passing::takes_broken, crate::proofs::Passing::takes_passed))]
     fn on_text_answer(
         &mut self,
-        h: &TextResponse,
+        head: &TextResponse,
         bytes: &[u8],
         out: &mut Vec<u8>,
     ) -> Result<Option<InitiatorFault>, AllocError>
         ensures ok { IfOk result (λ fault. Did
-            (takes (due_to self.old.open_request (heads.TextResponse h.now)) self.old bytes.now)
+            (takes (due_to self.old.open_request (heads.TextResponse head.now)) self.old bytes.now)
             fault self.new out.old.items out.new.items) }
         ensures err { OnErr result (uncounted self.old self.new ≡ self.old) }
         ensures unwritten { OnErr result (out.new.items ≡ out.old.items) }
@@ -351,11 +351,11 @@ impl Course {
         let Some(Open::Text) = self.open_request else {
             return Ok(self.breaks(KIND_NOT_DUE));
         };
-        if let Some(rule) = self.broken(bytes.len(), Some(h.stat_sn)) {
+        if let Some(rule) = self.broken(bytes.len(), Some(head.stat_sn)) {
             return Ok(self.breaks(rule));
         }
-        self.pass(Some(h.stat_sn), h.exp_cmd_sn, h.max_cmd_sn);
-        if !h.is_final || h.continues {
+        self.pass(Some(head.stat_sn), head.exp_cmd_sn, head.max_cmd_sn);
+        if !head.is_final || head.continues {
             return Ok(self.breaks(TEXT_AT_FAULT));
         }
         let bytes = Bytes::from_vec(bytes.to_vec(*out.allocator())?);
@@ -367,12 +367,12 @@ impl Course {
     #[tactic(auto, using(crate::proofs::Passing::takes_broken, crate::proofs::Passing::takes_passed))]
     fn on_logout(
         &mut self,
-        h: &LogoutResponse,
+        head: &LogoutResponse,
         bytes: &[u8],
         out: &mut Vec<u8>,
     ) -> Result<Option<InitiatorFault>, AllocError>
         ensures ok { IfOk result (λ fault. Did
-            (takes (due_to self.old.open_request (heads.LogoutResponse h.now)) self.old bytes.now)
+            (takes (due_to self.old.open_request (heads.LogoutResponse head.now)) self.old bytes.now)
             fault self.new out.old.items out.new.items) }
         ensures err { OnErr result (self.new ≡ self.old) }
         ensures unwritten { OnErr result (out.new.items ≡ out.old.items) }
@@ -380,10 +380,10 @@ impl Course {
         let Some(Open::Logout) = self.open_request else {
             return Ok(self.breaks(KIND_NOT_DUE));
         };
-        if let Some(rule) = self.broken(bytes.len(), Some(h.stat_sn)) {
+        if let Some(rule) = self.broken(bytes.len(), Some(head.stat_sn)) {
             return Ok(self.breaks(rule));
         }
-        self.pass(Some(h.stat_sn), h.exp_cmd_sn, h.max_cmd_sn);
+        self.pass(Some(head.stat_sn), head.exp_cmd_sn, head.max_cmd_sn);
         self.close();
         self.complete(Done::Closed);
         Ok(None)

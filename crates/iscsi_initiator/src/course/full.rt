@@ -48,9 +48,11 @@ impl Course {
         ensures unwritten { OnErr result (out.new.items ≡ out.old.items) }
     {
         match head {
-            Head::NopIn(h) if h.initiator_task_tag == RESERVED_TAG => self.on_asked(h, bytes, out),
-            Head::AsyncMessage(h) => self.on_notice(h, bytes, out),
-            Head::Reject(h) => self.on_refusal(h, bytes, out),
+            Head::NopIn(head) if head.initiator_task_tag == RESERVED_TAG => self.on_asked(
+                head, bytes, out,
+            ),
+            Head::AsyncMessage(head) => self.on_notice(head, bytes, out),
+            Head::Reject(head) => self.on_refusal(head, bytes, out),
             _ if tag_of(head) == self.initiator_task_tag => self.on_answer(head, bytes, out),
             _ => Ok(self.breaks(KIND_NOT_DUE)),
         }
@@ -60,12 +62,12 @@ impl Course {
     #[tactic(auto, using(crate::proofs::Passing::takes_broken, crate::proofs::Passing::takes_passed, crate::proofs::Writing::one_message))]
     fn on_asked(
         &mut self,
-        h: &NopIn,
+        head: &NopIn,
         bytes: &[u8],
         out: &mut Vec<u8>,
     ) -> Result<Option<InitiatorFault>, AllocError>
-        requires fits { Fits (heads.NopIn h.now) }
-        ensures ok { IfOk result (λ fault. Did (takes (Some (Asked h.now)) self.old bytes.now)
+        requires fits { Fits (heads.NopIn head.now) }
+        ensures ok { IfOk result (λ fault. Did (takes (Some (Asked head.now)) self.old bytes.now)
             fault self.new out.old.items out.new.items) }
         ensures err { OnErr result (uncounted self.old self.new ≡ self.old) }
         ensures unwritten { OnErr result (out.new.items ≡ out.old.items) }
@@ -73,25 +75,25 @@ impl Course {
         if let Some(rule) = self.broken(bytes.len(), None) {
             return Ok(self.breaks(rule));
         }
-        self.pass(None, h.exp_cmd_sn, h.max_cmd_sn);
-        if h.target_transfer_tag == RESERVED_TAG {
+        self.pass(None, head.exp_cmd_sn, head.max_cmd_sn);
+        if head.target_transfer_tag == RESERVED_TAG {
             return Ok(None);
         }
-        write_pdu(&Head::NopOut(self.nop_answer(h)), &[], out)?;
+        write_pdu(&Head::NopOut(self.nop_answer(head)), &[], out)?;
         Ok(None)
     }
 
     // The head of a NOP-Out that answers and asks for nothing.
-    fn nop_answer(&self, h: &NopIn) -> NopOut
-        requires { Fits (heads.NopIn h.now) }
-        ensures value { result ≡ nop_answer self.now h.now }
+    fn nop_answer(&self, head: &NopIn) -> NopOut
+        requires { Fits (heads.NopIn head.now) }
+        ensures value { result ≡ nop_answer self.now head.now }
         ensures fits { Fits (heads.NopOut result) }
     {
         NopOut {
             immediate: true,
-            lun: h.lun,
+            lun: head.lun,
             initiator_task_tag: RESERVED_TAG,
-            target_transfer_tag: h.target_transfer_tag,
+            target_transfer_tag: head.target_transfer_tag,
             cmd_sn: self.cmd_sn,
             exp_stat_sn: self.sent_exp_stat_sn(),
         }
@@ -101,19 +103,19 @@ impl Course {
     #[tactic(auto, using(crate::proofs::Passing::takes_broken, crate::proofs::Passing::takes_passed))]
     fn on_notice(
         &mut self,
-        h: &AsyncMessage,
+        head: &AsyncMessage,
         bytes: &[u8],
         out: &mut Vec<u8>,
     ) -> Result<Option<InitiatorFault>, AllocError>
-        ensures ok { IfOk result (λ fault. Did (takes (Some (Notice h.now)) self.old bytes.now)
+        ensures ok { IfOk result (λ fault. Did (takes (Some (Notice head.now)) self.old bytes.now)
             fault self.new out.old.items out.new.items) }
         ensures err { OnErr result (uncounted self.old self.new ≡ self.old) }
         ensures unwritten { OnErr result (out.new.items ≡ out.old.items) }
     {
-        if let Some(rule) = self.broken(bytes.len(), Some(h.stat_sn)) {
+        if let Some(rule) = self.broken(bytes.len(), Some(head.stat_sn)) {
             return Ok(self.breaks(rule));
         }
-        self.pass(Some(h.stat_sn), h.exp_cmd_sn, h.max_cmd_sn);
+        self.pass(Some(head.stat_sn), head.exp_cmd_sn, head.max_cmd_sn);
         Ok(None)
     }
 
@@ -121,19 +123,19 @@ impl Course {
     #[tactic(auto, using(crate::proofs::Passing::takes_broken, crate::proofs::Passing::takes_passed))]
     fn on_refusal(
         &mut self,
-        h: &Reject,
+        head: &Reject,
         bytes: &[u8],
         out: &mut Vec<u8>,
     ) -> Result<Option<InitiatorFault>, AllocError>
-        ensures ok { IfOk result (λ fault. Did (takes (Some (Refusal h.now)) self.old bytes.now)
+        ensures ok { IfOk result (λ fault. Did (takes (Some (Refusal head.now)) self.old bytes.now)
             fault self.new out.old.items out.new.items) }
         ensures err { OnErr result (uncounted self.old self.new ≡ self.old) }
         ensures unwritten { OnErr result (out.new.items ≡ out.old.items) }
     {
-        if let Some(rule) = self.broken(bytes.len(), Some(h.stat_sn)) {
+        if let Some(rule) = self.broken(bytes.len(), Some(head.stat_sn)) {
             return Ok(self.breaks(rule));
         }
-        self.pass(Some(h.stat_sn), h.exp_cmd_sn, h.max_cmd_sn);
+        self.pass(Some(head.stat_sn), head.exp_cmd_sn, head.max_cmd_sn);
         Ok(self.breaks(REJECTED))
     }
 
@@ -167,12 +169,12 @@ fn tag_of(head: &Head) -> u32
     ensures { result ≡ tag_of head.now }
 {
     match head {
-        Head::NopIn(h) => h.initiator_task_tag,
-        Head::DataIn(h) => h.initiator_task_tag,
-        Head::ScsiResponse(h) => h.initiator_task_tag,
-        Head::ReadyToTransfer(h) => h.initiator_task_tag,
-        Head::TextResponse(h) => h.initiator_task_tag,
-        Head::LogoutResponse(h) => h.initiator_task_tag,
+        Head::NopIn(head) => head.initiator_task_tag,
+        Head::DataIn(head) => head.initiator_task_tag,
+        Head::ScsiResponse(head) => head.initiator_task_tag,
+        Head::ReadyToTransfer(head) => head.initiator_task_tag,
+        Head::TextResponse(head) => head.initiator_task_tag,
+        Head::LogoutResponse(head) => head.initiator_task_tag,
         _ => RESERVED_TAG,
     }
 }
