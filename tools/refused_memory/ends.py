@@ -1,9 +1,10 @@
 #!/usr/bin/env python3
 """Refuses each allocation of a login and a write between an initiator and a target, in turn.
 
-The program is two_ends.txt (Rattle; the gate reads no .rt file outside a crate): where a call of the initiator runs out of memory it looks at what the call promises then
-(nothing was written; a refused request came back as it was), and ends with status 3, or with 9 where that is not so. It
-is proved and built in a copy of the workspace, which takes some minutes.
+The program is two_ends.txt, in Rattle (the gate wants each .rt file in a crate): where a call of the initiator runs
+out of memory it looks at what the call promises then (nothing was written; a refused request came back as it was), and
+ends with status 3, or with 9 where that is not so. It is proved and built in a copy of the workspace, which takes some
+minutes.
 """
 import os
 import shutil
