@@ -1,5 +1,5 @@
 //! Rules that are broken, as dialogues; the rules are those of `docs/FORMATS.md`.
-//! The bytes are worked out by hand from the tables of RFC 7143, section 11.
+//! The bytes were laid out by a script from the tables of RFC 7143, section 11.
 
 /// What closes a session.
 pub const BREACHES: &str = "# standard, logged in: a reject\n\

@@ -1,5 +1,5 @@
 //! Logins as dialogues.
-//! The bytes are worked out by hand from the tables of RFC 7143, section 11.
+//! The bytes were laid out by a script from the tables of RFC 7143, section 11.
 
 /// Logins.
 pub const LOGINS: &str = "# standard, nothing: from the security stage\n\

@@ -1,5 +1,5 @@
 //! What goes before the lines of a dialogue.
-//! The bytes are worked out by hand from the tables of RFC 7143, section 11.
+//! The bytes were laid out by a script from the tables of RFC 7143, section 11.
 
 /// The text of the operational stage with the standard preferences, which `@` stands for.
 pub const SECOND: &str =
