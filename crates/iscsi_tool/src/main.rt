@@ -4,6 +4,7 @@
 mod answering;
 mod filter;
 mod hex_text;
+mod serve_fault;
 #[cfg(test)]
 mod tests;
 mod words;
