@@ -1,42 +1,60 @@
--- What answering keeps from read to read.
-use Rattle.std.proofs.Common.{◌≡◌, ◌≢◌, ℕ, Bool, true, false, List, [], ◌∷◌, ◌++◌, take, Option, Result, Ok, Err, refl, sym, ap, subst, ◌∙◌, arith, append-nil, append_assoc}
-use Rattle.std.specs.List.{flat_map}
+-- What a session keeps from read to read.
+use Rattle.std.proofs.Common.{◌≡◌, ℕ, Bool, true, false, List, [], ◌∷◌, ◌++◌, take, Option, Result, Ok, Err, refl, sym, ap, subst, ◌∙◌, arith, append-nil, append_assoc}
 use Rattle.std.specs.Io.KnownBytes.{Appends, Consumes, Keeps}
 use Rattle.std.proofs.KnownBytes.{Appends-trans, Appends-nil, Consumes-trans, Consumes-kept, Consumes-nil}
-use Rattle.std.proofs.lemmas.List.Concat.{flat_map-append}
 use Rattle.scsi_disk.specs.Disk.{Disk}
-use Rattle.iscsi_stream.specs.declared.fault.ToolFault.{ToolFault}
 use Rattle.iscsi_stream.specs.declared.fault.ToolFault.TheVariants as tool
-use Rattle.iscsi_stream.specs.Canonical.{canon}
 use Rattle.iscsi_stream.specs.Normalising.{WroteFront}
 use Rattle.iscsi_login.specs.declared.phase.Phase.{Phase}
+use Rattle.iscsi_login.specs.Negotiation.{IsInRange}
 use Rattle.iscsi_target.specs.declared.fault.TargetFault.{TargetFault}
 use Rattle.iscsi_target.specs.declared.fault.TargetFault.TheVariants as faults
+use Rattle.iscsi_target.specs.Configured.{Settings}
+use Rattle.iscsi_target.specs.State.{Execution}
 use Rattle.iscsi_target.specs.Machine.{is_closed}
 use Rattle.iscsi_target.specs.Feed.{Connection, Store, Fed, FedIf, FedAll, GoesWell, opening_connection, stream_of}
+use Rattle.iscsi_target.specs.Laws.{Leads}
 use Rattle.iscsi_target.proofs.Feeding.{fed_any}
-use Rattle.iscsi_tool.specs.Answering.{filter_fault, target_settings, blank_store, AnswersAll, AnswersBytes}
+use Rattle.iscsi_target.proofs.Leading.{may_leads}
+use Rattle.iscsi_tool.specs.declared.answering.SessionFault.{SessionFault}
+use Rattle.iscsi_tool.specs.declared.answering.SessionFault.TheVariants as session
+use Rattle.iscsi_tool.specs.Answering.{HasExecuted, ServesAll, Serves, AnswersBytes}
+use Rattle.iscsi_tool.specs.Serving.{session_fault, ServesOne}
 
--- pieces were read, fed and answered
-pub record AnsweredUpTo (blocks : ℕ) (target : Connection) (store : Store) (remaining_old remaining_new contents_old contents_new : Option (List ℕ)) : Type 0 where
+-- Pieces were read, fed and answered, from the first store on; steady says that no device fails.
+pub record ServedUpTo (steady : Type 0) (settings : Settings) (first : Store) (target : Connection) (store : Store) (remaining_old remaining_new contents_old contents_new : Option (List ℕ)) : Type 0 where
   pub pieces : List (List ℕ)
   pub written : List ℕ
   pub consumed : Consumes remaining_old remaining_new (stream_of pieces)
   pub appended : Appends contents_old contents_new written
-  pub fed : FedAll (opening_connection target_settings 1) (blank_store blocks) [] pieces target store written
+  pub fed : steady → FedAll (opening_connection settings 1) first [] pieces target store written
+  pub executed : HasExecuted first.disk store.disk
 
 -- what a call has read and written
 abbrev pub Leaves : Option (List ℕ) → Option (List ℕ) → Option (List ℕ) → Option (List ℕ) → (List ℕ → List ℕ → Type 0) → Type 0
 Leaves r0 r1 w0 w1 P = (read : List ℕ) × (written : List ℕ) × Consumes r0 r1 read × Appends w0 w1 written × P read written
 
-pub at_start : (blocks : ℕ) (a b : Option (List ℕ)) → AnsweredUpTo blocks (opening_connection target_settings 1) (blank_store blocks) a a b b
+-- what is said of it where the preferences are in range and no device fails
+abbrev pub Given : Type 0 → Settings → (List ℕ → List ℕ → Type 0) → List ℕ → List ℕ → Type 0
+Given steady settings P read written = IsInRange settings.preferences → steady → P read written
+
+nothing_executed : (disk : Disk) → Leads disk [] disk
+unfolding Leads
+nothing_executed disk = refl
+
+-- the blocks of a disk are those that no command left
+pub none_executed : (disk : Disk) → HasExecuted disk disk
+none_executed disk = ([], nothing_executed disk)
+
+pub at_start : (steady : Type 0) (settings : Settings) (first : Store) (a b : Option (List ℕ)) → ServedUpTo steady settings first (opening_connection settings 1) first a a b b
 unfolding FedAll
-at_start blocks a b = record {
+at_start steady settings first a b = record {
   pieces = [];
   written = [];
   consumed = Consumes-nil a;
   appended = Appends-nil b;
-  fed = (refl, refl, refl);
+  fed = λ h. (refl, refl, refl);
+  executed = none_executed first.disk;
 }
 
 -- what a call of feed appends, behind what was written
@@ -89,79 +107,127 @@ stream_more : (pieces : List (List ℕ)) (piece : List ℕ) → stream_of pieces
 stream_more [] piece = sym (append-nil piece)
 stream_more (p ∷ pieces) piece = append_assoc p (stream_of pieces) piece ∙ ap (λ (x : List ℕ). p ++ x) (stream_more pieces piece)
 
-pub answered_more : (blocks : ℕ) (now new : Connection) (store after : Store) (r0 r1 r2 w0 w1 w2 : Option (List ℕ)) (piece out : List ℕ) (result : Result Phase TargetFault)
-    → AnsweredUpTo blocks now store r0 r1 w0 w1 → Consumes r1 r2 piece → Fed now store [] piece result new after out → GoesWell result store after → Appends w1 w2 out
-    → AnsweredUpTo blocks new after r0 r2 w0 w2
-answered_more blocks now new store after r0 r1 r2 w0 w1 w2 piece out result up read one well wrote = record {
+leads_append : (disk mid last : Disk) (a b : List Execution) → Leads disk a mid → Leads mid b last → Leads disk (a ++ b) last
+unfolding Leads
+leads_append disk mid last [] b p q = subst (λ (d : Disk). Leads d b last) p q
+leads_append disk mid last (e ∷ a) b p q = (p.0, p.1, p.2, leads_append p.0.disk mid last a b p.3 q)
+
+-- what a call of feed executed
+fed_executed : (b : Bool) (old new : Connection) (before after : Store) (out piece written : List ℕ) (result : Result Phase TargetFault)
+    → FedIf b old before out piece result new after written → HasExecuted before.disk after.disk
+fed_executed true old new before after out piece written result f = ([], subst (λ (x : Store). Leads before.disk [] x.disk) (sym f.store) (nothing_executed before.disk))
+fed_executed false old new before after out piece written result f =
+    (f.stepped.executed, subst (λ (d : Disk). Leads before.disk f.stepped.executed d) (sym f.answered.disk) (may_leads old.machine before.disk f.messages f.stepped f.answered.may))
+
+-- so the blocks are those that commands left, one call more
+pub executed_more : (first : Disk) (old new : Connection) (before after : Store) (out piece written : List ℕ) (result : Result Phase TargetFault)
+    → HasExecuted first before.disk → Fed old before out piece result new after written → HasExecuted first after.disk
+executed_more first old new before after out piece written result e f =
+    let more : HasExecuted before.disk after.disk = fed_executed (is_closed old.machine) old new before after out piece written result f in
+    (e.0 ++ more.0, leads_append first before.disk after.disk e.0 more.0 e.1 more.1)
+
+pub served_more : (steady : Type 0) (settings : Settings) (first : Store) (now new : Connection) (store after : Store) (r0 r1 r2 w0 w1 w2 : Option (List ℕ)) (piece out : List ℕ) (result : Result Phase TargetFault)
+    → ServedUpTo steady settings first now store r0 r1 w0 w1 → Consumes r1 r2 piece → Fed now store [] piece result new after out → (steady → GoesWell result store after) → Appends w1 w2 out
+    → ServedUpTo steady settings first new after r0 r2 w0 w2
+served_more steady settings first now new store after r0 r1 r2 w0 w1 w2 piece out result up read one well wrote = record {
   pieces = up.pieces ++ piece ∷ [];
   written = up.written ++ out;
   consumed = subst (λ (x : List ℕ). Consumes r0 r2 x) (stream_more up.pieces piece) (Consumes-trans r0 r1 r2 (stream_of up.pieces) piece up.consumed read);
   appended = Appends-trans w0 w1 w2 up.written out up.appended wrote;
-  fed = fed_more up.pieces (opening_connection target_settings 1) now new (blank_store blocks) store after [] up.written piece (up.written ++ out) result up.fed (fed_behind (is_closed now.machine) now new store after up.written piece out result one) well;
+  fed = λ h.
+      fed_more up.pieces (opening_connection settings 1) now new first store after [] up.written piece (up.written ++ out) result (up.fed h) (fed_behind (is_closed now.machine) now new store after up.written piece out result one) (well h);
+  executed = executed_more first.disk now new store after [] piece out result up.executed one;
 }
 
 -- all PDUs of what was read are answered
-pub all_answered : (blocks : ℕ) (now : Connection) (store : Store) (r0 r1 w0 w1 : Option (List ℕ)) (up : AnsweredUpTo blocks now store r0 r1 w0 w1) → AnswersAll blocks (stream_of up.pieces) up.written
-all_answered blocks now store r0 r1 w0 w1 up ms given rest s =
-    (fed_any target_settings 1 (blank_store blocks) up.pieces now store up.written ms given rest (omega arith) up.fed s).output_is
+all_served : (steady : Type 0) (settings : Settings) (first : Store) (now : Connection) (store : Store) (r0 r1 w0 w1 : Option (List ℕ)) (up : ServedUpTo steady settings first now store r0 r1 w0 w1)
+    → IsInRange settings.preferences → steady → ServesAll settings first.disk (stream_of up.pieces) store.disk up.written
+all_served steady settings first now store r0 r1 w0 w1 up range h ms given rest s =
+    fed_any settings 1 first up.pieces now store up.written ms given rest (omega (arith, range.max_recv.1)) (up.fed h) s
 
-pub stops : (blocks : ℕ) (now : Connection) (store : Store) (r0 r1 w0 w1 : Option (List ℕ)) → AnsweredUpTo blocks now store r0 r1 w0 w1
-    → Leaves r0 r1 w0 w1 (AnswersAll blocks)
-stops blocks now store r0 r1 w0 w1 up = (stream_of up.pieces, up.written, up.consumed, up.appended, all_answered blocks now store r0 r1 w0 w1 up)
+-- ---- how a session ends
 
-pub read_stops : (blocks : ℕ) (now : Connection) (store : Store) (r0 r1 r2 w0 w1 : Option (List ℕ)) → AnsweredUpTo blocks now store r0 r1 w0 w1 → Keeps r1 r2
-    → Leaves r0 r2 w0 w1 (AnswersAll blocks)
-read_stops blocks now store r0 r1 r2 w0 w1 up kept =
-    (stream_of up.pieces, up.written, Consumes-kept r0 r1 r2 (stream_of up.pieces) up.consumed kept, up.appended, all_answered blocks now store r0 r1 w0 w1 up)
+-- where its pieces end
+pub stops : (steady : Type 0) (settings : Settings) (first : Store) (now : Connection) (store : Store) (r0 r1 w0 w1 : Option (List ℕ)) → ServedUpTo steady settings first now store r0 r1 w0 w1
+    → Leaves r0 r1 w0 w1 (Given steady settings (λ read written. ServesAll settings first.disk read store.disk written))
+stops steady settings first now store r0 r1 w0 w1 up = (stream_of up.pieces, up.written, up.consumed, up.appended, all_served steady settings first now store r0 r1 w0 w1 up)
 
-pub end_stops : (blocks : ℕ) (now : Connection) (store : Store) (r0 r1 r2 w0 w1 : Option (List ℕ)) → AnsweredUpTo blocks now store r0 r1 w0 w1 → Consumes r1 r2 []
-    → Leaves r0 r2 w0 w1 (AnswersAll blocks)
-end_stops blocks now store r0 r1 r2 w0 w1 up read =
-    (stream_of up.pieces, up.written, subst (λ (x : List ℕ). Consumes r0 r2 x) (append-nil (stream_of up.pieces)) (Consumes-trans r0 r1 r2 (stream_of up.pieces) [] up.consumed read), up.appended, all_answered blocks now store r0 r1 w0 w1 up)
+-- a read failed
+pub read_stops : (steady : Type 0) (settings : Settings) (first : Store) (now : Connection) (store : Store) (r0 r1 r2 w0 w1 : Option (List ℕ)) → ServedUpTo steady settings first now store r0 r1 w0 w1 → Keeps r1 r2
+    → Leaves r0 r2 w0 w1 (Given steady settings (λ read written. ServesAll settings first.disk read store.disk written))
+read_stops steady settings first now store r0 r1 r2 w0 w1 up kept =
+    (stream_of up.pieces, up.written, Consumes-kept r0 r1 r2 (stream_of up.pieces) up.consumed kept, up.appended, all_served steady settings first now store r0 r1 w0 w1 up)
+
+-- the stream ended
+pub end_stops : (steady : Type 0) (settings : Settings) (first : Store) (now : Connection) (store : Store) (r0 r1 r2 w0 w1 : Option (List ℕ)) → ServedUpTo steady settings first now store r0 r1 w0 w1 → Consumes r1 r2 []
+    → Leaves r0 r2 w0 w1 (Given steady settings (λ read written. ServesAll settings first.disk read store.disk written))
+end_stops steady settings first now store r0 r1 r2 w0 w1 up read = (
+  stream_of up.pieces,
+  up.written,
+  subst (λ (x : List ℕ). Consumes r0 r2 x) (append-nil (stream_of up.pieces)) (Consumes-trans r0 r1 r2 (stream_of up.pieces) [] up.consumed read),
+  up.appended,
+  all_served steady settings first now store r0 r1 w0 w1 up,
+)
 
 -- a write failed, of which nothing is said
-pub write_stops : (e : ToolFault) → e ≡ tool.Write → (blocks : ℕ) (now : Connection) (store : Store) (r0 r1 r2 w0 w1 w2 : Option (List ℕ)) (piece out : List ℕ) → AnsweredUpTo blocks now store r0 r1 w0 w1 → Consumes r1 r2 piece → WroteFront w1 w2 out
-    → Leaves r0 r2 w0 w2 (AnswersBytes blocks (Err e))
-write_stops e is blocks now store r0 r1 r2 w0 w1 w2 piece out up read front =
-    (stream_of up.pieces ++ piece, up.written ++ take front.0 out, Consumes-trans r0 r1 r2 (stream_of up.pieces) piece up.consumed read, Appends-trans w0 w1 w2 up.written (take front.0 out) up.appended front.1, rw is tt)
+pub write_stops : (steady : Type 0) (settings : Settings) (first : Store) (now : Connection) (store : Store) (r0 r1 r2 w0 w1 w2 : Option (List ℕ)) (piece out : List ℕ) → ServedUpTo steady settings first now store r0 r1 w0 w1
+    → Consumes r1 r2 piece → WroteFront w1 w2 out
+    → Leaves r0 r2 w0 w2 (Given steady settings (λ read written. Unit {0}))
+write_stops steady settings first now store r0 r1 r2 w0 w1 w2 piece out up read front =
+    (stream_of up.pieces ++ piece, up.written ++ take front.0 out, Consumes-trans r0 r1 r2 (stream_of up.pieces) piece up.consumed read, Appends-trans w0 w1 w2 up.written (take front.0 out) up.appended front.1, λ range h. tt)
 
 -- memory ran out, after which nothing is said either
-pub memory_stops : (blocks : ℕ) (now : Connection) (store : Store) (r0 r1 r2 w0 w1 w2 : Option (List ℕ)) (piece out : List ℕ) → AnsweredUpTo blocks now store r0 r1 w0 w1 → Consumes r1 r2 piece → Appends w1 w2 out
-    → Leaves r0 r2 w0 w2 (λ read written. Unit {0})
-memory_stops blocks now store r0 r1 r2 w0 w1 w2 piece out up read wrote =
-    (stream_of up.pieces ++ piece, up.written ++ out, Consumes-trans r0 r1 r2 (stream_of up.pieces) piece up.consumed read, Appends-trans w0 w1 w2 up.written out up.appended wrote, tt)
+memory_stops : (steady : Type 0) (settings : Settings) (first : Store) (now : Connection) (store : Store) (r0 r1 r2 w0 w1 w2 : Option (List ℕ)) (piece out : List ℕ) → ServedUpTo steady settings first now store r0 r1 w0 w1
+    → Consumes r1 r2 piece → Appends w1 w2 out
+    → Leaves r0 r2 w0 w2 (Given steady settings (λ read written. Unit {0}))
+memory_stops steady settings first now store r0 r1 r2 w0 w1 w2 piece out up read wrote =
+    (stream_of up.pieces ++ piece, up.written ++ out, Consumes-trans r0 r1 r2 (stream_of up.pieces) piece up.consumed read, Appends-trans w0 w1 w2 up.written out up.appended wrote, λ range h. tt)
 
-pub any_fault : (blocks : ℕ) (fault : TargetFault) (read written : List ℕ) → AnswersAll blocks read written → AnswersBytes blocks (Err (filter_fault fault)) read written
-any_fault blocks faults.NoMemory read written a = tt
-any_fault blocks (faults.Stream fault) read written a = a
-any_fault blocks (faults.Protocol rule) read written a = a
-any_fault blocks faults.Closed read written a = a
-
--- a fault that a call of feed answers
-pub fault_stops : (blocks : ℕ) (fault : TargetFault) (now new : Connection) (store after : Store) (r0 r1 r2 w0 w1 w2 : Option (List ℕ)) (piece out : List ℕ)
-    → AnsweredUpTo blocks now store r0 r1 w0 w1 → Consumes r1 r2 piece → Fed now store [] piece (Err fault) new after out → after.failures ≡ store.failures → Appends w1 w2 out
-    → Leaves r0 r2 w0 w2 (AnswersBytes blocks (Err (filter_fault fault)))
-fault_stops blocks faults.NoMemory now new store after r0 r1 r2 w0 w1 w2 piece out up read one same wrote = memory_stops blocks now store r0 r1 r2 w0 w1 w2 piece out up read wrote
-fault_stops blocks (faults.Stream fault) now new store after r0 r1 r2 w0 w1 w2 piece out up read one same wrote =
-    stops blocks new after r0 r2 w0 w2 (answered_more blocks now new store after r0 r1 r2 w0 w1 w2 piece out (Err (faults.Stream fault)) up read one (record { memory = λ e. cc; device = same }) wrote)
-fault_stops blocks (faults.Protocol rule) now new store after r0 r1 r2 w0 w1 w2 piece out up read one same wrote =
-    stops blocks new after r0 r2 w0 w2 (answered_more blocks now new store after r0 r1 r2 w0 w1 w2 piece out (Err (faults.Protocol rule)) up read one (record { memory = λ e. cc; device = same }) wrote)
-fault_stops blocks faults.Closed now new store after r0 r1 r2 w0 w1 w2 piece out up read one same wrote =
-    stops blocks new after r0 r2 w0 w2 (answered_more blocks now new store after r0 r1 r2 w0 w1 w2 piece out (Err faults.Closed) up read one (record { memory = λ e. cc; device = same }) wrote)
-
--- a phase that a call of feed answers
-pub phase_more : (blocks : ℕ) (phase : Phase) (now new : Connection) (store after : Store) (r0 r1 r2 w0 w1 w2 : Option (List ℕ)) (piece out : List ℕ)
-    → AnsweredUpTo blocks now store r0 r1 w0 w1 → Consumes r1 r2 piece → Fed now store [] piece (Ok phase) new after out → after.failures ≡ store.failures → Appends w1 w2 out
-    → AnsweredUpTo blocks new after r0 r2 w0 w2
-phase_more blocks phase now new store after r0 r1 r2 w0 w1 w2 piece out up read one same wrote =
-    answered_more blocks now new store after r0 r1 r2 w0 w1 w2 piece out (Ok phase) up read one (record { memory = λ e. cc; device = same }) wrote
+any_fault : (settings : Settings) (disk : Disk) (fault : TargetFault) (read : List ℕ) (disk_now : Disk) (written : List ℕ) → ServesAll settings disk read disk_now written
+    → Serves settings disk (Err (session.Target fault)) read disk_now written
+any_fault settings disk faults.NoMemory read disk_now written a = tt
+any_fault settings disk (faults.Stream fault) read disk_now written a = a
+any_fault settings disk (faults.Protocol rule) read disk_now written a = a
+any_fault settings disk faults.Closed read disk_now written a = a
 
 -- the stream ended within a PDU
-pub finish_stops : (blocks : ℕ) (fault : TargetFault) (now : Connection) (store : Store) (r0 r1 r2 w0 w1 : Option (List ℕ)) → AnsweredUpTo blocks now store r0 r1 w0 w1 → Consumes r1 r2 []
-    → Leaves r0 r2 w0 w1 (AnswersBytes blocks (Err (filter_fault fault)))
-finish_stops blocks fault now store r0 r1 r2 w0 w1 up read =
-    let s = end_stops blocks now store r0 r1 r2 w0 w1 up read in (s.0, s.1, s.2, s.3, any_fault blocks fault s.0 s.1 s.4)
+pub finish_stops : (steady : Type 0) (settings : Settings) (fault : TargetFault) (first : Store) (now : Connection) (store : Store) (r0 r1 r2 w0 w1 : Option (List ℕ)) → ServedUpTo steady settings first now store r0 r1 w0 w1 → Consumes r1 r2 []
+    → Leaves r0 r2 w0 w1 (Given steady settings (λ read written. Serves settings first.disk (Err (session.Target fault)) read store.disk written))
+finish_stops steady settings fault first now store r0 r1 r2 w0 w1 up read =
+    let s = end_stops steady settings first now store r0 r1 r2 w0 w1 up read in (s.0, s.1, s.2, s.3, λ range h. any_fault settings first.disk fault s.0 store.disk s.1 (s.4 range h))
 
--- memory ran out before anything was read
+-- a fault that a call of feed answers
+pub fault_stops : (steady : Type 0) (settings : Settings) (fault : TargetFault) (first : Store) (now new : Connection) (store after : Store) (r0 r1 r2 w0 w1 w2 : Option (List ℕ)) (piece out : List ℕ)
+    → ServedUpTo steady settings first now store r0 r1 w0 w1 → Consumes r1 r2 piece → Fed now store [] piece (Err fault) new after out → (steady → after.failures ≡ store.failures) → Appends w1 w2 out
+    → Leaves r0 r2 w0 w2 (Given steady settings (λ read written. Serves settings first.disk (Err (session.Target fault)) read after.disk written))
+fault_stops steady settings faults.NoMemory first now new store after r0 r1 r2 w0 w1 w2 piece out up read one same wrote = memory_stops steady settings first now store r0 r1 r2 w0 w1 w2 piece out up read wrote
+fault_stops steady settings (faults.Stream fault) first now new store after r0 r1 r2 w0 w1 w2 piece out up read one same wrote =
+    stops steady settings first new after r0 r2 w0 w2 (served_more steady settings first now new store after r0 r1 r2 w0 w1 w2 piece out (Err (faults.Stream fault)) up read one (λ h. record { memory = λ e. cc; device = same h }) wrote)
+fault_stops steady settings (faults.Protocol rule) first now new store after r0 r1 r2 w0 w1 w2 piece out up read one same wrote =
+    stops steady settings first new after r0 r2 w0 w2 (served_more steady settings first now new store after r0 r1 r2 w0 w1 w2 piece out (Err (faults.Protocol rule)) up read one (λ h. record { memory = λ e. cc; device = same h }) wrote)
+fault_stops steady settings faults.Closed first now new store after r0 r1 r2 w0 w1 w2 piece out up read one same wrote =
+    stops steady settings first new after r0 r2 w0 w2 (served_more steady settings first now new store after r0 r1 r2 w0 w1 w2 piece out (Err faults.Closed) up read one (λ h. record { memory = λ e. cc; device = same h }) wrote)
+
+-- a phase that a call of feed answers
+pub phase_more : (steady : Type 0) (settings : Settings) (phase : Phase) (first : Store) (now new : Connection) (store after : Store) (r0 r1 r2 w0 w1 w2 : Option (List ℕ)) (piece out : List ℕ)
+    → ServedUpTo steady settings first now store r0 r1 w0 w1 → Consumes r1 r2 piece → Fed now store [] piece (Ok phase) new after out → (steady → after.failures ≡ store.failures) → Appends w1 w2 out
+    → ServedUpTo steady settings first new after r0 r2 w0 w2
+phase_more steady settings phase first now new store after r0 r1 r2 w0 w1 w2 piece out up read one same wrote =
+    served_more steady settings first now new store after r0 r1 r2 w0 w1 w2 piece out (Ok phase) up read one (λ h. record { memory = λ e. cc; device = same h }) wrote
+
+-- ---- over a socket
+
+pub fault_served : (settings : Settings) (disk : Disk) (fault : SessionFault) (read : List ℕ) (disk_now : Disk) (written : List ℕ) → Serves settings disk (Err fault) read disk_now written
+    → ServesOne settings disk (Err (session_fault fault)) read disk_now written
+fault_served settings disk (session.Target faults.NoMemory) read disk_now written a = tt
+fault_served settings disk (session.Target (faults.Stream fault)) read disk_now written a = a
+fault_served settings disk (session.Target (faults.Protocol rule)) read disk_now written a = a
+fault_served settings disk (session.Target faults.Closed) read disk_now written a = a
+fault_served settings disk session.Read read disk_now written a = a
+fault_served settings disk session.Write read disk_now written a = tt
+
+-- ---- a filter
+
+-- nothing was read or written
 pub nothing_read : (blocks : ℕ) (r w : Option (List ℕ)) → Leaves r r w w (AnswersBytes blocks (Err tool.NoMemory))
 nothing_read blocks r w = ([], [], Consumes-nil r, Appends-nil w, tt)

@@ -1,5 +1,5 @@
 -- The line that is due for bytes.
-use Rattle.std.proofs.Common.{false, true, ◌≡◌, ℕ, ◌<◌, ◌≤◌, List, [], ◌++◌, length, Result, Ok, Err, refl, sym, ap, subst, ◌∙◌, append-nil, arith}
+use Rattle.std.proofs.Common.{false, true, ◌≡◌, ℕ, ◌<◌, ◌≤◌, List, [], ◌++◌, length, Result, Ok, Err, sym, ap, subst, ◌∙◌, append-nil, arith}
 use Rattle.std.proofs.lemmas.List.{length-append}
 use Rattle.iscsi_text.specs.declared.fault.TextFault.{TextFault}
 use Rattle.iscsi_text.specs.Fault.{IsFirstFault}
@@ -11,10 +11,10 @@ use Rattle.iscsi_stream.specs.declared.counts.Counts.{Counts}
 use Rattle.iscsi_stream.specs.Stream.{Message, StreamMeans, Splits, longest_segment}
 use Rattle.iscsi_stream.specs.Canonical.{canon}
 use Rattle.iscsi_stream.specs.Normalising.{Parts, Wrote, RestFails, AreCounts, AtEnd}
-use Rattle.iscsi_stream.specs.Texts.{CanonicalOf, TextFails, longest_text}
+use Rattle.iscsi_stream.specs.Texts.{CanonicalOf, longest_text}
 use Rattle.iscsi_stream.proofs.Meaning.{splits_more}
 use Rattle.iscsi_tool.specs.HexText.{hex_line}
-use Rattle.iscsi_tool.specs.Filtering.{Outcome, IsLine}
+use Rattle.iscsi_tool.specs.Filtering.{IsLine}
 
 all_read : (source read rest : List ℕ) → source ≡ read ++ rest → rest ≡ [] → source ≡ read
 all_read source read rest parts none = parts ∙ ap (λ (x : List ℕ). read ++ x) none ∙ append-nil read

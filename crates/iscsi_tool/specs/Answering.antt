@@ -1,17 +1,19 @@
 -- What a target answers to a stream (RFC 7143, sections 6 and 11; the target's settings are own profile).
 use Rattle.std.specs.Prelude.{◌≡◌, ℕ, List, Result, Ok, Err, codes}
-use Rattle.scsi_disk.specs.Disk.{zeros}
+use Rattle.scsi_disk.specs.Disk.{Disk, zeros}
 use Rattle.iscsi_stream.specs.declared.fault.ToolFault.{ToolFault}
 use Rattle.iscsi_stream.specs.declared.fault.ToolFault.TheVariants as tool
 use Rattle.iscsi_stream.specs.Stream.{Message, Splits, longest_segment}
 use Rattle.iscsi_stream.specs.Canonical.{canon}
 use Rattle.iscsi_login.specs.Negotiation.{standard}
-use Rattle.iscsi_target.specs.declared.fault.TargetFault.{TargetFault}
 use Rattle.iscsi_target.specs.declared.fault.TargetFault.TheVariants as faults
 use Rattle.iscsi_target.specs.Configured.{Settings}
-use Rattle.iscsi_target.specs.State.{opening}
+use Rattle.iscsi_target.specs.State.{Execution, opening}
 use Rattle.iscsi_target.specs.Machine.{answers}
-use Rattle.iscsi_target.specs.Feed.{Store}
+use Rattle.iscsi_target.specs.Feed.{Writes}
+use Rattle.iscsi_target.specs.Laws.{Leads}
+use Rattle.iscsi_tool.specs.declared.answering.SessionFault.{SessionFault}
+use Rattle.iscsi_tool.specs.declared.answering.SessionFault.TheVariants as session
 
 -- what the target of the programs is configured with
 abbrev pub target_settings : Settings
@@ -22,16 +24,47 @@ target_settings = record {
   preferences = standard;
 }
 
--- a store with so many blocks of 00
-abbrev pub blank_store : ℕ → Store
-blank_store blocks = record { disk = zeros blocks; failures = 0 }
+-- ---- a session over any store
 
--- the fault of a filter for that of its target
-abbrev pub filter_fault : TargetFault → ToolFault
-filter_fault faults.NoMemory = tool.NoMemory
-filter_fault (faults.Stream fault) = tool.Stream fault
-filter_fault (faults.Protocol rule) = tool.Protocol rule
-filter_fault faults.Closed = tool.Read
+-- the device of no store of a type fails
+abbrev pub NeverFails : {S : Type 0} → (S → ℕ) → Type 0
+NeverFails failures = (s : _) → failures s ≡ 0
+
+-- Commands that were executed, one after another, lead from one disk to another.
+abbrev pub HasExecuted : Disk → Disk → Type 0
+HasExecuted before after = (executed : List Execution) × Leads before executed after
+
+-- The target has answered all PDUs of what was read: of its longest prefix in the profile. What is written and the
+-- blocks are those that they lead to.
+abbrev pub ServesAll : Settings → Disk → List ℕ → Disk → List ℕ → Type 0
+ServesAll settings disk read disk_now written =
+    (ms : List Message) (given rest : List ℕ) → Splits longest_segment read ms given rest
+    → Writes settings 1 disk ms disk_now written
+
+-- What a session leaves where it ends. After want of memory, or where a write failed, nothing is said of it.
+abbrev pub Serves : Settings → Disk → Result (Unit {0}) SessionFault → List ℕ → Disk → List ℕ → Type 0
+Serves settings disk (Ok done) read disk_now written = ServesAll settings disk read disk_now written
+Serves settings disk (Err (session.Target (faults.Stream fault))) read disk_now written =
+    ServesAll settings disk read disk_now written
+Serves settings disk (Err (session.Target (faults.Protocol rule))) read disk_now written =
+    ServesAll settings disk read disk_now written
+Serves settings disk (Err (session.Target faults.Closed)) read disk_now written =
+    ServesAll settings disk read disk_now written
+Serves settings disk (Err session.Read) read disk_now written =
+    ServesAll settings disk read disk_now written
+Serves settings disk (Err (session.Target faults.NoMemory)) read disk_now written = Unit {0}
+Serves settings disk (Err session.Write) read disk_now written = Unit {0}
+
+-- ---- a filter
+
+-- the fault of a filter for that of its session
+abbrev pub filter_fault : SessionFault → ToolFault
+filter_fault (session.Target faults.NoMemory) = tool.NoMemory
+filter_fault (session.Target (faults.Stream fault)) = tool.Stream fault
+filter_fault (session.Target (faults.Protocol rule)) = tool.Protocol rule
+filter_fault (session.Target faults.Closed) = tool.Read
+filter_fault session.Read = tool.Read
+filter_fault session.Write = tool.Write
 
 -- The answers of the target to all PDUs of what was read are written: of its longest prefix in the profile.
 abbrev pub AnswersAll : ℕ → List ℕ → List ℕ → Type 0

@@ -1,11 +1,16 @@
 -- Sessions over a socket: what ends them, and the exit status that says it.
-use Rattle.std.specs.Prelude.{ℕ}
+use Rattle.std.specs.Prelude.{◌≡◌, ℕ, List, Result, Ok, Err}
+use Rattle.scsi_disk.specs.Disk.{Disk}
 use Rattle.iscsi_target.specs.declared.fault.TargetFault.{TargetFault}
 use Rattle.iscsi_target.specs.declared.fault.TargetFault.TheVariants as target
+use Rattle.iscsi_target.specs.Configured.{Settings}
 use Rattle.iscsi_initiator.specs.declared.fault.InitiatorFault.{InitiatorFault}
 use Rattle.iscsi_initiator.specs.declared.fault.InitiatorFault.TheVariants as initiator
+use Rattle.iscsi_tool.specs.declared.answering.SessionFault.{SessionFault}
+use Rattle.iscsi_tool.specs.declared.answering.SessionFault.TheVariants as session
 use Rattle.iscsi_tool.specs.declared.serve_fault.ServeFault.{ServeFault}
 use Rattle.iscsi_tool.specs.declared.serve_fault.ServeFault.TheVariants as serve
+use Rattle.iscsi_tool.specs.Answering.{ServesAll}
 
 -- the exit status that says a fault: 1 refused, 3 memory, 4 reading, writing and the network (own profile)
 abbrev pub exit_status : ServeFault → ℕ
@@ -32,3 +37,28 @@ initiator_fault (initiator.Protocol rule) = serve.Initiator (initiator.Protocol 
 initiator_fault (initiator.Refused status detail) = serve.Initiator (initiator.Refused status detail)
 initiator_fault (initiator.BadAnswer key) = serve.Initiator (initiator.BadAnswer key)
 initiator_fault initiator.Closed = serve.Initiator initiator.Closed
+
+-- a session's fault, likewise
+abbrev pub session_fault : SessionFault → ServeFault
+session_fault (session.Target fault) = target_fault fault
+session_fault session.Read = serve.Read
+session_fault session.Write = serve.Write
+
+-- What a session over a socket leaves where it ends: nothing is done where no connection was accepted. After want of
+-- memory, or where a write failed, nothing is said of it.
+abbrev pub ServesOne : Settings → Disk → Result (Unit {0}) ServeFault → List ℕ → Disk → List ℕ → Type 0
+ServesOne settings disk (Ok done) read disk_now written = ServesAll settings disk read disk_now written
+ServesOne settings disk (Err (serve.Target fault)) read disk_now written = ServesAll settings disk read disk_now written
+ServesOne settings disk (Err serve.Read) read disk_now written = ServesAll settings disk read disk_now written
+ServesOne settings disk (Err serve.Network) read disk_now written = disk_now ≡ disk
+ServesOne settings disk (Err serve.NoMemory) read disk_now written = Unit {0}
+ServesOne settings disk (Err serve.Write) read disk_now written = Unit {0}
+ServesOne settings disk (Err (serve.Initiator fault)) read disk_now written = ⊥
+ServesOne settings disk (Err (serve.Script line)) read disk_now written = ⊥
+
+-- the faults that end a service; Write is that of its own line
+abbrev pub EndsService : ServeFault → Type 0
+EndsService serve.NoMemory = Unit {0}
+EndsService serve.Network = Unit {0}
+EndsService serve.Write = Unit {0}
+EndsService _ = ⊥

@@ -2,12 +2,13 @@
 
 ghost use Rattle.std.specs.Prelude.{◌≡◌, ◌<◌, ◌≤◌, ℕ, List, IfOk};
 ghost use Rattle.std.specs.Io.KnownBytes.{Appends, Consumes};
-ghost use Rattle.iscsi_tool.specs.Answering.{filter_fault, target_settings, AnswersBytes};
+ghost use Rattle.iscsi_login.specs.Negotiation.{IsInRange};
+ghost use Rattle.iscsi_tool.specs.Answering.{filter_fault, target_settings, AnswersBytes, HasExecuted, NeverFails, Serves};
 
 use iscsi_login::{Phase, Preferences};
 use iscsi_stream::{PIECE, READS, ToolFault, write_fully};
 use iscsi_target::{Config, Target, TargetFault};
-use scsi_disk::SparseStore;
+use scsi_disk::{BlockStore, SparseStore};
 use std::alloc::{AllocError, Global};
 use std::io::{Read, Write};
 
@@ -26,6 +27,17 @@ pub fn configuration(alloc: Global) -> Result<Config, AllocError>
 {
     // Name and numbers are in range, so memory alone can be wanting.
     Config::new(alloc, NAME, GROUP, TSIH, Preferences::standard()).map_err(|_| AllocError)
+}
+
+/// Why a session over a stream ends before its time.
+#[derive(Clone, Copy, Debug, PartialEq, Eq)]
+pub enum SessionFault {
+    /// The target refuses what its initiator sent, or memory ran out.
+    Target(TargetFault),
+    /// A read failed, or there were 16,777,216 of them.
+    Read,
+    /// A write failed, or took no byte.
+    Write,
 }
 
 /// Writes the answers of a target, with a disk of so many blocks of 00, to the stream that a reader
@@ -48,41 +60,76 @@ pub fn answer<R: Read, W: Write>(
         × Appends (W.contents w.old) (W.contents w.new) written
         × AnswersBytes blocks result read written }
 {
+    let config = configuration(alloc)?;
     let mut store = SparseStore::new(alloc, blocks);
-    let mut target = Target::new(alloc, configuration(alloc)?, FIRST_STAT_SN);
+    match serve_stream(alloc, config, &mut store, r, w) {
+        Ok(()) => Ok(()),
+        Err(fault) => Err(filter_fault(fault)),
+    }
+}
+
+// The fault of a filter. A closed session is not fed, and would be read no more.
+fn filter_fault(fault: SessionFault) -> ToolFault
+    ensures fault { result ≡ filter_fault fault }
+{
+    match fault {
+        SessionFault::Target(TargetFault::NoMemory) => ToolFault::NoMemory,
+        SessionFault::Target(TargetFault::Stream(fault)) => ToolFault::Stream(fault),
+        SessionFault::Target(TargetFault::Protocol(rule)) => ToolFault::Protocol(rule),
+        SessionFault::Target(TargetFault::Closed) | SessionFault::Read => ToolFault::Read,
+        SessionFault::Write => ToolFault::Write,
+    }
+}
+
+/// Runs the session of a target with a store over a stream: takes what a reader gives, in reads of at
+/// most 4,096 bytes, and writes the answers; what one read leads to goes out in one write. It stops
+/// where the session is closed, by a logout or a refused login, and where the stream ends.
+///
+/// What is written are the answers to all PDUs of what was read, and the store has the blocks that
+/// they leave, but after want of memory and a failed write. Answers `Target` where the stream ends
+/// within a PDU, where the target refuses the stream or where memory ran out, after the answers that
+/// were due; `Read` where a read fails or 16,777,216 of them did not reach the end; `Write` where a
+/// write fails or takes no byte.
+pub fn serve_stream<S: BlockStore, R: Read, W: Write>(
+    alloc: Global,
+    config: Config,
+    store: &mut S,
+    r: &mut R,
+    w: &mut W,
+) -> Result<(), SessionFault>
+    // The preferences of each configuration are in range.
+    ensures serves { (read : List ℕ) × (written : List ℕ)
+        × Consumes (R.remaining r.old) (R.remaining r.new) read
+        × Appends (W.contents w.old) (W.contents w.new) written
+        × (IsInRange config.preferences → NeverFails S.failures
+        → Serves config (S.disk store.old) result read (S.disk store.new) written) }
+    // Whatever comes of it, the blocks are those that commands left.
+    ensures blocks { HasExecuted (S.disk store.old) (S.disk store.new) }
+{
+    let mut target = Target::new(alloc, config, FIRST_STAT_SN);
     let mut out = Vec::new(alloc);
     let mut buffer = [0u8; PIECE];
     for _ in 0..READS {
         let n = match r.read(&mut buffer) {
             Ok(n) => n,
-            Err(_) => return Err(ToolFault::Read),
+            Err(_) => return Err(SessionFault::Read),
         };
         if n == 0 {
             if let Err(fault) = target.finish() {
-                return Err(filter_fault(fault));
+                return Err(SessionFault::Target(fault));
             }
             return Ok(());
         }
         out.clear();
-        let fed = target.feed(&buffer[..n], &mut store, &mut out);
-        write_fully(w, &out)?;
+        let fed = target.feed(&buffer[..n], store, &mut out);
+        if let Err(_) = write_fully(w, &out) {
+            return Err(SessionFault::Write);
+        }
         match fed {
             Ok(Phase::Closed) => return Ok(()),
             Ok(Phase::Login | Phase::Full) => {}
-            Err(fault) => return Err(filter_fault(fault)),
+            Err(fault) => return Err(SessionFault::Target(fault)),
         }
     }
-    Err(ToolFault::Read)
-}
-
-// The fault of a filter. A closed session is not fed, and would be read no more.
-fn filter_fault(fault: TargetFault) -> ToolFault
-    ensures fault { result ≡ filter_fault fault }
-{
-    match fault {
-        TargetFault::NoMemory => ToolFault::NoMemory,
-        TargetFault::Stream(fault) => ToolFault::Stream(fault),
-        TargetFault::Protocol(rule) => ToolFault::Protocol(rule),
-        TargetFault::Closed => ToolFault::Read,
-    }
+    Err(SessionFault::Read)
 }

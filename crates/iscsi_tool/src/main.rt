@@ -1,10 +1,11 @@
-//! The command `lanthovur`: shows, normalises and answers iSCSI byte streams.
+//! The command `lanthovur`: shows, normalises and answers iSCSI byte streams, and serves a disk.
 #![tactic(auto)]
 
 mod answering;
 mod filter;
 mod hex_text;
 mod serve_fault;
+mod serving;
 #[cfg(test)]
 mod tests;
 mod words;
@@ -13,6 +14,8 @@ ghost use Rattle.std.specs.Prelude.{IfOk};
 ghost use Rattle.iscsi_tool.specs.Filtering.{HasDisk, IsJob};
 
 use crate::filter::{Filter, run_filter};
+use crate::serve_fault::ServeFault;
+use crate::serving::serve;
 use crate::words::{Job, LineFault, read_words};
 use iscsi_stream::ToolFault;
 use std::process::ExitCode;
@@ -57,9 +60,30 @@ fn run(rt: &HostRuntime, filter: Filter) -> ExitCode
     }
 }
 
+/// The exit status of a run over sockets; the line of its fault goes to the standard error.
+fn ended(rt: &HostRuntime, outcome: Result<(), ServeFault>) -> ExitCode {
+    match outcome {
+        Ok(()) => ExitCode::SUCCESS,
+        Err(fault) => {
+            let _ = eprintln!(rt; "{fault}");
+            ExitCode::from(fault.status())
+        }
+    }
+}
+
 fn main(rt: HostRuntime) -> ExitCode {
     match job_of(&rt) {
         Ok(Job::Filter(filter)) => run(&rt, filter),
+        Ok(
+            Job::Serve {
+                port,
+                blocks,
+                sessions,
+            },
+        ) => {
+            let result = serve(&rt, port, blocks, sessions);
+            ended(&rt, result)
+        }
         Err(LineFault::NoMemory) => {
             let _ = eprintln!(rt; "memory");
             ExitCode::from(3)

@@ -3,6 +3,7 @@
 ghost use Rattle.std.specs.Prelude.{◌≡◌};
 ghost use Rattle.iscsi_tool.specs.Serving.{exit_status};
 
+use crate::answering::SessionFault;
 use iscsi_initiator::InitiatorFault;
 use iscsi_target::TargetFault;
 use std::alloc::AllocError;
@@ -83,6 +84,21 @@ impl From<InitiatorFault> for ServeFault {
         match fault {
             InitiatorFault::NoMemory => ServeFault::NoMemory,
             fault => ServeFault::Initiator(fault),
+        }
+    }
+}
+
+impl From<SessionFault> for ServeFault {
+    ghost use Rattle.std.specs.Prelude.{◌≡◌};
+    ghost use Rattle.iscsi_tool.specs.Serving.{session_fault};
+
+    ghost from_gives = { λ fault e. e ≡ session_fault fault };
+
+    fn from(fault: SessionFault) -> ServeFault {
+        match fault {
+            SessionFault::Target(fault) => ServeFault::from(fault),
+            SessionFault::Read => ServeFault::Read,
+            SessionFault::Write => ServeFault::Write,
         }
     }
 }

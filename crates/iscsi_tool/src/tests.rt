@@ -1,6 +1,7 @@
 //! Runs of the filters and readings of words.
 
 mod answers;
+mod serving;
 mod session;
 
 use crate::filter::{Filter, Work, run_filter};
@@ -106,7 +107,56 @@ fn words_that_are_a_job(rt: HostRuntime) -> Result<(), Fail> {
     for (words, want) in rows {
         match read_words(rt.alloc(), words) {
             Ok(Job::Filter(filter)) => assert_eq!(rt; filter, want, "{words:?}"),
-            Err(_) => assert!(rt; false, "{words:?}"),
+            Ok(Job::Serve { .. }) | Err(_) => assert!(rt; false, "{words:?}"),
+        }
+    }
+    Ok(())
+}
+
+#[test]
+fn words_of_a_service(rt: HostRuntime) -> Result<(), Fail> {
+    let rows = [
+        (
+            [
+                "serve",
+                "--port",
+                "3260",
+                "--blocks",
+                "2048",
+                "--sessions",
+                "5",
+            ]
+            .as_slice(),
+            (3260, 2048, 5),
+        ),
+        (
+            ["serve", "--sessions=0", "--blocks=1", "--port=0"].as_slice(),
+            (0, 1, 0),
+        ),
+        (
+            [
+                "serve",
+                "--port",
+                "65535",
+                "--sessions",
+                "065535",
+                "--blocks",
+                "65536",
+            ]
+            .as_slice(),
+            (65_535, 65_536, 65_535),
+        ),
+    ];
+    for (words, want) in rows {
+        match read_words(rt.alloc(), words) {
+            Ok(
+                Job::Serve {
+                    port,
+                    blocks,
+                    sessions,
+                },
+            ) => { assert_eq!(rt; (port, blocks, sessions), want, "{words:?}") }
+            Ok(Job::Filter(_)) | Err(_) => assert!(rt; false, "{words:?}"),
         }
     }
     Ok(())
@@ -143,6 +193,75 @@ fn words_that_are_no_job(rt: HostRuntime) -> Result<(), Fail> {
         ["normalise", "--blocks", "8"].as_slice(),
         ["loop"].as_slice(),
         ["serve", "--port", "0"].as_slice(),
+        ["serve", "--port", "0", "--blocks", "1"].as_slice(),
+        ["serve", "--blocks", "1", "--sessions", "1"].as_slice(),
+        ["serve", "--port", "0", "--sessions", "1"].as_slice(),
+        [
+            "serve",
+            "--port",
+            "65536",
+            "--blocks",
+            "1",
+            "--sessions",
+            "1",
+        ]
+        .as_slice(),
+        ["serve", "--port", "-1", "--blocks", "1", "--sessions", "1"].as_slice(),
+        ["serve", "--port", "+1", "--blocks", "1", "--sessions", "1"].as_slice(),
+        ["serve", "--port", "", "--blocks", "1", "--sessions", "1"].as_slice(),
+        [
+            "serve",
+            "--port",
+            "0x10",
+            "--blocks",
+            "1",
+            "--sessions",
+            "1",
+        ]
+        .as_slice(),
+        ["serve", "--port", "0", "--blocks", "0", "--sessions", "1"].as_slice(),
+        [
+            "serve",
+            "--port",
+            "0",
+            "--blocks",
+            "65537",
+            "--sessions",
+            "1",
+        ]
+        .as_slice(),
+        [
+            "serve",
+            "--port",
+            "0",
+            "--blocks",
+            "1",
+            "--sessions",
+            "65536",
+        ]
+        .as_slice(),
+        [
+            "serve",
+            "--port",
+            "0",
+            "--blocks",
+            "1",
+            "--sessions",
+            "1",
+            "--hex",
+        ]
+        .as_slice(),
+        [
+            "serve",
+            "--port",
+            "0",
+            "--blocks",
+            "1",
+            "--sessions",
+            "1",
+            "2",
+        ]
+        .as_slice(),
         ["--port", "0"].as_slice(),
         ["--help"].as_slice(),
         ["show", "--help"].as_slice(),

@@ -16,6 +16,15 @@ use std::convert::AsStr;
 pub enum Job {
     /// A filter from the standard input to the standard output.
     Filter(Filter),
+    /// A target's service on 127.0.0.1.
+    Serve {
+        /// The port; 0 is one that the system picks.
+        port: u16,
+        /// How many blocks of 512 bytes the disk has, 1 to 65536.
+        blocks: u64,
+        /// How many connections are served, one after another.
+        sessions: u16,
+    },
 }
 
 /// Why words are refused.
@@ -82,26 +91,58 @@ fn normalise_program<'a>(alloc: Global) -> Result<Command<'a>, AllocError> {
     .arg(text)
 }
 
-fn answer_program<'a>(alloc: Global) -> Result<Command<'a>, AllocError> {
-    let blocks = Arg::new(alloc, "blocks")
-        .long("blocks")
-        .value_name("N")
+// A number that has to be given.
+fn number<'a>(alloc: Global, name: &'a str, value: &'a str, help: &'a str) -> Arg<'a> {
+    Arg::new(alloc, name)
+        .long(name)
+        .value_name(value)
         .required(true)
         .action(ArgAction::Set)
-        .help("how many blocks of 512 bytes the target's disk has, 1 to 65536");
+        .help(help)
+}
+
+fn blocks<'a>(alloc: Global) -> Arg<'a> {
+    number(
+        alloc,
+        "blocks",
+        "N",
+        "how many blocks of 512 bytes the target's disk has, 1 to 65536",
+    )
+}
+
+fn answer_program<'a>(alloc: Global) -> Result<Command<'a>, AllocError> {
     program(
         alloc,
         "answer",
         "Writes a target's answers to the standard input",
     )?
-    .arg(blocks)
+    .arg(blocks(alloc))
+}
+
+fn serve_program<'a>(alloc: Global) -> Result<Command<'a>, AllocError> {
+    Command::new(alloc, "serve")
+        .about("Serves a target's disk on 127.0.0.1, one connection after another")
+        .disable_version_flag(true)
+        .arg(number(
+            alloc,
+            "port",
+            "P",
+            "the port, 0 to 65535; 0 is one that the system picks",
+        ))?
+        .arg(blocks(alloc))?
+        .arg(number(
+            alloc,
+            "sessions",
+            "n",
+            "how many connections are served, 0 to 65535",
+        ))
 }
 
 fn command<'a>(alloc: Global) -> Result<Command<'a>, AllocError> {
     Command::new(alloc, "lanthovur")
         .about(
-            "Shows, normalises and answers iSCSI byte streams; with no words it does 'normalise \
-            --hex'.",
+            "Shows, normalises and answers iSCSI byte streams, and serves a disk; with no words it \
+            does 'normalise --hex'.",
         )
         .no_binary_name(true)
         .disable_version_flag(true)
@@ -113,7 +154,8 @@ fn command<'a>(alloc: Global) -> Result<Command<'a>, AllocError> {
             "Writes a line for each PDU of the standard input",
         )?)?
         .subcommand(normalise_program(alloc)?)?
-        .subcommand(answer_program(alloc)?)
+        .subcommand(answer_program(alloc)?)?
+        .subcommand(serve_program(alloc)?)
 }
 
 /// The job that the words of a command line ask for, without the program's name. Words that are no job, and those that
@@ -134,6 +176,9 @@ pub fn read_words<S: AsStr>(alloc: Global, words: &[S]) -> Result<Job, LineFault
     let Some((name, asked)) = matches.subcommand() else {
         return Ok(UNASKED);
     };
+    if name == "serve" {
+        return service_of(alloc, asked);
+    }
     Ok(Job::Filter(Filter {
         work: work_of(alloc, name, asked)?,
         hex: asked.get_flag("hex"),
@@ -149,13 +194,48 @@ fn work_of(alloc: Global, name: &str, asked: &ArgMatches<'_>) -> Result<Work, Li
     if name == "answer" {
         return match asked.get_str("blocks").and_then(blocks_of) {
             Some(blocks) => Ok(Work::Answer { blocks }),
-            None => Err(bad_blocks(alloc)),
+            None => Err(bad_number(alloc, answer_program(alloc), BAD_BLOCKS)),
         };
     }
     if asked.get_flag("text") {
         return Ok(Work::Text);
     }
     Ok(Work::Normalise)
+}
+
+fn service_of(alloc: Global, asked: &ArgMatches<'_>) -> Result<Job, LineFault>
+    ensures disk { IfOk result IsJob }
+{
+    let Some(port) = asked.get_str("port").and_then(number_of) else {
+        return Err(bad_number(
+            alloc,
+            serve_program(alloc),
+            "'--port <P>' is a number from 0 to 65535",
+        ));
+    };
+    let Some(blocks) = asked.get_str("blocks").and_then(blocks_of) else {
+        return Err(bad_number(alloc, serve_program(alloc), BAD_BLOCKS));
+    };
+    let Some(sessions) = asked.get_str("sessions").and_then(number_of) else {
+        return Err(bad_number(
+            alloc,
+            serve_program(alloc),
+            "'--sessions <n>' is a number from 0 to 65535",
+        ));
+    };
+    Ok(Job::Serve {
+        port,
+        blocks,
+        sessions,
+    })
+}
+
+// The number that digits say, up to 65535.
+fn number_of(digits: &str) -> Option<u16> {
+    if !digits.bytes().all(|c| c.is_ascii_digit()) {
+        return None;
+    }
+    digits.parse::<u16>().ok()
 }
 
 // The number of blocks that digits say, from 1 to 65536.
@@ -171,14 +251,14 @@ fn blocks_of(digits: &str) -> Option<u64>
     }
 }
 
-fn bad_blocks(alloc: Global) -> LineFault {
-    let Ok(mut program) = answer_program(alloc) else {
+const BAD_BLOCKS: &str = "'--blocks <N>' is a number from 1 to 65536";
+
+// What a program says of a number that is none of its own.
+fn bad_number(alloc: Global, program: Result<Command<'_>, AllocError>, text: &str) -> LineFault {
+    let Ok(mut program) = program else {
         return LineFault::NoMemory;
     };
-    match program.error(
-        ErrorKind::ValueValidation,
-        "'--blocks <N>' is a number from 1 to 65536",
-    ) {
+    match program.error(ErrorKind::ValueValidation, text) {
         Ok(error) => usage(alloc, error),
         Err(_) => LineFault::NoMemory,
     }
