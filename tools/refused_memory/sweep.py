@@ -6,13 +6,15 @@ PDUs or lines, of `answer` all answers to some first PDUs, and nothing of a line
 allocations for 1, 2 and 1000 PDUs of 4,096 bytes, which are the same where the segment buffer is kept.
 
 The sessions of `answer` are the dialogues of iscsi_target's tests, with the answers that stand there, and one that reads
-back the eight blocks of its write. A session ends where memory is refused, and its disk with the program. So from outside
+back the eight blocks of its write. Two of them also go over a socket to `serve`, whose service ends where memory is
+refused, after the answers that were due. A session ends where memory is refused, and its disk with the program. So from outside
 one sees that the answers stop before those of the PDU that memory was refused for: no R2T and no response comes for it or
 after it, and no read shows a part of a write. That the eight blocks are then all old or all new is a clause: `fed` of
 `Target::feed`, by which such a PDU leaves the blocks as they were.
 """
 import os
 import re
+import socket
 import subprocess
 import sys
 import tempfile
@@ -32,15 +34,44 @@ READ_BACK = """\
 = full"""
 
 
+def refusing(fail_at):
+    return {**os.environ, "LD_PRELOAD": f"{ROOM}/refuse.so", "FAIL_LOG": f"{ROOM}/log", "FAIL_AT": str(fail_at)}
+
+
+def told():
+    count, refused = open(f"{ROOM}/log").read().split()
+    return int(count), refused == "1"
+
+
 def run(words, data, fail_at=0):
     """From a file, so that reads are cut in the same way each time."""
-    env = {**os.environ, "LD_PRELOAD": f"{ROOM}/refuse.so", "FAIL_LOG": f"{ROOM}/log", "FAIL_AT": str(fail_at)}
+    env = refusing(fail_at)
     with open(f"{ROOM}/input", "wb") as file:
         file.write(data)
     with open(f"{ROOM}/input", "rb") as file:
         ran = subprocess.run([PROGRAM, *words], stdin=file, env=env, capture_output=True)
-    count, refused = open(f"{ROOM}/log").read().split()
-    return (ran.returncode, ran.stdout, ran.stderr), int(count), refused == "1"
+    return (ran.returncode, ran.stdout, ran.stderr), *told()
+
+
+def run_service(words, data, fail_at=0):
+    """Over a connection, if it comes to one; the output is what came back over it."""
+    with socket.create_server(("127.0.0.1", 0)) as free:
+        port = free.getsockname()[1]
+    words = [*words, "--port", str(port)]
+    came = b""
+    pipes = {"stdout": subprocess.PIPE, "stderr": subprocess.PIPE}
+    with subprocess.Popen([PROGRAM, *words], env=refusing(fail_at), **pipes) as service:
+        if service.stdout.readline() == b"listening\n":
+            with socket.create_connection(("127.0.0.1", port)) as peer:
+                try:
+                    peer.sendall(data)
+                    peer.shutdown(socket.SHUT_WR)
+                    while part := peer.recv(4096):
+                        came += part
+                except (ConnectionResetError, BrokenPipeError):
+                    pass
+        err = service.stderr.read()
+    return (service.returncode, came, err), *told()
 
 
 def ends(stream):
@@ -103,7 +134,7 @@ def dialogues():
         yield name, came, stops, due, status
 
 
-def sweep(name, words, data, stops=None):
+def sweep(name, words, data, stops=None, run=run):
     """Refuses each allocation of a run in turn, and answers how many runs ended wrongly."""
     ample, count, _ = run(words, data)
     stops = (places(words, ample[1]) if stops is None else stops) | {len(ample[1])}
@@ -143,6 +174,7 @@ def main():
         failed += sweep(f"answer, {name}", answer, came, stops)
         if name in ("login", "reads back a write"):
             failed += sweep(f"answer --hex, {name}", [*answer, "--hex"], came.hex().encode())
+            failed += sweep(f"serve, {name}", ["serve", "--blocks", "2048", "--sessions", "1"], came, stops, run_service)
     long_pdu = ping[:5] + (4048).to_bytes(3, "big") + ping[8:48] + bytes(4048)
     counts = [run(["normalise"], long_pdu * n)[1] for n in (1, 2, 1000)]
     print(f"allocations for 1, 2 and 1000 PDUs: {counts}")
