@@ -2,3 +2,5 @@ pub mod HexText
 pub mod Answering
 pub mod Filtering
 pub mod Serving
+pub mod Commands
+pub mod Script

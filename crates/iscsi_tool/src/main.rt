@@ -2,8 +2,10 @@
 #![tactic(auto)]
 
 mod answering;
+mod command;
 mod filter;
 mod hex_text;
+mod script;
 mod serve_fault;
 mod serving;
 #[cfg(test)]
