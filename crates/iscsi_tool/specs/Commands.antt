@@ -1,5 +1,5 @@
 -- The requests that the commands of a script are (SPC-4 and SBC-3; which there are is own profile).
-use Rattle.std.specs.Prelude.{ℕ, ◌*◌, ◌^◌, false, replicate}
+use Rattle.std.specs.Prelude.{ℕ, ◌*◌, ◌^◌, Bool, true, false, replicate}
 use Rattle.scsi_cdb.specs.declared.block.Cdb.{Cdb}
 use Rattle.scsi_cdb.specs.declared.block.Cdb.TheVariants as cdb
 use Rattle.scsi_cdb.specs.declared.block.Transfer10.{Transfer10}
@@ -38,3 +38,14 @@ request_of (Read logical_block_address blocks) = asked 0 (cdb.Read10 (transfer l
 request_of (Write logical_block_address blocks byte) = written logical_block_address blocks byte
 request_of (Ping bytes) = requests.Ping bytes
 request_of Logout = requests.Logout
+
+-- the command ends the session
+abbrev pub is_logout : Command → Bool
+is_logout (TestUnitReady unit) = false
+is_logout (Inquiry unit allocation_length) = false
+is_logout Capacity = false
+is_logout Luns = false
+is_logout (Read logical_block_address blocks) = false
+is_logout (Write logical_block_address blocks byte) = false
+is_logout (Ping bytes) = false
+is_logout Logout = true

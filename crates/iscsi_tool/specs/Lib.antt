@@ -4,3 +4,5 @@ pub mod Filtering
 pub mod Serving
 pub mod Commands
 pub mod Script
+pub mod Reports
+pub mod Looping

@@ -3,7 +3,7 @@
 ghost use Rattle.std.specs.Prelude.{◌≡◌, false, IfOk};
 ghost use Rattle.scsi_cdb.specs.declared.block.Cdb.TheVariants as cdb;
 ghost use Rattle.scsi_cdb.specs.Blocks.{Fits};
-ghost use Rattle.iscsi_tool.specs.Commands.{request_of, asked, written, transfer};
+ghost use Rattle.iscsi_tool.specs.Commands.{request_of, is_logout, asked, written, transfer};
 
 use iscsi_initiator::Request;
 use scsi_cdb::{Bytes, Cdb, Transfer10};
@@ -51,6 +51,13 @@ pub enum Command {
 }
 
 impl Command {
+    /// Whether it ends the session.
+    pub fn is_logout(&self) -> bool
+        ensures { result ≡ is_logout self.now }
+    {
+        matches!(self, Command::Logout)
+    }
+
     /// What an initiator is asked for: the command's descriptor block, and as many bytes as it can
     /// give (SPC-4 and SBC-3). The unit's number is byte 1 of the LUN (SAM-5, section 4.7).
     pub fn into_request(self, alloc: Global) -> Result<Request, AllocError>

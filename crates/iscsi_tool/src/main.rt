@@ -5,11 +5,14 @@ mod answering;
 mod command;
 mod filter;
 mod hex_text;
+mod looping;
+mod report;
 mod script;
 mod serve_fault;
 mod serving;
 #[cfg(test)]
 mod tests;
+mod wire;
 mod words;
 
 ghost use Rattle.std.specs.Prelude.{IfOk};

@@ -1,6 +1,7 @@
 //! Runs of the filters and readings of words.
 
 mod answers;
+mod loops;
 mod serving;
 mod session;
 

@@ -1,0 +1,169 @@
+//! Loops of both ends over a socket: scripts, and the lines that they write.
+
+use crate::looping::run_loop;
+use crate::serve_fault::ServeFault;
+use crate::tests::{Broken, Full};
+use std::process::Abort;
+use std::test::Fail;
+
+// A write, reads and a logout, worked out by hand from the tables of SPC-4 and SBC-3.
+const BLOCKS: &[u8] = b"write 0 8 5a\nread 0 1\ncapacity\nread 2047 2\nlogout\n";
+
+const BLOCKS_LINES: &[u8] = b"login\ngood 0\ngood 512 5a5a5a5a5a5a5a5a5a5a5a5a5a5a5a5a\n\
+    good 8 000007ff00000200\ncheck 5/21/00 under 1024\nlogout\n";
+
+const UNITS: &[u8] = b"inquiry 0 5\ninquiry 1 36\ntur 1\nluns\nping 6162\nlogout\n";
+
+const UNITS_LINES: &[u8] = b"login\ngood 5 000006121f\n\
+    good 36 7f0006121f000002564552494449534b\ncheck 5/25/00\n\
+    good 16 00000008000000000000000000000000\nping 6162\nlogout\n";
+
+#[test]
+fn loops_over_a_socket(rt: HostRuntime) -> Result<(), Fail> {
+    let rows = [
+        ("blocks", BLOCKS, 1, BLOCKS_LINES),
+        ("blocks", BLOCKS, 47, BLOCKS_LINES),
+        ("blocks", BLOCKS, 48, BLOCKS_LINES),
+        ("blocks", BLOCKS, 4096, BLOCKS_LINES),
+        ("units", UNITS, 48, UNITS_LINES),
+        ("no line", b"".as_slice(), 48, b"login\n".as_slice()),
+        (
+            "no logout, no line end, no block",
+            b"tur 000\nread 002048 0".as_slice(),
+            48,
+            b"login\ngood 0\ngood 0\n".as_slice(),
+        ),
+        (
+            "a line behind the logout",
+            b"logout\nwrite 0 1 Aa\n".as_slice(),
+            48,
+            b"login\nlogout\n".as_slice(),
+        ),
+        (
+            "less and more than expected",
+            b"inquiry 0 65535\ninquiry 255 96\nwrite 2048 1 fF\n".as_slice(),
+            48,
+            b"login\ngood 36 000006121f000002564552494449534b under 65499\n\
+            good 36 7f0006121f000002564552494449534b under 60\ncheck 5/21/00 under 512\n"
+                .as_slice(),
+        ),
+    ];
+    for (name, script, piece, want) in rows {
+        let mut out = Vec::new(rt.alloc());
+        let mut source = script;
+        let result = run_loop(&rt, 2048, piece, &mut source, &mut out);
+        assert!(rt; result.is_ok(), "{name}");
+        assert_eq!(rt; out.as_slice(), want, "{name} in pieces of {piece}");
+    }
+    Ok(())
+}
+
+#[test]
+fn lines_that_are_refused(rt: HostRuntime) -> Result<(), Fail> {
+    let rows = [
+        b"".as_slice(),
+        b" ",
+        b"Tur 0",
+        b"tur",
+        b"tur ",
+        b"tur  0",
+        b"tur 0 ",
+        b" tur 0",
+        b"tur 0\r",
+        b"tur\t0",
+        b"tur +0",
+        b"tur -1",
+        b"tur 0x1",
+        b"tur 256",
+        b"tur 18446744073709551616",
+        b"tur 0 0",
+        b"inquiry 0",
+        b"inquiry 0 65536",
+        b"inquiry 256 36",
+        b"capacity 0",
+        b"capacity ",
+        b"luns 0",
+        b"read 0",
+        b"read 0 8193",
+        b"read 4294967296 1",
+        b"read 0 1 5a",
+        b"write 0 8",
+        b"write 0 8193 5a",
+        b"write 0 8 5",
+        b"write 0 8 5a5",
+        b"write 0 8 5g",
+        b"write 0 8 5a 5a",
+        b"ping",
+        b"ping ",
+        b"ping 6",
+        b"ping 616",
+        b"ping 6z",
+        b"ping 61 62",
+        b"logout 0",
+        b"sync 0 0",
+    ];
+    for line in rows {
+        let mut script = Vec::from_slice(rt.alloc(), b"tur 0\n")?;
+        script.extend_from_slice(line)?;
+        script.extend_from_slice(b"\nlogout\n")?;
+        let mut out = Vec::new(rt.alloc());
+        let result = run_loop(&rt, 8, 48, &mut script.as_slice(), &mut out);
+        assert!(rt; matches!(result, Err(ServeFault::Script(2))), "{line:?}");
+        assert_eq!(rt; out.len(), 0, "{line:?}");
+    }
+    Ok(())
+}
+
+// A script of one ping of so many bytes.
+fn ping(rt: &impl Abort, script: &mut Vec<u8>, bytes: usize) -> Result<(), Fail> {
+    script.clear();
+    script.extend_from_slice(b"ping ")?;
+    script.resize(5 + 2 * bytes, b'0')?;
+    assert_eq!(rt; script.len(), 5 + 2 * bytes);
+    Ok(())
+}
+
+#[test]
+fn the_longest_ping(rt: HostRuntime) -> Result<(), Fail> {
+    let mut script = Vec::new(rt.alloc());
+    let mut out = Vec::new(rt.alloc());
+    ping(&rt, &mut script, 8193)?;
+    let result = run_loop(&rt, 8, 4096, &mut script.as_slice(), &mut out);
+    assert!(rt; matches!(result, Err(ServeFault::Script(1))));
+    assert_eq!(rt; out.len(), 0);
+    ping(&rt, &mut script, 8192)?;
+    let result = run_loop(&rt, 8, 4096, &mut script.as_slice(), &mut out);
+    assert!(rt; result.is_ok());
+    assert_eq!(rt; out.len(), 6 + 5 + 16384 + 1);
+    Ok(())
+}
+
+#[test]
+fn the_longest_script(rt: HostRuntime) -> Result<(), Fail> {
+    let mut script = Vec::from_slice(rt.alloc(), b"bad\n")?;
+    script.resize(1_048_576, b' ')?;
+    let mut out = Vec::new(rt.alloc());
+    let result = run_loop(&rt, 8, 48, &mut script.as_slice(), &mut out);
+    assert!(rt; matches!(result, Err(ServeFault::Script(1))));
+    // One byte more, of the second line, and of the third.
+    script.push(b'\n')?;
+    let result = run_loop(&rt, 8, 48, &mut script.as_slice(), &mut out);
+    assert!(rt; matches!(result, Err(ServeFault::Script(2))));
+    script[1_048_575] = b'\n';
+    let result = run_loop(&rt, 8, 48, &mut script.as_slice(), &mut out);
+    assert!(rt; matches!(result, Err(ServeFault::Script(3))));
+    assert_eq!(rt; out.len(), 0);
+    Ok(())
+}
+
+#[test]
+fn scripts_and_lines_that_fail(rt: HostRuntime) -> Result<(), Fail> {
+    let mut out = Vec::new(rt.alloc());
+    let result = run_loop(&rt, 8, 48, &mut Broken(Some(b"tur 0\n")), &mut out);
+    assert!(rt; matches!(result, Err(ServeFault::Read)));
+    assert_eq!(rt; out.len(), 0);
+    let mut source = b"tur 0\n".as_slice();
+    let result = run_loop(&rt, 8, 48, &mut source, &mut Full);
+    assert!(rt; matches!(result, Err(ServeFault::Write)));
+    Ok(())
+}
