@@ -83,6 +83,7 @@ HasDisk _ = Unit {0}
 abbrev pub IsJob : Job → Type 0
 IsJob (job.Filter filter) = HasDisk filter.work
 IsJob (job.Serve port blocks sessions) = (0 < blocks) × (blocks ≤ 65536)
+IsJob (job.Loop blocks piece) = (0 < blocks) × (blocks ≤ 65536) × (0 < piece) × (piece ≤ 4096)
 
 -- so it is, but for answers, which end where the session is closed
 abbrev pub ReadsOn : Work → Type 0 → Type 0

@@ -1,4 +1,5 @@
-//! The command `lanthovur`: shows, normalises and answers iSCSI byte streams, and serves a disk.
+//! The command `lanthovur`: shows, normalises and answers iSCSI byte streams, serves a disk, and runs both ends of a
+//! session.
 #![tactic(auto)]
 
 mod answering;
@@ -19,6 +20,7 @@ ghost use Rattle.std.specs.Prelude.{IfOk};
 ghost use Rattle.iscsi_tool.specs.Filtering.{HasDisk, IsJob};
 
 use crate::filter::{Filter, run_filter};
+use crate::looping::run_loop;
 use crate::serve_fault::ServeFault;
 use crate::serving::serve;
 use crate::words::{Job, LineFault, read_words};
@@ -87,6 +89,12 @@ fn main(rt: HostRuntime) -> ExitCode {
             },
         ) => {
             let result = serve(&rt, port, blocks, sessions);
+            ended(&rt, result)
+        }
+        Ok(Job::Loop { blocks, piece }) => {
+            let mut input = rt.stdin();
+            let mut output = rt.stdout();
+            let result = run_loop(&rt, blocks, piece as usize, &mut input, &mut output);
             ended(&rt, result)
         }
         Err(LineFault::NoMemory) => {

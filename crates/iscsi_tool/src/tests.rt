@@ -108,7 +108,7 @@ fn words_that_are_a_job(rt: HostRuntime) -> Result<(), Fail> {
     for (words, want) in rows {
         match read_words(rt.alloc(), words) {
             Ok(Job::Filter(filter)) => assert_eq!(rt; filter, want, "{words:?}"),
-            Ok(Job::Serve { .. }) | Err(_) => assert!(rt; false, "{words:?}"),
+            Ok(Job::Serve { .. } | Job::Loop { .. }) | Err(_) => assert!(rt; false, "{words:?}"),
         }
     }
     Ok(())
@@ -157,7 +157,7 @@ fn words_of_a_service(rt: HostRuntime) -> Result<(), Fail> {
                     sessions,
                 },
             ) => { assert_eq!(rt; (port, blocks, sessions), want, "{words:?}") }
-            Ok(Job::Filter(_)) | Err(_) => assert!(rt; false, "{words:?}"),
+            Ok(Job::Filter(_) | Job::Loop { .. }) | Err(_) => assert!(rt; false, "{words:?}"),
         }
     }
     Ok(())

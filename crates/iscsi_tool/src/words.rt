@@ -25,6 +25,13 @@ pub enum Job {
         /// How many connections are served, one after another.
         sessions: u16,
     },
+    /// Both ends of a session over a socket, as a script on the standard input says.
+    Loop {
+        /// How many blocks of 512 bytes the target's disk has, 1 to 65536.
+        blocks: u64,
+        /// The most bytes that are written before they are read, 1 to 4096.
+        piece: u32,
+    },
 }
 
 /// Why words are refused.
@@ -50,6 +57,9 @@ impl<T: Drop> From<AllocFailed<T>> for LineFault {
 
 /// The most blocks that the disk of a target has.
 const MOST_BLOCKS: u64 = 65_536;
+
+/// The most bytes of a piece.
+const LONGEST_PIECE: u32 = 4096;
 
 /// What is done with no words.
 const UNASKED: Job = Job::Filter(Filter {
@@ -138,11 +148,24 @@ fn serve_program<'a>(alloc: Global) -> Result<Command<'a>, AllocError> {
         ))
 }
 
+fn loop_program<'a>(alloc: Global) -> Result<Command<'a>, AllocError> {
+    Command::new(alloc, "loop")
+        .about("Does what a script on the standard input says, with both ends over a socket")
+        .disable_version_flag(true)
+        .arg(blocks(alloc))?
+        .arg(number(
+            alloc,
+            "piece",
+            "k",
+            "the most bytes that are written before they are read, 1 to 4096",
+        ))
+}
+
 fn command<'a>(alloc: Global) -> Result<Command<'a>, AllocError> {
     Command::new(alloc, "lanthovur")
         .about(
-            "Shows, normalises and answers iSCSI byte streams, and serves a disk; with no words it \
-            does 'normalise --hex'.",
+            "Shows, normalises and answers iSCSI byte streams, serves a disk, and runs both ends of \
+            a session; with no words it does 'normalise --hex'.",
         )
         .no_binary_name(true)
         .disable_version_flag(true)
@@ -155,7 +178,8 @@ fn command<'a>(alloc: Global) -> Result<Command<'a>, AllocError> {
         )?)?
         .subcommand(normalise_program(alloc)?)?
         .subcommand(answer_program(alloc)?)?
-        .subcommand(serve_program(alloc)?)
+        .subcommand(serve_program(alloc)?)?
+        .subcommand(loop_program(alloc)?)
 }
 
 /// The job that the words of a command line ask for, without the program's name. Words that are no job, and those that
@@ -163,7 +187,7 @@ fn command<'a>(alloc: Global) -> Result<Command<'a>, AllocError> {
 pub fn read_words<S: AsStr>(alloc: Global, words: &[S]) -> Result<Job, LineFault>
     ensures unasked { words.now ≡ [] →
         result ≡ Ok (job.Filter (record { work = Normalise; hex = true })) }
-    // A disk has 1 to 65536 blocks.
+    // A disk has 1 to 65536 blocks, and a piece 1 to 4096 bytes.
     ensures disk { IfOk result IsJob }
 {
     if words.is_empty() {
@@ -178,6 +202,9 @@ pub fn read_words<S: AsStr>(alloc: Global, words: &[S]) -> Result<Job, LineFault
     };
     if name == "serve" {
         return service_of(alloc, asked);
+    }
+    if name == "loop" {
+        return loop_of(alloc, asked);
     }
     Ok(Job::Filter(Filter {
         work: work_of(alloc, name, asked)?,
@@ -228,6 +255,35 @@ fn service_of(alloc: Global, asked: &ArgMatches<'_>) -> Result<Job, LineFault>
         blocks,
         sessions,
     })
+}
+
+fn loop_of(alloc: Global, asked: &ArgMatches<'_>) -> Result<Job, LineFault>
+    ensures disk { IfOk result IsJob }
+{
+    let blocks = asked.get_str("blocks").and_then(blocks_of);
+    let piece = asked.get_str("piece").and_then(piece_of);
+    match (blocks, piece) {
+        (Some(blocks), Some(piece)) => Ok(Job::Loop { blocks, piece }),
+        (None, _) => Err(bad_number(alloc, loop_program(alloc), BAD_BLOCKS)),
+        (Some(_), None) => Err(bad_number(
+            alloc,
+            loop_program(alloc),
+            "'--piece <k>' is a number from 1 to 4096",
+        )),
+    }
+}
+
+// The number of bytes that digits say, from 1 to 4096.
+fn piece_of(digits: &str) -> Option<u32>
+    ensures range { IfSome result (λ n. (0 < n) × (n ≤ 4096)) }
+{
+    if !digits.bytes().all(|c| c.is_ascii_digit()) {
+        return None;
+    }
+    match digits.parse::<u32>() {
+        Ok(piece) if 0 < piece && piece <= LONGEST_PIECE => Some(piece),
+        _ => None,
+    }
 }
 
 // The number that digits say, up to 65535.

@@ -3,6 +3,7 @@
 use crate::looping::run_loop;
 use crate::serve_fault::ServeFault;
 use crate::tests::{Broken, Full};
+use crate::words::{Job, LineFault, read_words};
 use std::process::Abort;
 use std::test::Fail;
 
@@ -165,5 +166,51 @@ fn scripts_and_lines_that_fail(rt: HostRuntime) -> Result<(), Fail> {
     let mut source = b"tur 0\n".as_slice();
     let result = run_loop(&rt, 8, 48, &mut source, &mut Full);
     assert!(rt; matches!(result, Err(ServeFault::Write)));
+    Ok(())
+}
+
+#[test]
+fn words_of_a_loop(rt: HostRuntime) -> Result<(), Fail> {
+    let rows = [
+        (
+            ["loop", "--blocks", "2048", "--piece", "48"].as_slice(),
+            (2048, 48),
+        ),
+        (["loop", "--piece=1", "--blocks=1"].as_slice(), (1, 1)),
+        (
+            ["loop", "--piece", "04096", "--blocks", "65536"].as_slice(),
+            (65_536, 4096),
+        ),
+    ];
+    for (words, want) in rows {
+        match read_words(rt.alloc(), words) {
+            Ok(Job::Loop { blocks, piece }) => assert_eq!(rt; (blocks, piece), want, "{words:?}"),
+            Ok(_) | Err(_) => assert!(rt; false, "{words:?}"),
+        }
+    }
+    Ok(())
+}
+
+#[test]
+fn words_of_no_loop(rt: HostRuntime) -> Result<(), Fail> {
+    let rows = [
+        ["loop", "--blocks", "2048", "--piece", "0"].as_slice(),
+        ["loop", "--blocks", "2048", "--piece", "4097"].as_slice(),
+        ["loop", "--blocks", "2048", "--piece", "+1"].as_slice(),
+        ["loop", "--blocks", "2048", "--piece", ""].as_slice(),
+        ["loop", "--blocks", "0", "--piece", "1"].as_slice(),
+        ["loop", "--blocks", "65537", "--piece", "1"].as_slice(),
+        ["loop", "--blocks", "2048"].as_slice(),
+        ["loop", "--piece", "1"].as_slice(),
+        ["loop", "--blocks", "1", "--piece", "1", "--hex"].as_slice(),
+        ["loop", "--blocks", "1", "--piece", "1", "--piece", "1"].as_slice(),
+        ["serve", "--blocks", "1", "--piece", "1"].as_slice(),
+    ];
+    for words in rows {
+        match read_words(rt.alloc(), words) {
+            Err(LineFault::Usage(text)) => assert!(rt; text.ends_with("\n"), "{words:?}"),
+            Err(LineFault::NoMemory) | Ok(_) => assert!(rt; false, "{words:?}"),
+        }
+    }
     Ok(())
 }
