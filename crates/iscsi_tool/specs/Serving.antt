@@ -56,9 +56,8 @@ ServesOne settings disk (Err serve.Write) read disk_now written = Unit {0}
 ServesOne settings disk (Err (serve.Initiator fault)) read disk_now written = ⊥
 ServesOne settings disk (Err (serve.Script line)) read disk_now written = ⊥
 
--- the faults that end a service; Write is that of its own line
+-- the faults of a session that end the service
 abbrev pub EndsService : ServeFault → Type 0
 EndsService serve.NoMemory = Unit {0}
 EndsService serve.Network = Unit {0}
-EndsService serve.Write = Unit {0}
 EndsService _ = ⊥

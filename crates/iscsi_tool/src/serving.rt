@@ -1,6 +1,6 @@
 //! A target's service on a socket: one connection after another, over one store.
 
-ghost use Rattle.std.specs.Prelude.{◌≡◌, ◌<◌, ◌≤◌, ℕ, List, IfErr};
+ghost use Rattle.std.specs.Prelude.{◌≡◌, ◌<◌, ◌≤◌, ◌⊎◌, ℕ, List, IfErr};
 ghost use Rattle.iscsi_tool.specs.Answering.{HasExecuted, NeverFails};
 ghost use Rattle.iscsi_tool.specs.Serving.{ServesOne, EndsService};
 
@@ -44,11 +44,20 @@ pub fn serve_one<S: BlockStore>(
 /// many blocks of 00. Port 0 is one that the system picks.
 ///
 /// A session that ends with a fault has the fault's line on standard error, and the next one is served. Only want of
-/// memory and a fault of the network end the service, or that `listening` cannot be printed.
+/// memory and a fault of the network end the service; `Write` is answered where `listening` cannot be printed.
 pub fn serve(rt: &HostRuntime, port: u16, blocks: u64, sessions: u16) -> Result<(), ServeFault>
     requires some { 0 < blocks }
     requires few { blocks ≤ 65536 }
-    ensures ends { IfErr result EndsService }
+    ensures ends { IfErr result (λ fault. EndsService fault ⊎ (fault ≡ ServeFault.Write)) }
+{
+    let listener = listen(rt, port)?;
+    serve_all(rt, &listener, blocks, sessions)
+}
+
+// A listener, which is announced. It alone answers Write.
+fn listen(rt: &HostRuntime, port: u16) -> Result<TcpListener, ServeFault>
+    ensures fault { IfErr result
+        (λ fault. (fault ≡ ServeFault.Network) ⊎ (fault ≡ ServeFault.Write)) }
 {
     let Ok(listener) = TcpListener::bind(rt, (Ipv4Addr::LOCALHOST, port)) else {
         return Err(ServeFault::Network);
@@ -56,10 +65,24 @@ pub fn serve(rt: &HostRuntime, port: u16, blocks: u64, sessions: u16) -> Result<
     if println!(rt; "listening").is_err() {
         return Err(ServeFault::Write);
     }
-    let mut store = SparseStore::new(rt.alloc(), blocks);
+    Ok(listener)
+}
+
+// So many sessions, over one store.
+fn serve_all(
+    rt: &HostRuntime,
+    listener: &TcpListener,
+    blocks: u64,
+    sessions: u16,
+) -> Result<(), ServeFault>
+    requires some { 0 < blocks }
+    requires few { blocks ≤ 65536 }
+    ensures ends { IfErr result EndsService }
+{
+    let alloc = rt.alloc();
+    let mut store = SparseStore::new(alloc, blocks);
     for _ in 0..sessions {
-        let config = configuration(rt.alloc())?;
-        match serve_one(rt.alloc(), &listener, &mut store, config) {
+        match serve_one(alloc, listener, &mut store, configuration(alloc)?) {
             Ok(()) => {}
             Err(fault @ (ServeFault::NoMemory | ServeFault::Network)) => return Err(fault),
             Err(fault) => {
