@@ -2,6 +2,7 @@
 //! PDU, with its header in hex and, behind an apostrophe, the text of its segment, in which `|` stands
 //! for a byte 00. The padding is left out.
 
+use super::{Broken, Full};
 use crate::filter::{Filter, Work, run_filter};
 use iscsi_stream::{StreamFault, ToolFault};
 use std::alloc::Global;
@@ -99,5 +100,24 @@ fn answers_to_streams(rt: HostRuntime) -> Result<(), Fail> {
         due_line.push(b'\n')?;
         assert_eq!(rt; line.as_slice(), due_line.as_slice(), "{name}");
     }
+    Ok(())
+}
+
+#[test]
+fn a_reader_and_a_writer_that_fail(rt: HostRuntime) -> Result<(), Fail> {
+    let filter = Filter {
+        work: Work::Answer { blocks: 8 },
+        hex: false,
+    };
+    let requests = bytes_of(rt.alloc(), REQUESTS)?;
+    let answers = bytes_of(rt.alloc(), ANSWERS)?;
+    // What was read is answered before the read that fails.
+    let mut out = Vec::new(rt.alloc());
+    let result = run_filter(rt.alloc(), filter, &mut Broken(Some(&requests)), &mut out);
+    assert_eq!(rt; result, Err(ToolFault::Read));
+    assert_eq!(rt; out.as_slice(), answers.as_slice());
+    let mut source = requests.as_slice();
+    let result = run_filter(rt.alloc(), filter, &mut source, &mut Full);
+    assert_eq!(rt; result, Err(ToolFault::Write));
     Ok(())
 }
