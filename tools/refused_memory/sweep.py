@@ -2,8 +2,9 @@
 """Refuses each allocation of the built program in turn, and looks at what it answers and has written then.
 
 Each run ends as with ample memory, or with status 3, the line `memory`, and a part of the output that is due: whole
-PDUs or lines, of `answer` all answers to some first PDUs, and nothing of a line of hex or a text. It also counts the
-allocations for 1, 2 and 1000 PDUs of 4,096 bytes, which are the same where the segment buffer is kept.
+PDUs or lines, of `answer` all answers to some first PDUs, and nothing of a line of hex or a text. Two runs are of `loop`,
+with a script of each command and one that is refused. It also counts the allocations for 1, 2 and 1000 PDUs of 4,096
+bytes, which are the same where the segment buffer is kept.
 
 The sessions of `answer` are the dialogues of iscsi_target's tests, with the answers that stand there, and one that reads
 back the eight blocks of its write. Two of them also go over a socket to `serve`, whose service ends where memory is
@@ -32,6 +33,20 @@ READ_BACK = """\
 < 25800000 00000400 00000000 00000000 00000003 ffffffff 00000000 00000004 00000004 00000003 00000c00 00000000 5a*1024
 < 21800000 00000000 00000000 00000000 00000003 00000000 00000005 00000004 00000004 00000004 00000000 00000000
 = full"""
+
+
+# A script of each command, with a write that goes out in several PDUs.
+SCRIPT = b"""\
+tur 0
+inquiry 0 36
+capacity
+luns
+write 0 200 5a
+read 0 200
+read 2048 1
+ping 6162
+logout
+"""
 
 
 def refusing(fail_at):
@@ -86,7 +101,7 @@ def ends(stream):
 
 def places(words, whole):
     """The lengths at which this output may stop."""
-    if "show" in words:
+    if "show" in words or "loop" in words:
         return {0} | {at + 1 for at, byte in enumerate(whole) if byte == 10}
     return ends(whole) if words == ["normalise"] else {0}
 
@@ -163,7 +178,8 @@ def main():
         ([], ping.hex().encode()), (["normalise"], ping), (["normalise"], session), (["normalise", "--hex"], session.hex().encode()),
         (["show"], session), (["show", "--hex"], session.hex().encode()), (["normalise", "--text"], text),
         (["normalise", "--text", "--hex"], text.hex().encode()), (["normalise"], ping + ping[:47]), (["normalise", "--hex"], b"4g"),
-        (["normalise", "--text"], b"A=1"), (["serve"], b""),
+        (["normalise", "--text"], b"A=1"), (["serve"], b""), (["loop", "--blocks", "2048", "--piece", "4096"], SCRIPT),
+        (["loop", "--blocks", "8", "--piece", "48"], b"tur 0\nread 0\n"),
     ]
     failed = sum(sweep(" ".join(words), words, data) for words, data in cases)
     answer = ["answer", "--blocks", "2048"]

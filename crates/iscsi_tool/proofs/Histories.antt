@@ -22,7 +22,8 @@ use Rattle.std.specs.List.{flat_map}
 use Rattle.std.proofs.lemmas.List.Concat.{flat_map-append}
 use Rattle.iscsi_tool.specs.declared.command.Command.{Command}
 use Rattle.iscsi_tool.specs.Commands.{request_of, is_logout}
-use Rattle.iscsi_tool.specs.Looping.{Continues, HaveOutcomes, FirstHaveOutcomes, IsOfSession, WritesNothing, Stops, Loops, StopsWithin, DoesScript, transcript, initiator_settings, up_to_logout, reports, Runs}
+use Rattle.iscsi_tool.specs.Looping.{HaveOutcomes, FirstHaveOutcomes, Loops, StopsWithin, transcript, initiator_settings, up_to_logout, reports}
+use Rattle.iscsi_tool.specs.LoopSteps.{Continues, IsOfSession, WritesNothing, Stops, Runs}
 use Rattle.iscsi_tool.specs.Reports.{report}
 use Rattle.iscsi_tool.specs.Script.{IsScript, ScriptFails}
 use Rattle.iscsi_tool.specs.declared.serve_fault.ServeFault.{ServeFault}

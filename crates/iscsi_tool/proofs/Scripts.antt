@@ -9,7 +9,7 @@ use Rattle.std.proofs.lemmas.List.Elements.{recursion_from_All}
 use Rattle.iscsi_text.specs.Text.{HasNo}
 use Rattle.iscsi_text.specs.Inside.{SplitsAt}
 use Rattle.iscsi_tool.specs.declared.command.Command.{Command}
-use Rattle.iscsi_tool.specs.Script.{parted, number, number_behind, lines_of, begin, meaning, meanings, AreCommands, IsFirstBad}
+use Rattle.iscsi_tool.specs.Script.{parted, number, number_behind, lines_of, begin, meaning, meanings, AreCommands, IsFirstBad, IsInRange, AreInRange}
 
 -- ---- parts
 
@@ -104,6 +104,11 @@ commands_more script rest line more commands command so_far lines is =
     moved : (cs : List Command) → map Some cs ++ Some command ∷ meanings more ≡ map Some (cs ++ command ∷ []) ++ meanings more
     moved [] = refl
     moved (c ∷ cs) = ap (λ (os : List (Option Command)). Some c ∷ os) (moved cs)
+
+-- one command more is in range
+pub one_more_in_range : (commands : List Command) (command : Command) → AreInRange commands → IsInRange command → AreInRange (commands ++ command ∷ [])
+one_more_in_range [] command all is = (is, tt)
+one_more_in_range (c ∷ commands) command all is = (all.0, one_more_in_range commands command all.1 is)
 
 -- the first line that means nothing
 pub commands_stop : (script rest line more : List ℕ) (commands : List Command) → meanings script ≡ map Some commands ++ meanings rest → lines_of rest ≡ line ∷ lines_of more → meaning line ≡ None

@@ -1,5 +1,5 @@
 -- Scripts: lines of words, and the command that each line means (own profile).
-use Rattle.std.specs.Prelude.{◌≡◌, ◌≤◌, ◌<◌, ◌⊎◌, ℕ, ◌+◌, ◌-◌, ◌*◌, ◌==◌, ◌&&◌, if◌then◌else◌, nat_le, nat_lt, List, [], ◌∷◌, ◌++◌, length, take, map, count_by, Option, Some, None, Result, Ok, Err, codes}
+use Rattle.std.specs.Prelude.{◌≡◌, ◌≤◌, ◌<◌, ◌⊎◌, ℕ, ◌+◌, ◌-◌, ◌*◌, ◌^◌, ◌==◌, ◌&&◌, if◌then◌else◌, nat_le, nat_lt, List, [], ◌∷◌, ◌++◌, length, take, map, count_by, Option, Some, None, Result, Ok, Err, codes}
 use Rattle.std.specs.Char.{is_ascii_digit}
 use Rattle.std.specs.Str.{bytes_eq}
 use Rattle.hex.specs.Hex.{decode_of, decode_sized}
@@ -93,6 +93,22 @@ ping_of (Err fault) = None
 -- `HEX`: the bytes
 abbrev pub ping : List ℕ → Option Command
 ping word = ping_of (decode_of word)
+
+-- the numbers of a command are within these bounds
+abbrev pub IsInRange : Command → Type 0
+IsInRange (TestUnitReady unit) = unit < 256
+IsInRange (Inquiry unit allocation_length) = (unit < 256) × (allocation_length < 65536)
+IsInRange Capacity = Unit {0}
+IsInRange Luns = Unit {0}
+IsInRange (Read logical_block_address blocks) = (logical_block_address < 2 ^ 32) × (blocks ≤ 8192)
+IsInRange (Write logical_block_address blocks byte) = (logical_block_address < 2 ^ 32) × (blocks ≤ 8192) × (byte < 256)
+IsInRange (Ping bytes) = (0 < length bytes) × (length bytes ≤ 8192)
+IsInRange Logout = Unit {0}
+
+-- so they are in each command
+abbrev pub AreInRange : List Command → Type 0
+AreInRange [] = Unit {0}
+AreInRange (command ∷ commands) = IsInRange command × AreInRange commands
 
 -- ---- lines
 

@@ -7,7 +7,8 @@ ghost use Rattle.iscsi_initiator.specs.Calls.{opening_connection};
 ghost use Rattle.iscsi_initiator.specs.declared.request.Done.{Done};
 ghost use Rattle.iscsi_tool.specs.Reports.{report};
 ghost use Rattle.iscsi_tool.specs.Commands.{request_of};
-ghost use Rattle.iscsi_tool.specs.Looping.{initiator_settings, Continues, IsOfSession, Runs, Stops, WritesNothing, Loops};
+ghost use Rattle.iscsi_tool.specs.Looping.{initiator_settings, Loops};
+ghost use Rattle.iscsi_tool.specs.LoopSteps.{Continues, IsOfSession, Runs, Stops, WritesNothing};
 
 use crate::answering::configuration;
 use crate::command::Command;

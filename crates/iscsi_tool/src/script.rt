@@ -6,7 +6,7 @@ ghost use Rattle.std.specs.Io.KnownBytes.{Consumes, IsAtEnd};
 ghost use Rattle.iscsi_text.specs.Text.{HasNo};
 ghost use Rattle.iscsi_text.specs.Inside.{SplitsAt};
 ghost use Rattle.iscsi_tool.specs.Script.{parted, number, byte_of, test_unit_ready, inquiry, read, write, ping, alone, followed, meaning, lines_of, longest_script};
-ghost use Rattle.iscsi_tool.specs.Script.{AreCommands, IsTooLongAt, LinesFail, IsScript, ScriptFails};
+ghost use Rattle.iscsi_tool.specs.Script.{AreCommands, IsTooLongAt, LinesFail, IsScript, ScriptFails, IsInRange, AreInRange};
 
 use crate::command::Command;
 use crate::serve_fault::ServeFault;
@@ -52,6 +52,7 @@ pub fn read_script<R: Read>(alloc: Global, r: &mut R) -> Result<Vec<Command>, Se
     ensures ok { IfOk result (λ commands. (script : List ℕ)
         × Consumes (R.remaining r.old) (R.remaining r.new) script × IsAtEnd (R.remaining r.new)
         × IsScript script commands.items) }
+    ensures ranges { IfOk result (λ commands. AreInRange commands.items) }
     ensures err { IfErr result (λ fault. (script : List ℕ)
         × Consumes (R.remaining r.old) (R.remaining r.new) script × ScriptFails fault script) }
 {
@@ -98,6 +99,7 @@ fn too_long_at(script: &[u8]) -> u64
 #[tactic(auto, using(crate::proofs::Scripts::commands_more, crate::proofs::Scripts::commands_stop, crate::proofs::Scripts::commands_end))]
 fn commands(alloc: Global, script: &[u8]) -> Result<Vec<Command>, ServeFault>
     ensures ok { IfOk result (λ commands. AreCommands script.now commands.items) }
+    ensures ranges { IfOk result (λ commands. AreInRange commands.items) }
     ensures err { IfErr result (λ fault. LinesFail fault script.now) }
 {
     let mut commands = Vec::new(alloc);
@@ -151,7 +153,8 @@ fn split_at_byte(bytes: &[u8], byte: u8) -> Option<(&[u8], &[u8])>
 
 // The command that a line means.
 fn command_of(alloc: Global, line: &[u8]) -> Result<Option<Command>, AllocError>
-    ensures { IfOk result (λ command. command ≡ meaning line.now) }
+    ensures means { IfOk result (λ command. command ≡ meaning line.now) }
+    ensures range { IfOk result (λ command. IfSome command IsInRange) }
 {
     let (name, words) = parted(line, b' ');
     let Some(words) = words else {
@@ -165,7 +168,8 @@ fn command_of(alloc: Global, line: &[u8]) -> Result<Option<Command>, AllocError>
 
 // A command of one word.
 fn alone(name: &[u8]) -> Option<Command>
-    ensures { result ≡ alone name.now }
+    ensures means { result ≡ alone name.now }
+    ensures range { IfSome result IsInRange }
 {
     if name == CAPACITY {
         return Some(Command::Capacity);
@@ -182,7 +186,8 @@ fn alone(name: &[u8]) -> Option<Command>
 // A command of several words, but for a ping.
 fn followed(name: &[u8], words: &[u8]) -> Option<Command>
     requires { bytes_eq name.now (codes "ping") ≡ false }
-    ensures { result ≡ followed name.now words.now }
+    ensures means { result ≡ followed name.now words.now }
+    ensures range { IfSome result IsInRange }
 {
     if name == TEST_UNIT_READY {
         return test_unit_ready(words);
@@ -200,14 +205,16 @@ fn followed(name: &[u8], words: &[u8]) -> Option<Command>
 }
 
 fn test_unit_ready(words: &[u8]) -> Option<Command>
-    ensures { result ≡ test_unit_ready words.now }
+    ensures means { result ≡ test_unit_ready words.now }
+    ensures range { IfSome result IsInRange }
 {
     let unit = number(words, 255)? as u8;
     Some(Command::TestUnitReady { unit })
 }
 
 fn inquiry(words: &[u8]) -> Option<Command>
-    ensures { result ≡ inquiry words.now }
+    ensures means { result ≡ inquiry words.now }
+    ensures range { IfSome result IsInRange }
 {
     let (unit, others) = parted(words, b' ');
     let unit = number(unit, 255)? as u8;
@@ -219,7 +226,8 @@ fn inquiry(words: &[u8]) -> Option<Command>
 }
 
 fn read(words: &[u8]) -> Option<Command>
-    ensures { result ≡ read words.now }
+    ensures means { result ≡ read words.now }
+    ensures range { IfSome result IsInRange }
 {
     let (first, others) = parted(words, b' ');
     let logical_block_address = number(first, u32::MAX)?;
@@ -231,7 +239,8 @@ fn read(words: &[u8]) -> Option<Command>
 }
 
 fn write(words: &[u8]) -> Option<Command>
-    ensures { result ≡ write words.now }
+    ensures means { result ≡ write words.now }
+    ensures range { IfSome result IsInRange }
 {
     let (first, others) = parted(words, b' ');
     let logical_block_address = number(first, u32::MAX)?;
@@ -247,7 +256,8 @@ fn write(words: &[u8]) -> Option<Command>
 
 // A ping, whose bytes are taken into memory.
 fn ping(alloc: Global, digits: &[u8]) -> Result<Option<Command>, AllocError>
-    ensures { IfOk result (λ command. command ≡ ping digits.now) }
+    ensures means { IfOk result (λ command. command ≡ ping digits.now) }
+    ensures range { IfOk result (λ command. IfSome command IsInRange) }
 {
     match hex::decode(alloc, digits) {
         Ok(bytes) if !bytes.is_empty() && bytes.len() <= LONGEST_PING => {

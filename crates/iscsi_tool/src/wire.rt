@@ -1,7 +1,7 @@
 //! A connection of this process to itself.
 
 ghost use Rattle.std.specs.Prelude.{IfErr};
-ghost use Rattle.iscsi_tool.specs.Looping.{IsOfSession};
+ghost use Rattle.iscsi_tool.specs.LoopSteps.{IsOfSession};
 
 use crate::serve_fault::ServeFault;
 use iscsi_stream::write_fully;

@@ -1,4 +1,4 @@
-use Rattle.std.proofs.Common.{◌++◌, take, inl, ◌≡◌, ◌∙◌, subst}
+use Rattle.std.proofs.Common.{◌++◌, take, inl, List, ℕ, subst}
 use Rattle.std.proofs.KnownBytes.{Consumes-trans}
 use Rattle.std.proofs.lemmas.Result.{err_from_is_err_and}
 use Rattle.iscsi_tool.specs.Script.{IsTooLongAt}
@@ -13,5 +13,5 @@ returns-in_err-extend_from_slice-clause-err g c =
 pub returns-then-len-gt-LONGEST_SCRIPT-clause-err : goal.returns-then-len-gt-LONGEST_SCRIPT-clause-err
 returns-then-len-gt-LONGEST_SCRIPT-clause-err g c =
     let piece = take c.in-Ok.n c.read.new.buf in
-    let all : c.deref.result.now ≡ c.loop.script.items ++ piece = c.deref.ensures.value ∙ c.in_ok-extend_from_slice.ensures.items in
-    (c.loop.script.items ++ piece, Consumes-trans _ _ _ c.loop.script.items piece c.loop.invariant.0 c.in-Ok.ensures.bytes.0, inl (subst (λ s. IsTooLongAt s c.too_long_at.result) all c.too_long_at.ensures))
+    let long = subst (λ (s : List ℕ). IsTooLongAt s c.too_long_at.result) c.deref.ensures.value c.too_long_at.ensures in
+    (c.loop.script.items ++ piece, Consumes-trans _ _ _ c.loop.script.items piece c.loop.invariant.0 c.in-Ok.ensures.bytes.0, inl (subst (λ (s : List ℕ). IsTooLongAt s c.too_long_at.result) c.in_ok-extend_from_slice.ensures.items long))

@@ -1,5 +1,5 @@
 use Rattle.std.proofs.Common.{[], length}
-use Rattle.iscsi_tool.specs.Looping.{Continues}
+use Rattle.iscsi_tool.specs.LoopSteps.{Continues}
 use Rattle.iscsi_tool.proofs.looping.Ends.hear.Given as goal
 
 abbrev pub invariant-loop-rest : goal.invariant-loop-rest

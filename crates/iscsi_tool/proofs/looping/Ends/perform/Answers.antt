@@ -1,7 +1,7 @@
 use Rattle.std.proofs.Common.{[], ◌∷◌, subst, sym}
 use Rattle.iscsi_initiator.specs.declared.request.Request.{Request}
 use Rattle.iscsi_initiator.specs.Calls.{Connection}
-use Rattle.iscsi_tool.specs.Looping.{Continues}
+use Rattle.iscsi_tool.specs.LoopSteps.{Continues}
 use Rattle.iscsi_tool.proofs.Histories.{submits, takes, then_continues}
 use Rattle.iscsi_tool.proofs.looping.Ends.perform.Goals as goal
 

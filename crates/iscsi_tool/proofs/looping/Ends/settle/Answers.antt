@@ -1,6 +1,6 @@
 use Rattle.std.proofs.Common.{[], subst}
 use Rattle.iscsi_initiator.specs.Calls.{Connection}
-use Rattle.iscsi_tool.specs.Looping.{Continues}
+use Rattle.iscsi_tool.specs.LoopSteps.{Continues}
 use Rattle.iscsi_tool.proofs.Histories.{then_continues}
 use Rattle.iscsi_tool.proofs.looping.Ends.settle.Goals as goal
 

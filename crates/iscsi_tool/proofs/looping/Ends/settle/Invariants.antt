@@ -1,5 +1,5 @@
 use Rattle.std.proofs.Common.{[]}
-use Rattle.iscsi_tool.specs.Looping.{Continues}
+use Rattle.iscsi_tool.specs.LoopSteps.{Continues}
 use Rattle.iscsi_tool.proofs.looping.Ends.settle.Given as goal
 
 abbrev pub invariant-loop : goal.invariant-loop
