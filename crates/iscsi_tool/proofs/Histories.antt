@@ -1,6 +1,6 @@
 -- What happens to an initiator, from call to call.
 use Rattle.std.specs.Prelude.{if◌then◌else◌, codes}
-use Rattle.std.proofs.Common.{◌≡◌, ◌⊎◌, inl, inr, ℕ, Bool, true, false, List, [], ◌∷◌, ◌++◌, length, map, take, Option, Some, None, Result, Ok, Err, IfErr, refl, sym, ap, subst, ◌∙◌, append_assoc, append-nil, arith}
+use Rattle.std.proofs.Common.{◌≡◌, ◌⊎◌, inl, inr, ℕ, Bool, true, false, List, [], ◌∷◌, ◌++◌, length, map, Option, Some, None, Result, Ok, Err, IfErr, refl, sym, ap, subst, ◌∙◌, append_assoc, append-nil, arith}
 use Rattle.iscsi_stream.specs.Stream.{Message}
 use Rattle.iscsi_login.specs.declared.phase.Phase.{Phase}
 use Rattle.iscsi_login.specs.declared.phase.Phase.TheVariants as phases
@@ -9,16 +9,15 @@ use Rattle.iscsi_initiator.specs.declared.request.Request.{Request}
 use Rattle.iscsi_initiator.specs.declared.request.SubmitFault.{SubmitFault}
 use Rattle.iscsi_initiator.specs.State.{Settings, Machine, opening, is_closed}
 use Rattle.iscsi_initiator.specs.Login.{start_step}
-use Rattle.iscsi_initiator.specs.Machine.{step, steps, then_steps, taken}
-use Rattle.iscsi_initiator.specs.Submitted.{submitted, or_accepted, accepted as accept, refusal}
-use Rattle.iscsi_initiator.specs.Calls.{Connection, Starts, Feeds, Submits, Heard, HearsAll, ClosesAt, after_taking, heard_steps}
+use Rattle.iscsi_initiator.specs.Machine.{step, steps, then_steps}
+use Rattle.iscsi_initiator.specs.Submitted.{submitted, or_accepted, refusal}
+use Rattle.iscsi_initiator.specs.Calls.{Connection, Starts, Feeds, Submits, HearsAll, ClosesAt, after_taking}
 use Rattle.iscsi_initiator.specs.Laws.{Event, Comes, Asks, Takes, after, run, accepted, accepted_in, accepted_if, given, given_in, listed, AreOutcomesOf, IsOutcomeOf}
 use Rattle.iscsi_initiator.specs.Laws as laws
 use Rattle.iscsi_initiator.proofs.OutcomeLaws.{outcomes_in_order}
 use Rattle.std.specs.Io.KnownBytes.{Appends}
 use Rattle.std.proofs.KnownBytes.{Appends-trans, Appends-nil}
 use Rattle.std.proofs.lemmas.List.{length-map, length-append, map-append}
-use Rattle.std.specs.List.{flat_map}
 use Rattle.std.proofs.lemmas.List.Concat.{flat_map-append}
 use Rattle.iscsi_tool.specs.declared.command.Command.{Command}
 use Rattle.iscsi_tool.specs.Commands.{request_of, is_logout}

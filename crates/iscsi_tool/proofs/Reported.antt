@@ -1,6 +1,6 @@
 -- What lines of outcomes are made of.
 use Rattle.std.specs.Prelude.{◌==◌, ◌%◌, if◌then◌else◌, slice_index_or, codes}
-use Rattle.std.proofs.Common.{◌≡◌, ◌≤◌, ◌<◌, ◌-◌, ◌^◌, ℕ, Bool, false, List, [], ◌++◌, take, length, min, Result, Ok, Err, IfOk, ap, sym, refl, ◌∙◌, append_assoc, true}
+use Rattle.std.proofs.Common.{◌≡◌, ◌<◌, ◌-◌, ◌^◌, ℕ, Bool, false, List, [], ◌++◌, take, length, min, Result, Ok, Err, IfOk, ap, sym, refl, ◌∙◌, append_assoc, true}
 use Rattle.std.specs.Fmt.{decimal, digits, padded_integral, format_spec}
 use Rattle.std.proofs.Math.Nat.{min_comm}
 use Rattle.std.proofs.lemmas.Fmt.{hex_byte}

@@ -1,6 +1,6 @@
 -- Words, lines and numbers of a script.
 use Rattle.std.specs.Prelude.{◌==◌, ◌&&◌, nat_le, if◌then◌else◌}
-use Rattle.std.proofs.Common.{◌≡◌, ◌≢◌, ◌≤◌, ◌<◌, ◌+◌, ◌*◌, ◌-◌, ℕ, Bool, true, false, List, [], ◌∷◌, ◌++◌, length, map, Option, Some, None, refl, sym, ap, subst, ◌∙◌, arith, get_or, drop, append-nil}
+use Rattle.std.proofs.Common.{◌≡◌, ◌≢◌, ◌<◌, ◌+◌, ◌*◌, ◌-◌, ℕ, Bool, true, false, List, [], ◌∷◌, ◌++◌, length, map, Option, Some, None, refl, sym, ap, ◌∙◌, arith, get_or, drop, append-nil}
 use Rattle.std.specs.List.{AllByRecursion}
 use Rattle.std.specs.Char.{is_ascii_digit}
 use Rattle.std.proofs.lemmas.Bool.{eq-eqb, eqb-true}
@@ -9,7 +9,7 @@ use Rattle.std.proofs.lemmas.List.Elements.{recursion_from_All}
 use Rattle.iscsi_text.specs.Text.{HasNo}
 use Rattle.iscsi_text.specs.Inside.{SplitsAt}
 use Rattle.iscsi_tool.specs.declared.command.Command.{Command}
-use Rattle.iscsi_tool.specs.Script.{parted, number, number_behind, lines_of, begin, meaning, meanings, AreCommands, IsFirstBad, IsInRange, AreInRange}
+use Rattle.iscsi_tool.specs.Script.{parted, number_behind, lines_of, begin, meaning, meanings, AreCommands, IsFirstBad, IsInRange, AreInRange}
 
 -- ---- parts
 
