@@ -1,24 +1,27 @@
 -- What a session keeps from read to read.
-use Rattle.std.proofs.Common.{◌≡◌, ℕ, Bool, true, false, List, [], ◌∷◌, ◌++◌, take, Option, Result, Ok, Err, refl, sym, ap, subst, ◌∙◌, arith, append-nil, append_assoc}
+use Rattle.std.proofs.Common.{◌≡◌, ◌⊎◌, inl, inr, drop, take-append-drop, ℕ, Bool, true, false, List, [], ◌∷◌, ◌++◌, take, Option, Result, Ok, Err, refl, sym, ap, subst, ◌∙◌, arith, append-nil, append_assoc}
 use Rattle.std.specs.Io.KnownBytes.{Appends, Consumes, Keeps}
 use Rattle.std.proofs.KnownBytes.{Appends-trans, Appends-nil, Consumes-trans, Consumes-kept, Consumes-nil}
 use Rattle.scsi_disk.specs.Disk.{Disk}
 use Rattle.iscsi_stream.specs.declared.fault.ToolFault.TheVariants as tool
 use Rattle.iscsi_stream.specs.Normalising.{WroteFront}
+use Rattle.iscsi_stream.proofs.Taking.{at_opening}
+use Rattle.iscsi_stream.proofs.Ready.{apart}
 use Rattle.iscsi_login.specs.declared.phase.Phase.{Phase}
 use Rattle.iscsi_login.specs.Negotiation.{IsInRange}
 use Rattle.iscsi_target.specs.declared.fault.TargetFault.{TargetFault}
 use Rattle.iscsi_target.specs.declared.fault.TargetFault.TheVariants as faults
 use Rattle.iscsi_target.specs.Configured.{Settings}
-use Rattle.iscsi_target.specs.State.{Execution}
-use Rattle.iscsi_target.specs.Machine.{is_closed}
-use Rattle.iscsi_target.specs.Feed.{Connection, Store, Fed, FedIf, FedAll, GoesWell, opening_connection, stream_of}
+use Rattle.iscsi_target.specs.State.{Execution, limit}
+use Rattle.iscsi_target.specs.Machine.{answers, is_closed, is_closed_phase}
+use Rattle.iscsi_target.specs.Feed.{Connection, Store, Fed, FedIf, Feeds, Stays, HasAnswered, FedAll, GoesWell, opening_connection, stream_of}
 use Rattle.iscsi_target.specs.Laws.{Leads}
-use Rattle.iscsi_target.proofs.Feeding.{fed_any}
+use Rattle.iscsi_target.proofs.Feeding.{Told, told, fed_any}
+use Rattle.iscsi_target.proofs.Streaming.{goes_on}
 use Rattle.iscsi_target.proofs.Leading.{may_leads}
 use Rattle.iscsi_tool.specs.declared.answering.SessionFault.{SessionFault}
 use Rattle.iscsi_tool.specs.declared.answering.SessionFault.TheVariants as session
-use Rattle.iscsi_tool.specs.Answering.{HasExecuted, ServesAll, Serves, AnswersBytes}
+use Rattle.iscsi_tool.specs.Answering.{HasExecuted, ServesAll, Serves, AnswersBytes, IsOver, EndsWell}
 use Rattle.iscsi_tool.specs.Serving.{session_fault, ServesOne}
 
 -- Pieces were read, fed and answered, from the first store on; steady says that no device fails.
@@ -214,6 +217,88 @@ pub phase_more : (steady : Type 0) (settings : Settings) (phase : Phase) (first 
     → ServedUpTo steady settings first new after r0 r2 w0 w2
 phase_more steady settings phase first now new store after r0 r1 r2 w0 w1 w2 piece out up read one same wrote =
     served_more steady settings first now new store after r0 r1 r2 w0 w1 w2 piece out (Ok phase) up read one (λ h. record { memory = λ e. cc; device = same h }) wrote
+
+-- ---- a session that is closed
+
+-- a target to which nothing came
+at_first : (settings : Settings) (disk : Disk) → HasAnswered settings 1 disk [] (opening_connection settings 1) disk []
+unfolding answers
+at_first settings disk = record { messages = []; taken = at_opening (limit settings); machine = refl; disk_is = refl; output_is = refl }
+
+either : (b : Bool) → (b ≡ true) ⊎ (b ≡ false)
+either true = inl refl
+either false = inr refl
+
+-- a closed session stays closed
+stay_closed : (old new : Connection) (before after : Store) (out piece written : List ℕ) (result : Result Phase TargetFault)
+    → is_closed old.machine ≡ true → Fed old before out piece result new after written → is_closed new.machine ≡ true
+stay_closed old new before after out piece written result c f =
+    let s : Stays old before out result new after written = subst (λ (b : Bool). FedIf b old before out piece result new after written) c f in
+    ap (λ (x : Connection). is_closed x.machine) s.connection ∙ c
+
+all_closed : (pieces : List (List ℕ)) (old now : Connection) (before store : Store) (out written : List ℕ) → is_closed old.machine ≡ true → FedAll old before out pieces now store written → is_closed now.machine ≡ true
+unfolding FedAll
+all_closed [] old now before store out written c f = ap (λ (x : Connection). is_closed x.machine) f.0 ∙ c
+all_closed (p ∷ pieces) old now before store out written c f = all_closed pieces f.1 now f.2 store f.3 written (stay_closed old f.1 before f.2 out p f.3 f.0 c f.4) f.6
+
+-- in a session that is not closed all PDUs are answered
+live_answered : (settings : Settings) (disk : Disk) (stream : List ℕ) (pieces : List (List ℕ)) (old now : Connection) (before store : Store) (out written : List ℕ)
+    → HasAnswered settings 1 disk stream old before.disk out → FedAll old before out pieces now store written → is_closed now.machine ≡ false
+    → HasAnswered settings 1 disk (stream ++ stream_of pieces) now store.disk written
+unfolding FedAll
+live_answered settings disk stream [] old now before store out written h f live =
+    subst (λ (x : List ℕ). HasAnswered settings 1 disk x now store.disk written) (sym (append-nil stream))
+    (subst (λ (x : List ℕ). HasAnswered settings 1 disk stream now store.disk x) (sym f.2)
+    (subst (λ (x : Store). HasAnswered settings 1 disk stream now x.disk out) (sym f.1)
+    (subst (λ (x : Connection). HasAnswered settings 1 disk stream x before.disk out) (sym f.0) h)))
+live_answered settings disk stream (p ∷ pieces) old now before store out written h f live =
+    elim (either (is_closed old.machine)) [
+      | inl c ↦ absurd (apart (all_closed pieces f.1 now f.2 store f.3 written (stay_closed old f.1 before f.2 out p f.3 f.0 c f.4) f.6) live)
+      | inr o ↦ elim (either (is_closed f.1.machine)) [
+        | inl c ↦ absurd (apart (all_closed pieces f.1 now f.2 store f.3 written c f.6) live)
+        | inr l ↦
+            let one : Feeds old before out p f.0 f.1 f.2 f.3 = subst (λ (b : Bool). FedIf b old before out p f.0 f.1 f.2 f.3) o f.4 in
+            subst (λ (x : List ℕ). HasAnswered settings 1 disk x now store.disk written) (append_assoc stream p (stream_of pieces))
+            (live_answered settings disk (stream ++ p) pieces f.1 now f.2 store f.3 written (goes_on settings 1 disk stream old before out p f.0 f.1 f.2 f.3 one f.5.device l h) f.6 live)
+      ]
+    ]
+
+-- the PDUs of a piece close it
+over_by : (phase : Phase) (settings : Settings) (disk : Disk) (stream piece : List ℕ) (now new : Connection) (store after : Store) (written all : List ℕ) → HasAnswered settings 1 disk stream now store.disk written
+    → Feeds now store written piece (Ok phase) new after all → is_closed_phase phase ≡ true → after.failures ≡ store.failures → IsOver settings disk (stream ++ piece)
+over_by phase settings disk stream piece now new store after written all h f over works =
+    let t : Told settings 1 disk (h.messages ++ f.messages) f.stepped after.disk all =
+    told settings 1 disk stream now store written (take f.count piece) f.framing f.messages f.stepped after all h f.answered works in
+    record {
+      front = stream ++ take f.count piece;
+      rest = drop f.count piece;
+      split = ap (λ (x : List ℕ). stream ++ x) (sym (take-append-drop f.count piece)) ∙ sym (append_assoc stream (take f.count piece) (drop f.count piece));
+      messages = h.messages ++ f.messages;
+      framing = f.framing;
+      taken = f.answered.taken stream h.messages h.taken;
+      closed = sym (ap is_closed t.machine) ∙ sym (ap is_closed_phase f.ends.2) ∙ over;
+    }
+
+closed_answers_no_phase : (phase : Phase) → (let r : Result Phase TargetFault = Ok phase in r ≡ Err faults.Closed) → ⊥
+closed_answers_no_phase phase e = absurd cc
+
+-- where a call of feed answers that the session is closed
+pub closes : (steady : Type 0) (phase : Phase) (settings : Settings) (first : Store) (now new : Connection) (store after : Store) (r0 r1 r2 w0 w1 : Option (List ℕ)) (piece out : List ℕ)
+    → ServedUpTo steady settings first now store r0 r1 w0 w1 → Consumes r1 r2 piece → Fed now store [] piece (Ok phase) new after out → is_closed_phase phase ≡ true → (steady → after.failures ≡ store.failures)
+    → steady → EndsWell settings first.disk r0 r2
+closes steady phase settings first now new store after r0 r1 r2 w0 w1 piece out up read one over same s =
+    elim (either (is_closed now.machine)) [
+      | inl c ↦
+          let stays : Stays now store [] (Ok phase) new after out = subst (λ (b : Bool). FedIf b now store [] piece (Ok phase) new after out) c one in
+          absurd (closed_answers_no_phase phase stays.result_is)
+      | inr live ↦
+          let h : HasAnswered settings 1 first.disk (stream_of up.pieces) now store.disk up.written =
+          live_answered settings first.disk [] up.pieces (opening_connection settings 1) now first store [] up.written (at_first settings first.disk) (up.fed s) live in
+          let f : Feeds now store up.written piece (Ok phase) new after (up.written ++ out) =
+          subst (λ (b : Bool). FedIf b now store up.written piece (Ok phase) new after (up.written ++ out)) live
+          (fed_behind (is_closed now.machine) now new store after up.written piece out (Ok phase) one) in
+          inr (stream_of up.pieces ++ piece, Consumes-trans r0 r1 r2 (stream_of up.pieces) piece up.consumed read, over_by phase settings first.disk (stream_of up.pieces) piece now new store after up.written (up.written ++ out) h f over (same s))
+    ]
 
 -- ---- over a socket
 

@@ -1,15 +1,17 @@
 -- What a target answers to a stream (RFC 7143, sections 6 and 11; the target's settings are own profile).
-use Rattle.std.specs.Prelude.{◌≡◌, ℕ, List, Result, Ok, Err, codes}
+use Rattle.std.specs.Prelude.{◌≡◌, ◌⊎◌, ℕ, true, List, ◌++◌, Option, Result, Ok, Err, codes}
+use Rattle.std.specs.Io.KnownBytes.{Consumes, IsAtEnd}
 use Rattle.scsi_disk.specs.Disk.{Disk, zeros}
 use Rattle.iscsi_stream.specs.declared.fault.ToolFault.{ToolFault}
 use Rattle.iscsi_stream.specs.declared.fault.ToolFault.TheVariants as tool
 use Rattle.iscsi_stream.specs.Stream.{Message, Splits, longest_segment}
 use Rattle.iscsi_stream.specs.Canonical.{canon}
+use Rattle.iscsi_stream.specs.Framing.{Framing, HasTaken}
 use Rattle.iscsi_login.specs.Negotiation.{standard}
 use Rattle.iscsi_target.specs.declared.fault.TargetFault.TheVariants as faults
 use Rattle.iscsi_target.specs.Configured.{Settings}
 use Rattle.iscsi_target.specs.State.{Execution, opening}
-use Rattle.iscsi_target.specs.Machine.{answers}
+use Rattle.iscsi_target.specs.Machine.{answers, is_closed}
 use Rattle.iscsi_target.specs.Feed.{Writes}
 use Rattle.iscsi_target.specs.Laws.{Leads}
 use Rattle.iscsi_tool.specs.declared.answering.SessionFault.{SessionFault}
@@ -54,6 +56,21 @@ Serves settings disk (Err session.Read) read disk_now written =
     ServesAll settings disk read disk_now written
 Serves settings disk (Err (session.Target faults.NoMemory)) read disk_now written = Unit {0}
 Serves settings disk (Err session.Write) read disk_now written = Unit {0}
+
+-- The session was closed by the first PDUs of what was read: by a logout or a refused login.
+pub record IsOver (settings : Settings) (disk : Disk) (read : List ℕ) : Type 0 where
+  pub front : List ℕ
+  pub rest : List ℕ
+  pub split : read ≡ front ++ rest
+  pub messages : List Message
+  pub framing : Framing
+  pub taken : HasTaken front messages framing
+  pub closed : is_closed (answers (opening settings 1) disk messages).machine ≡ true
+
+-- A session that ended well has read its reader to the end, or was closed.
+abbrev pub EndsWell : Settings → Disk → Option (List ℕ) → Option (List ℕ) → Type 0
+EndsWell settings disk before after =
+    IsAtEnd after ⊎ ((read : List ℕ) × Consumes before after read × IsOver settings disk read)
 
 -- ---- a filter
 

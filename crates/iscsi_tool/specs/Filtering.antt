@@ -1,5 +1,7 @@
 -- What a filter writes for what it has read.
-use Rattle.std.specs.Prelude.{◌≡◌, ◌≤◌, ◌<◌, ℕ, Bool, true, false, List, [], length, take, Result, Ok, Err}
+use Rattle.std.specs.Prelude.{◌≡◌, ◌≤◌, ◌<◌, ℕ, Bool, true, false, List, [], length, take, Option, Result, Ok, Err}
+use Rattle.std.specs.Io.KnownBytes.{IsAtEnd}
+use Rattle.scsi_disk.specs.Disk.{zeros}
 use Rattle.iscsi_text.specs.Fault.{IsFirstFault}
 use Rattle.iscsi_stream.specs.declared.fault.ToolFault.{ToolFault}
 use Rattle.iscsi_stream.specs.declared.fault.ToolFault.TheVariants as tool
@@ -12,7 +14,7 @@ use Rattle.iscsi_tool.specs.declared.filter.Work.{Work}
 use Rattle.iscsi_tool.specs.declared.filter.Work.TheVariants.{Show, Normalise, Text, Answer}
 use Rattle.iscsi_tool.specs.declared.words.Job.{Job}
 use Rattle.iscsi_tool.specs.declared.words.Job.TheVariants as job
-use Rattle.iscsi_tool.specs.Answering.{AnswersBytes}
+use Rattle.iscsi_tool.specs.Answering.{target_settings, AnswersBytes, EndsWell}
 use Rattle.iscsi_tool.specs.HexText.{BytesOf, IsNotHex, hex_line}
 
 -- how a filter ends: done, or why not
@@ -85,10 +87,10 @@ IsJob (job.Filter filter) = HasDisk filter.work
 IsJob (job.Serve port blocks sessions) = (0 < blocks) × (blocks ≤ 65536)
 IsJob (job.Loop blocks piece) = (0 < blocks) × (blocks ≤ 65536) × (0 < piece) × (piece ≤ 4096)
 
--- so it is, but for answers, which end where the session is closed
-abbrev pub ReadsOn : Work → Type 0 → Type 0
-ReadsOn (Answer blocks) is_at_end = Unit {0}
-ReadsOn _ is_at_end = is_at_end
+-- A work that ended well has read its input to the end; answers to bytes end also where the session is closed.
+abbrev pub Reads : Work → Bool → Option (List ℕ) → Option (List ℕ) → Type 0
+Reads (Answer blocks) false before after = EndsWell target_settings (zeros blocks) before after
+Reads _ _ before after = IsAtEnd after
 
 -- What a work writes; the lines that Show writes, and answers as hex, are not stated.
 abbrev pub Does : Work → Bool → Outcome → List ℕ → List ℕ → Type 0
@@ -103,3 +105,7 @@ Does Text false outcome read written = NormalisesText outcome read written
 -- what a filter has read and written where it answers
 abbrev pub Filters : Filter → Outcome → List ℕ → List ℕ → Type 0
 Filters filter outcome read written = Does filter.work filter.hex outcome read written
+
+-- what a filter that ended well has read
+abbrev pub ReadsOn : Filter → Option (List ℕ) → Option (List ℕ) → Type 0
+ReadsOn filter before after = Reads filter.work filter.hex before after

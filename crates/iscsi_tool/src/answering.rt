@@ -1,9 +1,11 @@
 //! The answers of a target to a stream.
 
-ghost use Rattle.std.specs.Prelude.{◌≡◌, ◌<◌, ◌≤◌, ℕ, List, IfOk};
+ghost use Rattle.std.specs.Prelude.{◌≡◌, ◌<◌, ◌≤◌, ℕ, List, IfOk, OnOk};
 ghost use Rattle.std.specs.Io.KnownBytes.{Appends, Consumes};
+ghost use Rattle.scsi_disk.specs.Disk.{zeros};
 ghost use Rattle.iscsi_login.specs.Negotiation.{IsInRange};
-ghost use Rattle.iscsi_tool.specs.Answering.{filter_fault, target_settings, AnswersBytes, HasExecuted, NeverFails, Serves};
+ghost use Rattle.iscsi_target.specs.Machine.{is_closed_phase};
+ghost use Rattle.iscsi_tool.specs.Answering.{filter_fault, target_settings, AnswersBytes, EndsWell, HasExecuted, NeverFails, Serves};
 
 use iscsi_login::{Phase, Preferences};
 use iscsi_stream::{PIECE, READS, ToolFault, write_fully};
@@ -59,6 +61,8 @@ pub fn answer<R: Read, W: Write>(
         × Consumes (R.remaining r.old) (R.remaining r.new) read
         × Appends (W.contents w.old) (W.contents w.new) written
         × AnswersBytes blocks result read written }
+    ensures end { OnOk result
+        (EndsWell target_settings (zeros blocks) (R.remaining r.old) (R.remaining r.new)) }
 {
     let config = configuration(alloc)?;
     let mut store = SparseStore::new(alloc, blocks);
@@ -105,6 +109,8 @@ pub fn serve_stream<S: BlockStore, R: Read, W: Write>(
         → Serves config (S.disk store.old) result read (S.disk store.new) written) }
     // Whatever comes of it, the blocks are those that commands left.
     ensures blocks { HasExecuted (S.disk store.old) (S.disk store.new) }
+    ensures end { NeverFails S.failures → OnOk result
+        (EndsWell config (S.disk store.old) (R.remaining r.old) (R.remaining r.new)) }
 {
     let mut target = Target::new(alloc, config, FIRST_STAT_SN);
     let mut out = Vec::new(alloc);
@@ -125,11 +131,23 @@ pub fn serve_stream<S: BlockStore, R: Read, W: Write>(
         if let Err(_) = write_fully(w, &out) {
             return Err(SessionFault::Write);
         }
-        match fed {
-            Ok(Phase::Closed) => return Ok(()),
-            Ok(Phase::Login | Phase::Full) => {}
+        let phase = match fed {
+            Ok(phase) => phase,
             Err(fault) => return Err(SessionFault::Target(fault)),
+        };
+        if is_over(phase) {
+            return Ok(());
         }
     }
     Err(SessionFault::Read)
+}
+
+// Whether a session is closed.
+fn is_over(phase: Phase) -> bool
+    ensures { result ≡ is_closed_phase phase }
+{
+    match phase {
+        Phase::Closed => true,
+        Phase::Login | Phase::Full => false,
+    }
 }

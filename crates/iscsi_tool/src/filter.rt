@@ -53,8 +53,8 @@ pub fn run_filter<R: Read, W: Write>(
         × Consumes (R.remaining r.old) (R.remaining r.new) read
         × Appends (W.contents w.old) (W.contents w.new) written
         × Filters filter result read written }
-    // Answers end where the session is closed.
-    ensures end { OnOk result (ReadsOn filter.work (IsAtEnd (R.remaining r.new))) }
+    // Answers to bytes end also where the session is closed.
+    ensures end { OnOk result (ReadsOn filter (R.remaining r.old) (R.remaining r.new)) }
 {
     match filter.work {
         Work::Show => show_as(alloc, filter.hex, r, w),
@@ -94,6 +94,7 @@ fn answer_hex<R: Read, W: Write>(
     ensures moves { (read : List ℕ) × (written : List ℕ)
         × Consumes (R.remaining r.old) (R.remaining r.new) read
         × Appends (W.contents w.old) (W.contents w.new) written }
+    ensures end { OnOk result (IsAtEnd (R.remaining r.new)) }
 {
     let bytes = read_bytes(alloc, r)?;
     let mut source = bytes.as_slice();
