@@ -80,6 +80,7 @@ pub record HeardUpTo (old : Connection) (piece rest : List ℕ) (now : Connectio
   pub parts : piece ≡ front ++ rest
   pub messages : List Message
   pub moves : Moves old.framing now.framing front messages
+  pub limit : now.framing.limit ≡ old.framing.limit
   pub unready : is_ready now.framing ≡ false
   pub machine_is : now.machine ≡ (steps old.machine messages).machine
   pub output_is : written ≡ before ++ canon (steps old.machine messages).output
@@ -98,7 +99,7 @@ pub record HeardAs (old : Connection) (piece rest : List ℕ) (now : Connection)
 pub heard_none : (old : Connection) (piece before : List ℕ) → is_ready old.framing ≡ false → is_closed old.machine ≡ false → GoesUpTo old piece piece old before before
 unfolding steps
 heard_none old piece before unready live = record {
-  heard = record { front = []; parts = refl; messages = []; moves = moves_none old.framing; unready = unready; machine_is = refl; output_is = sym (append-nil before) };
+  heard = record { front = []; parts = refl; messages = []; moves = moves_none old.framing; limit = refl; unready = unready; machine_is = refl; output_is = sym (append-nil before) };
   live = live;
 }
 
@@ -115,6 +116,7 @@ heard_bytes old piece rest before now written n framing g t unready = let h = g.
   parts = taken_more piece h.front rest n h.parts;
   messages = h.messages;
   moves = moved old.framing now.framing framing h.front n rest h.messages h.moves t;
+  limit = ap (λ (v : Framing). v.limit) t.gathered ∙ h.limit;
   unready = unready;
   machine_is = h.machine_is;
   output_is = h.output_is;
@@ -139,6 +141,7 @@ heard_pdu old piece rest before now written n framing fault new after g t a =
             (subst (λ (y : List ℕ). Moves old.framing (given_up framing a.head) y (h.messages ++ x ∷ [])) (append-nil (h.front ++ take n rest))
             (moves_then old.framing framing (given_up framing a.head) (h.front ++ take n rest) [] h.messages (x ∷ [])
             (moved old.framing now.framing framing h.front n rest h.messages h.moves t) (moves_gave framing a.head a.segment a.means)));
+        limit = ap (λ (v : Framing). v.limit) a.framing_is ∙ ap (λ (v : Framing). v.limit) t.gathered ∙ h.limit;
         unready = ap is_ready a.framing_is ∙ unready_after framing a.head;
         machine_is = machine ∙ sym next.machine;
         output_is =
@@ -167,6 +170,7 @@ heard_of old piece rest now before written h = record {
   some = (let parts = ap length h.parts in omega (arith, parts, length-append h.front rest));
   messages = h.messages;
   framing = now.framing;
+  limit = h.limit;
   moves = subst (λ (x : List ℕ). Moves old.framing now.framing x h.messages) (sym (ap (take (length h.front)) h.parts ∙ take_at h.front rest (length h.front) refl)) h.moves;
 }
 

@@ -84,7 +84,7 @@ on_due_keeps m (Refusal h) bytes = shuts m _ refl refl refl refl
 passed_keeps : (m : Machine) (d : Due) (r : Stepped) → Keeps (passed m d) r → Keeps m r
 passed_keeps m d r k = record { stage = k.stage; held = k.held; started = k.started; phase = k.phase }
 
-takes_keeps : (o : Option Due) (m : Machine) (bytes : List ℕ) → Keeps m (takes o m bytes)
+pub takes_keeps : (o : Option Due) (m : Machine) (bytes : List ℕ) → Keeps m (takes o m bytes)
 takes_keeps None m bytes = shuts m _ refl refl refl refl
 takes_keeps (Some d) m bytes =
     keeps_if m (nat_lt m.held.initiator_max_recv (length bytes)) _ _ (shuts m _ refl refl refl refl)

@@ -81,6 +81,7 @@ pub record Heard (old : Connection) (piece : List ℕ) : Type 0 where
   pub messages : List Message
   pub framing : Framing
   pub moves : Moves old.framing framing (take count piece) messages
+  pub limit : framing.limit ≡ old.framing.limit
 
 -- The steps that these PDUs lead to (own rule).
 abbrev pub heard_steps : (old : Connection) (piece : List ℕ) → Heard old piece → Stepped
