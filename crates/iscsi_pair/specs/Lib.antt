@@ -1,0 +1,2 @@
+pub mod World
+pub mod Traffic

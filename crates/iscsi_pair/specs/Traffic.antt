@@ -1,0 +1,159 @@
+-- What went between two ends, and what the initiator did with it (RFC 7143, section 4; own rule).
+use Rattle.std.specs.Prelude.{◌≡◌, ℕ, false, List, [], ◌∷◌, ◌++◌, length, take, drop}
+use Rattle.scsi_disk.specs.Disk.{disk_of}
+use Rattle.iscsi_stream.specs.Segment.{no_login}
+use Rattle.iscsi_stream.specs.Stream.{Message, ReadsAs}
+use Rattle.iscsi_stream.specs.Canonical.{canon}
+use Rattle.iscsi_stream.specs.Framing.{HasTaken, is_ready}
+use Rattle.iscsi_initiator.specs.declared.request.Request.{Request}
+use Rattle.iscsi_target.specs.State.{Stepped, opening}
+use Rattle.iscsi_target.specs.Transfer.{joined}
+use Rattle.iscsi_target.specs.Machine as target_machine
+use Rattle.iscsi_target.specs.Machine.{answers}
+use Rattle.iscsi_initiator.specs.State.{Machine, is_closed}
+use Rattle.iscsi_initiator.specs.Machine.{step, taken}
+use Rattle.iscsi_initiator.specs.Submitted.{submitted}
+use Rattle.iscsi_pair.specs.World as world
+use Rattle.iscsi_pair.specs.World.{World, Opening, Event, started, new_pair, Happens}
+
+-- ---- bytes
+
+-- What an initiator's session meets once it is started: a message comes, a request is handed in, or
+-- the outcome is taken (own rule).
+pub data Input : Type 0 where
+  Comes : Message → Input
+  Asks : Request → Input
+  Takes : Input
+
+-- All bytes that were moved to each end, all that were queued for it, and what was asked of the
+-- initiator and taken from it (own rule).
+pub record Traffic : Type 0 where
+  pub moved_to_target : List ℕ
+  pub moved_to_initiator : List ℕ
+  pub queued_for_target : List ℕ
+  pub queued_for_initiator : List ℕ
+  pub demands : List Input
+
+-- In a new pair the initiator's first text is queued (section 6.3).
+abbrev pub first_traffic : Opening → Traffic
+first_traffic c = record {
+  moved_to_target = [];
+  moved_to_initiator = [];
+  queued_for_target = (new_pair c).to_target;
+  queued_for_initiator = [];
+  demands = [];
+}
+
+-- The bytes that stand behind so many (own rule).
+abbrev pub behind : List ℕ → List ℕ → List ℕ
+behind before after = drop (length before) after
+
+-- What an event adds (own rule).
+abbrev pub traffic_after : Traffic → World → Event → World → Traffic
+traffic_after t old (world.ToTarget k) new = record t {
+  moved_to_target = t.moved_to_target ++ take k old.to_target;
+  queued_for_initiator = t.queued_for_initiator ++ behind old.to_initiator new.to_initiator;
+}
+traffic_after t old (world.ToInitiator k) new = record t {
+  moved_to_initiator = t.moved_to_initiator ++ take k old.to_initiator;
+  queued_for_target = t.queued_for_target ++ behind old.to_target new.to_target;
+}
+traffic_after t old (world.Submits request) new = record t {
+  queued_for_target = t.queued_for_target ++ behind old.to_target new.to_target;
+  demands = t.demands ++ Asks request ∷ [];
+}
+traffic_after t old world.Takes new = record t { demands = t.demands ++ Takes ∷ [] }
+
+-- Events, one after another, and what went between the ends before and after them (own rule).
+unfoldable pub Traces : Traffic → World → List Event → World → Traffic → Type 0
+Traces t old [] new u = (new ≡ old) × (u ≡ t)
+Traces t old (event ∷ events) new u =
+    (mid : World) × Happens old event mid × Traces (traffic_after t old event mid) mid events new u
+
+-- ---- messages
+
+-- The session after it (own rule).
+abbrev pub after : Machine → Input → Machine
+after m (Comes message) = (step m message).machine
+after m (Asks request) = (submitted m request).machine
+after m Takes = taken m
+
+-- What it sends then (own rule).
+abbrev pub sent_in : Machine → Input → List Message
+sent_in m (Comes message) = (step m message).output
+sent_in m (Asks request) = (submitted m request).output
+sent_in m Takes = []
+
+-- The session after all of these (own rule).
+abbrev pub after_all : Machine → List Input → Machine
+after_all m [] = m
+after_all m (input ∷ inputs) = after_all (after m input) inputs
+
+-- What it sends in all of these (own rule).
+abbrev pub sent : Machine → List Input → List Message
+sent m [] = []
+sent m (input ∷ inputs) = sent_in m input ++ sent (after m input) inputs
+
+-- The message that comes in it (own rule).
+abbrev pub coming_in : Input → List Message
+coming_in (Comes message) = message ∷ []
+coming_in _ = []
+
+-- The messages that come in these (own rule).
+abbrev pub coming : List Input → List Message
+coming [] = []
+coming (input ∷ inputs) = coming_in input ++ coming inputs
+
+-- What is demanded in it (own rule).
+abbrev pub demanded_in : Input → List Input
+demanded_in (Comes message) = []
+demanded_in input = input ∷ []
+
+-- What is demanded in these, in their order (own rule).
+abbrev pub demanded : List Input → List Input
+demanded [] = []
+demanded (input ∷ inputs) = demanded_in input ++ demanded inputs
+
+-- ---- where each end stands
+
+-- All that these messages lead a new target to (own rule).
+abbrev pub said : Opening → List Message → Stepped
+said c messages = answers (opening c.target c.first_stat_sn) (disk_of c.blocks) messages
+
+-- The target is where its machine goes with these PDUs, which are the first of what was moved to it,
+-- and so are the blocks; its answers are all that was queued for the initiator. While its session
+-- goes on it has taken all that was moved; behind the end of its session the rest is dropped (own
+-- rule).
+pub record TargetStands (c : Opening) (t : Traffic) (w : World) : Type 0 where
+  pub messages : List Message
+  pub given : List ℕ
+  pub rest : List ℕ
+  pub whole : t.moved_to_target ≡ given ++ rest
+  pub limit : ℕ
+  pub reads : ReadsAs limit no_login given messages
+  pub machine : w.target.machine ≡ joined (said c messages).machine
+  pub disk : disk_of w.blocks ≡ (said c messages).disk
+  pub output : t.queued_for_initiator ≡ canon (said c messages).answers
+  pub taken : target_machine.is_closed w.target.machine ≡ false →
+      HasTaken t.moved_to_target messages w.target.framing
+  -- and no whole PDU waits
+  pub none_waits : target_machine.is_closed w.target.machine ≡ false →
+      is_ready w.target.framing ≡ false
+
+-- The initiator is where its machine goes with the PDUs that are the first of what was moved to it,
+-- with the requests handed in and the outcomes taken, in their order; what it sent is all that was
+-- queued for the target. While its session goes on it has taken all that was moved (own rule).
+pub record InitiatorStands (c : Opening) (t : Traffic) (w : World) : Type 0 where
+  pub inputs : List Input
+  pub given : List ℕ
+  pub rest : List ℕ
+  pub whole : t.moved_to_initiator ≡ given ++ rest
+  pub limit : ℕ
+  pub reads : ReadsAs limit no_login given (coming inputs)
+  pub order : demanded inputs ≡ t.demands
+  pub machine : w.initiator.machine ≡ after_all (started c).machine inputs
+  pub output : t.queued_for_target ≡ (new_pair c).to_target ++ canon (sent (started c).machine inputs)
+  pub taken : is_closed w.initiator.machine ≡ false →
+      HasTaken t.moved_to_initiator (coming inputs) w.initiator.framing
+  -- and no whole PDU waits
+  pub none_waits : is_closed w.initiator.machine ≡ false → is_ready w.initiator.framing ≡ false

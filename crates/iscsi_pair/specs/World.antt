@@ -1,0 +1,222 @@
+-- Two ends of a session, and the bytes on their way between them (RFC 7143, section 4; own rule).
+use Rattle.std.specs.Prelude.{◌≡◌, ◌≢◌, ◌⊎◌, ◌<◌, ◌^◌, ℕ, Bool, true, false, ◌||◌, List, [], ◌∷◌, length, take, drop, Option, Some, None, Result}
+use Rattle.std.specs.Result.{result_err}
+use Rattle.scsi_disk.specs.Disk.{disk_of}
+use Rattle.iscsi_stream.specs.Canonical.{canon}
+use Rattle.iscsi_login.specs.declared.phase.Phase.{Phase}
+use Rattle.iscsi_login.specs.declared.stage.Stage.TheVariants as stages
+use Rattle.iscsi_login.specs.declared.stage.Session.TheVariants as sessions
+use Rattle.iscsi_login.specs.declared.offers.Auth.TheVariants as auths
+use Rattle.iscsi_login.specs.Negotiation.{IsInRange}
+use Rattle.iscsi_target.specs.declared.fault.TargetFault.{TargetFault}
+use Rattle.iscsi_target.specs.declared.fault.TargetFault.TheVariants as target_faults
+use Rattle.iscsi_target.specs.Configured as target_settings
+use Rattle.iscsi_target.specs.Feed as target
+use Rattle.iscsi_initiator.specs.declared.fault.InitiatorFault.{InitiatorFault}
+use Rattle.iscsi_initiator.specs.declared.fault.InitiatorFault.TheVariants as initiator_faults
+use Rattle.iscsi_initiator.specs.declared.request.Request.{Request}
+use Rattle.iscsi_initiator.specs.declared.request.Refused.{Refused}
+use Rattle.iscsi_initiator.specs.declared.request.SubmitFault.TheVariants as refusals
+use Rattle.iscsi_initiator.specs.State as initiator_state
+use Rattle.iscsi_initiator.specs.Configured.{AreValid}
+use Rattle.iscsi_initiator.specs.Login.{start_step}
+use Rattle.iscsi_initiator.specs.Calls as initiator
+use Rattle.iscsi_pair.specs.declared.step.EndFault.{EndFault}
+use Rattle.iscsi_pair.specs.declared.step.EndFault.TheVariants as ends
+use Rattle.iscsi_pair.specs.declared.step.Step.{Step}
+use Rattle.iscsi_pair.specs.declared.step.Step.TheVariants as steps
+
+-- Both ends, the bytes of the target's blocks, the bytes queued for each end, and the first fault of
+-- each end, if it has failed (own rule).
+pub record World : Type 0 where
+  pub target : target.Connection
+  pub blocks : List ℕ
+  pub initiator : initiator.Connection
+  pub to_target : List ℕ
+  pub to_initiator : List ℕ
+  pub target_fault : Option TargetFault
+  pub initiator_fault : Option EndFault
+
+-- What a pair is made of (own rule).
+pub record Opening : Type 0 where
+  pub initiator : initiator_state.Settings
+  pub target : target_settings.Settings
+  pub first_stat_sn : ℕ
+  pub blocks : List ℕ
+
+-- The initiator that has started its login (section 6.3).
+abbrev pub started : Opening → initiator.Connection
+started c = record (initiator.opening_connection c.initiator) {
+  machine = (start_step (initiator_state.opening c.initiator)).machine;
+}
+
+-- A new pair: the initiator's first text is on its way (section 6.3).
+abbrev pub new_pair : Opening → World
+new_pair c = record {
+  target = target.opening_connection c.target c.first_stat_sn;
+  blocks = c.blocks;
+  initiator = started c;
+  to_target = canon (start_step (initiator_state.opening c.initiator)).output;
+  to_initiator = [];
+  target_fault = None;
+  initiator_fault = None;
+}
+
+-- The store of the target: it never fails (own rule).
+abbrev pub store_of : List ℕ → target.Store
+store_of blocks = record { disk = disk_of blocks; failures = 0 }
+
+-- ---- faults
+
+-- The fault of a piece that the initiator was fed (own rule).
+abbrev pub feed_fault : Option InitiatorFault → Option EndFault
+feed_fault None = None
+feed_fault (Some fault) = Some (ends.Feed fault)
+
+-- The fault of a request that the initiator refused (own rule).
+abbrev pub submit_fault : Option Refused → Option EndFault
+submit_fault None = None
+submit_fault (Some refused) = Some (ends.Submit refused.fault)
+
+-- Memory ran out at the target (own rule).
+abbrev pub target_ran_out : Option TargetFault → Bool
+target_ran_out (Some target_faults.NoMemory) = true
+target_ran_out _ = false
+
+-- Memory ran out at the initiator (own rule).
+abbrev pub initiator_ran_out : Option EndFault → Bool
+initiator_ran_out (Some (ends.Feed initiator_faults.NoMemory)) = true
+initiator_ran_out (Some (ends.Submit refusals.NoMemory)) = true
+initiator_ran_out _ = false
+
+-- An end keeps that memory ran out there (own rule).
+abbrev pub keeps_no_memory : World → Bool
+keeps_no_memory w = target_ran_out w.target_fault || initiator_ran_out w.initiator_fault
+
+-- ---- what can happen
+
+-- What happens to a pair: a step, or the taking of an outcome (own rule).
+pub data Event : Type 0 where
+  -- so many bytes of a queue reach the end that they are for
+  ToTarget : ℕ → Event
+  ToInitiator : ℕ → Event
+  -- a request is handed in
+  Submits : Request → Event
+  -- the outcome is taken
+  Takes : Event
+
+-- Bytes reach the target, as one piece; a fault is kept (section 4; own rule).
+pub record TargetHears (moved : List ℕ) (old new : World) : Type 0 where
+  pub result : Result Phase TargetFault
+  pub fed : target.Fed old.target (store_of old.blocks) old.to_initiator moved result
+      new.target (store_of new.blocks) new.to_initiator
+  pub dropped : new.to_target ≡ drop (length moved) old.to_target
+  pub initiator : new.initiator ≡ old.initiator
+  pub fault : new.target_fault ≡ result_err result
+  pub other_fault : new.initiator_fault ≡ old.initiator_fault
+
+-- Bytes reach the initiator, as one piece; a fault is kept (section 4; own rule).
+pub record InitiatorHears (moved : List ℕ) (old new : World) : Type 0 where
+  pub result : Result Phase InitiatorFault
+  pub fed : initiator.Feeds result old.initiator moved new.initiator old.to_target new.to_target
+  pub dropped : new.to_initiator ≡ drop (length moved) old.to_initiator
+  pub target : new.target ≡ old.target
+  pub blocks : new.blocks ≡ old.blocks
+  pub fault : new.initiator_fault ≡ feed_fault (result_err result)
+  pub other_fault : new.target_fault ≡ old.target_fault
+
+-- A request is handed to the initiator; a refusal is kept (own rule).
+pub record InitiatorIsAsked (request : Request) (old new : World) : Type 0 where
+  pub result : Result (Unit {0}) Refused
+  pub submitted : initiator.Submits result old.initiator request new.initiator
+      old.to_target new.to_target
+  pub target : new.target ≡ old.target
+  pub blocks : new.blocks ≡ old.blocks
+  pub queue : new.to_initiator ≡ old.to_initiator
+  pub fault : new.initiator_fault ≡ submit_fault (result_err result)
+  pub other_fault : new.target_fault ≡ old.target_fault
+
+-- Bytes move to the target; one that has failed drops them, and no bytes change nothing (own rule).
+abbrev pub MovesToTarget : Option TargetFault → List ℕ → World → World → Type 0
+MovesToTarget fault [] old new = new ≡ old
+MovesToTarget None (byte ∷ bytes) old new = TargetHears (byte ∷ bytes) old new
+MovesToTarget (Some fault) (byte ∷ bytes) old new =
+    new ≡ record old { to_target = drop (length (byte ∷ bytes)) old.to_target }
+
+-- Bytes move to the initiator; one that has failed drops them, and no bytes change nothing (own
+-- rule).
+abbrev pub MovesToInitiator : Option EndFault → List ℕ → World → World → Type 0
+MovesToInitiator fault [] old new = new ≡ old
+MovesToInitiator None (byte ∷ bytes) old new = InitiatorHears (byte ∷ bytes) old new
+MovesToInitiator (Some fault) (byte ∷ bytes) old new =
+    new ≡ record old { to_initiator = drop (length (byte ∷ bytes)) old.to_initiator }
+
+-- A request is handed in; an initiator that has failed drops it (own rule).
+abbrev pub Asks : Option EndFault → Request → World → World → Type 0
+Asks None request old new = InitiatorIsAsked request old new
+Asks (Some fault) request old new = new ≡ old
+
+-- What an event may lead to. A growth may be refused in any of them; the end then keeps that memory
+-- ran out (own rule).
+abbrev pub Happens : World → Event → World → Type 0
+Happens old (ToTarget k) new = MovesToTarget old.target_fault (take k old.to_target) old new
+Happens old (ToInitiator k) new =
+    MovesToInitiator old.initiator_fault (take k old.to_initiator) old new
+Happens old (Submits request) new = Asks old.initiator_fault request old new
+Happens old Takes new = new ≡ record old { initiator = initiator.after_taking old.initiator }
+
+-- Events, one after another (own rule).
+unfoldable pub Runs : World → List Event → World → Type 0
+Runs old [] new = new ≡ old
+Runs old (event ∷ events) new = (mid : World) × Happens old event mid × Runs mid events new
+
+-- A world that a new pair may come to (own rule).
+abbrev pub Reached : Opening → List Event → World → Type 0
+Reached c events w = Runs (new_pair c) events w
+
+-- The step that a program takes (own rule).
+abbrev pub event_of : Step → Event
+event_of (steps.ToTarget k) = ToTarget k
+event_of (steps.ToInitiator k) = ToInitiator k
+event_of (steps.Submit request) = Submits request
+
+-- ---- what a pair may be made of
+
+-- The numbers of both ends are those of their fields, and both are configured as they may be
+-- (sections 4.2.7, 11.12 and 13).
+pub record IsOpening (c : Opening) : Type 0 where
+  pub initiator : AreValid c.initiator
+  pub isid : length c.initiator.isid ≡ 6
+  pub cmd_sn : c.initiator.first_cmd_sn < 2 ^ 32
+  pub preferences : IsInRange c.target.preferences
+  pub group : c.target.group < 2 ^ 16
+  pub tsih : c.target.tsih < 2 ^ 16
+  pub stat_sn : c.first_stat_sn < 2 ^ 32
+
+-- The initiator's name for the target is the target's, or it asks for none; and it doesn't demand
+-- authentication (sections 6.3, 12.1 and 13.4).
+pub record Suits (c : Opening) : Type 0 where
+  pub name : (c.initiator.proposal.session ≡ sessions.Discovery)
+      ⊎ (c.initiator.proposal.target ≡ c.target.name)
+  pub auth : (c.initiator.start ≡ stages.Operational) ⊎ (c.initiator.proposal.auth ≢ auths.Chap)
+
+-- A request is handed in once the initiator has completed its login (own rule).
+abbrev pub IsInTime : Event → World → Type 0
+IsInTime (Submits request) w = w.initiator.machine.stage ≡ stages.Full
+IsInTime _ w = Unit {0}
+
+-- Events, one after another, of which no request comes before its time (own rule).
+unfoldable pub RunsInTime : World → List Event → World → Type 0
+RunsInTime old [] new = new ≡ old
+RunsInTime old (event ∷ events) new =
+    (mid : World) × Happens old event mid × IsInTime event old × RunsInTime mid events new
+
+-- ---- runs in which memory is there
+
+-- Events, one after another, in which no growth is refused: none leaves an end that keeps that memory
+-- ran out (own rule).
+unfoldable pub RunsCalmly : World → List Event → World → Type 0
+RunsCalmly old [] new = new ≡ old
+RunsCalmly old (event ∷ events) new =
+    (mid : World) × Happens old event mid × (keeps_no_memory mid ≡ false)
+    × RunsCalmly mid events new

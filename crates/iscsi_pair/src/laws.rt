@@ -1,0 +1,75 @@
+//! Laws of a pair: functions with no work, whose contracts are of the definitions alone.
+//!
+//! They hold in every world that a pair comes to: over every configuration and every list of events,
+//! however the bytes are cut and wherever memory runs out.
+
+ghost use Rattle.std.specs.Prelude.{◌≡◌, ◌⊎◌, ◌++◌, [], List, None, false};
+ghost use Rattle.iscsi_login.specs.declared.stage.Stage.TheVariants as stages;
+ghost use Rattle.iscsi_pair.specs.World.{World, Opening, IsOpening, Suits, Event, Reached, RunsInTime, new_pair, keeps_no_memory};
+ghost use Rattle.iscsi_pair.specs.Traffic.{Traffic, Traces, first_traffic, TargetStands, InitiatorStands};
+
+/// Every run can be traced.
+pub fn every_run_is_traced()
+    ensures traced { (c : Opening) (events : List Event) (w : World) → Reached c events w
+        → (t : Traffic) × Traces (first_traffic c) (new_pair c) events w t }
+{}
+
+/// No byte is lost, added or moved out of order: what was moved to an end and what is still queued
+/// for it are all that was queued for it.
+pub fn queues()
+    ensures target { (c : Opening) (events : List Event) (w : World) (t : Traffic)
+        → Traces (first_traffic c) (new_pair c) events w t
+        → t.moved_to_target ++ w.to_target ≡ t.queued_for_target }
+    ensures initiator { (c : Opening) (events : List Event) (w : World) (t : Traffic)
+        → Traces (first_traffic c) (new_pair c) events w t
+        → t.moved_to_initiator ++ w.to_initiator ≡ t.queued_for_initiator }
+{}
+
+/// While an end hasn't failed, it is where its machine goes with the PDUs that were moved to it, for
+/// the initiator with the requests handed in and the outcomes taken too, in their order, and what its
+/// machine sends is what was queued for the other end.
+pub fn ends()
+    ensures target { (c : Opening) (events : List Event) (w : World) (t : Traffic)
+        → Traces (first_traffic c) (new_pair c) events w t → w.target_fault ≡ None
+        → TargetStands c t w }
+    ensures initiator { (c : Opening) (events : List Event) (w : World) (t : Traffic)
+        → Traces (first_traffic c) (new_pair c) events w t → w.initiator_fault ≡ None
+        → InitiatorStands c t w }
+{}
+
+/// Login agreement: where the initiator has completed its login, the target has, and both hold the
+/// same of every negotiated key and of what each takes in one segment. Later faults and the end of
+/// the session don't undo it (RFC 7143, section 6.3).
+pub fn login_agreement()
+    ensures both { (c : Opening) (events : List Event) (w : World) → IsOpening c
+        → Reached c events w → w.initiator.machine.stage ≡ stages.Full
+        → w.target.machine.stage ≡ stages.Full }
+    ensures equal { (c : Opening) (events : List Event) (w : World) → IsOpening c
+        → Reached c events w → w.initiator.machine.stage ≡ stages.Full
+        → w.target.machine.held ≡ w.initiator.machine.held }
+{}
+
+/// An idle pair has completed its login: where nothing is on its way and neither end has failed, both
+/// are in full feature phase, or were until they parted (RFC 7143, section 6.3).
+pub fn idle_pair()
+    ensures initiator { (c : Opening) (events : List Event) (w : World) → IsOpening c
+        → Reached c events w → w.to_target ≡ [] → w.to_initiator ≡ []
+        → w.target_fault ≡ None → w.initiator_fault ≡ None
+        → w.initiator.machine.stage ≡ stages.Full }
+    ensures target { (c : Opening) (events : List Event) (w : World) → IsOpening c
+        → Reached c events w → w.to_target ≡ [] → w.to_initiator ≡ []
+        → w.target_fault ≡ None → w.initiator_fault ≡ None
+        → w.target.machine.stage ≡ stages.Full }
+{}
+
+/// No failure before login: where the names suit each other and authentication isn't demanded, no
+/// growth was refused and no request came too early, an end that keeps a fault had completed its
+/// login (RFC 7143, sections 6.3, 12.1 and 13.4).
+pub fn no_early_failure()
+    ensures target { (c : Opening) (events : List Event) (w : World) → IsOpening c → Suits c
+        → RunsInTime (new_pair c) events w → keeps_no_memory w ≡ false
+        → (w.target_fault ≡ None) ⊎ (w.target.machine.stage ≡ stages.Full) }
+    ensures initiator { (c : Opening) (events : List Event) (w : World) → IsOpening c → Suits c
+        → RunsInTime (new_pair c) events w → keeps_no_memory w ≡ false
+        → (w.initiator_fault ≡ None) ⊎ (w.initiator.machine.stage ≡ stages.Full) }
+{}

@@ -1,0 +1,11 @@
+//! Two ends of an iSCSI session in one process, with the bytes between them (RFC 7143, section 4).
+#![tactic(auto)]
+
+pub mod laws;
+mod pair;
+mod step;
+#[cfg(test)]
+mod tests;
+
+pub use pair::Pair;
+pub use step::{EndFault, Step};

@@ -1,0 +1,48 @@
+//! What happens to a pair, and why one of its ends fails.
+
+ghost use Rattle.std.specs.Prelude.{◌≡◌};
+ghost use Rattle.std.specs.Result.{result_err};
+ghost use Rattle.iscsi_pair.specs.World.{feed_fault, submit_fault};
+
+use iscsi_initiator::{InitiatorFault, Refused, Request, SubmitFault};
+use iscsi_login::Phase;
+
+/// A step of a pair.
+#[derive(Drop)]
+pub enum Step {
+    /// So many bytes of those queued for the target reach it, or all where fewer are queued.
+    ToTarget(usize),
+    /// So many bytes of those queued for the initiator reach it, or all where fewer are queued.
+    ToInitiator(usize),
+    /// The initiator is handed a request.
+    Submit(Request),
+}
+
+/// Why the initiator of a pair failed.
+#[derive(Debug, Drop)]
+pub enum EndFault {
+    /// What it was fed closed its session.
+    Feed(InitiatorFault),
+    /// It refused a request.
+    Submit(SubmitFault),
+}
+
+// The fault that a piece led to, if it led to one.
+pub(crate) fn feed_fault(fed: Result<Phase, InitiatorFault>) -> Option<EndFault>
+    ensures { result ≡ feed_fault (result_err fed) }
+{
+    match fed {
+        Ok(_) => None,
+        Err(fault) => Some(EndFault::Feed(fault)),
+    }
+}
+
+// The refusal of a request, if it was refused; the request is dropped.
+pub(crate) fn submit_fault(submitted: Result<(), Refused>) -> Option<EndFault>
+    ensures { result ≡ submit_fault (result_err submitted) }
+{
+    match submitted {
+        Ok(()) => None,
+        Err(refused) => Some(EndFault::Submit(refused.fault)),
+    }
+}
