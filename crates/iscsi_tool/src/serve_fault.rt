@@ -24,7 +24,7 @@ pub enum ServeFault {
     /// The line of this number, counted from 1, is no line of a script.
     #[error("script: line {0}")]
     Script(u64),
-    /// A socket could not be opened, or no connection be accepted.
+    /// A socket could not be opened or failed, no connection was accepted, or two ends came to no end.
     #[error("network failed")]
     Network,
     /// A read failed, or there were 16,777,216 of them.
