@@ -1,5 +1,1 @@
 pub mod Lines
-pub mod AnswerLoops
-pub mod Scripts
-pub mod Reported
-pub mod Histories

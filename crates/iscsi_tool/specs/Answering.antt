@@ -1,80 +1,18 @@
--- What a target answers to a stream (RFC 7143, sections 6 and 11; the target's settings are own profile).
-use Rattle.std.specs.Prelude.{◌≡◌, ◌⊎◌, ℕ, true, List, ◌++◌, Option, Result, Ok, Err, codes}
-use Rattle.std.specs.Io.KnownBytes.{Consumes, IsAtEnd}
-use Rattle.scsi_disk.specs.Disk.{Disk, zeros}
+-- What `answer` writes for what it has read (RFC 7143, sections 6 and 11; own rule).
+use Rattle.std.specs.Prelude.{◌≡◌, ℕ, List, Result, Ok, Err}
+use Rattle.scsi_disk.specs.Disk.{zeros}
 use Rattle.iscsi_stream.specs.declared.fault.ToolFault.{ToolFault}
 use Rattle.iscsi_stream.specs.declared.fault.ToolFault.TheVariants as tool
 use Rattle.iscsi_stream.specs.Stream.{Message, Splits, longest_segment}
 use Rattle.iscsi_stream.specs.Canonical.{canon}
-use Rattle.iscsi_stream.specs.Framing.{Framing, HasTaken}
-use Rattle.iscsi_login.specs.Negotiation.{standard}
 use Rattle.iscsi_target.specs.declared.fault.TargetFault.TheVariants as faults
-use Rattle.iscsi_target.specs.Configured.{Settings}
-use Rattle.iscsi_target.specs.State.{Execution, opening}
-use Rattle.iscsi_target.specs.Machine.{answers, is_closed}
-use Rattle.iscsi_target.specs.Feed.{Writes}
-use Rattle.iscsi_target.specs.Laws.{Leads}
-use Rattle.iscsi_tool.specs.declared.answering.SessionFault.{SessionFault}
-use Rattle.iscsi_tool.specs.declared.answering.SessionFault.TheVariants as session
+use Rattle.iscsi_target.specs.State.{opening}
+use Rattle.iscsi_target.specs.Machine.{answers}
+use Rattle.iscsi_service.specs.declared.session.SessionFault.{SessionFault}
+use Rattle.iscsi_service.specs.declared.session.SessionFault.TheVariants as session
+use Rattle.iscsi_service.specs.Session.{target_settings}
 
--- what the target of the programs is configured with
-abbrev pub target_settings : Settings
-target_settings = record {
-  name = codes "iqn.2026-01.example:disk";
-  group = 1;
-  tsih = 1;
-  preferences = standard;
-}
-
--- ---- a session over any store
-
--- the device of no store of a type fails
-abbrev pub NeverFails : {S : Type 0} → (S → ℕ) → Type 0
-NeverFails failures = (s : _) → failures s ≡ 0
-
--- Commands that were executed, one after another, lead from one disk to another.
-abbrev pub HasExecuted : Disk → Disk → Type 0
-HasExecuted before after = (executed : List Execution) × Leads before executed after
-
--- The target has answered all PDUs of what was read: of its longest prefix in the profile. What is written and the
--- blocks are those that they lead to.
-abbrev pub ServesAll : Settings → Disk → List ℕ → Disk → List ℕ → Type 0
-ServesAll settings disk read disk_now written =
-    (ms : List Message) (given rest : List ℕ) → Splits longest_segment read ms given rest
-    → Writes settings 1 disk ms disk_now written
-
--- What a session leaves where it ends. After want of memory, or where a write failed, nothing is said of it.
-abbrev pub Serves : Settings → Disk → Result (Unit {0}) SessionFault → List ℕ → Disk → List ℕ → Type 0
-Serves settings disk (Ok done) read disk_now written = ServesAll settings disk read disk_now written
-Serves settings disk (Err (session.Target (faults.Stream fault))) read disk_now written =
-    ServesAll settings disk read disk_now written
-Serves settings disk (Err (session.Target (faults.Protocol rule))) read disk_now written =
-    ServesAll settings disk read disk_now written
-Serves settings disk (Err (session.Target faults.Closed)) read disk_now written =
-    ServesAll settings disk read disk_now written
-Serves settings disk (Err session.Read) read disk_now written =
-    ServesAll settings disk read disk_now written
-Serves settings disk (Err (session.Target faults.NoMemory)) read disk_now written = Unit {0}
-Serves settings disk (Err session.Write) read disk_now written = Unit {0}
-
--- The session was closed by the first PDUs of what was read: by a logout or a refused login.
-pub record IsOver (settings : Settings) (disk : Disk) (read : List ℕ) : Type 0 where
-  pub front : List ℕ
-  pub rest : List ℕ
-  pub split : read ≡ front ++ rest
-  pub messages : List Message
-  pub framing : Framing
-  pub taken : HasTaken front messages framing
-  pub closed : is_closed (answers (opening settings 1) disk messages).machine ≡ true
-
--- A session that ended well has read its reader to the end, or was closed.
-abbrev pub EndsWell : Settings → Disk → Option (List ℕ) → Option (List ℕ) → Type 0
-EndsWell settings disk before after =
-    IsAtEnd after ⊎ ((read : List ℕ) × Consumes before after read × IsOver settings disk read)
-
--- ---- a filter
-
--- the fault of a filter for that of its session
+-- The fault of a filter for that of its session (own rule).
 abbrev pub filter_fault : SessionFault → ToolFault
 filter_fault (session.Target faults.NoMemory) = tool.NoMemory
 filter_fault (session.Target (faults.Stream fault)) = tool.Stream fault
@@ -83,13 +21,15 @@ filter_fault (session.Target faults.Closed) = tool.Read
 filter_fault session.Read = tool.Read
 filter_fault session.Write = tool.Write
 
--- The answers of the target to all PDUs of what was read are written: of its longest prefix in the profile.
+-- The answers of the target to all PDUs of what was read are written, of its longest prefix in the
+-- profile (own rule).
 abbrev pub AnswersAll : ℕ → List ℕ → List ℕ → Type 0
 AnswersAll blocks read written =
     (ms : List Message) (given rest : List ℕ) → Splits longest_segment read ms given rest
     → written ≡ canon (answers (opening target_settings 1) (zeros blocks) ms).answers
 
--- What is written where answering ends. After want of memory, or where a write failed, nothing is said of it.
+-- What is written where answering ends; after want of memory, or where a write failed, nothing is
+-- said of it (own rule).
 abbrev pub AnswersBytes : ℕ → Result (Unit {0}) ToolFault → List ℕ → List ℕ → Type 0
 AnswersBytes blocks (Ok done) read written = AnswersAll blocks read written
 AnswersBytes blocks (Err (tool.Stream fault)) read written = AnswersAll blocks read written

@@ -9,12 +9,13 @@ use Rattle.iscsi_stream.specs.Stream.{Message, StreamMeans}
 use Rattle.iscsi_stream.specs.Canonical.{canon}
 use Rattle.iscsi_stream.specs.Normalising.{Parts, Wrote, RestFails, NormaliseFails}
 use Rattle.iscsi_stream.specs.Texts.{CanonicalOf, NormalisesText, longest_text}
+use Rattle.iscsi_service.specs.Session.{target_settings, EndsWell}
 use Rattle.iscsi_tool.specs.declared.filter.Filter.{Filter}
 use Rattle.iscsi_tool.specs.declared.filter.Work.{Work}
 use Rattle.iscsi_tool.specs.declared.filter.Work.TheVariants.{Show, Normalise, Text, Answer}
 use Rattle.iscsi_tool.specs.declared.words.Job.{Job}
 use Rattle.iscsi_tool.specs.declared.words.Job.TheVariants as job
-use Rattle.iscsi_tool.specs.Answering.{target_settings, AnswersBytes, EndsWell}
+use Rattle.iscsi_tool.specs.Answering.{AnswersBytes}
 use Rattle.iscsi_tool.specs.HexText.{BytesOf, IsNotHex, hex_line}
 
 -- how a filter ends: done, or why not

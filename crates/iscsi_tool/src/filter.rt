@@ -39,9 +39,10 @@ pub struct Filter {
 
 /// Runs a filter from a reader to a writer.
 ///
-/// Without hex its faults are those of `normalise`, `normalise_text` and `show`. With hex the whole input is read first;
-/// `NotHex` comes before any output, and so do `Read` and `NoMemory` of `Normalise` and `Text`, whose line is written
-/// where the input is in the profile and also where its stream or text has a fault.
+/// Without hex its faults are those of `normalise`, `normalise_text` and `show`. With hex the whole
+/// input is read first; `NotHex` comes before any output, and so do `Read` and `NoMemory` of
+/// `Normalise` and `Text`, whose line is written where the input is in the profile and also where
+/// its stream or text has a fault.
 pub fn run_filter<R: Read, W: Write>(
     alloc: Global,
     filter: Filter,

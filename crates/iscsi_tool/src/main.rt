@@ -1,29 +1,20 @@
-//! The command `lanthovur`: shows, normalises and answers iSCSI byte streams, serves a disk, and runs both ends of a
-//! session.
+//! The command `lanthovur`: shows, normalises and answers iSCSI byte streams, serves a disk, and
+//! runs both ends of a session.
 #![tactic(auto)]
 
 mod answering;
-mod command;
 mod filter;
 mod hex_text;
-mod looping;
-mod report;
-mod script;
-mod serve_fault;
-mod serving;
 #[cfg(test)]
 mod tests;
-mod wire;
 mod words;
 
 ghost use Rattle.std.specs.Prelude.{IfOk};
 ghost use Rattle.iscsi_tool.specs.Filtering.{HasDisk, IsJob};
 
 use crate::filter::{Filter, run_filter};
-use crate::looping::run_loop;
-use crate::serve_fault::ServeFault;
-use crate::serving::serve;
 use crate::words::{Job, LineFault, read_words};
+use iscsi_service::{ServeFault, run_loop, serve};
 use iscsi_stream::ToolFault;
 use std::process::ExitCode;
 
@@ -94,7 +85,7 @@ fn main(rt: HostRuntime) -> ExitCode {
         Ok(Job::Loop { blocks, piece }) => {
             let mut input = rt.stdin();
             let mut output = rt.stdout();
-            let result = run_loop(&rt, blocks, piece as usize, &mut input, &mut output);
+            let result = run_loop(&rt, blocks, piece, &mut input, &mut output);
             ended(&rt, result)
         }
         Err(LineFault::NoMemory) => {

@@ -8,6 +8,7 @@ ghost use Rattle.iscsi_tool.specs.declared.words.Job.TheVariants as job;
 use crate::filter::{Filter, Work};
 use clap::error::ErrorKind;
 use clap::{Arg, ArgAction, ArgMatches, Command, Error};
+use iscsi_service::LONGEST_PIECE;
 use std::alloc::{AllocError, AllocFailed, Global};
 use std::convert::AsStr;
 
@@ -30,7 +31,7 @@ pub enum Job {
         /// How many blocks of 512 bytes the target's disk has, 1 to 65536.
         blocks: u64,
         /// The most bytes that are written before they are read, 1 to 4096.
-        piece: u32,
+        piece: usize,
     },
 }
 
@@ -39,7 +40,8 @@ pub enum Job {
 pub enum LineFault {
     /// Memory ran out.
     NoMemory,
-    /// The words are no job; the text says why and what would be one, or is the help that was asked for.
+    /// The words are no job; the text says why and what would be one, or is the help that was asked
+    /// for.
     Usage(String),
 }
 
@@ -57,9 +59,6 @@ impl<T: Drop> From<AllocFailed<T>> for LineFault {
 
 /// The most blocks that the disk of a target has.
 const MOST_BLOCKS: u64 = 65_536;
-
-/// The most bytes of a piece.
-const LONGEST_PIECE: u32 = 4096;
 
 /// What is done with no words.
 const UNASKED: Job = Job::Filter(Filter {
@@ -164,8 +163,8 @@ fn loop_program<'a>(alloc: Global) -> Result<Command<'a>, AllocError> {
 fn command<'a>(alloc: Global) -> Result<Command<'a>, AllocError> {
     Command::new(alloc, "lanthovur")
         .about(
-            "Shows, normalises and answers iSCSI byte streams, serves a disk, and runs both ends of \
-            a session; with no words it does 'normalise --hex'.",
+            "Shows, normalises and answers iSCSI byte streams, serves a disk, and runs both ends \
+            of a session; with no words it does 'normalise --hex'.",
         )
         .no_binary_name(true)
         .disable_version_flag(true)
@@ -182,8 +181,8 @@ fn command<'a>(alloc: Global) -> Result<Command<'a>, AllocError> {
         .subcommand(loop_program(alloc)?)
 }
 
-/// The job that the words of a command line ask for, without the program's name. Words that are no job, and those that
-/// ask for help, give `Usage` with the text to print.
+/// The job that the words of a command line ask for, without the program's name. Words that are no
+/// job, and those that ask for help, give `Usage` with the text to print.
 pub fn read_words<S: AsStr>(alloc: Global, words: &[S]) -> Result<Job, LineFault>
     ensures unasked { words.now ≡ [] →
         result ≡ Ok (job.Filter (record { work = Normalise; hex = true })) }
@@ -274,13 +273,13 @@ fn loop_of(alloc: Global, asked: &ArgMatches<'_>) -> Result<Job, LineFault>
 }
 
 // The number of bytes that digits say, from 1 to 4096.
-fn piece_of(digits: &str) -> Option<u32>
+fn piece_of(digits: &str) -> Option<usize>
     ensures range { IfSome result (λ n. (0 < n) × (n ≤ 4096)) }
 {
     if !digits.bytes().all(|c| c.is_ascii_digit()) {
         return None;
     }
-    match digits.parse::<u32>() {
+    match digits.parse::<usize>() {
         Ok(piece) if 0 < piece && piece <= LONGEST_PIECE => Some(piece),
         _ => None,
     }

@@ -1,6 +1,6 @@
-//! Answers of a target, worked out by hand from RFC 7143 and the rules of the profile: a line for each
-//! PDU, with its header in hex and, behind an apostrophe, the text of its segment, in which `|` stands
-//! for a byte 00. The padding is left out.
+//! Answers of a target, worked out by hand from RFC 7143 and the rules of the profile: a line for
+//! each PDU, with its header in hex and, behind an apostrophe, the text of its segment, in which
+//! `|` stands for a byte 00. The padding is left out.
 
 use super::{Broken, Full};
 use crate::filter::{Filter, Work, run_filter};
@@ -9,11 +9,11 @@ use std::alloc::Global;
 use std::test::Fail;
 
 // The first request of a login, and the first bytes of another.
-pub(super) const CUT: &str =
+const CUT: &str =
     "43810000 0000006e 40000001 00000000 00000000 00000000 00000001 00000000 00000000 00000000 00000000 00000000 'AuthMethod=None|InitiatorName=iqn.2026-01.example:host|SessionType=Normal|TargetName=iqn.2026-01.example:disk|\n\
     4387";
 
-pub(super) const FIRST_ANSWER: &str =
+const FIRST_ANSWER: &str =
     "23810000 00000027 40000001 00000000 00000000 00000000 00000001 00000001 00000001 00000000 00000000 00000000 'AuthMethod=None|TargetPortalGroupTag=1|";
 
 // A login and a ping.
@@ -28,17 +28,17 @@ const ANSWERS: &str =
     20800000 00000000 00000000 00000000 00000001 ffffffff 00000003 00000001 00000001 00000000 00000000 00000000";
 
 // A first request without the initiator's name, and a ping.
-pub(super) const NAMELESS: &str =
+const NAMELESS: &str =
     "43810000 00000047 40000001 00000000 00000000 00000000 00000001 00000000 00000000 00000000 00000000 00000000 'AuthMethod=None|SessionType=Normal|TargetName=iqn.2026-01.example:disk|\n\
     40800000 00000000 00000000 00000000 00000001 ffffffff 00000001 00000003 00000000 00000000 00000000 00000000";
 
-pub(super) const REFUSAL: &str =
+const REFUSAL: &str =
     "23000000 00000000 40000001 00000000 00000000 00000000 00000000 00000001 00000001 02070000 00000000 00000000";
 
-pub(super) const PING: &str =
+const PING: &str =
     "40800000 00000000 00000000 00000000 00000001 ffffffff 00000001 00000003 00000000 00000000 00000000 00000000";
 
-pub(super) fn bytes_of(alloc: Global, lines: &str) -> Result<Vec<u8>, Fail> {
+fn bytes_of(alloc: Global, lines: &str) -> Result<Vec<u8>, Fail> {
     let mut stream = Vec::new(alloc);
     for line in lines.lines() {
         let (header, text) = line.split_once('\'').unwrap_or((line, ""));

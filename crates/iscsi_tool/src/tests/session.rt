@@ -1,4 +1,5 @@
-//! A captured session of `iscsi-inq` of libiscsi with the target `tgtd`; how it was made stands in `docs/session`.
+//! A captured session of `iscsi-inq` of libiscsi with the target `tgtd`; how it was made stands in
+//! `docs/session`.
 
 use super::{NORMALISE_HEX, SHOW_HEX, run};
 use std::test::*;

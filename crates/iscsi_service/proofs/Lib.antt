@@ -1,0 +1,4 @@
+pub mod SessionReads
+pub mod Scripts
+pub mod Reported
+pub mod Histories

@@ -1,0 +1,56 @@
+use Rattle.std.proofs.Common.{◌≡◌, [], ◌∷◌, List, length, refl, sym, ap, subst, ◌∙◌, arith}
+use Rattle.std.proofs.lemmas.Result.{err_from_is_err_and}
+use Rattle.std.specs.Vec.Iter.{into_iter_items}
+use Rattle.iscsi_service.specs.declared.command.Command.{Command}
+use Rattle.iscsi_service.specs.Looping.{up_to_logout}
+use Rattle.iscsi_service.proofs.Histories.{DoneSoFar, done_none, done_more, done_all, done_stops, goes_on, ends_at}
+use Rattle.iscsi_service.proofs.looping.run_commands.Goals as goal
+
+nothing_left : (commands : List Command) → length commands ≡ 0 → up_to_logout commands ≡ []
+nothing_left [] none = refl
+nothing_left (command ∷ commands) none = absurd (omega arith)
+
+pub loop-command-init : goal.loop-command-init
+loop-command-init g c =
+    let gives = c.into_iter-command-iterator.ensures.into_iter_gives in (
+      subst (λ (cs : List Command). DoneSoFar c.args.commands.items cs c.args.ends.now.initiator.machine (g.W.Write.contents c.args.w.now) (g.W.Write.contents c.args.w.now)) (sym gives.0)
+          (done_none c.args.commands.items c.args.ends.now.initiator.machine (g.W.Write.contents c.args.w.now) c.requires.begins),
+      omega (arith, gives.1, ap length gives.0, c.args.commands.ok.0),
+    )
+
+pub returns-in_err-run_command-clause-err : goal.returns-in_err-run_command-clause-err
+returns-in_err-run_command-clause-err g c =
+    let p = err_from_is_err_and c.from_residual.result c.from_residual.ensures.1 in
+    let at = c.loop-command in
+    rw (p.1, p.2) (done_stops _ c.args.commands.items (into_iter_items at.command-iterator) at.ends.initiator.machine (g.W.Write.contents c.args.w.now) (g.W.Write.contents at.w) (g.W.Write.contents c.run_command.new.w) at.invariant.0 c.in_err-run_command.ensures.err)
+
+pub returns-then-is_logout-clause-runs : goal.returns-then-is_logout-clause-runs
+returns-then-is_logout-clause-runs g c =
+    let at = c.loop-command in
+    let x = c.in-Some.command in
+    let more = into_iter_items c.next.new.self in
+    let ok = c.in_ok-run_command.ensures.ok in
+    done_all c.args.commands.items [] c.run_command.new.ends.initiator.machine (g.W.Write.contents c.args.w.now) (g.W.Write.contents c.run_command.new.w)
+    (done_more c.args.commands.items (into_iter_items at.command-iterator) more x at.ends.initiator.machine c.run_command.new.ends.initiator.machine ok.0 (g.W.Write.contents c.args.w.now) (g.W.Write.contents at.w) (g.W.Write.contents c.run_command.new.w) at.invariant.0
+    c.in-Some.ensures.steps.0 ok.1 ok.2 [] (ends_at x more (sym c.is_logout-is_logout.ensures ∙ c.if-is_logout.true))) refl
+
+pub loop-command-preserved : goal.loop-command-preserved
+loop-command-preserved g c =
+    let at = c.loop-command in
+    let x = c.in-Some.command in
+    let more = into_iter_items c.next.new.self in
+    let steps : into_iter_items at.command-iterator ≡ x ∷ more = c.in-Some.ensures.steps.0 in
+    let ok = c.in_ok-run_command.ensures.ok in (
+      done_more c.args.commands.items (into_iter_items at.command-iterator) more x at.ends.initiator.machine c.run_command.new.ends.initiator.machine ok.0 (g.W.Write.contents c.args.w.now) (g.W.Write.contents at.w) (g.W.Write.contents c.run_command.new.w) at.invariant.0
+          steps ok.1 ok.2 more (goes_on x more (sym c.is_logout-is_logout.ensures ∙ c.if-is_logout.false)),
+      let was = at.invariant.1 in
+          let gone = c.in-Some.ensures.steps.1 in
+          let short = ap length steps in
+          omega arith,
+    )
+
+pub returns-clause-runs : goal.returns-clause-runs
+returns-clause-runs g c =
+    let at = c.loop-command in
+    let none = c.in-None.ensures.steps in
+    done_all c.args.commands.items (into_iter_items at.command-iterator) at.ends.initiator.machine (g.W.Write.contents c.args.w.now) (g.W.Write.contents at.w) at.invariant.0 (nothing_left (into_iter_items at.command-iterator) (sym at.invariant.1 ∙ none.0))

@@ -1,0 +1,11 @@
+use Rattle.std.proofs.Common.{subst}
+use Rattle.iscsi_login.specs.Negotiation.{IsInRange}
+use Rattle.iscsi_target.specs.Configured.{Settings}
+use Rattle.iscsi_service.proofs.SessionReads.{fault_served}
+use Rattle.iscsi_service.proofs.serving.serve_one.Goals as goal
+
+pub returns-clause-serves : goal.returns-clause-serves
+returns-clause-serves g c =
+    let s = c.in-Err.ensures.serves in
+    let range : IsInRange c.args.config.preferences = subst (λ (x : Settings). IsInRange x.preferences) c.config.view_is c.config.invariant.2 in
+    (s.0, s.1, λ h. rw c.from.ensures (fault_served c.args.config (g.S.BlockStore.disk c.args.store.now) c.in-Err.fault s.0 (g.S.BlockStore.disk c.serve_stream.new.store) s.1 (s.4 range h)))

@@ -1,0 +1,7 @@
+pub mod Session
+pub mod Serving
+pub mod Commands
+pub mod Script
+pub mod Reports
+pub mod Looping
+pub mod LoopSteps

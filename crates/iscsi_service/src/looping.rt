@@ -1,0 +1,307 @@
+//! A session of an initiator and a target over a socket, as a script says.
+
+ghost use Rattle.std.specs.Prelude.{◌≡◌, ◌<◌, ◌≤◌, ◌∷◌, [], ℕ, List, IfOk, IfErr, OnOk};
+ghost use Rattle.std.specs.Io.KnownBytes.{Appends, Consumes};
+ghost use Rattle.iscsi_initiator.specs.State.{opening};
+ghost use Rattle.iscsi_initiator.specs.Calls.{opening_connection};
+ghost use Rattle.iscsi_initiator.specs.declared.request.Done.{Done};
+ghost use Rattle.iscsi_service.specs.Reports.{report};
+ghost use Rattle.iscsi_service.specs.Commands.{request_of};
+ghost use Rattle.iscsi_service.specs.Looping.{initiator_settings, Loops};
+ghost use Rattle.iscsi_service.specs.LoopSteps.{Continues, IsOfSession, Runs, Stops, WritesNothing};
+
+use crate::command::Command;
+use crate::report::report;
+use crate::script::read_script;
+use crate::serve_fault::ServeFault;
+use crate::session::{FIRST_STAT_SN, TARGET_NAME, configuration};
+use crate::wire::Wire;
+use iscsi_initiator::{Config, Done, Initiator, InitiatorFault, SubmitFault};
+use iscsi_login::{Auth, Offers, Phase, Preferences, Session, Stage};
+use iscsi_stream::write_fully;
+use iscsi_target::Target;
+use scsi_disk::SparseStore;
+use std::alloc::{AllocError, Global};
+use std::io::{Read, Write};
+
+/// The most bytes of a piece, which one end writes before the other reads them (own rule).
+pub const LONGEST_PIECE: usize = 4096;
+
+/// The name of the initiator (own rule).
+const INITIATOR_NAME: &[u8] = b"iqn.2026-01.example:host";
+/// The initiator's part of the session's identifier (RFC 7143, section 11.12.5).
+const ISID: [u8; 6] = [0x40, 0, 0, 1, 0, 0];
+/// The CmdSN of the login and of the first request (own rule).
+const FIRST_CMD_SN: u32 = 1;
+/// The most bytes of one segment of a login text (own rule).
+const LOGIN_SEGMENT: u32 = 8192;
+/// How often one end answers the other before the connection counts as failed (own rule).
+const TURNS: u32 = 16_777_216;
+
+/// Logs an initiator in to a target with a disk of so many blocks of 00, over a socket of this
+/// machine, and does what a script says. What an end sends goes in pieces of at most so many bytes,
+/// each read as it is written. Writes a line for the login and one for what came of each command,
+/// up to the first logout; without one the connection is closed at the end of the script.
+///
+/// Before any output `Script` is answered with the first line that is no command, and with that of
+/// the first byte too many where the script has more than 1,048,576 bytes; `Read` where a read
+/// fails or 16,777,216 of them did not reach the end. `NoMemory` comes where memory runs out, then
+/// or later. `Target` and `Initiator` are the first fault of an end. A refused request and one
+/// without an outcome are `Initiator` with `Closed`: these ends give no cause for it. `Network`
+/// comes where a socket fails, or the ends answered each other 16,777,216 times, and `Write` where
+/// a line can't be written.
+///
+/// The sessions are those of RFC 7143, sections 4 to 11; the lines of a script and those that are
+/// written are own rule.
+pub fn run_loop<R: Read, W: Write>(
+    rt: &HostRuntime,
+    blocks: u64,
+    piece: usize,
+    r: &mut R,
+    w: &mut W,
+) -> Result<(), ServeFault>
+    requires some { 0 < blocks }
+    requires few { blocks ≤ 65536 }
+    requires moves { 0 < piece }
+    requires short { piece ≤ 4096 }
+    ensures loops { (script : List ℕ) × (written : List ℕ)
+        × Consumes (R.remaining r.old) (R.remaining r.new) script
+        × Appends (W.contents w.old) (W.contents w.new) written
+        × Loops result script written }
+{
+    let commands = read_script(rt.alloc(), r)?;
+    let mut ends = Ends::open(rt, blocks, piece)?;
+    ends.log_in()?;
+    write_line(w, b"login\n")?;
+    run_commands(&mut ends, commands, w)?;
+    ends.close()
+}
+
+// Does the commands up to the first logout, with a line for each.
+fn run_commands<W: Write>(
+    ends: &mut Ends,
+    commands: Vec<Command>,
+    w: &mut W,
+) -> Result<(), ServeFault>
+    requires begins { Continues (opening initiator_settings) [] [] ends.old.initiator.machine }
+    ensures runs { OnOk result (Runs commands.items (W.contents w.old) (W.contents w.new)) }
+    ensures err { IfErr result (λ fault.
+        Stops fault commands.items (W.contents w.old) (W.contents w.new)) }
+{
+    for command in commands {
+        let is_logout = command.is_logout();
+        run_command(ends, command, w)?;
+        if is_logout {
+            return Ok(());
+        }
+    }
+    Ok(())
+}
+
+// Does a command, and writes the line of its outcome.
+fn run_command<W: Write>(ends: &mut Ends, command: Command, w: &mut W) -> Result<(), ServeFault>
+    ensures ok { OnOk result ((done : Done)
+        × Continues ends.old.initiator.machine (request_of command ∷ []) (done ∷ [])
+        ends.new.initiator.machine
+        × Appends (W.contents w.old) (W.contents w.new) (report done)) }
+    ensures err { IfErr result (λ fault.
+        WritesNothing fault (W.contents w.old) (W.contents w.new)) }
+{
+    let alloc = ends.alloc;
+    let done = ends.perform(command)?;
+    write_line(w, report(alloc, &done)?.as_bytes())
+}
+
+// Writes a line.
+fn write_line<W: Write>(w: &mut W, line: &[u8]) -> Result<(), ServeFault>
+    ensures ok { OnOk result (Appends (W.contents w.old) (W.contents w.new) line.now) }
+    ensures err { IfErr result (λ fault.
+        WritesNothing fault (W.contents w.old) (W.contents w.new)) }
+{
+    match write_fully(w, line) {
+        Ok(()) => Ok(()),
+        Err(_) => Err(ServeFault::Write),
+    }
+}
+
+/// Both ends of a session, and the connection between them.
+#[derive(Drop)]
+struct Ends {
+    alloc: Global,
+    initiator: Initiator,
+    target: Target,
+    store: SparseStore,
+    wire: Wire,
+    /// The most bytes of a piece, 1 to 4096.
+    piece: usize,
+    ghost moves: { 0 < piece },
+    ghost short: { piece ≤ 4096 },
+}
+
+impl Ends {
+    // Both ends of a session that is not started.
+    fn open(rt: &HostRuntime, blocks: u64, piece: usize) -> Result<Ends, ServeFault>
+        requires some { 0 < blocks }
+        requires few { blocks ≤ 65536 }
+        requires moves { 0 < piece }
+        requires short { piece ≤ 4096 }
+        ensures opening { IfOk result (λ ends.
+            ends.initiator ≡ opening_connection initiator_settings) }
+        ensures err { IfErr result IsOfSession }
+    {
+        let alloc = rt.alloc();
+        Ok(Ends {
+            alloc,
+            initiator: Initiator::new(alloc, initiator_configuration(alloc)?),
+            target: Target::new(alloc, configuration(alloc)?, FIRST_STAT_SN),
+            store: SparseStore::new(alloc, blocks),
+            wire: Wire::open(rt)?,
+            piece,
+        })
+    }
+
+    // Logs in.
+    fn log_in(&mut self) -> Result<(), ServeFault>
+        ensures continues { OnOk result
+            (Continues self.old.initiator.machine [] [] self.new.initiator.machine) }
+        ensures err { IfErr result IsOfSession }
+    {
+        let mut out = Vec::new(self.alloc);
+        self.initiator.start(&mut out)?;
+        self.settle(out)?;
+        match self.initiator.phase() {
+            Phase::Full => Ok(()),
+            Phase::Login | Phase::Closed => Err(no_outcome()),
+        }
+    }
+
+    // Hands in a command, and gives what came of it.
+    fn perform(&mut self, command: Command) -> Result<Done, ServeFault>
+        ensures continues { IfOk result (λ done. Continues self.old.initiator.machine
+            (request_of command ∷ []) (done ∷ []) self.new.initiator.machine) }
+        ensures err { IfErr result IsOfSession }
+    {
+        let request = command.into_request(self.alloc)?;
+        let mut out = Vec::new(self.alloc);
+        match self.initiator.submit(request, &mut out) {
+            Ok(()) => {}
+            Err(refused) => return Err(refusal(refused.fault)),
+        }
+        self.settle(out)?;
+        match self.initiator.outcome() {
+            Some(done) => Ok(done),
+            None => Err(no_outcome()),
+        }
+    }
+
+    // Carries what the initiator sends to the target, and its answers back, until neither has more
+    // to say.
+    fn settle(&mut self, requests: Vec<u8>) -> Result<(), ServeFault>
+        ensures continues { OnOk result
+            (Continues self.old.initiator.machine [] [] self.new.initiator.machine) }
+        ensures err { IfErr result IsOfSession }
+    {
+        let mut requests = requests;
+        for _ in 0..TURNS {
+            if requests.is_empty() {
+                return Ok(());
+            }
+            let answers = self.ask(&requests)?;
+            requests = self.hear(&answers)?;
+        }
+        Err(ServeFault::Network)
+    }
+
+    // Carries requests to the target, and gives its answers.
+    fn ask(&mut self, requests: &[u8]) -> Result<Vec<u8>, ServeFault>
+        ensures kept { self.new.initiator ≡ self.old.initiator }
+        ensures err { IfErr result IsOfSession }
+    {
+        let mut answers = Vec::new(self.alloc);
+        let mut buffer = [0u8; LONGEST_PIECE];
+        let mut rest = requests;
+        while !rest.is_empty() {
+            let len = rest.len().min(self.piece);
+            let read = &mut buffer[..len];
+            self.wire.to_target(&rest[..len], read)?;
+            self.target.feed(read, &mut self.store, &mut answers)?;
+            rest = &rest[len..];
+        }
+        Ok(answers)
+    }
+
+    // Carries answers to the initiator, and gives what it sends then.
+    fn hear(&mut self, answers: &[u8]) -> Result<Vec<u8>, ServeFault>
+        ensures continues { OnOk result
+            (Continues self.old.initiator.machine [] [] self.new.initiator.machine) }
+        ensures err { IfErr result IsOfSession }
+    {
+        let mut requests = Vec::new(self.alloc);
+        let mut buffer = [0u8; LONGEST_PIECE];
+        let mut rest = answers;
+        while !rest.is_empty() {
+            let len = rest.len().min(self.piece);
+            let read = &mut buffer[..len];
+            self.wire.to_initiator(&rest[..len], read)?;
+            self.initiator.feed(read, &mut requests)?;
+            rest = &rest[len..];
+        }
+        Ok(requests)
+    }
+
+    // Closes the connection. The target is told of it, unless the session was closed before.
+    fn close(self) -> Result<(), ServeFault>
+        ensures err { IfErr result IsOfSession }
+    {
+        let Ends {
+            mut target,
+            wire,
+            ..
+        } = self;
+        wire.close()?;
+        if target.phase() != Phase::Closed {
+            target.finish()?;
+        }
+        Ok(())
+    }
+}
+
+// The fault of a request that is refused.
+fn refusal(fault: SubmitFault) -> ServeFault
+    ensures { IsOfSession result }
+{
+    match fault {
+        SubmitFault::NoMemory => ServeFault::NoMemory,
+        _ => no_outcome(),
+    }
+}
+
+// The fault of a session that takes no request, or ends without an outcome.
+fn no_outcome() -> ServeFault
+    ensures { IsOfSession result }
+{
+    ServeFault::Initiator(InitiatorFault::Closed)
+}
+
+// What the initiator is configured with. The only error is that memory ran out.
+fn initiator_configuration(alloc: Global) -> Result<Config, AllocError>
+    ensures settings { IfOk result (λ config. config ≡ initiator_settings) }
+{
+    let offers = Offers {
+        initiator: INITIATOR_NAME,
+        target: TARGET_NAME,
+        session: Session::Normal,
+        auth: Auth::None,
+        prefs: Preferences::standard(),
+    };
+    // Names and numbers are in range, so memory alone can be wanting.
+    Config::new(
+        alloc,
+        offers,
+        Stage::Security,
+        ISID,
+        FIRST_CMD_SN,
+        LOGIN_SEGMENT,
+    )
+    .map_err(|_| AllocError)
+}

@@ -1,0 +1,99 @@
+//! A target's service on a socket: one connection after another, over one store.
+
+ghost use Rattle.std.specs.Prelude.{◌≡◌, ◌<◌, ◌≤◌, ◌⊎◌, ℕ, List, IfErr};
+ghost use Rattle.iscsi_service.specs.Session.{HasExecuted, NeverFails};
+ghost use Rattle.iscsi_service.specs.Serving.{ServesOne, EndsService};
+
+use crate::serve_fault::ServeFault;
+use crate::session::{configuration, serve_stream};
+use iscsi_target::Config;
+use scsi_disk::{BlockStore, SparseStore};
+use std::alloc::Global;
+use std::net::{Ipv4Addr, TcpListener};
+
+/// Accepts one connection and runs a target's session over it, with first StatSN 1. The session's
+/// memory goes with it; the store stays.
+///
+/// A session that is closed, by a logout or a refused login, and a connection that ends between two
+/// PDUs are no fault. `Network` is answered where no connection is accepted, `Target` where the
+/// target refuses what its initiator sent or the connection ends within a PDU, after the answers
+/// that were due; `Read` where a read from the connection fails or 16,777,216 of them did not reach
+/// its end; `Write` where a write to it fails; and `NoMemory` where memory runs out.
+///
+/// The session is that of RFC 7143, sections 6 and 11; that it has a connection of its own is own
+/// rule.
+#[tactic(auto, using(crate::proofs::SessionReads::none_executed))]
+pub fn serve_one<S: BlockStore>(
+    alloc: Global,
+    listener: &TcpListener,
+    store: &mut S,
+    config: Config,
+) -> Result<(), ServeFault>
+    // What a connection gives and takes is not known beforehand.
+    ensures serves { (read : List ℕ) × (written : List ℕ) × (NeverFails S.failures
+        → ServesOne config (S.disk store.old) result read (S.disk store.new) written) }
+    // Whatever comes of it, the blocks are those that commands left.
+    ensures blocks { HasExecuted (S.disk store.old) (S.disk store.new) }
+{
+    let Ok((stream, _)) = listener.accept() else {
+        return Err(ServeFault::Network);
+    };
+    match serve_stream(alloc, config, store, &mut &stream, &mut &stream) {
+        Ok(()) => Ok(()),
+        Err(fault) => Err(ServeFault::from(fault)),
+    }
+}
+
+/// Listens on 127.0.0.1, prints `listening`, and serves so many connections, one after another,
+/// over one store of so many blocks of 00. Port 0 is one that the system picks.
+///
+/// A session that ends with a fault has the fault's line on standard error, and the next one is
+/// served. Only want of memory and a fault of the network end the service; `Write` is answered
+/// where `listening` cannot be printed (own rule).
+pub fn serve(rt: &HostRuntime, port: u16, blocks: u64, sessions: u16) -> Result<(), ServeFault>
+    requires some { 0 < blocks }
+    requires few { blocks ≤ 65536 }
+    ensures ends { IfErr result (λ fault. EndsService fault ⊎ (fault ≡ ServeFault.Write)) }
+{
+    let listener = listen(rt, port)?;
+    serve_all(rt, &listener, blocks, sessions)
+}
+
+// A listener, which is announced. It alone answers Write.
+fn listen(rt: &HostRuntime, port: u16) -> Result<TcpListener, ServeFault>
+    ensures fault { IfErr result
+        (λ fault. (fault ≡ ServeFault.Network) ⊎ (fault ≡ ServeFault.Write)) }
+{
+    let Ok(listener) = TcpListener::bind(rt, (Ipv4Addr::LOCALHOST, port)) else {
+        return Err(ServeFault::Network);
+    };
+    if println!(rt; "listening").is_err() {
+        return Err(ServeFault::Write);
+    }
+    Ok(listener)
+}
+
+// So many sessions, over one store.
+fn serve_all(
+    rt: &HostRuntime,
+    listener: &TcpListener,
+    blocks: u64,
+    sessions: u16,
+) -> Result<(), ServeFault>
+    requires some { 0 < blocks }
+    requires few { blocks ≤ 65536 }
+    ensures ends { IfErr result EndsService }
+{
+    let alloc = rt.alloc();
+    let mut store = SparseStore::new(alloc, blocks);
+    for _ in 0..sessions {
+        match serve_one(alloc, listener, &mut store, configuration(alloc)?) {
+            Ok(()) => {}
+            Err(fault @ (ServeFault::NoMemory | ServeFault::Network)) => return Err(fault),
+            Err(fault) => {
+                let _ = eprintln!(rt; "{fault}");
+            }
+        }
+    }
+    Ok(())
+}

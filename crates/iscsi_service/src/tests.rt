@@ -1,0 +1,80 @@
+//! Sessions of a target and of both ends. Streams are worked out by hand from RFC 7143 and the
+//! rules of the profile: a line for each PDU, with its header in hex and, behind an apostrophe, the
+//! text of its segment, in which `|` stands for a byte 00. The padding is left out.
+
+mod loops;
+mod serving;
+mod streams;
+
+use std::alloc::Global;
+use std::io;
+use std::io::{Read, Write};
+use std::test::Fail;
+
+// The first request of a login, and the first bytes of another.
+const CUT: &str =
+    "43810000 0000006e 40000001 00000000 00000000 00000000 00000001 00000000 00000000 00000000 00000000 00000000 'AuthMethod=None|InitiatorName=iqn.2026-01.example:host|SessionType=Normal|TargetName=iqn.2026-01.example:disk|\n\
+    4387";
+
+const FIRST_ANSWER: &str =
+    "23810000 00000027 40000001 00000000 00000000 00000000 00000001 00000001 00000001 00000000 00000000 00000000 'AuthMethod=None|TargetPortalGroupTag=1|";
+
+// A first request without the initiator's name, and a ping.
+const NAMELESS: &str =
+    "43810000 00000047 40000001 00000000 00000000 00000000 00000001 00000000 00000000 00000000 00000000 00000000 'AuthMethod=None|SessionType=Normal|TargetName=iqn.2026-01.example:disk|\n\
+    40800000 00000000 00000000 00000000 00000001 ffffffff 00000001 00000003 00000000 00000000 00000000 00000000";
+
+const REFUSAL: &str =
+    "23000000 00000000 40000001 00000000 00000000 00000000 00000000 00000001 00000001 02070000 00000000 00000000";
+
+// A ping before any login.
+const PING: &str =
+    "40800000 00000000 00000000 00000000 00000001 ffffffff 00000001 00000003 00000000 00000000 00000000 00000000";
+
+fn bytes_of(alloc: Global, lines: &str) -> Result<Vec<u8>, Fail> {
+    let mut stream = Vec::new(alloc);
+    for line in lines.lines() {
+        let (header, text) = line.split_once('\'').unwrap_or((line, ""));
+        let digits: Vec<u8> = header
+            .as_bytes()
+            .iter()
+            .copied()
+            .filter(|b| *b != b' ')
+            .collect(alloc)?;
+        stream.extend_from_slice(&hex::decode(alloc, digits)?)?;
+        for byte in text.bytes() {
+            stream.push(if byte == b'|' { 0 } else { byte })?;
+        }
+        stream.extend_from_slice([0u8; 3].get(..(4 - text.len() % 4) % 4).unwrap_or(&[]))?;
+    }
+    Ok(stream)
+}
+
+/// Gives this once, and fails from then on.
+#[derive(Drop)]
+struct Broken<'a>(Option<&'a [u8]>);
+
+impl Read for Broken<'_> {
+    fn read(&mut self, buf: &mut [u8]) -> io::Result<usize> {
+        let Some(rest) = self.0.take() else {
+            return Err(io::Error::from(io::ErrorKind::Other));
+        };
+        let n = buf.len().min(rest.len());
+        buf[..n].copy_from_slice(&rest[..n]);
+        Ok(n)
+    }
+}
+
+/// Takes no byte.
+#[derive(Drop)]
+struct Full;
+
+impl Write for Full {
+    fn write(&mut self, _buf: &[u8]) -> io::Result<usize> {
+        Ok(0)
+    }
+
+    fn flush(&mut self) -> io::Result<()> {
+        Ok(())
+    }
+}

@@ -1,0 +1,144 @@
+//! Sessions over sockets: a connection to a listener of the test's own.
+
+use super::{CUT, FIRST_ANSWER, NAMELESS, PING, REFUSAL, bytes_of};
+use crate::serve_fault::ServeFault;
+use crate::serving::serve_one;
+use crate::session::configuration;
+use iscsi_initiator::InitiatorFault;
+use iscsi_stream::StreamFault;
+use iscsi_target::TargetFault;
+use scsi_disk::SparseStore;
+use std::alloc::Global;
+use std::io::{Read, Write};
+use std::net::{Ipv4Addr, Net, Shutdown, TcpListener, TcpStream};
+use std::test::Fail;
+
+// A login and a logout.
+const LOGOUT: &str =
+    "43810000 0000006e 40000001 00000000 00000000 00000000 00000001 00000000 00000000 00000000 00000000 00000000 'AuthMethod=None|InitiatorName=iqn.2026-01.example:host|SessionType=Normal|TargetName=iqn.2026-01.example:disk|\n\
+    43870000 0000006e 40000001 00000000 00000000 00000000 00000001 00000002 00000000 00000000 00000000 00000000 'HeaderDigest=CRC32C,None|IFMarker=No|InitialR2T=No|MaxBurstLength=1024|MaxRecvDataSegmentLength=4096|X-test=1|\n\
+    46800000 00000000 00000000 00000000 00000001 00000000 00000001 00000003 00000000 00000000 00000000 00000000";
+
+const LOGOUT_ANSWERS: &str =
+    "23810000 00000027 40000001 00000000 00000000 00000000 00000001 00000001 00000001 00000000 00000000 00000000 'AuthMethod=None|TargetPortalGroupTag=1|\n\
+    23870000 00000073 40000001 00000001 00000000 00000000 00000002 00000001 00000001 00000000 00000000 00000000 'HeaderDigest=None|IFMarker=No|InitialR2T=No|MaxBurstLength=1024|MaxRecvDataSegmentLength=8192|X-test=NotUnderstood|\n\
+    26800000 00000000 00000000 00000000 00000001 00000000 00000003 00000001 00000001 00000000 00000000 00000000";
+
+// A login in one stage, a write of block 3 with immediate data, a logout.
+const WRITE: &str =
+    "43870000 0000006e 40000001 00000000 00000000 00000000 00000001 00000000 00000000 00000000 00000000 00000000 'AuthMethod=None|InitiatorName=iqn.2026-01.example:host|SessionType=Normal|TargetName=iqn.2026-01.example:disk|\n\
+    01a10000 00000200 00000000 00000000 00000001 00000200 00000001 00000002 2a000000 00030000 01000000 00000000 'ZZZZZZZZZZZZZZZZZZZZZZZZZZZZZZZZZZZZZZZZZZZZZZZZZZZZZZZZZZZZZZZZZZZZZZZZZZZZZZZZZZZZZZZZZZZZZZZZZZZZZZZZZZZZZZZZZZZZZZZZZZZZZZZZZZZZZZZZZZZZZZZZZZZZZZZZZZZZZZZZZZZZZZZZZZZZZZZZZZZZZZZZZZZZZZZZZZZZZZZZZZZZZZZZZZZZZZZZZZZZZZZZZZZZZZZZZZZZZZZZZZZZZZZZZZZZZZZZZZZZZZZZZZZZZZZZZZZZZZZZZZZZZZZZZZZZZZZZZZZZZZZZZZZZZZZZZZZZZZZZZZZZZZZZZZZZZZZZZZZZZZZZZZZZZZZZZZZZZZZZZZZZZZZZZZZZZZZZZZZZZZZZZZZZZZZZZZZZZZZZZZZZZZZZZZZZZZZZZZZZZZZZZZZZZZZZZZZZZZZZZZZZZZZZZZZZZZZZZZZZZZZZZZZZZZZZZZZZZZZZZZZZZZZZZZZZZZZZZZZZZZZZZZZZZZZZ\n\
+    46800000 00000000 00000000 00000000 00000002 00000000 00000002 00000003 00000000 00000000 00000000 00000000";
+
+const WRITE_ANSWERS: &str =
+    "23870000 00000045 40000001 00000001 00000000 00000000 00000001 00000001 00000001 00000000 00000000 00000000 'AuthMethod=None|MaxRecvDataSegmentLength=8192|TargetPortalGroupTag=1|\n\
+    21800000 00000000 00000000 00000000 00000001 00000000 00000002 00000002 00000002 00000000 00000000 00000000\n\
+    26800000 00000000 00000000 00000000 00000002 00000000 00000003 00000002 00000002 00000000 00000000 00000000";
+
+// The same login, and a read of blocks 2 and 3.
+const READ: &str =
+    "43870000 0000006e 40000001 00000000 00000000 00000000 00000001 00000000 00000000 00000000 00000000 00000000 'AuthMethod=None|InitiatorName=iqn.2026-01.example:host|SessionType=Normal|TargetName=iqn.2026-01.example:disk|\n\
+    01c10000 00000000 00000000 00000000 00000001 00000400 00000001 00000002 28000000 00020000 02000000 00000000";
+
+const READ_ANSWERS: &str =
+    "23870000 00000045 40000001 00000001 00000000 00000000 00000001 00000001 00000001 00000000 00000000 00000000 'AuthMethod=None|MaxRecvDataSegmentLength=8192|TargetPortalGroupTag=1|\n\
+    25800000 00000400 00000000 00000000 00000001 ffffffff 00000000 00000002 00000002 00000000 00000000 00000000 '||||||||||||||||||||||||||||||||||||||||||||||||||||||||||||||||||||||||||||||||||||||||||||||||||||||||||||||||||||||||||||||||||||||||||||||||||||||||||||||||||||||||||||||||||||||||||||||||||||||||||||||||||||||||||||||||||||||||||||||||||||||||||||||||||||||||||||||||||||||||||||||||||||||||||||||||||||||||||||||||||||||||||||||||||||||||||||||||||||||||||||||||||||||||||||||||||||||||||||||||||||||||||||||||||||||||||||||||||||||||||||||||||||||||||||||||||||||||||||||||||||||||||||||||||||||||||||||||ZZZZZZZZZZZZZZZZZZZZZZZZZZZZZZZZZZZZZZZZZZZZZZZZZZZZZZZZZZZZZZZZZZZZZZZZZZZZZZZZZZZZZZZZZZZZZZZZZZZZZZZZZZZZZZZZZZZZZZZZZZZZZZZZZZZZZZZZZZZZZZZZZZZZZZZZZZZZZZZZZZZZZZZZZZZZZZZZZZZZZZZZZZZZZZZZZZZZZZZZZZZZZZZZZZZZZZZZZZZZZZZZZZZZZZZZZZZZZZZZZZZZZZZZZZZZZZZZZZZZZZZZZZZZZZZZZZZZZZZZZZZZZZZZZZZZZZZZZZZZZZZZZZZZZZZZZZZZZZZZZZZZZZZZZZZZZZZZZZZZZZZZZZZZZZZZZZZZZZZZZZZZZZZZZZZZZZZZZZZZZZZZZZZZZZZZZZZZZZZZZZZZZZZZZZZZZZZZZZZZZZZZZZZZZZZZZZZZZZZZZZZZZZZZZZZZZZZZZZZZZZZZZZZZZZZZZZZZZZZZZZZZZZZZZZZZZZZZZZZZZZZZZZZZZZZZ\n\
+    21800000 00000000 00000000 00000000 00000001 00000000 00000002 00000002 00000002 00000001 00000000 00000000";
+
+// What one session answers over a connection, and how it ends. The connection may be ended by its
+// initiator first.
+fn exchange<N>(
+    rt: &N,
+    alloc: Global,
+    store: &mut SparseStore,
+    requests: &str,
+    ends: bool,
+) -> Result<(Result<(), ServeFault>, Vec<u8>), Fail>
+where
+    N: Net<Listener = TcpListener, Stream = TcpStream>,
+{
+    let listener = TcpListener::bind(rt, (Ipv4Addr::LOCALHOST, 0))?;
+    let mut initiator = TcpStream::connect(rt, listener.local_addr()?)?;
+    initiator.write_all(&bytes_of(alloc, requests)?)?;
+    if ends {
+        initiator.shutdown(Shutdown::Write)?;
+    }
+    let result = serve_one(alloc, &listener, store, configuration(alloc)?);
+    let mut answers = Vec::new(alloc);
+    initiator.read_to_end(&mut answers)?;
+    Ok((result, answers))
+}
+
+// The line of a fault, or nothing.
+fn line_of(alloc: Global, outcome: Result<(), ServeFault>) -> Result<String, Fail> {
+    match outcome {
+        Ok(()) => Ok(String::new(alloc)),
+        Err(fault) => Ok(format!(in alloc; "{fault}")?),
+    }
+}
+
+#[test]
+fn sessions_over_a_socket(rt: HostRuntime) -> Result<(), Fail> {
+    let rows = [
+        // Closed by the target, while the connection stands.
+        (LOGOUT, LOGOUT_ANSWERS, false, ""),
+        (NAMELESS, REFUSAL, false, ""),
+        (PING, "", false, "protocol: rule 1"),
+        // Ended by the initiator.
+        ("", "", true, ""),
+        (CUT, FIRST_ANSWER, true, "stream: truncated at 160"),
+    ];
+    for (requests, answers, ends, line) in rows {
+        let mut store = SparseStore::new(rt.alloc(), 8);
+        let (result, out) = exchange(&rt, rt.alloc(), &mut store, requests, ends)?;
+        assert_eq!(rt; line_of(rt.alloc(), result)?.as_str(), line, "{requests}");
+        assert_eq!(rt;
+            out.as_slice(),
+            bytes_of(rt.alloc(), answers)?.as_slice(),
+            "{requests}"
+        );
+    }
+    Ok(())
+}
+
+#[test]
+fn a_session_reads_what_an_earlier_one_wrote(rt: HostRuntime) -> Result<(), Fail> {
+    let mut store = SparseStore::new(rt.alloc(), 8);
+    for (requests, answers, ends) in [(WRITE, WRITE_ANSWERS, false), (READ, READ_ANSWERS, true)] {
+        let (result, out) = exchange(&rt, rt.alloc(), &mut store, requests, ends)?;
+        assert!(rt; result.is_ok());
+        assert_eq!(rt; out.as_slice(), bytes_of(rt.alloc(), answers)?.as_slice());
+    }
+    Ok(())
+}
+
+#[test]
+fn lines_and_statuses_of_faults(rt: HostRuntime) -> Result<(), Fail> {
+    let rows = [
+        (ServeFault::NoMemory, "memory", 3),
+        (
+            ServeFault::Target(TargetFault::Stream(StreamFault::Truncated(48))),
+            "stream: truncated at 48",
+            1,
+        ),
+        (
+            ServeFault::Target(TargetFault::Protocol(4)),
+            "protocol: rule 4",
+            1,
+        ),
+        (
+            ServeFault::Initiator(InitiatorFault::Refused(2, 7)),
+            "login refused: 0207",
+            1,
+        ),
+        (ServeFault::Script(2), "script: line 2", 1),
+        (ServeFault::Network, "network failed", 4),
+        (ServeFault::Read, "read failed", 4),
+        (ServeFault::Write, "write failed", 4),
+    ];
+    for (fault, line, status) in rows {
+        assert_eq!(rt; format!(in rt.alloc(); "{fault}")?.as_str(), line);
+        assert_eq!(rt; fault.status(), status, "{line}");
+    }
+    Ok(())
+}

@@ -1,0 +1,87 @@
+//! A connection of this process to itself.
+
+ghost use Rattle.std.specs.Prelude.{IfErr};
+ghost use Rattle.iscsi_service.specs.LoopSteps.{IsOfSession};
+
+use crate::serve_fault::ServeFault;
+use iscsi_stream::write_fully;
+use std::io;
+use std::io::Read;
+use std::net::{Ipv4Addr, TcpListener, TcpStream};
+
+/// A TCP connection whose two sockets are both here.
+#[derive(Drop)]
+pub struct Wire {
+    initiator: TcpStream,
+    target: TcpStream,
+}
+
+impl Wire {
+    /// A connection over 127.0.0.1, at a port that the system picks. Answers `Network` where a
+    /// socket fails.
+    pub fn open(rt: &HostRuntime) -> Result<Wire, ServeFault>
+        ensures err { IfErr result IsOfSession }
+    {
+        match Wire::try_open(rt) {
+            Ok(wire) => Ok(wire),
+            Err(_) => Err(ServeFault::Network),
+        }
+    }
+
+    fn try_open(rt: &HostRuntime) -> io::Result<Wire> {
+        let listener = TcpListener::bind(rt, (Ipv4Addr::LOCALHOST, 0))?;
+        let initiator = TcpStream::connect(rt, listener.local_addr()?)?;
+        let (target, _) = listener.accept()?;
+        // A piece is not to wait for the one before it to be acknowledged.
+        initiator.set_nodelay(true)?;
+        target.set_nodelay(true)?;
+        Ok(Wire { initiator, target })
+    }
+
+    /// Writes a piece at the initiator's socket and reads it at the target's. Answers `Network`
+    /// where a socket fails.
+    pub fn to_target(&self, piece: &[u8], read: &mut [u8]) -> Result<(), ServeFault>
+        ensures err { IfErr result IsOfSession }
+    {
+        carry(&self.initiator, &self.target, piece, read)
+    }
+
+    /// Writes a piece at the target's socket and reads it at the initiator's. Answers `Network`
+    /// where a socket fails.
+    pub fn to_initiator(&self, piece: &[u8], read: &mut [u8]) -> Result<(), ServeFault>
+        ensures err { IfErr result IsOfSession }
+    {
+        carry(&self.target, &self.initiator, piece, read)
+    }
+
+    /// Closes the initiator's socket and waits for the target's to end. Answers `Network` where a
+    /// socket fails or has more bytes.
+    pub fn close(self) -> Result<(), ServeFault>
+        ensures err { IfErr result IsOfSession }
+    {
+        let Wire { initiator, target } = self;
+        drop(initiator);
+        match (&target).read(&mut [0]) {
+            Ok(0) => Ok(()),
+            _ => Err(ServeFault::Network),
+        }
+    }
+}
+
+// Writes a piece at one socket, and reads as many bytes at the other.
+fn carry(
+    mut from: &TcpStream,
+    mut to: &TcpStream,
+    piece: &[u8],
+    read: &mut [u8],
+) -> Result<(), ServeFault>
+    ensures err { IfErr result IsOfSession }
+{
+    if write_fully(&mut from, piece).is_err() {
+        return Err(ServeFault::Network);
+    }
+    if to.read_exact(read).is_err() {
+        return Err(ServeFault::Network);
+    }
+    Ok(())
+}

@@ -1,6 +1,0 @@
-use Rattle.std.proofs.Common.{[]}
-use Rattle.iscsi_tool.specs.LoopSteps.{Continues}
-use Rattle.iscsi_tool.proofs.looping.Ends.settle.Given as goal
-
-abbrev pub invariant-loop : goal.invariant-loop
-invariant-loop l = Continues l.initial.self.initiator.machine [] [] l.self.initiator.machine
