@@ -1,4 +1,4 @@
--- The requests that the commands of a script are (SPC-4 and SBC-3; which there are is own profile).
+-- The requests that the commands of a script are (SPC-4 and SBC-3; which there are is own rule).
 use Rattle.std.specs.Prelude.{ℕ, ◌*◌, ◌^◌, Bool, true, false, replicate}
 use Rattle.scsi_cdb.specs.declared.block.Cdb.{Cdb}
 use Rattle.scsi_cdb.specs.declared.block.Cdb.TheVariants as cdb
@@ -9,7 +9,7 @@ use Rattle.iscsi_initiator.specs.declared.request.Request.TheVariants as request
 use Rattle.iscsi_service.specs.declared.command.Command.{Command}
 use Rattle.iscsi_service.specs.declared.command.Command.TheVariants.{TestUnitReady, Inquiry, Capacity, Luns, Read, Write, Ping, Logout}
 
--- a transfer of so many blocks from this one on, with each free field 0
+-- A transfer of so many blocks from this one on, with each other field 0 (SBC-3, READ(10)).
 abbrev pub transfer : ℕ → ℕ → Transfer10
 transfer logical_block_address blocks = record {
   options = 0;
@@ -19,27 +19,33 @@ transfer logical_block_address blocks = record {
   control = 0;
 }
 
--- a command to a unit that may give so many bytes; the unit's number is byte 1 of the LUN, the second from above
+-- A command to a unit that may give so many bytes; the unit's number is byte 1 of the LUN, the
+-- second from above (SAM-5, section 4.7).
 abbrev pub asked : ℕ → Cdb → ℕ → Request
 asked unit block expected = requests.In (unit * 2 ^ 48) (canonical block) expected
 
--- a WRITE(10) of so many blocks of 512 bytes, all of them this byte
+-- A WRITE(10) of so many blocks of 512 bytes, all of them this byte (SBC-3, WRITE(10)).
 abbrev pub written : ℕ → ℕ → ℕ → Request
 written logical_block_address blocks byte =
-    requests.Out 0 (canonical (cdb.Write10 (transfer logical_block_address blocks))) (replicate (512 * blocks) byte)
+    requests.Out 0 (canonical (cdb.Write10 (transfer logical_block_address blocks)))
+    (replicate (512 * blocks) byte)
 
--- what a command asks for
+-- What a command asks for: TEST UNIT READY, INQUIRY and REPORT LUNS are SPC-4's, READ CAPACITY(10),
+-- READ(10) and WRITE(10) SBC-3's, a ping and a logout those of RFC 7143, sections 11.18 and 11.14
+-- (what stands in their other fields is own rule).
 abbrev pub request_of : Command → Request
 request_of (TestUnitReady unit) = asked unit (cdb.TestUnitReady 0) 0
-request_of (Inquiry unit allocation_length) = asked unit (cdb.Inquiry false 0 allocation_length 0) allocation_length
+request_of (Inquiry unit allocation_length) =
+    asked unit (cdb.Inquiry false 0 allocation_length 0) allocation_length
 request_of Capacity = asked 0 (cdb.Capacity10 0) 8
 request_of Luns = asked 0 (cdb.ReportLuns 0 16 0) 16
-request_of (Read logical_block_address blocks) = asked 0 (cdb.Read10 (transfer logical_block_address blocks)) (512 * blocks)
+request_of (Read logical_block_address blocks) =
+    asked 0 (cdb.Read10 (transfer logical_block_address blocks)) (512 * blocks)
 request_of (Write logical_block_address blocks byte) = written logical_block_address blocks byte
 request_of (Ping bytes) = requests.Ping bytes
 request_of Logout = requests.Logout
 
--- the command ends the session
+-- The command ends the session (RFC 7143, section 11.14).
 abbrev pub is_logout : Command → Bool
 is_logout (TestUnitReady unit) = false
 is_logout (Inquiry unit allocation_length) = false

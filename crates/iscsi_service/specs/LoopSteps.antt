@@ -1,4 +1,4 @@
--- The steps of a loop: what they write, and what happens to the initiator.
+-- The steps of a loop: what they write, and what happens to the initiator (own rule).
 use Rattle.std.specs.Prelude.{◌≡◌, List, [], ℕ, Option}
 use Rattle.std.specs.Io.KnownBytes.{Appends}
 use Rattle.iscsi_initiator.specs.declared.request.Done.{Done}
@@ -10,7 +10,7 @@ use Rattle.iscsi_service.specs.declared.serve_fault.ServeFault.{ServeFault}
 use Rattle.iscsi_service.specs.declared.serve_fault.ServeFault.TheVariants as serve
 use Rattle.iscsi_service.specs.Looping.{HaveOutcomes, FirstHaveOutcomes, reports, up_to_logout}
 
--- the faults of the session itself
+-- The faults of the session itself (own rule).
 abbrev pub IsOfSession : ServeFault → Type 0
 IsOfSession serve.NoMemory = Unit {0}
 IsOfSession serve.Network = Unit {0}
@@ -20,19 +20,24 @@ IsOfSession (serve.Script n) = ⊥
 IsOfSession serve.Read = ⊥
 IsOfSession serve.Write = ⊥
 
--- A session's fault comes before anything is written, and a failed write may have written something.
+-- A session's fault comes before anything is written, and a failed write may have written something
+-- (own rule).
 abbrev pub WritesNothing : ServeFault → Option (List ℕ) → Option (List ℕ) → Type 0
-WritesNothing serve.Write contents_old contents_new = (written : List ℕ) × Appends contents_old contents_new written
-WritesNothing fault contents_old contents_new = IsOfSession fault × Appends contents_old contents_new []
+WritesNothing serve.Write contents_old contents_new =
+    (written : List ℕ) × Appends contents_old contents_new written
+WritesNothing fault contents_old contents_new =
+    IsOfSession fault × Appends contents_old contents_new []
 
--- A session's fault comes behind the lines of the first commands' outcomes.
+-- A session's fault comes behind the lines of the first commands' outcomes (own rule).
 abbrev pub Stops : ServeFault → List Command → Option (List ℕ) → Option (List ℕ) → Type 0
-Stops serve.Write commands contents_old contents_new = (written : List ℕ) × Appends contents_old contents_new written
+Stops serve.Write commands contents_old contents_new =
+    (written : List ℕ) × Appends contents_old contents_new written
 Stops fault commands contents_old contents_new = IsOfSession fault
     × ((outcomes : List Done) × FirstHaveOutcomes (up_to_logout commands) outcomes
     × Appends contents_old contents_new (reports outcomes))
 
--- The commands up to the first logout were done, and the lines of their outcomes written.
+-- The commands up to the first logout were done, and the lines of their outcomes written (own
+-- rule).
 abbrev pub Runs : List Command → Option (List ℕ) → Option (List ℕ) → Type 0
 Runs commands contents_old contents_new =
     (outcomes : List Done) × HaveOutcomes (up_to_logout commands) outcomes
@@ -40,8 +45,10 @@ Runs commands contents_old contents_new =
 
 -- ---- the initiator's part
 
--- Events led the initiator from one state to the other, in which these requests were accepted and these outcomes taken.
-pub record Continues (old : Machine) (asked : List Request) (taken : List Done) (new : Machine) : Type 0 where
+-- Events led the initiator from one state to the other, in which these requests were accepted and
+-- these outcomes taken (own rule).
+pub record Continues (old : Machine) (asked : List Request) (taken : List Done) (new : Machine)
+    : Type 0 where
   pub events : List Event
   pub reached : new ≡ run old events
   pub requests : accepted old events ≡ asked

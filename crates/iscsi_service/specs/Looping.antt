@@ -1,4 +1,4 @@
--- A session of an initiator and a target, as a script says (own profile).
+-- A session of an initiator and a target, as a script says (own rule).
 use Rattle.std.specs.Prelude.{◌≡◌, ◌⊎◌, ℕ, List, [], ◌∷◌, ◌++◌, Result, Ok, Err, codes, if◌then◌else◌}
 use Rattle.std.specs.List.{flat_map}
 use Rattle.iscsi_login.specs.declared.stage.Session.TheVariants.{Normal}
@@ -15,7 +15,7 @@ use Rattle.iscsi_service.specs.Commands.{request_of, is_logout}
 use Rattle.iscsi_service.specs.Script.{IsScript, ScriptFails}
 use Rattle.iscsi_service.specs.Reports.{report}
 
--- what the initiator is configured with
+-- What the initiator is configured with (own rule).
 abbrev pub initiator_settings : Settings
 initiator_settings = record {
   proposal = record {
@@ -33,47 +33,51 @@ initiator_settings = record {
 
 -- ---- what is done and written
 
--- the commands up to the first logout
+-- The commands up to the first logout (own rule).
 abbrev pub up_to_logout : List Command → List Command
 up_to_logout [] = []
-up_to_logout (command ∷ commands) = if is_logout command then command ∷ [] else command ∷ up_to_logout commands
+up_to_logout (command ∷ commands) =
+    if is_logout command then command ∷ [] else command ∷ up_to_logout commands
 
--- Each command has an outcome of its request's kind, in order.
+-- Each command has an outcome of its request's kind, in order (own rule).
 abbrev pub HaveOutcomes : List Command → List Done → Type 0
 HaveOutcomes [] [] = Unit {0}
-HaveOutcomes (command ∷ commands) (outcome ∷ outcomes) = IsOutcomeOf (request_of command) outcome × HaveOutcomes commands outcomes
+HaveOutcomes (command ∷ commands) (outcome ∷ outcomes) =
+    IsOutcomeOf (request_of command) outcome × HaveOutcomes commands outcomes
 HaveOutcomes _ _ = ⊥
 
--- So have the first of these commands.
+-- The first of these commands have outcomes of their requests' kinds, in order (own rule).
 abbrev pub FirstHaveOutcomes : List Command → List Done → Type 0
 FirstHaveOutcomes commands [] = Unit {0}
-FirstHaveOutcomes (command ∷ commands) (outcome ∷ outcomes) = IsOutcomeOf (request_of command) outcome × FirstHaveOutcomes commands outcomes
+FirstHaveOutcomes (command ∷ commands) (outcome ∷ outcomes) =
+    IsOutcomeOf (request_of command) outcome × FirstHaveOutcomes commands outcomes
 FirstHaveOutcomes [] (outcome ∷ outcomes) = ⊥
 
--- the lines of outcomes
+-- The lines of outcomes (own rule).
 abbrev pub reports : List Done → List ℕ
 reports outcomes = flat_map report outcomes
 
--- the line of the login, and those of outcomes
+-- The line of the login, and those of outcomes (own rule).
 abbrev pub transcript : List Done → List ℕ
 transcript outcomes = codes "login" ++ 0x0a ∷ [] ++ reports outcomes
 
--- The script was read and done, and what came of each command is written.
+-- The script was read and done, and what came of each command is written (own rule).
 abbrev pub DoesScript : List ℕ → List ℕ → Type 0
 DoesScript script written =
     (commands : List Command) × (outcomes : List Done) × IsScript script commands
     × HaveOutcomes (up_to_logout commands) outcomes × (written ≡ transcript outcomes)
 
--- Nothing is written, or the lines of the login and of the first commands' outcomes.
+-- Nothing is written, or the lines of the login and of the first commands' outcomes (own rule).
 abbrev pub StopsWithin : List ℕ → List ℕ → Type 0
 StopsWithin script written = (written ≡ [])
     ⊎ ((commands : List Command) × (outcomes : List Done) × IsScript script commands
     × FirstHaveOutcomes (up_to_logout commands) outcomes × (written ≡ transcript outcomes))
 
--- What is written where a loop ends. After a failed write nothing is said of it.
+-- What is written where a loop ends; after a failed write nothing is said of it (own rule).
 abbrev pub Loops : Result (Unit {0}) ServeFault → List ℕ → List ℕ → Type 0
 Loops (Ok done) script written = DoesScript script written
-Loops (Err (serve.Script n)) script written = ScriptFails (serve.Script n) script × (written ≡ [])
+Loops (Err (serve.Script n)) script written =
+    ScriptFails (serve.Script n) script × (written ≡ [])
 Loops (Err serve.Write) script written = Unit {0}
 Loops (Err serve.Read) script written = written ≡ []
 Loops (Err serve.NoMemory) script written = StopsWithin script written

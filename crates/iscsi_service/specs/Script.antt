@@ -1,4 +1,4 @@
--- Scripts: lines of words, and the command that each line means (own profile).
+-- Scripts: lines of words, and the command that each line means (own rule).
 use Rattle.std.specs.Prelude.{◌≡◌, ◌≤◌, ◌<◌, ◌⊎◌, ℕ, ◌+◌, ◌-◌, ◌*◌, ◌^◌, ◌==◌, ◌&&◌, if◌then◌else◌, nat_le, nat_lt, List, [], ◌∷◌, ◌++◌, length, take, map, count_by, Option, Some, None, Result, Ok, Err, codes}
 use Rattle.std.specs.Char.{is_ascii_digit}
 use Rattle.std.specs.Str.{bytes_eq}
@@ -11,55 +11,57 @@ use Rattle.iscsi_service.specs.declared.serve_fault.ServeFault.TheVariants as se
 
 -- ---- words
 
--- the second step, if the first gave a value
+-- The second step, if the first gave a value (own rule).
 infixl 10 ◌>>=◌
 abbrev pub ◌>>=◌ : {A B : Type 0} → Option A → (A → Option B) → Option B
 None >>= f = None
 Some x >>= f = f x
 
--- what stands before the first such byte, and what behind it, if there is one
+-- What stands before the first such byte, and what behind it, if there is one (own rule).
 abbrev pub parted : ℕ → List ℕ → List ℕ × Option (List ℕ)
 parted byte [] = ([], None)
-parted byte (b ∷ bs) = if b == byte then ([], Some bs) else (b ∷ (parted byte bs).0, (parted byte bs).1)
+parted byte (b ∷ bs) =
+    if b == byte then ([], Some bs) else (b ∷ (parted byte bs).0, (parted byte bs).1)
 
--- the number that decimal digits make behind those of n, if it is at most this
+-- The number that decimal digits make behind those of n, if it is at most this (own rule).
 abbrev pub number_behind : ℕ → ℕ → List ℕ → Option ℕ
 number_behind most n [] = Some n
 number_behind most n (c ∷ digits) =
-    if is_ascii_digit c && nat_le (n * 10 + (c - 48)) most then number_behind most (n * 10 + (c - 48)) digits
+    if is_ascii_digit c && nat_le (n * 10 + (c - 48)) most
+    then number_behind most (n * 10 + (c - 48)) digits
     else None
 
--- the number that one decimal digit or more make, if it is at most this
+-- The number that one decimal digit or more make, if it is at most this (own rule).
 abbrev pub number : ℕ → List ℕ → Option ℕ
 number most [] = None
 number most (c ∷ digits) = number_behind most 0 (c ∷ digits)
 
--- the word before the first blank
+-- The word before the first blank (own rule).
 abbrev pub first_word : List ℕ → List ℕ
 first_word words = (parted 0x20 words).0
 
--- what stands behind the first blank
+-- What stands behind the first blank (own rule).
 abbrev pub other_words : List ℕ → Option (List ℕ)
 other_words words = (parted 0x20 words).1
 
--- the only byte that two hex digits mean
+-- The byte, where decoding gave one alone (own rule).
 abbrev pub only : Result (List ℕ) FromHexError → Option ℕ
 only (Ok (byte ∷ [])) = Some byte
 only _ = None
 
--- the byte that two hex digits mean
+-- The byte that two hex digits mean (own rule).
 abbrev pub byte_of : List ℕ → Option ℕ
 byte_of word = only (decode_sized word 1)
 
 -- ---- commands by their arguments
 
--- `U`: the unit, below 256
+-- `U`: the unit, below 256 (own rule).
 abbrev pub test_unit_ready : List ℕ → Option Command
 test_unit_ready words = do
   unit ← number 255 words
   Some (TestUnitReady unit)
 
--- `U A`: the unit, below 256, and the most bytes, below 65536
+-- `U A`: the unit, below 256, and the most bytes, below 65536 (own rule).
 abbrev pub inquiry : List ℕ → Option Command
 inquiry words = do
   unit ← number 255 (first_word words)
@@ -67,7 +69,7 @@ inquiry words = do
   allocation_length ← number 65535 others
   Some (Inquiry unit allocation_length)
 
--- `LBA N`: the first block, below 2^32, and how many, at most 8192
+-- `LBA N`: the first block, below 2^32, and how many, at most 8192 (own rule).
 abbrev pub read : List ℕ → Option Command
 read words = do
   logical_block_address ← number 4294967295 (first_word words)
@@ -75,7 +77,8 @@ read words = do
   blocks ← number 8192 others
   Some (Read logical_block_address blocks)
 
--- `LBA N BB`: likewise, and what each byte is
+-- `LBA N BB`: the first block, below 2^32, how many, at most 8192, and what each byte is (own
+-- rule).
 abbrev pub write : List ℕ → Option Command
 write words = do
   logical_block_address ← number 4294967295 (first_word words)
@@ -85,34 +88,37 @@ write words = do
   byte ← byte_of last
   Some (Write logical_block_address blocks byte)
 
--- a ping of these bytes, 1 to 8192
+-- A ping of these bytes, 1 to 8192 (own rule).
 abbrev pub ping_of : Result (List ℕ) FromHexError → Option Command
-ping_of (Ok bytes) = if nat_lt 0 (length bytes) && nat_le (length bytes) 8192 then Some (Ping bytes) else None
+ping_of (Ok bytes) =
+    if nat_lt 0 (length bytes) && nat_le (length bytes) 8192 then Some (Ping bytes) else None
 ping_of (Err fault) = None
 
--- `HEX`: the bytes
+-- `HEX`: the bytes, 1 to 8192 (own rule).
 abbrev pub ping : List ℕ → Option Command
 ping word = ping_of (decode_of word)
 
--- the numbers of a command are within these bounds
+-- The numbers of a command are within these bounds (own rule).
 abbrev pub IsInRange : Command → Type 0
 IsInRange (TestUnitReady unit) = unit < 256
 IsInRange (Inquiry unit allocation_length) = (unit < 256) × (allocation_length < 65536)
 IsInRange Capacity = Unit {0}
 IsInRange Luns = Unit {0}
-IsInRange (Read logical_block_address blocks) = (logical_block_address < 2 ^ 32) × (blocks ≤ 8192)
-IsInRange (Write logical_block_address blocks byte) = (logical_block_address < 2 ^ 32) × (blocks ≤ 8192) × (byte < 256)
+IsInRange (Read logical_block_address blocks) =
+    (logical_block_address < 2 ^ 32) × (blocks ≤ 8192)
+IsInRange (Write logical_block_address blocks byte) =
+    (logical_block_address < 2 ^ 32) × (blocks ≤ 8192) × (byte < 256)
 IsInRange (Ping bytes) = (0 < length bytes) × (length bytes ≤ 8192)
 IsInRange Logout = Unit {0}
 
--- so they are in each command
+-- The numbers of each command are within these bounds (own rule).
 abbrev pub AreInRange : List Command → Type 0
 AreInRange [] = Unit {0}
 AreInRange (command ∷ commands) = IsInRange command × AreInRange commands
 
 -- ---- lines
 
--- a command of one word
+-- A command of one word (own rule).
 abbrev pub alone : List ℕ → Option Command
 alone name =
     if bytes_eq name (codes "capacity") then Some Capacity
@@ -120,7 +126,7 @@ alone name =
     else (if bytes_eq name (codes "logout") then Some Logout
     else None))
 
--- a command of several words
+-- A command of several words (own rule).
 abbrev pub followed : List ℕ → List ℕ → Option Command
 followed name words =
     if bytes_eq name (codes "tur") then test_unit_ready words
@@ -130,51 +136,52 @@ followed name words =
     else (if bytes_eq name (codes "ping") then ping words
     else None))))
 
--- a command's name, and its other words, if it has some
+-- The command of this name with these other words, if it has some (own rule).
 abbrev pub named : List ℕ → Option (List ℕ) → Option Command
 named name None = alone name
 named name (Some words) = followed name words
 
--- what a line means, if it means a command
+-- What a line means, if it means a command (own rule).
 abbrev pub meaning : List ℕ → Option Command
 meaning line = named (first_word line) (other_words line)
 
 -- ---- scripts
 
--- a byte in front of the first line
+-- A byte in front of the first line (own rule).
 abbrev pub begin : ℕ → List (List ℕ) → List (List ℕ)
 begin b [] = (b ∷ []) ∷ []
 begin b (line ∷ lines) = (b ∷ line) ∷ lines
 
--- the lines, of which the last may lack its end
+-- The lines, of which the last may lack its end (own rule).
 abbrev pub lines_of : List ℕ → List (List ℕ)
 lines_of [] = []
 lines_of (b ∷ bs) = if b == 0x0a then [] ∷ lines_of bs else begin b (lines_of bs)
 
--- what each line means
+-- What each line means (own rule).
 abbrev pub meanings : List ℕ → List (Option Command)
 meanings script = map meaning (lines_of script)
 
--- the most bytes of a script
+-- The most bytes of a script (own rule).
 abbrev pub longest_script : ℕ
 longest_script = 1048576
 
--- Each line means a command, and these are they.
+-- Each line means a command, and these are they (own rule).
 abbrev pub AreCommands : List ℕ → List Command → Type 0
 AreCommands script commands = meanings script ≡ map Some commands
 
--- This line, counted from 1, is the first that means no command.
+-- This line, counted from 1, is the first that means no command (own rule).
 abbrev pub IsFirstBad : List ℕ → ℕ → Type 0
 IsFirstBad script n =
     (good : List Command) × (rest : List (Option Command))
     × (meanings script ≡ map Some good ++ None ∷ rest) × (n ≡ length good + 1)
 
--- The script is too long, and its first byte too many is of this line.
+-- The script is too long, and its first byte too many is of this line (own rule).
 abbrev pub IsTooLongAt : List ℕ → ℕ → Type 0
 IsTooLongAt script n =
-    (longest_script < length script) × (n ≡ count_by (λ b. b == 0x0a) (take longest_script script) + 1)
+    (longest_script < length script)
+    × (n ≡ count_by (λ b. b == 0x0a) (take longest_script script) + 1)
 
--- when the lines are refused
+-- When the lines of a script are refused (own rule).
 abbrev pub LinesFail : ServeFault → List ℕ → Type 0
 LinesFail (serve.Script n) script = IsFirstBad script n
 LinesFail serve.NoMemory script = Unit {0}
@@ -184,13 +191,14 @@ LinesFail (serve.Initiator fault) script = ⊥
 LinesFail serve.Network script = ⊥
 LinesFail serve.Write script = ⊥
 
--- what was read is a script of these commands
+-- What was read is a script of these commands (own rule).
 abbrev pub IsScript : List ℕ → List Command → Type 0
 IsScript script commands = (length script ≤ longest_script) × AreCommands script commands
 
--- when reading a script answers each fault
+-- When reading a script answers each fault (own rule).
 abbrev pub ScriptFails : ServeFault → List ℕ → Type 0
-ScriptFails (serve.Script n) script = IsTooLongAt script n ⊎ ((length script ≤ longest_script) × IsFirstBad script n)
+ScriptFails (serve.Script n) script =
+    IsTooLongAt script n ⊎ ((length script ≤ longest_script) × IsFirstBad script n)
 ScriptFails serve.NoMemory script = Unit {0}
 ScriptFails serve.Read script = Unit {0}
 ScriptFails (serve.Target fault) script = ⊥

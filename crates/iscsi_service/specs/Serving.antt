@@ -1,4 +1,4 @@
--- Sessions over a socket: what ends them, and the exit status that says it.
+-- Sessions over a socket: what ends them, and the exit status that says it (own rule).
 use Rattle.std.specs.Prelude.{◌≡◌, ℕ, List, Result, Ok, Err}
 use Rattle.scsi_disk.specs.Disk.{Disk}
 use Rattle.iscsi_target.specs.declared.fault.TargetFault.{TargetFault}
@@ -12,7 +12,8 @@ use Rattle.iscsi_service.specs.declared.serve_fault.ServeFault.{ServeFault}
 use Rattle.iscsi_service.specs.declared.serve_fault.ServeFault.TheVariants as serve
 use Rattle.iscsi_service.specs.Session.{ServesAll}
 
--- the exit status that says a fault: 1 refused, 3 memory, 4 reading, writing and the network (own profile)
+-- The exit status that says a fault: 1 where what came is refused, 3 for memory, 4 for reading,
+-- writing and the network (own rule).
 abbrev pub exit_status : ServeFault → ℕ
 exit_status serve.NoMemory = 3
 exit_status (serve.Target fault) = 1
@@ -22,41 +23,46 @@ exit_status serve.Network = 4
 exit_status serve.Read = 4
 exit_status serve.Write = 4
 
--- a target's fault; its want of memory is the session's own
+-- A target's fault; its want of memory is the session's own (own rule).
 abbrev pub target_fault : TargetFault → ServeFault
 target_fault target.NoMemory = serve.NoMemory
 target_fault (target.Stream fault) = serve.Target (target.Stream fault)
 target_fault (target.Protocol rule) = serve.Target (target.Protocol rule)
 target_fault target.Closed = serve.Target target.Closed
 
--- an initiator's fault, likewise
+-- An initiator's fault; its want of memory is the session's own (own rule).
 abbrev pub initiator_fault : InitiatorFault → ServeFault
 initiator_fault initiator.NoMemory = serve.NoMemory
 initiator_fault (initiator.Stream fault) = serve.Initiator (initiator.Stream fault)
 initiator_fault (initiator.Protocol rule) = serve.Initiator (initiator.Protocol rule)
-initiator_fault (initiator.Refused status detail) = serve.Initiator (initiator.Refused status detail)
+initiator_fault (initiator.Refused status detail) =
+    serve.Initiator (initiator.Refused status detail)
 initiator_fault (initiator.BadAnswer key) = serve.Initiator (initiator.BadAnswer key)
 initiator_fault initiator.Closed = serve.Initiator initiator.Closed
 
--- a session's fault, likewise
+-- A session's fault over a stream; its want of memory is the session's own (own rule).
 abbrev pub session_fault : SessionFault → ServeFault
 session_fault (session.Target fault) = target_fault fault
 session_fault session.Read = serve.Read
 session_fault session.Write = serve.Write
 
--- What a session over a socket leaves where it ends: nothing is done where no connection was accepted. After want of
--- memory, or where a write failed, nothing is said of it.
-abbrev pub ServesOne : Settings → Disk → Result (Unit {0}) ServeFault → List ℕ → Disk → List ℕ → Type 0
-ServesOne settings disk (Ok done) read disk_now written = ServesAll settings disk read disk_now written
-ServesOne settings disk (Err (serve.Target fault)) read disk_now written = ServesAll settings disk read disk_now written
-ServesOne settings disk (Err serve.Read) read disk_now written = ServesAll settings disk read disk_now written
+-- What a session over a socket leaves where it ends: nothing is done where no connection was
+-- accepted; after want of memory, or where a write failed, nothing is said of it (own rule).
+abbrev pub ServesOne : Settings → Disk → Result (Unit {0}) ServeFault → List ℕ → Disk → List ℕ
+    → Type 0
+ServesOne settings disk (Ok done) read disk_now written =
+    ServesAll settings disk read disk_now written
+ServesOne settings disk (Err (serve.Target fault)) read disk_now written =
+    ServesAll settings disk read disk_now written
+ServesOne settings disk (Err serve.Read) read disk_now written =
+    ServesAll settings disk read disk_now written
 ServesOne settings disk (Err serve.Network) read disk_now written = disk_now ≡ disk
 ServesOne settings disk (Err serve.NoMemory) read disk_now written = Unit {0}
 ServesOne settings disk (Err serve.Write) read disk_now written = Unit {0}
 ServesOne settings disk (Err (serve.Initiator fault)) read disk_now written = ⊥
 ServesOne settings disk (Err (serve.Script line)) read disk_now written = ⊥
 
--- the faults of a session that end the service
+-- The faults of a session that end the service (own rule).
 abbrev pub EndsService : ServeFault → Type 0
 EndsService serve.NoMemory = Unit {0}
 EndsService serve.Network = Unit {0}

@@ -1,4 +1,4 @@
--- What a filter writes for what it has read.
+-- What a filter writes for what it has read (own rule).
 use Rattle.std.specs.Prelude.{◌≡◌, ◌≤◌, ◌<◌, ℕ, Bool, true, false, List, [], length, take, Option, Result, Ok, Err}
 use Rattle.std.specs.Io.KnownBytes.{IsAtEnd}
 use Rattle.scsi_disk.specs.Disk.{zeros}
@@ -18,82 +18,96 @@ use Rattle.iscsi_tool.specs.declared.words.Job.TheVariants as job
 use Rattle.iscsi_tool.specs.Answering.{AnswersBytes}
 use Rattle.iscsi_tool.specs.HexText.{BytesOf, IsNotHex, hex_line}
 
--- how a filter ends: done, or why not
+-- How a filter ends: done, or why not (own rule).
 abbrev pub Outcome : Type 0
 Outcome = Result (Unit {0}) ToolFault
 
 -- ---- bytes
 
--- The canonical stream of what was read is written, or what normalising leaves at a fault.
+-- The canonical stream of what was read is written, or what normalising leaves at a fault (own
+-- rule).
 abbrev pub NormalisesBytes : Outcome → List ℕ → List ℕ → Type 0
-NormalisesBytes (Ok done) read written = (ms : List Message) × StreamMeans read ms × (written ≡ canon ms)
+NormalisesBytes (Ok done) read written =
+    (ms : List Message) × StreamMeans read ms × (written ≡ canon ms)
 NormalisesBytes (Err fault) read written = NormaliseFails fault read written
 
 -- ---- hex text
 
--- What is due for the bytes of a stream: its canonical stream, or that of all PDUs before its fault.
+-- What is due for the bytes of a stream: its canonical stream, or that of all PDUs before its fault
+-- (own rule).
 abbrev pub DueOfStream : List ℕ → Outcome → List ℕ → Type 0
 DueOfStream bytes (Ok done) due = (ms : List Message) × StreamMeans bytes ms × (due ≡ canon ms)
-DueOfStream bytes (Err (tool.Stream fault)) due = Parts (λ ms given rest. Wrote bytes ms given rest due × RestFails fault given rest)
+DueOfStream bytes (Err (tool.Stream fault)) due =
+    Parts (λ ms given rest. Wrote bytes ms given rest due × RestFails fault given rest)
 DueOfStream bytes (Err fault) due = ⊥
 
--- What is due for the bytes of a text: its canonical text, or nothing where it is refused.
+-- What is due for the bytes of a text: its canonical text, or nothing where it is refused (own
+-- rule).
 abbrev pub DueOfText : List ℕ → Outcome → List ℕ → Type 0
 DueOfText bytes (Ok done) due = CanonicalOf bytes due × (length bytes ≤ longest_text)
-DueOfText bytes (Err (tool.Text fault)) due = IsFirstFault bytes fault × (length bytes ≤ longest_text) × (due ≡ [])
+DueOfText bytes (Err (tool.Text fault)) due =
+    IsFirstFault bytes fault × (length bytes ≤ longest_text) × (due ≡ [])
 DueOfText bytes (Err tool.TextTooLong) due = (longest_text < length bytes) × (due ≡ [])
 DueOfText bytes (Err fault) due = ⊥
 
--- what is due for the bytes of a text or of a stream
+-- What is due for the bytes of a text or of a stream (own rule).
 abbrev pub Due : Bool → List ℕ → Outcome → List ℕ → Type 0
 Due true bytes outcome due = DueOfText bytes outcome due
 Due false bytes outcome due = DueOfStream bytes outcome due
 
--- The line that is due for bytes, with this outcome.
+-- The line that is due for bytes, with this outcome (own rule).
 pub record IsLine (text : Bool) (bytes : List ℕ) (outcome : Outcome) (line : List ℕ) : Type 0 where
   pub due : List ℕ
   pub is_due : Due text bytes outcome due
   pub spelled : line ≡ hex_line due
 
--- the line that is due for hex text
+-- The line that is due for hex text (own rule).
 abbrev pub LineOf : Bool → List ℕ → Outcome → List ℕ → Type 0
-LineOf text read outcome line = (bytes : List ℕ) × BytesOf read bytes × IsLine text bytes outcome line
+LineOf text read outcome line =
+    (bytes : List ℕ) × BytesOf read bytes × IsLine text bytes outcome line
 
--- what a filter of hex text has written where it answers a fault
+-- What a filter of hex text has written where it answers a fault (own rule).
 abbrev pub HexFails : Bool → ToolFault → List ℕ → List ℕ → Type 0
 HexFails text tool.NoMemory read written = written ≡ []
-HexFails text (tool.Stream fault) read written = LineOf text read (Err (tool.Stream fault)) written
+HexFails text (tool.Stream fault) read written =
+    LineOf text read (Err (tool.Stream fault)) written
 HexFails text (tool.Text fault) read written = LineOf text read (Err (tool.Text fault)) written
 HexFails text tool.TextTooLong read written = LineOf text read (Err tool.TextTooLong) written
 HexFails text tool.Read read written = written ≡ []
-HexFails text tool.Write read written = (outcome : Outcome) × (line : List ℕ) × (n : ℕ) × LineOf text read outcome line × (written ≡ take n line)
+HexFails text tool.Write read written =
+    (outcome : Outcome) × (line : List ℕ) × (n : ℕ)
+    × LineOf text read outcome line × (written ≡ take n line)
 HexFails text tool.NotHex read written = IsNotHex read × (written ≡ [])
 HexFails text (tool.Protocol rule) read written = ⊥
 
--- The canonical form of what the hex text means is written as a line of hex, or what is due at a fault.
+-- The canonical form of what the hex text means is written as a line of hex, or what is due at a
+-- fault (own rule).
 abbrev pub NormalisesHex : Bool → Outcome → List ℕ → List ℕ → Type 0
 NormalisesHex text (Ok done) read written = LineOf text read (Ok done) written
 NormalisesHex text (Err fault) read written = HexFails text fault read written
 
 -- ---- filters
 
--- The disk of a target has 1 to 65536 blocks (own profile).
+-- The disk of a target has 1 to 65536 blocks (own rule).
 abbrev pub HasDisk : Work → Type 0
 HasDisk (Answer blocks) = (0 < blocks) × (blocks ≤ 65536)
 HasDisk _ = Unit {0}
 
--- the same of a job
+-- The disk of a job's target has 1 to 65536 blocks, and a piece 1 to 4096 bytes (own rule).
 abbrev pub IsJob : Job → Type 0
 IsJob (job.Filter filter) = HasDisk filter.work
 IsJob (job.Serve port blocks sessions) = (0 < blocks) × (blocks ≤ 65536)
-IsJob (job.Loop blocks piece) = (0 < blocks) × (blocks ≤ 65536) × (0 < piece) × (piece ≤ 4096)
+IsJob (job.Loop blocks piece) =
+    (0 < blocks) × (blocks ≤ 65536) × (0 < piece) × (piece ≤ 4096)
 
--- A work that ended well has read its input to the end; answers to bytes end also where the session is closed.
+-- A work that ended well has read its input to the end; answers to bytes end also where the session
+-- is closed (own rule).
 abbrev pub Reads : Work → Bool → Option (List ℕ) → Option (List ℕ) → Type 0
-Reads (Answer blocks) false before after = EndsWell target_settings (zeros blocks) before after
+Reads (Answer blocks) false before after =
+    EndsWell target_settings (zeros blocks) before after
 Reads _ _ before after = IsAtEnd after
 
--- What a work writes; the lines that Show writes, and answers as hex, are not stated.
+-- What a work writes; the lines that Show writes, and answers as hex, are not stated (own rule).
 abbrev pub Does : Work → Bool → Outcome → List ℕ → List ℕ → Type 0
 Does Show hex outcome read written = Unit {0}
 Does (Answer blocks) true outcome read written = Unit {0}
@@ -103,10 +117,10 @@ Does Normalise false outcome read written = NormalisesBytes outcome read written
 Does Text true outcome read written = NormalisesHex true outcome read written
 Does Text false outcome read written = NormalisesText outcome read written
 
--- what a filter has read and written where it answers
+-- What a filter has read and written where it answers (own rule).
 abbrev pub Filters : Filter → Outcome → List ℕ → List ℕ → Type 0
 Filters filter outcome read written = Does filter.work filter.hex outcome read written
 
--- what a filter that ended well has read
+-- What a filter that ended well has read (own rule).
 abbrev pub ReadsOn : Filter → Option (List ℕ) → Option (List ℕ) → Type 0
 ReadsOn filter before after = Reads filter.work filter.hex before after

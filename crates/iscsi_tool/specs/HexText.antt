@@ -1,36 +1,38 @@
--- Streams as hex text: pairs of hex digits, with blanks, line ends and carriage returns anywhere.
+-- Bytes as hex text: pairs of hex digits, with blanks, line ends and carriage returns anywhere (own
+-- rule).
 use Rattle.std.specs.Prelude.{◌≡◌, ◌≤◌, ◌<◌, ℕ, Bool, ◌==◌, ◌||◌, ◌⊎◌, not, List, [], ◌∷◌, ◌++◌, length, filter, Ok, Err}
 use Rattle.hex.specs.Hex.{decode_of, encode_lower}
 use Rattle.hex.specs.declared.error.FromHexError.{FromHexError}
 use Rattle.iscsi_stream.specs.declared.fault.ToolFault.{ToolFault}
 use Rattle.iscsi_stream.specs.declared.fault.ToolFault.TheVariants as tool
 
--- a byte that is not dropped
+-- A byte that is not dropped (own rule).
 abbrev pub is_kept : ℕ → Bool
 is_kept b = not ((b == 0x20) || (b == 0x0a) || (b == 0x0d))
 
--- the text without what is dropped
+-- The text without what is dropped (own rule).
 abbrev pub kept : List ℕ → List ℕ
 kept text = filter is_kept text
 
--- lower hex and a line end
+-- Lower hex and a line end (own rule).
 abbrev pub hex_line : List ℕ → List ℕ
 hex_line bytes = encode_lower bytes ++ 0x0a ∷ []
 
--- the most bytes of a text, those that are dropped included
+-- The most bytes of a text, those that are dropped included (own rule).
 abbrev pub longest_text : ℕ
 longest_text = 1048576
 
--- The text is hex and means these bytes.
+-- The text is hex and means these bytes (own rule).
 pub record BytesOf (text bytes : List ℕ) : Type 0 where
   pub within : length text ≤ longest_text
   pub means : decode_of (kept text) ≡ Ok bytes
 
--- The text is over the limit, or no pairs of hex digits.
+-- The text is over the limit, or no pairs of hex digits (own rule).
 abbrev pub IsNotHex : List ℕ → Type 0
-IsNotHex text = (longest_text < length text) ⊎ ((e : FromHexError) × (decode_of (kept text) ≡ Err e))
+IsNotHex text =
+    (longest_text < length text) ⊎ ((e : FromHexError) × (decode_of (kept text) ≡ Err e))
 
--- when reading bytes from hex text answers each fault
+-- When reading bytes from hex text answers each fault (own rule).
 abbrev pub HexTextFails : ToolFault → List ℕ → Type 0
 HexTextFails tool.NoMemory read = Unit {0}
 HexTextFails (tool.Stream fault) read = ⊥
