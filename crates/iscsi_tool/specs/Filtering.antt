@@ -1,4 +1,4 @@
--- What a filter writes for what it has read (own rule).
+-- What a filter writes for what it has read, and the exit status of its faults (own rule).
 use Rattle.std.specs.Prelude.{◌≡◌, ◌≤◌, ◌<◌, ℕ, Bool, true, false, List, [], length, take, Option, Result, Ok, Err}
 use Rattle.std.specs.Io.KnownBytes.{IsAtEnd}
 use Rattle.scsi_disk.specs.Disk.{zeros}
@@ -124,3 +124,17 @@ Filters filter outcome read written = Does filter.work filter.hex outcome read w
 -- What a filter that ended well has read (own rule).
 abbrev pub ReadsOn : Filter → Option (List ℕ) → Option (List ℕ) → Type 0
 ReadsOn filter before after = Reads filter.work filter.hex before after
+
+-- ---- what the program answers
+
+-- The exit status that says a fault: 1 where the input is refused, 3 for memory, 4 for reading and
+-- writing (own rule).
+abbrev pub exit_status : ToolFault → ℕ
+exit_status tool.NoMemory = 3
+exit_status (tool.Stream fault) = 1
+exit_status (tool.Text fault) = 1
+exit_status tool.TextTooLong = 1
+exit_status tool.Read = 4
+exit_status tool.Write = 4
+exit_status tool.NotHex = 1
+exit_status (tool.Protocol rule) = 1

@@ -9,8 +9,8 @@ mod hex_text;
 mod tests;
 mod words;
 
-ghost use Rattle.std.specs.Prelude.{IfOk};
-ghost use Rattle.iscsi_tool.specs.Filtering.{HasDisk, IsJob};
+ghost use Rattle.std.specs.Prelude.{◌≡◌, IfOk};
+ghost use Rattle.iscsi_tool.specs.Filtering.{exit_status, HasDisk, IsJob};
 
 use crate::filter::{Filter, run_filter};
 use crate::words::{Job, LineFault, read_words};
@@ -30,8 +30,11 @@ fn job_of(rt: &HostRuntime) -> Result<Job, LineFault>
     read_words(alloc, words.as_slice())
 }
 
-/// The exit status that says a fault: 1 where the input is refused, 3 for memory, 4 for reading and writing.
-fn status(fault: &ToolFault) -> u8 {
+/// The exit status that says a fault: 1 where the input is refused, 3 for memory, 4 for reading and
+/// writing (own rule).
+fn status(fault: &ToolFault) -> u8
+    ensures status { result ≡ exit_status fault.now }
+{
     match fault {
         ToolFault::Stream(_)
         | ToolFault::Text(_)
