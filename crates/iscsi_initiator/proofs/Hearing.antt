@@ -30,7 +30,7 @@ record IsNext (m : Machine) (ms : List Message) (x : Message) : Type 0 where
   pub output : (steps m (ms ++ x ∷ [])).output ≡ (steps m ms).output ++ (step (steps m ms).machine x).output
   pub fault : is_closed (step (steps m ms).machine x).machine ≡ true → (steps m (ms ++ x ∷ [])).fault ≡ (step (steps m ms).machine x).fault
 
-abbrev next_if : Bool → Stepped → Stepped → Stepped
+abbrev pub next_if : Bool → Stepped → Stepped → Stepped
 next_if shut a b = if shut then a else then_steps a b
 
 last_machine : (shut : Bool) (s : Stepped) → (next_if shut s (quiet s.machine)).machine ≡ s.machine

@@ -12,3 +12,4 @@ pub mod Pieces
 pub mod OutcomeLaws
 pub mod BlockLaws
 pub mod ReadLaws
+pub mod OneOutcome

@@ -1,6 +1,6 @@
 -- What the calls of an initiator do: a stream that comes in pieces, and requests (RFC 7143, sections
 -- 4 and 11; own rule).
-use Rattle.std.specs.Prelude.{◌≡◌, ℕ, ◌≤◌, ◌⊎◌, true, false, max, List, [], ◌++◌, length, take, drop, Option, Some, None, Result, Ok, Err}
+use Rattle.std.specs.Prelude.{◌≡◌, ◌≢◌, ℕ, ◌≤◌, ◌⊎◌, true, false, max, List, [], ◌++◌, length, take, drop, Option, Some, None, Result, Ok, Err}
 use Rattle.iscsi_stream.specs.declared.fault.StreamFault.{StreamFault}
 use Rattle.iscsi_stream.specs.declared.fault.StreamFault.TheVariants as stream
 use Rattle.iscsi_stream.specs.Stream.{Message}
@@ -191,3 +191,23 @@ Finishes (Err fault) old new = FinishEnds fault old new
 -- The outcome is taken (own rule).
 abbrev pub after_taking : Connection → Connection
 after_taking old = record old { machine = taken old.machine }
+
+-- ---- one outcome
+
+-- Two initiators that do the same from now on: while the session goes on they have the same of the
+-- next PDU too (own rule).
+pub record Alike (a b : Connection) : Type 0 where
+  pub machine : b.machine ≡ a.machine
+  pub framing : is_closed a.machine ≡ false → b.framing ≡ a.framing
+
+-- Two calls that answered the same, and left and wrote the same (own rule).
+pub record CalledAlike {R : Type 0} (result other : R) (a b : Connection)
+    (written rewritten : List ℕ) : Type 0 where
+  pub answered : other ≡ result
+  pub alike : Alike a b
+  pub output : rewritten ≡ written
+
+-- The request wasn't refused for want of memory (own rule).
+abbrev pub HadMemory : Result (Unit {0}) Refused → Type 0
+HadMemory (Ok done) = Unit {0}
+HadMemory (Err refused) = refused.fault ≢ refusals.NoMemory

@@ -1,10 +1,18 @@
 //! Laws of the initiator's machine: functions with no work, whose contracts are of the definitions
 //! alone.
 
-ghost use Rattle.std.specs.Prelude.{◌≡◌, ◌<◌, ℕ, List, Option, length};
+ghost use Rattle.std.specs.Prelude.{◌≡◌, ◌≢◌, ◌<◌, ℕ, false, Err, List, Option, Result, length};
 ghost use Rattle.scsi_cdb.specs.Blocks.{IsRecord};
+ghost use Rattle.iscsi_stream.specs.Stream.{Message};
+ghost use Rattle.iscsi_stream.specs.Framing.{HasTaken};
+ghost use Rattle.iscsi_login.specs.declared.phase.Phase.{Phase};
+ghost use Rattle.iscsi_initiator.specs.declared.fault.InitiatorFault.{InitiatorFault};
+ghost use Rattle.iscsi_initiator.specs.declared.fault.InitiatorFault.TheVariants as faults;
+ghost use Rattle.iscsi_initiator.specs.declared.request.Refused.{Refused};
+ghost use Rattle.iscsi_initiator.specs.declared.request.Request.{Request};
 ghost use Rattle.iscsi_initiator.specs.Block.{record_of};
-ghost use Rattle.iscsi_initiator.specs.State.{Settings, Machine};
+ghost use Rattle.iscsi_initiator.specs.Calls.{Alike, CalledAlike, Connection, Feeds, HadMemory, Submits};
+ghost use Rattle.iscsi_initiator.specs.State.{Settings, Machine, is_closed};
 ghost use Rattle.iscsi_initiator.specs.Full.{sequence};
 ghost use Rattle.iscsi_initiator.specs.Configured.{IsStart};
 ghost use Rattle.iscsi_initiator.specs.Laws.{HeldStays, IsSequence, OutcomesInOrder, ReadsTile};
@@ -37,4 +45,20 @@ pub fn reads_tile()
 /// SBC-3).
 pub fn record_of_a_block()
     ensures record_is { (block : List ℕ) → length block ≡ 16 → IsRecord block (record_of block) }
+{}
+
+/// A call has one outcome: where memory is there, what a piece or a request leads to is the same
+/// each time, also where the piece breaks off within a PDU.
+pub fn one_outcome()
+    ensures feed { (stream piece output written rewritten : List ℕ) (ms : List Message)
+        (old same a b : Connection) (result other : Result Phase InitiatorFault)
+        → (is_closed old.machine ≡ false → HasTaken stream ms old.framing) → Alike old same
+        → Feeds result old piece a output written → result ≢ Err faults.NoMemory
+        → Feeds other same piece b output rewritten → other ≢ Err faults.NoMemory
+        → CalledAlike result other a b written rewritten }
+    ensures submit { (request : Request) (output written rewritten : List ℕ)
+        (old same a b : Connection) (result other : Result (Unit {0}) Refused) → Alike old same
+        → Submits result old request a output written → HadMemory result
+        → Submits other same request b output rewritten → HadMemory other
+        → CalledAlike result other a b written rewritten }
 {}

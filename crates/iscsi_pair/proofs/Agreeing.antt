@@ -26,9 +26,9 @@ use Rattle.iscsi_initiator.specs.Machine.{step, taken}
 use Rattle.iscsi_initiator.specs.Submitted.{Submitted, submitted, or_accepted, refusal_in}
 use Rattle.iscsi_initiator.specs.Laws as history
 use Rattle.iscsi_initiator.proofs.HeldLaws.{held_stays}
+use Rattle.iscsi_initiator.proofs.OneOutcome.{closed_step}
 use Rattle.iscsi_pair.specs.World.{World, Opening, IsOpening}
 use Rattle.iscsi_pair.specs.Traffic.{Traffic, Input, Comes, Asks, Takes, after, after_all, sent, coming}
-use Rattle.iscsi_pair.proofs.Ending.{closed_step}
 use Rattle.iscsi_pair.proofs.InitiatorSide.{begun}
 use Rattle.iscsi_pair.proofs.Sides.{Sides}
 use Rattle.iscsi_pair.proofs.Front.{IsFirst, first_is}

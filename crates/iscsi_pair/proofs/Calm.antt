@@ -48,7 +48,7 @@ was_not : (a b : Bool) → (a ≡ true → b ≡ true) → b ≡ false → a ≡
 was_not true b s e = absurd (let bad : true ≡ false = sym (s refl) ∙ e in cc)
 was_not false b s e = refl
 
-or_none : (a b : Bool) → (a || b) ≡ false → (a ≡ false) × (b ≡ false)
+pub or_none : (a b : Bool) → (a || b) ≡ false → (a ≡ false) × (b ≡ false)
 or_none true b e = absurd (cc e)
 or_none false b e = (refl, e)
 

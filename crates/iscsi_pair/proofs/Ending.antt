@@ -8,6 +8,8 @@ use Rattle.iscsi_pdu.specs.declared.head.Head.TheVariants as heads
 use Rattle.iscsi_pdu.specs.declared.head.login_response.LoginResponse.{LoginResponse}
 use Rattle.iscsi_stream.specs.Segment.{Segment, Text, Bytes, segment_bytes}
 use Rattle.iscsi_stream.specs.Stream.{Message}
+use Rattle.iscsi_stream.proofs.Ready.{apart}
+use Rattle.iscsi_initiator.proofs.OneOutcome.{closed_step}
 use Rattle.iscsi_login.specs.declared.phase.Phase.{Phase}
 use Rattle.iscsi_login.specs.declared.phase.Phase.TheVariants as phases
 use Rattle.iscsi_login.specs.declared.stage.Stage.{Stage}
@@ -28,17 +30,6 @@ use Rattle.iscsi_initiator.specs.Submitted.{submitted, or_accepted, accepted, re
 use Rattle.iscsi_initiator.proofs.Stepping.{step_is}
 use Rattle.iscsi_initiator.proofs.HeldLaws.{takes_keeps}
 use Rattle.iscsi_pair.specs.Traffic.{Input, Comes, Asks, Takes, after, after_all}
-
-apart : {b : Bool} → b ≡ true → b ≡ false → ⊥
-apart {b} e f = let bad : true ≡ false = sym e ∙ f in absurd cc
-
-quiet_in : (p : Phase) (m : Machine) (x : Message) → p ≡ m.phase → is_closed m ≡ true → step_in p m x ≡ quiet m
-quiet_in phases.Login m x e c = absurd (let bad : false ≡ true = ap (λ (q : Phase). is_closed (record m { phase = q })) e ∙ c in cc)
-quiet_in phases.Full m x e c = absurd (let bad : false ≡ true = ap (λ (q : Phase). is_closed (record m { phase = q })) e ∙ c in cc)
-quiet_in phases.Closed m x e c = refl
-
-pub closed_step : (m : Machine) (x : Message) → is_closed m ≡ true → step m x ≡ quiet m
-closed_step m x c = step_is m x ∙ quiet_in m.phase m x refl c
 
 -- full feature phase is the last stage
 abbrev pub IsFullStage : Machine → Type 0

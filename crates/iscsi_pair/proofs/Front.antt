@@ -14,7 +14,7 @@ use Rattle.iscsi_stream.specs.declared.logins.Logins.{Logins}
 use Rattle.iscsi_stream.specs.Segment.{Segment, Text, Bytes, continues, after, segment_of, segment_bytes}
 use Rattle.iscsi_stream.specs.Stream.{Message, ReadsAs}
 use Rattle.iscsi_stream.specs.Canonical.{canonical_bytes}
-use Rattle.iscsi_stream.proofs.Meaning.{same_begin}
+use Rattle.iscsi_stream.proofs.Meaning.{same_begin, same_message}
 use Rattle.iscsi_stream.proofs.Segments.{segment_plain, segment_whole}
 
 -- ---- the front of a stream
@@ -30,10 +30,6 @@ pub record IsFirst (limit : ℕ) (logins : Logins) (x y : List ℕ) (t r : Messa
   pub given : List ℕ
   pub reads : ReadsAs limit (after logins r.head) given ts
   pub rest : given ++ x ≡ y
-
-same_message : (m n : Message) → m.head ≡ n.head → m.segment ≡ n.segment → m ≡ n
-same_message m n p q =
-    ap (λ (h : Head). let r : Message = record { head = h; segment = m.segment } in r) p ∙ ap (λ (x : Segment). let r : Message = record { head = n.head; segment = x } in r) q
 
 pub first_is : (limit : ℕ) (logins : Logins) (given x y : List ℕ) (t r : Message) (ts : List Message) → Readable logins r → ReadsAs limit logins given (t ∷ ts) → given ++ x ≡ canonical_bytes r ++ y
     → IsFirst limit logins x y t r ts

@@ -19,6 +19,7 @@ use Rattle.iscsi_login.proofs.Texts.{good_answer}
 use Rattle.iscsi_login.proofs.OfferMeaning.{security_is_offer, operational_is_offer, single_is_offer}
 use Rattle.iscsi_stream.specs.Segment.{Segment, Text, Bytes, segment_bytes}
 use Rattle.iscsi_stream.specs.Stream.{Message}
+use Rattle.iscsi_stream.proofs.Ready.{apart}
 use Rattle.iscsi_login.specs.declared.stage.Stage.{Stage}
 use Rattle.iscsi_login.specs.declared.stage.Stage.TheVariants as stages
 use Rattle.iscsi_login.specs.declared.stage.Session.TheVariants as sessions
@@ -330,9 +331,6 @@ takes c i e o there is here =
     good_is_taken (offered i) (answer_pairs e (offered i))
     (good_answer (session_for e (offered i)) e.settings.preferences range (declared_tag e (offered i)) (declared_length e) (within_if _ e.settings.preferences range) (offered i)
     (offers_offer i.settings.start i.stage i.settings.proposal is))
-
-apart : {b : Bool} → b ≡ true → b ≡ false → ⊥
-apart {b} e f = let bad : true ≡ false = sym e ∙ f in absurd cc
 
 -- where the answer leads, since it leads on
 leads_on : (c : Opening) (i : initiator.Machine) (s : Stepped) (t : target.Machine) (logins : Logins) → Leads c i s t logins → is_closed s.machine ≡ false → (Asks_on c s t logins → Suited c s.machine t)

@@ -8,7 +8,7 @@ use Rattle.iscsi_stream.specs.Stream.{Message, ReadsAs, NoPdu}
 use Rattle.iscsi_stream.specs.Canonical.{canon, canonical_bytes}
 use Rattle.iscsi_stream.specs.Framing.{Framing, HasTaken, is_ready}
 use Rattle.iscsi_stream.proofs.Taking.{splits_taken}
-use Rattle.iscsi_stream.proofs.Ready.{unready_of}
+use Rattle.iscsi_stream.proofs.Ready.{unready_of, apart}
 use Rattle.iscsi_login.specs.declared.phase.Phase.TheVariants as phases
 use Rattle.iscsi_login.specs.declared.stage.Stage.TheVariants as stages
 use Rattle.iscsi_target.specs.State as target
@@ -39,9 +39,6 @@ pub record HoldsNone (limit : ℕ) (rest : List ℕ) : Type 0 where
 -- a message that was read as it was written does not wait there
 not_waiting : (limit : ℕ) (logins : Logins) (rest more : List ℕ) (m : Message) → HoldsNone limit rest → Readable logins m → length (segment_bytes m.segment) ≤ 8192 → rest ≡ canonical_bytes m ++ more → ⊥
 not_waiting limit logins rest more m h r short e = h.none (canonical_bytes m) (segment_bytes m.segment) more m.head e r.means (omega (arith, short, h.enough))
-
-apart : {b : Bool} → b ≡ true → b ≡ false → ⊥
-apart {b} e f = let bad : true ≡ false = sym e ∙ f in absurd cc
 
 nothing_read : (limit : ℕ) (logins : Logins) (given : List ℕ) → ReadsAs limit logins given [] → given ≡ []
 unfolding ReadsAs

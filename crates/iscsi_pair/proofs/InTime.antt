@@ -16,6 +16,7 @@ use Rattle.iscsi_stream.specs.Framing.{Framing, HasTaken, FeedFails, settled}
 use Rattle.iscsi_stream.proofs.Meaning.{starts}
 use Rattle.iscsi_stream.proofs.Heads.{bad_header}
 use Rattle.iscsi_stream.proofs.Settled.{settled-short, length-settled}
+use Rattle.iscsi_stream.proofs.Ready.{apart}
 use Rattle.iscsi_login.specs.declared.stage.Stage.TheVariants as stages
 use Rattle.iscsi_target.specs.declared.fault.TargetFault.{TargetFault}
 use Rattle.iscsi_target.specs.declared.fault.TargetFault.TheVariants as target_faults
@@ -106,9 +107,6 @@ both_well c u w inputs ms l k given rest taken_ more lost o suits s p m e q n f 
     all_well c inputs ms l k given (rest ++ (w.to_target ++ lost)) taken_ (more ++ (w.to_initiator ++ [])) o suits p
     (read_first u.moved_to_target w.to_target u.queued_for_target given rest lost (canon (all_sent c inputs)) m s.to_target e) q
     (read_first u.moved_to_initiator w.to_initiator u.queued_for_initiator taken_ more [] (canon (said c ms).answers) n s.to_initiator (append-nil u.queued_for_initiator ∙ f))
-
-apart : {b : Bool} → b ≡ true → b ≡ false → ⊥
-apart {b} e f = let bad : true ≡ false = sym e ∙ f in absurd cc
 
 target_ended : (c : Opening) (u : Traffic) (w : World) → IsOpening c → Suits c → Sides c u w → TargetEnded c u.moved_to_target u.queued_for_initiator w.target → w.target.machine.stage ≡ stages.Full
 target_ended c u w o suits s e =

@@ -6,6 +6,7 @@ use Rattle.iscsi_pdu.specs.declared.head.Head.TheVariants as heads
 use Rattle.iscsi_pdu.specs.declared.head.login_response.LoginResponse.{LoginResponse}
 use Rattle.iscsi_stream.specs.Segment.{Text}
 use Rattle.iscsi_stream.specs.Stream.{Message}
+use Rattle.iscsi_stream.proofs.Ready.{apart}
 use Rattle.iscsi_login.specs.declared.phase.Phase.{Phase}
 use Rattle.iscsi_login.specs.declared.phase.Phase.TheVariants as phases
 use Rattle.iscsi_login.specs.Answer.{initiator_holds}
@@ -25,9 +26,6 @@ answering h pairs = record { head = heads.LoginResponse h; segment = Text pairs 
 pub record Closes (m : Machine) (r : Stepped) : Type 0 where
   pub phase : r.machine.phase ≡ phases.Closed
   pub stage : r.machine.stage ≡ m.stage
-
-apart : {b : Bool} → b ≡ true → b ≡ false → ⊥
-apart {b} e f = let bad : true ≡ false = sym e ∙ f in absurd cc
 
 by_cases : (b : Bool) (P : Stepped → Type 0) (x y : Stepped) → (b ≡ true → P x) → (b ≡ false → P y) → P (if b then x else y)
 by_cases true P x y p q = p refl

@@ -11,7 +11,7 @@ use Rattle.iscsi_stream.specs.declared.fault.StreamFault.{StreamFault}
 use Rattle.iscsi_stream.specs.declared.fault.StreamFault.TheVariants as stream
 use Rattle.iscsi_stream.specs.Framing.{Framing, HasTaken, FeedFails, is_ready}
 use Rattle.iscsi_stream.proofs.Taking.{at_opening}
-use Rattle.iscsi_stream.proofs.Ready.{not_whole-nil}
+use Rattle.iscsi_stream.proofs.Ready.{not_whole-nil, apart}
 use Rattle.iscsi_login.specs.declared.phase.Phase.{Phase}
 use Rattle.iscsi_login.specs.declared.phase.Phase.TheVariants as phases
 use Rattle.iscsi_initiator.specs.declared.fault.InitiatorFault.{InitiatorFault}
@@ -26,8 +26,9 @@ use Rattle.iscsi_initiator.specs.Login.{start_step, fits_segment, offered}
 use Rattle.iscsi_initiator.specs.Machine.{step, steps, taken}
 use Rattle.iscsi_initiator.specs.Submitted.{submitted, or_accepted, refusal, refusal_in}
 use Rattle.iscsi_initiator.specs.Calls.{Connection, Heard, heard_steps, Feeds, HearsAll, ClosesAt, StreamEnds, StreamFails, Stays, Submits, Accepts, after_taking}
+use Rattle.iscsi_initiator.proofs.OneOutcome.{closed_step, no_fault, not_live}
 use Rattle.iscsi_login.specs.declared.stage.Stage.TheVariants as stages
-use Rattle.iscsi_pair.proofs.Ending.{IsFullStage, asked_phase, closed_step, steps_well, inputs_full, text_goes}
+use Rattle.iscsi_pair.proofs.Ending.{IsFullStage, asked_phase, steps_well, inputs_full, text_goes}
 use Rattle.iscsi_pair.specs.declared.step.EndFault.{EndFault}
 use Rattle.iscsi_pair.specs.declared.step.EndFault.TheVariants as ends
 use Rattle.iscsi_pair.specs.World.{Opening, started, new_pair, feed_fault, submit_fault}
@@ -295,9 +296,6 @@ lives_front c acts moved out i l =
     subst (λ (x : List ℕ). InitiatorFront c x out i) (append-nil moved)
     (front_taken c moved [] out [] l.inputs i.framing i l.taken (append-nil out ∙ l.output) (ap (λ (m : Machine). m.stage) l.machine) (ap (λ (m : Machine). m.held) l.machine))
 
-apart : {b : Bool} → b ≡ true → b ≡ false → ⊥
-apart {b} e f = let bad : true ≡ false = sym e ∙ f in absurd cc
-
 -- the first text leaves the login open
 open_if : (b : Bool) (x y : Stepped) → is_closed x.machine ≡ false → is_closed y.machine ≡ false → is_closed (if b then x else y).machine ≡ false
 open_if true x y p q = p
@@ -487,23 +485,13 @@ stays_side c acts moved prior before bytes after old new kept s why e = record {
   lives = λ none live. absurd (cc none);
 }
 
--- a closed session does nothing with messages
-closed_quiet : (m : Machine) (ms : List Message) → is_closed m ≡ true → steps m ms ≡ quiet m
-unfolding steps
-closed_quiet m [] c = refl
-closed_quiet m (x ∷ ms) c =
-    let e : step m x ≡ quiet m = closed_step m x c in
-    let over : is_closed (step m x).machine ≡ true = ap (λ (s : Stepped). is_closed s.machine) e ∙ c in
-    rw over e
-
 -- a session that heard messages and is open, or failed at the last, was open
 was_open : (b : Bool) (old : Connection) (bytes : List ℕ) (h : Heard old bytes) → is_closed old.machine ≡ b → is_closed (heard_steps old bytes h).machine ≡ false → is_closed old.machine ≡ false
-was_open true old bytes h is live = absurd (apart is (sym (ap (λ (s : Stepped). is_closed s.machine) (closed_quiet old.machine h.messages is)) ∙ live))
+was_open true old bytes h is live = absurd (not_live old h.messages is live)
 was_open false old bytes h is live = is
 
 failed_open : (b : Bool) (old : Connection) (bytes : List ℕ) (h : Heard old bytes) (fault : InitiatorFault) → is_closed old.machine ≡ b → (heard_steps old bytes h).fault ≡ Some fault → is_closed old.machine ≡ false
-failed_open true old bytes h fault is cause =
-    absurd (let bad : None ≡ Some fault = sym (ap (λ (s : Stepped). s.fault) (closed_quiet old.machine h.messages is)) ∙ cause in cc)
+failed_open true old bytes h fault is cause = absurd (no_fault old h.messages fault is cause)
 failed_open false old bytes h fault is cause = is
 
 stream_fails : (fault : StreamFault) (c : Opening) (acts : List Input) (moved prior before bytes after : List ℕ) (old new : Connection) → InitiatorSide c acts moved (prior ++ before) old None

@@ -18,3 +18,4 @@ pub mod Going
 pub mod Faultless
 pub mod InTime
 pub mod Idle
+pub mod OneWorld

@@ -1,5 +1,6 @@
 -- Where an end stands that hasn't failed, whether its session goes on or is over.
 use Rattle.std.proofs.Common.{◌≡◌, Bool, true, false, None, refl, sym, ◌∙◌}
+use Rattle.iscsi_stream.proofs.Ready.{apart}
 use Rattle.iscsi_target.specs.Machine as target_machine
 use Rattle.iscsi_initiator.specs.State.{opening, is_closed}
 use Rattle.iscsi_initiator.specs.Login.{start_step}
@@ -7,9 +8,6 @@ use Rattle.iscsi_pair.specs.World.{World, Opening}
 use Rattle.iscsi_pair.specs.Traffic.{Traffic, TargetStands, InitiatorStands, sent}
 use Rattle.iscsi_pair.proofs.TargetSide.{TargetSide, TargetLives, TargetOver}
 use Rattle.iscsi_pair.proofs.InitiatorSide.{InitiatorSide, InitiatorLives, InitiatorOver, begun, canon_append}
-
-apart : {b : Bool} → b ≡ true → b ≡ false → ⊥
-apart {b} e f = let bad : true ≡ false = sym e ∙ f in absurd cc
 
 target_by : (b : Bool) (c : Opening) (t : Traffic) (w : World) → target_machine.is_closed w.target.machine ≡ b → w.target_fault ≡ None
     → TargetSide c t.moved_to_target t.queued_for_initiator w.target w.blocks w.target_fault → TargetStands c t w

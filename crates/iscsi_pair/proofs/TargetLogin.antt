@@ -12,6 +12,7 @@ use Rattle.iscsi_pdu.specs.declared.head.login_request.LoginRequest.{LoginReques
 use Rattle.iscsi_pdu.specs.declared.head.login_response.LoginResponse.{LoginResponse}
 use Rattle.iscsi_stream.specs.Segment.{Segment, Bytes, segment_bytes}
 use Rattle.iscsi_stream.specs.Stream.{Message}
+use Rattle.iscsi_stream.proofs.Ready.{apart}
 use Rattle.iscsi_login.specs.declared.phase.Phase.{Phase}
 use Rattle.iscsi_login.specs.declared.phase.Phase.TheVariants as phases
 use Rattle.iscsi_login.specs.declared.stage.Stage.{Stage}
@@ -197,9 +198,6 @@ gathers s e h bytes k l f = record {
   held = k.held;
   gathered = ap (λ (x : List ℕ). x ++ bytes) k.gathered;
 }
-
-apart : {b : Bool} → b ≡ true → b ≡ false → ⊥
-apart {b} e f = let bad : true ≡ false = sym e ∙ f in absurd cc
 
 by_cases : (b : Bool) (P : Reply → Type 0) (x y : Reply) → (b ≡ true → P x) → (b ≡ false → P y) → P (if b then x else y)
 by_cases true P x y p q = p refl

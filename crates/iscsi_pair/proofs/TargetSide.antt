@@ -10,7 +10,7 @@ use Rattle.iscsi_stream.specs.declared.fault.StreamFault.{StreamFault}
 use Rattle.iscsi_stream.specs.declared.fault.StreamFault.TheVariants as stream
 use Rattle.iscsi_stream.specs.Framing.{Framing, HasTaken, FeedFails, is_ready}
 use Rattle.iscsi_stream.proofs.Taking.{at_opening}
-use Rattle.iscsi_stream.proofs.Ready.{not_whole-nil}
+use Rattle.iscsi_stream.proofs.Ready.{not_whole-nil, apart}
 use Rattle.iscsi_login.specs.declared.phase.Phase.{Phase}
 use Rattle.iscsi_target.specs.declared.fault.TargetFault.{TargetFault}
 use Rattle.iscsi_target.specs.declared.fault.TargetFault.TheVariants as faults
@@ -205,9 +205,6 @@ ends_keep piece (Err faults.NoMemory) v n r new e = record { stage = ap (λ (m :
 ends_keep piece (Err (faults.Stream fault)) v n r new e = record { stage = ap (λ (m : Machine). m.stage) e.3; held = ap (λ (m : Machine). m.held) e.3 }
 ends_keep piece (Err (faults.Protocol rule)) v n r new e = record { stage = ap (λ (m : Machine). m.stage) e.1; held = ap (λ (m : Machine). m.held) e.1 }
 ends_keep piece (Err faults.Closed) v n r new e = absurd e
-
-apart : {b : Bool} → b ≡ true → b ≡ false → ⊥
-apart {b} e f = let bad : true ≡ false = sym e ∙ f in absurd cc
 
 ends_limit : (piece : List ℕ) (result : Result Phase TargetFault) (v : Framing) (n : ℕ) (r : Stepped) (new : Connection) → Ends piece result v n r new
     → result_err result ≡ None → is_closed new.machine ≡ false → new.framing ≡ v

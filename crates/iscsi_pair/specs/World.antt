@@ -220,3 +220,14 @@ RunsCalmly old [] new = new ≡ old
 RunsCalmly old (event ∷ events) new =
     (mid : World) × Happens old event mid × (keeps_no_memory mid ≡ false)
     × RunsCalmly mid events new
+
+-- Two worlds of which nothing differs that matters from now on: an end whose session is over has no
+-- use for the bytes that it had of a PDU (own rule).
+pub record LooksAlike (v w : World) : Type 0 where
+  pub target : target.Alike v.target w.target
+  pub disk : disk_of w.blocks ≡ disk_of v.blocks
+  pub initiator : initiator.Alike v.initiator w.initiator
+  pub to_target : w.to_target ≡ v.to_target
+  pub to_initiator : w.to_initiator ≡ v.to_initiator
+  pub target_fault : w.target_fault ≡ v.target_fault
+  pub initiator_fault : w.initiator_fault ≡ v.initiator_fault

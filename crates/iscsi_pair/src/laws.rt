@@ -5,7 +5,7 @@
 
 ghost use Rattle.std.specs.Prelude.{◌≡◌, ◌⊎◌, ◌++◌, [], List, None, false};
 ghost use Rattle.iscsi_login.specs.declared.stage.Stage.TheVariants as stages;
-ghost use Rattle.iscsi_pair.specs.World.{World, Opening, IsOpening, Suits, Event, Reached, RunsInTime, new_pair, keeps_no_memory};
+ghost use Rattle.iscsi_pair.specs.World.{Event, IsOpening, LooksAlike, Opening, Reached, RunsCalmly, RunsInTime, Suits, World, keeps_no_memory, new_pair};
 ghost use Rattle.iscsi_pair.specs.Traffic.{Traffic, Traces, first_traffic, TargetStands, InitiatorStands};
 
 /// Every run can be traced.
@@ -35,6 +35,13 @@ pub fn ends()
     ensures initiator { (c : Opening) (events : List Event) (w : World) (t : Traffic)
         → Traces (first_traffic c) (new_pair c) events w t → w.initiator_fault ≡ None
         → InitiatorStands c t w }
+{}
+
+/// One world: where no growth is refused, the events alone say to which world a pair comes, however
+/// its ends use their memory.
+pub fn one_world()
+    ensures one { (c : Opening) (events : List Event) (v w : World)
+        → RunsCalmly (new_pair c) events v → RunsCalmly (new_pair c) events w → LooksAlike v w }
 {}
 
 /// Login agreement: where the initiator has completed its login, the target has, and both hold the

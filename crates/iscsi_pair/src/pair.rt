@@ -202,7 +202,8 @@ impl Pair {
     #[tactic(auto, using(crate::proofs::Calm::calm))]
     pub fn run(&mut self, steps: Vec<Step>)
         ensures ran { Runs self.old (map event_of steps.items) self.new }
-        // Where no end keeps that memory ran out, no growth was refused.
+        // Where no end keeps that memory ran out, no growth was refused: then the steps alone say to
+        // which world they lead (`laws::one_world`).
         ensures calm { keeps_no_memory self.new ≡ false
             → RunsCalmly self.old (map event_of steps.items) self.new }
     {

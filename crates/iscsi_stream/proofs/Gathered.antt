@@ -1,19 +1,16 @@
 -- What a framer's parts keep.
-use Rattle.std.proofs.Common.{◌≡◌, ℕ, zero, suc, ◌+◌, ◌*◌, ◌-◌, ◌%◌, ◌^◌, ◌<◌, ◌≤◌, min, Bool, true, false, List, [], ◌∷◌, ◌++◌, length, take, drop, replicate, refl, sym, ap, subst, ◌∙◌, arith, inl, inr, append_assoc, append-nil}
-use Rattle.std.specs.Prelude.{not, ◌&&◌, nat_lt, ◌==◌}
+use Rattle.std.proofs.Common.{◌≡◌, ℕ, ◌+◌, ◌-◌, ◌<◌, ◌≤◌, true, List, [], ◌++◌, length, take, drop, replicate, sym, ap, subst, ◌∙◌, arith, inl, inr, append_assoc, append-nil}
 use Rattle.std.proofs.lemmas.Bool.{cases_lt}
 use Rattle.std.proofs.lemmas.Bool.Decides.{nat_tests}
-use Rattle.std.proofs.lemmas.List.{length-append, length-take, length-drop, length-replicate, take-take, take_all, take_at, drop_at, take-append-le, take-append-drop, nil_from_length, drop-take}
+use Rattle.std.proofs.lemmas.List.{length-append, length-take, length-drop, length-replicate, take-take, take_all, take_at, drop_at, take-append-drop, nil_from_length, drop-take}
 use Rattle.iscsi_pdu.specs.declared.head.Head.{Head}
-use Rattle.iscsi_pdu.specs.Meaning.{IsHeader, Means, padding}
+use Rattle.iscsi_pdu.specs.Meaning.{IsHeader, padding}
 use Rattle.iscsi_stream.specs.declared.fault.StreamFault.{StreamFault}
 use Rattle.iscsi_stream.specs.declared.fault.StreamFault.TheVariants as faults
-use Rattle.iscsi_stream.specs.declared.gathering.Stage.{Stage}
-use Rattle.iscsi_stream.specs.declared.gathering.Stage.TheVariants.{Header, Body}
 use Rattle.iscsi_stream.specs.Stream.{pdu_len}
-use Rattle.iscsi_stream.specs.Framing.{length_at, content_len, settled, is_whole, IsGood, IsBegun, ReachesHeader, Completes}
-use Rattle.iscsi_stream.specs.Gathering.{gathered, IsBody, IsKept, Gathers, FillsBody, HeaderFails, GatherFails}
-use Rattle.iscsi_stream.proofs.Heads.{length_at-same, header-length, means_of}
+use Rattle.iscsi_stream.specs.Framing.{length_at, content_len, settled, is_whole, IsBegun, ReachesHeader}
+use Rattle.iscsi_stream.specs.Gathering.{IsBody, Gathers, FillsBody, HeaderFails, GatherFails}
+use Rattle.iscsi_stream.proofs.Heads.{length_at-same, header-length}
 use Rattle.iscsi_stream.proofs.Settled.{settled-short}
 
 -- n elements and then m more

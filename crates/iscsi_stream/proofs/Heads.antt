@@ -1,14 +1,13 @@
 -- What streams need of headers.
-use Rattle.std.proofs.Common.{◌≡◌, ℕ, ◌+◌, ◌-◌, ◌^◌, ◌<◌, ◌≤◌, Bool, true, false, List, ◌++◌, length, get_or, take, drop, replicate, Option, Some, None, refl, sym, ap, subst, ◌∙◌, arith, inl, inr}
+use Rattle.std.proofs.Common.{◌≡◌, ℕ, ◌+◌, ◌-◌, ◌<◌, ◌≤◌, Bool, true, false, List, length, get_or, take, drop, Some, None, sym, ap, ◌∙◌, arith, inl, inr}
 use Rattle.std.specs.Bool.{OnTrue}
-use Rattle.std.specs.Prelude.{slice_range, slice_index}
 use Rattle.std.proofs.lemmas.Bool.{cases_lt}
-use Rattle.std.proofs.lemmas.List.{get_or-take, get_or_past, take-take, length-append, length-replicate, length-take, length-drop}
+use Rattle.std.proofs.lemmas.List.{get_or-take, get_or_past, take-take, length-take}
 use Rattle.scsi_cdb.specs.Layout.{number_at}
 use Rattle.iscsi_pdu.specs.declared.head.Head.{Head}
 use Rattle.iscsi_pdu.specs.declared.head.HeadFault.{HeadFault}
-use Rattle.iscsi_pdu.specs.Meaning.{IsHeader, Means, Fits, fault_of, is_login, opcode, header, whole, padding}
-use Rattle.iscsi_pdu.proofs.Headers.{IsHeader-unique, IsHeader-room, IsHeader-reads, IsHeader-short, IsHeader-faultless, whole-means}
+use Rattle.iscsi_pdu.specs.Meaning.{IsHeader, Means, fault_of, is_login, opcode, whole}
+use Rattle.iscsi_pdu.proofs.Headers.{IsHeader-room, IsHeader-reads, IsHeader-short, IsHeader-faultless, whole-means}
 use Rattle.iscsi_stream.specs.Stream.{AreBytes, pdu_len}
 use Rattle.iscsi_stream.specs.Framing.{length_at}
 

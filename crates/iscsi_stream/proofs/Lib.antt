@@ -11,3 +11,5 @@ pub mod Writing
 pub mod PassOn
 pub mod Normals
 pub mod RunLaws
+pub mod Fronts
+pub mod Endings

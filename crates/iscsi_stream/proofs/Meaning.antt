@@ -1,17 +1,16 @@
 -- What a stream means: one list of messages, which its canonical stream means too.
-use Rattle.std.proofs.Common.{◌≡◌, ℕ, ◌+◌, ◌*◌, ◌-◌, ◌%◌, ◌^◌, ◌<◌, ◌≤◌, Bool, true, false, List, [], ◌∷◌, ◌++◌, length, get_or, take, drop, replicate, refl, sym, ap, subst, ◌∙◌, arith, append-nil, append_assoc, inl, inr}
-use Rattle.std.specs.List.{flat_map}
+use Rattle.std.proofs.Common.{◌≡◌, ℕ, ◌+◌, ◌<◌, ◌≤◌, Bool, true, false, List, [], ◌∷◌, ◌++◌, length, take, drop, refl, sym, ap, subst, ◌∙◌, arith, append-nil, append_assoc, inl, inr}
 use Rattle.std.specs.Prelude.{Option, Some, None, not, ◌&&◌}
 use Rattle.iscsi_text.specs.Text.{Pairs}
 use Rattle.iscsi_text.specs.Canonical.{canonical_text}
 use Rattle.iscsi_text.specs.Reading.{text_in}
 use Rattle.iscsi_text.proofs.TextLaws.{canonical_read, read_no_longer}
 use Rattle.std.proofs.lemmas.Bool.{cases_lt}
-use Rattle.std.proofs.lemmas.List.{length-append, length-take, length-drop, take-take, take-append-le, take_at, drop_at, get_or_past, get_or_append_left, get_or-append-add, nil_from_length}
+use Rattle.std.proofs.lemmas.List.{length-append, take-append-le, take_at, drop_at, get_or_past, get_or_append_left, get_or-append-add, nil_from_length}
 use Rattle.std.proofs.lemmas.List.Concat.{flat_map-cons}
 use Rattle.iscsi_pdu.specs.declared.head.Head.{Head}
 use Rattle.iscsi_pdu.specs.declared.head.HeadFault.{HeadFault}
-use Rattle.iscsi_pdu.specs.Meaning.{IsHeader, Means, fault_of, padding}
+use Rattle.iscsi_pdu.specs.Meaning.{IsHeader, Means, fault_of}
 use Rattle.iscsi_pdu.proofs.Headers.{IsHeader-unique}
 use Rattle.iscsi_stream.specs.declared.logins.Logins.{Logins}
 use Rattle.iscsi_stream.specs.Segment.{Segment, no_login, continues, after, is_last, text_or_bytes, segment_if, segment_of, segment_bytes}
@@ -100,7 +99,7 @@ same_begin b more b' more' h h' d d' e m m' =
       rest = sym (drop_at b more (length b) refl) ∙ ap (drop (length b)) e ∙ drop_at b' more' (length b) (sym len);
     }
 
-same_message : (m n : Message) → m.head ≡ n.head → m.segment ≡ n.segment → m ≡ n
+pub same_message : (m n : Message) → m.head ≡ n.head → m.segment ≡ n.segment → m ≡ n
 same_message m n p q =
     ap (λ (h : Head). let r : Message = record { head = h; segment = m.segment } in r) p ∙ ap (λ (x : Segment). let r : Message = record { head = n.head; segment = x } in r) q
 

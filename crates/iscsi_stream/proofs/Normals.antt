@@ -1,10 +1,10 @@
 -- What normalising keeps from read to read, and what it leaves at each answer.
-use Rattle.std.proofs.Common.{◌≡◌, ℕ, ◌+◌, ◌*◌, ◌-◌, ◌<◌, ◌≤◌, ◌^◌, min, Bool, true, false, List, [], ◌∷◌, ◌++◌, length, get_or, take, drop, Option, Result, Ok, Err, refl, sym, ap, subst, ◌∙◌, arith, append-nil, append_assoc, inl, inr}
-use Rattle.std.specs.Prelude.{not, ◌&&◌, IsTrue, ◌⊎◌}
+use Rattle.std.proofs.Common.{◌≡◌, ℕ, ◌+◌, ◌-◌, ◌<◌, ◌≤◌, ◌^◌, min, false, List, [], ◌++◌, length, take, drop, Option, Result, Err, refl, sym, ap, subst, ◌∙◌, arith, append-nil, inl, inr}
+use Rattle.std.specs.Prelude.{IsTrue, ◌⊎◌}
 use Rattle.std.specs.Io.KnownBytes.{Appends, Consumes, Keeps}
 use Rattle.std.proofs.KnownBytes.{Appends-trans, Appends-nil, Consumes-trans, Consumes-kept, Consumes-nil}
 use Rattle.std.proofs.lemmas.Bool.{cases_lt}
-use Rattle.std.proofs.lemmas.List.{length-append, nil_from_length, take_at, drop_at, take-take, take-append-drop, drop-take, get_or_append_left, get_or-append_right, get_or_past}
+use Rattle.std.proofs.lemmas.List.{length-append, nil_from_length, take_at, drop_at, get_or_append_left, get_or-append_right, get_or_past}
 use Rattle.std.proofs.lemmas.List.Concat.{flat_map-append}
 use Rattle.iscsi_stream.specs.declared.fault.StreamFault.{StreamFault}
 use Rattle.iscsi_stream.specs.declared.fault.StreamFault.TheVariants as stream
@@ -13,10 +13,10 @@ use Rattle.iscsi_stream.specs.declared.fault.ToolFault.TheVariants as tool
 use Rattle.iscsi_stream.specs.declared.counts.Counts.{Counts}
 use Rattle.iscsi_stream.specs.Faults.{tool_fault}
 use Rattle.iscsi_stream.specs.Segment.{no_login}
-use Rattle.iscsi_stream.specs.Stream.{AreBytes, Message, StreamMeans, ReadsAs, longest_segment, Reaches, Splits}
+use Rattle.iscsi_stream.specs.Stream.{AreBytes, Message, StreamMeans, ReadsAs, longest_segment, Splits}
 use Rattle.iscsi_stream.specs.Canonical.{canon, canonical_bytes}
-use Rattle.iscsi_stream.specs.Framing.{Framing, opening, is_whole, is_ready, settled, IsBegun, HasTaken, FinishFails, last_place}
-use Rattle.iscsi_stream.specs.Normalising.{RestFails, AreCounts, Wrote, WroteSome, WrotePart, NormaliseFails, AtEnd, WroteFront}
+use Rattle.iscsi_stream.specs.Framing.{Framing, opening, is_ready, IsBegun, HasTaken, FinishFails}
+use Rattle.iscsi_stream.specs.Normalising.{RestFails, AreCounts, NormaliseFails, AtEnd, WroteFront}
 use Rattle.iscsi_stream.specs.Passing.{PassesOn, Appended, StopsAt, PassFails}
 use Rattle.iscsi_stream.proofs.Settled.{length-settled}
 use Rattle.iscsi_stream.proofs.Ready.{apart, unready_of, not_whole-nil}

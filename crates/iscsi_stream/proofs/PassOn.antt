@@ -1,8 +1,8 @@
 -- What passing PDUs on leaves.
 use Rattle.std.proofs.Common.{◌≡◌, ℕ, ◌+◌, ◌-◌, ◌<◌, ◌≤◌, ◌^◌, min, Bool, true, false, List, [], ◌∷◌, ◌++◌, length, take, drop, refl, sym, ap, subst, ◌∙◌, arith, append-nil, append_assoc, inl, inr}
-use Rattle.std.specs.Prelude.{not, ◌&&◌, Some, ◌⊎◌}
+use Rattle.std.specs.Prelude.{not, ◌&&◌, Some}
 use Rattle.std.proofs.lemmas.Bool.{cases_lt}
-use Rattle.std.proofs.lemmas.List.{length-append, length-take, length-drop, take-append-drop, take_rest, nil_from_length}
+use Rattle.std.proofs.lemmas.List.{length-append, take-append-drop, take_rest, nil_from_length}
 use Rattle.std.proofs.lemmas.List.Concat.{flat_map-cons, flat_map-append}
 use Rattle.iscsi_pdu.specs.declared.head.Head.{Head}
 use Rattle.iscsi_pdu.specs.declared.head.HeadFault.{HeadFault}
@@ -13,11 +13,10 @@ use Rattle.iscsi_stream.specs.declared.fault.StreamFault.TheVariants as stream
 use Rattle.iscsi_stream.specs.declared.counts.Counts.{Counts}
 use Rattle.iscsi_stream.specs.Faults.{tool_fault}
 use Rattle.iscsi_stream.specs.Segment.{no_login}
-use Rattle.iscsi_stream.specs.Stream.{AreBytes, Message, longest_segment, Reaches, Splits, NoPdu, ReadsAs}
+use Rattle.iscsi_stream.specs.Stream.{AreBytes, Message, longest_segment, Splits, ReadsAs}
 use Rattle.iscsi_stream.specs.Canonical.{canon, canonical_bytes}
-use Rattle.iscsi_stream.specs.Framing.{Framing, is_whole, is_ready, settled, ReachesHeader, Takes, FeedFails, HasTaken, Moves, given_up, message_of, last_place}
-use Rattle.iscsi_stream.specs.Normalising.{RestFails}
-use Rattle.iscsi_stream.specs.Passing.{PassesOn, Counted, Appended, StopsAt, PassFails}
+use Rattle.iscsi_stream.specs.Framing.{Framing, is_whole, is_ready, settled, Takes, FeedFails, HasTaken, Moves, given_up, message_of, last_place}
+use Rattle.iscsi_stream.specs.Passing.{PassesOn, Counted, Appended, PassFails}
 use Rattle.iscsi_stream.proofs.Heads.{AreBytes-take}
 use Rattle.iscsi_stream.proofs.Settled.{settled-short, length-settled, is_whole-settled}
 use Rattle.iscsi_stream.proofs.Ready.{apart, not_whole-nil}

@@ -1,15 +1,14 @@
 -- When a PDU is ready, and what it is.
-use Rattle.std.proofs.Common.{◌≡◌, ℕ, ◌+◌, ◌-◌, ◌%◌, ◌^◌, ◌<◌, ◌≤◌, Bool, true, false, List, [], ◌∷◌, ◌++◌, length, take, drop, min, replicate, refl, sym, ap, subst, ◌∙◌, arith}
+use Rattle.std.proofs.Common.{◌≡◌, ℕ, ◌+◌, ◌<◌, ◌≤◌, Bool, true, false, List, [], ◌++◌, length, take, min, replicate, refl, sym, ap, subst, ◌∙◌, arith}
 use Rattle.std.specs.Prelude.{not, ◌&&◌, nat_lt, ◌==◌, IsTrue}
 use Rattle.std.proofs.lemmas.Bool.{eqb-true, ltb-false}
-use Rattle.std.proofs.lemmas.Bool.Decides.{nat_tests}
-use Rattle.std.proofs.lemmas.List.{length-append, take_at, drop_at, nil_from_length}
+use Rattle.std.proofs.lemmas.List.{take_at, drop_at}
 use Rattle.iscsi_pdu.specs.declared.head.Head.{Head}
 use Rattle.iscsi_pdu.specs.Meaning.{IsHeader, Means, padding}
 use Rattle.iscsi_stream.specs.declared.logins.Logins.{Logins}
 use Rattle.iscsi_stream.specs.Segment.{after}
 use Rattle.iscsi_stream.specs.Stream.{pdu_len}
-use Rattle.iscsi_stream.specs.Framing.{Framing, length_at, settled, is_whole, is_ready, given_up, last_place}
+use Rattle.iscsi_stream.specs.Framing.{Framing, length_at, is_whole, is_ready, given_up, last_place}
 use Rattle.iscsi_stream.specs.Gathering.{IsBody}
 use Rattle.iscsi_stream.proofs.Heads.{means_of}
 use Rattle.iscsi_stream.proofs.Gathered.{is_full, length-body, length_at-front}

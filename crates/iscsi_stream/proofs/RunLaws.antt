@@ -1,8 +1,7 @@
 -- A run moves the framer along its bytes and its PDUs.
-use Rattle.std.proofs.Common.{◌≡◌, ℕ, List, [], ◌∷◌, ◌++◌, take, false, refl, sym, ap, subst, ◌∙◌}
+use Rattle.std.proofs.Common.{◌≡◌, ℕ, List, [], ◌∷◌, take, ap, subst}
 use Rattle.iscsi_stream.specs.declared.logins.Logins.{Logins}
 use Rattle.iscsi_stream.specs.Segment.{no_login, after}
-use Rattle.iscsi_stream.specs.Stream.{Message}
 use Rattle.iscsi_stream.specs.Framing.{Framing, opening, HasTaken, Moves, given_up, message_of}
 use Rattle.iscsi_stream.specs.Runs.{Call, Feed, Take, Runs, bytes_of, messages_of}
 use Rattle.iscsi_stream.proofs.Taking.{moves_none, moves_fed, moves_gave, moves_then, at_opening}

@@ -1,12 +1,12 @@
 -- Bytes whose padding is not kept are read as the bytes themselves.
-use Rattle.std.proofs.Common.{◌≡◌, ℕ, ◌+◌, ◌*◌, ◌-◌, ◌%◌, ◌^◌, ◌<◌, ◌≤◌, min, Bool, true, false, cond, List, [], ◌∷◌, ◌++◌, length, get_or, take, drop, replicate, refl, sym, ap, subst, ◌∙◌, arith, inl, inr, append-nil, append_assoc}
-use Rattle.std.specs.Prelude.{◌⊎◌, ◌&&◌, not, nat_lt, ◌==◌}
+use Rattle.std.proofs.Common.{◌≡◌, ℕ, ◌+◌, ◌-◌, ◌≤◌, List, ◌++◌, length, take, drop, replicate, refl, sym, ap, subst, ◌∙◌, arith, inl, inr, append-nil}
+use Rattle.std.specs.Prelude.{◌&&◌, not, nat_lt, ◌==◌}
 use Rattle.std.proofs.lemmas.Bool.{cases_lt}
 use Rattle.std.proofs.lemmas.List.{length-append, length-take, length-replicate, take-take, take_all, take-append-le, drop-take}
 use Rattle.iscsi_pdu.specs.declared.head.Head.{Head}
-use Rattle.iscsi_pdu.specs.Meaning.{IsHeader, Means, padding}
+use Rattle.iscsi_pdu.specs.Meaning.{IsHeader, Means}
 use Rattle.iscsi_stream.specs.Stream.{pdu_len}
-use Rattle.iscsi_stream.specs.Framing.{length_at, content_len, settled, is_whole, IsGood, IsBegun}
+use Rattle.iscsi_stream.specs.Framing.{length_at, content_len, settled, is_whole, IsBegun}
 use Rattle.iscsi_stream.proofs.Heads.{length_at-same, means-length, means-data, means_of}
 
 pub settled-short : (b : List ℕ) → length b ≤ content_len b → settled b ≡ b

@@ -1,12 +1,12 @@
 -- A framer that takes bytes and gives PDUs up, whichever pieces the bytes came in.
-use Rattle.std.proofs.Common.{◌≡◌, ℕ, ◌+◌, ◌-◌, ◌%◌, ◌^◌, ◌<◌, ◌≤◌, min, Bool, true, false, List, [], ◌∷◌, ◌++◌, length, take, drop, refl, sym, ap, subst, ◌∙◌, arith, append-nil, append_assoc}
-use Rattle.std.proofs.lemmas.List.{length-append, length-take}
+use Rattle.std.proofs.Common.{◌≡◌, ℕ, ◌≤◌, Bool, false, List, [], ◌∷◌, ◌++◌, length, take, refl, sym, ap, subst, ◌∙◌, arith, append-nil, append_assoc}
+use Rattle.std.proofs.lemmas.List.{length-append}
 use Rattle.iscsi_pdu.specs.declared.head.Head.{Head}
-use Rattle.iscsi_pdu.specs.Meaning.{Means, padding}
+use Rattle.iscsi_pdu.specs.Meaning.{Means}
 use Rattle.iscsi_stream.specs.declared.logins.Logins.{Logins}
 use Rattle.iscsi_stream.specs.Segment.{no_login, continues, after, segment_of}
-use Rattle.iscsi_stream.specs.Stream.{pdu_len, Message, ReadsAs, after_all, NoPdu, Splits}
-use Rattle.iscsi_stream.specs.Framing.{Framing, opening, settled, is_whole, IsBegun, Takes, HasTaken, Moves, given_up, message_of, last_place}
+use Rattle.iscsi_stream.specs.Stream.{Message, ReadsAs, after_all, Splits}
+use Rattle.iscsi_stream.specs.Framing.{Framing, opening, settled, is_whole, IsBegun, Takes, HasTaken, Moves, given_up, message_of}
 use Rattle.iscsi_stream.proofs.Heads.{means-length}
 use Rattle.iscsi_stream.proofs.Settled.{settled-short, settled-append, length-settled, is_whole-settled, IsBegun-from_settled, Means-from_settled}
 use Rattle.iscsi_stream.proofs.Meaning.{reads_one_more, after_all-snoc, no_pdu_begun}

@@ -1,5 +1,5 @@
 -- What a framer holds, and what its calls do.
-use Rattle.std.specs.Prelude.{◌≡◌, ◌≤◌, ◌<◌, ℕ, ◌+◌, ◌-◌, ◌^◌, Bool, true, false, not, ◌&&◌, ◌==◌, nat_lt, List, [], ◌∷◌, ◌++◌, length, take, min, Some, replicate}
+use Rattle.std.specs.Prelude.{◌≡◌, ◌≤◌, ◌<◌, ℕ, ◌+◌, ◌-◌, ◌^◌, Bool, true, false, not, ◌&&◌, ◌==◌, nat_lt, List, [], ◌++◌, length, take, min, Some, replicate}
 use Rattle.scsi_cdb.specs.Layout.{number_at}
 use Rattle.iscsi_pdu.specs.declared.head.Head.{Head}
 use Rattle.iscsi_pdu.specs.Meaning.{IsHeader, fault_of}

@@ -1,5 +1,5 @@
 -- What the parts of a framer keep. No reader of its contract needs these.
-use Rattle.std.specs.Prelude.{◌≡◌, ◌≤◌, ◌<◌, ℕ, ◌+◌, Bool, true, false, List, [], ◌++◌, length, take, Some, replicate}
+use Rattle.std.specs.Prelude.{◌≡◌, ◌≤◌, ◌<◌, ℕ, ◌+◌, true, List, [], ◌++◌, length, take, Some, replicate}
 use Rattle.iscsi_pdu.specs.declared.head.Head.{Head}
 use Rattle.iscsi_pdu.specs.Meaning.{IsHeader, Fits, fault_of, padding}
 use Rattle.iscsi_stream.specs.declared.fault.StreamFault.{StreamFault}

@@ -1,5 +1,5 @@
 -- What normalising a stream writes.
-use Rattle.std.specs.Prelude.{◌≡◌, ◌≤◌, ◌<◌, ℕ, ◌+◌, ◌^◌, false, List, ◌++◌, length, take, Option, Result, Some, Ok, Err}
+use Rattle.std.specs.Prelude.{◌≡◌, ◌≤◌, ◌<◌, ℕ, List, length, take, Option, Result, Some, Ok, Err}
 use Rattle.std.specs.Io.KnownBytes.{Appends}
 use Rattle.iscsi_pdu.specs.Meaning.{fault_of}
 use Rattle.iscsi_stream.specs.declared.fault.StreamFault.{StreamFault}
@@ -9,7 +9,7 @@ use Rattle.iscsi_stream.specs.declared.fault.ToolFault.TheVariants as tool
 use Rattle.iscsi_stream.specs.declared.counts.Counts.{Counts}
 use Rattle.iscsi_stream.specs.Stream.{Message, StreamMeans, longest_segment, Reaches, Splits}
 use Rattle.iscsi_stream.specs.Canonical.{canon}
-use Rattle.iscsi_stream.specs.Framing.{Framing, IsBegun, Moves, is_ready}
+use Rattle.iscsi_stream.specs.Framing.{IsBegun}
 
 -- The rest begins with a header that is refused, or it is begun and not whole; the fault names its place. No segment
 -- is over the limit.

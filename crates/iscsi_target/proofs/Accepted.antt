@@ -12,6 +12,7 @@ use Rattle.iscsi_pdu.specs.declared.head.scsi_command.ScsiCommand.{ScsiCommand a
 use Rattle.iscsi_pdu.specs.declared.head.data_out.DataOut.{DataOut as DataPdu}
 use Rattle.iscsi_stream.specs.Segment.{segment_bytes}
 use Rattle.iscsi_stream.specs.Stream.{Message}
+use Rattle.iscsi_stream.proofs.Ready.{apart}
 use Rattle.iscsi_login.specs.Held.{first_burst}
 use Rattle.iscsi_target.specs.Configured.{Settings}
 use Rattle.iscsi_target.specs.State.{Machine, Write, Execution, Stepped, Reply, on, nothing, opening, max_cmd_sn, is_within}
@@ -34,9 +35,6 @@ pub record Queues (write : Option Write) (r : Stepped) : Type 0 where
   pub order : task_open write ++ tasks_in r.accepted ≡ tasks_done r.executed ++ more
   pub few : length more ≤ 1
   pub open_write : is_closed r.machine ≡ false → more ≡ task_open r.machine.write
-
-pub apart : {b : Bool} → b ≡ true → b ≡ false → ⊥
-apart e f = let g : true ≡ false = sym e ∙ f in absurd cc
 
 open_few : (write : Option Write) → length (task_open write) ≤ 1
 open_few None = omega arith

@@ -12,6 +12,7 @@ use Rattle.iscsi_pdu.specs.declared.head.Head.TheVariants.{LoginRequest, DataOut
 use Rattle.iscsi_pdu.specs.declared.head.data_out.DataOut.{DataOut as DataPdu}
 use Rattle.iscsi_stream.specs.Segment.{segment_bytes}
 use Rattle.iscsi_stream.specs.Stream.{Message}
+use Rattle.iscsi_stream.proofs.Ready.{apart}
 use Rattle.iscsi_login.specs.Held.{first_burst}
 use Rattle.iscsi_target.specs.Configured.{Settings}
 use Rattle.iscsi_target.specs.State.{Machine, Write, Stepped, Reply, on, nothing, shut, opening, max_cmd_sn, is_within}
@@ -32,7 +33,6 @@ use Rattle.iscsi_target.proofs.Window.{in_window}
 use Rattle.iscsi_target.proofs.Numbers.{closed_answers}
 use Rattle.iscsi_target.proofs.OpenWrites.{IsOpen, DueFits, and_left, and_right, size_with}
 use Rattle.iscsi_target.proofs.Sound.{IsSound, OnWrite, execute_ranges, step_goes, step_count}
-use Rattle.iscsi_target.proofs.Accepted.{apart}
 
 -- 1 where an R2T is unanswered
 abbrev due_open : Due → ℕ

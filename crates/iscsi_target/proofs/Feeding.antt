@@ -15,10 +15,11 @@ use Rattle.iscsi_stream.specs.Segment.{Segment, Bytes, no_login, continues, segm
 use Rattle.iscsi_stream.specs.Stream.{Message, ReadsAs, StreamMeans, after_all, longest_segment, Splits}
 use Rattle.iscsi_stream.specs.Canonical.{canonical_bytes, canon}
 use Rattle.iscsi_stream.specs.Framing.{Framing, HasTaken, FeedFails, is_ready, is_whole}
-use Rattle.iscsi_stream.proofs.Settled.{settled-short, length-settled, is_whole-settled}
-use Rattle.iscsi_stream.proofs.Ready.{unready_of, not_whole-nil}
+use Rattle.iscsi_stream.proofs.Settled.{is_whole-settled}
+use Rattle.iscsi_stream.proofs.Ready.{unready_of, not_whole-nil, apart}
 use Rattle.iscsi_stream.proofs.Taking.{taken_at, at_opening}
 use Rattle.iscsi_stream.proofs.Heads.{bad_header}
+use Rattle.iscsi_stream.proofs.Fronts.{held_is}
 use Rattle.iscsi_login.specs.declared.phase.Phase.{Phase}
 use Rattle.iscsi_target.specs.declared.fault.TargetFault.{TargetFault}
 use Rattle.iscsi_target.specs.declared.fault.TargetFault.TheVariants as faults
@@ -36,7 +37,6 @@ use Rattle.iscsi_target.proofs.Replies.{IsReply, login_logs, nothing_reply, shut
 use Rattle.iscsi_target.proofs.Numbers.{closed_answers, answers_settings}
 use Rattle.iscsi_target.proofs.Appending.{answers_append}
 use Rattle.iscsi_target.proofs.Joining.{answers_joined}
-use Rattle.iscsi_target.proofs.Accepted.{apart}
 use Rattle.iscsi_target.proofs.Prefixes.{Rests, Heads, prefix_of, begins_with, no_bad_header, none_whole, long_bytes, Leaves, prefix_split, header_or_none, none_begun}
 
 -- ---- a broken rule closes the session
@@ -177,12 +177,6 @@ rests : (taken piece more : List ℕ) (count : ℕ) (first ms : List Message) (v
 rests taken piece more count first ms v t p =
     prefix_of v.limit no_login t.given first ((t.rest ++ drop count piece) ++ more) ms t.reads
     (subst (λ (x : List ℕ). ReadsAs longest_segment no_login x ms) (whole_stream taken piece more t.given t.rest count t.whole) p)
-
--- where a header isn't whole, what is held is the rest
-held_is : (s : List ℕ) (ms : List Message) (v : Framing) → (t : HasTaken s ms v) → length v.held < 48 → v.held ≡ t.rest
-held_is s ms v t lt =
-    let n : length v.held ≡ length t.rest = ap (λ (x : List ℕ). length x) t.held ∙ length-settled t.rest in
-    t.held ∙ settled-short t.rest (omega (arith, n, lt))
 
 -- what is said where the framer refuses what follows
 fault_meets : (settings : Settings) (n : ℕ) (disk : Disk) (taken piece : List ℕ) (count : ℕ) (first : List Message) (v : Framing) (now : Connection) (disk_now : Disk) (written : List ℕ) (fault : StreamFault)

@@ -35,3 +35,4 @@ pub mod Keeping
 pub mod Discovering
 pub mod DiscoveringLoop
 pub mod Streaming
+pub mod OneOutcome

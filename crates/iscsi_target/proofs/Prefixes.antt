@@ -7,10 +7,10 @@ use Rattle.iscsi_pdu.specs.declared.head.Head.TheVariants.{LoginRequest, LoginRe
 use Rattle.iscsi_pdu.specs.declared.head.HeadFault.{HeadFault}
 use Rattle.iscsi_pdu.specs.Meaning.{IsHeader, fault_of, opcode, is_login}
 use Rattle.iscsi_stream.specs.declared.logins.Logins.{Logins}
-use Rattle.iscsi_stream.specs.Segment.{Segment, Bytes, continues, after, segment_of}
+use Rattle.iscsi_stream.specs.Segment.{Bytes, continues, after, segment_of}
 use Rattle.iscsi_stream.specs.Stream.{Message, ReadsAs, after_all, longest_segment, pdu_len, NoPdu}
 use Rattle.iscsi_stream.specs.Framing.{IsBegun, is_whole}
-use Rattle.iscsi_stream.proofs.Meaning.{same_begin, starts, no_pdu_none}
+use Rattle.iscsi_stream.proofs.Meaning.{same_begin, starts, no_pdu_none, same_message}
 use Rattle.iscsi_stream.proofs.Heads.{bad_header, front-length}
 use Rattle.iscsi_stream.proofs.Gathered.{is_full}
 
@@ -19,10 +19,6 @@ pub record Rests (logins : Logins) (first ms : List Message) (rest : List ℕ) :
   pub more : List Message
   pub whole : ms ≡ first ++ more
   pub reads : ReadsAs longest_segment (after_all logins first) rest more
-
-same_message : (m n : Message) → m.head ≡ n.head → m.segment ≡ n.segment → m ≡ n
-same_message m n p q =
-    ap (λ (h : Head). let r : Message = record { head = h; segment = m.segment } in r) p ∙ ap (λ (x : Segment). let r : Message = record { head = n.head; segment = x } in r) q
 
 rests_on : (logins : Logins) (m n : Message) (first ms : List Message) (rest : List ℕ) → m ≡ n → Rests (after logins m.head) first ms rest → Rests logins (m ∷ first) (n ∷ ms) rest
 rests_on logins m n first ms rest one r =

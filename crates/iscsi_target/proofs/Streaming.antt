@@ -1,9 +1,10 @@
 -- A call of feed in a stream that was answered so far.
-use Rattle.std.proofs.Common.{◌≡◌, inl, inr, ◌∙◌, ℕ, List, ◌++◌, Bool, true, false, length, take, sym, ap, subst, arith}
+use Rattle.std.proofs.Common.{◌≡◌, inl, inr, ◌∙◌, ℕ, List, ◌++◌, true, false, length, take, sym, ap, subst, arith}
 use Rattle.std.specs.Prelude.{Result, Ok, Err}
 use Rattle.std.proofs.lemmas.List.{take_all}
 use Rattle.scsi_disk.specs.Disk.{Disk}
 use Rattle.iscsi_stream.specs.Framing.{Framing, HasTaken}
+use Rattle.iscsi_stream.proofs.Ready.{apart}
 use Rattle.iscsi_login.specs.declared.phase.Phase.{Phase}
 use Rattle.iscsi_target.specs.declared.fault.TargetFault.{TargetFault}
 use Rattle.iscsi_target.specs.declared.fault.TargetFault.TheVariants as faults
@@ -13,9 +14,6 @@ use Rattle.iscsi_target.specs.Transfer.{joined}
 use Rattle.iscsi_target.specs.Machine.{is_closed, answers}
 use Rattle.iscsi_target.specs.Feed.{Connection, Store, Feeds, Ends, HasAnswered}
 use Rattle.iscsi_target.proofs.Feeding.{answers_close, told}
-
-apart : {b : Bool} → b ≡ true → b ≡ false → ⊥
-apart {b} e f = let bad : true ≡ false = sym e ∙ f in absurd cc
 
 -- the session goes on, and the whole piece was taken
 went_on : (settings : Settings) (n : ℕ) (disk : Disk) (stream : List ℕ) (old : Connection) (before : Store) (out piece : List ℕ) (result : Result Phase TargetFault) (new : Connection) (after : Store) (written : List ℕ)

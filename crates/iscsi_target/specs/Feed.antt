@@ -172,3 +172,19 @@ pub record Writes (settings : Settings) (first_stat_sn : ℕ) (disk : Disk) (mes
     (disk_now : Disk) (written : List ℕ) : Type 0 where
   pub disk_is : disk_now ≡ (answers (opening settings first_stat_sn) disk messages).disk
   pub output_is : written ≡ canon (answers (opening settings first_stat_sn) disk messages).answers
+
+-- ---- one outcome
+
+-- Two targets that do the same from now on: while the session goes on they have the same of the next
+-- PDU too (own rule).
+pub record Alike (a b : Connection) : Type 0 where
+  pub machine : b.machine ≡ a.machine
+  pub framing : is_closed a.machine ≡ false → b.framing ≡ a.framing
+
+-- Two calls of feed that answered the same, and left the same (own rule).
+pub record FedAlike (result other : Result Phase TargetFault) (a b : Connection)
+    (disk_now other_disk : Disk) (written rewritten : List ℕ) : Type 0 where
+  pub answered : other ≡ result
+  pub alike : Alike a b
+  pub disk : other_disk ≡ disk_now
+  pub output : rewritten ≡ written

@@ -1,7 +1,7 @@
 //! Laws of the target machine: functions that do nothing, whose contracts are the theorems. They
 //! speak of the definitions in `specs`, which the contracts of the working functions cite too.
 
-ghost use Rattle.std.specs.Prelude.{◌≡◌, ◌≤◌, ◌<◌, ◌+◌, ◌%◌, ◌^◌, ◌++◌, ◌∷◌, [], ℕ, List, length, map};
+ghost use Rattle.std.specs.Prelude.{◌≡◌, ◌≤◌, ◌<◌, ◌+◌, ◌%◌, ◌^◌, ◌++◌, ◌∷◌, [], ℕ, false, List, Result, length, map};
 ghost use Rattle.std.specs.List.{AllByRecursion};
 ghost use Rattle.scsi_disk.specs.Disk.{Disk};
 ghost use Rattle.scsi_disk.specs.Runs.{disk_after};
@@ -9,14 +9,17 @@ ghost use Rattle.iscsi_pdu.specs.declared.head.Head.TheVariants as heads;
 ghost use Rattle.iscsi_pdu.specs.declared.head.login_request.LoginRequest.{LoginRequest};
 ghost use Rattle.iscsi_stream.specs.Stream.{Message, StreamMeans, AreBytes, Splits, longest_segment};
 ghost use Rattle.iscsi_stream.specs.Canonical.{canon};
+ghost use Rattle.iscsi_stream.specs.Framing.{HasTaken};
+ghost use Rattle.iscsi_login.specs.declared.phase.Phase.{Phase};
 ghost use Rattle.iscsi_login.specs.Negotiation.{IsInRange};
 ghost use Rattle.iscsi_login.specs.Held.{IsHeld};
+ghost use Rattle.iscsi_target.specs.declared.fault.TargetFault.{TargetFault};
 ghost use Rattle.iscsi_target.specs.Configured.{Settings};
 ghost use Rattle.iscsi_target.specs.State.{Machine, Stepped, opening, on, nothing, limit};
 ghost use Rattle.iscsi_target.specs.Transfer.{joined};
 ghost use Rattle.iscsi_target.specs.Execution.{Device};
-ghost use Rattle.iscsi_target.specs.Machine.{step, step_on, answers, then_stepped, MayStep, MayAnswer};
-ghost use Rattle.iscsi_target.specs.Feed.{Connection, Store, opening_connection, stream_of, FedAll, Meets, Writes};
+ghost use Rattle.iscsi_target.specs.Machine.{is_closed, step, step_on, answers, then_stepped, MayStep, MayAnswer};
+ghost use Rattle.iscsi_target.specs.Feed.{Alike, Connection, Fed, FedAlike, FedAll, GoesWell, Meets, Store, Writes, opening_connection, stream_of};
 ghost use Rattle.iscsi_target.specs.Tiles.{TilesDataIn, IsTiled, IsModest, total_of, r2t_ranges, r2ts_answered};
 ghost use Rattle.iscsi_target.specs.Sessions.{LoginIsAnswered, LoginLeads, WriteIsAnswered};
 ghost use Rattle.iscsi_target.specs.Laws.{CountOn, stat_sns, cmd_sns, HasCmdSn, supplied, Leads, tasks_done, response_tags, AreInOrder, IsOutside, joined_stepped};
@@ -169,4 +172,16 @@ pub fn canonical_form()
         → FedAll (opening_connection settings n) store [] pieces a first written
         → FedAll (opening_connection settings n) store [] others b second rewritten
         → (rewritten ≡ written) × (second.disk ≡ first.disk) × (b.machine ≡ a.machine) }
+{}
+
+/// A call has one outcome: where memory is there and the device doesn't fail, what a piece leads to
+/// is the same each time, also where it breaks off within a PDU.
+pub fn one_outcome()
+    ensures alike { (stream piece output written rewritten : List ℕ) (ms : List Message)
+        (old same a b : Connection) (before store first second : Store)
+        (result other : Result Phase TargetFault) → (is_closed old.machine ≡ false → HasTaken stream ms old.framing)
+        → Alike old same → store.disk ≡ before.disk
+        → Fed old before output piece result a first written → GoesWell result before first
+        → Fed same store output piece other b second rewritten → GoesWell other store second
+        → FedAlike result other a b first.disk second.disk written rewritten }
 {}

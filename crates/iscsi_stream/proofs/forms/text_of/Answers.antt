@@ -1,5 +1,4 @@
-use Rattle.std.proofs.Common.{◌≡◌, Bool, true, false, refl, sym, ap, ◌∙◌}
-use Rattle.std.specs.Prelude.{not, ◌&&◌}
+use Rattle.std.proofs.Common.{sym, ◌∙◌}
 use Rattle.iscsi_stream.specs.Segment.{is_last}
 use Rattle.iscsi_stream.proofs.Segments.{segment_plain, segment_text, segment_refused, none_whole}
 use Rattle.iscsi_stream.proofs.forms.text_of.Goals as goal

@@ -1,4 +1,4 @@
-use Rattle.std.proofs.Common.{◌≡◌, List, ℕ, sym, ap, subst}
+use Rattle.std.proofs.Common.{List, ℕ, sym, ap, subst}
 use Rattle.iscsi_stream.specs.Segment.{no_login}
 use Rattle.iscsi_stream.specs.Stream.{longest_segment, ReadsAs}
 use Rattle.iscsi_stream.specs.Canonical.{canon}

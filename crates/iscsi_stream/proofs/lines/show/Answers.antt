@@ -1,5 +1,5 @@
 use Rattle.std.proofs.Common.{[], ◌++◌, take}
-use Rattle.std.proofs.KnownBytes.{Appends-trans, Appends-nil, Consumes-trans, Consumes-kept, Consumes-nil}
+use Rattle.std.proofs.KnownBytes.{Appends-trans, Appends-nil, Consumes-trans, Consumes-nil}
 use Rattle.iscsi_stream.proofs.Ready.{not_whole-nil}
 use Rattle.iscsi_stream.proofs.lines.show.Goals as goal
 

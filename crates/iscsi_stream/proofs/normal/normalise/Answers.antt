@@ -1,5 +1,4 @@
-use Rattle.std.proofs.Common.{◌≡◌, ◌≤◌, [], length, take, refl, sym, ap, ◌∙◌, arith}
-use Rattle.std.proofs.lemmas.List.{length-take}
+use Rattle.std.proofs.Common.{[], take, arith}
 use Rattle.std.proofs.lemmas.Result.{err_from_is_err_and}
 use Rattle.iscsi_stream.proofs.Normals.{at_start, read_stops, reads_stop, finish_stops, finish_done, not_truncated, pass_stops, write_stops, read_more}
 use Rattle.iscsi_stream.proofs.normal.normalise.Goals as goal

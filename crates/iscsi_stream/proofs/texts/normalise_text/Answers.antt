@@ -1,7 +1,6 @@
-use Rattle.std.proofs.Common.{◌≡◌, ℕ, List, ◌≤◌, length, take, refl, sym, ap, subst, ◌∙◌, arith}
+use Rattle.std.proofs.Common.{ℕ, List, length, take, refl, ap, subst, ◌∙◌, arith}
 use Rattle.std.proofs.lemmas.Result.{err_from_is_err_and}
-use Rattle.iscsi_stream.specs.declared.fault.ToolFault.{ToolFault}
-use Rattle.iscsi_stream.specs.Texts.{CanonicalOf, TextFails}
+use Rattle.iscsi_stream.specs.Texts.{CanonicalOf}
 use Rattle.iscsi_stream.proofs.texts.normalise_text.Goals as goal
 
 pub returns-in_err-write_fully-clause-writes : goal.returns-in_err-write_fully-clause-writes

@@ -1,4 +1,4 @@
-use Rattle.std.proofs.Common.{ap, sym, ◌∙◌, arith}
+use Rattle.std.proofs.Common.{ap, ◌∙◌, arith}
 use Rattle.iscsi_pdu.proofs.Headers.{Means-unique}
 use Rattle.iscsi_stream.specs.Segment.{after}
 use Rattle.iscsi_stream.proofs.Ready.{live_of, given_up-is}
