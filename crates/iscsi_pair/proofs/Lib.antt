@@ -19,3 +19,5 @@ pub mod Faultless
 pub mod InTime
 pub mod Idle
 pub mod OneWorld
+pub mod LocalReads
+pub mod LocalPings

@@ -3,7 +3,15 @@
 //! They hold in every world that a pair comes to: over every configuration and every list of events,
 //! however the bytes are cut and wherever memory runs out.
 
-ghost use Rattle.std.specs.Prelude.{◌≡◌, ◌⊎◌, ◌++◌, [], List, None, false};
+ghost use Rattle.std.specs.Prelude.{◌≡◌, ◌⊎◌, ◌++◌, [], ℕ, List, None, false, take};
+ghost use Rattle.scsi_disk.specs.Disk.{Disk};
+ghost use Rattle.scsi_disk.specs.Effect.{effect};
+ghost use Rattle.iscsi_initiator.specs.declared.request.Done.TheVariants as done;
+ghost use Rattle.iscsi_initiator.specs.declared.request.Request.TheVariants as requests;
+ghost use Rattle.iscsi_initiator.specs.State as initiator;
+ghost use Rattle.iscsi_initiator.specs.Submitted.{submitted};
+ghost use Rattle.iscsi_target.specs.State as target;
+ghost use Rattle.iscsi_pair.specs.LocalDisk.{AreInStep, IsConcluded, IsLoggedOut, reading_order, told};
 ghost use Rattle.iscsi_login.specs.declared.stage.Stage.TheVariants as stages;
 ghost use Rattle.iscsi_pair.specs.World.{Event, IsOpening, LooksAlike, Opening, Reached, RunsCalmly, RunsInTime, Suits, World, keeps_no_memory, new_pair};
 ghost use Rattle.iscsi_pair.specs.Traffic.{Traffic, Traces, first_traffic, TargetStands, InitiatorStands};
@@ -79,4 +87,31 @@ pub fn no_early_failure()
     ensures initiator { (c : Opening) (events : List Event) (w : World) → IsOpening c → Suits c
         → RunsInTime (new_pair c) events w → keeps_no_memory w ≡ false
         → (w.initiator_fault ≡ None) ⊎ (w.initiator.machine.stage ≡ stages.Full) }
+{}
+
+/// A ping gives the first of its bytes, as many as the initiator takes in a segment, where both ends
+/// are in step (RFC 7143, sections 11.18 and 11.19).
+pub fn local_pings()
+    ensures concluded { (m : initiator.Machine) (t : target.Machine) (disk : Disk)
+        (bytes : List ℕ) → AreInStep m t → (submitted m (requests.Ping bytes)).refusal ≡ None
+        → IsConcluded m t disk (requests.Ping bytes)
+        (done.Ping (take m.held.initiator_max_recv bytes)) disk }
+{}
+
+/// A logout ends both sessions without a fault, where both ends are in step (RFC 7143, section
+/// 11.14).
+pub fn logouts()
+    ensures ended { (m : initiator.Machine) (t : target.Machine) (disk : Disk) → AreInStep m t
+        → (submitted m requests.Logout).refusal ≡ None → IsLoggedOut m t disk }
+{}
+
+/// A read is that of a local disk: where both ends are in step, a request that may read and is
+/// accepted has the status, sense, data and residual that its order has on the target's disk, leaves
+/// the disk that the order leaves, and both ends in step (RFC 7143, sections 11.3, 11.4 and 11.7).
+pub fn local_reads()
+    ensures concluded { (m : initiator.Machine) (t : target.Machine) (disk : Disk) (lun : ℕ)
+        (cdb : List ℕ) (expected : ℕ) → AreInStep m t
+        → (submitted m (requests.In lun cdb expected)).refusal ≡ None
+        → let after = effect disk (reading_order lun cdb expected) [] in
+        IsConcluded m t disk (requests.In lun cdb expected) (told after.outcome) after.disk }
 {}

@@ -13,13 +13,13 @@ use Rattle.iscsi_target.specs.Transfer.{max_burst}
 use Rattle.iscsi_target.specs.Execution.{Device, execute, parts, parts_within, marked, run_given, parts_given, data_ins, response_head, sense_segment}
 use Rattle.iscsi_target.specs.Tiles.{TilesFrom, Tiles, TileBytes, data_in_pieces}
 
-abbrev Parts : Type 0
+abbrev pub Parts : Type 0
 Parts = List (List ℕ × Bool)
 
-abbrev flat : List (List ℕ) → List ℕ
+abbrev pub flat : List (List ℕ) → List ℕ
 flat xs = flat_map (λ x. x) xs
 
-abbrev bytes_of : Parts → List ℕ
+abbrev pub bytes_of : Parts → List ℕ
 bytes_of given = flat_map (λ part. part.0) given
 
 parts_all : (fuel size : ℕ) (bytes : List ℕ) → 0 < size → length bytes ≤ fuel → flat (parts_within fuel size bytes) ≡ bytes
@@ -30,7 +30,7 @@ parts_all (suc more) size (b ∷ bytes) lt le =
     ap (λ (x : List ℕ). take size (b ∷ bytes) ++ x) (parts_all more size (drop size (b ∷ bytes)) lt (omega (arith, length-drop size (b ∷ bytes), lt, le)))
     ∙ take-append-drop size (b ∷ bytes)
 
-flat_parts : (size : ℕ) (bytes : List ℕ) → 0 < size → flat (parts size bytes) ≡ bytes
+pub flat_parts : (size : ℕ) (bytes : List ℕ) → 0 < size → flat (parts size bytes) ≡ bytes
 flat_parts size bytes lt = parts_all (length bytes) size bytes lt (omega arith)
 
 bytes_marked : (xs : List (List ℕ)) → bytes_of (marked xs) ≡ flat xs
@@ -49,7 +49,7 @@ bytes_runs held (run ∷ runs) lt =
     ∙ ap (λ (z : List ℕ). z ++ bytes_of (flat_map (run_given held) runs)) (bytes_marked (parts held.initiator_max_recv run) ∙ flat_parts held.initiator_max_recv run lt)
     ∙ ap (λ (z : List ℕ). run ++ z) (bytes_runs held runs lt)
 
-all_given : (held : Held) (bytes : List ℕ) → 0 < max_burst held → 0 < held.initiator_max_recv → bytes_of (parts_given held bytes) ≡ bytes
+pub all_given : (held : Held) (bytes : List ℕ) → 0 < max_burst held → 0 < held.initiator_max_recv → bytes_of (parts_given held bytes) ≡ bytes
 all_given held bytes burst most = bytes_runs held (parts (max_burst held) bytes) most ∙ flat_parts (max_burst held) bytes burst
 
 tiles_ins : (s : Machine) (tag data_sn at : ℕ) (given : Parts) (last : Message) → data_in_pieces (last ∷ []) ≡ []

@@ -63,7 +63,7 @@ burst_some (answered.Flag b) a = absurd a
 burst_some answered.NoneItem a = absurd a
 burst_some answered.Reject a = absurd a
 
-can_give : (held : Held) → IsHeld held → CanGive held
+pub can_give : (held : Held) → IsHeld held → CanGive held
 can_give held h = record { burst = burst_some (held_value held keys.MaxBurstLength) (h.values keys.MaxBurstLength); most = omega (arith, h.initiator_max_recv.0) }
 
 -- ---- Data-In

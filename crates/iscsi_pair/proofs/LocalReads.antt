@@ -1,0 +1,380 @@
+-- A read between two ends that are in step: its outcome is that of the disk.
+use Rattle.std.proofs.Common.{◌≡◌, ◌<◌, ◌≤◌, ℕ, zero, suc, ◌+◌, ◌^◌, ◌%◌, Bool, true, false, List, [], ◌∷◌, ◌++◌, length, take, drop, Option, Some, None, refl, sym, ap, ◌∙◌, subst, arith, append_assoc}
+use Rattle.std.specs.Prelude.{◌-◌, ◌*◌, min, nat_lt, ◌==◌, ◌&&◌, ◌||◌, not, if◌then◌else◌, is_some}
+use Rattle.std.specs.List.{flat_map, AllByRecursion}
+use Rattle.std.proofs.Math.Nat.{mod-eq_of_lt, mod-lt}
+use Rattle.std.proofs.lemmas.Bool.{eq-eqb, eqb-false, le-leb, le-ltb, ltb-false}
+use Rattle.std.proofs.lemmas.List.{append-nil, length-append, length-take, length-drop}
+use Rattle.iscsi_pdu.specs.declared.head.Head.TheVariants as heads
+use Rattle.iscsi_pdu.specs.declared.head.data_in.DataIn.{DataIn}
+use Rattle.iscsi_pdu.specs.declared.serial.Window.{Window}
+use Rattle.iscsi_pdu.specs.Serial.{moved}
+use Rattle.iscsi_stream.specs.Segment.{Bytes, segment_bytes}
+use Rattle.iscsi_stream.specs.Stream.{Message}
+use Rattle.scsi_cdb.specs.declared.residual.Residual.{Residual}
+use Rattle.scsi_cdb.specs.declared.residual.Residual.TheVariants.{Exact, Under, Over}
+use Rattle.scsi_cdb.specs.declared.sense.Sense.{Sense}
+use Rattle.scsi_disk.specs.declared.order.Order.{Order}
+use Rattle.scsi_disk.specs.declared.order.Outcome.{Outcome}
+use Rattle.scsi_disk.specs.declared.order.Plan.{Plan}
+use Rattle.scsi_disk.specs.declared.order.Plan.TheVariants.{Refuse, Take, Give}
+use Rattle.scsi_disk.specs.Disk.{Disk}
+use Rattle.scsi_disk.specs.Effect.{Effect, effect, outcome_by, wanted_data}
+use Rattle.scsi_disk.specs.Plan.{expected_length, first_refusal, is_unknown, is_write, plan_by, plan_of, refusals, transfer, wanted_length}
+use Rattle.scsi_disk.proofs.Planned.{all_false}
+use Rattle.iscsi_pdu.specs.declared.head.scsi_command.ScsiCommand.{ScsiCommand}
+use Rattle.iscsi_login.specs.declared.phase.Phase.{Phase}
+use Rattle.iscsi_login.specs.declared.phase.Phase.TheVariants as phases
+use Rattle.iscsi_login.specs.declared.stage.Session.TheVariants as sessions
+use Rattle.iscsi_login.specs.Held.{Held, IsHeld}
+use Rattle.iscsi_initiator.specs.declared.request.Done.TheVariants as done
+use Rattle.iscsi_target.specs.Transfer.{max_burst}
+use Rattle.iscsi_target.proofs.Reached.{can_give}
+use Rattle.iscsi_initiator.specs.declared.open.Open.TheVariants as opens
+use Rattle.iscsi_initiator.specs.State as initiator
+use Rattle.iscsi_initiator.specs.State.{is_closed, is_closed_phase, next, next_tag, serial}
+use Rattle.iscsi_initiator.specs.declared.request.Request.{Request}
+use Rattle.iscsi_initiator.specs.declared.request.Request.TheVariants as requests
+use Rattle.iscsi_initiator.specs.declared.request.SubmitFault.{SubmitFault}
+use Rattle.iscsi_initiator.specs.declared.request.SubmitFault.TheVariants as refusals_
+use Rattle.iscsi_initiator.specs.Submitted.{Submitted, accepted, command, or_accepted, refusal, refusal_in, refusal_when_full, submitted, is_within as submit_within}
+use Rattle.iscsi_initiator.specs.Progress.{Reading}
+use Rattle.iscsi_initiator.specs.Steps.{Stepped, quiet}
+use Rattle.iscsi_initiator.specs.Machine.{step, steps, taken, then_steps}
+use Rattle.iscsi_target.specs.State as target
+use Rattle.iscsi_target.specs.State.{is_within, max_cmd_sn, message, next_sn}
+use Rattle.iscsi_target.specs.Command.{order_of, planned}
+use Rattle.iscsi_target.specs.Machine.{accepting, answers, step_on}
+use Rattle.iscsi_target.proofs.Continuing.{then_nothing}
+use Rattle.iscsi_target.specs.Execution.{command_answers, execute, data_ins, data_in_head, marked, parts, parts_given, parts_within, response_head, run_given, sense_segment}
+use Rattle.iscsi_target.proofs.DataIns.{Parts, all_given, bytes_of, flat, flat_parts}
+use Rattle.iscsi_pair.specs.LocalDisk.{AreInStep, IsConcluded, answered, concluded, reading_order, told, told_sense}
+
+-- ---- the initiator hears the data
+
+-- an initiator that has an open read, and was told this window
+abbrev reading : initiator.Machine → Reading → Window → initiator.Machine
+reading m r window = record m { phase = phases.Full; open_request = Some (opens.In r); window = window }
+
+-- the window that the target tells
+abbrev pub told_window : Window → target.Machine → Window
+told_window window t = moved window (serial t.exp_cmd_sn) (serial (max_cmd_sn t))
+
+
+-- one part that is due
+part_heard : (m : initiator.Machine) (t : target.Machine) (r : Reading) (window : Window) (part : List ℕ × Bool)
+    → length part.0 ≤ m.held.initiator_max_recv → length r.received + length part.0 ≤ r.expected
+    → step (reading m r window) (message (data_in_head t m.initiator_task_tag r.next_data_sn (length r.received) part.1) part.0)
+    ≡ quiet (reading m (record r { received = r.received ++ part.0; next_data_sn = next r.next_data_sn }) (told_window window t))
+unfolding step segment_bytes
+part_heard m t r window part short room =
+    rw (eq-eqb m.initiator_task_tag m.initiator_task_tag refl, le-ltb m.held.initiator_max_recv (length part.0) short, eq-eqb r.next_data_sn r.next_data_sn refl, eq-eqb (length r.received) (length r.received) refl,
+    le-leb (length r.received + length part.0) r.expected room) refl
+
+-- counting below the end of the circle
+next_small : (n : ℕ) → n + 1 < 2 ^ 32 → next n ≡ n + 1
+next_small n lt = mod-eq_of_lt lt
+
+-- parts that are due, one behind the other
+record PartsHeard (m : initiator.Machine) (t : target.Machine) (r : Reading) (window : Window) (given : Parts) (more : List Message) : Type 0 where
+  told : Window
+  is : steps (reading m r window) (data_ins t m.initiator_task_tag r.next_data_sn (length r.received) given ++ more)
+      ≡ steps (reading m (record r { received = r.received ++ bytes_of given; next_data_sn = r.next_data_sn + length given }) told) more
+
+-- each part is one that the initiator takes
+abbrev AreShort : ℕ → Parts → Type 0
+AreShort most given = AllByRecursion (λ part. length part.0 ≤ most) given
+
+pub steps_quiet : (m n : initiator.Machine) (x : Message) (xs : List Message) → step m x ≡ quiet n → n.phase ≡ phases.Full → steps m (x ∷ xs) ≡ steps n xs
+unfolding steps
+steps_quiet m n x xs e full =
+    let live : is_closed (step m x).machine ≡ false = ap (λ (s : Stepped). is_closed s.machine) e ∙ ap is_closed_phase full in
+    rw live (ap (λ (s : Stepped). then_steps s (steps s.machine xs)) e)
+
+parts_heard : (m : initiator.Machine) (t : target.Machine) (r : Reading) (window : Window) (given : Parts) (more : List Message)
+    → AreShort m.held.initiator_max_recv given → length r.received + length (bytes_of given) ≤ r.expected → r.next_data_sn + length given < 2 ^ 32
+    → PartsHeard m t r window given more
+parts_heard m t r window [] more short room few = record {
+  told = window;
+  is = ap (λ (x : Reading). steps (reading m x window) more) (λ i. record { expected = r.expected; received = sym (append-nil r.received) i; next_data_sn = (let e : r.next_data_sn ≡ r.next_data_sn + 0 = omega arith in e) i });
+}
+parts_heard m t r window (part ∷ given) more short room few =
+    let r' : Reading = record { expected = r.expected; received = r.received ++ part.0; next_data_sn = r.next_data_sn + 1 } in
+    let room' : length r.received + length part.0 ≤ r.expected = omega (arith, room, length-append part.0 (bytes_of given)) in
+    let sn : next r.next_data_sn ≡ r.next_data_sn + 1 = next_small r.next_data_sn (omega (arith, few)) in
+    let h : PartsHeard m t r' (told_window window t) given more =
+    parts_heard m t r' (told_window window t) given more short.1 (omega (arith, room, length-append part.0 (bytes_of given), length-append r.received part.0)) (omega (arith, few)) in
+    let one : step (reading m r window) (message (data_in_head t m.initiator_task_tag r.next_data_sn (length r.received) part.1) part.0) ≡ quiet (reading m r' (told_window window t)) =
+    part_heard m t r window part short.0 room'
+    ∙ ap (λ (n : ℕ). quiet (reading m (record r { received = r.received ++ part.0; next_data_sn = n }) (told_window window t))) sn in
+    record {
+      told = h.told;
+      is = steps_quiet (reading m r window) (reading m r' (told_window window t)) (message (data_in_head t m.initiator_task_tag r.next_data_sn (length r.received) part.1) part.0)
+          (data_ins t m.initiator_task_tag (r.next_data_sn + 1) (length r.received + length part.0) given ++ more) one refl
+          ∙ ap (λ (n : ℕ). steps (reading m r' (told_window window t)) (data_ins t m.initiator_task_tag (r.next_data_sn + 1) n given ++ more)) (sym (length-append r.received part.0))
+          ∙ h.is
+          ∙ ap (λ (x : Reading). steps (reading m x h.told) more) (λ i. record {
+            expected = r.expected;
+            received = append_assoc r.received part.0 (bytes_of given) i;
+            next_data_sn = (let e : r.next_data_sn + 1 + length given ≡ r.next_data_sn + length (part ∷ given) = omega arith in e) i;
+          });
+    }
+
+-- ---- the data of a command, in parts
+
+all_append : {A : Type 0} (P : A → Type 0) (xs ys : List A) → AllByRecursion P xs → AllByRecursion P ys → AllByRecursion P (xs ++ ys)
+all_append P [] ys p q = q
+all_append P (x ∷ xs) ys p q = (p.0, all_append P xs ys p.1 q)
+
+parts_short : (fuel size : ℕ) (bytes : List ℕ) → AllByRecursion (λ part. length part ≤ size) (parts_within fuel size bytes)
+parts_short zero size bytes = tt
+parts_short (suc more) size [] = tt
+parts_short (suc more) size (b ∷ bytes) = (omega (arith, length-take size (b ∷ bytes)), parts_short more size (drop size (b ∷ bytes)))
+
+marked_short : (most : ℕ) (xs : List (List ℕ)) → AllByRecursion (λ part. length part ≤ most) xs → AreShort most (marked xs)
+marked_short most [] all = tt
+marked_short most (x ∷ []) all = (all.0, tt)
+marked_short most (x ∷ y ∷ xs) all = (all.0, marked_short most (y ∷ xs) all.1)
+
+runs_short : (held : Held) (runs : List (List ℕ)) → AreShort held.initiator_max_recv (flat_map (run_given held) runs)
+runs_short held [] = tt
+runs_short held (run ∷ runs) =
+    all_append (λ part. length part.0 ≤ held.initiator_max_recv) (run_given held run) (flat_map (run_given held) runs)
+    (marked_short held.initiator_max_recv (parts held.initiator_max_recv run) (parts_short (length run) held.initiator_max_recv run)) (runs_short held runs)
+
+parts_few : (fuel size : ℕ) (bytes : List ℕ) → 0 < size → length (parts_within fuel size bytes) ≤ length bytes
+parts_few zero size bytes lt = omega arith
+parts_few (suc more) size [] lt = omega arith
+parts_few (suc more) size (b ∷ bytes) lt = omega (arith, parts_few more size (drop size (b ∷ bytes)) lt, length-drop size (b ∷ bytes), lt)
+
+marked_few : (xs : List (List ℕ)) → length (marked xs) ≡ length xs
+marked_few [] = refl
+marked_few (x ∷ []) = refl
+marked_few (x ∷ y ∷ xs) = ap suc (marked_few (y ∷ xs))
+
+runs_few : (held : Held) (runs : List (List ℕ)) → 0 < held.initiator_max_recv → length (flat_map (run_given held) runs) ≤ length (flat runs)
+runs_few held [] lt = omega arith
+runs_few held (run ∷ runs) lt =
+    omega (arith, length-append (run_given held run) (flat_map (run_given held) runs), length-append run (flat runs), marked_few (parts held.initiator_max_recv run),
+    parts_few (length run) held.initiator_max_recv run lt, runs_few held runs lt)
+
+-- no more parts than bytes
+given_few : (held : Held) (bytes : List ℕ) → 0 < max_burst held → 0 < held.initiator_max_recv → length (parts_given held bytes) ≤ length bytes
+given_few held bytes burst most =
+    omega (arith, runs_few held (parts (max_burst held) bytes) most, ap (λ (x : List ℕ). length x) (flat_parts (max_burst held) bytes burst))
+
+-- ---- the initiator hears the response
+
+-- an initiator whose read has this outcome
+abbrev finished : initiator.Machine → target.Machine → Window → Outcome → List ℕ → initiator.Machine
+finished m t window outcome received = record m {
+  phase = phases.Full;
+  exp_stat_sn = Some (next t.stat_sn);
+  window = told_window window t;
+  open_request = None;
+  done = Some (done.Command 0 outcome.status (told_sense outcome.sense) received outcome.residual);
+}
+
+outcome_heard : (m : initiator.Machine) (t : target.Machine) (r : Reading) (window : Window) (status : ℕ) (sense : Option Sense) (bytes : List ℕ) (residual : Residual) (count : ℕ)
+    → m.exp_stat_sn ≡ Some t.stat_sn → 20 ≤ m.held.initiator_max_recv
+    → (let outcome : Outcome = record { status = status; sense = sense; bytes = bytes; residual = residual } in
+    step (reading m r window) (message (response_head t m.initiator_task_tag outcome count) (sense_segment sense)) ≡ quiet (finished m t window outcome r.received))
+unfolding step segment_bytes
+outcome_heard m t r window status None bytes Exact count e le =
+    rw (eq-eqb m.initiator_task_tag m.initiator_task_tag refl, le-ltb m.held.initiator_max_recv 0 (omega arith), e, eq-eqb t.stat_sn t.stat_sn refl) refl
+outcome_heard m t r window status None bytes (Under n) count e le =
+    rw (eq-eqb m.initiator_task_tag m.initiator_task_tag refl, le-ltb m.held.initiator_max_recv 0 (omega arith), e, eq-eqb t.stat_sn t.stat_sn refl) refl
+outcome_heard m t r window status None bytes (Over n) count e le =
+    rw (eq-eqb m.initiator_task_tag m.initiator_task_tag refl, le-ltb m.held.initiator_max_recv 0 (omega arith), e, eq-eqb t.stat_sn t.stat_sn refl) refl
+outcome_heard m t r window status (Some sense) bytes Exact count e le =
+    rw (eq-eqb m.initiator_task_tag m.initiator_task_tag refl, le-ltb m.held.initiator_max_recv 20 le, e, eq-eqb t.stat_sn t.stat_sn refl) refl
+outcome_heard m t r window status (Some sense) bytes (Under n) count e le =
+    rw (eq-eqb m.initiator_task_tag m.initiator_task_tag refl, le-ltb m.held.initiator_max_recv 20 le, e, eq-eqb t.stat_sn t.stat_sn refl) refl
+outcome_heard m t r window status (Some sense) bytes (Over n) count e le =
+    rw (eq-eqb m.initiator_task_tag m.initiator_task_tag refl, le-ltb m.held.initiator_max_recv 20 le, e, eq-eqb t.stat_sn t.stat_sn refl) refl
+
+-- what the target answers to a read
+record ReadHeard (m : initiator.Machine) (t : target.Machine) (r : Reading) (window : Window) (outcome : Outcome) : Type 0 where
+  told : Window
+  is : steps (reading m r window) (command_answers t m.initiator_task_tag outcome (parts_given t.held outcome.bytes)) ≡ quiet (finished m t told outcome outcome.bytes)
+
+read_heard : (m : initiator.Machine) (t : target.Machine) (window : Window) (outcome : Outcome) (expected : ℕ) → t.held ≡ m.held → IsHeld m.held → m.exp_stat_sn ≡ Some t.stat_sn
+    → length outcome.bytes ≤ expected → expected < 2 ^ 32 → ReadHeard m t (record { expected = expected; received = []; next_data_sn = 0 }) window outcome
+unfolding steps
+read_heard m t window outcome expected held is_held stat_sn room small =
+    let r : Reading = record { expected = expected; received = []; next_data_sn = 0 } in
+    let most : 0 < t.held.initiator_max_recv = subst (λ (h : Held). 0 < h.initiator_max_recv) (sym held) (omega (arith, is_held.initiator_max_recv.0)) in
+    let burst : 0 < max_burst t.held = subst (λ (h : Held). 0 < max_burst h) (sym held) (can_give m.held is_held).burst in
+    let given : Parts = parts_given t.held outcome.bytes in
+    let all : bytes_of given ≡ outcome.bytes = all_given t.held outcome.bytes burst most in
+    let last : Message = message (response_head t m.initiator_task_tag outcome (length given)) (sense_segment outcome.sense) in
+    let h : PartsHeard m t r window given (last ∷ []) =
+    parts_heard m t r window given (last ∷ []) (subst (λ (k : Held). AreShort k.initiator_max_recv given) held (runs_short t.held (parts (max_burst t.held) outcome.bytes)))
+    (omega (arith, room, ap (λ (x : List ℕ). length x) all)) (omega (arith, given_few t.held outcome.bytes burst most, room, small)) in
+    let r' : Reading = record { expected = expected; received = bytes_of given; next_data_sn = 0 + length given } in
+    let one = outcome_heard m t r' h.told outcome.status outcome.sense outcome.bytes outcome.residual (length given) stat_sn (omega (arith, is_held.initiator_max_recv.0)) in
+    record {
+      told = h.told;
+      is = h.is ∙ steps_quiet (reading m r' h.told) (finished m t h.told outcome (bytes_of given)) last [] one refl
+          ∙ ap (λ (x : List ℕ). quiet (finished m t h.told outcome x)) all;
+    }
+
+-- ---- the target answers the command
+
+-- a target in full feature phase with nothing open, to which this CmdSN is due
+abbrev pub ready : target.Machine → ℕ → target.Machine
+ready t cmd_sn = record t { phase = phases.Full; session = sessions.Normal; write = None; exp_cmd_sn = cmd_sn }
+
+-- what goes out for a read
+abbrev read_command : initiator.Machine → ℕ → List ℕ → ℕ → Message
+read_command m lun cdb expected = record {
+  head = heads.ScsiCommand (command m true lun cdb (record { read = not (expected == 0); write = false; expected = expected }));
+  segment = Bytes [];
+}
+
+-- the CmdSN that is due is in the window
+pub window_now : (n : ℕ) → n < 2 ^ 32 → is_within n n ((n + (2 ^ 32 - 0)) % 2 ^ 32) ≡ true
+window_now n lt =
+    let e : (n + (2 ^ 32 - 0)) % 2 ^ 32 ≡ n = omega (arith, lt) in
+    let d : (n + (2 ^ 32 - n)) % 2 ^ 32 ≡ 0 = omega (arith, lt) in
+    rw e (rw d refl)
+
+-- a command that takes no data waits for none
+planned_now : (p : Plan) (t : target.Machine) (cmd_sn : ℕ) (disk : Disk) (h : ScsiCommand) → ((total : ℕ) → p ≡ Take total → total ≡ 0)
+    → planned effect (ready t cmd_sn) disk h [] p ≡ execute effect (ready t cmd_sn) disk h.initiator_task_tag (order_of h) []
+planned_now (Take total) t cmd_sn disk h none = (let e : total ≡ 0 = none total refl in rw e refl)
+planned_now (Give n) t cmd_sn disk h none = refl
+planned_now (Refuse sense) t cmd_sn disk h none = refl
+
+-- a write without data is refused, unless it has no blocks
+none_by : (b : Bool) (count n total : ℕ) → (b && not false && nat_lt 0 count) ≡ false → (if b then Take (512 * count) else Give n) ≡ Take total → total ≡ 0
+none_by true count n total test e = (let is : 512 * count ≡ total = cc in omega (arith, is, ltb-false 0 count test))
+none_by false count n total test e = absurd cc
+
+takes_none : (f : Option Sense) (lun : ℕ) (cdb : List ℕ) (expected blocks total : ℕ) → first_refusal (reading_order lun cdb expected) blocks ≡ f → plan_by f (reading_order lun cdb expected) blocks ≡ Take total → total ≡ 0
+takes_none (Some sense) lun cdb expected blocks total f e = absurd cc
+takes_none None lun cdb expected blocks total f e =
+    let order : Order = reading_order lun cdb expected in
+    let tests = all_false (refusals order blocks) f in
+    none_by (is_write order.cdb) (transfer order.cdb).count (min (wanted_length order blocks) (expected_length order)) total tests.1.1.1.1.1.1.1.1.1.0 e
+
+-- no more is given than is expected
+given_by : (b : Bool) (count wanted most n : ℕ) → (if b then Take (512 * count) else Give (min wanted most)) ≡ Give n → n ≤ most
+given_by true count wanted most n e = absurd cc
+given_by false count wanted most n e = (let is : min wanted most ≡ n = cc in omega (arith, is))
+
+within : (b : Bool) (n : ℕ) → (if b then n else 0) ≤ n
+within true n = omega arith
+within false n = omega arith
+
+gives_few : (f : Option Sense) (order : Order) (blocks n : ℕ) → plan_by f order blocks ≡ Give n → n ≤ order.expected
+gives_few (Some sense) order blocks n e = absurd cc
+gives_few None order blocks n e =
+    omega (arith, given_by (is_write order.cdb) (transfer order.cdb).count (wanted_length order blocks) (expected_length order) n e,
+    within (order.read || (order.write && (is_write order.cdb || is_unknown order.cdb))) order.expected)
+
+outcome_few : (p : Plan) (disk : Disk) (order : Order) (most : ℕ) → ((n : ℕ) → p ≡ Give n → n ≤ most) → length (outcome_by p disk order).bytes ≤ most
+outcome_few (Refuse sense) disk order most few = omega arith
+outcome_few (Take n) disk order most few = omega arith
+outcome_few (Give n) disk order most few = omega (arith, few n refl, length-take n (wanted_data disk order))
+
+-- the command is executed
+read_taken : (m : initiator.Machine) (t : target.Machine) (disk : Disk) (lun : ℕ) (cdb : List ℕ) (expected : ℕ) → m.cmd_sn < 2 ^ 32
+    → step_on effect (ready t m.cmd_sn) disk (read_command m lun cdb expected)
+    ≡ accepting (read_command m lun cdb expected) (execute effect (ready t (next_sn m.cmd_sn)) disk (next_tag m.initiator_task_tag) (reading_order lun cdb expected) [])
+unfolding segment_bytes
+read_taken m t disk lun cdb expected lt =
+    let order : Order = reading_order lun cdb expected in
+    let h : ScsiCommand = command m true lun cdb (record { read = not (expected == 0); write = false; expected = expected }) in
+    rw (le-ltb (target.limit t.settings) 0 (omega arith), le-ltb t.held.target_max_recv 0 (omega arith), window_now m.cmd_sn lt)
+    (ap (accepting (read_command m lun cdb expected))
+    (planned_now (plan_of order disk.count) t (next_sn m.cmd_sn) disk h (λ total. takes_none (first_refusal order disk.count) lun cdb expected disk.count total refl)))
+
+-- ---- tags
+
+tag_by : (b : Bool) (tag : ℕ) → (tag == 0xffff_fffe) ≡ b → tag ≤ 0xffff_fffe → (if b then 0 else tag + 1) ≤ 0xffff_fffe
+tag_by true tag e le = omega arith
+tag_by false tag e le = (let apart_ = eqb-false tag 0xffff_fffe e in omega (arith, le, apart_))
+
+-- the next tag names a task
+pub tag_after : (tag : ℕ) → tag ≤ 0xffff_fffe → next_tag tag ≤ 0xffff_fffe
+tag_after tag le = tag_by (tag == 0xffff_fffe) tag refl le
+
+-- ---- the whole of a read
+
+pub accepts_it : (f : Option SubmitFault) (m : initiator.Machine) (request : Request) → (or_accepted f m request).refusal ≡ None → or_accepted f m request ≡ accepted m request
+accepts_it None m request e = refl
+accepts_it (Some fault) m request e = absurd cc
+
+pub submitted_is : (m : initiator.Machine) (request : Request) → (submitted m request).refusal ≡ None → submitted m request ≡ accepted m request
+unfolding submitted
+submitted_is m request e = accepts_it (refusal m request) m request e
+
+-- a request that is accepted is not too long
+pub not_long : (busy shut long : Bool) → (if busy then Some refusals_.Busy else (if shut then Some refusals_.Shut else (if long then Some refusals_.TooLong else None))) ≡ None → long ≡ false
+not_long true shut long e = absurd cc
+not_long false true long e = absurd cc
+not_long false false true e = absurd cc
+not_long false false false e = refl
+
+pub unrefused : (f : Option SubmitFault) (m : initiator.Machine) (request : Request) → (or_accepted f m request).refusal ≡ None → f ≡ None
+unrefused None m request e = refl
+unrefused (Some fault) m request e = absurd cc
+
+few_expected : (m : initiator.Machine) (lun : ℕ) (cdb : List ℕ) (expected : ℕ) → m.phase ≡ phases.Full → (submitted m (requests.In lun cdb expected)).refusal ≡ None → expected ≤ 4194304
+unfolding submitted
+few_expected m lun cdb expected full e =
+    let none : refusal_in m.phase m (requests.In lun cdb expected) ≡ None = unrefused (refusal m (requests.In lun cdb expected)) m (requests.In lun cdb expected) e in
+    let when : refusal_when_full m (requests.In lun cdb expected) ≡ None = subst (λ (p : Phase). refusal_in p m (requests.In lun cdb expected) ≡ None) full none in
+    ltb-false 4194304 expected
+    (not_long (is_some m.open_request || is_some m.done) (not (submit_within m.cmd_sn m.window)) (nat_lt 4194304 expected) when)
+
+pub local_read : (m : initiator.Machine) (t : target.Machine) (disk : Disk) (lun : ℕ) (cdb : List ℕ) (expected : ℕ) → AreInStep m t → (submitted m (requests.In lun cdb expected)).refusal ≡ None
+    → (let after : Effect = effect disk (reading_order lun cdb expected) [] in IsConcluded m t disk (requests.In lun cdb expected) (told after.outcome) after.disk)
+unfolding answers
+local_read m t disk lun cdb expected a e =
+    let request : Request = requests.In lun cdb expected in
+    let order : Order = reading_order lun cdb expected in
+    let after : Effect = effect disk order [] in
+    let few : expected ≤ 4194304 = few_expected m lun cdb expected a.initiator_phase e in
+    let sent : submitted m request ≡ accepted m request = submitted_is m request e in
+    let begun_ : initiator.Machine = record m { initiator_task_tag = next_tag m.initiator_task_tag; cmd_sn = next m.cmd_sn } in
+    let t' : target.Machine = ready t (next_sn m.cmd_sn) in
+    let r0 : Reading = record { expected = expected; received = []; next_data_sn = 0 } in
+    let is_t : t ≡ ready t m.cmd_sn = λ i. record t { phase = a.target_phase i; session = a.session i; write = a.none_written i; exp_cmd_sn = a.cmd_sn i } in
+    let is_m : (accepted m request).machine ≡ reading begun_ r0 m.window = λ i. record begun_ { phase = a.initiator_phase i; open_request = Some (opens.In r0) } in
+    let executed : target.Stepped = accepting (read_command m lun cdb expected) (execute effect t' disk (next_tag m.initiator_task_tag) order []) in
+    let r : answered m t disk request ≡ executed =
+    ap (λ (s : Submitted). answers t disk s.output) sent
+    ∙ then_nothing (step_on effect t disk (read_command m lun cdb expected))
+    ∙ ap (λ (x : target.Machine). step_on effect x disk (read_command m lun cdb expected)) is_t
+    ∙ read_taken m t disk lun cdb expected a.cmd_sn_fits in
+    let room : length after.outcome.bytes ≤ expected = outcome_few (plan_of order disk.count) disk order expected (λ n. gives_few (first_refusal order disk.count) order disk.count n) in
+    let h : ReadHeard begun_ t' r0 m.window after.outcome = read_heard begun_ t' m.window after.outcome expected a.held a.is_held a.stat_sn room (omega (arith, few)) in
+    let q : concluded m t disk request ≡ quiet (finished begun_ t' h.told after.outcome after.outcome.bytes) =
+    ap (λ (x : target.Stepped). steps (submitted m request).machine x.answers) r
+    ∙ ap (λ (s : Submitted). steps s.machine executed.answers) sent
+    ∙ ap (λ (x : initiator.Machine). steps x executed.answers) is_m
+    ∙ h.is in
+    record {
+      done_is = ap (λ (x : Stepped). x.machine.done) q;
+      faultless = ap (λ (x : Stepped). x.fault) q;
+      silent = ap (λ (x : Stepped). x.output) q;
+      disk_is = ap (λ (x : target.Stepped). x.disk) r;
+      in_step = subst (λ (x : Stepped). AreInStep (taken x.machine) (answered m t disk request).machine) (sym q)
+          (subst (λ (x : target.Stepped). AreInStep (taken (finished begun_ t' h.told after.outcome after.outcome.bytes)) x.machine) (sym r) (record {
+            initiator_phase = refl;
+            target_phase = refl;
+            session = refl;
+            none_open = refl;
+            none_written = refl;
+            held = a.held;
+            is_held = a.is_held;
+            segment = a.segment;
+            tag_fits = tag_after m.initiator_task_tag a.tag_fits;
+            cmd_sn = refl;
+            cmd_sn_fits = mod-lt (m.cmd_sn + 1) (omega arith);
+            stat_sn = refl;
+            stat_sn_fits = mod-lt (t.stat_sn + 1) (omega arith);
+          }));
+    }
