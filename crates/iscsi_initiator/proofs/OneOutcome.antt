@@ -1,11 +1,11 @@
 -- A call of feed or of submit has one outcome.
-use Rattle.std.proofs.Common.{◌≡◌, ◌≢◌, ◌⊎◌, inl, inr, ℕ, Bool, true, false, List, [], ◌∷◌, ◌++◌, take, drop, Option, Some, None, Result, Ok, Err, refl, sym, ap, subst, ◌∙◌, arith, append_assoc}
+use Rattle.std.proofs.Common.{◌≡◌, ◌≢◌, inl, inr, ℕ, Bool, true, false, List, [], ◌∷◌, ◌++◌, take, drop, Option, Some, None, Result, Ok, Err, refl, sym, ap, subst, ◌∙◌, arith, append_assoc}
 use Rattle.std.proofs.lemmas.List.{drop_all, take-append-drop}
 use Rattle.iscsi_stream.specs.declared.fault.StreamFault.{StreamFault}
 use Rattle.iscsi_stream.specs.declared.fault.StreamFault.TheVariants as broken
-use Rattle.iscsi_stream.specs.Stream.{Message, NoPdu}
+use Rattle.iscsi_stream.specs.Stream.{Message}
 use Rattle.iscsi_stream.specs.Canonical.{canon}
-use Rattle.iscsi_stream.specs.Framing.{HasTaken, IsBegun, FeedFails}
+use Rattle.iscsi_stream.specs.Framing.{HasTaken}
 use Rattle.iscsi_stream.proofs.Fronts.{Course, Sight, HearsUpTo, HearAlike, IsLeft, framer_hears, framer_leaves, framer_refuses, hear_alike, sight}
 use Rattle.iscsi_stream.proofs.Endings.{Outcome, Ended, Over, GoesOn, Breaks, EndAlike, end_of, end_alike}
 use Rattle.iscsi_stream.proofs.Ready.{apart}
@@ -21,7 +21,7 @@ use Rattle.iscsi_initiator.specs.State.{Machine, is_closed, is_closed_phase}
 use Rattle.iscsi_initiator.specs.Steps.{Stepped, closed, quiet}
 use Rattle.iscsi_initiator.specs.Machine.{step, step_in, steps, then_steps}
 use Rattle.iscsi_initiator.specs.Submitted.{or_accepted, refusal_in, submitted}
-use Rattle.iscsi_initiator.specs.Calls.{Accepts, Alike, CalledAlike, ClosesAt, Connection, Feeds, HadMemory, HandsBack, Heard, HearsAll, Stays, StreamEnds, Submits, refused_for}
+use Rattle.iscsi_initiator.specs.Calls.{Alike, CalledAlike, ClosesAt, Connection, Feeds, HadMemory, Heard, HearsAll, Stays, StreamEnds, Submits, refused_for}
 use Rattle.iscsi_initiator.proofs.Stepping.{step_is}
 use Rattle.iscsi_initiator.proofs.Hearing.{next_if}
 
