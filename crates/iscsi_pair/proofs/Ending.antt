@@ -22,7 +22,7 @@ use Rattle.iscsi_initiator.specs.declared.request.Request.{Request}
 use Rattle.iscsi_initiator.specs.declared.request.Request.TheVariants.{In, Out, Ping, Text as Asked_text, Logout}
 use Rattle.iscsi_initiator.specs.declared.request.SubmitFault.{SubmitFault}
 use Rattle.iscsi_initiator.specs.State.{Machine, is_closed, is_closed_phase}
-use Rattle.iscsi_initiator.specs.Steps.{Stepped, fails, breaks, quiet, sends}
+use Rattle.iscsi_initiator.specs.Steps.{Stepped, fails, breaks, sends}
 use Rattle.iscsi_initiator.specs.Login.{login_step, answered, in_turn, is_expected, goes_on, moves_on, text_answered, judged, enters, asked, counted, sends_more, sends_text, sends_cut, offered, fits_segment, login_message}
 use Rattle.iscsi_initiator.specs.Full.{due}
 use Rattle.iscsi_initiator.specs.Machine.{step, step_in, steps}

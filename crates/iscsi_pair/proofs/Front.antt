@@ -11,7 +11,7 @@ use Rattle.iscsi_pdu.specs.declared.head.login_response.LoginResponse.{LoginResp
 use Rattle.iscsi_pdu.specs.Meaning.{Means, IsWritable}
 use Rattle.iscsi_pdu.proofs.Headers.{writable-means}
 use Rattle.iscsi_stream.specs.declared.logins.Logins.{Logins}
-use Rattle.iscsi_stream.specs.Segment.{Segment, Text, Bytes, continues, after, segment_of, segment_bytes}
+use Rattle.iscsi_stream.specs.Segment.{Text, Bytes, continues, after, segment_of, segment_bytes}
 use Rattle.iscsi_stream.specs.Stream.{Message, ReadsAs}
 use Rattle.iscsi_stream.specs.Canonical.{canonical_bytes}
 use Rattle.iscsi_stream.proofs.Meaning.{same_begin, same_message}

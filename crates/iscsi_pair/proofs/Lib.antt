@@ -21,3 +21,5 @@ pub mod Idle
 pub mod OneWorld
 pub mod LocalReads
 pub mod LocalPings
+pub mod LocalWrites
+pub mod LocalDisks

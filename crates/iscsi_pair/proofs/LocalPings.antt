@@ -1,5 +1,5 @@
 -- A ping and a logout between two ends that are in step.
-use Rattle.std.proofs.Common.{◌≡◌, ◌<◌, ◌≤◌, ℕ, ◌+◌, ◌^◌, ◌%◌, Bool, true, false, List, [], ◌∷◌, ◌++◌, length, take, Option, Some, None, refl, sym, ap, ◌∙◌, subst, arith, ne_eqb}
+use Rattle.std.proofs.Common.{◌≡◌, ◌<◌, ◌≤◌, ℕ, ◌+◌, ◌^◌, true, false, List, [], ◌∷◌, length, take, Some, None, refl, sym, ap, ◌∙◌, subst, arith, ne_eqb}
 use Rattle.std.specs.Prelude.{nat_lt, ◌==◌, ◌||◌, not, is_some}
 use Rattle.std.proofs.Math.Nat.{mod-lt}
 use Rattle.std.proofs.lemmas.Bool.{eq-eqb, le-ltb, ltb-false}
@@ -19,7 +19,7 @@ use Rattle.iscsi_initiator.specs.declared.request.Request.{Request}
 use Rattle.iscsi_initiator.specs.declared.request.Request.TheVariants as requests
 use Rattle.iscsi_initiator.specs.State as initiator
 use Rattle.iscsi_initiator.specs.State.{next, next_tag}
-use Rattle.iscsi_initiator.specs.Steps.{Stepped, closed, quiet}
+use Rattle.iscsi_initiator.specs.Steps.{Stepped, quiet}
 use Rattle.iscsi_initiator.specs.Machine.{step, steps, taken}
 use Rattle.iscsi_initiator.specs.Submitted.{Submitted, accepted, logout_request, ping, refusal, refusal_in, refusal_when_full, submitted, is_within}
 use Rattle.iscsi_target.specs.State as target
@@ -27,7 +27,7 @@ use Rattle.iscsi_target.specs.State.{next_sn, on, say}
 use Rattle.iscsi_target.specs.Requests.{logged_out, logout_head, nop_in_head}
 use Rattle.iscsi_target.specs.Machine.{accepting, answers, step_on}
 use Rattle.iscsi_target.proofs.Continuing.{then_nothing}
-use Rattle.iscsi_pair.specs.LocalDisk.{AreInStep, IsConcluded, IsLoggedOut, answered, concluded}
+use Rattle.iscsi_pair.specs.LocalDisk.{AreInStep, Ends, HasLoggedOut, handed_in, turned}
 use Rattle.iscsi_pair.proofs.LocalReads.{not_long, ready, steps_quiet, submitted_is, tag_after, told_window, unrefused, window_now}
 
 -- ---- a ping
@@ -79,7 +79,7 @@ short_ping m bytes full e =
     (not_long (is_some m.open_request || is_some m.done) (not (is_within m.cmd_sn m.window)) (nat_lt m.held.target_max_recv (length bytes)) when)
 
 pub local_ping : (m : initiator.Machine) (t : target.Machine) (disk : Disk) (bytes : List ℕ) → AreInStep m t → (submitted m (requests.Ping bytes)).refusal ≡ None
-    → IsConcluded m t disk (requests.Ping bytes) (done.Ping (take m.held.initiator_max_recv bytes)) disk
+    → Ends m.held (handed_in m t disk (requests.Ping bytes)) (done.Ping (take m.held.initiator_max_recv bytes)) disk
 unfolding answers steps
 local_ping m t disk bytes a e =
     let request : Request = requests.Ping bytes in
@@ -91,7 +91,7 @@ local_ping m t disk bytes a e =
     let is_t : t ≡ ready t m.cmd_sn = λ i. record t { phase = a.target_phase i; session = a.session i; write = a.none_written i; exp_cmd_sn = a.cmd_sn i } in
     let is_m : (accepted m request).machine ≡ pinging begun_ m.window = λ i. record begun_ { phase = a.initiator_phase i; open_request = Some opens.Ping } in
     let executed : target.Stepped = accepting (ping_message m bytes) (on disk (say t' (nop_in_head t' (ping m)) given)) in
-    let r : answered m t disk request ≡ executed =
+    let r : answers t disk (submitted m request).output ≡ executed =
     ap (λ (s : Submitted). answers t disk s.output) sent
     ∙ then_nothing (step_on effect t disk (ping_message m bytes))
     ∙ ap (λ (x : target.Machine). step_on effect x disk (ping_message m bytes)) is_t
@@ -99,32 +99,35 @@ local_ping m t disk bytes a e =
     ∙ ap (λ (h : Held). accepting (ping_message m bytes) (on disk (say t' (nop_in_head t' (ping m)) (take h.initiator_max_recv bytes)))) a.held in
     let one : step (pinging begun_ m.window) (target.message (nop_in_head t' (ping m)) given) ≡ quiet (pinged begun_ t' m.window given) =
     pong_heard begun_ m t' m.window given a.stat_sn refl (tag_after m.initiator_task_tag a.tag_fits) (omega (arith, length-take m.held.initiator_max_recv bytes)) in
-    let q : concluded m t disk request ≡ quiet (pinged begun_ t' m.window given) =
+    let q : steps (submitted m request).machine (answers t disk (submitted m request).output).answers ≡ quiet (pinged begun_ t' m.window given) =
     ap (λ (x : target.Stepped). steps (submitted m request).machine x.answers) r
     ∙ ap (λ (s : Submitted). steps s.machine executed.answers) sent
     ∙ ap (λ (x : initiator.Machine). steps x executed.answers) is_m
     ∙ steps_quiet (pinging begun_ m.window) (pinged begun_ t' m.window given) (target.message (nop_in_head t' (ping m)) given) [] one refl in
     record {
-      done_is = ap (λ (x : Stepped). x.machine.done) q;
-      faultless = ap (λ (x : Stepped). x.fault) q;
-      silent = ap (λ (x : Stepped). x.output) q;
-      disk_is = ap (λ (x : target.Stepped). x.disk) r;
-      in_step = subst (λ (x : Stepped). AreInStep (taken x.machine) (answered m t disk request).machine) (sym q)
-          (subst (λ (x : target.Stepped). AreInStep (taken (pinged begun_ t' m.window given)) x.machine) (sym r) (record {
-            initiator_phase = refl;
-            target_phase = refl;
-            session = refl;
-            none_open = refl;
-            none_written = refl;
-            held = a.held;
-            is_held = a.is_held;
-            segment = a.segment;
-            tag_fits = tag_after m.initiator_task_tag a.tag_fits;
-            cmd_sn = refl;
-            cmd_sn_fits = mod-lt (m.cmd_sn + 1) (omega arith);
-            stat_sn = refl;
-            stat_sn_fits = mod-lt (t.stat_sn + 1) (omega arith);
-          }));
+      turns = 1;
+      ended = record {
+        done_is = ap (λ (x : Stepped). x.machine.done) q;
+        silent = ap (λ (x : Stepped). x.output) q;
+        disk_is = ap (λ (x : target.Stepped). x.disk) r;
+        held_is = ap (λ (x : Stepped). x.machine.held) q;
+        in_step = subst (λ (x : Stepped). AreInStep (taken x.machine) (answers t disk (submitted m request).output).machine) (sym q)
+            (subst (λ (x : target.Stepped). AreInStep (taken (pinged begun_ t' m.window given)) x.machine) (sym r) (record {
+              initiator_phase = refl;
+              target_phase = refl;
+              session = refl;
+              none_open = refl;
+              none_written = refl;
+              held = a.held;
+              is_held = a.is_held;
+              segment = a.segment;
+              tag_fits = tag_after m.initiator_task_tag a.tag_fits;
+              cmd_sn = refl;
+              cmd_sn_fits = mod-lt (m.cmd_sn + 1) (omega arith);
+              stat_sn = refl;
+              stat_sn_fits = mod-lt (t.stat_sn + 1) (omega arith);
+            }));
+      };
     }
 
 -- ---- a logout
@@ -163,7 +166,7 @@ steps_last m n x e shut =
     let over : initiator.is_closed (step m x).machine ≡ true = ap (λ (s : Stepped). initiator.is_closed s.machine) e ∙ ap initiator.is_closed_phase shut in
     rw over e
 
-pub logged_out_so : (m : initiator.Machine) (t : target.Machine) (disk : Disk) → AreInStep m t → (submitted m requests.Logout).refusal ≡ None → IsLoggedOut m t disk
+pub logged_out_so : (m : initiator.Machine) (t : target.Machine) (disk : Disk) → AreInStep m t → (submitted m requests.Logout).refusal ≡ None → HasLoggedOut (turned (handed_in m t disk requests.Logout)) disk
 unfolding answers
 logged_out_so m t disk a e =
     let request : Request = requests.Logout in
@@ -173,19 +176,18 @@ logged_out_so m t disk a e =
     let is_t : t ≡ ready t m.cmd_sn = λ i. record t { phase = a.target_phase i; session = a.session i; write = a.none_written i; exp_cmd_sn = a.cmd_sn i } in
     let is_m : (accepted m request).machine ≡ leaving begun_ m.window = λ i. record begun_ { phase = a.initiator_phase i; open_request = Some opens.Logout } in
     let executed : target.Stepped = accepting (logout_message m) (on disk (logged_out t' (logout_request m))) in
-    let r : answered m t disk request ≡ executed =
+    let r : answers t disk (submitted m request).output ≡ executed =
     ap (λ (s : Submitted). answers t disk s.output) sent
     ∙ then_nothing (step_on effect t disk (logout_message m))
     ∙ ap (λ (x : target.Machine). step_on effect x disk (logout_message m)) is_t
     ∙ logout_taken m t disk a.cmd_sn_fits in
-    let q : concluded m t disk request ≡ quiet (left begun_ t' m.window) =
+    let q : steps (submitted m request).machine (answers t disk (submitted m request).output).answers ≡ quiet (left begun_ t' m.window) =
     ap (λ (x : target.Stepped). steps (submitted m request).machine x.answers) r
     ∙ ap (λ (s : Submitted). steps s.machine executed.answers) sent
     ∙ ap (λ (x : initiator.Machine). steps x executed.answers) is_m
     ∙ steps_last (leaving begun_ m.window) (left begun_ t' m.window) (target.message (logout_head t' (logout_request m)) []) (logout_heard begun_ m t' m.window a.stat_sn refl) refl in
     record {
       done_is = ap (λ (x : Stepped). x.machine.done) q;
-      faultless = ap (λ (x : Stepped). x.fault) q;
       silent = ap (λ (x : Stepped). x.output) q;
       disk_is = ap (λ (x : target.Stepped). x.disk) r;
       initiator_phase = ap (λ (x : Stepped). x.machine.phase) q;

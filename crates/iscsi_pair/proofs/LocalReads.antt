@@ -1,12 +1,11 @@
 -- A read between two ends that are in step: its outcome is that of the disk.
-use Rattle.std.proofs.Common.{◌≡◌, ◌<◌, ◌≤◌, ℕ, zero, suc, ◌+◌, ◌^◌, ◌%◌, Bool, true, false, List, [], ◌∷◌, ◌++◌, length, take, drop, Option, Some, None, refl, sym, ap, ◌∙◌, subst, arith, append_assoc}
+use Rattle.std.proofs.Common.{◌≡◌, ◌<◌, ◌≤◌, ℕ, zero, suc, ◌+◌, ◌^◌, ◌%◌, Bool, true, false, List, [], ◌∷◌, ◌++◌, length, drop, Option, Some, None, refl, sym, ap, ◌∙◌, subst, arith, append_assoc}
 use Rattle.std.specs.Prelude.{◌-◌, ◌*◌, min, nat_lt, ◌==◌, ◌&&◌, ◌||◌, not, if◌then◌else◌, is_some}
 use Rattle.std.specs.List.{flat_map, AllByRecursion}
 use Rattle.std.proofs.Math.Nat.{mod-eq_of_lt, mod-lt}
 use Rattle.std.proofs.lemmas.Bool.{eq-eqb, eqb-false, le-leb, le-ltb, ltb-false}
 use Rattle.std.proofs.lemmas.List.{append-nil, length-append, length-take, length-drop}
 use Rattle.iscsi_pdu.specs.declared.head.Head.TheVariants as heads
-use Rattle.iscsi_pdu.specs.declared.head.data_in.DataIn.{DataIn}
 use Rattle.iscsi_pdu.specs.declared.serial.Window.{Window}
 use Rattle.iscsi_pdu.specs.Serial.{moved}
 use Rattle.iscsi_stream.specs.Segment.{Bytes, segment_bytes}
@@ -30,7 +29,10 @@ use Rattle.iscsi_login.specs.Held.{Held, IsHeld}
 use Rattle.iscsi_initiator.specs.declared.request.Done.TheVariants as done
 use Rattle.iscsi_target.specs.Transfer.{max_burst}
 use Rattle.iscsi_target.proofs.Reached.{can_give}
+use Rattle.iscsi_initiator.specs.declared.open.Open.{Open}
 use Rattle.iscsi_initiator.specs.declared.open.Open.TheVariants as opens
+use Rattle.iscsi_initiator.specs.Full.{Response, due_to}
+use Rattle.iscsi_pdu.specs.declared.head.scsi_response.ScsiResponse.{ScsiResponse}
 use Rattle.iscsi_initiator.specs.State as initiator
 use Rattle.iscsi_initiator.specs.State.{is_closed, is_closed_phase, next, next_tag, serial}
 use Rattle.iscsi_initiator.specs.declared.request.Request.{Request}
@@ -48,7 +50,7 @@ use Rattle.iscsi_target.specs.Machine.{accepting, answers, step_on}
 use Rattle.iscsi_target.proofs.Continuing.{then_nothing}
 use Rattle.iscsi_target.specs.Execution.{command_answers, execute, data_ins, data_in_head, marked, parts, parts_given, parts_within, response_head, run_given, sense_segment}
 use Rattle.iscsi_target.proofs.DataIns.{Parts, all_given, bytes_of, flat, flat_parts}
-use Rattle.iscsi_pair.specs.LocalDisk.{AreInStep, IsConcluded, answered, concluded, reading_order, told, told_sense}
+use Rattle.iscsi_pair.specs.LocalDisk.{AreInStep, Ends, handed_in, reading_order, told, told_sense}
 
 -- ---- the initiator hears the data
 
@@ -60,7 +62,6 @@ reading m r window = record m { phase = phases.Full; open_request = Some (opens.
 abbrev pub told_window : Window → target.Machine → Window
 told_window window t = moved window (serial t.exp_cmd_sn) (serial (max_cmd_sn t))
 
-
 -- one part that is due
 part_heard : (m : initiator.Machine) (t : target.Machine) (r : Reading) (window : Window) (part : List ℕ × Bool)
     → length part.0 ≤ m.held.initiator_max_recv → length r.received + length part.0 ≤ r.expected
@@ -68,11 +69,16 @@ part_heard : (m : initiator.Machine) (t : target.Machine) (r : Reading) (window 
     ≡ quiet (reading m (record r { received = r.received ++ part.0; next_data_sn = next r.next_data_sn }) (told_window window t))
 unfolding step segment_bytes
 part_heard m t r window part short room =
-    rw (eq-eqb m.initiator_task_tag m.initiator_task_tag refl, le-ltb m.held.initiator_max_recv (length part.0) short, eq-eqb r.next_data_sn r.next_data_sn refl, eq-eqb (length r.received) (length r.received) refl,
-    le-leb (length r.received + length part.0) r.expected room) refl
+    rw (
+      eq-eqb m.initiator_task_tag m.initiator_task_tag refl,
+      le-ltb m.held.initiator_max_recv (length part.0) short,
+      eq-eqb r.next_data_sn r.next_data_sn refl,
+      eq-eqb (length r.received) (length r.received) refl,
+      le-leb (length r.received + length part.0) r.expected room,
+    ) refl
 
 -- counting below the end of the circle
-next_small : (n : ℕ) → n + 1 < 2 ^ 32 → next n ≡ n + 1
+pub next_small : (n : ℕ) → n + 1 < 2 ^ 32 → next n ≡ n + 1
 next_small n lt = mod-eq_of_lt lt
 
 -- parts that are due, one behind the other
@@ -155,8 +161,14 @@ marked_few (x ∷ y ∷ xs) = ap suc (marked_few (y ∷ xs))
 runs_few : (held : Held) (runs : List (List ℕ)) → 0 < held.initiator_max_recv → length (flat_map (run_given held) runs) ≤ length (flat runs)
 runs_few held [] lt = omega arith
 runs_few held (run ∷ runs) lt =
-    omega (arith, length-append (run_given held run) (flat_map (run_given held) runs), length-append run (flat runs), marked_few (parts held.initiator_max_recv run),
-    parts_few (length run) held.initiator_max_recv run lt, runs_few held runs lt)
+    omega (
+      arith,
+      length-append (run_given held run) (flat_map (run_given held) runs),
+      length-append run (flat runs),
+      marked_few (parts held.initiator_max_recv run),
+      parts_few (length run) held.initiator_max_recv run lt,
+      runs_few held runs lt,
+    )
 
 -- no more parts than bytes
 given_few : (held : Held) (bytes : List ℕ) → 0 < max_burst held → 0 < held.initiator_max_recv → length (parts_given held bytes) ≤ length bytes
@@ -165,8 +177,8 @@ given_few held bytes burst most =
 
 -- ---- the initiator hears the response
 
--- an initiator whose read has this outcome
-abbrev finished : initiator.Machine → target.Machine → Window → Outcome → List ℕ → initiator.Machine
+-- an initiator whose command has this outcome
+abbrev pub finished : initiator.Machine → target.Machine → Window → Outcome → List ℕ → initiator.Machine
 finished m t window outcome received = record m {
   phase = phases.Full;
   exp_stat_sn = Some (next t.stat_sn);
@@ -175,23 +187,31 @@ finished m t window outcome received = record m {
   done = Some (done.Command 0 outcome.status (told_sense outcome.sense) received outcome.residual);
 }
 
-outcome_heard : (m : initiator.Machine) (t : target.Machine) (r : Reading) (window : Window) (status : ℕ) (sense : Option Sense) (bytes : List ℕ) (residual : Residual) (count : ℕ)
-    → m.exp_stat_sn ≡ Some t.stat_sn → 20 ≤ m.held.initiator_max_recv
+-- an initiator with this request open
+abbrev pub waiting : initiator.Machine → Open → Window → initiator.Machine
+waiting m open_ window = record m { phase = phases.Full; open_request = Some open_; window = window }
+
+-- a command that is open takes its response, and has received these bytes
+abbrev pub Awaits : Open → List ℕ → Type 0
+Awaits open_ received = (h : ScsiResponse) → due_to (Some open_) (heads.ScsiResponse h) ≡ Some (Response received h)
+
+pub outcome_heard : (m : initiator.Machine) (t : target.Machine) (open_ : Open) (received : List ℕ) (window : Window) (status : ℕ) (sense : Option Sense) (bytes : List ℕ) (residual : Residual) (count : ℕ)
+    → Awaits open_ received → m.exp_stat_sn ≡ Some t.stat_sn → 20 ≤ m.held.initiator_max_recv
     → (let outcome : Outcome = record { status = status; sense = sense; bytes = bytes; residual = residual } in
-    step (reading m r window) (message (response_head t m.initiator_task_tag outcome count) (sense_segment sense)) ≡ quiet (finished m t window outcome r.received))
+    step (waiting m open_ window) (message (response_head t m.initiator_task_tag outcome count) (sense_segment sense)) ≡ quiet (finished m t window outcome received))
 unfolding step segment_bytes
-outcome_heard m t r window status None bytes Exact count e le =
-    rw (eq-eqb m.initiator_task_tag m.initiator_task_tag refl, le-ltb m.held.initiator_max_recv 0 (omega arith), e, eq-eqb t.stat_sn t.stat_sn refl) refl
-outcome_heard m t r window status None bytes (Under n) count e le =
-    rw (eq-eqb m.initiator_task_tag m.initiator_task_tag refl, le-ltb m.held.initiator_max_recv 0 (omega arith), e, eq-eqb t.stat_sn t.stat_sn refl) refl
-outcome_heard m t r window status None bytes (Over n) count e le =
-    rw (eq-eqb m.initiator_task_tag m.initiator_task_tag refl, le-ltb m.held.initiator_max_recv 0 (omega arith), e, eq-eqb t.stat_sn t.stat_sn refl) refl
-outcome_heard m t r window status (Some sense) bytes Exact count e le =
-    rw (eq-eqb m.initiator_task_tag m.initiator_task_tag refl, le-ltb m.held.initiator_max_recv 20 le, e, eq-eqb t.stat_sn t.stat_sn refl) refl
-outcome_heard m t r window status (Some sense) bytes (Under n) count e le =
-    rw (eq-eqb m.initiator_task_tag m.initiator_task_tag refl, le-ltb m.held.initiator_max_recv 20 le, e, eq-eqb t.stat_sn t.stat_sn refl) refl
-outcome_heard m t r window status (Some sense) bytes (Over n) count e le =
-    rw (eq-eqb m.initiator_task_tag m.initiator_task_tag refl, le-ltb m.held.initiator_max_recv 20 le, e, eq-eqb t.stat_sn t.stat_sn refl) refl
+outcome_heard m t open_ received window status None bytes Exact count d e le =
+    rw (eq-eqb m.initiator_task_tag m.initiator_task_tag refl, d _, le-ltb m.held.initiator_max_recv 0 (omega arith), e, eq-eqb t.stat_sn t.stat_sn refl) refl
+outcome_heard m t open_ received window status None bytes (Under n) count d e le =
+    rw (eq-eqb m.initiator_task_tag m.initiator_task_tag refl, d _, le-ltb m.held.initiator_max_recv 0 (omega arith), e, eq-eqb t.stat_sn t.stat_sn refl) refl
+outcome_heard m t open_ received window status None bytes (Over n) count d e le =
+    rw (eq-eqb m.initiator_task_tag m.initiator_task_tag refl, d _, le-ltb m.held.initiator_max_recv 0 (omega arith), e, eq-eqb t.stat_sn t.stat_sn refl) refl
+outcome_heard m t open_ received window status (Some sense) bytes Exact count d e le =
+    rw (eq-eqb m.initiator_task_tag m.initiator_task_tag refl, d _, le-ltb m.held.initiator_max_recv 20 le, e, eq-eqb t.stat_sn t.stat_sn refl) refl
+outcome_heard m t open_ received window status (Some sense) bytes (Under n) count d e le =
+    rw (eq-eqb m.initiator_task_tag m.initiator_task_tag refl, d _, le-ltb m.held.initiator_max_recv 20 le, e, eq-eqb t.stat_sn t.stat_sn refl) refl
+outcome_heard m t open_ received window status (Some sense) bytes (Over n) count d e le =
+    rw (eq-eqb m.initiator_task_tag m.initiator_task_tag refl, d _, le-ltb m.held.initiator_max_recv 20 le, e, eq-eqb t.stat_sn t.stat_sn refl) refl
 
 -- what the target answers to a read
 record ReadHeard (m : initiator.Machine) (t : target.Machine) (r : Reading) (window : Window) (outcome : Outcome) : Type 0 where
@@ -212,7 +232,7 @@ read_heard m t window outcome expected held is_held stat_sn room small =
     parts_heard m t r window given (last ∷ []) (subst (λ (k : Held). AreShort k.initiator_max_recv given) held (runs_short t.held (parts (max_burst t.held) outcome.bytes)))
     (omega (arith, room, ap (λ (x : List ℕ). length x) all)) (omega (arith, given_few t.held outcome.bytes burst most, room, small)) in
     let r' : Reading = record { expected = expected; received = bytes_of given; next_data_sn = 0 + length given } in
-    let one = outcome_heard m t r' h.told outcome.status outcome.sense outcome.bytes outcome.residual (length given) stat_sn (omega (arith, is_held.initiator_max_recv.0)) in
+    let one = outcome_heard m t (opens.In r') r'.received h.told outcome.status outcome.sense outcome.bytes outcome.residual (length given) (λ h. refl) stat_sn (omega (arith, is_held.initiator_max_recv.0)) in
     record {
       told = h.told;
       is = h.is ∙ steps_quiet (reading m r' h.told) (finished m t h.told outcome (bytes_of given)) last [] one refl
@@ -270,8 +290,11 @@ within false n = omega arith
 gives_few : (f : Option Sense) (order : Order) (blocks n : ℕ) → plan_by f order blocks ≡ Give n → n ≤ order.expected
 gives_few (Some sense) order blocks n e = absurd cc
 gives_few None order blocks n e =
-    omega (arith, given_by (is_write order.cdb) (transfer order.cdb).count (wanted_length order blocks) (expected_length order) n e,
-    within (order.read || (order.write && (is_write order.cdb || is_unknown order.cdb))) order.expected)
+    omega (
+      arith,
+      given_by (is_write order.cdb) (transfer order.cdb).count (wanted_length order blocks) (expected_length order) n e,
+      within (order.read || (order.write && (is_write order.cdb || is_unknown order.cdb))) order.expected,
+    )
 
 outcome_few : (p : Plan) (disk : Disk) (order : Order) (most : ℕ) → ((n : ℕ) → p ≡ Give n → n ≤ most) → length (outcome_by p disk order).bytes ≤ most
 outcome_few (Refuse sense) disk order most few = omega arith
@@ -330,7 +353,7 @@ few_expected m lun cdb expected full e =
     (not_long (is_some m.open_request || is_some m.done) (not (submit_within m.cmd_sn m.window)) (nat_lt 4194304 expected) when)
 
 pub local_read : (m : initiator.Machine) (t : target.Machine) (disk : Disk) (lun : ℕ) (cdb : List ℕ) (expected : ℕ) → AreInStep m t → (submitted m (requests.In lun cdb expected)).refusal ≡ None
-    → (let after : Effect = effect disk (reading_order lun cdb expected) [] in IsConcluded m t disk (requests.In lun cdb expected) (told after.outcome) after.disk)
+    → (let after : Effect = effect disk (reading_order lun cdb expected) [] in Ends m.held (handed_in m t disk (requests.In lun cdb expected)) (told after.outcome) after.disk)
 unfolding answers
 local_read m t disk lun cdb expected a e =
     let request : Request = requests.In lun cdb expected in
@@ -344,37 +367,40 @@ local_read m t disk lun cdb expected a e =
     let is_t : t ≡ ready t m.cmd_sn = λ i. record t { phase = a.target_phase i; session = a.session i; write = a.none_written i; exp_cmd_sn = a.cmd_sn i } in
     let is_m : (accepted m request).machine ≡ reading begun_ r0 m.window = λ i. record begun_ { phase = a.initiator_phase i; open_request = Some (opens.In r0) } in
     let executed : target.Stepped = accepting (read_command m lun cdb expected) (execute effect t' disk (next_tag m.initiator_task_tag) order []) in
-    let r : answered m t disk request ≡ executed =
+    let r : answers t disk (submitted m request).output ≡ executed =
     ap (λ (s : Submitted). answers t disk s.output) sent
     ∙ then_nothing (step_on effect t disk (read_command m lun cdb expected))
     ∙ ap (λ (x : target.Machine). step_on effect x disk (read_command m lun cdb expected)) is_t
     ∙ read_taken m t disk lun cdb expected a.cmd_sn_fits in
     let room : length after.outcome.bytes ≤ expected = outcome_few (plan_of order disk.count) disk order expected (λ n. gives_few (first_refusal order disk.count) order disk.count n) in
     let h : ReadHeard begun_ t' r0 m.window after.outcome = read_heard begun_ t' m.window after.outcome expected a.held a.is_held a.stat_sn room (omega (arith, few)) in
-    let q : concluded m t disk request ≡ quiet (finished begun_ t' h.told after.outcome after.outcome.bytes) =
+    let q : steps (submitted m request).machine (answers t disk (submitted m request).output).answers ≡ quiet (finished begun_ t' h.told after.outcome after.outcome.bytes) =
     ap (λ (x : target.Stepped). steps (submitted m request).machine x.answers) r
     ∙ ap (λ (s : Submitted). steps s.machine executed.answers) sent
     ∙ ap (λ (x : initiator.Machine). steps x executed.answers) is_m
     ∙ h.is in
     record {
-      done_is = ap (λ (x : Stepped). x.machine.done) q;
-      faultless = ap (λ (x : Stepped). x.fault) q;
-      silent = ap (λ (x : Stepped). x.output) q;
-      disk_is = ap (λ (x : target.Stepped). x.disk) r;
-      in_step = subst (λ (x : Stepped). AreInStep (taken x.machine) (answered m t disk request).machine) (sym q)
-          (subst (λ (x : target.Stepped). AreInStep (taken (finished begun_ t' h.told after.outcome after.outcome.bytes)) x.machine) (sym r) (record {
-            initiator_phase = refl;
-            target_phase = refl;
-            session = refl;
-            none_open = refl;
-            none_written = refl;
-            held = a.held;
-            is_held = a.is_held;
-            segment = a.segment;
-            tag_fits = tag_after m.initiator_task_tag a.tag_fits;
-            cmd_sn = refl;
-            cmd_sn_fits = mod-lt (m.cmd_sn + 1) (omega arith);
-            stat_sn = refl;
-            stat_sn_fits = mod-lt (t.stat_sn + 1) (omega arith);
-          }));
+      turns = 1;
+      ended = record {
+        done_is = ap (λ (x : Stepped). x.machine.done) q;
+        silent = ap (λ (x : Stepped). x.output) q;
+        disk_is = ap (λ (x : target.Stepped). x.disk) r;
+        held_is = ap (λ (x : Stepped). x.machine.held) q;
+        in_step = subst (λ (x : Stepped). AreInStep (taken x.machine) (answers t disk (submitted m request).output).machine) (sym q)
+            (subst (λ (x : target.Stepped). AreInStep (taken (finished begun_ t' h.told after.outcome after.outcome.bytes)) x.machine) (sym r) (record {
+              initiator_phase = refl;
+              target_phase = refl;
+              session = refl;
+              none_open = refl;
+              none_written = refl;
+              held = a.held;
+              is_held = a.is_held;
+              segment = a.segment;
+              tag_fits = tag_after m.initiator_task_tag a.tag_fits;
+              cmd_sn = refl;
+              cmd_sn_fits = mod-lt (m.cmd_sn + 1) (omega arith);
+              stat_sn = refl;
+              stat_sn_fits = mod-lt (t.stat_sn + 1) (omega arith);
+            }));
+      };
     }

@@ -1,9 +1,7 @@
 -- Calm runs of one pair over the same events come to one world.
 use Rattle.std.proofs.Common.{◌≡◌, ℕ, Bool, true, false, List, [], ◌∷◌, length, take, drop, Option, Some, None, Result, Ok, Err, refl, sym, ap, subst, ◌∙◌}
-use Rattle.std.specs.Prelude.{◌||◌}
 use Rattle.std.specs.Result.{result_err}
-
-use Rattle.scsi_disk.specs.Disk.{Disk, disk_of}
+use Rattle.scsi_disk.specs.Disk.{disk_of}
 use Rattle.iscsi_stream.specs.Stream.{Message}
 use Rattle.iscsi_stream.specs.Framing.{HasTaken}
 use Rattle.iscsi_stream.proofs.Ready.{apart}
@@ -18,7 +16,6 @@ use Rattle.iscsi_initiator.specs.declared.fault.InitiatorFault.TheVariants as fa
 use Rattle.iscsi_initiator.specs.declared.request.Refused.{Refused}
 use Rattle.iscsi_initiator.specs.declared.request.Request.{Request}
 use Rattle.iscsi_initiator.specs.declared.request.SubmitFault.{SubmitFault}
-use Rattle.iscsi_initiator.specs.declared.request.SubmitFault.TheVariants as refusals
 use Rattle.iscsi_initiator.specs.State.{is_closed}
 use Rattle.iscsi_initiator.specs.Machine.{taken}
 use Rattle.iscsi_initiator.specs.Calls as initiator

@@ -1,5 +1,5 @@
 -- Where an end stands that hasn't failed, whether its session goes on or is over.
-use Rattle.std.proofs.Common.{◌≡◌, Bool, true, false, None, refl, sym, ◌∙◌}
+use Rattle.std.proofs.Common.{◌≡◌, Bool, true, false, None, refl, ◌∙◌}
 use Rattle.iscsi_stream.proofs.Ready.{apart}
 use Rattle.iscsi_target.specs.Machine as target_machine
 use Rattle.iscsi_initiator.specs.State.{opening, is_closed}

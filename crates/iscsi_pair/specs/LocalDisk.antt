@@ -1,21 +1,22 @@
 -- One local disk: what requests do where the disk is here (RFC 7143, sections 11.3 and 11.4; own
 -- rule).
-use Rattle.std.specs.Prelude.{◌≡◌, ℕ, ◌<◌, ◌≤◌, ◌^◌, ◌==◌, Bool, false, not, List, [], Option, Some, None}
+use Rattle.std.specs.Prelude.{◌≡◌, ℕ, ◌<◌, ◌≤◌, ◌^◌, ◌==◌, zero, suc, false, not, List, [], ◌∷◌, length, take, Option, Some, None}
 use Rattle.scsi_cdb.specs.Sense.{sense_bytes}
 use Rattle.scsi_cdb.specs.declared.sense.Sense.{Sense}
 use Rattle.scsi_disk.specs.Disk.{Disk}
+use Rattle.scsi_disk.specs.Effect.{Effect, effect}
 use Rattle.scsi_disk.specs.declared.order.Order.{Order}
 use Rattle.scsi_disk.specs.declared.order.Outcome.{Outcome}
+use Rattle.iscsi_stream.specs.Stream.{Message}
 use Rattle.iscsi_login.specs.declared.phase.Phase.TheVariants as phases
 use Rattle.iscsi_login.specs.declared.stage.Session.TheVariants as sessions
-use Rattle.iscsi_login.specs.Held.{IsHeld}
+use Rattle.iscsi_login.specs.Held.{Held, IsHeld}
 use Rattle.iscsi_initiator.specs.declared.request.Done.{Done}
 use Rattle.iscsi_initiator.specs.declared.request.Done.TheVariants as done
 use Rattle.iscsi_initiator.specs.Block.{record_of}
 use Rattle.iscsi_initiator.specs.declared.request.Request.{Request}
 use Rattle.iscsi_initiator.specs.declared.request.Request.TheVariants as requests
 use Rattle.iscsi_initiator.specs.State as initiator
-use Rattle.iscsi_initiator.specs.Steps as initiator_steps
 use Rattle.iscsi_initiator.specs.Machine.{steps, taken}
 use Rattle.iscsi_initiator.specs.Submitted.{submitted}
 use Rattle.iscsi_target.specs.State as target
@@ -31,6 +32,16 @@ reading_order lun cdb expected = record {
   expected = expected;
 }
 
+-- What a request that may write orders of a disk (section 11.3).
+abbrev pub writing_order : ℕ → List ℕ → List ℕ → Order
+writing_order lun cdb bytes = record {
+  cdb = record_of cdb;
+  lun = lun;
+  read = false;
+  write = not (length bytes == 0);
+  expected = length bytes;
+}
+
 -- The sense bytes, where there are any (section 11.4.7).
 abbrev pub told_sense : Option Sense → List ℕ
 told_sense None = []
@@ -41,8 +52,50 @@ abbrev pub told : Outcome → Done
 told outcome =
     done.Command 0 outcome.status (told_sense outcome.sense) outcome.bytes outcome.residual
 
--- Both ends are in full feature phase and agree, nothing is on its way, and nothing is open (sections
--- 4.2 and 6.3).
+-- An outcome, and the disk after it (own rule).
+pub record Local : Type 0 where
+  pub outcome : Done
+  pub disk : Disk
+
+-- A command was executed on a disk that is here (sections 11.3 and 11.4).
+abbrev pub local_command : Effect → Local
+local_command after = record { outcome = told after.outcome; disk = after.disk }
+
+-- What a request does where the disk is here. A ping gives the first of its bytes, at most so many;
+-- texts and logouts are nothing to a disk (sections 11.3, 11.4 and 11.18; own rule).
+abbrev pub local : ℕ → Disk → Request → Local
+local most disk (requests.In lun cdb expected) =
+    local_command (effect disk (reading_order lun cdb expected) [])
+local most disk (requests.Out lun cdb bytes) =
+    local_command (effect disk (writing_order lun cdb bytes) bytes)
+local most disk (requests.Ping bytes) =
+    record { outcome = done.Ping (take most bytes); disk = disk }
+local most disk (requests.Text bytes) = record { outcome = done.Text []; disk = disk }
+local most disk requests.Logout = record { outcome = done.Closed; disk = disk }
+
+-- The request is a command or a ping (own rule).
+abbrev pub IsOfDisk : Request → Type 0
+IsOfDisk (requests.In lun cdb expected) = Unit {0}
+IsOfDisk (requests.Out lun cdb bytes) = Unit {0}
+IsOfDisk (requests.Ping bytes) = Unit {0}
+IsOfDisk (requests.Text bytes) = ⊥
+IsOfDisk requests.Logout = ⊥
+
+-- The outcomes of requests, one after another on one disk (own rule).
+unfoldable pub local_outcomes : ℕ → Disk → List Request → List Done
+local_outcomes most disk [] = []
+local_outcomes most disk (request ∷ more) =
+    (local most disk request).outcome ∷ local_outcomes most (local most disk request).disk more
+
+-- The disk after all of them (own rule).
+unfoldable pub local_disk : ℕ → Disk → List Request → Disk
+local_disk most disk [] = disk
+local_disk most disk (request ∷ more) = local_disk most (local most disk request).disk more
+
+-- ---- two ends that are in step
+
+-- Both ends are in full feature phase of a normal session, hold the same, wait for the same numbers,
+-- and have nothing open (sections 4.2 and 6.3).
 pub record AreInStep (m : initiator.Machine) (t : target.Machine) : Type 0 where
   pub initiator_phase : m.phase ≡ phases.Full
   pub target_phase : t.phase ≡ phases.Full
@@ -59,32 +112,73 @@ pub record AreInStep (m : initiator.Machine) (t : target.Machine) : Type 0 where
   pub stat_sn : m.exp_stat_sn ≡ Some t.stat_sn
   pub stat_sn_fits : t.stat_sn < 2 ^ 32
 
--- What the target answers to all that the initiator sends for a request (section 4.2).
-abbrev pub answered : initiator.Machine → target.Machine → Disk → Request → target.Stepped
-answered m t disk request = answers t disk (submitted m request).output
+-- ---- turns
 
--- What the initiator does when it has heard all of that (section 4.2).
-abbrev pub concluded : initiator.Machine → target.Machine → Disk → Request → initiator_steps.Stepped
-concluded m t disk request =
-    steps (submitted m request).machine (answered m t disk request).answers
+-- Both ends, the disk, and what is on its way to the target while nothing is on its way back (own
+-- rule).
+pub record Talk : Type 0 where
+  pub initiator : initiator.Machine
+  pub target : target.Machine
+  pub disk : Disk
+  pub to_target : List Message
 
--- The target hears a logout, and then the initiator its answer: both sessions are over (section
--- 11.14).
-pub record IsLoggedOut (m : initiator.Machine) (t : target.Machine) (disk : Disk) : Type 0 where
-  pub done_is : (concluded m t disk requests.Logout).machine.done ≡ Some done.Closed
-  pub faultless : (concluded m t disk requests.Logout).fault ≡ None
-  pub silent : (concluded m t disk requests.Logout).output ≡ []
-  pub disk_is : (answered m t disk requests.Logout).disk ≡ disk
-  pub initiator_phase : (concluded m t disk requests.Logout).machine.phase ≡ phases.Closed
-  pub target_phase : (answered m t disk requests.Logout).machine.phase ≡ phases.Closed
+-- The target hears all of it, and then the initiator all answers (section 4.2; own rule).
+abbrev pub turned : Talk → Talk
+turned x =
+    let answered = answers x.target x.disk x.to_target in
+    let heard = steps x.initiator answered.answers in
+    record {
+      initiator = heard.machine;
+      target = answered.machine;
+      disk = answered.disk;
+      to_target = heard.output;
+    }
 
--- A request has this outcome and leaves this disk, the initiator sends nothing more for it, and once
--- the outcome is taken both ends are in step again (section 4.2; own rule).
-pub record IsConcluded (m : initiator.Machine) (t : target.Machine) (disk : Disk)
-    (request : Request) (outcome : Done) (disk_now : Disk) : Type 0 where
-  pub done_is : (concluded m t disk request).machine.done ≡ Some outcome
-  pub faultless : (concluded m t disk request).fault ≡ None
-  pub silent : (concluded m t disk request).output ≡ []
-  pub disk_is : (answered m t disk request).disk ≡ disk_now
-  pub in_step : AreInStep (taken (concluded m t disk request).machine)
-      (answered m t disk request).machine
+-- So many turns, one after another (own rule).
+abbrev pub after_turns : ℕ → Talk → Talk
+after_turns zero x = x
+after_turns (suc more) x = after_turns more (turned x)
+
+-- A request is handed in (section 4.2).
+abbrev pub handed_in : initiator.Machine → target.Machine → Disk → Request → Talk
+handed_in m t disk request = record {
+  initiator = (submitted m request).machine;
+  target = t;
+  disk = disk;
+  to_target = (submitted m request).output;
+}
+
+-- The request has this outcome and left this disk, nothing more is sent for it, what was negotiated
+-- stays, and once the outcome is taken both ends are in step (section 4.2; own rule).
+pub record HasEnded (held : Held) (x : Talk) (outcome : Done) (disk_now : Disk) : Type 0 where
+  pub done_is : x.initiator.done ≡ Some outcome
+  pub silent : x.to_target ≡ []
+  pub disk_is : x.disk ≡ disk_now
+  pub held_is : x.initiator.held ≡ held
+  pub in_step : AreInStep (taken x.initiator) x.target
+
+-- After some turns it has (own rule).
+pub record Ends (held : Held) (x : Talk) (outcome : Done) (disk_now : Disk) : Type 0 where
+  pub turns : ℕ
+  pub ended : HasEnded held (after_turns turns x) outcome disk_now
+
+-- Both sessions are over, without a fault (section 11.14).
+pub record HasLoggedOut (x : Talk) (disk_now : Disk) : Type 0 where
+  pub done_is : x.initiator.done ≡ Some done.Closed
+  pub silent : x.to_target ≡ []
+  pub disk_is : x.disk ≡ disk_now
+  pub initiator_phase : x.initiator.phase ≡ phases.Closed
+  pub target_phase : x.target.phase ≡ phases.Closed
+
+-- Requests, one after another: each is handed in once the outcome of the last was taken. While they
+-- are accepted these are their outcomes, and after all of them the disk is this one (section 4.2; own
+-- rule).
+unfoldable pub Converse : initiator.Machine → target.Machine → Disk → List Request → List Done
+    → Disk → Type 0
+Converse m t disk [] outcomes disk_now = (outcomes ≡ []) × (disk_now ≡ disk)
+Converse m t disk (request ∷ more) outcomes disk_now =
+    (submitted m request).refusal ≡ None
+    → (x : Talk) × (turns : ℕ) × (outcome : Done) × (later : List Done)
+    × (x ≡ after_turns turns (handed_in m t disk request)) × (x.to_target ≡ [])
+    × (x.initiator.done ≡ Some outcome) × (outcomes ≡ outcome ∷ later)
+    × Converse (taken x.initiator) x.target x.disk more later disk_now

@@ -1,18 +1,19 @@
 //! Laws of a pair: functions with no work, whose contracts are of the definitions alone.
 //!
 //! They hold in every world that a pair comes to: over every configuration and every list of events,
-//! however the bytes are cut and wherever memory runs out.
+//! however the bytes are cut and wherever memory runs out. The last two are of any two ends that are
+//! in step, over whole messages.
 
-ghost use Rattle.std.specs.Prelude.{◌≡◌, ◌⊎◌, ◌++◌, [], ℕ, List, None, false, take};
+ghost use Rattle.std.specs.Prelude.{◌≡◌, ◌⊎◌, ◌++◌, [], List, None, false};
+ghost use Rattle.std.specs.List.{AllByRecursion};
 ghost use Rattle.scsi_disk.specs.Disk.{Disk};
-ghost use Rattle.scsi_disk.specs.Effect.{effect};
-ghost use Rattle.iscsi_initiator.specs.declared.request.Done.TheVariants as done;
+ghost use Rattle.iscsi_login.specs.declared.stage.Stage.TheVariants as stages;
+ghost use Rattle.iscsi_target.specs.State as target;
+ghost use Rattle.iscsi_initiator.specs.declared.request.Request.{Request};
 ghost use Rattle.iscsi_initiator.specs.declared.request.Request.TheVariants as requests;
 ghost use Rattle.iscsi_initiator.specs.State as initiator;
 ghost use Rattle.iscsi_initiator.specs.Submitted.{submitted};
-ghost use Rattle.iscsi_target.specs.State as target;
-ghost use Rattle.iscsi_pair.specs.LocalDisk.{AreInStep, IsConcluded, IsLoggedOut, reading_order, told};
-ghost use Rattle.iscsi_login.specs.declared.stage.Stage.TheVariants as stages;
+ghost use Rattle.iscsi_pair.specs.LocalDisk.{AreInStep, Converse, Ends, HasLoggedOut, IsOfDisk, handed_in, local, local_disk, local_outcomes, turned};
 ghost use Rattle.iscsi_pair.specs.World.{Event, IsOpening, LooksAlike, Opening, Reached, RunsCalmly, RunsInTime, Suits, World, keeps_no_memory, new_pair};
 ghost use Rattle.iscsi_pair.specs.Traffic.{Traffic, Traces, first_traffic, TargetStands, InitiatorStands};
 
@@ -89,29 +90,27 @@ pub fn no_early_failure()
         → (w.initiator_fault ≡ None) ⊎ (w.initiator.machine.stage ≡ stages.Full) }
 {}
 
-/// A ping gives the first of its bytes, as many as the initiator takes in a segment, where both ends
-/// are in step (RFC 7143, sections 11.18 and 11.19).
-pub fn local_pings()
-    ensures concluded { (m : initiator.Machine) (t : target.Machine) (disk : Disk)
-        (bytes : List ℕ) → AreInStep m t → (submitted m (requests.Ping bytes)).refusal ≡ None
-        → IsConcluded m t disk (requests.Ping bytes)
-        (done.Ping (take m.held.initiator_max_recv bytes)) disk }
+/// A request is that of a local disk: where both ends are in step, one that is accepted has the
+/// outcome that it has on the target's disk, leaves the disk that it leaves there, and both ends in
+/// step, after some turns of sending and answering (RFC 7143, sections 11.3, 11.4, 11.7, 11.8 and
+/// 11.18).
+pub fn one_request()
+    ensures ends { (m : initiator.Machine) (t : target.Machine) (disk : Disk) (request : Request)
+        → IsOfDisk request → AreInStep m t → (submitted m request).refusal ≡ None
+        → let here = local m.held.initiator_max_recv disk request in
+        Ends m.held (handed_in m t disk request) here.outcome here.disk }
+    // A logout ends both sessions without a fault.
+    ensures logout { (m : initiator.Machine) (t : target.Machine) (disk : Disk) → AreInStep m t
+        → (submitted m requests.Logout).refusal ≡ None
+        → HasLoggedOut (turned (handed_in m t disk requests.Logout)) disk }
 {}
 
-/// A logout ends both sessions without a fault, where both ends are in step (RFC 7143, section
-/// 11.14).
-pub fn logouts()
-    ensures ended { (m : initiator.Machine) (t : target.Machine) (disk : Disk) → AreInStep m t
-        → (submitted m requests.Logout).refusal ≡ None → IsLoggedOut m t disk }
-{}
-
-/// A read is that of a local disk: where both ends are in step, a request that may read and is
-/// accepted has the status, sense, data and residual that its order has on the target's disk, leaves
-/// the disk that the order leaves, and both ends in step (RFC 7143, sections 11.3, 11.4 and 11.7).
-pub fn local_reads()
-    ensures concluded { (m : initiator.Machine) (t : target.Machine) (disk : Disk) (lun : ℕ)
-        (cdb : List ℕ) (expected : ℕ) → AreInStep m t
-        → (submitted m (requests.In lun cdb expected)).refusal ≡ None
-        → let after = effect disk (reading_order lun cdb expected) [] in
-        IsConcluded m t disk (requests.In lun cdb expected) (told after.outcome) after.disk }
+/// One local disk: where both ends are in step, commands and pings that are handed in one after
+/// another have, in their order, the outcomes of one local disk, and leave its blocks (RFC 7143,
+/// section 4.2).
+pub fn one_local_disk()
+    ensures outcomes { (m : initiator.Machine) (t : target.Machine) (disk : Disk)
+        (asked : List Request) → AllByRecursion IsOfDisk asked → AreInStep m t
+        → let most = m.held.initiator_max_recv in
+        Converse m t disk asked (local_outcomes most disk asked) (local_disk most disk asked) }
 {}

@@ -1,0 +1,45 @@
+-- Requests, one after another, between two ends that are in step.
+use Rattle.std.proofs.Common.{◌≡◌, ℕ, List, [], ◌∷◌, None, refl, ap, ◌∙◌, subst}
+use Rattle.std.specs.List.{AllByRecursion}
+use Rattle.scsi_disk.specs.Disk.{Disk}
+use Rattle.iscsi_login.specs.Held.{Held}
+use Rattle.iscsi_initiator.specs.declared.request.Request.{Request}
+use Rattle.iscsi_initiator.specs.declared.request.Request.TheVariants as requests
+use Rattle.iscsi_initiator.specs.State as initiator
+use Rattle.iscsi_initiator.specs.Machine.{taken}
+use Rattle.iscsi_initiator.specs.Submitted.{submitted}
+use Rattle.iscsi_target.specs.State as target
+use Rattle.iscsi_pair.specs.LocalDisk.{AreInStep, Converse, Ends, IsOfDisk, Talk, after_turns, handed_in, local, local_disk, local_outcomes}
+use Rattle.iscsi_pair.proofs.LocalPings.{local_ping}
+use Rattle.iscsi_pair.proofs.LocalReads.{local_read}
+use Rattle.iscsi_pair.proofs.LocalWrites.{local_write}
+
+pub one_request : (m : initiator.Machine) (t : target.Machine) (disk : Disk) (request : Request) → IsOfDisk request → AreInStep m t → (submitted m request).refusal ≡ None
+    → Ends m.held (handed_in m t disk request) (local m.held.initiator_max_recv disk request).outcome (local m.held.initiator_max_recv disk request).disk
+one_request m t disk (requests.In lun cdb expected) of a e = local_read m t disk lun cdb expected a e
+one_request m t disk (requests.Out lun cdb bytes) of a e = local_write m t disk lun cdb bytes a e
+one_request m t disk (requests.Ping bytes) of a e = local_ping m t disk bytes a e
+one_request m t disk (requests.Text bytes) of a e = absurd of
+one_request m t disk requests.Logout of a e = absurd of
+
+pub converses : (most : ℕ) (m : initiator.Machine) (t : target.Machine) (disk : Disk) (asked : List Request) → AllByRecursion IsOfDisk asked → AreInStep m t → m.held.initiator_max_recv ≡ most
+    → Converse m t disk asked (local_outcomes most disk asked) (local_disk most disk asked)
+unfolding Converse local_outcomes local_disk
+converses most m t disk [] of a same = (refl, refl)
+converses most m t disk (request ∷ more) of a same = λ accepted.
+    (let r : Ends m.held (handed_in m t disk request) (local most disk request).outcome (local most disk request).disk =
+    subst (λ (n : ℕ). Ends m.held (handed_in m t disk request) (local n disk request).outcome (local n disk request).disk) same (one_request m t disk request of.0 a accepted) in
+    let x : Talk = after_turns r.turns (handed_in m t disk request) in
+    let now : Disk = (local most disk request).disk in
+    let later : Converse (taken x.initiator) x.target x.disk more (local_outcomes most x.disk more) (local_disk most x.disk more) =
+    converses most (taken x.initiator) x.target x.disk more of.1 r.ended.in_step (ap (λ (h : Held). h.initiator_max_recv) r.ended.held_is ∙ same) in (
+      x,
+      r.turns,
+      (local most disk request).outcome,
+      local_outcomes most now more,
+      refl,
+      r.ended.silent,
+      r.ended.done_is,
+      refl,
+      subst (λ (d : Disk). Converse (taken x.initiator) x.target x.disk more (local_outcomes most d more) (local_disk most d more)) r.ended.disk_is later,
+    ))

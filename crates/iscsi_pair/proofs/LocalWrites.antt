@@ -1,0 +1,756 @@
+-- A write between two ends that are in step: its outcome is that of the disk.
+use Rattle.std.proofs.Common.{◌≡◌, ◌⊎◌, inl, inr, ◌<◌, ◌≤◌, ℕ, zero, suc, ◌+◌, ◌^◌, Bool, true, false, List, [], ◌∷◌, ◌++◌, length, take, drop, Option, Some, None, refl, sym, ap, ◌∙◌, subst, arith, append_assoc, ne_eqb}
+use Rattle.std.specs.Prelude.{◌-◌, ◌*◌, min, nat_le, nat_lt, ◌==◌, ◌&&◌, ◌||◌, not, if◌then◌else◌, is_some}
+use Rattle.std.specs.Bool.{then_some}
+use Rattle.std.specs.List.{flat_map, AllByRecursion}
+use Rattle.std.proofs.Math.Nat.{mod-lt}
+use Rattle.std.proofs.Math.Seq.{take-add}
+use Rattle.std.proofs.lemmas.Bool.{and_parts, eq-eqb, eqb-false, eqb-true, le-leb, le-ltb, lt-leb, lt-ltb, ltb-false, ltb-true}
+use Rattle.std.proofs.lemmas.List.{append-nil, length-append, length-take, length-drop, take-append-drop, take-take, take_all, take_min}
+use Rattle.std.proofs.lemmas.Grind.{flat_map-append}
+use Rattle.scsi_disk.specs.Disk.{Disk}
+use Rattle.scsi_disk.specs.Effect.{Effect, disk_by, effect, outcome_by, wanted_data}
+use Rattle.scsi_disk.specs.Plan.{expected_length, first_refusal, is_unknown, is_write, plan_by, plan_of, refusals, transfer, wanted_length}
+use Rattle.scsi_disk.specs.declared.order.Plan.{Plan}
+use Rattle.scsi_disk.specs.declared.order.Plan.TheVariants.{Refuse, Take, Give}
+use Rattle.scsi_disk.proofs.Planned.{all_false}
+use Rattle.scsi_cdb.specs.declared.sense.Sense.{Sense}
+use Rattle.scsi_disk.specs.declared.order.Order.{Order}
+use Rattle.iscsi_pdu.specs.declared.head.Head.TheVariants as heads
+use Rattle.iscsi_pdu.specs.declared.head.data_out.DataOut.{DataOut}
+use Rattle.iscsi_pdu.specs.declared.head.scsi_command.ScsiCommand.{ScsiCommand}
+use Rattle.iscsi_stream.specs.Segment.{Bytes, segment_bytes}
+use Rattle.iscsi_stream.specs.Stream.{Message}
+use Rattle.iscsi_login.specs.declared.phase.Phase.{Phase}
+use Rattle.iscsi_login.specs.declared.phase.Phase.TheVariants as phases
+use Rattle.iscsi_login.specs.declared.stage.Session.TheVariants as sessions
+use Rattle.iscsi_login.specs.Held.{Held, IsHeld, first_burst, held_value}
+use Rattle.iscsi_login.specs.declared.key.NegKey.TheVariants as keys
+use Rattle.iscsi_login.specs.declared.preferences.Answered.{Answered}
+use Rattle.iscsi_login.specs.declared.preferences.Answered.TheVariants.{Flag, Number, NoneItem, Reject}
+use Rattle.iscsi_pdu.specs.declared.serial.Window.{Window}
+use Rattle.iscsi_pdu.specs.Fields.{is_tag}
+use Rattle.iscsi_initiator.specs.declared.open.Open.{Open}
+use Rattle.iscsi_initiator.specs.declared.open.Open.TheVariants as opens
+use Rattle.iscsi_initiator.specs.declared.request.Done.TheVariants as done
+use Rattle.iscsi_initiator.specs.State as initiator
+use Rattle.iscsi_initiator.specs.State.{is_closed, is_closed_phase, next, next_tag, sent_exp_stat_sn}
+use Rattle.iscsi_initiator.specs.Progress.{Writing}
+use Rattle.iscsi_initiator.specs.Steps as initiator_steps
+use Rattle.iscsi_initiator.specs.Steps.{quiet, sends}
+use Rattle.iscsi_initiator.specs.Full.{data_outs, is_last, pieces, pieces_of, sequence}
+use Rattle.iscsi_initiator.specs.Submitted as initiator_writes
+use Rattle.iscsi_initiator.specs.Submitted.{Submitted, accepted, burst, command, has_more, immediate, is_within, is_yes, refusal, refusal_in, refusal_when_full, submitted}
+use Rattle.iscsi_initiator.specs.declared.request.Request.{Request}
+use Rattle.iscsi_initiator.specs.declared.request.Request.TheVariants as requests
+use Rattle.iscsi_initiator.specs.Machine.{step, steps, taken, then_steps}
+use Rattle.iscsi_target.specs.declared.due.Due.{Due}
+use Rattle.iscsi_target.specs.declared.due.Due.TheVariants.{Nothing, Unsolicited, Solicited}
+use Rattle.iscsi_target.specs.State as target
+use Rattle.iscsi_target.specs.State.{Pieces, Stepped, Write, data_of, message, next_sn, nothing, on, reserved_tag}
+use Rattle.iscsi_target.specs.Transfer.{asking, continued, desired, is_idle, is_in_sequence, is_whole, max_burst, received, with_data, with_piece}
+use Rattle.iscsi_target.specs.Execution.{command_answers, execute, parts_given, response_head, sense_segment}
+use Rattle.iscsi_target.specs.Command.{ask, breaks_burst_rules, flag_of, is_bad_announcement, is_bad_segment, is_on, opened, planned, proceed, r2t_head, unasked}
+use Rattle.iscsi_target.specs.Machine.{accepting, answers, step_on, then_stepped}
+use Rattle.iscsi_target.proofs.Continuing.{then_nothing}
+use Rattle.iscsi_target.proofs.Reached.{can_give}
+use Rattle.iscsi_pair.specs.LocalDisk.{AreInStep, Ends, HasEnded, Talk, after_turns, handed_in, told, told_sense, turned, writing_order}
+use Rattle.iscsi_pair.proofs.LocalReads.{Awaits, finished, next_small, not_long, outcome_heard, ready, steps_quiet, submitted_is, tag_after, told_window, unrefused, waiting, window_now}
+
+-- ---- a Data-Out
+
+-- a target in full feature phase with this write open
+abbrev writer : target.Machine → ℕ → Write → target.Machine
+writer t cmd_sn w = record t { phase = phases.Full; session = sessions.Normal; write = Some w; exp_cmd_sn = cmd_sn }
+
+abbrev data_message : DataOut → List ℕ → Message
+data_message h piece = record { head = heads.DataOut h; segment = Bytes piece }
+
+data_taken : (t : target.Machine) (cmd_sn : ℕ) (w : Write) (disk : Disk) (h : DataOut) (piece : List ℕ) → length piece ≤ t.held.target_max_recv → t.held.target_max_recv ≤ target.limit t.settings
+    → h.initiator_task_tag ≡ w.initiator_task_tag → is_in_sequence (first_burst t.held) w h (received w + length piece) w.due ≡ true
+    → step_on effect (writer t cmd_sn w) disk (data_message h piece) ≡ proceed effect (ready t cmd_sn) disk (with_data w h piece)
+unfolding segment_bytes
+data_taken t cmd_sn w disk h piece short limit tag due =
+    rw (le-ltb (target.limit t.settings) (length piece) (omega (arith, short, limit)), le-ltb t.held.target_max_recv (length piece) short, eq-eqb h.initiator_task_tag w.initiator_task_tag tag, due) refl
+
+-- ---- a sequence
+
+-- Data-Outs of one sequence are due, up to this byte: their tag, and what is due for each DataSN
+record IsSequence (most total tag end : ℕ) (due : ℕ → Due) : Type 0 where
+  goes_on : (data_sn : ℕ) → continued (due data_sn) ≡ due (next_sn data_sn)
+  busy : (data_sn : ℕ) → is_idle (due data_sn) ≡ false
+  takes : (w : Write) (h : DataOut) (reached : ℕ) → w.total ≡ total → h.buffer_offset ≡ received w → h.target_transfer_tag ≡ tag
+      → ((h.is_final ≡ false) × (reached < end)) ⊎ ((h.is_final ≡ true) × (reached ≡ end))
+      → is_in_sequence most w h reached (due h.data_sn) ≡ true
+
+unsolicited_takes : (most total data_sn : ℕ) (w : Write) (h : DataOut) (reached : ℕ) → w.total ≡ total → h.buffer_offset ≡ received w → h.target_transfer_tag ≡ reserved_tag
+    → ((h.is_final ≡ false) × (reached < min total most)) ⊎ ((h.is_final ≡ true) × (reached ≡ min total most))
+    → is_in_sequence most w h reached (Unsolicited h.data_sn) ≡ true
+unsolicited_takes most total data_sn w h reached all at tag (inl c) =
+    rw (eq-eqb h.data_sn h.data_sn refl, eq-eqb h.buffer_offset (received w) at, eq-eqb h.target_transfer_tag reserved_tag tag, all, lt-ltb reached (min total most) c.1) refl
+unsolicited_takes most total data_sn w h reached all at tag (inr c) =
+    rw (eq-eqb h.data_sn h.data_sn refl, eq-eqb h.buffer_offset (received w) at, eq-eqb h.target_transfer_tag reserved_tag tag, all, le-ltb reached (min total most) (omega (arith, c.1)), eq-eqb reached (min total most) c.1, c.0) refl
+
+unsolicited : (most total : ℕ) → IsSequence most total reserved_tag (min total most) Unsolicited
+unsolicited most total = record {
+  goes_on = λ data_sn. refl;
+  busy = λ data_sn. refl;
+  takes = λ w h reached. unsolicited_takes most total h.data_sn w h reached;
+}
+
+solicited_takes : (most total tag end : ℕ) (w : Write) (h : DataOut) (reached : ℕ) → h.buffer_offset ≡ received w → h.target_transfer_tag ≡ tag
+    → ((h.is_final ≡ false) × (reached < end)) ⊎ ((h.is_final ≡ true) × (reached ≡ end))
+    → is_in_sequence most w h reached (Solicited tag h.data_sn end) ≡ true
+solicited_takes most total tag end w h reached at e (inl c) =
+    rw (eq-eqb h.data_sn h.data_sn refl, eq-eqb h.buffer_offset (received w) at, eq-eqb h.target_transfer_tag tag e, lt-ltb reached end c.1, c.0) refl
+solicited_takes most total tag end w h reached at e (inr c) =
+    rw (eq-eqb h.data_sn h.data_sn refl, eq-eqb h.buffer_offset (received w) at, eq-eqb h.target_transfer_tag tag e, le-ltb reached end (omega (arith, c.1)), eq-eqb reached end c.1, c.0) refl
+
+solicited : (most total tag end : ℕ) → IsSequence most total tag end (λ data_sn. Solicited tag data_sn end)
+solicited most total tag end = record {
+  goes_on = λ data_sn. refl;
+  busy = λ data_sn. refl;
+  takes = λ w h reached all. solicited_takes most total tag end w h reached;
+}
+
+abbrev flat : List (List ℕ) → List ℕ
+flat xs = flat_map (λ x. x) xs
+
+-- each piece has bytes, and is one that the target takes
+abbrev ArePieces : ℕ → List (List ℕ) → Type 0
+ArePieces most ps = AllByRecursion (λ piece. (0 < length piece) × (length piece ≤ most)) ps
+
+received_more : (w : Write) (offset : ℕ) (piece : List ℕ) → 0 < length piece → data_of (with_piece w.pieces offset piece) ≡ data_of w.pieces ++ piece
+received_more w offset [] some = absurd (omega (arith, some))
+received_more w offset (b ∷ bytes) some =
+    flat_map-append (λ piece. piece.1) w.pieces ((offset, b ∷ bytes) ∷ []) ∙ ap (λ (x : List ℕ). data_of w.pieces ++ x) (append-nil (b ∷ bytes))
+
+-- a Data-Out that isn't the last of its sequence
+piece_taken : (t : target.Machine) (cmd_sn : ℕ) (w : Write) (disk : Disk) (h : DataOut) (piece : List ℕ) (end : ℕ) (due : ℕ → Due) → IsSequence (first_burst t.held) w.total h.target_transfer_tag end due
+    → w.due ≡ due h.data_sn → h.is_final ≡ false → h.buffer_offset ≡ received w → h.initiator_task_tag ≡ w.initiator_task_tag → 0 < length piece → length piece ≤ t.held.target_max_recv
+    → t.held.target_max_recv ≤ target.limit t.settings → received w + length piece < end → end ≤ w.total
+    → step_on effect (writer t cmd_sn w) disk (data_message h piece)
+    ≡ on disk (nothing (writer t cmd_sn (record w { pieces = with_piece w.pieces (received w) piece; due = due (next_sn h.data_sn) })))
+piece_taken t cmd_sn w disk h piece end due s is_due final at tag some short limit before_ room =
+    let v : Write = record w { pieces = with_piece w.pieces (received w) piece; due = due (next_sn h.data_sn) } in
+    let here : is_in_sequence (first_burst t.held) w h (received w + length piece) w.due ≡ true =
+    ap (is_in_sequence (first_burst t.held) w h (received w + length piece)) is_due ∙ s.takes w h (received w + length piece) refl at refl (inl (final, before_)) in
+    let is : with_data w h piece ≡ v =
+    ap (λ (b : Bool). record w { pieces = with_piece w.pieces (received w) piece; due = if b then Nothing else continued w.due }) final
+    ∙ ap (λ (d : Due). record w { pieces = with_piece w.pieces (received w) piece; due = d }) (ap continued is_due ∙ s.goes_on h.data_sn) in
+    let part : is_whole v ≡ false =
+    ne_eqb w.total (received v) (λ e. omega (arith, e, ap (λ (x : List ℕ). length x) (received_more w (received w) piece some), length-append (data_of w.pieces) piece, before_, room)) in
+    data_taken t cmd_sn w disk h piece short limit tag here
+    ∙ ap (proceed effect (ready t cmd_sn) disk) is
+    ∙ rw (part, s.busy (next_sn h.data_sn)) refl
+
+-- what a whole sequence leads to
+record SequenceTaken (t : target.Machine) (cmd_sn : ℕ) (w : Write) (disk : Disk) (ms : List Message) (bytes : List ℕ) : Type 0 where
+  came : Pieces
+  whole : data_of came ≡ data_of w.pieces ++ bytes
+  is : answers (writer t cmd_sn w) disk ms ≡ proceed effect (ready t cmd_sn) disk (record w { pieces = came; due = Nothing })
+
+sequence_taken : (t : target.Machine) (cmd_sn : ℕ) (w : Write) (disk : Disk) (h : DataOut) (piece : List ℕ) (more : List (List ℕ)) (end : ℕ) (due : ℕ → Due) → IsSequence (first_burst t.held) w.total h.target_transfer_tag end due
+    → w.due ≡ due h.data_sn → h.buffer_offset ≡ received w → h.initiator_task_tag ≡ w.initiator_task_tag → ArePieces t.held.target_max_recv (piece ∷ more)
+    → t.held.target_max_recv ≤ target.limit t.settings → received w + length (flat (piece ∷ more)) ≡ end → end ≤ w.total
+    → SequenceTaken t cmd_sn w disk (data_outs h (piece ∷ more)) (flat (piece ∷ more))
+unfolding answers
+sequence_taken t cmd_sn w disk h piece [] end due s is_due at tag all limit up room =
+    let h' : DataOut = record h { is_final = true } in
+    let here : is_in_sequence (first_burst t.held) w h' (received w + length piece) w.due ≡ true =
+    ap (is_in_sequence (first_burst t.held) w h' (received w + length piece)) is_due
+    ∙ s.takes w h' (received w + length piece) refl at refl (inr (refl, (let e = length-append piece [] in omega (arith, e, up)))) in
+    record {
+      came = with_piece w.pieces (received w) piece;
+      whole = received_more w (received w) piece all.0.0 ∙ ap (λ (x : List ℕ). data_of w.pieces ++ x) (sym (append-nil piece));
+      is = then_nothing (step_on effect (writer t cmd_sn w) disk (data_message h' piece)) ∙ data_taken t cmd_sn w disk h' piece all.0.1 limit tag here;
+    }
+sequence_taken t cmd_sn w disk h piece (second ∷ more) end due s is_due at tag all limit up room =
+    let h' : DataOut = record h { is_final = false } in
+    let v : Write = record w { pieces = with_piece w.pieces (received w) piece; due = due (next_sn h.data_sn) } in
+    let h2 : DataOut = record h { data_sn = next h.data_sn; buffer_offset = h.buffer_offset + length piece } in
+    let len = length-append piece (flat (second ∷ more)) in
+    let len2 = length-append second (flat more) in
+    let now = ap (λ (x : List ℕ). length x) (received_more w (received w) piece all.0.0) ∙ length-append (data_of w.pieces) piece in
+    let one : step_on effect (writer t cmd_sn w) disk (data_message h' piece) ≡ on disk (nothing (writer t cmd_sn v)) =
+    piece_taken t cmd_sn w disk h' piece end due s is_due refl at tag all.0.0 all.0.1 limit (omega (arith, up, len, len2, all.1.0.0)) room in
+    let r : SequenceTaken t cmd_sn v disk (data_outs h2 (second ∷ more)) (flat (second ∷ more)) =
+    sequence_taken t cmd_sn v disk h2 second more end due s refl (omega (arith, at, now)) tag all.1 limit (omega (arith, up, len, now)) room in
+    record {
+      came = r.came;
+      whole = r.whole ∙ ap (λ (x : List ℕ). x ++ flat (second ∷ more)) (received_more w (received w) piece all.0.0) ∙ append_assoc (data_of w.pieces) piece (flat (second ∷ more));
+      is = ap (λ (x : Stepped). then_stepped x (answers x.machine x.disk (data_outs h2 (second ∷ more)))) one ∙ r.is;
+    }
+
+-- ---- the pieces of a sequence
+
+pieces_flat : (fuel size : ℕ) (bytes : List ℕ) → 0 < size → length bytes ≤ fuel → flat (pieces_of fuel size bytes) ≡ bytes
+pieces_flat zero size [] lt le = refl
+pieces_flat zero size (b ∷ bytes) lt le = absurd (omega (arith, le))
+pieces_flat (suc more) size [] lt le = refl
+pieces_flat (suc more) size (b ∷ bytes) lt le =
+    ap (λ (x : List ℕ). take size (b ∷ bytes) ++ x) (pieces_flat more size (drop size (b ∷ bytes)) lt (omega (arith, length-drop size (b ∷ bytes), lt, le)))
+    ∙ take-append-drop size (b ∷ bytes)
+
+pieces_are : (fuel size : ℕ) (bytes : List ℕ) → 0 < size → ArePieces size (pieces_of fuel size bytes)
+pieces_are zero size bytes lt = tt
+pieces_are (suc more) size [] lt = tt
+pieces_are (suc more) size (b ∷ bytes) lt =
+    let len = length-take size (b ∷ bytes) in ((omega (arith, len, lt), omega (arith, len)), pieces_are more size (drop size (b ∷ bytes)) lt)
+
+-- a sequence with these bytes, if it has any
+batch_taken : (t : target.Machine) (cmd_sn : ℕ) (w : Write) (disk : Disk) (h : DataOut) (bytes : List ℕ) (end : ℕ) (due : ℕ → Due) → IsSequence (first_burst t.held) w.total h.target_transfer_tag end due
+    → w.due ≡ due h.data_sn → h.buffer_offset ≡ received w → h.initiator_task_tag ≡ w.initiator_task_tag → 0 < t.held.target_max_recv → t.held.target_max_recv ≤ target.limit t.settings
+    → 0 < length bytes → received w + length bytes ≡ end → end ≤ w.total
+    → SequenceTaken t cmd_sn w disk (data_outs h (pieces t.held.target_max_recv bytes)) bytes
+batch_taken t cmd_sn w disk h [] end due s is_due at tag lt limit some up room = absurd (omega (arith, some))
+batch_taken t cmd_sn w disk h (b ∷ bytes) end due s is_due at tag lt limit some up room =
+    let most : ℕ = t.held.target_max_recv in
+    let whole : flat (pieces most (b ∷ bytes)) ≡ b ∷ bytes = pieces_flat (length (b ∷ bytes)) most (b ∷ bytes) lt (omega arith) in
+    subst (SequenceTaken t cmd_sn w disk (data_outs h (pieces most (b ∷ bytes)))) whole
+    (sequence_taken t cmd_sn w disk h (take most (b ∷ bytes)) (pieces_of (length bytes) most (drop most (b ∷ bytes))) end due s is_due at tag (pieces_are (length (b ∷ bytes)) most (b ∷ bytes) lt) limit
+    (ap (λ (x : List ℕ). received w + length x) whole ∙ up) room)
+
+-- ---- the initiator hears an R2T
+
+abbrev writing : initiator.Machine → Writing → Window → initiator.Machine
+writing m v window = waiting m (opens.Out v) window
+
+-- the sequence that answers it
+abbrev asked_for : initiator.Machine → Writing → Write → ℕ → List Message
+asked_for m v w n = sequence m (then_some (is_tag w.asked) w.order.lun) w.asked v.sent (take n (drop v.sent v.bytes))
+
+ready_heard : (m : initiator.Machine) (t : target.Machine) (v : Writing) (w : Write) (window : Window) → w.initiator_task_tag ≡ m.initiator_task_tag → w.asked ≡ v.next_r2t_sn → received w ≡ v.sent
+    → 1 ≤ desired t.held w → desired t.held w ≤ max_burst m.held → v.sent + desired t.held w ≤ length v.bytes
+    → step (writing m v window) (message (r2t_head t w) [])
+    ≡ sends (writing m (record v { sent = v.sent + desired t.held w; next_r2t_sn = next v.next_r2t_sn }) (told_window window t)) (asked_for m v w (desired t.held w))
+unfolding step segment_bytes
+ready_heard m t v w window tag asked at some most room =
+    rw (
+      eq-eqb w.initiator_task_tag m.initiator_task_tag tag,
+      le-ltb m.held.initiator_max_recv 0 (omega arith),
+      eq-eqb w.asked v.next_r2t_sn asked,
+      eq-eqb (received w) v.sent at,
+      le-leb 1 (desired t.held w) some,
+      le-leb (desired t.held w) (max_burst m.held) most,
+      le-leb (v.sent + desired t.held w) (length v.bytes) room,
+    ) refl
+
+steps_sends : (m n : initiator.Machine) (x : Message) (out : List Message) → step m x ≡ sends n out → n.phase ≡ phases.Full → steps m (x ∷ []) ≡ sends n out
+unfolding steps
+steps_sends m n x out e full =
+    let live : is_closed (step m x).machine ≡ false = ap (λ (s : initiator_steps.Stepped). is_closed s.machine) e ∙ ap is_closed_phase full in
+    rw live (ap (λ (s : initiator_steps.Stepped). then_steps s (quiet s.machine)) e ∙ ap (sends n) (append-nil out))
+
+-- ---- a write, from turn to turn
+
+-- What an initiator sends when it has heard these answers, and where both ends are then.
+abbrev heard : initiator.Machine → Stepped → Talk
+heard i r =
+    let e = steps i r.answers in
+    record { initiator = e.machine; target = r.machine; disk = r.disk; to_target = e.output }
+
+-- what holds throughout a write
+record Throughout (m : initiator.Machine) (t : target.Machine) (cmd_sn : ℕ) (bytes : List ℕ) (order : Order) (disk : Disk) : Type 0 where
+  held : t.held ≡ m.held
+  is_held : IsHeld m.held
+  segment : t.held.target_max_recv ≤ target.limit t.settings
+  stat_sn : m.exp_stat_sn ≡ Some t.stat_sn
+  tag_fits : m.initiator_task_tag ≤ 0xffff_fffe
+  cmd_sn_is : cmd_sn ≡ m.cmd_sn
+  cmd_sn_fits : m.cmd_sn < 2 ^ 32
+  few : length bytes ≤ 4194304
+  none_given : (effect disk order bytes).outcome.bytes ≡ []
+
+-- both ends have the same of the data
+record InHand (m : initiator.Machine) (v : Writing) (w : Write) (order : Order) : Type 0 where
+  tag : w.initiator_task_tag ≡ m.initiator_task_tag
+  order_is : w.order ≡ order
+  due : w.due ≡ Nothing
+  total : w.total ≡ length v.bytes
+  came : data_of w.pieces ≡ take v.sent v.bytes
+  sent : v.sent ≤ length v.bytes
+  asked : w.asked ≡ v.next_r2t_sn
+  few : w.asked ≤ v.sent
+
+received_is : (m : initiator.Machine) (v : Writing) (w : Write) (order : Order) → InHand m v w order → received w ≡ v.sent
+received_is m v w order i = omega (arith, ap (λ (x : List ℕ). length x) i.came, length-take v.sent v.bytes, i.sent)
+
+-- the response to a command that gives no data
+response_ends : (m : initiator.Machine) (t : target.Machine) (cmd_sn : ℕ) (open_ : Open) (window : Window) (bytes : List ℕ) (order : Order) (disk : Disk) (tag : ℕ) (pieces_ : Pieces)
+    → Throughout m t cmd_sn bytes order disk → Awaits open_ [] → tag ≡ m.initiator_task_tag → effect disk order (data_of pieces_) ≡ effect disk order bytes
+    → Ends m.held (heard (waiting m open_ window) (execute effect (ready t cmd_sn) disk tag order pieces_)) (told (effect disk order bytes).outcome) (effect disk order bytes).disk
+unfolding steps
+response_ends m t cmd_sn open_ window bytes order disk tag pieces_ a d same data_ =
+    let after : Effect = effect disk order bytes in
+    let s : target.Machine = ready t cmd_sn in
+    let last : Message = message (response_head s m.initiator_task_tag after.outcome 0) (sense_segment after.outcome.sense) in
+    let ended : initiator.Machine = finished m s window after.outcome [] in
+    let is : steps (waiting m open_ window) (execute effect s disk tag order pieces_).answers ≡ quiet ended =
+    ap (λ (x : Effect). steps (waiting m open_ window) (command_answers s tag x.outcome (parts_given s.held x.outcome.bytes))) data_
+    ∙ ap (λ (x : List ℕ). steps (waiting m open_ window) (command_answers s tag after.outcome (parts_given s.held x))) a.none_given
+    ∙ ap (λ (x : ℕ). steps (waiting m open_ window) (command_answers s x after.outcome [])) same
+    ∙ steps_quiet (waiting m open_ window) ended last [] (outcome_heard m s open_ [] window after.outcome.status after.outcome.sense after.outcome.bytes after.outcome.residual 0 d a.stat_sn (omega (arith, a.is_held.initiator_max_recv.0))) refl in
+    let disk_is : (execute effect s disk tag order pieces_).disk ≡ after.disk = ap (λ (x : Effect). x.disk) data_ in
+    record {
+      turns = 0;
+      ended = record {
+        done_is = ap (λ (x : initiator_steps.Stepped). x.machine.done) is ∙ ap (λ (x : List ℕ). Some (done.Command 0 after.outcome.status (told_sense after.outcome.sense) x after.outcome.residual)) (sym a.none_given);
+        silent = ap (λ (x : initiator_steps.Stepped). x.output) is;
+        disk_is = disk_is;
+        held_is = ap (λ (x : initiator_steps.Stepped). x.machine.held) is;
+        in_step = subst (λ (x : initiator_steps.Stepped). AreInStep (taken x.machine) (target.counted s)) (sym is) (record {
+          initiator_phase = refl;
+          target_phase = refl;
+          session = refl;
+          none_open = refl;
+          none_written = refl;
+          held = a.held;
+          is_held = a.is_held;
+          segment = subst (λ (h : Held). h.target_max_recv ≤ target.limit t.settings) a.held a.segment;
+          tag_fits = a.tag_fits;
+          cmd_sn = a.cmd_sn_is;
+          cmd_sn_fits = a.cmd_sn_fits;
+          stat_sn = refl;
+          stat_sn_fits = mod-lt (t.stat_sn + 1) (omega arith);
+        });
+      };
+    }
+
+-- the write goes on from where all that was due came
+abbrev GoesOn : initiator.Machine → target.Machine → ℕ → Writing → Write → Window → Order → Disk → Type 0
+GoesOn m t cmd_sn v w window order disk =
+    Ends m.held (heard (writing m v window) (proceed effect (ready t cmd_sn) disk w)) (told (effect disk order v.bytes).outcome) (effect disk order v.bytes).disk
+
+all_came : (m : initiator.Machine) (t : target.Machine) (cmd_sn : ℕ) (v : Writing) (w : Write) (window : Window) (order : Order) (disk : Disk) → Throughout m t cmd_sn v.bytes order disk → InHand m v w order
+    → is_whole w ≡ true → GoesOn m t cmd_sn v w window order disk
+all_came m t cmd_sn v w window order disk a i whole =
+    let all : v.sent ≡ length v.bytes = sym (received_is m v w order i) ∙ sym (eqb-true w.total (received w) whole) ∙ i.total in
+    let bytes : data_of w.pieces ≡ v.bytes = i.came ∙ take_all v.sent v.bytes (omega (arith, all)) in
+    let is : proceed effect (ready t cmd_sn) disk w ≡ execute effect (ready t cmd_sn) disk w.initiator_task_tag order w.pieces =
+    rw whole (ap (λ (x : Order). execute effect (ready t cmd_sn) disk w.initiator_task_tag x w.pieces) i.order_is) in
+    subst (λ (r : Stepped). Ends m.held (heard (writing m v window) r) (told (effect disk order v.bytes).outcome) (effect disk order v.bytes).disk) (sym is)
+    (response_ends m t cmd_sn (opens.Out v) window v.bytes order disk w.initiator_task_tag w.pieces a (λ h. refl) i.tag (ap (effect disk order) bytes))
+
+-- what isn't equal and not more is less
+below : (n total : ℕ) (part : (total == n) ≡ false) → n ≤ total → n < total
+below n total part le = (let apart = eqb-false total n part in omega (arith, le, apart))
+
+-- ---- one turn: an R2T goes out, and its sequence comes
+
+-- the write of the initiator once it has sent so many bytes more
+abbrev more_sent : Writing → ℕ → Writing
+more_sent v n = record v { sent = v.sent + n; next_r2t_sn = next v.next_r2t_sn }
+
+-- the write of the target once they came
+abbrev more_came : target.Machine → Write → Pieces → Write
+more_came t w came = record (asking t.held w) { pieces = came; due = Nothing }
+
+-- where one turn leads
+record Turned (m : initiator.Machine) (t : target.Machine) (cmd_sn : ℕ) (v : Writing) (w : Write) (window : Window) (order : Order) (disk : Disk) : Type 0 where
+  window_now : Window
+  came : Pieces
+  n : ℕ
+  some : 0 < n
+  hand : InHand m (more_sent v n) (more_came t w came) order
+  is : turned (heard (writing m v window) (proceed effect (ready t cmd_sn) disk w))
+      ≡ heard (writing m (more_sent v n) window_now) (proceed effect (ready t cmd_sn) disk (more_came t w came))
+
+turn : (m : initiator.Machine) (t : target.Machine) (cmd_sn : ℕ) (v : Writing) (w : Write) (window : Window) (order : Order) (disk : Disk) → Throughout m t cmd_sn v.bytes order disk → InHand m v w order
+    → is_whole w ≡ false → Turned m t cmd_sn v w window order disk
+turn m t cmd_sn v w window order disk a i part =
+    let at : received w ≡ v.sent = received_is m v w order i in
+    let left : v.sent < length v.bytes = (let lt = below (received w) w.total part (omega (arith, at, i.total, i.sent)) in omega (arith, lt, at, i.total)) in
+    let burst : 0 < max_burst t.held = subst (λ (h : Held). 0 < max_burst h) (sym a.held) (can_give m.held a.is_held).burst in
+    let n : ℕ = desired t.held w in
+    let some : 0 < n = omega (arith, burst, left, at, i.total) in
+    let room : v.sent + n ≤ length v.bytes = omega (arith, left, at, i.total) in
+    let most : n ≤ max_burst m.held = subst (λ (h : Held). n ≤ max_burst h) a.held (omega arith) in
+    let s : target.Machine = writer t cmd_sn w in
+    let batch : List ℕ = take n (drop v.sent v.bytes) in
+    let size : length batch ≡ n = omega (arith, length-take n (drop v.sent v.bytes), length-drop v.sent v.bytes, room) in
+    let out : List Message = asked_for m v w n in
+    let one : steps (writing m v window) (message (r2t_head s w) [] ∷ []) ≡ sends (writing m (more_sent v n) (told_window window s)) out =
+    steps_sends (writing m v window) (writing m (more_sent v n) (told_window window s)) (message (r2t_head s w) []) out (ready_heard m s v w window i.tag i.asked at some most room) refl in
+    let asks : proceed effect (ready t cmd_sn) disk w ≡ on disk (ask s w) = rw (part, i.due) refl in
+    let h : DataOut = record {
+      is_final = false;
+      lun = then_some (is_tag w.asked) w.order.lun;
+      initiator_task_tag = m.initiator_task_tag;
+      target_transfer_tag = w.asked;
+      exp_stat_sn = sent_exp_stat_sn m;
+      data_sn = 0;
+      buffer_offset = v.sent;
+    } in
+    let lt : 0 < t.held.target_max_recv = subst (λ (x : Held). 0 < x.target_max_recv) (sym a.held) (omega (arith, a.is_held.target_max_recv.0)) in
+    let r : SequenceTaken t cmd_sn (asking t.held w) disk (data_outs h (pieces t.held.target_max_recv batch)) batch =
+    batch_taken t cmd_sn (asking t.held w) disk h batch (received w + n) (λ data_sn. Solicited w.asked data_sn (received w + n)) (solicited (first_burst t.held) w.total w.asked (received w + n)) refl (sym at) (sym i.tag) lt a.segment
+    (omega (arith, size, some)) (omega (arith, size)) (omega (arith, at, i.total, room)) in
+    let sent_ : answers (writer t cmd_sn (asking t.held w)) disk out ≡ proceed effect (ready t cmd_sn) disk (more_came t w r.came) =
+    ap (λ (k : Held). answers (writer t cmd_sn (asking t.held w)) disk (data_outs h (pieces k.target_max_recv batch))) (sym a.held) ∙ r.is in
+    record {
+      window_now = told_window window s;
+      came = r.came;
+      n = n;
+      some = some;
+      hand = record {
+        tag = i.tag;
+        order_is = i.order_is;
+        due = refl;
+        total = i.total;
+        came = r.whole ∙ ap (λ (x : List ℕ). x ++ batch) i.came ∙ sym (take-add v.sent n v.bytes);
+        sent = room;
+        asked = ap (λ (x : ℕ). x + 1) i.asked ∙ sym (next_small v.next_r2t_sn (omega (arith, i.asked, i.few, i.sent, a.few)));
+        few = omega (arith, i.few, some);
+      };
+      is = ap (λ (x : Stepped). turned (heard (writing m v window) x)) asks
+          ∙ ap (λ (e : initiator_steps.Stepped). heard e.machine (answers (writer t cmd_sn (asking t.held w)) disk e.output)) one
+          ∙ ap (heard (writing m (more_sent v n) (told_window window s))) sent_;
+    }
+
+-- from turn to turn until all came
+goes_on : (fuel : ℕ) (m : initiator.Machine) (t : target.Machine) (cmd_sn : ℕ) (v : Writing) (w : Write) (window : Window) (order : Order) (disk : Disk) → Throughout m t cmd_sn v.bytes order disk → InHand m v w order
+    → length v.bytes ≤ v.sent + fuel → (whole : Bool) → is_whole w ≡ whole → GoesOn m t cmd_sn v w window order disk
+goes_on fuel m t cmd_sn v w window order disk a i le true whole = all_came m t cmd_sn v w window order disk a i whole
+goes_on zero m t cmd_sn v w window order disk a i le false part =
+    absurd (eqb-false w.total (received w) part (omega (arith, i.total, received_is m v w order i, i.sent, le)))
+goes_on (suc fuel) m t cmd_sn v w window order disk a i le false part =
+    let x : Turned m t cmd_sn v w window order disk = turn m t cmd_sn v w window order disk a i part in
+    let w' : Write = more_came t w x.came in
+    let e : Ends m.held (heard (writing m (more_sent v x.n) x.window_now) (proceed effect (ready t cmd_sn) disk w')) (told (effect disk order v.bytes).outcome) (effect disk order v.bytes).disk =
+    goes_on fuel m t cmd_sn (more_sent v x.n) w' x.window_now order disk a x.hand (omega (arith, le, x.some)) (is_whole w') refl in
+    record {
+      turns = suc e.turns;
+      ended = subst (λ (y : Talk). HasEnded m.held (after_turns e.turns y) (told (effect disk order v.bytes).outcome) (effect disk order v.bytes).disk) (sym x.is) e.ended;
+    }
+
+-- ---- the command breaks no rule of the first burst
+
+and_false : (b : Bool) → (b && false) ≡ false
+and_false true = refl
+and_false false = refl
+
+yes_is_on : (value : Answered) → is_yes value ≡ flag_of value
+yes_is_on (Flag b) = refl
+yes_is_on (Number n) = refl
+yes_is_on NoneItem = refl
+yes_is_on Reject = refl
+
+segment_by : (on_ : Bool) (bytes : List ℕ) (size unasked_ : ℕ) → size ≤ unasked_
+    → (let n = length (if on_ then take size bytes else []) in (nat_lt 0 n && (not (not (length bytes == 0)) || (not on_ || nat_lt unasked_ n))) ≡ false)
+segment_by false bytes size unasked_ le = refl
+segment_by true [] size unasked_ le = (let empty : List ℕ = [] in let none : nat_lt 0 (length (take size empty)) ≡ false = le-ltb 0 (length (take size empty)) (omega (arith, length-take size empty)) in rw none refl)
+segment_by true (b ∷ bytes) size unasked_ le =
+    let none : nat_lt unasked_ (length (take size (b ∷ bytes))) ≡ false = le-ltb unasked_ (length (take size (b ∷ bytes))) (omega (arith, length-take size (b ∷ bytes), le)) in
+    let some : (length (b ∷ bytes) == 0) ≡ false = ne_eqb (length (b ∷ bytes)) 0 (λ e. omega (arith, e)) in
+    rw (none, some) (and_false (nat_lt 0 (length (take size (b ∷ bytes)))))
+
+more_by : (write late fits : Bool) → (fits ≡ true → late ≡ false) → (write && (not (not fits) && late)) ≡ false
+more_by write late true none = (let e : late ≡ false = none refl in rw e (and_false write))
+more_by write late false none = and_false write
+
+announcement_by : (write waits : Bool) (n unasked_ burst_ : ℕ) → unasked_ ≡ burst_ → (write && (not (not (not waits && nat_lt n burst_)) && (waits || nat_le unasked_ n))) ≡ false
+announcement_by write true n unasked_ burst_ e = and_false write
+announcement_by write false n unasked_ burst_ e =
+    more_by write (nat_le unasked_ n) (nat_lt n burst_) (λ lt. lt-leb unasked_ n (omega (arith, ltb-true n burst_ lt, e)))
+
+-- the command that goes out for a write
+abbrev write_head : initiator.Machine → ℕ → List ℕ → List ℕ → ScsiCommand
+write_head m lun cdb bytes = command m (not (has_more m bytes)) lun cdb (record { read = false; write = not (length bytes == 0); expected = length bytes })
+
+burst_kept : (m : initiator.Machine) (lun : ℕ) (cdb bytes : List ℕ) → breaks_burst_rules m.held (write_head m lun cdb bytes) (length (immediate m bytes)) ≡ false
+burst_kept m lun cdb bytes =
+    let h : ScsiCommand = write_head m lun cdb bytes in
+    let on_ : is_on m.held keys.ImmediateData ≡ is_yes (held_value m.held keys.ImmediateData) = sym (yes_is_on (held_value m.held keys.ImmediateData)) in
+    let waits : is_on m.held keys.InitialR2T ≡ is_yes (held_value m.held keys.InitialR2T) = sym (yes_is_on (held_value m.held keys.InitialR2T)) in
+    let size : ℕ = min (burst m bytes) m.held.target_max_recv in
+    let one : is_bad_segment m.held h (length (immediate m bytes)) ≡ false =
+    ap (λ (b : Bool). nat_lt 0 (length (immediate m bytes)) && (not h.write || (not b || nat_lt (unasked m.held h) (length (immediate m bytes))))) on_
+    ∙ segment_by (is_yes (held_value m.held keys.ImmediateData)) bytes size (unasked m.held h) (omega arith) in
+    let two : is_bad_announcement m.held h (length (immediate m bytes)) ≡ false =
+    ap (λ (b : Bool). h.write && (not h.is_final && (b || nat_le (unasked m.held h) (length (immediate m bytes))))) waits
+    ∙ announcement_by h.write (is_yes (held_value m.held keys.InitialR2T)) (length (immediate m bytes)) (unasked m.held h) (burst m bytes) (omega arith) in
+    rw (one, two) refl
+
+-- ---- what the command is planned to do
+
+not_false : (b : Bool) → not b ≡ false → b ≡ true
+not_false true e = refl
+not_false false e = absurd cc
+
+all_by : (is_write_ : Bool) (count n total expected : ℕ) → (is_write_ && not (expected == 512 * count)) ≡ false → (if is_write_ then Take (512 * count) else Give n) ≡ Take total → total ≡ expected
+all_by true count n total expected test e =
+    let is : 512 * count ≡ total = cc in sym is ∙ sym (eqb-true expected (512 * count) (not_false (expected == 512 * count) test))
+all_by false count n total expected test e = absurd cc
+
+-- a write takes all bytes that are sent
+takes_all : (f : Option Sense) (order : Order) (blocks total : ℕ) → first_refusal order blocks ≡ f → plan_by f order blocks ≡ Take total → total ≡ order.expected
+takes_all (Some sense) order blocks total f e = absurd cc
+takes_all None order blocks total f e =
+    let tests = all_false (refusals order blocks) f in
+    all_by (is_write order.cdb) (transfer order.cdb).count (min (wanted_length order blocks) (expected_length order)) total order.expected tests.1.1.1.1.1.1.1.1.0 e
+
+give_by : (is_write_ write unknown : Bool) (size wanted expected n : ℕ) → (write && not is_write_) ≡ false
+    → (if is_write_ then Take size else Give (min wanted (if false || (write && (is_write_ || unknown)) then expected else 0))) ≡ Give n → n ≡ 0
+give_by true write unknown size wanted expected n test e = absurd cc
+give_by false true unknown size wanted expected n test e = absurd cc
+give_by false false unknown size wanted expected n test e = (let is : min wanted 0 ≡ n = cc in omega (arith, is))
+
+-- any other command gives nothing to it
+gives_none : (f : Option Sense) (lun : ℕ) (cdb bytes : List ℕ) (blocks n : ℕ) → first_refusal (writing_order lun cdb bytes) blocks ≡ f → plan_by f (writing_order lun cdb bytes) blocks ≡ Give n → n ≡ 0
+gives_none (Some sense) lun cdb bytes blocks n f e = absurd cc
+gives_none None lun cdb bytes blocks n f e =
+    let order : Order = writing_order lun cdb bytes in
+    let tests = all_false (refusals order blocks) f in
+    give_by (is_write order.cdb) order.write (is_unknown order.cdb) (512 * (transfer order.cdb).count) (wanted_length order blocks) order.expected n tests.1.1.1.0 e
+
+outcome_none : (p : Plan) (disk : Disk) (order : Order) → ((n : ℕ) → p ≡ Give n → n ≡ 0) → (outcome_by p disk order).bytes ≡ []
+outcome_none (Refuse sense) disk order none = refl
+outcome_none (Take n) disk order none = refl
+outcome_none (Give n) disk order none = ap (λ (x : ℕ). take x (wanted_data disk order)) (none n refl)
+
+-- ---- data for which no write is open
+
+dropped : (t : target.Machine) (cmd_sn : ℕ) (disk : Disk) (h : DataOut) (ps : List (List ℕ)) → t.held.target_max_recv ≤ target.limit t.settings → ArePieces t.held.target_max_recv ps
+    → answers (ready t cmd_sn) disk (data_outs h ps) ≡ on disk (nothing (ready t cmd_sn))
+unfolding answers segment_bytes
+dropped t cmd_sn disk h [] limit all = refl
+dropped t cmd_sn disk h (piece ∷ more) limit all =
+    let h' : DataOut = record h { is_final = is_last more } in
+    let h2 : DataOut = record h { data_sn = next h.data_sn; buffer_offset = h.buffer_offset + length piece } in
+    let one : step_on effect (ready t cmd_sn) disk (data_message h' piece) ≡ on disk (nothing (ready t cmd_sn)) =
+    rw (le-ltb (target.limit t.settings) (length piece) (omega (arith, all.0.1, limit)), le-ltb t.held.target_max_recv (length piece) all.0.1) refl in
+    ap (λ (x : Stepped). then_stepped x (answers x.machine x.disk (data_outs h2 more))) one ∙ dropped t cmd_sn disk h2 more limit all.1
+
+-- ---- the command, and the data that follow it unasked
+
+-- the initiator that has sent them
+abbrev begun_write : initiator.Machine → initiator.Machine
+begun_write m = record m { initiator_task_tag = next_tag m.initiator_task_tag; cmd_sn = next m.cmd_sn }
+
+abbrev first_sent : initiator.Machine → List ℕ → Writing
+first_sent m bytes = record { bytes = bytes; sent = length (immediate m bytes) + length (initiator_writes.unsolicited m bytes); next_r2t_sn = 0 }
+
+abbrev write_message : initiator.Machine → ℕ → List ℕ → List ℕ → Message
+write_message m lun cdb bytes = record { head = heads.ScsiCommand (write_head m lun cdb bytes); segment = Bytes (immediate m bytes) }
+
+abbrev unasked_data : initiator.Machine → List ℕ → List Message
+unasked_data m bytes = sequence (begun_write m) None reserved_tag (length (immediate m bytes)) (initiator_writes.unsolicited m bytes)
+
+command_taken : (m : initiator.Machine) (t : target.Machine) (disk : Disk) (lun : ℕ) (cdb bytes : List ℕ) → m.cmd_sn < 2 ^ 32 → t.held ≡ m.held → t.held.target_max_recv ≤ target.limit t.settings
+    → length (immediate m bytes) ≤ t.held.target_max_recv
+    → step_on effect (ready t m.cmd_sn) disk (write_message m lun cdb bytes)
+    ≡ accepting (write_message m lun cdb bytes) (planned effect (ready t (next_sn m.cmd_sn)) disk (write_head m lun cdb bytes) (immediate m bytes) (plan_of (writing_order lun cdb bytes) disk.count))
+unfolding segment_bytes
+command_taken m t disk lun cdb bytes lt held limit short =
+    let kept : breaks_burst_rules t.held (write_head m lun cdb bytes) (length (immediate m bytes)) ≡ false =
+    ap (λ (k : Held). breaks_burst_rules k (write_head m lun cdb bytes) (length (immediate m bytes))) held ∙ burst_kept m lun cdb bytes in
+    rw (le-ltb (target.limit t.settings) (length (immediate m bytes)) (omega (arith, short, limit)), le-ltb t.held.target_max_recv (length (immediate m bytes)) short, window_now m.cmd_sn lt, kept) refl
+
+-- the answers to the command and the data behind it
+abbrev first_answers : initiator.Machine → target.Machine → Disk → ℕ → List ℕ → List ℕ → Plan → Stepped
+first_answers m t disk lun cdb bytes p =
+    let r = planned effect (ready t (next_sn m.cmd_sn)) disk (write_head m lun cdb bytes) (immediate m bytes) p in
+    then_stepped r (answers r.machine r.disk (unasked_data m bytes))
+
+same_effect : (p : Plan) (disk : Disk) (order : Order) (bytes : List ℕ) → ((n : ℕ) → p ≡ Take n → ⊥) → disk_by p disk order [] ≡ disk_by p disk order bytes
+same_effect (Take n) disk order bytes none = absurd (none n refl)
+same_effect (Give n) disk order bytes none = refl
+same_effect (Refuse sense) disk order bytes none = refl
+
+-- a command that takes no data: what follows it is dropped
+executed_alone : (m : initiator.Machine) (t : target.Machine) (disk : Disk) (lun : ℕ) (cdb bytes : List ℕ) (window : Window)
+    → Throughout (begun_write m) t (next_sn m.cmd_sn) bytes (writing_order lun cdb bytes) disk → ((n : ℕ) → plan_of (writing_order lun cdb bytes) disk.count ≡ Take n → ⊥)
+    → (let r = execute effect (ready t (next_sn m.cmd_sn)) disk (next_tag m.initiator_task_tag) (writing_order lun cdb bytes) [] in let after : Effect = effect disk (writing_order lun cdb bytes) bytes in
+    Ends m.held (heard (writing (begun_write m) (first_sent m bytes) window) (then_stepped r (answers r.machine r.disk (unasked_data m bytes)))) (told after.outcome) after.disk)
+executed_alone m t disk lun cdb bytes window a none =
+    let order : Order = writing_order lun cdb bytes in
+    let n : ℕ = next_sn m.cmd_sn in
+    let r : Stepped = execute effect (ready t n) disk (next_tag m.initiator_task_tag) order [] in
+    let after : Effect = effect disk order bytes in
+    let i : initiator.Machine = writing (begun_write m) (first_sent m bytes) window in
+    let uns : List ℕ = initiator_writes.unsolicited m bytes in
+    let h : DataOut = record {
+      is_final = false;
+      lun = None;
+      initiator_task_tag = next_tag m.initiator_task_tag;
+      target_transfer_tag = reserved_tag;
+      exp_stat_sn = sent_exp_stat_sn m;
+      data_sn = 0;
+      buffer_offset = length (immediate m bytes);
+    } in
+    let lt : 0 < t.held.target_max_recv = subst (λ (x : Held). 0 < x.target_max_recv) (sym a.held) (omega (arith, a.is_held.target_max_recv.0)) in
+    let gone : answers r.machine r.disk (unasked_data m bytes) ≡ on r.disk (nothing r.machine) =
+    ap (λ (k : Held). answers r.machine r.disk (data_outs h (pieces k.target_max_recv uns))) (sym a.held)
+    ∙ dropped (target.counted t) n r.disk h (pieces t.held.target_max_recv uns) a.segment (pieces_are (length uns) t.held.target_max_recv uns lt) in
+    let same : effect disk order [] ≡ after = λ i_. record { disk = same_effect (plan_of order disk.count) disk order bytes none i_; outcome = after.outcome } in
+    subst (λ (x : Stepped). Ends m.held (heard i (then_stepped r x)) (told after.outcome) after.disk) (sym gone)
+    (subst (λ (x : List Message). Ends m.held (heard i (record r { answers = x })) (told after.outcome) after.disk) (sym (append-nil r.answers))
+    (response_ends (begun_write m) t n (opens.Out (first_sent m bytes)) window bytes order disk (next_tag m.initiator_task_tag) [] a (λ h_. refl) refl same))
+
+-- ---- a write whose bytes are taken
+
+immediate_are : (on_ : Bool) (size : ℕ) (bytes : List ℕ) → (let x : List ℕ = if on_ then take size bytes else [] in x ≡ take (length x) bytes)
+immediate_are true size bytes = sym (ap (λ (k : ℕ). take k bytes) (length-take size bytes) ∙ take_min size bytes)
+immediate_are false size bytes = refl
+
+pieces_of_first : (bytes : List ℕ) → data_of (with_piece [] 0 bytes) ≡ bytes
+pieces_of_first [] = refl
+pieces_of_first (b ∷ bytes) = append-nil (b ∷ bytes)
+
+-- what is open once the command came, and no data are due unasked
+abbrev first_write : initiator.Machine → ℕ → List ℕ → List ℕ → ℕ → Write
+first_write m lun cdb bytes total = opened (write_head m lun cdb bytes) total (immediate m bytes)
+
+-- all first data are in the command
+none_unasked : (m : initiator.Machine) (t : target.Machine) (disk : Disk) (lun : ℕ) (cdb bytes : List ℕ) (window : Window) (total : ℕ)
+    → Throughout (begun_write m) t (next_sn m.cmd_sn) bytes (writing_order lun cdb bytes) disk → total ≡ length bytes → has_more m bytes ≡ false
+    → Ends m.held (heard (writing (begun_write m) (first_sent m bytes) window)
+    (let r = proceed effect (ready t (next_sn m.cmd_sn)) disk (first_write m lun cdb bytes total) in then_stepped r (answers r.machine r.disk (unasked_data m bytes))))
+    (told (effect disk (writing_order lun cdb bytes) bytes).outcome) (effect disk (writing_order lun cdb bytes) bytes).disk
+unfolding answers
+none_unasked m t disk lun cdb bytes window total a all none =
+    let order : Order = writing_order lun cdb bytes in
+    let n : ℕ = next_sn m.cmd_sn in
+    let w : Write = first_write m lun cdb bytes total in
+    let v : Writing = first_sent m bytes in
+    let imm : List ℕ = immediate m bytes in
+    let uns : initiator_writes.unsolicited m bytes ≡ [] = rw none refl in
+    let zero_ : length (initiator_writes.unsolicited m bytes) ≡ 0 = ap (λ (x : List ℕ). length x) uns in
+    let front : imm ≡ take (length imm) bytes = immediate_are (is_yes (held_value m.held keys.ImmediateData)) (min (burst m bytes) m.held.target_max_recv) bytes in
+    let i : InHand (begun_write m) v w order = record {
+      tag = refl;
+      order_is = refl;
+      due = rw none refl;
+      total = all;
+      came = pieces_of_first imm ∙ front ∙ ap (λ (k : ℕ). take k bytes) (let e : length imm ≡ v.sent = omega (arith, zero_) in e);
+      sent = omega (arith, zero_, ap (λ (x : List ℕ). length x) front, length-take (length imm) bytes);
+      asked = refl;
+      few = omega arith;
+    } in
+    let silent : unasked_data m bytes ≡ [] = ap (λ (x : List ℕ). sequence (begun_write m) None reserved_tag (length imm) x) uns in
+    let r : Stepped = proceed effect (ready t n) disk w in
+    subst (λ (ms : List Message). Ends m.held (heard (writing (begun_write m) v window) (then_stepped r (answers r.machine r.disk ms))) (told (effect disk order bytes).outcome) (effect disk order bytes).disk) (sym silent)
+    (subst (λ (x : Stepped). Ends m.held (heard (writing (begun_write m) v window) x) (told (effect disk order bytes).outcome) (effect disk order bytes).disk) (sym (then_nothing r))
+    (goes_on (length bytes) (begun_write m) t n v w window order disk a i (omega arith) (is_whole w) refl))
+
+-- more first data follow the command
+some_unasked : (m : initiator.Machine) (t : target.Machine) (disk : Disk) (lun : ℕ) (cdb bytes : List ℕ) (window : Window) (total : ℕ)
+    → Throughout (begun_write m) t (next_sn m.cmd_sn) bytes (writing_order lun cdb bytes) disk → total ≡ length bytes → has_more m bytes ≡ true
+    → Ends m.held (heard (writing (begun_write m) (first_sent m bytes) window)
+    (let r = proceed effect (ready t (next_sn m.cmd_sn)) disk (first_write m lun cdb bytes total) in then_stepped r (answers r.machine r.disk (unasked_data m bytes))))
+    (told (effect disk (writing_order lun cdb bytes) bytes).outcome) (effect disk (writing_order lun cdb bytes) bytes).disk
+some_unasked m t disk lun cdb bytes window total a all more =
+    let order : Order = writing_order lun cdb bytes in
+    let n : ℕ = next_sn m.cmd_sn in
+    let w : Write = first_write m lun cdb bytes total in
+    let v : Writing = first_sent m bytes in
+    let imm : List ℕ = immediate m bytes in
+    let uns : List ℕ = drop (length imm) (take (burst m bytes) bytes) in
+    let uns_is : initiator_writes.unsolicited m bytes ≡ uns = rw more refl in
+    let short : length imm < burst m bytes = ltb-true (length imm) (burst m bytes) (and_parts (not (is_yes (held_value m.held keys.InitialR2T))) (nat_lt (length imm) (burst m bytes)) more).1 in
+    let front : imm ≡ take (length imm) bytes = immediate_are (is_yes (held_value m.held keys.ImmediateData)) (min (burst m bytes) m.held.target_max_recv) bytes in
+    let size : length uns ≡ burst m bytes - length imm = omega (arith, length-drop (length imm) (take (burst m bytes) bytes), length-take (burst m bytes) bytes) in
+    let sent_ : v.sent ≡ burst m bytes = omega (arith, ap (λ (x : List ℕ). length x) uns_is, size, short) in
+    let due : w.due ≡ Unsolicited 0 = rw more refl in
+    let here : received w ≡ length imm = ap (λ (x : List ℕ). length x) (pieces_of_first imm) in
+    let part : is_whole w ≡ false = ne_eqb total (received w) (λ e. omega (arith, e, here, all, short)) in
+    let first : proceed effect (ready t n) disk w ≡ on disk (nothing (writer t n w)) = rw (part, due) refl in
+    let h : DataOut = record {
+      is_final = false;
+      lun = None;
+      initiator_task_tag = next_tag m.initiator_task_tag;
+      target_transfer_tag = reserved_tag;
+      exp_stat_sn = sent_exp_stat_sn m;
+      data_sn = 0;
+      buffer_offset = length imm;
+    } in
+    let most : first_burst t.held ≡ first_burst m.held = ap first_burst a.held in
+    let lt : 0 < t.held.target_max_recv = subst (λ (x : Held). 0 < x.target_max_recv) (sym a.held) (omega (arith, a.is_held.target_max_recv.0)) in
+    let r : SequenceTaken t n w disk (data_outs h (pieces t.held.target_max_recv uns)) uns =
+    batch_taken t n w disk h uns (min w.total (first_burst t.held)) Unsolicited (unsolicited (first_burst t.held) w.total) due (sym here) refl lt a.segment
+    (omega (arith, size, short)) (omega (arith, here, size, all, most)) (omega arith) in
+    let data_ : unasked_data m bytes ≡ data_outs h (pieces t.held.target_max_recv uns) =
+    ap (λ (x : List ℕ). sequence (begun_write m) None reserved_tag (length imm) x) uns_is ∙ ap (λ (k : Held). data_outs h (pieces k.target_max_recv uns)) (sym a.held) in
+    let w' : Write = record w { pieces = r.came; due = Nothing } in
+    let all_came_ : data_of w'.pieces ≡ take v.sent bytes =
+    r.whole ∙ ap (λ (x : List ℕ). x ++ uns) (pieces_of_first imm ∙ front)
+    ∙ (let e : take (length imm) bytes ≡ take (length imm) (take (burst m bytes) bytes) = sym (take-take (length imm) (burst m bytes) bytes (omega (arith, short))) in ap (λ (x : List ℕ). x ++ uns) e)
+    ∙ take-append-drop (length imm) (take (burst m bytes) bytes) ∙ ap (λ (k : ℕ). take k bytes) (sym sent_) in
+    let i : InHand (begun_write m) v w' order = record {
+      tag = refl;
+      order_is = refl;
+      due = refl;
+      total = all;
+      came = all_came_;
+      sent = omega (arith, sent_);
+      asked = refl;
+      few = omega arith;
+    } in
+    let is : (let x = proceed effect (ready t n) disk w in then_stepped x (answers x.machine x.disk (unasked_data m bytes))) ≡ proceed effect (ready t n) disk w' =
+    ap (λ (x : Stepped). then_stepped x (answers x.machine x.disk (unasked_data m bytes))) first ∙ ap (answers (writer t n w) disk) data_ ∙ r.is in
+    subst (λ (x : Stepped). Ends m.held (heard (writing (begun_write m) v window) x) (told (effect disk order bytes).outcome) (effect disk order bytes).disk) (sym is)
+    (goes_on (length bytes) (begun_write m) t n v w' window order disk a i (omega arith) (is_whole w') refl)
+
+-- ---- the whole of a write
+
+by_plan : (p : Plan) (m : initiator.Machine) (t : target.Machine) (disk : Disk) (lun : ℕ) (cdb bytes : List ℕ) (window : Window) → plan_of (writing_order lun cdb bytes) disk.count ≡ p
+    → Throughout (begun_write m) t (next_sn m.cmd_sn) bytes (writing_order lun cdb bytes) disk → (more : Bool) → has_more m bytes ≡ more
+    → Ends m.held (heard (writing (begun_write m) (first_sent m bytes) window) (first_answers m t disk lun cdb bytes p)) (told (effect disk (writing_order lun cdb bytes) bytes).outcome) (effect disk (writing_order lun cdb bytes) bytes).disk
+by_plan (Take total) m t disk lun cdb bytes window is a true more =
+    some_unasked m t disk lun cdb bytes window total a (takes_all (first_refusal (writing_order lun cdb bytes) disk.count) (writing_order lun cdb bytes) disk.count total refl is) more
+by_plan (Take total) m t disk lun cdb bytes window is a false none =
+    none_unasked m t disk lun cdb bytes window total a (takes_all (first_refusal (writing_order lun cdb bytes) disk.count) (writing_order lun cdb bytes) disk.count total refl is) none
+by_plan (Give n) m t disk lun cdb bytes window is a more e =
+    executed_alone m t disk lun cdb bytes window a (λ k f. (let bad : Give n ≡ Take k = sym is ∙ f in absurd cc))
+by_plan (Refuse sense) m t disk lun cdb bytes window is a more e =
+    executed_alone m t disk lun cdb bytes window a (λ k f. (let bad : Refuse sense ≡ Take k = sym is ∙ f in absurd cc))
+
+few_bytes : (m : initiator.Machine) (lun : ℕ) (cdb bytes : List ℕ) → m.phase ≡ phases.Full → (submitted m (requests.Out lun cdb bytes)).refusal ≡ None → length bytes ≤ 4194304
+unfolding submitted
+few_bytes m lun cdb bytes full e =
+    let request : Request = requests.Out lun cdb bytes in
+    let none : refusal_in m.phase m request ≡ None = unrefused (refusal m request) m request e in
+    let when : refusal_when_full m request ≡ None = subst (λ (p : Phase). refusal_in p m request ≡ None) full none in
+    ltb-false 4194304 (length bytes)
+    (not_long (is_some m.open_request || is_some m.done) (not (is_within m.cmd_sn m.window)) (nat_lt 4194304 (length bytes)) when)
+
+immediate_short : (on_ : Bool) (size : ℕ) (bytes : List ℕ) → (let x : List ℕ = if on_ then take size bytes else [] in length x ≤ size)
+immediate_short true size bytes = omega (arith, length-take size bytes)
+immediate_short false size bytes = omega arith
+
+pub local_write : (m : initiator.Machine) (t : target.Machine) (disk : Disk) (lun : ℕ) (cdb bytes : List ℕ) → AreInStep m t → (submitted m (requests.Out lun cdb bytes)).refusal ≡ None
+    → (let after : Effect = effect disk (writing_order lun cdb bytes) bytes in Ends m.held (handed_in m t disk (requests.Out lun cdb bytes)) (told after.outcome) after.disk)
+unfolding answers
+local_write m t disk lun cdb bytes a e =
+    let request : Request = requests.Out lun cdb bytes in
+    let order : Order = writing_order lun cdb bytes in
+    let after : Effect = effect disk order bytes in
+    let p : Plan = plan_of order disk.count in
+    let sent : submitted m request ≡ accepted m request = submitted_is m request e in
+    let i : initiator.Machine = writing (begun_write m) (first_sent m bytes) m.window in
+    let is_t : t ≡ ready t m.cmd_sn = λ k. record t { phase = a.target_phase k; session = a.session k; write = a.none_written k; exp_cmd_sn = a.cmd_sn k } in
+    let is_m : (accepted m request).machine ≡ i = λ k. record (begun_write m) { phase = a.initiator_phase k; open_request = Some (opens.Out (first_sent m bytes)) } in
+    let limit : t.held.target_max_recv ≤ target.limit t.settings = subst (λ (h : Held). h.target_max_recv ≤ target.limit t.settings) (sym a.held) a.segment in
+    let short : length (immediate m bytes) ≤ t.held.target_max_recv =
+    subst (λ (h : Held). length (immediate m bytes) ≤ h.target_max_recv) (sym a.held)
+    (omega (arith, immediate_short (is_yes (held_value m.held keys.ImmediateData)) (min (burst m bytes) m.held.target_max_recv) bytes)) in
+    let all : Throughout (begun_write m) t (next_sn m.cmd_sn) bytes order disk = record {
+      held = a.held;
+      is_held = a.is_held;
+      segment = limit;
+      stat_sn = a.stat_sn;
+      tag_fits = tag_after m.initiator_task_tag a.tag_fits;
+      cmd_sn_is = refl;
+      cmd_sn_fits = mod-lt (m.cmd_sn + 1) (omega arith);
+      few = few_bytes m lun cdb bytes a.initiator_phase e;
+      none_given = outcome_none p disk order (λ n. gives_none (first_refusal order disk.count) lun cdb bytes disk.count n refl);
+    } in
+    let x : Ends m.held (heard i (first_answers m t disk lun cdb bytes p)) (told after.outcome) after.disk = by_plan p m t disk lun cdb bytes m.window refl all (has_more m bytes) refl in
+    let command_ : Stepped = accepting (write_message m lun cdb bytes) (planned effect (ready t (next_sn m.cmd_sn)) disk (write_head m lun cdb bytes) (immediate m bytes) p) in
+    let is : turned (handed_in m t disk request) ≡ heard i (first_answers m t disk lun cdb bytes p) =
+    ap (λ (s : Submitted). heard s.machine (answers t disk s.output)) sent
+    ∙ ap (λ (k : initiator.Machine). heard k (answers t disk (accepted m request).output)) is_m
+    ∙ ap (λ (y : target.Machine). heard i (answers y disk (accepted m request).output)) is_t
+    ∙ ap (λ (r : Stepped). heard i (then_stepped r (answers r.machine r.disk (unasked_data m bytes)))) (command_taken m t disk lun cdb bytes a.cmd_sn_fits a.held limit short) in
+    record { turns = suc x.turns; ended = subst (λ (y : Talk). HasEnded m.held (after_turns x.turns y) (told after.outcome) after.disk) (sym is) x.ended }
