@@ -19,6 +19,7 @@ pub mod Faultless
 pub mod InTime
 pub mod Idle
 pub mod OneWorld
+pub mod Windows
 pub mod LocalReads
 pub mod LocalPings
 pub mod LocalWrites

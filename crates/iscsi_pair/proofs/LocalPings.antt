@@ -1,6 +1,6 @@
 -- A ping and a logout between two ends that are in step.
-use Rattle.std.proofs.Common.{◌≡◌, ◌<◌, ◌≤◌, ℕ, ◌+◌, ◌^◌, true, false, List, [], ◌∷◌, length, take, Some, None, refl, sym, ap, ◌∙◌, subst, arith, ne_eqb}
 use Rattle.std.specs.Prelude.{nat_lt, ◌==◌, ◌||◌, not, is_some}
+use Rattle.std.proofs.Common.{◌≡◌, ◌<◌, ◌≤◌, ℕ, ◌+◌, ◌^◌, true, false, List, [], ◌∷◌, length, take, Some, None, refl, sym, ap, ◌∙◌, subst, arith, ne_eqb}
 use Rattle.std.proofs.Math.Nat.{mod-lt}
 use Rattle.std.proofs.lemmas.Bool.{eq-eqb, le-ltb, ltb-false}
 use Rattle.std.proofs.lemmas.List.{length-take}
@@ -13,6 +13,11 @@ use Rattle.iscsi_stream.specs.Stream.{Message}
 use Rattle.iscsi_login.specs.declared.phase.Phase.{Phase}
 use Rattle.iscsi_login.specs.declared.phase.Phase.TheVariants as phases
 use Rattle.iscsi_login.specs.Held.{Held}
+use Rattle.iscsi_target.specs.State as target
+use Rattle.iscsi_target.specs.State.{next_sn, on, say}
+use Rattle.iscsi_target.specs.Requests.{logged_out, logout_head, nop_in_head}
+use Rattle.iscsi_target.specs.Machine.{accepting, answers, step_on}
+use Rattle.iscsi_target.proofs.Continuing.{then_nothing}
 use Rattle.iscsi_initiator.specs.declared.open.Open.TheVariants as opens
 use Rattle.iscsi_initiator.specs.declared.request.Done.TheVariants as done
 use Rattle.iscsi_initiator.specs.declared.request.Request.{Request}
@@ -22,12 +27,8 @@ use Rattle.iscsi_initiator.specs.State.{next, next_tag}
 use Rattle.iscsi_initiator.specs.Steps.{Stepped, quiet}
 use Rattle.iscsi_initiator.specs.Machine.{step, steps, taken}
 use Rattle.iscsi_initiator.specs.Submitted.{Submitted, accepted, logout_request, ping, refusal, refusal_in, refusal_when_full, submitted, is_within}
-use Rattle.iscsi_target.specs.State as target
-use Rattle.iscsi_target.specs.State.{next_sn, on, say}
-use Rattle.iscsi_target.specs.Requests.{logged_out, logout_head, nop_in_head}
-use Rattle.iscsi_target.specs.Machine.{accepting, answers, step_on}
-use Rattle.iscsi_target.proofs.Continuing.{then_nothing}
 use Rattle.iscsi_pair.specs.LocalDisk.{AreInStep, Ends, HasLoggedOut, handed_in, turned}
+use Rattle.iscsi_pair.proofs.Windows.{near_one, tells_one}
 use Rattle.iscsi_pair.proofs.LocalReads.{not_long, ready, steps_quiet, submitted_is, tag_after, told_window, unrefused, window_now}
 
 -- ---- a ping
@@ -83,6 +84,8 @@ pub local_ping : (m : initiator.Machine) (t : target.Machine) (disk : Disk) (byt
 unfolding answers steps
 local_ping m t disk bytes a e =
     let request : Request = requests.Ping bytes in
+    let n : ℕ = next_sn m.cmd_sn in
+    let fits : n < 2 ^ 32 = mod-lt (m.cmd_sn + 1) (omega arith) in
     let short : length bytes ≤ m.held.target_max_recv = short_ping m bytes a.initiator_phase e in
     let sent : submitted m request ≡ accepted m request = submitted_is m request e in
     let begun_ : initiator.Machine = record m { initiator_task_tag = next_tag m.initiator_task_tag; cmd_sn = next m.cmd_sn } in
@@ -117,6 +120,7 @@ local_ping m t disk bytes a e =
               target_phase = refl;
               session = refl;
               none_open = refl;
+              none_done = refl;
               none_written = refl;
               held = a.held;
               is_held = a.is_held;
@@ -124,6 +128,7 @@ local_ping m t disk bytes a e =
               tag_fits = tag_after m.initiator_task_tag a.tag_fits;
               cmd_sn = refl;
               cmd_sn_fits = mod-lt (m.cmd_sn + 1) (omega arith);
+              window = tells_one (next_sn m.cmd_sn) m.window (mod-lt (m.cmd_sn + 1) (omega arith)) (near_one (next_sn m.cmd_sn) m.cmd_sn m.window a.cmd_sn_fits refl a.window);
               stat_sn = refl;
               stat_sn_fits = mod-lt (t.stat_sn + 1) (omega arith);
             }));

@@ -1,15 +1,10 @@
 -- A read between two ends that are in step: its outcome is that of the disk.
-use Rattle.std.proofs.Common.{◌≡◌, ◌<◌, ◌≤◌, ℕ, zero, suc, ◌+◌, ◌^◌, ◌%◌, Bool, true, false, List, [], ◌∷◌, ◌++◌, length, drop, Option, Some, None, refl, sym, ap, ◌∙◌, subst, arith, append_assoc}
 use Rattle.std.specs.Prelude.{◌-◌, ◌*◌, min, nat_lt, ◌==◌, ◌&&◌, ◌||◌, not, if◌then◌else◌, is_some}
 use Rattle.std.specs.List.{flat_map, AllByRecursion}
+use Rattle.std.proofs.Common.{◌≡◌, inr, ◌<◌, ◌≤◌, ℕ, zero, suc, ◌+◌, ◌^◌, ◌%◌, Bool, true, false, List, [], ◌∷◌, ◌++◌, length, drop, Option, Some, None, refl, sym, ap, ◌∙◌, subst, arith, append_assoc}
 use Rattle.std.proofs.Math.Nat.{mod-eq_of_lt, mod-lt}
 use Rattle.std.proofs.lemmas.Bool.{eq-eqb, eqb-false, le-leb, le-ltb, ltb-false}
 use Rattle.std.proofs.lemmas.List.{append-nil, length-append, length-take, length-drop}
-use Rattle.iscsi_pdu.specs.declared.head.Head.TheVariants as heads
-use Rattle.iscsi_pdu.specs.declared.serial.Window.{Window}
-use Rattle.iscsi_pdu.specs.Serial.{moved}
-use Rattle.iscsi_stream.specs.Segment.{Bytes, segment_bytes}
-use Rattle.iscsi_stream.specs.Stream.{Message}
 use Rattle.scsi_cdb.specs.declared.residual.Residual.{Residual}
 use Rattle.scsi_cdb.specs.declared.residual.Residual.TheVariants.{Exact, Under, Over}
 use Rattle.scsi_cdb.specs.declared.sense.Sense.{Sense}
@@ -21,18 +16,30 @@ use Rattle.scsi_disk.specs.Disk.{Disk}
 use Rattle.scsi_disk.specs.Effect.{Effect, effect, outcome_by, wanted_data}
 use Rattle.scsi_disk.specs.Plan.{expected_length, first_refusal, is_unknown, is_write, plan_by, plan_of, refusals, transfer, wanted_length}
 use Rattle.scsi_disk.proofs.Planned.{all_false}
+use Rattle.iscsi_pdu.specs.declared.head.Head.TheVariants as heads
+use Rattle.iscsi_pdu.specs.declared.serial.Window.{Window}
+use Rattle.iscsi_pdu.specs.Serial.{moved}
 use Rattle.iscsi_pdu.specs.declared.head.scsi_command.ScsiCommand.{ScsiCommand}
+use Rattle.iscsi_pdu.specs.declared.head.scsi_response.ScsiResponse.{ScsiResponse}
+use Rattle.iscsi_stream.specs.Segment.{Bytes, segment_bytes}
+use Rattle.iscsi_stream.specs.Stream.{Message}
 use Rattle.iscsi_login.specs.declared.phase.Phase.{Phase}
 use Rattle.iscsi_login.specs.declared.phase.Phase.TheVariants as phases
 use Rattle.iscsi_login.specs.declared.stage.Session.TheVariants as sessions
 use Rattle.iscsi_login.specs.Held.{Held, IsHeld}
-use Rattle.iscsi_initiator.specs.declared.request.Done.TheVariants as done
 use Rattle.iscsi_target.specs.Transfer.{max_burst}
+use Rattle.iscsi_target.specs.State as target
+use Rattle.iscsi_target.specs.State.{is_within, max_cmd_sn, message, next_sn}
+use Rattle.iscsi_target.specs.Command.{order_of, planned}
+use Rattle.iscsi_target.specs.Machine.{accepting, answers, step_on}
+use Rattle.iscsi_target.specs.Execution.{command_answers, execute, data_ins, data_in_head, marked, parts, parts_given, parts_within, response_head, run_given, sense_segment}
 use Rattle.iscsi_target.proofs.Reached.{can_give}
+use Rattle.iscsi_target.proofs.Continuing.{then_nothing}
+use Rattle.iscsi_target.proofs.DataIns.{Parts, all_given, bytes_of, flat, flat_parts}
+use Rattle.iscsi_initiator.specs.declared.request.Done.TheVariants as done
 use Rattle.iscsi_initiator.specs.declared.open.Open.{Open}
 use Rattle.iscsi_initiator.specs.declared.open.Open.TheVariants as opens
 use Rattle.iscsi_initiator.specs.Full.{Response, due_to}
-use Rattle.iscsi_pdu.specs.declared.head.scsi_response.ScsiResponse.{ScsiResponse}
 use Rattle.iscsi_initiator.specs.State as initiator
 use Rattle.iscsi_initiator.specs.State.{is_closed, is_closed_phase, next, next_tag, serial}
 use Rattle.iscsi_initiator.specs.declared.request.Request.{Request}
@@ -43,14 +50,8 @@ use Rattle.iscsi_initiator.specs.Submitted.{Submitted, accepted, command, or_acc
 use Rattle.iscsi_initiator.specs.Progress.{Reading}
 use Rattle.iscsi_initiator.specs.Steps.{Stepped, quiet}
 use Rattle.iscsi_initiator.specs.Machine.{step, steps, taken, then_steps}
-use Rattle.iscsi_target.specs.State as target
-use Rattle.iscsi_target.specs.State.{is_within, max_cmd_sn, message, next_sn}
-use Rattle.iscsi_target.specs.Command.{order_of, planned}
-use Rattle.iscsi_target.specs.Machine.{accepting, answers, step_on}
-use Rattle.iscsi_target.proofs.Continuing.{then_nothing}
-use Rattle.iscsi_target.specs.Execution.{command_answers, execute, data_ins, data_in_head, marked, parts, parts_given, parts_within, response_head, run_given, sense_segment}
-use Rattle.iscsi_target.proofs.DataIns.{Parts, all_given, bytes_of, flat, flat_parts}
 use Rattle.iscsi_pair.specs.LocalDisk.{AreInStep, Ends, handed_in, reading_order, told, told_sense}
+use Rattle.iscsi_pair.proofs.Windows.{IsNear, near_one, tells_one}
 
 -- ---- the initiator hears the data
 
@@ -84,6 +85,8 @@ next_small n lt = mod-eq_of_lt lt
 -- parts that are due, one behind the other
 record PartsHeard (m : initiator.Machine) (t : target.Machine) (r : Reading) (window : Window) (given : Parts) (more : List Message) : Type 0 where
   told : Window
+  -- what each told window keeps is kept
+  kept : (n : ℕ) → ((w : Window) → IsNear n w → IsNear n (told_window w t)) → IsNear n window → IsNear n told
   is : steps (reading m r window) (data_ins t m.initiator_task_tag r.next_data_sn (length r.received) given ++ more)
       ≡ steps (reading m (record r { received = r.received ++ bytes_of given; next_data_sn = r.next_data_sn + length given }) told) more
 
@@ -102,6 +105,7 @@ parts_heard : (m : initiator.Machine) (t : target.Machine) (r : Reading) (window
     → PartsHeard m t r window given more
 parts_heard m t r window [] more short room few = record {
   told = window;
+  kept = λ n keeps near. near;
   is = ap (λ (x : Reading). steps (reading m x window) more) (λ i. record { expected = r.expected; received = sym (append-nil r.received) i; next_data_sn = (let e : r.next_data_sn ≡ r.next_data_sn + 0 = omega arith in e) i });
 }
 parts_heard m t r window (part ∷ given) more short room few =
@@ -115,6 +119,7 @@ parts_heard m t r window (part ∷ given) more short room few =
     ∙ ap (λ (n : ℕ). quiet (reading m (record r { received = r.received ++ part.0; next_data_sn = n }) (told_window window t))) sn in
     record {
       told = h.told;
+      kept = λ n keeps near. h.kept n keeps (keeps window near);
       is = steps_quiet (reading m r window) (reading m r' (told_window window t)) (message (data_in_head t m.initiator_task_tag r.next_data_sn (length r.received) part.1) part.0)
           (data_ins t m.initiator_task_tag (r.next_data_sn + 1) (length r.received + length part.0) given ++ more) one refl
           ∙ ap (λ (n : ℕ). steps (reading m r' (told_window window t)) (data_ins t m.initiator_task_tag (r.next_data_sn + 1) n given ++ more)) (sym (length-append r.received part.0))
@@ -216,6 +221,7 @@ outcome_heard m t open_ received window status (Some sense) bytes (Over n) count
 -- what the target answers to a read
 record ReadHeard (m : initiator.Machine) (t : target.Machine) (r : Reading) (window : Window) (outcome : Outcome) : Type 0 where
   told : Window
+  kept : (n : ℕ) → ((w : Window) → IsNear n w → IsNear n (told_window w t)) → IsNear n window → IsNear n told
   is : steps (reading m r window) (command_answers t m.initiator_task_tag outcome (parts_given t.held outcome.bytes)) ≡ quiet (finished m t told outcome outcome.bytes)
 
 read_heard : (m : initiator.Machine) (t : target.Machine) (window : Window) (outcome : Outcome) (expected : ℕ) → t.held ≡ m.held → IsHeld m.held → m.exp_stat_sn ≡ Some t.stat_sn
@@ -235,6 +241,7 @@ read_heard m t window outcome expected held is_held stat_sn room small =
     let one = outcome_heard m t (opens.In r') r'.received h.told outcome.status outcome.sense outcome.bytes outcome.residual (length given) (λ h. refl) stat_sn (omega (arith, is_held.initiator_max_recv.0)) in
     record {
       told = h.told;
+      kept = h.kept;
       is = h.is ∙ steps_quiet (reading m r' h.told) (finished m t h.told outcome (bytes_of given)) last [] one refl
           ∙ ap (λ (x : List ℕ). quiet (finished m t h.told outcome x)) all;
     }
@@ -359,6 +366,8 @@ local_read m t disk lun cdb expected a e =
     let request : Request = requests.In lun cdb expected in
     let order : Order = reading_order lun cdb expected in
     let after : Effect = effect disk order [] in
+    let n : ℕ = next_sn m.cmd_sn in
+    let fits : n < 2 ^ 32 = mod-lt (m.cmd_sn + 1) (omega arith) in
     let few : expected ≤ 4194304 = few_expected m lun cdb expected a.initiator_phase e in
     let sent : submitted m request ≡ accepted m request = submitted_is m request e in
     let begun_ : initiator.Machine = record m { initiator_task_tag = next_tag m.initiator_task_tag; cmd_sn = next m.cmd_sn } in
@@ -392,13 +401,15 @@ local_read m t disk lun cdb expected a e =
               target_phase = refl;
               session = refl;
               none_open = refl;
+              none_done = refl;
               none_written = refl;
               held = a.held;
               is_held = a.is_held;
               segment = a.segment;
               tag_fits = tag_after m.initiator_task_tag a.tag_fits;
               cmd_sn = refl;
-              cmd_sn_fits = mod-lt (m.cmd_sn + 1) (omega arith);
+              cmd_sn_fits = fits;
+              window = tells_one n h.told fits (h.kept n (λ w near. subst (IsNear n) (sym (tells_one n w fits near)) (record { exp = inr refl; max = inr refl })) (near_one n m.cmd_sn m.window a.cmd_sn_fits refl a.window));
               stat_sn = refl;
               stat_sn_fits = mod-lt (t.stat_sn + 1) (omega arith);
             }));

@@ -1,24 +1,26 @@
 -- A write between two ends that are in step: its outcome is that of the disk.
-use Rattle.std.proofs.Common.{◌≡◌, ◌⊎◌, inl, inr, ◌<◌, ◌≤◌, ℕ, zero, suc, ◌+◌, ◌^◌, Bool, true, false, List, [], ◌∷◌, ◌++◌, length, take, drop, Option, Some, None, refl, sym, ap, ◌∙◌, subst, arith, append_assoc, ne_eqb}
 use Rattle.std.specs.Prelude.{◌-◌, ◌*◌, min, nat_le, nat_lt, ◌==◌, ◌&&◌, ◌||◌, not, if◌then◌else◌, is_some}
 use Rattle.std.specs.Bool.{then_some}
 use Rattle.std.specs.List.{flat_map, AllByRecursion}
+use Rattle.std.proofs.Common.{◌≡◌, ◌⊎◌, inl, inr, ◌<◌, ◌≤◌, ℕ, zero, suc, ◌+◌, ◌^◌, Bool, true, false, List, [], ◌∷◌, ◌++◌, length, take, drop, Option, Some, None, refl, sym, ap, ◌∙◌, subst, arith, append_assoc, ne_eqb}
 use Rattle.std.proofs.Math.Nat.{mod-lt}
 use Rattle.std.proofs.Math.Seq.{take-add}
 use Rattle.std.proofs.lemmas.Bool.{and_parts, eq-eqb, eqb-false, eqb-true, le-leb, le-ltb, lt-leb, lt-ltb, ltb-false, ltb-true}
 use Rattle.std.proofs.lemmas.List.{append-nil, length-append, length-take, length-drop, take-append-drop, take-take, take_all, take_min}
 use Rattle.std.proofs.lemmas.Grind.{flat_map-append}
+use Rattle.scsi_cdb.specs.declared.sense.Sense.{Sense}
 use Rattle.scsi_disk.specs.Disk.{Disk}
 use Rattle.scsi_disk.specs.Effect.{Effect, disk_by, effect, outcome_by, wanted_data}
 use Rattle.scsi_disk.specs.Plan.{expected_length, first_refusal, is_unknown, is_write, plan_by, plan_of, refusals, transfer, wanted_length}
 use Rattle.scsi_disk.specs.declared.order.Plan.{Plan}
 use Rattle.scsi_disk.specs.declared.order.Plan.TheVariants.{Refuse, Take, Give}
-use Rattle.scsi_disk.proofs.Planned.{all_false}
-use Rattle.scsi_cdb.specs.declared.sense.Sense.{Sense}
 use Rattle.scsi_disk.specs.declared.order.Order.{Order}
+use Rattle.scsi_disk.proofs.Planned.{all_false}
 use Rattle.iscsi_pdu.specs.declared.head.Head.TheVariants as heads
 use Rattle.iscsi_pdu.specs.declared.head.data_out.DataOut.{DataOut}
 use Rattle.iscsi_pdu.specs.declared.head.scsi_command.ScsiCommand.{ScsiCommand}
+use Rattle.iscsi_pdu.specs.declared.serial.Window.{Window}
+use Rattle.iscsi_pdu.specs.Fields.{is_tag}
 use Rattle.iscsi_stream.specs.Segment.{Bytes, segment_bytes}
 use Rattle.iscsi_stream.specs.Stream.{Message}
 use Rattle.iscsi_login.specs.declared.phase.Phase.{Phase}
@@ -28,8 +30,16 @@ use Rattle.iscsi_login.specs.Held.{Held, IsHeld, first_burst, held_value}
 use Rattle.iscsi_login.specs.declared.key.NegKey.TheVariants as keys
 use Rattle.iscsi_login.specs.declared.preferences.Answered.{Answered}
 use Rattle.iscsi_login.specs.declared.preferences.Answered.TheVariants.{Flag, Number, NoneItem, Reject}
-use Rattle.iscsi_pdu.specs.declared.serial.Window.{Window}
-use Rattle.iscsi_pdu.specs.Fields.{is_tag}
+use Rattle.iscsi_target.specs.declared.due.Due.{Due}
+use Rattle.iscsi_target.specs.declared.due.Due.TheVariants.{Nothing, Unsolicited, Solicited}
+use Rattle.iscsi_target.specs.State as target
+use Rattle.iscsi_target.specs.State.{Pieces, Stepped, Write, data_of, message, next_sn, nothing, on, reserved_tag}
+use Rattle.iscsi_target.specs.Transfer.{asking, continued, desired, is_idle, is_in_sequence, is_whole, max_burst, received, with_data, with_piece}
+use Rattle.iscsi_target.specs.Execution.{command_answers, execute, parts_given, response_head, sense_segment}
+use Rattle.iscsi_target.specs.Command.{ask, breaks_burst_rules, flag_of, is_bad_announcement, is_bad_segment, is_on, opened, planned, proceed, r2t_head, unasked}
+use Rattle.iscsi_target.specs.Machine.{accepting, answers, step_on, then_stepped}
+use Rattle.iscsi_target.proofs.Continuing.{then_nothing}
+use Rattle.iscsi_target.proofs.Reached.{can_give}
 use Rattle.iscsi_initiator.specs.declared.open.Open.{Open}
 use Rattle.iscsi_initiator.specs.declared.open.Open.TheVariants as opens
 use Rattle.iscsi_initiator.specs.declared.request.Done.TheVariants as done
@@ -44,17 +54,8 @@ use Rattle.iscsi_initiator.specs.Submitted.{Submitted, accepted, burst, command,
 use Rattle.iscsi_initiator.specs.declared.request.Request.{Request}
 use Rattle.iscsi_initiator.specs.declared.request.Request.TheVariants as requests
 use Rattle.iscsi_initiator.specs.Machine.{step, steps, taken, then_steps}
-use Rattle.iscsi_target.specs.declared.due.Due.{Due}
-use Rattle.iscsi_target.specs.declared.due.Due.TheVariants.{Nothing, Unsolicited, Solicited}
-use Rattle.iscsi_target.specs.State as target
-use Rattle.iscsi_target.specs.State.{Pieces, Stepped, Write, data_of, message, next_sn, nothing, on, reserved_tag}
-use Rattle.iscsi_target.specs.Transfer.{asking, continued, desired, is_idle, is_in_sequence, is_whole, max_burst, received, with_data, with_piece}
-use Rattle.iscsi_target.specs.Execution.{command_answers, execute, parts_given, response_head, sense_segment}
-use Rattle.iscsi_target.specs.Command.{ask, breaks_burst_rules, flag_of, is_bad_announcement, is_bad_segment, is_on, opened, planned, proceed, r2t_head, unasked}
-use Rattle.iscsi_target.specs.Machine.{accepting, answers, step_on, then_stepped}
-use Rattle.iscsi_target.proofs.Continuing.{then_nothing}
-use Rattle.iscsi_target.proofs.Reached.{can_give}
-use Rattle.iscsi_pair.specs.LocalDisk.{AreInStep, Ends, HasEnded, Talk, after_turns, handed_in, told, told_sense, turned, writing_order}
+use Rattle.iscsi_pair.specs.LocalDisk.{AreInStep, Ends, HasEnded, Talk, after_turns, handed_in, told, told_sense, turned, window_of_one, writing_order}
+use Rattle.iscsi_pair.proofs.Windows.{IsNear, near_one, tells_none, tells_one}
 use Rattle.iscsi_pair.proofs.LocalReads.{Awaits, finished, next_small, not_long, outcome_heard, ready, steps_quiet, submitted_is, tag_after, told_window, unrefused, waiting, window_now}
 
 -- ---- a Data-Out
@@ -278,10 +279,10 @@ received_is m v w order i = omega (arith, ap (λ (x : List ℕ). length x) i.cam
 
 -- the response to a command that gives no data
 response_ends : (m : initiator.Machine) (t : target.Machine) (cmd_sn : ℕ) (open_ : Open) (window : Window) (bytes : List ℕ) (order : Order) (disk : Disk) (tag : ℕ) (pieces_ : Pieces)
-    → Throughout m t cmd_sn bytes order disk → Awaits open_ [] → tag ≡ m.initiator_task_tag → effect disk order (data_of pieces_) ≡ effect disk order bytes
+    → Throughout m t cmd_sn bytes order disk → IsNear cmd_sn window → Awaits open_ [] → tag ≡ m.initiator_task_tag → effect disk order (data_of pieces_) ≡ effect disk order bytes
     → Ends m.held (heard (waiting m open_ window) (execute effect (ready t cmd_sn) disk tag order pieces_)) (told (effect disk order bytes).outcome) (effect disk order bytes).disk
 unfolding steps
-response_ends m t cmd_sn open_ window bytes order disk tag pieces_ a d same data_ =
+response_ends m t cmd_sn open_ window bytes order disk tag pieces_ a near d same data_ =
     let after : Effect = effect disk order bytes in
     let s : target.Machine = ready t cmd_sn in
     let last : Message = message (response_head s m.initiator_task_tag after.outcome 0) (sense_segment after.outcome.sense) in
@@ -304,6 +305,7 @@ response_ends m t cmd_sn open_ window bytes order disk tag pieces_ a d same data
           target_phase = refl;
           session = refl;
           none_open = refl;
+          none_done = refl;
           none_written = refl;
           held = a.held;
           is_held = a.is_held;
@@ -311,6 +313,7 @@ response_ends m t cmd_sn open_ window bytes order disk tag pieces_ a d same data
           tag_fits = a.tag_fits;
           cmd_sn = a.cmd_sn_is;
           cmd_sn_fits = a.cmd_sn_fits;
+          window = tells_one cmd_sn window (subst (λ (x : ℕ). x < 2 ^ 32) (sym a.cmd_sn_is) a.cmd_sn_fits) near ∙ ap window_of_one a.cmd_sn_is;
           stat_sn = refl;
           stat_sn_fits = mod-lt (t.stat_sn + 1) (omega arith);
         });
@@ -322,15 +325,15 @@ abbrev GoesOn : initiator.Machine → target.Machine → ℕ → Writing → Wri
 GoesOn m t cmd_sn v w window order disk =
     Ends m.held (heard (writing m v window) (proceed effect (ready t cmd_sn) disk w)) (told (effect disk order v.bytes).outcome) (effect disk order v.bytes).disk
 
-all_came : (m : initiator.Machine) (t : target.Machine) (cmd_sn : ℕ) (v : Writing) (w : Write) (window : Window) (order : Order) (disk : Disk) → Throughout m t cmd_sn v.bytes order disk → InHand m v w order
+all_came : (m : initiator.Machine) (t : target.Machine) (cmd_sn : ℕ) (v : Writing) (w : Write) (window : Window) (order : Order) (disk : Disk) → Throughout m t cmd_sn v.bytes order disk → IsNear cmd_sn window → InHand m v w order
     → is_whole w ≡ true → GoesOn m t cmd_sn v w window order disk
-all_came m t cmd_sn v w window order disk a i whole =
+all_came m t cmd_sn v w window order disk a near i whole =
     let all : v.sent ≡ length v.bytes = sym (received_is m v w order i) ∙ sym (eqb-true w.total (received w) whole) ∙ i.total in
     let bytes : data_of w.pieces ≡ v.bytes = i.came ∙ take_all v.sent v.bytes (omega (arith, all)) in
     let is : proceed effect (ready t cmd_sn) disk w ≡ execute effect (ready t cmd_sn) disk w.initiator_task_tag order w.pieces =
     rw whole (ap (λ (x : Order). execute effect (ready t cmd_sn) disk w.initiator_task_tag x w.pieces) i.order_is) in
     subst (λ (r : Stepped). Ends m.held (heard (writing m v window) r) (told (effect disk order v.bytes).outcome) (effect disk order v.bytes).disk) (sym is)
-    (response_ends m t cmd_sn (opens.Out v) window v.bytes order disk w.initiator_task_tag w.pieces a (λ h. refl) i.tag (ap (effect disk order) bytes))
+    (response_ends m t cmd_sn (opens.Out v) window v.bytes order disk w.initiator_task_tag w.pieces a near (λ h. refl) i.tag (ap (effect disk order) bytes))
 
 -- what isn't equal and not more is less
 below : (n total : ℕ) (part : (total == n) ≡ false) → n ≤ total → n < total
@@ -349,6 +352,7 @@ more_came t w came = record (asking t.held w) { pieces = came; due = Nothing }
 -- where one turn leads
 record Turned (m : initiator.Machine) (t : target.Machine) (cmd_sn : ℕ) (v : Writing) (w : Write) (window : Window) (order : Order) (disk : Disk) : Type 0 where
   window_now : Window
+  near : IsNear cmd_sn window → IsNear cmd_sn window_now
   came : Pieces
   n : ℕ
   some : 0 < n
@@ -390,6 +394,7 @@ turn m t cmd_sn v w window order disk a i part =
     ap (λ (k : Held). answers (writer t cmd_sn (asking t.held w)) disk (data_outs h (pieces k.target_max_recv batch))) (sym a.held) ∙ r.is in
     record {
       window_now = told_window window s;
+      near = tells_none cmd_sn window (subst (λ (x : ℕ). x < 2 ^ 32) (sym a.cmd_sn_is) a.cmd_sn_fits);
       came = r.came;
       n = n;
       some = some;
@@ -409,16 +414,16 @@ turn m t cmd_sn v w window order disk a i part =
     }
 
 -- from turn to turn until all came
-goes_on : (fuel : ℕ) (m : initiator.Machine) (t : target.Machine) (cmd_sn : ℕ) (v : Writing) (w : Write) (window : Window) (order : Order) (disk : Disk) → Throughout m t cmd_sn v.bytes order disk → InHand m v w order
+goes_on : (fuel : ℕ) (m : initiator.Machine) (t : target.Machine) (cmd_sn : ℕ) (v : Writing) (w : Write) (window : Window) (order : Order) (disk : Disk) → Throughout m t cmd_sn v.bytes order disk → IsNear cmd_sn window → InHand m v w order
     → length v.bytes ≤ v.sent + fuel → (whole : Bool) → is_whole w ≡ whole → GoesOn m t cmd_sn v w window order disk
-goes_on fuel m t cmd_sn v w window order disk a i le true whole = all_came m t cmd_sn v w window order disk a i whole
-goes_on zero m t cmd_sn v w window order disk a i le false part =
+goes_on fuel m t cmd_sn v w window order disk a near i le true whole = all_came m t cmd_sn v w window order disk a near i whole
+goes_on zero m t cmd_sn v w window order disk a near i le false part =
     absurd (eqb-false w.total (received w) part (omega (arith, i.total, received_is m v w order i, i.sent, le)))
-goes_on (suc fuel) m t cmd_sn v w window order disk a i le false part =
+goes_on (suc fuel) m t cmd_sn v w window order disk a near i le false part =
     let x : Turned m t cmd_sn v w window order disk = turn m t cmd_sn v w window order disk a i part in
     let w' : Write = more_came t w x.came in
     let e : Ends m.held (heard (writing m (more_sent v x.n) x.window_now) (proceed effect (ready t cmd_sn) disk w')) (told (effect disk order v.bytes).outcome) (effect disk order v.bytes).disk =
-    goes_on fuel m t cmd_sn (more_sent v x.n) w' x.window_now order disk a x.hand (omega (arith, le, x.some)) (is_whole w') refl in
+    goes_on fuel m t cmd_sn (more_sent v x.n) w' x.window_now order disk a (x.near near) x.hand (omega (arith, le, x.some)) (is_whole w') refl in
     record {
       turns = suc e.turns;
       ended = subst (λ (y : Talk). HasEnded m.held (after_turns e.turns y) (told (effect disk order v.bytes).outcome) (effect disk order v.bytes).disk) (sym x.is) e.ended;
@@ -560,10 +565,10 @@ same_effect (Refuse sense) disk order bytes none = refl
 
 -- a command that takes no data: what follows it is dropped
 executed_alone : (m : initiator.Machine) (t : target.Machine) (disk : Disk) (lun : ℕ) (cdb bytes : List ℕ) (window : Window)
-    → Throughout (begun_write m) t (next_sn m.cmd_sn) bytes (writing_order lun cdb bytes) disk → ((n : ℕ) → plan_of (writing_order lun cdb bytes) disk.count ≡ Take n → ⊥)
+    → Throughout (begun_write m) t (next_sn m.cmd_sn) bytes (writing_order lun cdb bytes) disk → IsNear (next_sn m.cmd_sn) window → ((n : ℕ) → plan_of (writing_order lun cdb bytes) disk.count ≡ Take n → ⊥)
     → (let r = execute effect (ready t (next_sn m.cmd_sn)) disk (next_tag m.initiator_task_tag) (writing_order lun cdb bytes) [] in let after : Effect = effect disk (writing_order lun cdb bytes) bytes in
     Ends m.held (heard (writing (begun_write m) (first_sent m bytes) window) (then_stepped r (answers r.machine r.disk (unasked_data m bytes)))) (told after.outcome) after.disk)
-executed_alone m t disk lun cdb bytes window a none =
+executed_alone m t disk lun cdb bytes window a near none =
     let order : Order = writing_order lun cdb bytes in
     let n : ℕ = next_sn m.cmd_sn in
     let r : Stepped = execute effect (ready t n) disk (next_tag m.initiator_task_tag) order [] in
@@ -586,7 +591,7 @@ executed_alone m t disk lun cdb bytes window a none =
     let same : effect disk order [] ≡ after = λ i_. record { disk = same_effect (plan_of order disk.count) disk order bytes none i_; outcome = after.outcome } in
     subst (λ (x : Stepped). Ends m.held (heard i (then_stepped r x)) (told after.outcome) after.disk) (sym gone)
     (subst (λ (x : List Message). Ends m.held (heard i (record r { answers = x })) (told after.outcome) after.disk) (sym (append-nil r.answers))
-    (response_ends (begun_write m) t n (opens.Out (first_sent m bytes)) window bytes order disk (next_tag m.initiator_task_tag) [] a (λ h_. refl) refl same))
+    (response_ends (begun_write m) t n (opens.Out (first_sent m bytes)) window bytes order disk (next_tag m.initiator_task_tag) [] a near (λ h_. refl) refl same))
 
 -- ---- a write whose bytes are taken
 
@@ -604,12 +609,12 @@ first_write m lun cdb bytes total = opened (write_head m lun cdb bytes) total (i
 
 -- all first data are in the command
 none_unasked : (m : initiator.Machine) (t : target.Machine) (disk : Disk) (lun : ℕ) (cdb bytes : List ℕ) (window : Window) (total : ℕ)
-    → Throughout (begun_write m) t (next_sn m.cmd_sn) bytes (writing_order lun cdb bytes) disk → total ≡ length bytes → has_more m bytes ≡ false
+    → Throughout (begun_write m) t (next_sn m.cmd_sn) bytes (writing_order lun cdb bytes) disk → IsNear (next_sn m.cmd_sn) window → total ≡ length bytes → has_more m bytes ≡ false
     → Ends m.held (heard (writing (begun_write m) (first_sent m bytes) window)
     (let r = proceed effect (ready t (next_sn m.cmd_sn)) disk (first_write m lun cdb bytes total) in then_stepped r (answers r.machine r.disk (unasked_data m bytes))))
     (told (effect disk (writing_order lun cdb bytes) bytes).outcome) (effect disk (writing_order lun cdb bytes) bytes).disk
 unfolding answers
-none_unasked m t disk lun cdb bytes window total a all none =
+none_unasked m t disk lun cdb bytes window total a near all none =
     let order : Order = writing_order lun cdb bytes in
     let n : ℕ = next_sn m.cmd_sn in
     let w : Write = first_write m lun cdb bytes total in
@@ -632,15 +637,15 @@ none_unasked m t disk lun cdb bytes window total a all none =
     let r : Stepped = proceed effect (ready t n) disk w in
     subst (λ (ms : List Message). Ends m.held (heard (writing (begun_write m) v window) (then_stepped r (answers r.machine r.disk ms))) (told (effect disk order bytes).outcome) (effect disk order bytes).disk) (sym silent)
     (subst (λ (x : Stepped). Ends m.held (heard (writing (begun_write m) v window) x) (told (effect disk order bytes).outcome) (effect disk order bytes).disk) (sym (then_nothing r))
-    (goes_on (length bytes) (begun_write m) t n v w window order disk a i (omega arith) (is_whole w) refl))
+    (goes_on (length bytes) (begun_write m) t n v w window order disk a near i (omega arith) (is_whole w) refl))
 
 -- more first data follow the command
 some_unasked : (m : initiator.Machine) (t : target.Machine) (disk : Disk) (lun : ℕ) (cdb bytes : List ℕ) (window : Window) (total : ℕ)
-    → Throughout (begun_write m) t (next_sn m.cmd_sn) bytes (writing_order lun cdb bytes) disk → total ≡ length bytes → has_more m bytes ≡ true
+    → Throughout (begun_write m) t (next_sn m.cmd_sn) bytes (writing_order lun cdb bytes) disk → IsNear (next_sn m.cmd_sn) window → total ≡ length bytes → has_more m bytes ≡ true
     → Ends m.held (heard (writing (begun_write m) (first_sent m bytes) window)
     (let r = proceed effect (ready t (next_sn m.cmd_sn)) disk (first_write m lun cdb bytes total) in then_stepped r (answers r.machine r.disk (unasked_data m bytes))))
     (told (effect disk (writing_order lun cdb bytes) bytes).outcome) (effect disk (writing_order lun cdb bytes) bytes).disk
-some_unasked m t disk lun cdb bytes window total a all more =
+some_unasked m t disk lun cdb bytes window total a near all more =
     let order : Order = writing_order lun cdb bytes in
     let n : ℕ = next_sn m.cmd_sn in
     let w : Write = first_write m lun cdb bytes total in
@@ -690,21 +695,21 @@ some_unasked m t disk lun cdb bytes window total a all more =
     let is : (let x = proceed effect (ready t n) disk w in then_stepped x (answers x.machine x.disk (unasked_data m bytes))) ≡ proceed effect (ready t n) disk w' =
     ap (λ (x : Stepped). then_stepped x (answers x.machine x.disk (unasked_data m bytes))) first ∙ ap (answers (writer t n w) disk) data_ ∙ r.is in
     subst (λ (x : Stepped). Ends m.held (heard (writing (begun_write m) v window) x) (told (effect disk order bytes).outcome) (effect disk order bytes).disk) (sym is)
-    (goes_on (length bytes) (begun_write m) t n v w' window order disk a i (omega arith) (is_whole w') refl)
+    (goes_on (length bytes) (begun_write m) t n v w' window order disk a near i (omega arith) (is_whole w') refl)
 
 -- ---- the whole of a write
 
 by_plan : (p : Plan) (m : initiator.Machine) (t : target.Machine) (disk : Disk) (lun : ℕ) (cdb bytes : List ℕ) (window : Window) → plan_of (writing_order lun cdb bytes) disk.count ≡ p
-    → Throughout (begun_write m) t (next_sn m.cmd_sn) bytes (writing_order lun cdb bytes) disk → (more : Bool) → has_more m bytes ≡ more
+    → Throughout (begun_write m) t (next_sn m.cmd_sn) bytes (writing_order lun cdb bytes) disk → IsNear (next_sn m.cmd_sn) window → (more : Bool) → has_more m bytes ≡ more
     → Ends m.held (heard (writing (begun_write m) (first_sent m bytes) window) (first_answers m t disk lun cdb bytes p)) (told (effect disk (writing_order lun cdb bytes) bytes).outcome) (effect disk (writing_order lun cdb bytes) bytes).disk
-by_plan (Take total) m t disk lun cdb bytes window is a true more =
-    some_unasked m t disk lun cdb bytes window total a (takes_all (first_refusal (writing_order lun cdb bytes) disk.count) (writing_order lun cdb bytes) disk.count total refl is) more
-by_plan (Take total) m t disk lun cdb bytes window is a false none =
-    none_unasked m t disk lun cdb bytes window total a (takes_all (first_refusal (writing_order lun cdb bytes) disk.count) (writing_order lun cdb bytes) disk.count total refl is) none
-by_plan (Give n) m t disk lun cdb bytes window is a more e =
-    executed_alone m t disk lun cdb bytes window a (λ k f. (let bad : Give n ≡ Take k = sym is ∙ f in absurd cc))
-by_plan (Refuse sense) m t disk lun cdb bytes window is a more e =
-    executed_alone m t disk lun cdb bytes window a (λ k f. (let bad : Refuse sense ≡ Take k = sym is ∙ f in absurd cc))
+by_plan (Take total) m t disk lun cdb bytes window is a near true more =
+    some_unasked m t disk lun cdb bytes window total a near (takes_all (first_refusal (writing_order lun cdb bytes) disk.count) (writing_order lun cdb bytes) disk.count total refl is) more
+by_plan (Take total) m t disk lun cdb bytes window is a near false none =
+    none_unasked m t disk lun cdb bytes window total a near (takes_all (first_refusal (writing_order lun cdb bytes) disk.count) (writing_order lun cdb bytes) disk.count total refl is) none
+by_plan (Give n) m t disk lun cdb bytes window is a near more e =
+    executed_alone m t disk lun cdb bytes window a near (λ k f. (let bad : Give n ≡ Take k = sym is ∙ f in absurd cc))
+by_plan (Refuse sense) m t disk lun cdb bytes window is a near more e =
+    executed_alone m t disk lun cdb bytes window a near (λ k f. (let bad : Refuse sense ≡ Take k = sym is ∙ f in absurd cc))
 
 few_bytes : (m : initiator.Machine) (lun : ℕ) (cdb bytes : List ℕ) → m.phase ≡ phases.Full → (submitted m (requests.Out lun cdb bytes)).refusal ≡ None → length bytes ≤ 4194304
 unfolding submitted
@@ -746,7 +751,8 @@ local_write m t disk lun cdb bytes a e =
       few = few_bytes m lun cdb bytes a.initiator_phase e;
       none_given = outcome_none p disk order (λ n. gives_none (first_refusal order disk.count) lun cdb bytes disk.count n refl);
     } in
-    let x : Ends m.held (heard i (first_answers m t disk lun cdb bytes p)) (told after.outcome) after.disk = by_plan p m t disk lun cdb bytes m.window refl all (has_more m bytes) refl in
+    let x : Ends m.held (heard i (first_answers m t disk lun cdb bytes p)) (told after.outcome) after.disk =
+    by_plan p m t disk lun cdb bytes m.window refl all (near_one (next_sn m.cmd_sn) m.cmd_sn m.window a.cmd_sn_fits refl a.window) (has_more m bytes) refl in
     let command_ : Stepped = accepting (write_message m lun cdb bytes) (planned effect (ready t (next_sn m.cmd_sn)) disk (write_head m lun cdb bytes) (immediate m bytes) p) in
     let is : turned (handed_in m t disk request) ≡ heard i (first_answers m t disk lun cdb bytes p) =
     ap (λ (s : Submitted). heard s.machine (answers t disk s.output)) sent

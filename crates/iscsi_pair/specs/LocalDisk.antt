@@ -7,10 +7,13 @@ use Rattle.scsi_disk.specs.Disk.{Disk}
 use Rattle.scsi_disk.specs.Effect.{Effect, effect}
 use Rattle.scsi_disk.specs.declared.order.Order.{Order}
 use Rattle.scsi_disk.specs.declared.order.Outcome.{Outcome}
+use Rattle.iscsi_pdu.specs.declared.serial.Window.{Window}
 use Rattle.iscsi_stream.specs.Stream.{Message}
 use Rattle.iscsi_login.specs.declared.phase.Phase.TheVariants as phases
 use Rattle.iscsi_login.specs.declared.stage.Session.TheVariants as sessions
 use Rattle.iscsi_login.specs.Held.{Held, IsHeld}
+use Rattle.iscsi_target.specs.State as target
+use Rattle.iscsi_target.specs.Machine.{answers}
 use Rattle.iscsi_initiator.specs.declared.request.Done.{Done}
 use Rattle.iscsi_initiator.specs.declared.request.Done.TheVariants as done
 use Rattle.iscsi_initiator.specs.Block.{record_of}
@@ -18,9 +21,7 @@ use Rattle.iscsi_initiator.specs.declared.request.Request.{Request}
 use Rattle.iscsi_initiator.specs.declared.request.Request.TheVariants as requests
 use Rattle.iscsi_initiator.specs.State as initiator
 use Rattle.iscsi_initiator.specs.Machine.{steps, taken}
-use Rattle.iscsi_initiator.specs.Submitted.{submitted}
-use Rattle.iscsi_target.specs.State as target
-use Rattle.iscsi_target.specs.Machine.{answers}
+use Rattle.iscsi_initiator.specs.Submitted.{is_too_long, submitted}
 
 -- What a request that may read orders of a disk (section 11.3).
 abbrev pub reading_order : ℕ → List ℕ → ℕ → Order
@@ -94,6 +95,10 @@ local_disk most disk (request ∷ more) = local_disk most (local most disk reque
 
 -- ---- two ends that are in step
 
+-- The window that lets in one command, of this number (section 4.2.2.1).
+abbrev pub window_of_one : ℕ → Window
+window_of_one cmd_sn = record { exp = initiator.serial cmd_sn; max = initiator.serial cmd_sn }
+
 -- Both ends are in full feature phase of a normal session, hold the same, wait for the same numbers,
 -- and have nothing open (sections 4.2 and 6.3).
 pub record AreInStep (m : initiator.Machine) (t : target.Machine) : Type 0 where
@@ -101,6 +106,7 @@ pub record AreInStep (m : initiator.Machine) (t : target.Machine) : Type 0 where
   pub target_phase : t.phase ≡ phases.Full
   pub session : t.session ≡ sessions.Normal
   pub none_open : m.open_request ≡ None
+  pub none_done : m.done ≡ None
   pub none_written : t.write ≡ None
   pub held : t.held ≡ m.held
   pub is_held : IsHeld m.held
@@ -109,6 +115,8 @@ pub record AreInStep (m : initiator.Machine) (t : target.Machine) : Type 0 where
   pub tag_fits : m.initiator_task_tag ≤ 0xffff_fffe
   pub cmd_sn : t.exp_cmd_sn ≡ m.cmd_sn
   pub cmd_sn_fits : m.cmd_sn < 2 ^ 32
+  -- the target takes one command, of that number
+  pub window : m.window ≡ window_of_one m.cmd_sn
   pub stat_sn : m.exp_stat_sn ≡ Some t.stat_sn
   pub stat_sn_fits : t.stat_sn < 2 ^ 32
 
@@ -170,15 +178,16 @@ pub record HasLoggedOut (x : Talk) (disk_now : Disk) : Type 0 where
   pub initiator_phase : x.initiator.phase ≡ phases.Closed
   pub target_phase : x.target.phase ≡ phases.Closed
 
--- Requests, one after another: each is handed in once the outcome of the last was taken. While they
--- are accepted these are their outcomes, and after all of them the disk is this one (section 4.2; own
--- rule).
+-- Requests, one after another: each is handed in once the outcome of the last was taken. While none
+-- is too long each is accepted, these are their outcomes, and after all of them the disk is this one
+-- (section 4.2; own rule).
 unfoldable pub Converse : initiator.Machine → target.Machine → Disk → List Request → List Done
     → Disk → Type 0
 Converse m t disk [] outcomes disk_now = (outcomes ≡ []) × (disk_now ≡ disk)
 Converse m t disk (request ∷ more) outcomes disk_now =
-    (submitted m request).refusal ≡ None
+    is_too_long m request ≡ false
     → (x : Talk) × (turns : ℕ) × (outcome : Done) × (later : List Done)
+    × ((submitted m request).refusal ≡ None)
     × (x ≡ after_turns turns (handed_in m t disk request)) × (x.to_target ≡ [])
     × (x.initiator.done ≡ Some outcome) × (outcomes ≡ outcome ∷ later)
     × Converse (taken x.initiator) x.target x.disk more later disk_now

@@ -12,7 +12,7 @@ ghost use Rattle.iscsi_target.specs.State as target;
 ghost use Rattle.iscsi_initiator.specs.declared.request.Request.{Request};
 ghost use Rattle.iscsi_initiator.specs.declared.request.Request.TheVariants as requests;
 ghost use Rattle.iscsi_initiator.specs.State as initiator;
-ghost use Rattle.iscsi_initiator.specs.Submitted.{submitted};
+ghost use Rattle.iscsi_initiator.specs.Submitted.{is_too_long, submitted};
 ghost use Rattle.iscsi_pair.specs.LocalDisk.{AreInStep, Converse, Ends, HasLoggedOut, IsOfDisk, handed_in, local, local_disk, local_outcomes, turned};
 ghost use Rattle.iscsi_pair.specs.World.{Event, IsOpening, LooksAlike, Opening, Reached, RunsCalmly, RunsInTime, Suits, World, keeps_no_memory, new_pair};
 ghost use Rattle.iscsi_pair.specs.Traffic.{Traffic, Traces, first_traffic, TargetStands, InitiatorStands};
@@ -99,6 +99,9 @@ pub fn one_request()
         → IsOfDisk request → AreInStep m t → (submitted m request).refusal ≡ None
         → let here = local m.held.initiator_max_recv disk request in
         Ends m.held (handed_in m t disk request) here.outcome here.disk }
+    // Each is accepted that isn't too long.
+    ensures accepted { (m : initiator.Machine) (t : target.Machine) (request : Request)
+        → AreInStep m t → is_too_long m request ≡ false → (submitted m request).refusal ≡ None }
     // A logout ends both sessions without a fault.
     ensures logout { (m : initiator.Machine) (t : target.Machine) (disk : Disk) → AreInStep m t
         → (submitted m requests.Logout).refusal ≡ None
