@@ -1,8 +1,11 @@
 -- The steps of a loop: what they write, and what happens to the initiator (own rule).
 use Rattle.std.specs.Prelude.{◌≡◌, List, [], ℕ, Option}
 use Rattle.std.specs.Io.KnownBytes.{Appends}
+use Rattle.iscsi_initiator.specs.declared.fault.InitiatorFault.TheVariants as initiator
 use Rattle.iscsi_initiator.specs.declared.request.Done.{Done}
 use Rattle.iscsi_initiator.specs.declared.request.Request.{Request}
+use Rattle.iscsi_initiator.specs.declared.request.SubmitFault.{SubmitFault}
+use Rattle.iscsi_initiator.specs.declared.request.SubmitFault.TheVariants as refusals
 use Rattle.iscsi_initiator.specs.State.{Machine}
 use Rattle.iscsi_initiator.specs.Laws.{Event, run, accepted, given}
 use Rattle.iscsi_service.specs.declared.command.Command.{Command}
@@ -19,6 +22,12 @@ IsOfSession (serve.Initiator fault) = Unit {0}
 IsOfSession (serve.Script n) = ⊥
 IsOfSession serve.Read = ⊥
 IsOfSession serve.Write = ⊥
+
+-- A request that is refused counts as handed to a closed session, but where memory ran out (own
+-- rule).
+abbrev pub refusal_fault : SubmitFault → ServeFault
+refusal_fault refusals.NoMemory = serve.NoMemory
+refusal_fault _ = serve.Initiator initiator.Closed
 
 -- A session's fault comes before anything is written, and a failed write may have written something
 -- (own rule).

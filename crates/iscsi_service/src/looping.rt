@@ -4,11 +4,13 @@ ghost use Rattle.std.specs.Prelude.{◌≡◌, ◌<◌, ◌≤◌, ◌∷◌, []
 ghost use Rattle.std.specs.Io.KnownBytes.{Appends, Consumes};
 ghost use Rattle.iscsi_initiator.specs.State.{opening};
 ghost use Rattle.iscsi_initiator.specs.Calls.{opening_connection};
+ghost use Rattle.iscsi_initiator.specs.declared.fault.InitiatorFault.TheVariants as faults;
 ghost use Rattle.iscsi_initiator.specs.declared.request.Done.{Done};
+ghost use Rattle.iscsi_service.specs.declared.serve_fault.ServeFault.TheVariants as serve;
 ghost use Rattle.iscsi_service.specs.Reports.{report};
 ghost use Rattle.iscsi_service.specs.Commands.{request_of};
 ghost use Rattle.iscsi_service.specs.Looping.{initiator_settings, Loops};
-ghost use Rattle.iscsi_service.specs.LoopSteps.{Continues, IsOfSession, Runs, Stops, WritesNothing};
+ghost use Rattle.iscsi_service.specs.LoopSteps.{Continues, IsOfSession, Runs, Stops, WritesNothing, refusal_fault};
 
 use crate::command::Command;
 use crate::report::report;
@@ -268,7 +270,7 @@ impl Ends {
 
 // The fault of a request that is refused.
 fn refusal(fault: SubmitFault) -> ServeFault
-    ensures { IsOfSession result }
+    ensures { result ≡ refusal_fault fault }
 {
     match fault {
         SubmitFault::NoMemory => ServeFault::NoMemory,
@@ -278,7 +280,7 @@ fn refusal(fault: SubmitFault) -> ServeFault
 
 // The fault of a session that takes no request, or ends without an outcome.
 fn no_outcome() -> ServeFault
-    ensures { IsOfSession result }
+    ensures { result ≡ serve.Initiator faults.Closed }
 {
     ServeFault::Initiator(InitiatorFault::Closed)
 }
