@@ -15,7 +15,7 @@ joined (piece ∷ more) = piece ++ joined more
 pub shorter : (n k : ℕ) (x : ℕ) (xs : List ℕ) → 0 < n → length (x ∷ xs) ≤ suc k → length (drop n (x ∷ xs)) ≤ k
 shorter n k x xs some le = rw (length-drop n (x ∷ xs)) (omega arith)
 
-joined_pieces : (k n : ℕ) (bytes : List ℕ) → 0 < n → length bytes ≤ k → joined (pieces_of k n bytes) ≡ bytes
+pub joined_pieces : (k n : ℕ) (bytes : List ℕ) → 0 < n → length bytes ≤ k → joined (pieces_of k n bytes) ≡ bytes
 joined_pieces zero n [] some le = refl
 joined_pieces zero n (x ∷ xs) some le = absurd (omega arith)
 joined_pieces (suc k) n [] some le = refl

@@ -110,6 +110,11 @@ pub record Same (t : target.Stepped) (i : initiator.Machine) : Type 0 where
   pub stage : t.machine.stage ≡ stages.Full
   pub held : t.machine.held ≡ i.held
 
+-- no bytes are read as no messages
+pub nothing_read : (limit : ℕ) (logins : Logins) (given : List ℕ) → ReadsAs limit logins given [] → given ≡ []
+unfolding ReadsAs
+nothing_read limit logins given e = e
+
 pub not_empty : (limit : ℕ) (back : Logins) (given y : List ℕ) (a : Message) (ms : List Message) → ReadsAs limit back given (a ∷ ms) → given ++ y ≡ [] → ⊥
 unfolding ReadsAs
 not_empty limit back given y a ms p e =

@@ -1,6 +1,6 @@
 -- An end keeps that memory ran out, so a run that ends without was calm throughout.
 use Rattle.std.proofs.Common.{◌≡◌, ℕ, Bool, true, false, List, [], ◌∷◌, take, Option, Some, None, refl, sym, ap, ◌∙◌}
-use Rattle.std.specs.Prelude.{◌||◌}
+use Rattle.std.proofs.lemmas.Bool.{or_from, or_parts}
 use Rattle.iscsi_target.specs.declared.fault.TargetFault.{TargetFault}
 use Rattle.iscsi_initiator.specs.declared.request.Request.{Request}
 use Rattle.iscsi_pair.specs.declared.step.EndFault.{EndFault}
@@ -48,18 +48,10 @@ was_not : (a b : Bool) → (a ≡ true → b ≡ true) → b ≡ false → a ≡
 was_not true b s e = absurd (let bad : true ≡ false = sym (s refl) ∙ e in cc)
 was_not false b s e = refl
 
-pub or_none : (a b : Bool) → (a || b) ≡ false → (a ≡ false) × (b ≡ false)
-or_none true b e = absurd (cc e)
-or_none false b e = (refl, e)
-
-none_or : (a b : Bool) → a ≡ false → b ≡ false → (a || b) ≡ false
-none_or true b e f = absurd (cc e)
-none_or false b e f = f
-
 calm_before : (old new : World) → Stay old new → keeps_no_memory new ≡ false → keeps_no_memory old ≡ false
 calm_before old new s e =
-    let n = or_none (target_ran_out new.target_fault) (initiator_ran_out new.initiator_fault) e in
-    none_or (target_ran_out old.target_fault) (initiator_ran_out old.initiator_fault)
+    let n = or_parts (target_ran_out new.target_fault) (initiator_ran_out new.initiator_fault) e in
+    or_from (target_ran_out old.target_fault) (initiator_ran_out old.initiator_fault)
     (was_not (target_ran_out old.target_fault) (target_ran_out new.target_fault) s.target n.0)
     (was_not (initiator_ran_out old.initiator_fault) (initiator_ran_out new.initiator_fault) s.initiator n.1)
 

@@ -24,7 +24,7 @@ use Rattle.iscsi_pair.proofs.Front.{Readable, IsFirst, first_is}
 use Rattle.iscsi_pair.proofs.Talk.{Asking, Round, asking_readable, asking_short, round}
 use Rattle.iscsi_pair.proofs.Going.{Suited, Well, goes_well}
 use Rattle.iscsi_pair.proofs.TargetStays.{held_stays as target_stays, Keeps, IsLater}
-use Rattle.iscsi_pair.proofs.Agreeing.{IsReached, reached_more, refused, not_empty, full_stays}
+use Rattle.iscsi_pair.proofs.Agreeing.{IsReached, reached_more, refused, nothing_read, not_empty, full_stays}
 
 -- a message stands at the front of these bytes as it was written
 pub record Stands (bytes : List ℕ) : Type 0 where
@@ -44,14 +44,10 @@ pub record AreWell (i : initiator.Machine) (t : target.Stepped) (x y : List ℕ)
   pub target : (t.machine.stage ≡ stages.Full) ⊎ ((target_machine.is_closed t.machine ≡ false) × Waits x)
   pub initiator : (i.stage ≡ stages.Full) ⊎ ((is_closed i ≡ false) × Waits y)
 
-nothing_read : (limit : ℕ) (logins : Logins) (given : List ℕ) → ReadsAs limit logins given [] → given ≡ []
-unfolding ReadsAs
-nothing_read limit logins given e = e
-
--- nothing is left of no bytes
-parts_none : (a b : List ℕ) → a ++ b ≡ [] → (a ≡ []) × (b ≡ [])
-parts_none [] b e = (refl, e)
-parts_none (x ∷ a) b e = absurd (cc e)
+-- two lists of which nothing is there are both empty
+pub both_none : {A : Type 0} → (a b : List A) → a ++ b ≡ [] → (a ≡ []) × (b ≡ [])
+both_none [] b e = (refl, e)
+both_none (x ∷ a) b e = absurd (cc e)
 
 none_read : (limit : ℕ) (logins : Logins) (given : List ℕ) (ms : List Message) → ReadsAs limit logins given ms → given ≡ [] → ms ≡ []
 none_read limit logins given [] p e = refl
@@ -78,7 +74,7 @@ last_heard [] c i t out back r disk l given x y o suits a s b p e f = record {
 }
 last_heard (n ∷ ms) c i t out back r disk l given x y o suits a s b p e f =
     let one : IsFirst l out x [] n r ms = first_is l out given x [] n r ms (asking_readable c i t out r o a) p e in
-    let none = parts_none one.given x one.rest in
+    let none = both_none one.given x one.rest in
     let last : ms ≡ [] = none_read l (logins_after out r.head) one.given ms one.reads none.0 in
     let turn : Round c i (target_machine.step t disk r) (logins_after out r.head) = round c i t out r disk o a in
     let w : Well c i (target_machine.step t disk r) (step i turn.answer) (logins_after out r.head) = goes_well c i t out (logins_after out r.head) r disk o suits a s turn in

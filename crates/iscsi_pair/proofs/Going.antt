@@ -2,7 +2,7 @@
 use Rattle.std.proofs.Common.{◌≡◌, ◌≢◌, ◌<◌, ◌≤◌, ◌⊎◌, inl, inr, ℕ, ◌+◌, Bool, true, false, List, [], ◌∷◌, ◌++◌, length, Option, Some, None, refl, sym, ap, ◌∙◌, subst, arith, replicate}
 use Rattle.std.specs.Prelude.{not, ◌&&◌, ◌==◌, nat_lt, nat_le, IfSome, ◌^◌, if◌then◌else◌, unwrap_or}
 use Rattle.std.specs.Bool.{then_some}
-use Rattle.std.proofs.lemmas.Bool.{le-ltb, eq-eqb}
+use Rattle.std.proofs.lemmas.Bool.{and_from, cond_both, cond-true, cond-false, le-ltb, eq-eqb}
 use Rattle.scsi_disk.specs.Disk.{Disk}
 use Rattle.iscsi_text.specs.Text.{Pairs}
 use Rattle.iscsi_text.specs.Canonical.{canonical_text}
@@ -45,7 +45,7 @@ use Rattle.iscsi_target.specs.Login.{request_refusals, is_same_stage, stage_name
 use Rattle.iscsi_pair.specs.World.{Opening, IsOpening, Suits}
 use Rattle.iscsi_target.specs.Machine as target_machine
 use Rattle.iscsi_target.specs.Machine.{is_over_limit}
-use Rattle.iscsi_pair.proofs.TargetLogin.{login_step_is}
+use Rattle.iscsi_pair.proofs.TargetLogin.{login_step_is, some_if}
 use Rattle.iscsi_pair.proofs.InitiatorLogin.{answering, with_answer, hears}
 use Rattle.iscsi_pair.proofs.Talk.{Agreed, Asking, Asks_on, Leads, Round, IsWhole, IsPart, is_sent, fits_limit, offered_read}
 use Rattle.iscsi_pair.proofs.Sizes.{answer_is_short}
@@ -97,26 +97,18 @@ record SameText (s e : target.Machine) : Type 0 where
   settings : e.settings ≡ s.settings
 
 -- the same, with the numbers and the text so far
-record SameState (s e : target.Machine) : Type 0 where
-  has_text : e.has_text ≡ s.has_text
-  given : e.given ≡ s.given
-  settings : e.settings ≡ s.settings
-  stat_sn : e.stat_sn ≡ s.stat_sn
-  gathered : e.gathered ≡ s.gathered
+pub record SameState (s e : target.Machine) : Type 0 where
+  pub has_text : e.has_text ≡ s.has_text
+  pub given : e.given ≡ s.given
+  pub settings : e.settings ≡ s.settings
+  pub stat_sn : e.stat_sn ≡ s.stat_sn
+  pub gathered : e.gathered ≡ s.gathered
 
-same_if : (b : Bool) (s x y : target.Machine) → SameState s x → SameState s y → SameState s (if b then x else y)
-same_if true s x y p q = p
-same_if false s x y p q = q
-
-entered_same : (s : target.Machine) (h : LoginRequest) → SameState s (entered s h)
+pub entered_same : (s : target.Machine) (h : LoginRequest) → SameState s (entered s h)
 entered_same s h =
-    let k : SameState s (numbered s h) = same_if s.begun s s (record s { begun = true; exp_cmd_sn = h.cmd_sn })
-    (record { has_text = refl; given = refl; settings = refl; stat_sn = refl; gathered = refl }) (record { has_text = refl; given = refl; settings = refl; stat_sn = refl; gathered = refl }) in
+    let k : SameState s (numbered s h) = cond_both s.begun s (record s { begun = true; exp_cmd_sn = h.cmd_sn }) (SameState s)
+    (λ is. record { has_text = refl; given = refl; settings = refl; stat_sn = refl; gathered = refl }) (λ is. record { has_text = refl; given = refl; settings = refl; stat_sn = refl; gathered = refl }) in
     record { has_text = k.has_text; given = k.given; settings = k.settings; stat_sn = k.stat_sn; gathered = k.gathered }
-
-some_if : (b : Bool) (n bound : ℕ) → n < bound → IfSome (if b then Some n else None) (λ x. x < bound)
-some_if true n bound lt = lt
-some_if false n bound lt = tt
 
 -- the answer to an offer fits its segment
 answer_fits : (c : Opening) (e : target.Machine) (pairs : Pairs) → IsOpening c → e.settings ≡ c.target → IsFew pairs → nat_lt 8192 (length (canonical_text (answer_pairs e pairs))) ≡ false
@@ -174,14 +166,6 @@ text_at stages.Operational stages.Full c i t e o suits started is same settings 
 
 -- ---- what the target does
 
-if_false : {A : Type 0} (b : Bool) (x y : A) → b ≡ false → (if b then x else y) ≡ y
-if_false true x y e = absurd (cc e)
-if_false false x y e = refl
-
-if_true : {A : Type 0} (b : Bool) (x y : A) → b ≡ true → (if b then x else y) ≡ x
-if_true true x y e = refl
-if_true false x y e = absurd (cc e)
-
 -- a part of the text is gathered
 gathers_well : (t : target.Machine) (h : LoginRequest) (bytes : List ℕ) → first_of (request_refusals t h) ≡ None → length (entered t h).gathered + length bytes ≤ 16384 → h.continues ≡ true
     → login.login_request t h (Bytes bytes) ≡ gather (entered t h) h bytes
@@ -189,8 +173,8 @@ unfolding segment_bytes
 gathers_well t h bytes none short more =
     let e : target.Machine = entered t h in
     ap (λ (o : Option Status). login.refuse_or o (numbered t h) h (login.segment_taken e h (Bytes bytes))) none
-    ∙ if_false (nat_lt 16384 (length e.gathered + length bytes)) _ _ (le-ltb 16384 (length e.gathered + length bytes) short)
-    ∙ if_true h.continues _ _ more
+    ∙ cond-false (nat_lt 16384 (length e.gathered + length bytes)) _ _ (le-ltb 16384 (length e.gathered + length bytes) short)
+    ∙ cond-true h.continues _ _ more
 
 -- a whole text is answered
 answers_well : (t : target.Machine) (h : LoginRequest) (segment : Segment) (pairs : Pairs) → first_of (request_refusals t h) ≡ None → length (entered t h).gathered + length (segment_bytes segment) ≤ 16384 → h.continues ≡ false
@@ -200,8 +184,8 @@ answers_well t h segment pairs none short last read good =
     let e : target.Machine = entered t h in
     let f : target.Machine = record e { gathered = [] } in
     ap (λ (o : Option Status). login.refuse_or o (numbered t h) h (login.segment_taken e h segment)) none
-    ∙ if_false (nat_lt 16384 (length e.gathered + length (segment_bytes segment))) _ _ (le-ltb 16384 (length e.gathered + length (segment_bytes segment)) short)
-    ∙ if_false h.continues _ _ last
+    ∙ cond-false (nat_lt 16384 (length e.gathered + length (segment_bytes segment))) _ _ (le-ltb 16384 (length e.gathered + length (segment_bytes segment)) short)
+    ∙ cond-false h.continues _ _ last
     ∙ ap (login.whole_text f h) read
     ∙ ap (λ (o : Option Status). login.refuse_or o f h (text_answered f h pairs)) good
 
@@ -211,19 +195,19 @@ hears_more_well : (m : initiator.Machine) (h : LoginResponse) (byte : ℕ) (byte
     → is_expected m.exp_stat_sn (unwrap_or h.stat_sn 0) ≡ true → m.left ≡ byte ∷ bytes → goes_on m h (Text []) ≡ true → step m (answering h []) ≡ sends_more (counted m h)
 hears_more_well m h byte bytes p s tag class number left on =
     hears m h [] p s tag
-    ∙ if_false (not (h.status_class == 0)) _ _ (ap (λ (n : ℕ). not (n == 0)) class)
-    ∙ if_false (not (is_expected m.exp_stat_sn (unwrap_or h.stat_sn 0))) _ _ (ap not number)
+    ∙ cond-false (not (h.status_class == 0)) _ _ (ap (λ (n : ℕ). not (n == 0)) class)
+    ∙ cond-false (not (is_expected m.exp_stat_sn (unwrap_or h.stat_sn 0))) _ _ (ap not number)
     ∙ ap (λ (l : List ℕ). in_turn l m h (Text [])) left
-    ∙ if_true (goes_on m h (Text [])) _ _ on
+    ∙ cond-true (goes_on m h (Text [])) _ _ on
 
 hears_last_well : (m : initiator.Machine) (h : LoginResponse) (pairs : Pairs) → m.phase ≡ phases.Login → m.started ≡ true → h.initiator_task_tag ≡ 0 → h.status_class ≡ 0
     → is_expected m.exp_stat_sn (unwrap_or h.stat_sn 0) ≡ true → m.left ≡ [] → moves_on m h ≡ true → bad_key (offered m) pairs ≡ None → step m (answering h pairs) ≡ enters (asked m) (with_answer m h pairs)
 hears_last_well m h pairs p s tag class number left on good =
     hears m h pairs p s tag
-    ∙ if_false (not (h.status_class == 0)) _ _ (ap (λ (n : ℕ). not (n == 0)) class)
-    ∙ if_false (not (is_expected m.exp_stat_sn (unwrap_or h.stat_sn 0))) _ _ (ap not number)
+    ∙ cond-false (not (h.status_class == 0)) _ _ (ap (λ (n : ℕ). not (n == 0)) class)
+    ∙ cond-false (not (is_expected m.exp_stat_sn (unwrap_or h.stat_sn 0))) _ _ (ap not number)
     ∙ ap (λ (l : List ℕ). in_turn l m h (Text pairs)) left
-    ∙ if_true (moves_on m h) _ _ on
+    ∙ cond-true (moves_on m h) _ _ on
     ∙ ap (λ (o : Option (List ℕ)). judged o m h pairs) good
 
 -- ---- the login goes on
@@ -241,14 +225,10 @@ record GoesOn (s : Stepped) : Type 0 where
   live : is_closed s.machine ≡ false
   fault : s.fault ≡ None
 
-goes_if : (b : Bool) (x y : Stepped) → GoesOn x → GoesOn y → GoesOn (if b then x else y)
-goes_if true x y p q = p
-goes_if false x y p q = q
-
 text_on : (m : initiator.Machine) → m.phase ≡ phases.Login → GoesOn (sends_text m)
 text_on m p =
-    goes_if (fits_segment m (canonical_text (offered m))) (sends (record m { left = [] }) (login_message m true (Text (offered m)) ∷ [])) (sends_cut m (canonical_text (offered m)) false)
-    (record { live = ap initiator.is_closed_phase p; fault = refl }) (record { live = ap initiator.is_closed_phase p; fault = refl })
+    cond_both (fits_segment m (canonical_text (offered m))) (sends (record m { left = [] }) (login_message m true (Text (offered m)) ∷ [])) (sends_cut m (canonical_text (offered m)) false) GoesOn
+    (λ is. record { live = ap initiator.is_closed_phase p; fault = refl }) (λ is. record { live = ap initiator.is_closed_phase p; fault = refl })
 
 enters_on : (stage : Stage) (m : initiator.Machine) → m.phase ≡ phases.Login → GoesOn (enters stage m)
 enters_on stages.Security m p = text_on (record m { stage = stages.Security }) p
@@ -256,18 +236,14 @@ enters_on stages.Operational m p = text_on (record m { stage = stages.Operationa
 enters_on stages.Full m p = record { live = refl; fault = refl }
 
 -- what a text that goes out leaves
-record TextKeeps (m : initiator.Machine) (s : Stepped) : Type 0 where
-  stage : s.machine.stage ≡ m.stage
-  number : s.machine.exp_stat_sn ≡ m.exp_stat_sn
+pub record TextKeeps (m : initiator.Machine) (s : Stepped) : Type 0 where
+  pub stage : s.machine.stage ≡ m.stage
+  pub number : s.machine.exp_stat_sn ≡ m.exp_stat_sn
 
-keeps_if : (m : initiator.Machine) (b : Bool) (x y : Stepped) → TextKeeps m x → TextKeeps m y → TextKeeps m (if b then x else y)
-keeps_if m true x y p q = p
-keeps_if m false x y p q = q
-
-text_keeps : (m : initiator.Machine) → TextKeeps m (sends_text m)
+pub text_keeps : (m : initiator.Machine) → TextKeeps m (sends_text m)
 text_keeps m =
-    keeps_if m (fits_segment m (canonical_text (offered m))) (sends (record m { left = [] }) (login_message m true (Text (offered m)) ∷ [])) (sends_cut m (canonical_text (offered m)) false)
-    (record { stage = refl; number = refl }) (record { stage = refl; number = refl })
+    cond_both (fits_segment m (canonical_text (offered m))) (sends (record m { left = [] }) (login_message m true (Text (offered m)) ∷ [])) (sends_cut m (canonical_text (offered m)) false) (TextKeeps m)
+    (λ is. record { stage = refl; number = refl }) (λ is. record { stage = refl; number = refl })
 
 entered_phase : (t : target.Machine) (h : LoginRequest) → (entered t h).phase ≡ t.phase
 entered_phase t h = phase_if t.begun t h.cmd_sn
@@ -298,15 +274,6 @@ same_stage stages.Full = refl
 due_at : (b : Bool) (here there : Stage) (n : ℕ) → b ≡ true → there ≡ here → (if b then is_same_stage there (stage_named (stage_number here)) else nat_le n 1) ≡ true
 due_at true here there n e f = ap (λ (x : Stage). is_same_stage x (stage_named (stage_number here))) f ∙ same_stage here
 due_at false here there n e f = absurd (cc e)
-
-same_flags : (stage : Stage) → (stage_number stage == stage_number stage) ≡ true
-same_flags stages.Security = refl
-same_flags stages.Operational = refl
-same_flags stages.Full = refl
-
-and_both : (x y : Bool) → x ≡ true → y ≡ true → (x && y) ≡ true
-and_both true y e f = f
-and_both false y e f = e
 
 phase_open : (stage : Stage) → target_machine.is_closed_phase (login.phase_at stage) ≡ false
 phase_open stages.Security = refl
@@ -346,12 +313,123 @@ leads_on c i s t logins leads live suited = elim leads [
 one_answer : (a b : Message) → a ∷ [] ≡ b ∷ [] → a ≡ b
 one_answer a b e = cc e
 
+-- ---- one round
+
+-- the target without what it gathered
+abbrev pub emptied : target.Machine → LoginRequest → target.Machine
+emptied t h = record (entered t h) { gathered = [] }
+
+-- the head of the answer to a text
+abbrev pub text_head : target.Machine → LoginRequest → LoginResponse
+text_head e h = record (login.text_response e h) { stat_sn = Some e.stat_sn }
+
+-- the head of the answer to a part of a text
+abbrev pub part_head : target.Machine → LoginRequest → LoginResponse
+part_head e h = record (login.response e h) { stat_sn = Some e.stat_sn }
+
+-- both ends behind a request that ends its text
+pub record LastTurn (i : initiator.Machine) (t : target.Machine) (disk : Disk) (r answer : Message) : Type 0 where
+  pub there : target_machine.step t disk r ≡ target.on disk (text_answered (emptied t (login_request i true)) (login_request i true) (offered i))
+  pub now : step i answer ≡ enters (asked i) (with_answer i (text_head (emptied t (login_request i true)) (login_request i true)) (answer_pairs (emptied t (login_request i true)) (offered i)))
+
+-- both ends behind a request whose text goes on
+pub record PartTurn (i : initiator.Machine) (t : target.Machine) (disk : Disk) (r answer : Message) : Type 0 where
+  pub bytes : List ℕ
+  pub there : target_machine.step t disk r ≡ target.on disk (gather (entered t (login_request i false)) (login_request i false) bytes)
+  pub now : step i answer ≡ sends_more (counted i (part_head (entered t (login_request i false)) (login_request i false)))
+
+-- a request that ends its text is answered, and the answer is taken
+last_turn : (c : Opening) (i : initiator.Machine) (t : target.Machine) (logins next : Logins) (r : Message) (disk : Disk) (segment : Segment) → IsOpening c → Suits c → Asking c i t logins r → Suited c i t
+    → i.left ≡ [] → is_over_limit t segment ≡ false → text_ending t.gathered segment ≡ Some (offered i) → length t.gathered + length (segment_bytes segment) ≤ 16384
+    → (turn : Round c i (target_machine.step t disk (login_message i true segment)) next) → LastTurn i t disk (login_message i true segment) turn.answer
+last_turn c i t logins next r disk segment o suits a s left fits read size turn =
+    let h : LoginRequest = login_request i true in
+    let e : target.Machine = emptied t h in
+    let same : SameState t (entered t h) = entered_same t h in
+    let given : Pairs = offered i in
+    let pairs_are : in_order (offers_at c.initiator.proposal c.initiator.start i.stage) ≡ given = ap (λ (x : initiator.Settings). in_order (offers_at x.proposal x.start i.stage)) (sym a.settings) in
+    let good : first_of (text_refusals e given) ≡ None =
+    subst (λ (x : Pairs). first_of (text_refusals e x) ≡ None) pairs_are
+    (text_at c.initiator.start i.stage c i t e o suits refl refl (record { has_text = same.has_text; given = same.given; settings = same.settings }) a.target_settings s.texts a.stage) in
+    let q : login.login_request t h segment ≡ text_answered e h given =
+    answers_well t h segment given (not_refused c i t true a.stage s) (subst (λ (x : List ℕ). length x + length (segment_bytes segment) ≤ 16384) (sym same.gathered) size) refl
+    (ap (λ (x : List ℕ). text_ending x segment) same.gathered ∙ read) good in
+    let there : target_machine.step t disk (login_message i true segment) ≡ target.on disk (text_answered e h given) =
+    login_step_is t disk h segment a.logs_in.phase fits ∙ ap (target.on disk) q in
+    let is : turn.answer ≡ answering (text_head e h) (answer_pairs e given) =
+    one_answer turn.answer (answering (text_head e h) (answer_pairs e given)) (sym turn.is ∙ ap (λ (x : target.Stepped). x.answers) there) in
+    record {
+      there = there;
+      now = ap (step i) is ∙ hears_last_well i (text_head e h) (answer_pairs e given) a.phase a.started refl refl (ap (is_expected i.exp_stat_sn) same.stat_sn ∙ s.expected) left
+          (and_from _ _ (eq-eqb (stage_number i.stage) (stage_number i.stage) refl) (eq-eqb (stage_number (asked i)) (stage_number (asked i)) refl)) (takes c i e o a.settings a.stage (same.settings ∙ a.target_settings));
+    }
+
+-- a request whose text goes on is answered, and the next part goes
+part_turn : (c : Opening) (i : initiator.Machine) (t : target.Machine) (logins next : Logins) (r : Message) (disk : Disk) (segment : Segment) (bytes : List ℕ) (byte : ℕ) (more : List ℕ) → Asking c i t logins r → Suited c i t
+    → i.left ≡ byte ∷ more → segment ≡ Bytes bytes → is_over_limit t segment ≡ false → length t.gathered + length bytes ≤ 16384
+    → (turn : Round c i (target_machine.step t disk (login_message i false segment)) next) → PartTurn i t disk (login_message i false segment) turn.answer
+part_turn c i t logins next r disk segment bytes byte more a s left part fits size turn =
+    let h : LoginRequest = login_request i false in
+    let e : target.Machine = entered t h in
+    let same : SameState t e = entered_same t h in
+    let q : login.login_request t h segment ≡ gather e h bytes =
+    ap (login.login_request t h) part ∙ gathers_well t h bytes (not_refused c i t false a.stage s) (subst (λ (x : List ℕ). length x + length bytes ≤ 16384) (sym same.gathered) size) refl in
+    let there : target_machine.step t disk (login_message i false segment) ≡ target.on disk (gather e h bytes) =
+    login_step_is t disk h segment a.logs_in.phase fits ∙ ap (target.on disk) q in
+    let is : turn.answer ≡ answering (part_head e h) [] = one_answer turn.answer (answering (part_head e h) []) (sym turn.is ∙ ap (λ (x : target.Stepped). x.answers) there) in
+    record {
+      bytes = bytes;
+      there = there;
+      now = ap (step i) is ∙ hears_more_well i (part_head e h) byte more a.phase a.started refl refl (ap (is_expected i.exp_stat_sn) same.stat_sn ∙ s.expected) left (and_from _ _ (eq-eqb (stage_number i.stage) (stage_number i.stage) refl) refl);
+    }
+
+text_fits : (c : Opening) (i : initiator.Machine) → IsOpening c → i.settings ≡ c.initiator → IsStart i.stage → length (canonical_text (offered i)) ≤ 8192
+text_fits c i o same is =
+    subst (λ (x : initiator.Settings). length (canonical_text (in_order (offers_at x.proposal x.start i.stage))) ≤ 8192) (sym same)
+    (few_fits (in_order (offers_at c.initiator.proposal c.initiator.start i.stage))
+    (offers_few c.initiator.start i.stage c.initiator.proposal o.initiator.names.initiator o.initiator.names.target o.initiator.in_range.preferences is))
+
+-- a part of a text and what was gathered are no more than the text
+part_fits : (gathered bytes left text : List ℕ) → gathered ++ (bytes ++ left) ≡ text → length text ≤ 8192 → length gathered + length bytes ≤ 16384
+part_fits gathered bytes left text e le =
+    let f = ap length e in
+    let a = length-append gathered (bytes ++ left) in
+    let b = length-append bytes left in
+    omega (arith, f, a, b, le)
+
+-- the message that is on its way, by what is left behind it
+turns_at : (left : List ℕ) (c : Opening) (i : initiator.Machine) (t : target.Machine) (logins next : Logins) (r : Message) (disk : Disk) → IsOpening c → Suits c → Asking c i t logins r → Suited c i t → i.left ≡ left
+    → (segment : Segment) → (IsWhole i t logins segment ⊎ IsPart i t logins segment)
+    → (turn : Round c i (target_machine.step t disk (login_message i (is_sent left) segment)) next)
+    → LastTurn i t disk (login_message i (is_sent left) segment) turn.answer ⊎ PartTurn i t disk (login_message i (is_sent left) segment) turn.answer
+unfolding segment_bytes
+turns_at [] c i t logins next r disk o suits a s left segment (inl w) turn =
+    inl (last_turn c i t logins next r disk segment o suits a s left (ap (is_over_limit t) w.is) (ap (text_ending t.gathered) w.is)
+    (subst (λ (x : Segment). length t.gathered + length (segment_bytes x) ≤ 16384) (sym w.is) (let g = ap length w.gathered in let le = w.short in omega (arith, g, le))) turn)
+turns_at [] c i t logins next r disk o suits a s left segment (inr p) turn =
+    inl (last_turn c i t logins next r disk segment o suits a s left (ap (is_over_limit t) p.is ∙ fits_limit t p.bytes p.short)
+    (ap (text_ending t.gathered) p.is ∙ ap text_in (ap (λ (x : List ℕ). t.gathered ++ x) (sym (append-nil p.bytes) ∙ ap (λ (x : List ℕ). p.bytes ++ x) (sym left)) ∙ p.text) ∙ offered_read c i o a.settings a.stage)
+    (subst (λ (x : Segment). length t.gathered + length (segment_bytes x) ≤ 16384) (sym p.is) (part_fits t.gathered p.bytes i.left (canonical_text (offered i)) p.text (text_fits c i o a.settings a.stage))) turn)
+turns_at (byte ∷ more) c i t logins next r disk o suits a s left segment (inl w) turn = absurd (let bad : [] ≡ byte ∷ more = sym w.left ∙ left in cc)
+turns_at (byte ∷ more) c i t logins next r disk o suits a s left segment (inr p) turn =
+    inr (part_turn c i t logins next r disk segment p.bytes byte more a s left p.is (ap (is_over_limit t) p.is ∙ fits_limit t p.bytes p.short)
+    (part_fits t.gathered p.bytes i.left (canonical_text (offered i)) p.text (text_fits c i o a.settings a.stage)) turn)
+
+-- a round ends a text, or its text goes on
+pub turns : (c : Opening) (i : initiator.Machine) (t : target.Machine) (logins next : Logins) (r : Message) (disk : Disk) → IsOpening c → Suits c → Asking c i t logins r → Suited c i t
+    → (turn : Round c i (target_machine.step t disk r) next) → LastTurn i t disk r turn.answer ⊎ PartTurn i t disk r turn.answer
+turns c i t logins next r disk o suits a s =
+    subst (λ (x : Message). (turn : Round c i (target_machine.step t disk x) next) → LastTurn i t disk x turn.answer ⊎ PartTurn i t disk x turn.answer) (sym a.request)
+    (turns_at i.left c i t logins next r disk o suits a s refl a.segment a.how)
+
+-- ---- behind it both suit
+
 -- the next text goes out, behind the one of the security stage
 next_suited : (c : Opening) (i : initiator.Machine) (t : target.Machine) (h : LoginRequest) → (g : LoginResponse) (answer : Pairs) → i.settings ≡ c.initiator → Suited c i t → i.stage ≡ stages.Security
-    → h ≡ login_request i true → let e : target.Machine = record (entered t h) { gathered = [] } in g.stat_sn ≡ Some e.stat_sn
+    → h ≡ login_request i true → let e : target.Machine = emptied t h in g.stat_sn ≡ Some e.stat_sn
     → Suited c (enters stages.Operational (with_answer i g answer)).machine (text_answered e h (offered i)).machine
 next_suited c i t h g answer there s is hs number =
-    let e : target.Machine = record (entered t h) { gathered = [] } in
+    let e : target.Machine = emptied t h in
     let m : initiator.Machine = record (with_answer i g answer) { stage = stages.Operational } in
     let k : TextKeeps m (sends_text m) = text_keeps m in
     let same : SameState t (entered t h) = entered_same t h in
@@ -373,80 +451,46 @@ next_suited c i t h g answer there s is hs number =
     }
 
 -- behind the text of the security stage the next one suits too; behind another there is none
-suited_by : (c : Opening) (i : initiator.Machine) (t : target.Machine) (disk : Disk) (segment : Segment) (next : Logins) (g : LoginResponse) (answer : Pairs) (m : Message) {logins : Logins} {r : Message} → Asking c i t logins r → Suited c i t
-    → step i m ≡ enters (asked i) (with_answer i g answer)
-    → let h : LoginRequest = login_request i true in let e : target.Machine = record (entered t h) { gathered = [] } in
-    target_machine.step t disk (login_message i true segment) ≡ target.on disk (text_answered e h (offered i)) → g.stat_sn ≡ Some e.stat_sn
-    → (stage : Stage) → i.stage ≡ stage → Asks_on c (step i m) (target_machine.step t disk (login_message i true segment)).machine next
-    → Suited c (step i m).machine (target_machine.step t disk (login_message i true segment)).machine
-suited_by c i t disk segment next g answer m a s now there number stages.Security is asks =
+suited_by : (c : Opening) (i : initiator.Machine) (t : target.Machine) (logins next : Logins) (r answer : Message) (disk : Disk) → Asking c i t logins r → Suited c i t → LastTurn i t disk r answer
+    → (stage : Stage) → i.stage ≡ stage → Asks_on c (step i answer) (target_machine.step t disk r).machine next → Suited c (step i answer).machine (target_machine.step t disk r).machine
+suited_by c i t logins next r answer disk a s q stages.Security is asks =
     let h : LoginRequest = login_request i true in
-    subst (λ (x : Stepped). Suited c x.machine (target_machine.step t disk (login_message i true segment)).machine) (sym (now ∙ ap (λ (x : Stage). enters (asked_from x) (with_answer i g answer)) is))
-    (subst (λ (x : target.Stepped). Suited c (enters stages.Operational (with_answer i g answer)).machine x.machine) (sym there)
-    (next_suited c i t h g answer a.settings s is refl number))
-suited_by c i t disk segment next g answer m a s now there number stages.Operational is asks =
-    absurd (subst IsStart (ap (λ (x : Stepped). x.machine.stage) (now ∙ ap (λ (x : Stage). enters (asked_from x) (with_answer i g answer)) is)) asks.asking.stage)
-suited_by c i t disk segment next g answer m a s now there number stages.Full is asks = absurd (subst IsStart is a.stage)
+    let e : target.Machine = emptied t h in
+    let w : initiator.Machine = with_answer i (text_head e h) (answer_pairs e (offered i)) in
+    subst (λ (x : Stepped). Suited c x.machine (target_machine.step t disk r).machine) (sym (q.now ∙ ap (λ (x : Stage). enters (asked_from x) w) is))
+    (subst (λ (x : target.Stepped). Suited c (enters stages.Operational w).machine x.machine) (sym q.there)
+    (next_suited c i t h (text_head e h) (answer_pairs e (offered i)) a.settings s is refl refl))
+suited_by c i t logins next r answer disk a s q stages.Operational is asks =
+    absurd (subst IsStart (ap (λ (x : Stepped). x.machine.stage) q.now ∙ ap (λ (x : Stage). (enters (asked_from x) (with_answer i (text_head (emptied t (login_request i true)) (login_request i true)) (answer_pairs (emptied t (login_request i true)) (offered i)))).machine.stage) is) asks.asking.stage)
+suited_by c i t logins next r answer disk a s q stages.Full is asks = absurd (subst IsStart is a.stage)
 
--- a request that ends its text is answered, and the answer is taken
-last_well : (c : Opening) (i : initiator.Machine) (t : target.Machine) (logins next : Logins) (r : Message) (disk : Disk) (segment : Segment) → IsOpening c → Suits c → Asking c i t logins r → Suited c i t
-    → i.left ≡ [] → is_over_limit t segment ≡ false → text_ending t.gathered segment ≡ Some (offered i) → length t.gathered + length (segment_bytes segment) ≤ 16384
-    → (turn : Round c i (target_machine.step t disk (login_message i true segment)) next)
-    → Well c i (target_machine.step t disk (login_message i true segment)) (step i turn.answer) next
-last_well c i t logins next r disk segment o suits a s left fits read size turn =
+-- behind a request that ends its text
+last_well : (c : Opening) (i : initiator.Machine) (t : target.Machine) (logins next : Logins) (r : Message) (disk : Disk) → Asking c i t logins r → Suited c i t
+    → (turn : Round c i (target_machine.step t disk r) next) → LastTurn i t disk r turn.answer → Well c i (target_machine.step t disk r) (step i turn.answer) next
+last_well c i t logins next r disk a s turn q =
     let h : LoginRequest = login_request i true in
-    let e : target.Machine = record (entered t h) { gathered = [] } in
-    let same : SameState t (entered t h) = entered_same t h in
-    let here : e.settings ≡ c.target = same.settings ∙ a.target_settings in
-    let given : Pairs = offered i in
-    let pairs_are : in_order (offers_at c.initiator.proposal c.initiator.start i.stage) ≡ given = ap (λ (x : initiator.Settings). in_order (offers_at x.proposal x.start i.stage)) (sym a.settings) in
-    let good : first_of (text_refusals e given) ≡ None =
-    subst (λ (x : Pairs). first_of (text_refusals e x) ≡ None) pairs_are
-    (text_at c.initiator.start i.stage c i t e o suits refl refl (record { has_text = same.has_text; given = same.given; settings = same.settings }) a.target_settings s.texts a.stage) in
-    let q : login.login_request t h segment ≡ text_answered e h given =
-    answers_well t h segment given (not_refused c i t true a.stage s) (subst (λ (x : List ℕ). length x + length (segment_bytes segment) ≤ 16384) (sym same.gathered) size) refl
-    (ap (λ (x : List ℕ). text_ending x segment) same.gathered ∙ read) good in
-    let there : target_machine.step t disk (login_message i true segment) ≡ target.on disk (text_answered e h given) =
-    login_step_is t disk h segment a.logs_in.phase fits ∙ ap (target.on disk) q in
-    let g : LoginResponse = record (login.text_response e h) { stat_sn = Some e.stat_sn } in
-    let answer : Pairs = answer_pairs e given in
-    let is : turn.answer ≡ answering g answer = one_answer turn.answer (answering g answer) (sym turn.is ∙ ap (λ (x : target.Stepped). x.answers) there) in
-    let w : initiator.Machine = with_answer i g answer in
-    let now : step i turn.answer ≡ enters (asked i) w =
-    ap (step i) is ∙ hears_last_well i g answer a.phase a.started refl refl (ap (is_expected i.exp_stat_sn) same.stat_sn ∙ s.expected) left
-    (and_both _ _ (same_flags i.stage) (same_flags (asked i))) (takes c i e o a.settings a.stage here) in
+    let e : target.Machine = emptied t h in
+    let w : initiator.Machine = with_answer i (text_head e h) (answer_pairs e (offered i)) in
     let on_ : GoesOn (enters (asked i) w) = enters_on (asked i) w a.phase in
-    let live : is_closed (step i turn.answer).machine ≡ false = ap (λ (x : Stepped). is_closed x.machine) now ∙ on_.live in
-    let suited : (stage : Stage) → i.stage ≡ stage → Asks_on c (step i turn.answer) (target_machine.step t disk (login_message i true segment)).machine next
-    → Suited c (step i turn.answer).machine (target_machine.step t disk (login_message i true segment)).machine =
-    suited_by c i t disk segment next g answer turn.answer a s now there refl in
+    let live : is_closed (step i turn.answer).machine ≡ false = ap (λ (x : Stepped). is_closed x.machine) q.now ∙ on_.live in
     record {
-      on = leads_on c i (step i turn.answer) (target_machine.step t disk (login_message i true segment)).machine next turn.leads live (suited i.stage refl);
-      open_ = ap (λ (x : target.Stepped). target_machine.is_closed x.machine) there ∙ phase_open (login.stage_after e h);
-      rule = ap (λ (x : target.Stepped). x.rule) there;
+      on = leads_on c i (step i turn.answer) (target_machine.step t disk r).machine next turn.leads live (suited_by c i t logins next r turn.answer disk a s q i.stage refl);
+      open_ = ap (λ (x : target.Stepped). target_machine.is_closed x.machine) q.there ∙ phase_open (login.stage_after e h);
+      rule = ap (λ (x : target.Stepped). x.rule) q.there;
       live = live;
-      fault = ap (λ (x : Stepped). x.fault) now ∙ on_.fault;
+      fault = ap (λ (x : Stepped). x.fault) q.now ∙ on_.fault;
     }
 
--- a request whose text goes on is answered, and the next part goes
-part_well : (c : Opening) (i : initiator.Machine) (t : target.Machine) (logins next : Logins) (r : Message) (disk : Disk) (bytes : List ℕ) (byte : ℕ) (more : List ℕ) → IsOpening c → Asking c i t logins r → Suited c i t
-    → i.left ≡ byte ∷ more → is_over_limit t (Bytes bytes) ≡ false → length t.gathered + length bytes ≤ 16384
-    → (turn : Round c i (target_machine.step t disk (login_message i false (Bytes bytes))) next)
-    → Well c i (target_machine.step t disk (login_message i false (Bytes bytes))) (step i turn.answer) next
-part_well c i t logins next r disk bytes byte more o a s left fits size turn =
+-- behind a request whose text goes on
+part_well : (c : Opening) (i : initiator.Machine) (t : target.Machine) (logins next : Logins) (r : Message) (disk : Disk) → Asking c i t logins r → Suited c i t
+    → (turn : Round c i (target_machine.step t disk r) next) → PartTurn i t disk r turn.answer → Well c i (target_machine.step t disk r) (step i turn.answer) next
+part_well c i t logins next r disk a s turn q =
     let h : LoginRequest = login_request i false in
     let e : target.Machine = entered t h in
     let same : SameState t e = entered_same t h in
-    let q : login.login_request t h (Bytes bytes) ≡ gather e h bytes =
-    gathers_well t h bytes (not_refused c i t false a.stage s) (subst (λ (x : List ℕ). length x + length bytes ≤ 16384) (sym same.gathered) size) refl in
-    let there : target_machine.step t disk (login_message i false (Bytes bytes)) ≡ target.on disk (gather e h bytes) =
-    login_step_is t disk h (Bytes bytes) a.logs_in.phase fits ∙ ap (target.on disk) q in
-    let g : LoginResponse = record (login.response e h) { stat_sn = Some e.stat_sn } in
-    let is : turn.answer ≡ answering g [] = one_answer turn.answer (answering g []) (sym turn.is ∙ ap (λ (x : target.Stepped). x.answers) there) in
-    let now : step i turn.answer ≡ sends_more (counted i g) =
-    ap (step i) is ∙ hears_more_well i g byte more a.phase a.started refl refl (ap (is_expected i.exp_stat_sn) same.stat_sn ∙ s.expected) left (and_both _ _ (same_flags i.stage) refl) in
-    let live : is_closed (step i turn.answer).machine ≡ false = ap (λ (x : Stepped). is_closed x.machine) now ∙ ap initiator.is_closed_phase a.phase in
-    let begun : Suited c (sends_more (counted i g)).machine (gather e h bytes).machine = record {
+    let n : Stepped = sends_more (counted i (part_head e h)) in
+    let live : is_closed (step i turn.answer).machine ≡ false = ap (λ (x : Stepped). is_closed x.machine) q.now ∙ ap initiator.is_closed_phase a.phase in
+    let begun : Suited c n.machine (gather e h q.bytes).machine = record {
       expected = eq-eqb (target.next_sn e.stat_sn) (target.next_sn e.stat_sn) refl;
       due = due_at e.begun i.stage _ _ (entered_begun t h) (in_stage i.stage t.stage);
       texts = elim s.texts [
@@ -454,58 +498,24 @@ part_well c i t logins next r disk bytes byte more o a s left fits size turn =
         | inr f ↦ inr (record { one = same.has_text ∙ f.one; given = same.given ∙ f.given; start = f.start; stage = f.stage })
       ];
     } in
-    let suited : Suited c (step i turn.answer).machine (target_machine.step t disk (login_message i false (Bytes bytes))).machine =
-    subst (λ (x : Stepped). Suited c x.machine (target_machine.step t disk (login_message i false (Bytes bytes))).machine) (sym now)
-    (subst (λ (x : target.Stepped). Suited c (sends_more (counted i g)).machine x.machine) (sym there) begun) in
-    let phase : e.phase ≡ phases.Login = entered_phase t h ∙ a.logs_in.phase in
+    let suited : Suited c (step i turn.answer).machine (target_machine.step t disk r).machine =
+    subst (λ (x : Stepped). Suited c x.machine (target_machine.step t disk r).machine) (sym q.now)
+    (subst (λ (x : target.Stepped). Suited c n.machine x.machine) (sym q.there) begun) in
     record {
-      on = leads_on c i (step i turn.answer) (target_machine.step t disk (login_message i false (Bytes bytes))).machine next turn.leads live (λ asks. suited);
-      open_ = ap (λ (x : target.Stepped). target_machine.is_closed x.machine) there ∙ ap target_machine.is_closed_phase phase;
-      rule = ap (λ (x : target.Stepped). x.rule) there;
+      on = leads_on c i (step i turn.answer) (target_machine.step t disk r).machine next turn.leads live (λ asks. suited);
+      open_ = ap (λ (x : target.Stepped). target_machine.is_closed x.machine) q.there ∙ ap target_machine.is_closed_phase (entered_phase t h ∙ a.logs_in.phase);
+      rule = ap (λ (x : target.Stepped). x.rule) q.there;
       live = live;
-      fault = ap (λ (x : Stepped). x.fault) now;
+      fault = ap (λ (x : Stepped). x.fault) q.now;
     }
-
--- ---- one round
-
-text_fits : (c : Opening) (i : initiator.Machine) → IsOpening c → i.settings ≡ c.initiator → IsStart i.stage → length (canonical_text (offered i)) ≤ 8192
-text_fits c i o same is =
-    subst (λ (x : initiator.Settings). length (canonical_text (in_order (offers_at x.proposal x.start i.stage))) ≤ 8192) (sym same)
-    (few_fits (in_order (offers_at c.initiator.proposal c.initiator.start i.stage))
-    (offers_few c.initiator.start i.stage c.initiator.proposal o.initiator.names.initiator o.initiator.names.target o.initiator.in_range.preferences is))
-
--- a part of a text and what was gathered are no more than the text
-part_fits : (gathered bytes left text : List ℕ) → gathered ++ (bytes ++ left) ≡ text → length text ≤ 8192 → length gathered + length bytes ≤ 16384
-part_fits gathered bytes left text e le =
-    let f = ap length e in
-    let a = length-append gathered (bytes ++ left) in
-    let b = length-append bytes left in
-    omega (arith, f, a, b, le)
-
-well_at : (left : List ℕ) (c : Opening) (i : initiator.Machine) (t : target.Machine) (logins next : Logins) (r : Message) (disk : Disk) → IsOpening c → Suits c → (a : Asking c i t logins r) → Suited c i t → i.left ≡ left
-    → (segment : Segment) → (IsWhole i t logins segment ⊎ IsPart i t logins segment)
-    → (turn : Round c i (target_machine.step t disk (login_message i (is_sent left) segment)) next)
-    → Well c i (target_machine.step t disk (login_message i (is_sent left) segment)) (step i turn.answer) next
-unfolding segment_bytes
-well_at [] c i t logins next r disk o suits a s left segment (inl w) =
-    subst (λ (x : Segment). (turn : Round c i (target_machine.step t disk (login_message i true x)) next) → Well c i (target_machine.step t disk (login_message i true x)) (step i turn.answer) next) (sym w.is)
-    (last_well c i t logins next r disk (Text (offered i)) o suits a s left refl refl (let g = ap length w.gathered in let le = w.short in omega (arith, g, le)))
-well_at [] c i t logins next r disk o suits a s left segment (inr p) =
-    subst (λ (x : Segment). (turn : Round c i (target_machine.step t disk (login_message i true x)) next) → Well c i (target_machine.step t disk (login_message i true x)) (step i turn.answer) next) (sym p.is)
-    (last_well c i t logins next r disk (Bytes p.bytes) o suits a s left (fits_limit t p.bytes p.short)
-    (ap text_in (ap (λ (x : List ℕ). t.gathered ++ x) (sym (append-nil p.bytes) ∙ ap (λ (x : List ℕ). p.bytes ++ x) (sym left)) ∙ p.text) ∙ offered_read c i o a.settings a.stage)
-    (part_fits t.gathered p.bytes i.left (canonical_text (offered i)) p.text (text_fits c i o a.settings a.stage)))
-well_at (byte ∷ more) c i t logins next r disk o suits a s left segment (inl w) = absurd (let bad : [] ≡ byte ∷ more = sym w.left ∙ left in cc)
-well_at (byte ∷ more) c i t logins next r disk o suits a s left segment (inr p) =
-    subst (λ (x : Segment). (turn : Round c i (target_machine.step t disk (login_message i false x)) next) → Well c i (target_machine.step t disk (login_message i false x)) (step i turn.answer) next) (sym p.is)
-    (part_well c i t logins next r disk p.bytes byte more o a s left (fits_limit t p.bytes p.short) (part_fits t.gathered p.bytes i.left (canonical_text (offered i)) p.text (text_fits c i o a.settings a.stage)))
 
 -- where both ends suit each other the login goes on
 pub goes_well : (c : Opening) (i : initiator.Machine) (t : target.Machine) (logins next : Logins) (r : Message) (disk : Disk) → IsOpening c → Suits c → Asking c i t logins r → Suited c i t
     → (turn : Round c i (target_machine.step t disk r) next) → Well c i (target_machine.step t disk r) (step i turn.answer) next
-goes_well c i t logins next r disk o suits a s =
-    subst (λ (x : Message). (turn : Round c i (target_machine.step t disk x) next) → Well c i (target_machine.step t disk x) (step i turn.answer) next) (sym a.request)
-    (well_at i.left c i t logins next r disk o suits a s refl a.segment a.how)
+goes_well c i t logins next r disk o suits a s turn = elim (turns c i t logins next r disk o suits a s turn) [
+  | inl q ↦ last_well c i t logins next r disk a s turn q
+  | inr q ↦ part_well c i t logins next r disk a s turn q
+]
 
 stage_at_most : (stage : Stage) → IsStart stage → nat_le (stage_number stage) 1 ≡ true
 stage_at_most stages.Security is = refl

@@ -29,7 +29,7 @@ use Rattle.iscsi_pair.proofs.TargetSide.{TargetLives, TargetOver}
 use Rattle.iscsi_pair.proofs.Sides.{Sides}
 use Rattle.iscsi_pair.proofs.Front.{Readable, IsFirst, first_is}
 use Rattle.iscsi_pair.proofs.Talk.{Asking, Round, Asks_on, asking_readable, asking_short, round, first_asks}
-use Rattle.iscsi_pair.proofs.Agreeing.{IsReached, reached_more, first_reached, refused, not_empty, closed_stays, full_stays}
+use Rattle.iscsi_pair.proofs.Agreeing.{IsReached, reached_more, first_reached, refused, nothing_read, not_empty, closed_stays, full_stays}
 
 -- no whole PDU waits in what an end holds
 pub record HoldsNone (limit : ℕ) (rest : List ℕ) : Type 0 where
@@ -39,10 +39,6 @@ pub record HoldsNone (limit : ℕ) (rest : List ℕ) : Type 0 where
 -- a message that was read as it was written does not wait there
 not_waiting : (limit : ℕ) (logins : Logins) (rest more : List ℕ) (m : Message) → HoldsNone limit rest → Readable logins m → length (segment_bytes m.segment) ≤ 8192 → rest ≡ canonical_bytes m ++ more → ⊥
 not_waiting limit logins rest more m h r short e = h.none (canonical_bytes m) (segment_bytes m.segment) more m.head e r.means (omega (arith, short, h.enough))
-
-nothing_read : (limit : ℕ) (logins : Logins) (given : List ℕ) → ReadsAs limit logins given [] → given ≡ []
-unfolding ReadsAs
-nothing_read limit logins given e = e
 
 -- where all bytes were moved, and each end holds no whole PDU of the other, the login is completed
 pub idle : (inputs : List Input) (c : Opening) (i : initiator.Machine) (t : target.Machine) (out back : Logins) (r : Message) (disk : Disk) (ms : List Message) (l k : ℕ) (given x taken_ y : List ℕ)

@@ -1,6 +1,6 @@
 -- Where both ends suit each other, none fails before its login is completed.
-use Rattle.std.proofs.Common.{◌≡◌, ◌≢◌, ◌<◌, ◌≤◌, ◌⊎◌, inl, inr, ℕ, Bool, true, false, List, [], ◌∷◌, ◌++◌, length, take, Option, Some, None, Result, Ok, Err, refl, sym, ap, ◌∙◌, subst, append_assoc, arith}
-use Rattle.std.specs.Prelude.{◌||◌}
+use Rattle.std.proofs.Common.{◌≡◌, ◌≢◌, ◌<◌, ◌≤◌, ◌⊎◌, inl, inr, ℕ, true, false, List, [], ◌∷◌, ◌++◌, length, take, Option, Some, None, Result, Ok, Err, refl, sym, ap, ◌∙◌, subst, append_assoc, arith}
+use Rattle.std.proofs.lemmas.Bool.{or_parts}
 use Rattle.std.specs.Result.{result_err}
 use Rattle.std.proofs.lemmas.List.{append-nil, length-append, take-append-le}
 use Rattle.scsi_disk.specs.Disk.{disk_of}
@@ -45,7 +45,7 @@ use Rattle.iscsi_pair.proofs.Faultless.{Waits, AreWell, stay_well}
 -- ---- a framer refuses no good message
 
 -- the first 48 bytes of what stands there are those of what was fed
-front_of : (held rest piece bytes behind : List ℕ) → held ≡ settled rest → length held < 48 → 48 ≤ length (held ++ piece) → bytes ≡ rest ++ (piece ++ behind)
+pub front_of : (held rest piece bytes behind : List ℕ) → held ≡ settled rest → length held < 48 → 48 ≤ length (held ++ piece) → bytes ≡ rest ++ (piece ++ behind)
     → (take 48 bytes ≡ take 48 (held ++ piece)) × (48 ≤ length bytes)
 front_of held rest piece bytes behind h short long b =
     let n : length rest ≡ length held = sym (length-settled rest) ∙ ap length (sym h) in
@@ -221,14 +221,10 @@ unfolding RunsInTime Runs
 in_time old [] new r = r
 in_time old (event ∷ events) new r = (r.0, r.1, in_time r.0 events new r.3)
 
-or_none : (a b : Bool) → (a || b) ≡ false → (a ≡ false) × (b ≡ false)
-or_none true b e = absurd (cc e)
-or_none false b e = (refl, e)
-
 pub none_fails : (c : Opening) (events : List Event) (u : Traffic) (w : World) → IsOpening c → Suits c → RunsInTime (new_pair c) events w → Sides c u w → keeps_no_memory w ≡ false
     → ((w.target_fault ≡ None) ⊎ (w.target.machine.stage ≡ stages.Full)) × ((w.initiator_fault ≡ None) ⊎ (w.initiator.machine.stage ≡ stages.Full))
 none_fails c events u w o suits r s well =
-    let m = or_none (target_ran_out w.target_fault) (initiator_ran_out w.initiator_fault) well in (
+    let m = or_parts (target_ran_out w.target_fault) (initiator_ran_out w.initiator_fault) well in (
       target_by w.target_fault c u w o suits s s.target.failed m.0,
       initiator_by w.initiator_fault c u w o suits s s.initiator.failed m.1 (runs_late (new_pair c) events w r (λ f is. absurd (cc is))),
     )

@@ -1,6 +1,7 @@
 -- What an initiator does with an answer in its login.
 use Rattle.std.proofs.Common.{◌≡◌, ◌⊎◌, inl, inr, ℕ, Bool, true, false, List, [], ◌∷◌, Option, Some, None, refl, sym, ap, ◌∙◌, subst}
 use Rattle.std.specs.Prelude.{not, ◌==◌, if◌then◌else◌, unwrap_or}
+use Rattle.std.proofs.lemmas.Bool.{cond_both}
 use Rattle.iscsi_text.specs.Text.{Pairs}
 use Rattle.iscsi_pdu.specs.declared.head.Head.TheVariants as heads
 use Rattle.iscsi_pdu.specs.declared.head.login_response.LoginResponse.{LoginResponse}
@@ -27,10 +28,6 @@ pub record Closes (m : Machine) (r : Stepped) : Type 0 where
   pub phase : r.machine.phase ≡ phases.Closed
   pub stage : r.machine.stage ≡ m.stage
 
-by_cases : (b : Bool) (P : Stepped → Type 0) (x y : Stepped) → (b ≡ true → P x) → (b ≡ false → P y) → P (if b then x else y)
-by_cases true P x y p q = p refl
-by_cases false P x y p q = q refl
-
 started_in : (m : Machine) (message : Message) (b : Bool) → m.started ≡ b → b ≡ true → (if m.started then login_step m message.head message.segment else breaks m 1) ≡ login_step m message.head message.segment
 started_in m message true is t = rw is refl
 started_in m message false is t = absurd (cc t)
@@ -55,11 +52,11 @@ hears_more m h pairs byte bytes p s tag class left =
     let shut : (r : ℕ) → P (breaks m r) = λ r. inl (record { phase = refl; stage = refl }) in
     let number : Bool = not (is_expected m.exp_stat_sn (unwrap_or h.stat_sn 0)) in
     let turn : P (in_turn m.left m h (Text pairs)) =
-    subst (λ (l : List ℕ). P (in_turn l m h (Text pairs))) (sym left) (by_cases (goes_on m h (Text pairs)) P (sends_more (counted m h)) (breaks m 7) (λ is. inr refl) (λ is. shut 7)) in
+    subst (λ (l : List ℕ). P (in_turn l m h (Text pairs))) (sym left) (cond_both (goes_on m h (Text pairs)) (sends_more (counted m h)) (breaks m 7) P (λ is. inr refl) (λ is. shut 7)) in
     subst P (sym (hears m h pairs p s tag))
-    (by_cases (not (h.status_class == 0)) P (fails m (Refused h.status_class h.status_detail)) (if number then breaks m 6 else in_turn m.left m h (Text pairs))
+    (cond_both (not (h.status_class == 0)) (fails m (Refused h.status_class h.status_detail)) (if number then breaks m 6 else in_turn m.left m h (Text pairs)) P
     (λ is. absurd (apart is (ap (λ (n : ℕ). not (n == 0)) class)))
-    (λ is. by_cases number P (breaks m 6) (in_turn m.left m h (Text pairs)) (λ is. shut 6) (λ is. turn)))
+    (λ is. cond_both number (breaks m 6) (in_turn m.left m h (Text pairs)) P (λ is. shut 6) (λ is. turn)))
 
 -- the session that goes on with a good answer
 abbrev pub with_answer : Machine → LoginResponse → Pairs → Machine
@@ -77,8 +74,8 @@ hears_answer m h pairs p s tag class left =
     let shut : (r : ℕ) → P (breaks m r) = λ r. inl (record { phase = refl; stage = refl }) in
     let number : Bool = not (is_expected m.exp_stat_sn (unwrap_or h.stat_sn 0)) in
     let turn : P (in_turn m.left m h (Text pairs)) =
-    subst (λ (l : List ℕ). P (in_turn l m h (Text pairs))) (sym left) (by_cases (moves_on m h) P (text_answered m h (Text pairs)) (breaks m 7) (λ is. judges (bad_key (offered m) pairs) m h pairs) (λ is. shut 7)) in
+    subst (λ (l : List ℕ). P (in_turn l m h (Text pairs))) (sym left) (cond_both (moves_on m h) (text_answered m h (Text pairs)) (breaks m 7) P (λ is. judges (bad_key (offered m) pairs) m h pairs) (λ is. shut 7)) in
     subst P (sym (hears m h pairs p s tag))
-    (by_cases (not (h.status_class == 0)) P (fails m (Refused h.status_class h.status_detail)) (if number then breaks m 6 else in_turn m.left m h (Text pairs))
+    (cond_both (not (h.status_class == 0)) (fails m (Refused h.status_class h.status_detail)) (if number then breaks m 6 else in_turn m.left m h (Text pairs)) P
     (λ is. absurd (apart is (ap (λ (n : ℕ). not (n == 0)) class)))
-    (λ is. by_cases number P (breaks m 6) (in_turn m.left m h (Text pairs)) (λ is. shut 6) (λ is. turn)))
+    (λ is. cond_both number (breaks m 6) (in_turn m.left m h (Text pairs)) P (λ is. shut 6) (λ is. turn)))

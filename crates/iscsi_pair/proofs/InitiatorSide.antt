@@ -301,7 +301,7 @@ open_if : (b : Bool) (x y : Stepped) → is_closed x.machine ≡ false → is_cl
 open_if true x y p q = p
 open_if false x y p q = q
 
-begun_open : (c : Opening) → is_closed (begun c) ≡ false
+pub begun_open : (c : Opening) → is_closed (begun c) ≡ false
 begun_open c =
     let m : Machine = record (opening c.initiator) { started = true } in
     open_if (fits_segment m (canonical_text (offered m))) _ _ refl refl

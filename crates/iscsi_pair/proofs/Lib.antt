@@ -24,3 +24,13 @@ pub mod LocalReads
 pub mod LocalPings
 pub mod LocalWrites
 pub mod LocalDisks
+pub mod Keeping
+pub mod Meeting
+pub mod Written
+pub mod Courses
+pub mod Outcomes
+pub mod Serving
+pub mod Unread
+pub mod CarriedOut
+pub mod Carried
+pub mod OneDisk

@@ -1,6 +1,6 @@
 -- A ping and a logout between two ends that are in step.
 use Rattle.std.specs.Prelude.{nat_lt, ◌==◌, ◌||◌, not, is_some}
-use Rattle.std.proofs.Common.{◌≡◌, ◌<◌, ◌≤◌, ℕ, ◌+◌, ◌^◌, true, false, List, [], ◌∷◌, length, take, Some, None, refl, sym, ap, ◌∙◌, subst, arith, ne_eqb}
+use Rattle.std.proofs.Common.{◌≡◌, inl, inr, ◌<◌, ◌≤◌, ℕ, ◌+◌, ◌^◌, false, List, [], ◌∷◌, length, take, Some, None, refl, sym, ap, ◌∙◌, subst, arith, ne_eqb}
 use Rattle.std.proofs.Math.Nat.{mod-lt}
 use Rattle.std.proofs.lemmas.Bool.{eq-eqb, le-ltb, ltb-false}
 use Rattle.std.proofs.lemmas.List.{length-take}
@@ -16,6 +16,7 @@ use Rattle.iscsi_login.specs.Held.{Held}
 use Rattle.iscsi_target.specs.State as target
 use Rattle.iscsi_target.specs.State.{next_sn, on, say}
 use Rattle.iscsi_target.specs.Requests.{logged_out, logout_head, nop_in_head}
+use Rattle.iscsi_target.specs.Machine as target_machine
 use Rattle.iscsi_target.specs.Machine.{accepting, answers, step_on}
 use Rattle.iscsi_target.proofs.Continuing.{then_nothing}
 use Rattle.iscsi_initiator.specs.declared.open.Open.TheVariants as opens
@@ -24,12 +25,15 @@ use Rattle.iscsi_initiator.specs.declared.request.Request.{Request}
 use Rattle.iscsi_initiator.specs.declared.request.Request.TheVariants as requests
 use Rattle.iscsi_initiator.specs.State as initiator
 use Rattle.iscsi_initiator.specs.State.{next, next_tag}
-use Rattle.iscsi_initiator.specs.Steps.{Stepped, quiet}
-use Rattle.iscsi_initiator.specs.Machine.{step, steps, taken}
+use Rattle.iscsi_initiator.specs.Steps.{quiet}
+use Rattle.iscsi_initiator.specs.Machine.{step}
 use Rattle.iscsi_initiator.specs.Submitted.{Submitted, accepted, logout_request, ping, refusal, refusal_in, refusal_when_full, submitted, is_within}
-use Rattle.iscsi_pair.specs.LocalDisk.{AreInStep, Ends, HasLoggedOut, handed_in, turned}
-use Rattle.iscsi_pair.proofs.Windows.{near_one, tells_one}
-use Rattle.iscsi_pair.proofs.LocalReads.{not_long, ready, steps_quiet, submitted_is, tag_after, told_window, unrefused, window_now}
+use Rattle.iscsi_pair.specs.LocalDisk.{AreInStep, Stand, window_of_one}
+use Rattle.iscsi_pair.proofs.Windows.{near_one, tells_one, tag_after}
+use Rattle.iscsi_pair.proofs.Written.{left_readable, logout_readable, ping_readable, pong_readable}
+use Rattle.iscsi_pair.proofs.Keeping.{IsOpenFor}
+use Rattle.iscsi_pair.proofs.Courses.{ArePlain, Begins, Ends, heard_by, hears_quiet, plain_one, short_message}
+use Rattle.iscsi_pair.proofs.LocalReads.{in_step_again, not_long, ready, stat_sn_sent, submitted_is, told_window, unrefused, window_now}
 
 -- ---- a ping
 
@@ -80,8 +84,8 @@ short_ping m bytes full e =
     (not_long (is_some m.open_request || is_some m.done) (not (is_within m.cmd_sn m.window)) (nat_lt m.held.target_max_recv (length bytes)) when)
 
 pub local_ping : (m : initiator.Machine) (t : target.Machine) (disk : Disk) (bytes : List ℕ) → AreInStep m t → (submitted m (requests.Ping bytes)).refusal ≡ None
-    → Ends m.held (handed_in m t disk (requests.Ping bytes)) (done.Ping (take m.held.initiator_max_recv bytes)) disk
-unfolding answers steps
+    → Begins m.held m t disk (requests.Ping bytes) (done.Ping (take m.held.initiator_max_recv bytes)) disk
+unfolding answers
 local_ping m t disk bytes a e =
     let request : Request = requests.Ping bytes in
     let n : ℕ = next_sn m.cmd_sn in
@@ -89,10 +93,13 @@ local_ping m t disk bytes a e =
     let short : length bytes ≤ m.held.target_max_recv = short_ping m bytes a.initiator_phase e in
     let sent : submitted m request ≡ accepted m request = submitted_is m request e in
     let begun_ : initiator.Machine = record m { initiator_task_tag = next_tag m.initiator_task_tag; cmd_sn = next m.cmd_sn } in
-    let t' : target.Machine = ready t (next_sn m.cmd_sn) in
+    let t' : target.Machine = ready t n in
     let given : List ℕ = take m.held.initiator_max_recv bytes in
+    let few : length given ≤ m.held.initiator_max_recv = omega (arith, length-take m.held.initiator_max_recv bytes) in
+    let tag : next_tag m.initiator_task_tag ≤ 0xffff_fffe = tag_after m.initiator_task_tag a.tag_fits in
     let is_t : t ≡ ready t m.cmd_sn = λ i. record t { phase = a.target_phase i; session = a.session i; write = a.none_written i; exp_cmd_sn = a.cmd_sn i } in
     let is_m : (accepted m request).machine ≡ pinging begun_ m.window = λ i. record begun_ { phase = a.initiator_phase i; open_request = Some opens.Ping } in
+    let answer : Message = target.message (nop_in_head t' (ping m)) given in
     let executed : target.Stepped = accepting (ping_message m bytes) (on disk (say t' (nop_in_head t' (ping m)) given)) in
     let r : answers t disk (submitted m request).output ≡ executed =
     ap (λ (s : Submitted). answers t disk s.output) sent
@@ -100,39 +107,31 @@ local_ping m t disk bytes a e =
     ∙ ap (λ (x : target.Machine). step_on effect x disk (ping_message m bytes)) is_t
     ∙ ping_taken m t disk bytes a.cmd_sn_fits a.tag_fits (subst (λ (h : Held). length bytes ≤ h.target_max_recv) (sym a.held) short) (subst (λ (h : Held). h.target_max_recv ≤ target.limit t.settings) (sym a.held) a.segment)
     ∙ ap (λ (h : Held). accepting (ping_message m bytes) (on disk (say t' (nop_in_head t' (ping m)) (take h.initiator_max_recv bytes)))) a.held in
-    let one : step (pinging begun_ m.window) (target.message (nop_in_head t' (ping m)) given) ≡ quiet (pinged begun_ t' m.window given) =
-    pong_heard begun_ m t' m.window given a.stat_sn refl (tag_after m.initiator_task_tag a.tag_fits) (omega (arith, length-take m.held.initiator_max_recv bytes)) in
-    let q : steps (submitted m request).machine (answers t disk (submitted m request).output).answers ≡ quiet (pinged begun_ t' m.window given) =
-    ap (λ (x : target.Stepped). steps (submitted m request).machine x.answers) r
-    ∙ ap (λ (s : Submitted). steps s.machine executed.answers) sent
-    ∙ ap (λ (x : initiator.Machine). steps x executed.answers) is_m
-    ∙ steps_quiet (pinging begun_ m.window) (pinged begun_ t' m.window given) (target.message (nop_in_head t' (ping m)) given) [] one refl in
-    record {
-      turns = 1;
+    let one : step (pinging begun_ m.window) answer ≡ quiet (pinged begun_ t' m.window given) = pong_heard begun_ m t' m.window given a.stat_sn refl tag few in
+    let told_ : told_window m.window t' ≡ window_of_one n = tells_one n m.window fits (near_one n m.cmd_sn m.window a.cmd_sn_fits refl a.window) in
+    let last : Stand = record { initiator = pinged begun_ t' m.window given; target = target.counted t'; disk = disk; answers = [] } in
+    let ends_ : Ends m.held (pinging begun_ m.window) executed (done.Ping given) disk = record {
+      last = last;
+      leads = hears_quiet m.held (pinging begun_ m.window) (pinged begun_ t' m.window given) (target.counted t') disk answer [] last one refl refl a.none_done (0, refl);
       ended = record {
-        done_is = ap (λ (x : Stepped). x.machine.done) q;
-        silent = ap (λ (x : Stepped). x.output) q;
-        disk_is = ap (λ (x : target.Stepped). x.disk) r;
-        held_is = ap (λ (x : Stepped). x.machine.held) q;
-        in_step = subst (λ (x : Stepped). AreInStep (taken x.machine) (answers t disk (submitted m request).output).machine) (sym q)
-            (subst (λ (x : target.Stepped). AreInStep (taken (pinged begun_ t' m.window given)) x.machine) (sym r) (record {
-              initiator_phase = refl;
-              target_phase = refl;
-              session = refl;
-              none_open = refl;
-              none_done = refl;
-              none_written = refl;
-              held = a.held;
-              is_held = a.is_held;
-              segment = a.segment;
-              tag_fits = tag_after m.initiator_task_tag a.tag_fits;
-              cmd_sn = refl;
-              cmd_sn_fits = mod-lt (m.cmd_sn + 1) (omega arith);
-              window = tells_one (next_sn m.cmd_sn) m.window (mod-lt (m.cmd_sn + 1) (omega arith)) (near_one (next_sn m.cmd_sn) m.cmd_sn m.window a.cmd_sn_fits refl a.window);
-              stat_sn = refl;
-              stat_sn_fits = mod-lt (t.stat_sn + 1) (omega arith);
-            }));
+        done_is = refl;
+        silent = refl;
+        disk_is = refl;
+        at_rest = inl (in_step_again begun_ t m.window a.held a.is_held a.segment tag fits told_, refl);
       };
+    } in
+    let written : ArePlain m.held.target_max_recv (ping_message m bytes ∷ []) =
+    plain_one m.held.target_max_recv (ping_message m bytes)
+    (λ logins. ping_readable logins m bytes a.tag_fits a.cmd_sn_fits (stat_sn_sent m t a) (omega (arith, short, a.is_held.target_max_recv.1)))
+    (short_message (ping_message m bytes).head bytes m.held.target_max_recv short) in
+    record {
+      heard = heard_by m.held t disk (submitted m request).output executed r (subst (λ (s : Submitted). ArePlain m.held.target_max_recv s.output) (sym sent) written) refl refl
+          (plain_one m.held.initiator_max_recv answer
+          (λ logins. pong_readable logins t' (ping m) given (omega (arith, tag)) a.stat_sn_fits fits (omega (arith, few, a.is_held.initiator_max_recv.1)))
+          (short_message answer.head given m.held.initiator_max_recv few));
+      ends = subst (λ (s : Submitted). Ends m.held s.machine (answers t disk (submitted m request).output) (done.Ping given) disk) (sym sent)
+          (subst (λ (x : initiator.Machine). Ends m.held x (answers t disk (submitted m request).output) (done.Ping given) disk) (sym is_m)
+          (subst (λ (x : target.Stepped). Ends m.held (pinging begun_ m.window) x (done.Ping given) disk) (sym r) ends_));
     }
 
 -- ---- a logout
@@ -164,37 +163,44 @@ unfolding step segment_bytes
 logout_heard m before t window e same =
     rw (sym same, eq-eqb m.initiator_task_tag m.initiator_task_tag refl, le-ltb m.held.initiator_max_recv 0 (omega arith), e, eq-eqb t.stat_sn t.stat_sn refl) refl
 
--- the session closes with this message
-steps_last : (m n : initiator.Machine) (x : Message) → step m x ≡ quiet n → n.phase ≡ phases.Closed → steps m (x ∷ []) ≡ quiet n
-unfolding steps
-steps_last m n x e shut =
-    let over : initiator.is_closed (step m x).machine ≡ true = ap (λ (s : Stepped). initiator.is_closed s.machine) e ∙ ap initiator.is_closed_phase shut in
-    rw over e
-
-pub logged_out_so : (m : initiator.Machine) (t : target.Machine) (disk : Disk) → AreInStep m t → (submitted m requests.Logout).refusal ≡ None → HasLoggedOut (turned (handed_in m t disk requests.Logout)) disk
+pub local_logout : (m : initiator.Machine) (t : target.Machine) (disk : Disk) → AreInStep m t → (submitted m requests.Logout).refusal ≡ None → Begins m.held m t disk requests.Logout done.Closed disk
 unfolding answers
-logged_out_so m t disk a e =
+local_logout m t disk a e =
     let request : Request = requests.Logout in
+    let n : ℕ = next_sn m.cmd_sn in
+    let fits : n < 2 ^ 32 = mod-lt (m.cmd_sn + 1) (omega arith) in
     let sent : submitted m request ≡ accepted m request = submitted_is m request e in
     let begun_ : initiator.Machine = record m { initiator_task_tag = next_tag m.initiator_task_tag; cmd_sn = next m.cmd_sn } in
-    let t' : target.Machine = ready t (next_sn m.cmd_sn) in
+    let t' : target.Machine = ready t n in
+    let tag : next_tag m.initiator_task_tag ≤ 0xffff_fffe = tag_after m.initiator_task_tag a.tag_fits in
     let is_t : t ≡ ready t m.cmd_sn = λ i. record t { phase = a.target_phase i; session = a.session i; write = a.none_written i; exp_cmd_sn = a.cmd_sn i } in
     let is_m : (accepted m request).machine ≡ leaving begun_ m.window = λ i. record begun_ { phase = a.initiator_phase i; open_request = Some opens.Logout } in
+    let answer : Message = target.message (logout_head t' (logout_request m)) [] in
     let executed : target.Stepped = accepting (logout_message m) (on disk (logged_out t' (logout_request m))) in
     let r : answers t disk (submitted m request).output ≡ executed =
     ap (λ (s : Submitted). answers t disk s.output) sent
     ∙ then_nothing (step_on effect t disk (logout_message m))
     ∙ ap (λ (x : target.Machine). step_on effect x disk (logout_message m)) is_t
     ∙ logout_taken m t disk a.cmd_sn_fits in
-    let q : steps (submitted m request).machine (answers t disk (submitted m request).output).answers ≡ quiet (left begun_ t' m.window) =
-    ap (λ (x : target.Stepped). steps (submitted m request).machine x.answers) r
-    ∙ ap (λ (s : Submitted). steps s.machine executed.answers) sent
-    ∙ ap (λ (x : initiator.Machine). steps x executed.answers) is_m
-    ∙ steps_last (leaving begun_ m.window) (left begun_ t' m.window) (target.message (logout_head t' (logout_request m)) []) (logout_heard begun_ m t' m.window a.stat_sn refl) refl in
+    let last : Stand = record { initiator = left begun_ t' m.window; target = executed.machine; disk = disk; answers = [] } in
+    let ends_ : Ends m.held (leaving begun_ m.window) executed done.Closed disk = record {
+      last = last;
+      leads = hears_quiet m.held (leaving begun_ m.window) (left begun_ t' m.window) executed.machine disk answer [] last (logout_heard begun_ m t' m.window a.stat_sn refl) refl refl a.none_done (0, refl);
+      ended = record { done_is = refl; silent = refl; disk_is = refl; at_rest = inr (record { initiator_phase = refl; target_phase = refl; none_open = refl }) };
+    } in
+    let written : ArePlain m.held.target_max_recv (logout_message m ∷ []) =
+    plain_one m.held.target_max_recv (logout_message m) (λ logins. logout_readable logins m a.tag_fits a.cmd_sn_fits (stat_sn_sent m t a)) (short_message (logout_message m).head [] m.held.target_max_recv (omega arith)) in
+    let open_ : IsOpenFor t disk (submitted m request).output =
+    subst (λ (s : Submitted). IsOpenFor t disk s.output) (sym sent) (ap target_machine.is_closed_phase a.target_phase, tt) in
     record {
-      done_is = ap (λ (x : Stepped). x.machine.done) q;
-      silent = ap (λ (x : Stepped). x.output) q;
-      disk_is = ap (λ (x : target.Stepped). x.disk) r;
-      initiator_phase = ap (λ (x : Stepped). x.machine.phase) q;
-      target_phase = ap (λ (x : target.Stepped). x.machine.phase) r;
+      heard = record {
+        written = subst (λ (s : Submitted). ArePlain m.held.target_max_recv s.output) (sym sent) written;
+        open_ = open_;
+        rule = ap (λ (x : target.Stepped). x.rule) r;
+        answered = subst (λ (x : target.Stepped). ArePlain m.held.initiator_max_recv x.answers) (sym r)
+            (plain_one m.held.initiator_max_recv answer (λ logins. left_readable logins t' (logout_request m) (omega (arith, tag)) a.stat_sn_fits fits) (short_message answer.head [] m.held.initiator_max_recv (omega arith)));
+      };
+      ends = subst (λ (s : Submitted). Ends m.held s.machine (answers t disk (submitted m request).output) done.Closed disk) (sym sent)
+          (subst (λ (x : initiator.Machine). Ends m.held x (answers t disk (submitted m request).output) done.Closed disk) (sym is_m)
+          (subst (λ (x : target.Stepped). Ends m.held (leaving begun_ m.window) x done.Closed disk) (sym r) ends_));
     }

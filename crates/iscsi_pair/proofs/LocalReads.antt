@@ -1,9 +1,9 @@
 -- A read between two ends that are in step: its outcome is that of the disk.
-use Rattle.std.specs.Prelude.{◌-◌, ◌*◌, min, nat_lt, ◌==◌, ◌&&◌, ◌||◌, not, if◌then◌else◌, is_some}
+use Rattle.std.specs.Prelude.{unwrap_or, ◌-◌, ◌*◌, min, nat_lt, ◌==◌, ◌&&◌, ◌||◌, not, if◌then◌else◌, is_some}
 use Rattle.std.specs.List.{flat_map, AllByRecursion}
-use Rattle.std.proofs.Common.{◌≡◌, inr, ◌<◌, ◌≤◌, ℕ, zero, suc, ◌+◌, ◌^◌, ◌%◌, Bool, true, false, List, [], ◌∷◌, ◌++◌, length, drop, Option, Some, None, refl, sym, ap, ◌∙◌, subst, arith, append_assoc}
+use Rattle.std.proofs.Common.{◌≡◌, inl, inr, ◌<◌, ◌≤◌, ℕ, zero, suc, ◌+◌, ◌^◌, ◌%◌, Bool, true, false, List, [], ◌∷◌, ◌++◌, length, drop, Option, Some, None, refl, sym, ap, ◌∙◌, subst, arith, append_assoc}
 use Rattle.std.proofs.Math.Nat.{mod-eq_of_lt, mod-lt}
-use Rattle.std.proofs.lemmas.Bool.{eq-eqb, eqb-false, le-leb, le-ltb, ltb-false}
+use Rattle.std.proofs.lemmas.Bool.{eq-eqb, le-leb, le-ltb, ltb-false}
 use Rattle.std.proofs.lemmas.List.{append-nil, length-append, length-take, length-drop}
 use Rattle.scsi_cdb.specs.declared.residual.Residual.{Residual}
 use Rattle.scsi_cdb.specs.declared.residual.Residual.TheVariants.{Exact, Under, Over}
@@ -19,6 +19,7 @@ use Rattle.scsi_disk.proofs.Planned.{all_false}
 use Rattle.iscsi_pdu.specs.declared.head.Head.TheVariants as heads
 use Rattle.iscsi_pdu.specs.declared.serial.Window.{Window}
 use Rattle.iscsi_pdu.specs.Serial.{moved}
+use Rattle.iscsi_pdu.specs.Meaning.{AreBytes}
 use Rattle.iscsi_pdu.specs.declared.head.scsi_command.ScsiCommand.{ScsiCommand}
 use Rattle.iscsi_pdu.specs.declared.head.scsi_response.ScsiResponse.{ScsiResponse}
 use Rattle.iscsi_stream.specs.Segment.{Bytes, segment_bytes}
@@ -41,17 +42,20 @@ use Rattle.iscsi_initiator.specs.declared.open.Open.{Open}
 use Rattle.iscsi_initiator.specs.declared.open.Open.TheVariants as opens
 use Rattle.iscsi_initiator.specs.Full.{Response, due_to}
 use Rattle.iscsi_initiator.specs.State as initiator
-use Rattle.iscsi_initiator.specs.State.{is_closed, is_closed_phase, next, next_tag, serial}
+use Rattle.iscsi_initiator.specs.State.{is_closed, is_closed_phase, next, next_tag, sent_exp_stat_sn, serial}
 use Rattle.iscsi_initiator.specs.declared.request.Request.{Request}
 use Rattle.iscsi_initiator.specs.declared.request.Request.TheVariants as requests
 use Rattle.iscsi_initiator.specs.declared.request.SubmitFault.{SubmitFault}
 use Rattle.iscsi_initiator.specs.declared.request.SubmitFault.TheVariants as refusals_
 use Rattle.iscsi_initiator.specs.Submitted.{Submitted, accepted, command, or_accepted, refusal, refusal_in, refusal_when_full, submitted, is_within as submit_within}
 use Rattle.iscsi_initiator.specs.Progress.{Reading}
-use Rattle.iscsi_initiator.specs.Steps.{Stepped, quiet}
-use Rattle.iscsi_initiator.specs.Machine.{step, steps, taken, then_steps}
-use Rattle.iscsi_pair.specs.LocalDisk.{AreInStep, Ends, handed_in, reading_order, told, told_sense}
-use Rattle.iscsi_pair.proofs.Windows.{IsNear, near_one, tells_one}
+use Rattle.iscsi_initiator.specs.Steps.{quiet}
+use Rattle.iscsi_initiator.specs.Machine.{step}
+use Rattle.iscsi_pair.specs.LocalDisk.{AreInStep, Stand, reading_order, told, told_sense, window_of_one}
+use Rattle.iscsi_pair.proofs.Windows.{IsNear, near_one, tag_after, tells_one}
+use Rattle.iscsi_pair.proofs.Written.{command_readable, data_in_readable, outcome_readable}
+use Rattle.iscsi_pair.proofs.Outcomes.{HasRoom, outcome_fits}
+use Rattle.iscsi_pair.proofs.Courses.{ArePlain, Begins, Ends, LeadsTo, heard_by, hears_quiet, plain_more, plain_one, short_message}
 
 -- ---- the initiator hears the data
 
@@ -87,53 +91,51 @@ record PartsHeard (m : initiator.Machine) (t : target.Machine) (r : Reading) (wi
   told : Window
   -- what each told window keeps is kept
   kept : (n : ℕ) → ((w : Window) → IsNear n w → IsNear n (told_window w t)) → IsNear n window → IsNear n told
-  is : steps (reading m r window) (data_ins t m.initiator_task_tag r.next_data_sn (length r.received) given ++ more)
-      ≡ steps (reading m (record r { received = r.received ++ bytes_of given; next_data_sn = r.next_data_sn + length given }) told) more
+  leads : (held : Held) (s : target.Machine) (disk : Disk) (x : Stand) → LeadsTo held (reading m (record r { received = r.received ++ bytes_of given; next_data_sn = r.next_data_sn + length given }) told) s disk more x
+      → LeadsTo held (reading m r window) s disk (data_ins t m.initiator_task_tag r.next_data_sn (length r.received) given ++ more) x
 
 -- each part is one that the initiator takes
 abbrev AreShort : ℕ → Parts → Type 0
 AreShort most given = AllByRecursion (λ part. length part.0 ≤ most) given
 
-pub steps_quiet : (m n : initiator.Machine) (x : Message) (xs : List Message) → step m x ≡ quiet n → n.phase ≡ phases.Full → steps m (x ∷ xs) ≡ steps n xs
-unfolding steps
-steps_quiet m n x xs e full =
-    let live : is_closed (step m x).machine ≡ false = ap (λ (s : Stepped). is_closed s.machine) e ∙ ap is_closed_phase full in
-    rw live (ap (λ (s : Stepped). then_steps s (steps s.machine xs)) e)
-
 parts_heard : (m : initiator.Machine) (t : target.Machine) (r : Reading) (window : Window) (given : Parts) (more : List Message)
-    → AreShort m.held.initiator_max_recv given → length r.received + length (bytes_of given) ≤ r.expected → r.next_data_sn + length given < 2 ^ 32
+    → m.done ≡ None → AreShort m.held.initiator_max_recv given → length r.received + length (bytes_of given) ≤ r.expected → r.next_data_sn + length given < 2 ^ 32
     → PartsHeard m t r window given more
-parts_heard m t r window [] more short room few = record {
-  told = window;
-  kept = λ n keeps near. near;
-  is = ap (λ (x : Reading). steps (reading m x window) more) (λ i. record { expected = r.expected; received = sym (append-nil r.received) i; next_data_sn = (let e : r.next_data_sn ≡ r.next_data_sn + 0 = omega arith in e) i });
-}
-parts_heard m t r window (part ∷ given) more short room few =
+parts_heard m t r window [] more none short room few =
+    let same : r ≡ record { expected = r.expected; received = r.received ++ []; next_data_sn = r.next_data_sn + 0 } =
+    λ i. record { expected = r.expected; received = sym (append-nil r.received) i; next_data_sn = (let e : r.next_data_sn ≡ r.next_data_sn + 0 = omega arith in e) i } in
+    record {
+      told = window;
+      kept = λ n keeps near. near;
+      leads = λ held s disk x l. subst (λ (y : Reading). LeadsTo held (reading m y window) s disk more x) (sym same) l;
+    }
+parts_heard m t r window (part ∷ given) more none short room few =
     let r' : Reading = record { expected = r.expected; received = r.received ++ part.0; next_data_sn = r.next_data_sn + 1 } in
     let room' : length r.received + length part.0 ≤ r.expected = omega (arith, room, length-append part.0 (bytes_of given)) in
     let sn : next r.next_data_sn ≡ r.next_data_sn + 1 = next_small r.next_data_sn (omega (arith, few)) in
     let h : PartsHeard m t r' (told_window window t) given more =
-    parts_heard m t r' (told_window window t) given more short.1 (omega (arith, room, length-append part.0 (bytes_of given), length-append r.received part.0)) (omega (arith, few)) in
+    parts_heard m t r' (told_window window t) given more none short.1 (omega (arith, room, length-append part.0 (bytes_of given), length-append r.received part.0)) (omega (arith, few)) in
     let one : step (reading m r window) (message (data_in_head t m.initiator_task_tag r.next_data_sn (length r.received) part.1) part.0) ≡ quiet (reading m r' (told_window window t)) =
     part_heard m t r window part short.0 room'
     ∙ ap (λ (n : ℕ). quiet (reading m (record r { received = r.received ++ part.0; next_data_sn = n }) (told_window window t))) sn in
+    let same : record r' { received = r'.received ++ bytes_of given; next_data_sn = r'.next_data_sn + length given } ≡ record r { received = r.received ++ bytes_of (part ∷ given); next_data_sn = r.next_data_sn + length (part ∷ given) } =
+    λ i. record {
+      expected = r.expected;
+      received = append_assoc r.received part.0 (bytes_of given) i;
+      next_data_sn = (let e : r.next_data_sn + 1 + length given ≡ r.next_data_sn + length (part ∷ given) = omega arith in e) i;
+    } in
     record {
       told = h.told;
       kept = λ n keeps near. h.kept n keeps (keeps window near);
-      is = steps_quiet (reading m r window) (reading m r' (told_window window t)) (message (data_in_head t m.initiator_task_tag r.next_data_sn (length r.received) part.1) part.0)
-          (data_ins t m.initiator_task_tag (r.next_data_sn + 1) (length r.received + length part.0) given ++ more) one refl
-          ∙ ap (λ (n : ℕ). steps (reading m r' (told_window window t)) (data_ins t m.initiator_task_tag (r.next_data_sn + 1) n given ++ more)) (sym (length-append r.received part.0))
-          ∙ h.is
-          ∙ ap (λ (x : Reading). steps (reading m x h.told) more) (λ i. record {
-            expected = r.expected;
-            received = append_assoc r.received part.0 (bytes_of given) i;
-            next_data_sn = (let e : r.next_data_sn + 1 + length given ≡ r.next_data_sn + length (part ∷ given) = omega arith in e) i;
-          });
+      leads = λ held s disk x l. hears_quiet held (reading m r window) (reading m r' (told_window window t)) s disk (message (data_in_head t m.initiator_task_tag r.next_data_sn (length r.received) part.1) part.0)
+          (data_ins t m.initiator_task_tag (r.next_data_sn + 1) (length r.received + length part.0) given ++ more) x one refl refl none
+          (subst (λ (n : ℕ). LeadsTo held (reading m r' (told_window window t)) s disk (data_ins t m.initiator_task_tag (r.next_data_sn + 1) n given ++ more) x) (length-append r.received part.0)
+          (h.leads held s disk x (subst (λ (y : Reading). LeadsTo held (reading m y h.told) s disk more x) (sym same) l)));
     }
 
 -- ---- the data of a command, in parts
 
-all_append : {A : Type 0} (P : A → Type 0) (xs ys : List A) → AllByRecursion P xs → AllByRecursion P ys → AllByRecursion P (xs ++ ys)
+pub all_append : {A : Type 0} (P : A → Type 0) (xs ys : List A) → AllByRecursion P xs → AllByRecursion P ys → AllByRecursion P (xs ++ ys)
 all_append P [] ys p q = q
 all_append P (x ∷ xs) ys p q = (p.0, all_append P xs ys p.1 q)
 
@@ -222,29 +224,73 @@ outcome_heard m t open_ received window status (Some sense) bytes (Over n) count
 record ReadHeard (m : initiator.Machine) (t : target.Machine) (r : Reading) (window : Window) (outcome : Outcome) : Type 0 where
   told : Window
   kept : (n : ℕ) → ((w : Window) → IsNear n w → IsNear n (told_window w t)) → IsNear n window → IsNear n told
-  is : steps (reading m r window) (command_answers t m.initiator_task_tag outcome (parts_given t.held outcome.bytes)) ≡ quiet (finished m t told outcome outcome.bytes)
+  leads : (held : Held) (s : target.Machine) (disk : Disk) (x : Stand) → LeadsTo held (finished m t told outcome outcome.bytes) s disk [] x
+      → LeadsTo held (reading m r window) s disk (command_answers t m.initiator_task_tag outcome (parts_given t.held outcome.bytes)) x
 
-read_heard : (m : initiator.Machine) (t : target.Machine) (window : Window) (outcome : Outcome) (expected : ℕ) → t.held ≡ m.held → IsHeld m.held → m.exp_stat_sn ≡ Some t.stat_sn
+-- the parts of what is given
+record AreGiven (held : Held) (bytes : List ℕ) : Type 0 where
+  all : bytes_of (parts_given held bytes) ≡ bytes
+  short : AreShort held.initiator_max_recv (parts_given held bytes)
+  few : length (parts_given held bytes) ≤ length bytes
+
+are_given : (held : Held) (bytes : List ℕ) → IsHeld held → AreGiven held bytes
+are_given held bytes is =
+    let most : 0 < held.initiator_max_recv = omega (arith, is.initiator_max_recv.0) in
+    record {
+      all = all_given held bytes (can_give held is).burst most;
+      short = runs_short held (parts (max_burst held) bytes);
+      few = given_few held bytes (can_give held is).burst most;
+    }
+
+read_heard : (m : initiator.Machine) (t : target.Machine) (window : Window) (outcome : Outcome) (expected : ℕ) → t.held ≡ m.held → IsHeld m.held → m.exp_stat_sn ≡ Some t.stat_sn → m.done ≡ None
     → length outcome.bytes ≤ expected → expected < 2 ^ 32 → ReadHeard m t (record { expected = expected; received = []; next_data_sn = 0 }) window outcome
-unfolding steps
-read_heard m t window outcome expected held is_held stat_sn room small =
+read_heard m t window outcome expected held is_held stat_sn none room small =
     let r : Reading = record { expected = expected; received = []; next_data_sn = 0 } in
-    let most : 0 < t.held.initiator_max_recv = subst (λ (h : Held). 0 < h.initiator_max_recv) (sym held) (omega (arith, is_held.initiator_max_recv.0)) in
-    let burst : 0 < max_burst t.held = subst (λ (h : Held). 0 < max_burst h) (sym held) (can_give m.held is_held).burst in
+    let g : AreGiven t.held outcome.bytes = are_given t.held outcome.bytes (subst IsHeld (sym held) is_held) in
     let given : Parts = parts_given t.held outcome.bytes in
-    let all : bytes_of given ≡ outcome.bytes = all_given t.held outcome.bytes burst most in
     let last : Message = message (response_head t m.initiator_task_tag outcome (length given)) (sense_segment outcome.sense) in
     let h : PartsHeard m t r window given (last ∷ []) =
-    parts_heard m t r window given (last ∷ []) (subst (λ (k : Held). AreShort k.initiator_max_recv given) held (runs_short t.held (parts (max_burst t.held) outcome.bytes)))
-    (omega (arith, room, ap (λ (x : List ℕ). length x) all)) (omega (arith, given_few t.held outcome.bytes burst most, room, small)) in
+    parts_heard m t r window given (last ∷ []) none (subst (λ (k : Held). AreShort k.initiator_max_recv given) held g.short)
+    (omega (arith, room, ap (λ (x : List ℕ). length x) g.all)) (omega (arith, g.few, room, small)) in
     let r' : Reading = record { expected = expected; received = bytes_of given; next_data_sn = 0 + length given } in
     let one = outcome_heard m t (opens.In r') r'.received h.told outcome.status outcome.sense outcome.bytes outcome.residual (length given) (λ h. refl) stat_sn (omega (arith, is_held.initiator_max_recv.0)) in
     record {
       told = h.told;
       kept = h.kept;
-      is = h.is ∙ steps_quiet (reading m r' h.told) (finished m t h.told outcome (bytes_of given)) last [] one refl
-          ∙ ap (λ (x : List ℕ). quiet (finished m t h.told outcome x)) all;
+      leads = λ k s disk x l. h.leads k s disk x
+          (hears_quiet k (reading m r' h.told) (finished m t h.told outcome (bytes_of given)) s disk last [] x one refl refl none
+          (subst (λ (y : List ℕ). LeadsTo k (finished m t h.told outcome y) s disk [] x) (sym g.all) l));
     }
+
+-- ---- what the target answers is read as it was written
+
+data_ins_written : (most : ℕ) (t : target.Machine) (tag data_sn offset : ℕ) (given : Parts) (more : List Message) → tag < 2 ^ 32 → t.exp_cmd_sn < 2 ^ 32 → most < 2 ^ 24 → AreShort most given
+    → data_sn + length given < 2 ^ 32 → offset + length (bytes_of given) < 2 ^ 32 → ArePlain most more → ArePlain most (data_ins t tag data_sn offset given ++ more)
+data_ins_written most t tag data_sn offset [] more tag_fits cmd_sn size short few room plain = plain
+data_ins_written most t tag data_sn offset (part ∷ given) more tag_fits cmd_sn size short few room plain =
+    let len = length-append part.0 (bytes_of given) in
+    plain_more most (message (data_in_head t tag data_sn offset part.1) part.0) (data_ins t tag (data_sn + 1) (offset + length part.0) given ++ more)
+    (λ logins. data_in_readable logins t tag data_sn offset part.1 part.0 tag_fits (omega (arith, few)) (omega (arith, room)) cmd_sn (omega (arith, short.0, size)))
+    (short_message (data_in_head t tag data_sn offset part.1) part.0 most short.0)
+    (data_ins_written most t tag (data_sn + 1) (offset + length part.0) given more tag_fits cmd_sn size short.1 (omega (arith, few)) (omega (arith, room, len)) plain)
+
+sense_most : (sense : Option Sense) → length (sense_segment sense) ≤ 20
+sense_most None = omega arith
+sense_most (Some sense) = omega arith
+
+pub command_written : (t : target.Machine) (tag : ℕ) (outcome : Outcome) → IsHeld t.held → tag < 2 ^ 32 → t.exp_cmd_sn < 2 ^ 32 → t.stat_sn < 2 ^ 32 → length outcome.bytes ≤ 4194304 → HasRoom outcome
+    → ArePlain t.held.initiator_max_recv (command_answers t tag outcome (parts_given t.held outcome.bytes))
+command_written t tag outcome is tag_fits cmd_sn stat_sn room fits =
+    let most : ℕ = t.held.initiator_max_recv in
+    let g : AreGiven t.held outcome.bytes = are_given t.held outcome.bytes is in
+    let given : Parts = parts_given t.held outcome.bytes in
+    let size : most < 2 ^ 24 = omega (arith, is.initiator_max_recv.1) in
+    let count : length given < 2 ^ 32 = omega (arith, g.few, room) in
+    data_ins_written most t tag 0 0 given (message (response_head t tag outcome (length given)) (sense_segment outcome.sense) ∷ []) tag_fits cmd_sn size g.short (omega (arith, count))
+    (omega (arith, ap (λ (x : List ℕ). length x) g.all, room))
+    (plain_one most (message (response_head t tag outcome (length given)) (sense_segment outcome.sense))
+    (λ logins. outcome_readable logins t tag outcome (length given) fits.status fits.residual tag_fits count stat_sn cmd_sn)
+    (short_message (response_head t tag outcome (length given)) (sense_segment outcome.sense) most (omega (arith, sense_most outcome.sense, is.initiator_max_recv.0))))
 
 -- ---- the target answers the command
 
@@ -320,16 +366,6 @@ read_taken m t disk lun cdb expected lt =
     (ap (accepting (read_command m lun cdb expected))
     (planned_now (plan_of order disk.count) t (next_sn m.cmd_sn) disk h (λ total. takes_none (first_refusal order disk.count) lun cdb expected disk.count total refl)))
 
--- ---- tags
-
-tag_by : (b : Bool) (tag : ℕ) → (tag == 0xffff_fffe) ≡ b → tag ≤ 0xffff_fffe → (if b then 0 else tag + 1) ≤ 0xffff_fffe
-tag_by true tag e le = omega arith
-tag_by false tag e le = (let apart_ = eqb-false tag 0xffff_fffe e in omega (arith, le, apart_))
-
--- the next tag names a task
-pub tag_after : (tag : ℕ) → tag ≤ 0xffff_fffe → next_tag tag ≤ 0xffff_fffe
-tag_after tag le = tag_by (tag == 0xffff_fffe) tag refl le
-
 -- ---- the whole of a read
 
 pub accepts_it : (f : Option SubmitFault) (m : initiator.Machine) (request : Request) → (or_accepted f m request).refusal ≡ None → or_accepted f m request ≡ accepted m request
@@ -359,10 +395,36 @@ few_expected m lun cdb expected full e =
     ltb-false 4194304 expected
     (not_long (is_some m.open_request || is_some m.done) (not (submit_within m.cmd_sn m.window)) (nat_lt 4194304 expected) when)
 
-pub local_read : (m : initiator.Machine) (t : target.Machine) (disk : Disk) (lun : ℕ) (cdb : List ℕ) (expected : ℕ) → AreInStep m t → (submitted m (requests.In lun cdb expected)).refusal ≡ None
-    → (let after : Effect = effect disk (reading_order lun cdb expected) [] in Ends m.held (handed_in m t disk (requests.In lun cdb expected)) (told after.outcome) after.disk)
+-- A command or a ping was answered: both ends are in step again.
+pub in_step_again : (m : initiator.Machine) (t : target.Machine) (window : Window) → t.held ≡ m.held → IsHeld m.held → m.held.target_max_recv ≤ target.limit t.settings → m.initiator_task_tag ≤ 0xffff_fffe → m.cmd_sn < 2 ^ 32
+    → told_window window (ready t m.cmd_sn) ≡ window_of_one m.cmd_sn
+    → AreInStep (record m { phase = phases.Full; exp_stat_sn = Some (next t.stat_sn); window = told_window window (ready t m.cmd_sn); open_request = None; done = None }) (target.counted (ready t m.cmd_sn))
+in_step_again m t window held is_held segment tag cmd_sn told_ = record {
+  initiator_phase = refl;
+  target_phase = refl;
+  session = refl;
+  none_open = refl;
+  none_done = refl;
+  none_written = refl;
+  held = held;
+  is_held = is_held;
+  segment = segment;
+  tag_fits = tag;
+  cmd_sn = refl;
+  cmd_sn_fits = cmd_sn;
+  window = told_;
+  stat_sn = refl;
+  stat_sn_fits = mod-lt (t.stat_sn + 1) (omega arith);
+}
+
+-- the number of what was received goes out
+pub stat_sn_sent : (m : initiator.Machine) (t : target.Machine) → AreInStep m t → sent_exp_stat_sn m < 2 ^ 32
+stat_sn_sent m t a = subst (λ (n : Option ℕ). unwrap_or n 0 < 2 ^ 32) (sym a.stat_sn) a.stat_sn_fits
+
+pub local_read : (m : initiator.Machine) (t : target.Machine) (disk : Disk) (lun : ℕ) (cdb : List ℕ) (expected : ℕ) → lun < 2 ^ 64 → length cdb ≡ 16 → AreBytes cdb → AreInStep m t → (submitted m (requests.In lun cdb expected)).refusal ≡ None
+    → (let after : Effect = effect disk (reading_order lun cdb expected) [] in Begins m.held m t disk (requests.In lun cdb expected) (told after.outcome) after.disk)
 unfolding answers
-local_read m t disk lun cdb expected a e =
+local_read m t disk lun cdb expected on_ size are a e =
     let request : Request = requests.In lun cdb expected in
     let order : Order = reading_order lun cdb expected in
     let after : Effect = effect disk order [] in
@@ -371,7 +433,7 @@ local_read m t disk lun cdb expected a e =
     let few : expected ≤ 4194304 = few_expected m lun cdb expected a.initiator_phase e in
     let sent : submitted m request ≡ accepted m request = submitted_is m request e in
     let begun_ : initiator.Machine = record m { initiator_task_tag = next_tag m.initiator_task_tag; cmd_sn = next m.cmd_sn } in
-    let t' : target.Machine = ready t (next_sn m.cmd_sn) in
+    let t' : target.Machine = ready t n in
     let r0 : Reading = record { expected = expected; received = []; next_data_sn = 0 } in
     let is_t : t ≡ ready t m.cmd_sn = λ i. record t { phase = a.target_phase i; session = a.session i; write = a.none_written i; exp_cmd_sn = a.cmd_sn i } in
     let is_m : (accepted m request).machine ≡ reading begun_ r0 m.window = λ i. record begun_ { phase = a.initiator_phase i; open_request = Some (opens.In r0) } in
@@ -381,37 +443,31 @@ local_read m t disk lun cdb expected a e =
     ∙ then_nothing (step_on effect t disk (read_command m lun cdb expected))
     ∙ ap (λ (x : target.Machine). step_on effect x disk (read_command m lun cdb expected)) is_t
     ∙ read_taken m t disk lun cdb expected a.cmd_sn_fits in
+    let tag : next_tag m.initiator_task_tag ≤ 0xffff_fffe = tag_after m.initiator_task_tag a.tag_fits in
     let room : length after.outcome.bytes ≤ expected = outcome_few (plan_of order disk.count) disk order expected (λ n. gives_few (first_refusal order disk.count) order disk.count n) in
-    let h : ReadHeard begun_ t' r0 m.window after.outcome = read_heard begun_ t' m.window after.outcome expected a.held a.is_held a.stat_sn room (omega (arith, few)) in
-    let q : steps (submitted m request).machine (answers t disk (submitted m request).output).answers ≡ quiet (finished begun_ t' h.told after.outcome after.outcome.bytes) =
-    ap (λ (x : target.Stepped). steps (submitted m request).machine x.answers) r
-    ∙ ap (λ (s : Submitted). steps s.machine executed.answers) sent
-    ∙ ap (λ (x : initiator.Machine). steps x executed.answers) is_m
-    ∙ h.is in
-    record {
-      turns = 1;
+    let h : ReadHeard begun_ t' r0 m.window after.outcome = read_heard begun_ t' m.window after.outcome expected a.held a.is_held a.stat_sn a.none_done room (omega (arith, few)) in
+    let last : Stand = record { initiator = finished begun_ t' h.told after.outcome after.outcome.bytes; target = target.counted t'; disk = after.disk; answers = [] } in
+    let told_ : told_window h.told t' ≡ window_of_one n =
+    tells_one n h.told fits (h.kept n (λ w near. subst (IsNear n) (sym (tells_one n w fits near)) (record { exp = inr refl; max = inr refl })) (near_one n m.cmd_sn m.window a.cmd_sn_fits refl a.window)) in
+    let ends_ : Ends m.held (reading begun_ r0 m.window) executed (told after.outcome) after.disk = record {
+      last = last;
+      leads = h.leads m.held (target.counted t') after.disk last (0, refl);
       ended = record {
-        done_is = ap (λ (x : Stepped). x.machine.done) q;
-        silent = ap (λ (x : Stepped). x.output) q;
-        disk_is = ap (λ (x : target.Stepped). x.disk) r;
-        held_is = ap (λ (x : Stepped). x.machine.held) q;
-        in_step = subst (λ (x : Stepped). AreInStep (taken x.machine) (answers t disk (submitted m request).output).machine) (sym q)
-            (subst (λ (x : target.Stepped). AreInStep (taken (finished begun_ t' h.told after.outcome after.outcome.bytes)) x.machine) (sym r) (record {
-              initiator_phase = refl;
-              target_phase = refl;
-              session = refl;
-              none_open = refl;
-              none_done = refl;
-              none_written = refl;
-              held = a.held;
-              is_held = a.is_held;
-              segment = a.segment;
-              tag_fits = tag_after m.initiator_task_tag a.tag_fits;
-              cmd_sn = refl;
-              cmd_sn_fits = fits;
-              window = tells_one n h.told fits (h.kept n (λ w near. subst (IsNear n) (sym (tells_one n w fits near)) (record { exp = inr refl; max = inr refl })) (near_one n m.cmd_sn m.window a.cmd_sn_fits refl a.window));
-              stat_sn = refl;
-              stat_sn_fits = mod-lt (t.stat_sn + 1) (omega arith);
-            }));
+        done_is = refl;
+        silent = refl;
+        disk_is = refl;
+        at_rest = inl (in_step_again begun_ t h.told a.held a.is_held a.segment tag fits told_, refl);
       };
+    } in
+    let written : ArePlain m.held.target_max_recv (read_command m lun cdb expected ∷ []) =
+    plain_one m.held.target_max_recv (read_command m lun cdb expected)
+    (λ logins. command_readable logins m true lun cdb [] (record { read = not (expected == 0); write = false; expected = expected }) on_ size are a.tag_fits (omega (arith, few)) a.cmd_sn_fits (stat_sn_sent m t a) (omega arith))
+    (short_message (read_command m lun cdb expected).head [] m.held.target_max_recv (omega arith)) in
+    record {
+      heard = heard_by m.held t disk (submitted m request).output executed r (subst (λ (s : Submitted). ArePlain m.held.target_max_recv s.output) (sym sent) written) refl refl
+          (subst (λ (k : Held). ArePlain k.initiator_max_recv executed.answers) a.held
+          (command_written t' (next_tag m.initiator_task_tag) after.outcome (subst IsHeld (sym a.held) a.is_held) (omega (arith, tag)) fits a.stat_sn_fits (omega (arith, room, few)) (outcome_fits disk order [] few)));
+      ends = subst (λ (s : Submitted). Ends m.held s.machine (answers t disk (submitted m request).output) (told after.outcome) after.disk) (sym sent)
+          (subst (λ (x : initiator.Machine). Ends m.held x (answers t disk (submitted m request).output) (told after.outcome) after.disk) (sym is_m)
+          (subst (λ (x : target.Stepped). Ends m.held (reading begun_ r0 m.window) x (told after.outcome) after.disk) (sym r) ends_));
     }

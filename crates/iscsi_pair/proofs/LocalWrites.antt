@@ -1,11 +1,11 @@
 -- A write between two ends that are in step: its outcome is that of the disk.
-use Rattle.std.specs.Prelude.{◌-◌, ◌*◌, min, nat_le, nat_lt, ◌==◌, ◌&&◌, ◌||◌, not, if◌then◌else◌, is_some}
+use Rattle.std.specs.Prelude.{IfSome, ◌-◌, ◌*◌, min, nat_le, nat_lt, ◌==◌, ◌&&◌, ◌||◌, not, if◌then◌else◌, is_some}
 use Rattle.std.specs.Bool.{then_some}
-use Rattle.std.specs.List.{flat_map, AllByRecursion}
+use Rattle.std.specs.List.{AllByRecursion}
 use Rattle.std.proofs.Common.{◌≡◌, ◌⊎◌, inl, inr, ◌<◌, ◌≤◌, ℕ, zero, suc, ◌+◌, ◌^◌, Bool, true, false, List, [], ◌∷◌, ◌++◌, length, take, drop, Option, Some, None, refl, sym, ap, ◌∙◌, subst, arith, append_assoc, ne_eqb}
 use Rattle.std.proofs.Math.Nat.{mod-lt}
 use Rattle.std.proofs.Math.Seq.{take-add}
-use Rattle.std.proofs.lemmas.Bool.{and_parts, eq-eqb, eqb-false, eqb-true, le-leb, le-ltb, lt-leb, lt-ltb, ltb-false, ltb-true}
+use Rattle.std.proofs.lemmas.Bool.{and_parts, eq-eqb, eqb-false, eqb-true, le-leb, le-ltb, lt-leb, lt-ltb, ltb-false, ltb-true, not-false}
 use Rattle.std.proofs.lemmas.List.{append-nil, length-append, length-take, length-drop, take-append-drop, take-take, take_all, take_min}
 use Rattle.std.proofs.lemmas.Grind.{flat_map-append}
 use Rattle.scsi_cdb.specs.declared.sense.Sense.{Sense}
@@ -21,6 +21,7 @@ use Rattle.iscsi_pdu.specs.declared.head.data_out.DataOut.{DataOut}
 use Rattle.iscsi_pdu.specs.declared.head.scsi_command.ScsiCommand.{ScsiCommand}
 use Rattle.iscsi_pdu.specs.declared.serial.Window.{Window}
 use Rattle.iscsi_pdu.specs.Fields.{is_tag}
+use Rattle.iscsi_pdu.specs.Meaning.{AreBytes}
 use Rattle.iscsi_stream.specs.Segment.{Bytes, segment_bytes}
 use Rattle.iscsi_stream.specs.Stream.{Message}
 use Rattle.iscsi_login.specs.declared.phase.Phase.{Phase}
@@ -37,26 +38,31 @@ use Rattle.iscsi_target.specs.State.{Pieces, Stepped, Write, data_of, message, n
 use Rattle.iscsi_target.specs.Transfer.{asking, continued, desired, is_idle, is_in_sequence, is_whole, max_burst, received, with_data, with_piece}
 use Rattle.iscsi_target.specs.Execution.{command_answers, execute, parts_given, response_head, sense_segment}
 use Rattle.iscsi_target.specs.Command.{ask, breaks_burst_rules, flag_of, is_bad_announcement, is_bad_segment, is_on, opened, planned, proceed, r2t_head, unasked}
-use Rattle.iscsi_target.specs.Machine.{accepting, answers, step_on, then_stepped}
+use Rattle.iscsi_target.specs.Machine.{accepting, answers, is_closed, step_on, then_stepped}
 use Rattle.iscsi_target.proofs.Continuing.{then_nothing}
 use Rattle.iscsi_target.proofs.Reached.{can_give}
 use Rattle.iscsi_initiator.specs.declared.open.Open.{Open}
 use Rattle.iscsi_initiator.specs.declared.open.Open.TheVariants as opens
 use Rattle.iscsi_initiator.specs.declared.request.Done.TheVariants as done
 use Rattle.iscsi_initiator.specs.State as initiator
-use Rattle.iscsi_initiator.specs.State.{is_closed, is_closed_phase, next, next_tag, sent_exp_stat_sn}
+use Rattle.iscsi_initiator.specs.State.{next, next_tag, sent_exp_stat_sn}
 use Rattle.iscsi_initiator.specs.Progress.{Writing}
-use Rattle.iscsi_initiator.specs.Steps as initiator_steps
 use Rattle.iscsi_initiator.specs.Steps.{quiet, sends}
 use Rattle.iscsi_initiator.specs.Full.{data_outs, is_last, pieces, pieces_of, sequence}
 use Rattle.iscsi_initiator.specs.Submitted as initiator_writes
 use Rattle.iscsi_initiator.specs.Submitted.{Submitted, accepted, burst, command, has_more, immediate, is_within, is_yes, refusal, refusal_in, refusal_when_full, submitted}
 use Rattle.iscsi_initiator.specs.declared.request.Request.{Request}
 use Rattle.iscsi_initiator.specs.declared.request.Request.TheVariants as requests
-use Rattle.iscsi_initiator.specs.Machine.{step, steps, taken, then_steps}
-use Rattle.iscsi_pair.specs.LocalDisk.{AreInStep, Ends, HasEnded, Talk, after_turns, handed_in, told, told_sense, turned, window_of_one, writing_order}
-use Rattle.iscsi_pair.proofs.Windows.{IsNear, near_one, tells_none, tells_one}
-use Rattle.iscsi_pair.proofs.LocalReads.{Awaits, finished, next_small, not_long, outcome_heard, ready, steps_quiet, submitted_is, tag_after, told_window, unrefused, waiting, window_now}
+use Rattle.iscsi_initiator.specs.Machine.{step, taken}
+use Rattle.iscsi_initiator.proofs.SequenceLaws.{joined, joined_pieces}
+use Rattle.iscsi_target.proofs.OpenWrites.{data_of_one}
+use Rattle.iscsi_pair.specs.LocalDisk.{AreInStep, Stand, told, told_sense, writing_order}
+use Rattle.iscsi_pair.proofs.Windows.{IsNear, near_one, tells_none, tells_one, tag_after}
+use Rattle.iscsi_pair.proofs.Talk.{some_then}
+use Rattle.iscsi_pair.proofs.Written.{command_readable, data_out_readable, ready_readable}
+use Rattle.iscsi_pair.proofs.Outcomes.{outcome_fits}
+use Rattle.iscsi_pair.proofs.Courses.{AreHeard, ArePlain, Begins, Ends, LeadsTo, heard_by, hears_quiet, hears_sends, plain_more, plain_one, short_message}
+use Rattle.iscsi_pair.proofs.LocalReads.{Awaits, command_written, finished, in_step_again, next_small, not_long, outcome_heard, ready, stat_sn_sent, submitted_is, told_window, unrefused, waiting, window_now}
 
 -- ---- a Data-Out
 
@@ -114,9 +120,6 @@ solicited most total tag end = record {
   takes = λ w h reached all. solicited_takes most total tag end w h reached;
 }
 
-abbrev flat : List (List ℕ) → List ℕ
-flat xs = flat_map (λ x. x) xs
-
 -- each piece has bytes, and is one that the target takes
 abbrev ArePieces : ℕ → List (List ℕ) → Type 0
 ArePieces most ps = AllByRecursion (λ piece. (0 < length piece) × (length piece ≤ most)) ps
@@ -153,8 +156,8 @@ record SequenceTaken (t : target.Machine) (cmd_sn : ℕ) (w : Write) (disk : Dis
 
 sequence_taken : (t : target.Machine) (cmd_sn : ℕ) (w : Write) (disk : Disk) (h : DataOut) (piece : List ℕ) (more : List (List ℕ)) (end : ℕ) (due : ℕ → Due) → IsSequence (first_burst t.held) w.total h.target_transfer_tag end due
     → w.due ≡ due h.data_sn → h.buffer_offset ≡ received w → h.initiator_task_tag ≡ w.initiator_task_tag → ArePieces t.held.target_max_recv (piece ∷ more)
-    → t.held.target_max_recv ≤ target.limit t.settings → received w + length (flat (piece ∷ more)) ≡ end → end ≤ w.total
-    → SequenceTaken t cmd_sn w disk (data_outs h (piece ∷ more)) (flat (piece ∷ more))
+    → t.held.target_max_recv ≤ target.limit t.settings → received w + length (joined (piece ∷ more)) ≡ end → end ≤ w.total
+    → SequenceTaken t cmd_sn w disk (data_outs h (piece ∷ more)) (joined (piece ∷ more))
 unfolding answers
 sequence_taken t cmd_sn w disk h piece [] end due s is_due at tag all limit up room =
     let h' : DataOut = record h { is_final = true } in
@@ -170,34 +173,89 @@ sequence_taken t cmd_sn w disk h piece (second ∷ more) end due s is_due at tag
     let h' : DataOut = record h { is_final = false } in
     let v : Write = record w { pieces = with_piece w.pieces (received w) piece; due = due (next_sn h.data_sn) } in
     let h2 : DataOut = record h { data_sn = next h.data_sn; buffer_offset = h.buffer_offset + length piece } in
-    let len = length-append piece (flat (second ∷ more)) in
-    let len2 = length-append second (flat more) in
+    let len = length-append piece (joined (second ∷ more)) in
+    let len2 = length-append second (joined more) in
     let now = ap (λ (x : List ℕ). length x) (received_more w (received w) piece all.0.0) ∙ length-append (data_of w.pieces) piece in
     let one : step_on effect (writer t cmd_sn w) disk (data_message h' piece) ≡ on disk (nothing (writer t cmd_sn v)) =
     piece_taken t cmd_sn w disk h' piece end due s is_due refl at tag all.0.0 all.0.1 limit (omega (arith, up, len, len2, all.1.0.0)) room in
-    let r : SequenceTaken t cmd_sn v disk (data_outs h2 (second ∷ more)) (flat (second ∷ more)) =
+    let r : SequenceTaken t cmd_sn v disk (data_outs h2 (second ∷ more)) (joined (second ∷ more)) =
     sequence_taken t cmd_sn v disk h2 second more end due s refl (omega (arith, at, now)) tag all.1 limit (omega (arith, up, len, now)) room in
     record {
       came = r.came;
-      whole = r.whole ∙ ap (λ (x : List ℕ). x ++ flat (second ∷ more)) (received_more w (received w) piece all.0.0) ∙ append_assoc (data_of w.pieces) piece (flat (second ∷ more));
+      whole = r.whole ∙ ap (λ (x : List ℕ). x ++ joined (second ∷ more)) (received_more w (received w) piece all.0.0) ∙ append_assoc (data_of w.pieces) piece (joined (second ∷ more));
       is = ap (λ (x : Stepped). then_stepped x (answers x.machine x.disk (data_outs h2 (second ∷ more)))) one ∙ r.is;
     }
 
 -- ---- the pieces of a sequence
-
-pieces_flat : (fuel size : ℕ) (bytes : List ℕ) → 0 < size → length bytes ≤ fuel → flat (pieces_of fuel size bytes) ≡ bytes
-pieces_flat zero size [] lt le = refl
-pieces_flat zero size (b ∷ bytes) lt le = absurd (omega (arith, le))
-pieces_flat (suc more) size [] lt le = refl
-pieces_flat (suc more) size (b ∷ bytes) lt le =
-    ap (λ (x : List ℕ). take size (b ∷ bytes) ++ x) (pieces_flat more size (drop size (b ∷ bytes)) lt (omega (arith, length-drop size (b ∷ bytes), lt, le)))
-    ∙ take-append-drop size (b ∷ bytes)
 
 pieces_are : (fuel size : ℕ) (bytes : List ℕ) → 0 < size → ArePieces size (pieces_of fuel size bytes)
 pieces_are zero size bytes lt = tt
 pieces_are (suc more) size [] lt = tt
 pieces_are (suc more) size (b ∷ bytes) lt =
     let len = length-take size (b ∷ bytes) in ((omega (arith, len, lt), omega (arith, len)), pieces_are more size (drop size (b ∷ bytes)) lt)
+
+-- ---- a sequence is read as it was written
+
+-- the numbers of a Data-Out have room
+record AreSmall (h : DataOut) : Type 0 where
+  has_lun : is_some h.lun ≡ is_tag h.target_transfer_tag
+  lun : IfSome h.lun (λ n. n < 2 ^ 64)
+  tag : h.initiator_task_tag < 2 ^ 32
+  transfer : h.target_transfer_tag < 2 ^ 32
+  stat_sn : h.exp_stat_sn < 2 ^ 32
+  data_sn : h.data_sn < 2 ^ 32
+
+data_outs_written : (most : ℕ) (h : DataOut) (ps : List (List ℕ)) → most < 2 ^ 24 → AreSmall h → h.buffer_offset + length (joined ps) < 2 ^ 32 → ArePieces most ps → ArePlain most (data_outs h ps)
+data_outs_written most h [] size a room all = λ logins. tt
+data_outs_written most h (piece ∷ more) size a room all =
+    let h' : DataOut = record h { is_final = is_last more } in
+    let h2 : DataOut = record h { data_sn = next h.data_sn; buffer_offset = h.buffer_offset + length piece } in
+    let len = length-append piece (joined more) in
+    let a2 : AreSmall h2 = record {
+      has_lun = a.has_lun;
+      lun = a.lun;
+      tag = a.tag;
+      transfer = a.transfer;
+      stat_sn = a.stat_sn;
+      data_sn = mod-lt (h.data_sn + 1) (omega arith);
+    } in
+    plain_more most (data_message h' piece) (data_outs h2 more)
+    (λ logins. data_out_readable logins h' piece a.has_lun a.lun a.tag a.transfer a.stat_sn a.data_sn (omega (arith, room)) (omega (arith, all.0.1, size)))
+    (short_message (heads.DataOut h') piece most all.0.1)
+    (data_outs_written most h2 more size a2 (omega (arith, room, len)) all.1)
+
+-- what an initiator sends in one sequence
+sequence_written : (m : initiator.Machine) (lun : Option ℕ) (transfer offset : ℕ) (bytes : List ℕ) → IsHeld m.held → m.initiator_task_tag ≤ 0xffff_fffe → sent_exp_stat_sn m < 2 ^ 32
+    → is_some lun ≡ is_tag transfer → IfSome lun (λ n. n < 2 ^ 64) → transfer < 2 ^ 32 → offset + length bytes < 2 ^ 32 → ArePlain m.held.target_max_recv (sequence m lun transfer offset bytes)
+sequence_written m lun transfer offset bytes is tag stat_sn has_lun on_ transfer_fits room =
+    let most : ℕ = m.held.target_max_recv in
+    let lt : 0 < most = omega (arith, is.target_max_recv.0) in
+    let h : DataOut = record {
+      is_final = false;
+      lun = lun;
+      initiator_task_tag = m.initiator_task_tag;
+      target_transfer_tag = transfer;
+      exp_stat_sn = sent_exp_stat_sn m;
+      data_sn = 0;
+      buffer_offset = offset;
+    } in
+    let small : AreSmall h = record {
+      has_lun = has_lun;
+      lun = on_;
+      tag = omega (arith, tag);
+      transfer = transfer_fits;
+      stat_sn = stat_sn;
+      data_sn = omega arith;
+    } in
+    data_outs_written most h (pieces most bytes) (omega (arith, is.target_max_recv.1)) small
+    (omega (arith, ap (λ (x : List ℕ). length x) (joined_pieces (length bytes) most bytes lt (omega arith)), room)) (pieces_are (length bytes) most bytes lt)
+
+-- the LUN that goes along where the transfer tag is one has room
+lun_fits : (b : Bool) (lun : ℕ) → lun < 2 ^ 64 → IfSome (then_some b lun) (λ n. n < 2 ^ 64)
+lun_fits true lun lt = lt
+lun_fits false lun lt = tt
+
+-- ---- a sequence is taken
 
 -- a sequence with these bytes, if it has any
 batch_taken : (t : target.Machine) (cmd_sn : ℕ) (w : Write) (disk : Disk) (h : DataOut) (bytes : List ℕ) (end : ℕ) (due : ℕ → Due) → IsSequence (first_burst t.held) w.total h.target_transfer_tag end due
@@ -207,7 +265,7 @@ batch_taken : (t : target.Machine) (cmd_sn : ℕ) (w : Write) (disk : Disk) (h :
 batch_taken t cmd_sn w disk h [] end due s is_due at tag lt limit some up room = absurd (omega (arith, some))
 batch_taken t cmd_sn w disk h (b ∷ bytes) end due s is_due at tag lt limit some up room =
     let most : ℕ = t.held.target_max_recv in
-    let whole : flat (pieces most (b ∷ bytes)) ≡ b ∷ bytes = pieces_flat (length (b ∷ bytes)) most (b ∷ bytes) lt (omega arith) in
+    let whole : joined (pieces most (b ∷ bytes)) ≡ b ∷ bytes = joined_pieces (length (b ∷ bytes)) most (b ∷ bytes) lt (omega arith) in
     subst (SequenceTaken t cmd_sn w disk (data_outs h (pieces most (b ∷ bytes)))) whole
     (sequence_taken t cmd_sn w disk h (take most (b ∷ bytes)) (pieces_of (length bytes) most (drop most (b ∷ bytes))) end due s is_due at tag (pieces_are (length (b ∷ bytes)) most (b ∷ bytes) lt) limit
     (ap (λ (x : List ℕ). received w + length x) whole ∙ up) room)
@@ -237,19 +295,7 @@ ready_heard m t v w window tag asked at some most room =
       le-leb (v.sent + desired t.held w) (length v.bytes) room,
     ) refl
 
-steps_sends : (m n : initiator.Machine) (x : Message) (out : List Message) → step m x ≡ sends n out → n.phase ≡ phases.Full → steps m (x ∷ []) ≡ sends n out
-unfolding steps
-steps_sends m n x out e full =
-    let live : is_closed (step m x).machine ≡ false = ap (λ (s : initiator_steps.Stepped). is_closed s.machine) e ∙ ap is_closed_phase full in
-    rw live (ap (λ (s : initiator_steps.Stepped). then_steps s (quiet s.machine)) e ∙ ap (sends n) (append-nil out))
-
 -- ---- a write, from turn to turn
-
--- What an initiator sends when it has heard these answers, and where both ends are then.
-abbrev heard : initiator.Machine → Stepped → Talk
-heard i r =
-    let e = steps i r.answers in
-    record { initiator = e.machine; target = r.machine; disk = r.disk; to_target = e.output }
 
 -- what holds throughout a write
 record Throughout (m : initiator.Machine) (t : target.Machine) (cmd_sn : ℕ) (bytes : List ℕ) (order : Order) (disk : Disk) : Type 0 where
@@ -262,6 +308,11 @@ record Throughout (m : initiator.Machine) (t : target.Machine) (cmd_sn : ℕ) (b
   cmd_sn_fits : m.cmd_sn < 2 ^ 32
   few : length bytes ≤ 4194304
   none_given : (effect disk order bytes).outcome.bytes ≡ []
+  stat_sn_fits : t.stat_sn < 2 ^ 32
+  stat_sn_sends : sent_exp_stat_sn m < 2 ^ 32
+  lun : order.lun < 2 ^ 64
+  expected : order.expected ≤ 4194304
+  none_done : m.done ≡ None
 
 -- both ends have the same of the data
 record InHand (m : initiator.Machine) (v : Writing) (w : Write) (order : Order) : Type 0 where
@@ -277,62 +328,96 @@ record InHand (m : initiator.Machine) (v : Writing) (w : Write) (order : Order) 
 received_is : (m : initiator.Machine) (v : Writing) (w : Write) (order : Order) → InHand m v w order → received w ≡ v.sent
 received_is m v w order i = omega (arith, ap (λ (x : List ℕ). length x) i.came, length-take v.sent v.bytes, i.sent)
 
+-- What the target does: it stays open, breaks no rule, and its answers are read as they were written.
+record IsAnswered (held : Held) (r : Stepped) : Type 0 where
+  live : is_closed r.machine ≡ false
+  rule : r.rule ≡ None
+  answered : ArePlain held.initiator_max_recv r.answers
+
+-- the response to a command is read as it was written
+executed_written : (m : initiator.Machine) (t : target.Machine) (cmd_sn : ℕ) (bytes : List ℕ) (order : Order) (disk : Disk) (tag : ℕ) (pieces_ : Pieces)
+    → Throughout m t cmd_sn bytes order disk → tag ≡ m.initiator_task_tag → IsAnswered m.held (execute effect (ready t cmd_sn) disk tag order pieces_)
+executed_written m t cmd_sn bytes order disk tag pieces_ a same = record {
+  live = refl;
+  rule = refl;
+  answered = subst (λ (k : Held). ArePlain k.initiator_max_recv (execute effect (ready t cmd_sn) disk tag order pieces_).answers) a.held
+      (command_written (ready t cmd_sn) tag (effect disk order (data_of pieces_)).outcome (subst IsHeld (sym a.held) a.is_held) (omega (arith, same, a.tag_fits)) (omega (arith, a.cmd_sn_is, a.cmd_sn_fits)) a.stat_sn_fits
+      (omega (arith, ap (λ (x : List ℕ). length x) a.none_given)) (outcome_fits disk order (data_of pieces_) a.expected));
+}
+
 -- the response to a command that gives no data
 response_ends : (m : initiator.Machine) (t : target.Machine) (cmd_sn : ℕ) (open_ : Open) (window : Window) (bytes : List ℕ) (order : Order) (disk : Disk) (tag : ℕ) (pieces_ : Pieces)
     → Throughout m t cmd_sn bytes order disk → IsNear cmd_sn window → Awaits open_ [] → tag ≡ m.initiator_task_tag → effect disk order (data_of pieces_) ≡ effect disk order bytes
-    → Ends m.held (heard (waiting m open_ window) (execute effect (ready t cmd_sn) disk tag order pieces_)) (told (effect disk order bytes).outcome) (effect disk order bytes).disk
-unfolding steps
+    → Ends m.held (waiting m open_ window) (execute effect (ready t cmd_sn) disk tag order pieces_) (told (effect disk order bytes).outcome) (effect disk order bytes).disk
 response_ends m t cmd_sn open_ window bytes order disk tag pieces_ a near d same data_ =
     let after : Effect = effect disk order bytes in
     let s : target.Machine = ready t cmd_sn in
-    let last : Message = message (response_head s m.initiator_task_tag after.outcome 0) (sense_segment after.outcome.sense) in
-    let ended : initiator.Machine = finished m s window after.outcome [] in
-    let is : steps (waiting m open_ window) (execute effect s disk tag order pieces_).answers ≡ quiet ended =
-    ap (λ (x : Effect). steps (waiting m open_ window) (command_answers s tag x.outcome (parts_given s.held x.outcome.bytes))) data_
-    ∙ ap (λ (x : List ℕ). steps (waiting m open_ window) (command_answers s tag after.outcome (parts_given s.held x))) a.none_given
-    ∙ ap (λ (x : ℕ). steps (waiting m open_ window) (command_answers s x after.outcome [])) same
-    ∙ steps_quiet (waiting m open_ window) ended last [] (outcome_heard m s open_ [] window after.outcome.status after.outcome.sense after.outcome.bytes after.outcome.residual 0 d a.stat_sn (omega (arith, a.is_held.initiator_max_recv.0))) refl in
+    let response : Message = message (response_head s m.initiator_task_tag after.outcome 0) (sense_segment after.outcome.sense) in
+    let ended_ : initiator.Machine = finished m s window after.outcome [] in
+    let last : Stand = record { initiator = ended_; target = target.counted s; disk = after.disk; answers = [] } in
+    let one : step (waiting m open_ window) response ≡ quiet ended_ =
+    outcome_heard m s open_ [] window after.outcome.status after.outcome.sense after.outcome.bytes after.outcome.residual 0 d a.stat_sn (omega (arith, a.is_held.initiator_max_recv.0)) in
+    let is : (execute effect s disk tag order pieces_).answers ≡ response ∷ [] =
+    ap (λ (x : Effect). command_answers s tag x.outcome (parts_given s.held x.outcome.bytes)) data_
+    ∙ ap (λ (x : List ℕ). command_answers s tag after.outcome (parts_given s.held x)) a.none_given
+    ∙ ap (λ (x : ℕ). command_answers s x after.outcome []) same in
     let disk_is : (execute effect s disk tag order pieces_).disk ≡ after.disk = ap (λ (x : Effect). x.disk) data_ in
+    let again : AreInStep (taken (finished m (ready t m.cmd_sn) window after.outcome [])) (target.counted (ready t m.cmd_sn)) =
+    in_step_again m t window a.held a.is_held (subst (λ (h : Held). h.target_max_recv ≤ target.limit t.settings) a.held a.segment) a.tag_fits a.cmd_sn_fits
+    (tells_one m.cmd_sn window a.cmd_sn_fits (subst (λ (x : ℕ). IsNear x window) a.cmd_sn_is near)) in
     record {
-      turns = 0;
+      last = last;
+      leads = subst (λ (ms : List Message). LeadsTo m.held (waiting m open_ window) (target.counted s) (execute effect s disk tag order pieces_).disk ms last) (sym is)
+          (subst (λ (x : Disk). LeadsTo m.held (waiting m open_ window) (target.counted s) x (response ∷ []) last) (sym disk_is)
+          (hears_quiet m.held (waiting m open_ window) ended_ (target.counted s) after.disk response [] last one refl refl a.none_done (0, refl)));
       ended = record {
-        done_is = ap (λ (x : initiator_steps.Stepped). x.machine.done) is ∙ ap (λ (x : List ℕ). Some (done.Command 0 after.outcome.status (told_sense after.outcome.sense) x after.outcome.residual)) (sym a.none_given);
-        silent = ap (λ (x : initiator_steps.Stepped). x.output) is;
-        disk_is = disk_is;
-        held_is = ap (λ (x : initiator_steps.Stepped). x.machine.held) is;
-        in_step = subst (λ (x : initiator_steps.Stepped). AreInStep (taken x.machine) (target.counted s)) (sym is) (record {
-          initiator_phase = refl;
-          target_phase = refl;
-          session = refl;
-          none_open = refl;
-          none_done = refl;
-          none_written = refl;
-          held = a.held;
-          is_held = a.is_held;
-          segment = subst (λ (h : Held). h.target_max_recv ≤ target.limit t.settings) a.held a.segment;
-          tag_fits = a.tag_fits;
-          cmd_sn = a.cmd_sn_is;
-          cmd_sn_fits = a.cmd_sn_fits;
-          window = tells_one cmd_sn window (subst (λ (x : ℕ). x < 2 ^ 32) (sym a.cmd_sn_is) a.cmd_sn_fits) near ∙ ap window_of_one a.cmd_sn_is;
-          stat_sn = refl;
-          stat_sn_fits = mod-lt (t.stat_sn + 1) (omega arith);
-        });
+        done_is = ap (λ (x : List ℕ). Some (done.Command 0 after.outcome.status (told_sense after.outcome.sense) x after.outcome.residual)) (sym a.none_given);
+        silent = refl;
+        disk_is = refl;
+        at_rest = inl (subst (λ (x : ℕ). AreInStep (taken (finished m (ready t x) window after.outcome [])) (target.counted (ready t x))) (sym a.cmd_sn_is) again, refl);
       };
     }
 
 -- the write goes on from where all that was due came
 abbrev GoesOn : initiator.Machine → target.Machine → ℕ → Writing → Write → Window → Order → Disk → Type 0
 GoesOn m t cmd_sn v w window order disk =
-    Ends m.held (heard (writing m v window) (proceed effect (ready t cmd_sn) disk w)) (told (effect disk order v.bytes).outcome) (effect disk order v.bytes).disk
+    Ends m.held (writing m v window) (proceed effect (ready t cmd_sn) disk w) (told (effect disk order v.bytes).outcome) (effect disk order v.bytes).disk
+
+-- where all came the command is executed
+whole_is : (m : initiator.Machine) (t : target.Machine) (cmd_sn : ℕ) (v : Writing) (w : Write) (order : Order) (disk : Disk) → InHand m v w order → is_whole w ≡ true
+    → proceed effect (ready t cmd_sn) disk w ≡ execute effect (ready t cmd_sn) disk w.initiator_task_tag order w.pieces
+whole_is m t cmd_sn v w order disk i whole = rw whole (ap (λ (x : Order). execute effect (ready t cmd_sn) disk w.initiator_task_tag x w.pieces) i.order_is)
+
+-- else the target asks for more
+part_is : (m : initiator.Machine) (t : target.Machine) (cmd_sn : ℕ) (v : Writing) (w : Write) (order : Order) (disk : Disk) → InHand m v w order → is_whole w ≡ false
+    → proceed effect (ready t cmd_sn) disk w ≡ on disk (ask (writer t cmd_sn w) w)
+part_is m t cmd_sn v w order disk i part = rw (part, i.due) refl
+
+-- what the target answers then is read as it was written
+proceed_written : (m : initiator.Machine) (t : target.Machine) (cmd_sn : ℕ) (v : Writing) (w : Write) (order : Order) (disk : Disk) → Throughout m t cmd_sn v.bytes order disk → InHand m v w order
+    → (whole : Bool) → is_whole w ≡ whole → IsAnswered m.held (proceed effect (ready t cmd_sn) disk w)
+proceed_written m t cmd_sn v w order disk a i true whole =
+    subst (IsAnswered m.held) (sym (whole_is m t cmd_sn v w order disk i whole)) (executed_written m t cmd_sn v.bytes order disk w.initiator_task_tag w.pieces a i.tag)
+proceed_written m t cmd_sn v w order disk a i false part =
+    let s : target.Machine = writer t cmd_sn w in
+    let most : ℕ = m.held.initiator_max_recv in
+    let at : received w ≡ v.sent = received_is m v w order i in
+    let on_ : w.order.lun < 2 ^ 64 = subst (λ (x : Order). x.lun < 2 ^ 64) (sym i.order_is) a.lun in
+    subst (IsAnswered m.held) (sym (part_is m t cmd_sn v w order disk i part)) (record {
+      live = refl;
+      rule = refl;
+      answered = plain_one most (message (r2t_head s w) [])
+          (λ logins. ready_readable logins s w on_ (omega (arith, i.tag, a.tag_fits)) (omega (arith, i.few, i.sent, a.few)) (omega (arith, at, i.sent, a.few)) (omega (arith, i.total, a.few)) a.stat_sn_fits
+          (omega (arith, a.cmd_sn_is, a.cmd_sn_fits)))
+          (short_message (r2t_head s w) [] most (omega arith));
+    })
 
 all_came : (m : initiator.Machine) (t : target.Machine) (cmd_sn : ℕ) (v : Writing) (w : Write) (window : Window) (order : Order) (disk : Disk) → Throughout m t cmd_sn v.bytes order disk → IsNear cmd_sn window → InHand m v w order
     → is_whole w ≡ true → GoesOn m t cmd_sn v w window order disk
 all_came m t cmd_sn v w window order disk a near i whole =
     let all : v.sent ≡ length v.bytes = sym (received_is m v w order i) ∙ sym (eqb-true w.total (received w) whole) ∙ i.total in
     let bytes : data_of w.pieces ≡ v.bytes = i.came ∙ take_all v.sent v.bytes (omega (arith, all)) in
-    let is : proceed effect (ready t cmd_sn) disk w ≡ execute effect (ready t cmd_sn) disk w.initiator_task_tag order w.pieces =
-    rw whole (ap (λ (x : Order). execute effect (ready t cmd_sn) disk w.initiator_task_tag x w.pieces) i.order_is) in
-    subst (λ (r : Stepped). Ends m.held (heard (writing m v window) r) (told (effect disk order v.bytes).outcome) (effect disk order v.bytes).disk) (sym is)
+    subst (λ (r : Stepped). Ends m.held (writing m v window) r (told (effect disk order v.bytes).outcome) (effect disk order v.bytes).disk) (sym (whole_is m t cmd_sn v w order disk i whole))
     (response_ends m t cmd_sn (opens.Out v) window v.bytes order disk w.initiator_task_tag w.pieces a near (λ h. refl) i.tag (ap (effect disk order) bytes))
 
 -- what isn't equal and not more is less
@@ -357,8 +442,8 @@ record Turned (m : initiator.Machine) (t : target.Machine) (cmd_sn : ℕ) (v : W
   n : ℕ
   some : 0 < n
   hand : InHand m (more_sent v n) (more_came t w came) order
-  is : turned (heard (writing m v window) (proceed effect (ready t cmd_sn) disk w))
-      ≡ heard (writing m (more_sent v n) window_now) (proceed effect (ready t cmd_sn) disk (more_came t w came))
+  leads : (x : Stand) → (let r = proceed effect (ready t cmd_sn) disk (more_came t w came) in LeadsTo m.held (writing m (more_sent v n) window_now) r.machine r.disk r.answers x)
+      → (let r = proceed effect (ready t cmd_sn) disk w in LeadsTo m.held (writing m v window) r.machine r.disk r.answers x)
 
 turn : (m : initiator.Machine) (t : target.Machine) (cmd_sn : ℕ) (v : Writing) (w : Write) (window : Window) (order : Order) (disk : Disk) → Throughout m t cmd_sn v.bytes order disk → InHand m v w order
     → is_whole w ≡ false → Turned m t cmd_sn v w window order disk
@@ -374,9 +459,7 @@ turn m t cmd_sn v w window order disk a i part =
     let batch : List ℕ = take n (drop v.sent v.bytes) in
     let size : length batch ≡ n = omega (arith, length-take n (drop v.sent v.bytes), length-drop v.sent v.bytes, room) in
     let out : List Message = asked_for m v w n in
-    let one : steps (writing m v window) (message (r2t_head s w) [] ∷ []) ≡ sends (writing m (more_sent v n) (told_window window s)) out =
-    steps_sends (writing m v window) (writing m (more_sent v n) (told_window window s)) (message (r2t_head s w) []) out (ready_heard m s v w window i.tag i.asked at some most room) refl in
-    let asks : proceed effect (ready t cmd_sn) disk w ≡ on disk (ask s w) = rw (part, i.due) refl in
+    let one : step (writing m v window) (message (r2t_head s w) []) ≡ sends (writing m (more_sent v n) (told_window window s)) out = ready_heard m s v w window i.tag i.asked at some most room in
     let h : DataOut = record {
       is_final = false;
       lun = then_some (is_tag w.asked) w.order.lun;
@@ -392,25 +475,33 @@ turn m t cmd_sn v w window order disk a i part =
     (omega (arith, size, some)) (omega (arith, size)) (omega (arith, at, i.total, room)) in
     let sent_ : answers (writer t cmd_sn (asking t.held w)) disk out ≡ proceed effect (ready t cmd_sn) disk (more_came t w r.came) =
     ap (λ (k : Held). answers (writer t cmd_sn (asking t.held w)) disk (data_outs h (pieces k.target_max_recv batch))) (sym a.held) ∙ r.is in
+    let hand_ : InHand m (more_sent v n) (more_came t w r.came) order = record {
+      tag = i.tag;
+      order_is = i.order_is;
+      due = refl;
+      total = i.total;
+      came = r.whole ∙ ap (λ (x : List ℕ). x ++ batch) i.came ∙ sym (take-add v.sent n v.bytes);
+      sent = room;
+      asked = ap (λ (x : ℕ). x + 1) i.asked ∙ sym (next_small v.next_r2t_sn (omega (arith, i.asked, i.few, i.sent, a.few)));
+      few = omega (arith, i.few, some);
+    } in
+    let on_ : w.order.lun < 2 ^ 64 = subst (λ (x : Order). x.lun < 2 ^ 64) (sym i.order_is) a.lun in
+    let written : ArePlain m.held.target_max_recv out =
+    sequence_written m (then_some (is_tag w.asked) w.order.lun) w.asked v.sent batch a.is_held a.tag_fits a.stat_sn_sends (some_then (is_tag w.asked) w.order.lun)
+    (lun_fits (is_tag w.asked) w.order.lun on_) (omega (arith, i.few, i.sent, a.few)) (omega (arith, size, room, a.few)) in
+    let now : Stepped = proceed effect (ready t cmd_sn) disk (more_came t w r.came) in
+    let then_ : IsAnswered m.held now = proceed_written m t cmd_sn (more_sent v n) (more_came t w r.came) order disk a hand_ (is_whole (more_came t w r.came)) refl in
+    let heard : AreHeard m.held (writer t cmd_sn (asking t.held w)) disk out =
+    heard_by m.held (writer t cmd_sn (asking t.held w)) disk out now sent_ written then_.live then_.rule then_.answered in
     record {
       window_now = told_window window s;
       near = tells_none cmd_sn window (subst (λ (x : ℕ). x < 2 ^ 32) (sym a.cmd_sn_is) a.cmd_sn_fits);
       came = r.came;
       n = n;
       some = some;
-      hand = record {
-        tag = i.tag;
-        order_is = i.order_is;
-        due = refl;
-        total = i.total;
-        came = r.whole ∙ ap (λ (x : List ℕ). x ++ batch) i.came ∙ sym (take-add v.sent n v.bytes);
-        sent = room;
-        asked = ap (λ (x : ℕ). x + 1) i.asked ∙ sym (next_small v.next_r2t_sn (omega (arith, i.asked, i.few, i.sent, a.few)));
-        few = omega (arith, i.few, some);
-      };
-      is = ap (λ (x : Stepped). turned (heard (writing m v window) x)) asks
-          ∙ ap (λ (e : initiator_steps.Stepped). heard e.machine (answers (writer t cmd_sn (asking t.held w)) disk e.output)) one
-          ∙ ap (heard (writing m (more_sent v n) (told_window window s))) sent_;
+      hand = hand_;
+      leads = λ x l. subst (λ (y : Stepped). LeadsTo m.held (writing m v window) y.machine y.disk y.answers x) (sym (part_is m t cmd_sn v w order disk i part))
+          (hears_sends m.held (writing m v window) (writing m (more_sent v n) (told_window window s)) (writer t cmd_sn (asking t.held w)) disk (message (r2t_head s w) []) out now x one refl refl a.none_done heard sent_ l);
     }
 
 -- from turn to turn until all came
@@ -422,11 +513,12 @@ goes_on zero m t cmd_sn v w window order disk a near i le false part =
 goes_on (suc fuel) m t cmd_sn v w window order disk a near i le false part =
     let x : Turned m t cmd_sn v w window order disk = turn m t cmd_sn v w window order disk a i part in
     let w' : Write = more_came t w x.came in
-    let e : Ends m.held (heard (writing m (more_sent v x.n) x.window_now) (proceed effect (ready t cmd_sn) disk w')) (told (effect disk order v.bytes).outcome) (effect disk order v.bytes).disk =
+    let e : GoesOn m t cmd_sn (more_sent v x.n) w' x.window_now order disk =
     goes_on fuel m t cmd_sn (more_sent v x.n) w' x.window_now order disk a (x.near near) x.hand (omega (arith, le, x.some)) (is_whole w') refl in
     record {
-      turns = suc e.turns;
-      ended = subst (λ (y : Talk). HasEnded m.held (after_turns e.turns y) (told (effect disk order v.bytes).outcome) (effect disk order v.bytes).disk) (sym x.is) e.ended;
+      last = e.last;
+      leads = x.leads e.last e.leads;
+      ended = e.ended;
     }
 
 -- ---- the command breaks no rule of the first burst
@@ -479,13 +571,9 @@ burst_kept m lun cdb bytes =
 
 -- ---- what the command is planned to do
 
-not_false : (b : Bool) → not b ≡ false → b ≡ true
-not_false true e = refl
-not_false false e = absurd cc
-
 all_by : (is_write_ : Bool) (count n total expected : ℕ) → (is_write_ && not (expected == 512 * count)) ≡ false → (if is_write_ then Take (512 * count) else Give n) ≡ Take total → total ≡ expected
 all_by true count n total expected test e =
-    let is : 512 * count ≡ total = cc in sym is ∙ sym (eqb-true expected (512 * count) (not_false (expected == 512 * count) test))
+    let is : 512 * count ≡ total = cc in sym is ∙ sym (eqb-true expected (512 * count) (not-false (expected == 512 * count) test))
 all_by false count n total expected test e = absurd cc
 
 -- a write takes all bytes that are sent
@@ -558,6 +646,10 @@ first_answers m t disk lun cdb bytes p =
     let r = planned effect (ready t (next_sn m.cmd_sn)) disk (write_head m lun cdb bytes) (immediate m bytes) p in
     then_stepped r (answers r.machine r.disk (unasked_data m bytes))
 
+-- The target answers well, and it comes to the outcome of this order.
+abbrev Comes : initiator.Machine → initiator.Machine → Order → List ℕ → Disk → Stepped → Type 0
+Comes m i order bytes disk r = IsAnswered m.held r × Ends m.held i r (told (effect disk order bytes).outcome) (effect disk order bytes).disk
+
 same_effect : (p : Plan) (disk : Disk) (order : Order) (bytes : List ℕ) → ((n : ℕ) → p ≡ Take n → ⊥) → disk_by p disk order [] ≡ disk_by p disk order bytes
 same_effect (Take n) disk order bytes none = absurd (none n refl)
 same_effect (Give n) disk order bytes none = refl
@@ -566,8 +658,8 @@ same_effect (Refuse sense) disk order bytes none = refl
 -- a command that takes no data: what follows it is dropped
 executed_alone : (m : initiator.Machine) (t : target.Machine) (disk : Disk) (lun : ℕ) (cdb bytes : List ℕ) (window : Window)
     → Throughout (begun_write m) t (next_sn m.cmd_sn) bytes (writing_order lun cdb bytes) disk → IsNear (next_sn m.cmd_sn) window → ((n : ℕ) → plan_of (writing_order lun cdb bytes) disk.count ≡ Take n → ⊥)
-    → (let r = execute effect (ready t (next_sn m.cmd_sn)) disk (next_tag m.initiator_task_tag) (writing_order lun cdb bytes) [] in let after : Effect = effect disk (writing_order lun cdb bytes) bytes in
-    Ends m.held (heard (writing (begun_write m) (first_sent m bytes) window) (then_stepped r (answers r.machine r.disk (unasked_data m bytes)))) (told after.outcome) after.disk)
+    → Comes m (writing (begun_write m) (first_sent m bytes) window) (writing_order lun cdb bytes) bytes disk
+    (let r = execute effect (ready t (next_sn m.cmd_sn)) disk (next_tag m.initiator_task_tag) (writing_order lun cdb bytes) [] in then_stepped r (answers r.machine r.disk (unasked_data m bytes)))
 executed_alone m t disk lun cdb bytes window a near none =
     let order : Order = writing_order lun cdb bytes in
     let n : ℕ = next_sn m.cmd_sn in
@@ -589,19 +681,17 @@ executed_alone m t disk lun cdb bytes window a near none =
     ap (λ (k : Held). answers r.machine r.disk (data_outs h (pieces k.target_max_recv uns))) (sym a.held)
     ∙ dropped (target.counted t) n r.disk h (pieces t.held.target_max_recv uns) a.segment (pieces_are (length uns) t.held.target_max_recv uns lt) in
     let same : effect disk order [] ≡ after = λ i_. record { disk = same_effect (plan_of order disk.count) disk order bytes none i_; outcome = after.outcome } in
-    subst (λ (x : Stepped). Ends m.held (heard i (then_stepped r x)) (told after.outcome) after.disk) (sym gone)
-    (subst (λ (x : List Message). Ends m.held (heard i (record r { answers = x })) (told after.outcome) after.disk) (sym (append-nil r.answers))
-    (response_ends (begun_write m) t n (opens.Out (first_sent m bytes)) window bytes order disk (next_tag m.initiator_task_tag) [] a near (λ h_. refl) refl same))
+    let well : IsAnswered m.held r = executed_written (begun_write m) t n bytes order disk (next_tag m.initiator_task_tag) [] a refl in
+    let ends_ : Ends m.held i r (told after.outcome) after.disk =
+    response_ends (begun_write m) t n (opens.Out (first_sent m bytes)) window bytes order disk (next_tag m.initiator_task_tag) [] a near (λ h_. refl) refl same in
+    subst (λ (x : Stepped). Comes m i order bytes disk (then_stepped r x)) (sym gone)
+    (subst (Comes m i order bytes disk) (sym (then_nothing r)) (well, ends_))
 
 -- ---- a write whose bytes are taken
 
 immediate_are : (on_ : Bool) (size : ℕ) (bytes : List ℕ) → (let x : List ℕ = if on_ then take size bytes else [] in x ≡ take (length x) bytes)
 immediate_are true size bytes = sym (ap (λ (k : ℕ). take k bytes) (length-take size bytes) ∙ take_min size bytes)
 immediate_are false size bytes = refl
-
-pieces_of_first : (bytes : List ℕ) → data_of (with_piece [] 0 bytes) ≡ bytes
-pieces_of_first [] = refl
-pieces_of_first (b ∷ bytes) = append-nil (b ∷ bytes)
 
 -- what is open once the command came, and no data are due unasked
 abbrev first_write : initiator.Machine → ℕ → List ℕ → List ℕ → ℕ → Write
@@ -610,9 +700,8 @@ first_write m lun cdb bytes total = opened (write_head m lun cdb bytes) total (i
 -- all first data are in the command
 none_unasked : (m : initiator.Machine) (t : target.Machine) (disk : Disk) (lun : ℕ) (cdb bytes : List ℕ) (window : Window) (total : ℕ)
     → Throughout (begun_write m) t (next_sn m.cmd_sn) bytes (writing_order lun cdb bytes) disk → IsNear (next_sn m.cmd_sn) window → total ≡ length bytes → has_more m bytes ≡ false
-    → Ends m.held (heard (writing (begun_write m) (first_sent m bytes) window)
-    (let r = proceed effect (ready t (next_sn m.cmd_sn)) disk (first_write m lun cdb bytes total) in then_stepped r (answers r.machine r.disk (unasked_data m bytes))))
-    (told (effect disk (writing_order lun cdb bytes) bytes).outcome) (effect disk (writing_order lun cdb bytes) bytes).disk
+    → Comes m (writing (begun_write m) (first_sent m bytes) window) (writing_order lun cdb bytes) bytes disk
+    (let r = proceed effect (ready t (next_sn m.cmd_sn)) disk (first_write m lun cdb bytes total) in then_stepped r (answers r.machine r.disk (unasked_data m bytes)))
 unfolding answers
 none_unasked m t disk lun cdb bytes window total a near all none =
     let order : Order = writing_order lun cdb bytes in
@@ -628,23 +717,22 @@ none_unasked m t disk lun cdb bytes window total a near all none =
       order_is = refl;
       due = rw none refl;
       total = all;
-      came = pieces_of_first imm ∙ front ∙ ap (λ (k : ℕ). take k bytes) (let e : length imm ≡ v.sent = omega (arith, zero_) in e);
+      came = data_of_one imm ∙ front ∙ ap (λ (k : ℕ). take k bytes) (let e : length imm ≡ v.sent = omega (arith, zero_) in e);
       sent = omega (arith, zero_, ap (λ (x : List ℕ). length x) front, length-take (length imm) bytes);
       asked = refl;
       few = omega arith;
     } in
     let silent : unasked_data m bytes ≡ [] = ap (λ (x : List ℕ). sequence (begun_write m) None reserved_tag (length imm) x) uns in
     let r : Stepped = proceed effect (ready t n) disk w in
-    subst (λ (ms : List Message). Ends m.held (heard (writing (begun_write m) v window) (then_stepped r (answers r.machine r.disk ms))) (told (effect disk order bytes).outcome) (effect disk order bytes).disk) (sym silent)
-    (subst (λ (x : Stepped). Ends m.held (heard (writing (begun_write m) v window) x) (told (effect disk order bytes).outcome) (effect disk order bytes).disk) (sym (then_nothing r))
-    (goes_on (length bytes) (begun_write m) t n v w window order disk a near i (omega arith) (is_whole w) refl))
+    subst (λ (ms : List Message). Comes m (writing (begun_write m) v window) order bytes disk (then_stepped r (answers r.machine r.disk ms))) (sym silent)
+    (subst (Comes m (writing (begun_write m) v window) order bytes disk) (sym (then_nothing r))
+    (proceed_written (begun_write m) t n v w order disk a i (is_whole w) refl, goes_on (length bytes) (begun_write m) t n v w window order disk a near i (omega arith) (is_whole w) refl))
 
 -- more first data follow the command
 some_unasked : (m : initiator.Machine) (t : target.Machine) (disk : Disk) (lun : ℕ) (cdb bytes : List ℕ) (window : Window) (total : ℕ)
     → Throughout (begun_write m) t (next_sn m.cmd_sn) bytes (writing_order lun cdb bytes) disk → IsNear (next_sn m.cmd_sn) window → total ≡ length bytes → has_more m bytes ≡ true
-    → Ends m.held (heard (writing (begun_write m) (first_sent m bytes) window)
-    (let r = proceed effect (ready t (next_sn m.cmd_sn)) disk (first_write m lun cdb bytes total) in then_stepped r (answers r.machine r.disk (unasked_data m bytes))))
-    (told (effect disk (writing_order lun cdb bytes) bytes).outcome) (effect disk (writing_order lun cdb bytes) bytes).disk
+    → Comes m (writing (begun_write m) (first_sent m bytes) window) (writing_order lun cdb bytes) bytes disk
+    (let r = proceed effect (ready t (next_sn m.cmd_sn)) disk (first_write m lun cdb bytes total) in then_stepped r (answers r.machine r.disk (unasked_data m bytes)))
 some_unasked m t disk lun cdb bytes window total a near all more =
     let order : Order = writing_order lun cdb bytes in
     let n : ℕ = next_sn m.cmd_sn in
@@ -658,7 +746,7 @@ some_unasked m t disk lun cdb bytes window total a near all more =
     let size : length uns ≡ burst m bytes - length imm = omega (arith, length-drop (length imm) (take (burst m bytes) bytes), length-take (burst m bytes) bytes) in
     let sent_ : v.sent ≡ burst m bytes = omega (arith, ap (λ (x : List ℕ). length x) uns_is, size, short) in
     let due : w.due ≡ Unsolicited 0 = rw more refl in
-    let here : received w ≡ length imm = ap (λ (x : List ℕ). length x) (pieces_of_first imm) in
+    let here : received w ≡ length imm = ap (λ (x : List ℕ). length x) (data_of_one imm) in
     let part : is_whole w ≡ false = ne_eqb total (received w) (λ e. omega (arith, e, here, all, short)) in
     let first : proceed effect (ready t n) disk w ≡ on disk (nothing (writer t n w)) = rw (part, due) refl in
     let h : DataOut = record {
@@ -679,7 +767,7 @@ some_unasked m t disk lun cdb bytes window total a near all more =
     ap (λ (x : List ℕ). sequence (begun_write m) None reserved_tag (length imm) x) uns_is ∙ ap (λ (k : Held). data_outs h (pieces k.target_max_recv uns)) (sym a.held) in
     let w' : Write = record w { pieces = r.came; due = Nothing } in
     let all_came_ : data_of w'.pieces ≡ take v.sent bytes =
-    r.whole ∙ ap (λ (x : List ℕ). x ++ uns) (pieces_of_first imm ∙ front)
+    r.whole ∙ ap (λ (x : List ℕ). x ++ uns) (data_of_one imm ∙ front)
     ∙ (let e : take (length imm) bytes ≡ take (length imm) (take (burst m bytes) bytes) = sym (take-take (length imm) (burst m bytes) bytes (omega (arith, short))) in ap (λ (x : List ℕ). x ++ uns) e)
     ∙ take-append-drop (length imm) (take (burst m bytes) bytes) ∙ ap (λ (k : ℕ). take k bytes) (sym sent_) in
     let i : InHand (begun_write m) v w' order = record {
@@ -694,14 +782,14 @@ some_unasked m t disk lun cdb bytes window total a near all more =
     } in
     let is : (let x = proceed effect (ready t n) disk w in then_stepped x (answers x.machine x.disk (unasked_data m bytes))) ≡ proceed effect (ready t n) disk w' =
     ap (λ (x : Stepped). then_stepped x (answers x.machine x.disk (unasked_data m bytes))) first ∙ ap (answers (writer t n w) disk) data_ ∙ r.is in
-    subst (λ (x : Stepped). Ends m.held (heard (writing (begun_write m) v window) x) (told (effect disk order bytes).outcome) (effect disk order bytes).disk) (sym is)
-    (goes_on (length bytes) (begun_write m) t n v w' window order disk a near i (omega arith) (is_whole w') refl)
+    subst (Comes m (writing (begun_write m) v window) order bytes disk) (sym is)
+    (proceed_written (begun_write m) t n v w' order disk a i (is_whole w') refl, goes_on (length bytes) (begun_write m) t n v w' window order disk a near i (omega arith) (is_whole w') refl)
 
 -- ---- the whole of a write
 
 by_plan : (p : Plan) (m : initiator.Machine) (t : target.Machine) (disk : Disk) (lun : ℕ) (cdb bytes : List ℕ) (window : Window) → plan_of (writing_order lun cdb bytes) disk.count ≡ p
     → Throughout (begun_write m) t (next_sn m.cmd_sn) bytes (writing_order lun cdb bytes) disk → IsNear (next_sn m.cmd_sn) window → (more : Bool) → has_more m bytes ≡ more
-    → Ends m.held (heard (writing (begun_write m) (first_sent m bytes) window) (first_answers m t disk lun cdb bytes p)) (told (effect disk (writing_order lun cdb bytes) bytes).outcome) (effect disk (writing_order lun cdb bytes) bytes).disk
+    → Comes m (writing (begun_write m) (first_sent m bytes) window) (writing_order lun cdb bytes) bytes disk (first_answers m t disk lun cdb bytes p)
 by_plan (Take total) m t disk lun cdb bytes window is a near true more =
     some_unasked m t disk lun cdb bytes window total a near (takes_all (first_refusal (writing_order lun cdb bytes) disk.count) (writing_order lun cdb bytes) disk.count total refl is) more
 by_plan (Take total) m t disk lun cdb bytes window is a near false none =
@@ -724,14 +812,27 @@ immediate_short : (on_ : Bool) (size : ℕ) (bytes : List ℕ) → (let x : List
 immediate_short true size bytes = omega (arith, length-take size bytes)
 immediate_short false size bytes = omega arith
 
-pub local_write : (m : initiator.Machine) (t : target.Machine) (disk : Disk) (lun : ℕ) (cdb bytes : List ℕ) → AreInStep m t → (submitted m (requests.Out lun cdb bytes)).refusal ≡ None
-    → (let after : Effect = effect disk (writing_order lun cdb bytes) bytes in Ends m.held (handed_in m t disk (requests.Out lun cdb bytes)) (told after.outcome) after.disk)
+-- what goes out unasked is no more than there is
+unasked_few : (more : Bool) (n size : ℕ) (bytes : List ℕ) → n ≤ length bytes → (let x : List ℕ = if more then drop n (take size bytes) else [] in n + length x ≤ length bytes)
+unasked_few true n size bytes le = omega (arith, le, length-drop n (take size bytes), length-take size bytes)
+unasked_few false n size bytes le = omega (arith, le)
+
+first_few : (m : initiator.Machine) (bytes : List ℕ) → length (immediate m bytes) + length (initiator_writes.unsolicited m bytes) ≤ length bytes
+first_few m bytes =
+    unasked_few (has_more m bytes) (length (immediate m bytes)) (burst m bytes) bytes
+    (omega (arith, immediate_short (is_yes (held_value m.held keys.ImmediateData)) (min (burst m bytes) m.held.target_max_recv) bytes))
+
+-- A write between two ends that are in step is heard, and comes to the outcome and the disk of its order.
+pub local_write : (m : initiator.Machine) (t : target.Machine) (disk : Disk) (lun : ℕ) (cdb bytes : List ℕ) → lun < 2 ^ 64 → length cdb ≡ 16 → AreBytes cdb
+    → AreInStep m t → (submitted m (requests.Out lun cdb bytes)).refusal ≡ None
+    → (let after : Effect = effect disk (writing_order lun cdb bytes) bytes in Begins m.held m t disk (requests.Out lun cdb bytes) (told after.outcome) after.disk)
 unfolding answers
-local_write m t disk lun cdb bytes a e =
+local_write m t disk lun cdb bytes on_ size are a e =
     let request : Request = requests.Out lun cdb bytes in
     let order : Order = writing_order lun cdb bytes in
     let after : Effect = effect disk order bytes in
     let p : Plan = plan_of order disk.count in
+    let few : length bytes ≤ 4194304 = few_bytes m lun cdb bytes a.initiator_phase e in
     let sent : submitted m request ≡ accepted m request = submitted_is m request e in
     let i : initiator.Machine = writing (begun_write m) (first_sent m bytes) m.window in
     let is_t : t ≡ ready t m.cmd_sn = λ k. record t { phase = a.target_phase k; session = a.session k; write = a.none_written k; exp_cmd_sn = a.cmd_sn k } in
@@ -748,15 +849,35 @@ local_write m t disk lun cdb bytes a e =
       tag_fits = tag_after m.initiator_task_tag a.tag_fits;
       cmd_sn_is = refl;
       cmd_sn_fits = mod-lt (m.cmd_sn + 1) (omega arith);
-      few = few_bytes m lun cdb bytes a.initiator_phase e;
+      few = few;
       none_given = outcome_none p disk order (λ n. gives_none (first_refusal order disk.count) lun cdb bytes disk.count n refl);
+      stat_sn_fits = a.stat_sn_fits;
+      stat_sn_sends = stat_sn_sent m t a;
+      lun = on_;
+      expected = few;
+      none_done = a.none_done;
     } in
-    let x : Ends m.held (heard i (first_answers m t disk lun cdb bytes p)) (told after.outcome) after.disk =
+    let first : Stepped = planned effect (ready t (next_sn m.cmd_sn)) disk (write_head m lun cdb bytes) (immediate m bytes) p in
+    let x : Comes m i order bytes disk (first_answers m t disk lun cdb bytes p) =
     by_plan p m t disk lun cdb bytes m.window refl all (near_one (next_sn m.cmd_sn) m.cmd_sn m.window a.cmd_sn_fits refl a.window) (has_more m bytes) refl in
-    let command_ : Stepped = accepting (write_message m lun cdb bytes) (planned effect (ready t (next_sn m.cmd_sn)) disk (write_head m lun cdb bytes) (immediate m bytes) p) in
-    let is : turned (handed_in m t disk request) ≡ heard i (first_answers m t disk lun cdb bytes p) =
-    ap (λ (s : Submitted). heard s.machine (answers t disk s.output)) sent
-    ∙ ap (λ (k : initiator.Machine). heard k (answers t disk (accepted m request).output)) is_m
-    ∙ ap (λ (y : target.Machine). heard i (answers y disk (accepted m request).output)) is_t
-    ∙ ap (λ (r : Stepped). heard i (then_stepped r (answers r.machine r.disk (unasked_data m bytes)))) (command_taken m t disk lun cdb bytes a.cmd_sn_fits a.held limit short) in
-    record { turns = suc x.turns; ended = subst (λ (y : Talk). HasEnded m.held (after_turns x.turns y) (told after.outcome) after.disk) (sym is) x.ended }
+    let r : Stepped = then_stepped (accepting (write_message m lun cdb bytes) first) (answers first.machine first.disk (unasked_data m bytes)) in
+    let is : answers t disk (submitted m request).output ≡ r =
+    ap (λ (s : Submitted). answers t disk s.output) sent
+    ∙ ap (λ (y : target.Machine). answers y disk (accepted m request).output) is_t
+    ∙ ap (λ (y : Stepped). then_stepped y (answers y.machine y.disk (unasked_data m bytes))) (command_taken m t disk lun cdb bytes a.cmd_sn_fits a.held limit short) in
+    let most : ℕ = m.held.target_max_recv in
+    let short_ : length (immediate m bytes) ≤ most = subst (λ (h : Held). length (immediate m bytes) ≤ h.target_max_recv) a.held short in
+    let written : ArePlain most (write_message m lun cdb bytes ∷ unasked_data m bytes) =
+    plain_more most (write_message m lun cdb bytes) (unasked_data m bytes)
+    (λ logins. command_readable logins m (not (has_more m bytes)) lun cdb (immediate m bytes) (record { read = false; write = not (length bytes == 0); expected = length bytes }) on_ size are a.tag_fits (omega (arith, few)) a.cmd_sn_fits
+    (stat_sn_sent m t a) (omega (arith, short_, a.is_held.target_max_recv.1)))
+    (short_message (write_message m lun cdb bytes).head (immediate m bytes) most short_)
+    (sequence_written (begun_write m) None reserved_tag (length (immediate m bytes)) (initiator_writes.unsolicited m bytes) a.is_held all.tag_fits all.stat_sn_sends refl tt (omega arith)
+    (omega (arith, first_few m bytes, few))) in
+    let ends_ : Ends m.held i r (told after.outcome) after.disk = record { last = x.1.last; leads = x.1.leads; ended = x.1.ended } in
+    record {
+      heard = heard_by m.held t disk (submitted m request).output r is (subst (λ (s : Submitted). ArePlain most s.output) (sym sent) written) x.0.live x.0.rule x.0.answered;
+      ends = subst (λ (s : Submitted). Ends m.held s.machine (answers t disk (submitted m request).output) (told after.outcome) after.disk) (sym sent)
+          (subst (λ (k : initiator.Machine). Ends m.held k (answers t disk (submitted m request).output) (told after.outcome) after.disk) (sym is_m)
+          (subst (λ (y : Stepped). Ends m.held i y (told after.outcome) after.disk) (sym is) ends_));
+    }

@@ -24,7 +24,7 @@ use Rattle.iscsi_pair.specs.declared.step.EndFault.{EndFault}
 use Rattle.iscsi_pair.specs.declared.step.EndFault.TheVariants as ends
 use Rattle.iscsi_pair.specs.World.{World, Opening, Event, ToTarget, ToInitiator, Submits, Takes, TargetHears, InitiatorHears, InitiatorIsAsked, MovesToTarget, MovesToInitiator, Asks, Happens, RunsCalmly, LooksAlike, new_pair, store_of, feed_fault, submit_fault, target_ran_out, initiator_ran_out, keeps_no_memory}
 use Rattle.iscsi_pair.specs.Traffic.{Traffic, coming, first_traffic, traffic_after}
-use Rattle.iscsi_pair.proofs.Calm.{or_none}
+use Rattle.std.proofs.lemmas.Bool.{or_parts}
 use Rattle.iscsi_pair.proofs.Sides.{Sides, happens_sides, opening_sides}
 
 -- what it was is what it is
@@ -185,14 +185,14 @@ one_event : (c : Opening) (t : Traffic) (old same : World) (event : Event) (new 
 one_event c t old same (ToTarget k) new now s l a b calm calm' =
     to_target old.target_fault (take k old.to_target) c t old same new now s l refl a
     (subst (λ (x : List ℕ). MovesToTarget old.target_fault (take k x) same now) l.to_target (subst (λ (f : Option TargetFault). MovesToTarget f (take k same.to_target) same now) l.target_fault b))
-    (or_none (target_ran_out new.target_fault) (initiator_ran_out new.initiator_fault) calm).0 (or_none (target_ran_out now.target_fault) (initiator_ran_out now.initiator_fault) calm').0
+    (or_parts (target_ran_out new.target_fault) (initiator_ran_out new.initiator_fault) calm).0 (or_parts (target_ran_out now.target_fault) (initiator_ran_out now.initiator_fault) calm').0
 one_event c t old same (ToInitiator k) new now s l a b calm calm' =
     to_initiator old.initiator_fault (take k old.to_initiator) c t old same new now s l refl a
     (subst (λ (x : List ℕ). MovesToInitiator old.initiator_fault (take k x) same now) l.to_initiator (subst (λ (f : Option EndFault). MovesToInitiator f (take k same.to_initiator) same now) l.initiator_fault b))
-    (or_none (target_ran_out new.target_fault) (initiator_ran_out new.initiator_fault) calm).1 (or_none (target_ran_out now.target_fault) (initiator_ran_out now.initiator_fault) calm').1
+    (or_parts (target_ran_out new.target_fault) (initiator_ran_out new.initiator_fault) calm).1 (or_parts (target_ran_out now.target_fault) (initiator_ran_out now.initiator_fault) calm').1
 one_event c t old same (Submits request) new now s l a b calm calm' =
     asks old.initiator_fault request old same new now l a (subst (λ (f : Option EndFault). Asks f request same now) l.initiator_fault b)
-    (or_none (target_ran_out new.target_fault) (initiator_ran_out new.initiator_fault) calm).1 (or_none (target_ran_out now.target_fault) (initiator_ran_out now.initiator_fault) calm').1
+    (or_parts (target_ran_out new.target_fault) (initiator_ran_out new.initiator_fault) calm).1 (or_parts (target_ran_out now.target_fault) (initiator_ran_out now.initiator_fault) calm').1
 one_event c t old same Takes new now s l a b calm calm' =
     same_worlds (record old { initiator = initiator.after_taking old.initiator }) (record same { initiator = initiator.after_taking same.initiator }) new now (takes old same l) a b
 

@@ -155,7 +155,7 @@ not_empty [] n = absurd (let z = n.some in omega (arith, z))
 not_empty (byte ∷ bytes) n = refl
 
 -- the session that the first text is for
-session_is : (e : Machine) (pairs : Pairs) (session : Session) → e.has_text ≡ false → session_in pairs ≡ Some session → session_for e pairs ≡ session
+pub session_is : (e : Machine) (pairs : Pairs) (session : Session) → e.has_text ≡ false → session_in pairs ≡ Some session → session_for e pairs ≡ session
 session_is e pairs session t s = by e.has_text t
   where
     by : (b : Bool) → b ≡ false → (if b then e.session else unwrap_or (session_in pairs) sessions.Normal) ≡ session

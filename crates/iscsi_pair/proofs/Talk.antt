@@ -1,7 +1,9 @@
 -- One request of a login and its answer: both ends hold the same, or the initiator gives up.
 use Rattle.std.proofs.Common.{◌≡◌, ◌<◌, ◌≤◌, ◌⊎◌, inl, inr, ℕ, ◌-◌, Bool, true, false, List, [], ◌∷◌, ◌++◌, length, take, drop, Option, Some, None, refl, sym, ap, ◌∙◌, subst, append_assoc, arith}
-use Rattle.std.specs.Prelude.{not, ◌&&◌, nat_le, is_some, IfSome, ◌^◌, ◌%◌, if◌then◌else◌, unwrap_or}
+use Rattle.std.specs.Prelude.{not, ◌&&◌, nat_le, is_some, IfSome, ◌^◌, if◌then◌else◌, unwrap_or}
 use Rattle.std.specs.Bool.{then_some}
+use Rattle.std.proofs.Math.Bool.{not-not}
+use Rattle.std.proofs.Math.Nat.{mod-lt}
 use Rattle.std.proofs.lemmas.Bool.{leb-true, le-leb, lt-leb, le-ltb}
 use Rattle.std.proofs.lemmas.List.{append-nil, take-append-drop, length-take, length-drop}
 use Rattle.scsi_disk.specs.Disk.{Disk}
@@ -86,7 +88,7 @@ pub record Asking (c : Opening) (i : initiator.Machine) (t : target.Machine) (lo
 
 -- ---- what is on its way is read as it was written
 
-some_then : (b : Bool) (n : ℕ) → is_some (then_some b n) ≡ b
+pub some_then : (b : Bool) (n : ℕ) → is_some (then_some b n) ≡ b
 some_then true n = refl
 some_then false n = refl
 
@@ -114,10 +116,6 @@ request_fits c i last o e n = record {
   exp_stat_sn = n;
 }
 
-not_not : (b : Bool) → not (not b) ≡ b
-not_not true = refl
-not_not false = refl
-
 pub offered_read : (c : Opening) (i : initiator.Machine) → IsOpening c → i.settings ≡ c.initiator → IsStart i.stage → text_in (canonical_text (offered i)) ≡ Some (offered i)
 offered_read c i o e is = offers_read i.settings i.stage (subst AreValid (sym e) o.initiator) is
 
@@ -129,7 +127,7 @@ asking_readable c i t logins r o a =
       | inl w ↦ subst (λ (x : Segment). Readable logins (login_message i (is_sent i.left) x)) (sym w.is)
           (request_readable logins (login_request i (is_sent i.left)) (offered i) w.first (ap (λ (l : List ℕ). not (is_sent l)) w.left) f w.short (offered_read c i o a.settings a.stage))
       | inr p ↦ subst (λ (x : Segment). Readable logins (login_message i (is_sent i.left) x)) (sym p.is)
-          (part_readable logins (login_request i (is_sent i.left)) p.bytes (ap (λ (b : Bool). not logins.request && b) (not_not (is_sent i.left)) ∙ p.part) f p.short)
+          (part_readable logins (login_request i (is_sent i.left)) p.bytes (ap (λ (b : Bool). not logins.request && b) (not-not (is_sent i.left)) ∙ p.part) f p.short)
     ])
 
 -- ---- what comes of it
@@ -294,9 +292,6 @@ refused_round c i t logins next r disk last reply a q = record {
   leads = inl (hears_refusal i q.answer [] a.phase a.started q.tag q.class);
 }
 
-below : (n : ℕ) → n % 2 ^ 32 < 2 ^ 32
-below n = omega (arith)
-
 -- the login goes on with the next part of the text
 gathered_round : (c : Opening) (i : initiator.Machine) (t : target.Machine) (logins next : Logins) (r : Message) (disk : Disk) (bytes : List ℕ) (byte : ℕ) (more : List ℕ) (reply : target.Reply) → IsOpening c → Asking c i t logins r
     → i.left ≡ byte ∷ more → t.gathered ++ (bytes ++ i.left) ≡ canonical_text (offered i) → next.request ≡ true
@@ -324,7 +319,7 @@ gathered_round c i t logins next r disk bytes byte more reply o a left text requ
           started = a.started;
           no_outcome = a.no_outcome;
           stage = a.stage;
-          number = below _;
+          number = mod-lt _ (omega arith);
           own = a.own;
           target_settings = q.settings ∙ a.target_settings;
           logs_in = q.logs_in;
@@ -370,7 +365,7 @@ told_to stages.Security c i t logins next r reply o a is first q =
       started = a.started;
       no_outcome = a.no_outcome;
       stage = tt;
-      number = below _;
+      number = mod-lt _ (omega arith);
       own = a.own;
       target_settings = q.settings ∙ a.target_settings;
       logs_in = record { phase = q.phase stages.Operational asked_is; stat_sn = q.stat_sn; cmd_sn = q.cmd_sn };

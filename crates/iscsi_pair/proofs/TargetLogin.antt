@@ -1,8 +1,9 @@
 -- What a target answers to a Login Request of its initiator.
 use Rattle.std.proofs.Common.{◌≡◌, ◌<◌, ◌≤◌, ◌⊎◌, inl, inr, ℕ, ◌+◌, Bool, true, false, List, [], ◌∷◌, ◌++◌, length, Option, Some, None, refl, sym, ap, ◌∙◌, subst, arith}
-use Rattle.std.specs.Prelude.{◌==◌, nat_lt, is_some, IfSome, ◌^◌, ◌%◌, if◌then◌else◌, unwrap_or}
+use Rattle.std.specs.Prelude.{◌==◌, nat_lt, is_some, IfSome, ◌^◌, if◌then◌else◌, unwrap_or}
 use Rattle.std.specs.List.{AllByRecursion}
-use Rattle.std.proofs.lemmas.Bool.{ltb-false}
+use Rattle.std.proofs.lemmas.Bool.{cond_both, ltb-false}
+use Rattle.std.proofs.Math.Nat.{mod-lt}
 use Rattle.scsi_disk.specs.Disk.{Disk}
 use Rattle.scsi_disk.specs.Effect.{effect}
 use Rattle.iscsi_text.specs.Text.{Pairs}
@@ -83,10 +84,6 @@ none_holds (row ∷ rows) e =
 
 -- ---- what is sent
 
--- the numbers of an answer have room
-below : (n : ℕ) → n % 2 ^ 32 < 2 ^ 32
-below n = omega (arith)
-
 fits_response : (s : Machine) (h : LoginRequest) → s.exp_cmd_sn < 2 ^ 32 → RequestFits h → (o : Option ℕ) → (class detail tsih : ℕ) (transits : Bool) (next : Option ℕ)
     → is_some next ≡ transits → IfSome next (λ n. n ≤ 3) → tsih < 2 ^ 16 → is_some o ≡ (class == 0) → IfSome o (λ n. n < 2 ^ 32) → class < 256 → detail < 256
     → ResponseFits (record (response s h) { transits = transits; next_stage = next; tsih = tsih; stat_sn = o; status_class = class; status_detail = detail })
@@ -102,7 +99,7 @@ fits_response s h sn f o class detail tsih transits next has range tsih_is has_s
   has_stat_sn = has_sn;
   stat_sn = sn_is;
   exp_cmd_sn = sn;
-  max_cmd_sn = below _;
+  max_cmd_sn = mod-lt _ (omega arith);
   status_class = class_is;
   status_detail = detail_is;
 }
@@ -170,15 +167,11 @@ record Keeps (s e : Machine) : Type 0 where
   stat_sn : e.stat_sn ≡ s.stat_sn
   cmd_sn : e.exp_cmd_sn < 2 ^ 32
 
-keeps_if : (b : Bool) (s x y : Machine) → Keeps s x → Keeps s y → Keeps s (if b then x else y)
-keeps_if true s x y p q = p
-keeps_if false s x y p q = q
-
 numbered_keeps : (s : Machine) (h : LoginRequest) → s.exp_cmd_sn < 2 ^ 32 → RequestFits h → Keeps s (numbered s h)
 numbered_keeps s h sn f =
-    keeps_if s.begun s s (record s { begun = true; exp_cmd_sn = h.cmd_sn })
-    (record { phase = refl; settings = refl; held = refl; gathered = refl; stat_sn = refl; cmd_sn = sn })
-    (record { phase = refl; settings = refl; held = refl; gathered = refl; stat_sn = refl; cmd_sn = f.cmd_sn })
+    cond_both s.begun s (record s { begun = true; exp_cmd_sn = h.cmd_sn }) (Keeps s)
+    (λ is. record { phase = refl; settings = refl; held = refl; gathered = refl; stat_sn = refl; cmd_sn = sn })
+    (λ is. record { phase = refl; settings = refl; held = refl; gathered = refl; stat_sn = refl; cmd_sn = f.cmd_sn })
 
 entered_keeps : (s : Machine) (h : LoginRequest) → s.exp_cmd_sn < 2 ^ 32 → RequestFits h → Keeps s (entered s h)
 entered_keeps s h sn f =
@@ -193,15 +186,11 @@ gathers s e h bytes k l f = record {
   tag = refl;
   last = refl;
   fits = fits_response e h k.cmd_sn f (Some e.stat_sn) 0 0 0 false None refl tt (omega arith) refl (omega (arith, k.stat_sn, l.stat_sn)) (omega arith) (omega arith);
-  logs_in = record { phase = k.phase ∙ l.phase; stat_sn = below _; cmd_sn = k.cmd_sn };
+  logs_in = record { phase = k.phase ∙ l.phase; stat_sn = mod-lt _ (omega arith); cmd_sn = k.cmd_sn };
   settings = k.settings;
   held = k.held;
   gathered = ap (λ (x : List ℕ). x ++ bytes) k.gathered;
 }
-
-by_cases : (b : Bool) (P : Reply → Type 0) (x y : Reply) → (b ≡ true → P x) → (b ≡ false → P y) → P (if b then x else y)
-by_cases true P x y p q = p refl
-by_cases false P x y p q = q refl
 
 by_reason : (o : Option Status) (P : Reply → Type 0) (s : Machine) (h : LoginRequest) (r : Reply) → ((why : Status) → o ≡ Some why → P (refuse s h why)) → (o ≡ None → P r) → P (refuse_or o s h r)
 by_reason None P s h r p q = q refl
@@ -220,9 +209,9 @@ gathers_more s h bytes l f more =
     let long : Bool = nat_lt 16384 (length now.gathered + length (segment_bytes (Bytes bytes))) in
     by_reason (first_of (request_refusals s h)) P (numbered s h) h (segment_taken (entered s h) h (Bytes bytes))
     (λ why is. inl (refuses (numbered s h) h why (numbered_keeps s h l.cmd_sn f).cmd_sn f (request_refusal s h why is)))
-    (λ none. by_cases long P (refuse now h out_of_resources) (if h.continues then part else whole)
+    (λ none. cond_both long (refuse now h out_of_resources) (if h.continues then part else whole) P
     (λ over. inl (refuses (entered s h) h out_of_resources k.cmd_sn f (refl, (omega arith, omega arith))))
-    (λ short. by_cases h.continues P part whole (λ is. inr (gathers s (entered s h) h bytes k l f)) (λ is. absurd (apart more is))))
+    (λ short. cond_both h.continues part whole P (λ is. inr (gathers s (entered s h) h bytes k l f)) (λ is. absurd (apart more is))))
 
 -- ---- a whole text
 
@@ -232,7 +221,8 @@ pub record SettingsFit (settings : Settings) : Type 0 where
   pub group : settings.group < 2 ^ 16
   pub tsih : settings.tsih < 2 ^ 16
 
-some_if : (b : Bool) (n bound : ℕ) → n < bound → IfSome (if b then Some n else None) (λ x. x < bound)
+-- a number that there may be is below a bound
+pub some_if : (b : Bool) (n bound : ℕ) → n < bound → IfSome (if b then Some n else None) (λ x. x < bound)
 some_if true n bound lt = lt
 some_if false n bound lt = tt
 
@@ -268,7 +258,7 @@ tells s e h pairs k fit l f short =
       gathered = refl;
       stage = λ to asked. ap (λ (o : Option Stage). unwrap_or o e.stage) asked;
       phase = λ to asked. ap (λ (o : Option Stage). phase_at (unwrap_or o e.stage)) asked;
-      stat_sn = below _;
+      stat_sn = mod-lt _ (omega arith);
       cmd_sn = k.cmd_sn;
     }
 
@@ -286,9 +276,9 @@ tells_text s h segment pairs fit l f last read =
     let e : Machine = record (entered s h) { gathered = [] } in
     by_reason (first_of (request_refusals s h)) P (numbered s h) h (segment_taken (entered s h) h segment)
     (λ why is. inl (refuses (numbered s h) h why (numbered_keeps s h l.cmd_sn f).cmd_sn f (request_refusal s h why is)))
-    (λ none. by_cases long P (refuse now h out_of_resources) (if h.continues then part else whole)
+    (λ none. cond_both long (refuse now h out_of_resources) (if h.continues then part else whole) P
     (λ over. inl (refuses (entered s h) h out_of_resources k.cmd_sn f (refl, (omega arith, omega arith))))
-    (λ short. by_cases h.continues P part whole (λ is. absurd (apart is last))
+    (λ short. cond_both h.continues part whole P (λ is. absurd (apart is last))
     (λ is. subst (λ (o : Option Pairs). P (whole_text e h o)) (sym (ap (λ (g : List ℕ). text_ending g segment) k.gathered ∙ read))
     (by_reason (first_of (text_refusals e pairs)) P e h (text_answered e h pairs)
     (λ why is2. inl (refuses e h why k.cmd_sn f (text_refusal e pairs why is2)))

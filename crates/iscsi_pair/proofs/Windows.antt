@@ -1,10 +1,12 @@
--- The command window that a target tells while it serves one command at a time.
-use Rattle.std.proofs.Common.{◌≡◌, ◌⊎◌, inl, inr, ◌<◌, ℕ, ◌+◌, ◌-◌, ◌^◌, ◌%◌, refl, sym, ap, ◌∙◌, subst, arith}
+-- The tags that an initiator counts, and the command window that a target tells while it serves one command at a time.
+use Rattle.std.specs.Prelude.{◌==◌, if◌then◌else◌}
+use Rattle.std.proofs.Common.{◌≡◌, ◌⊎◌, inl, inr, ◌<◌, ◌≤◌, ℕ, ◌+◌, ◌-◌, ◌^◌, ◌%◌, Bool, true, false, refl, sym, ap, ◌∙◌, subst, arith}
 use Rattle.std.proofs.Math.Nat.{mod-lt}
+use Rattle.std.proofs.lemmas.Bool.{eqb-false}
 use Rattle.iscsi_pdu.specs.declared.serial.Serial.{Serial}
 use Rattle.iscsi_pdu.specs.declared.serial.Window.{Window}
 use Rattle.iscsi_pdu.specs.Serial.{later_of, moved}
-use Rattle.iscsi_initiator.specs.State.{next, serial}
+use Rattle.iscsi_initiator.specs.State.{next, next_tag, serial}
 use Rattle.iscsi_pair.specs.LocalDisk.{window_of_one}
 
 -- the number before this one
@@ -54,3 +56,13 @@ pub near_one : (n c : ℕ) (w : Window) → c < 2 ^ 32 → n ≡ next c → w �
 near_one n c w lt e is =
     let b : c ≡ before n = omega (arith, e, lt) in
     record { exp = inl (ap (λ (x : Window). x.exp) is ∙ ap serial b); max = inl (ap (λ (x : Window). x.max) is ∙ ap serial b) }
+
+-- ---- tags
+
+tag_by : (b : Bool) (tag : ℕ) → (tag == 0xffff_fffe) ≡ b → tag ≤ 0xffff_fffe → (if b then 0 else tag + 1) ≤ 0xffff_fffe
+tag_by true tag e le = omega arith
+tag_by false tag e le = (let apart_ = eqb-false tag 0xffff_fffe e in omega (arith, le, apart_))
+
+-- the next tag names a task
+pub tag_after : (tag : ℕ) → tag ≤ 0xffff_fffe → next_tag tag ≤ 0xffff_fffe
+tag_after tag le = tag_by (tag == 0xffff_fffe) tag refl le

@@ -1,3 +1,4 @@
 pub mod World
 pub mod Traffic
 pub mod LocalDisk
+pub mod Served

@@ -1,6 +1,6 @@
 -- One local disk: what requests do where the disk is here (RFC 7143, sections 11.3 and 11.4; own
 -- rule).
-use Rattle.std.specs.Prelude.{◌≡◌, ℕ, ◌<◌, ◌≤◌, ◌^◌, ◌==◌, zero, suc, false, not, List, [], ◌∷◌, length, take, Option, Some, None}
+use Rattle.std.specs.Prelude.{◌≡◌, ◌⊎◌, ℕ, ◌<◌, ◌≤◌, ◌^◌, ◌==◌, zero, suc, false, not, List, [], ◌∷◌, ◌++◌, length, take, Option, Some, None}
 use Rattle.scsi_cdb.specs.Sense.{sense_bytes}
 use Rattle.scsi_cdb.specs.declared.sense.Sense.{Sense}
 use Rattle.scsi_disk.specs.Disk.{Disk}
@@ -20,8 +20,8 @@ use Rattle.iscsi_initiator.specs.Block.{record_of}
 use Rattle.iscsi_initiator.specs.declared.request.Request.{Request}
 use Rattle.iscsi_initiator.specs.declared.request.Request.TheVariants as requests
 use Rattle.iscsi_initiator.specs.State as initiator
-use Rattle.iscsi_initiator.specs.Machine.{steps, taken}
-use Rattle.iscsi_initiator.specs.Submitted.{is_too_long, submitted}
+use Rattle.iscsi_initiator.specs.Machine.{step, taken}
+use Rattle.iscsi_initiator.specs.Submitted.{submitted}
 
 -- What a request that may read orders of a disk (section 11.3).
 abbrev pub reading_order : ℕ → List ℕ → ℕ → Order
@@ -74,14 +74,6 @@ local most disk (requests.Ping bytes) =
 local most disk (requests.Text bytes) = record { outcome = done.Text []; disk = disk }
 local most disk requests.Logout = record { outcome = done.Closed; disk = disk }
 
--- The request is a command or a ping (own rule).
-abbrev pub IsOfDisk : Request → Type 0
-IsOfDisk (requests.In lun cdb expected) = Unit {0}
-IsOfDisk (requests.Out lun cdb bytes) = Unit {0}
-IsOfDisk (requests.Ping bytes) = Unit {0}
-IsOfDisk (requests.Text bytes) = ⊥
-IsOfDisk requests.Logout = ⊥
-
 -- The outcomes of requests, one after another on one disk (own rule).
 unfoldable pub local_outcomes : ℕ → Disk → List Request → List Done
 local_outcomes most disk [] = []
@@ -120,74 +112,68 @@ pub record AreInStep (m : initiator.Machine) (t : target.Machine) : Type 0 where
   pub stat_sn : m.exp_stat_sn ≡ Some t.stat_sn
   pub stat_sn_fits : t.stat_sn < 2 ^ 32
 
--- ---- turns
+-- Both sessions are over, and nothing is open (section 11.14).
+pub record HaveParted (m : initiator.Machine) (t : target.Machine) : Type 0 where
+  pub initiator_phase : m.phase ≡ phases.Closed
+  pub target_phase : t.phase ≡ phases.Closed
+  pub none_open : m.open_request ≡ None
 
--- Both ends, the disk, and what is on its way to the target while nothing is on its way back (own
--- rule).
-pub record Talk : Type 0 where
+-- Both ends are in step and hold this, or have parted (own rule).
+abbrev pub AreAtRest : Held → initiator.Machine → target.Machine → Type 0
+AreAtRest held m t = (AreInStep m t × (m.held ≡ held)) ⊎ HaveParted m t
+
+-- ---- answers, one by one
+
+-- Both ends, the disk, and the answers on their way, where the target has heard all that was sent
+-- (own rule).
+pub record Stand : Type 0 where
   pub initiator : initiator.Machine
   pub target : target.Machine
   pub disk : Disk
-  pub to_target : List Message
+  pub answers : List Message
 
--- The target hears all of it, and then the initiator all answers (section 4.2; own rule).
-abbrev pub turned : Talk → Talk
-turned x =
-    let answered = answers x.target x.disk x.to_target in
-    let heard = steps x.initiator answered.answers in
+-- A message reaches the initiator, and what it sends then the target; these answers came before
+-- (section 4.2; own rule).
+abbrev pub after_answer : Stand → Message → List Message → Stand
+after_answer x m more =
+    let heard = step x.initiator m in
+    let answered = answers x.target x.disk heard.output in
     record {
       initiator = heard.machine;
       target = answered.machine;
       disk = answered.disk;
-      to_target = heard.output;
+      answers = more ++ answered.answers;
     }
 
--- So many turns, one after another (own rule).
-abbrev pub after_turns : ℕ → Talk → Talk
-after_turns zero x = x
-after_turns (suc more) x = after_turns more (turned x)
+-- The next answer reaches the initiator, if one is on its way (own rule).
+abbrev pub after_next : Stand → List Message → Stand
+after_next x [] = x
+after_next x (m ∷ more) = after_answer x m more
 
--- A request is handed in (section 4.2).
-abbrev pub handed_in : initiator.Machine → target.Machine → Disk → Request → Talk
-handed_in m t disk request = record {
-  initiator = (submitted m request).machine;
-  target = t;
-  disk = disk;
-  to_target = (submitted m request).output;
-}
+-- So many answers, one after another (own rule).
+abbrev pub after_answers : ℕ → Stand → Stand
+after_answers zero x = x
+after_answers (suc more) x = after_answers more (after_next x x.answers)
 
--- The request has this outcome and left this disk, nothing more is sent for it, what was negotiated
--- stays, and once the outcome is taken both ends are in step (section 4.2; own rule).
-pub record HasEnded (held : Held) (x : Talk) (outcome : Done) (disk_now : Disk) : Type 0 where
+-- A request is handed in, and the target hears what goes out (section 4.2).
+abbrev pub handed_in : initiator.Machine → target.Machine → Disk → Request → Stand
+handed_in m t disk request =
+    let answered = answers t disk (submitted m request).output in
+    record {
+      initiator = (submitted m request).machine;
+      target = answered.machine;
+      disk = answered.disk;
+      answers = answered.answers;
+    }
+
+-- The request has this outcome and left this disk, no answer is on its way, and once the outcome is
+-- taken both ends are at rest, and hold this (section 4.2; own rule).
+pub record HasEnded (held : Held) (outcome : Done) (disk_now : Disk) (x : Stand) : Type 0 where
   pub done_is : x.initiator.done ≡ Some outcome
-  pub silent : x.to_target ≡ []
+  pub silent : x.answers ≡ []
   pub disk_is : x.disk ≡ disk_now
-  pub held_is : x.initiator.held ≡ held
-  pub in_step : AreInStep (taken x.initiator) x.target
+  pub at_rest : AreAtRest held (taken x.initiator) x.target
 
--- After some turns it has (own rule).
-pub record Ends (held : Held) (x : Talk) (outcome : Done) (disk_now : Disk) : Type 0 where
-  pub turns : ℕ
-  pub ended : HasEnded held (after_turns turns x) outcome disk_now
-
--- Both sessions are over, without a fault (section 11.14).
-pub record HasLoggedOut (x : Talk) (disk_now : Disk) : Type 0 where
-  pub done_is : x.initiator.done ≡ Some done.Closed
-  pub silent : x.to_target ≡ []
-  pub disk_is : x.disk ≡ disk_now
-  pub initiator_phase : x.initiator.phase ≡ phases.Closed
-  pub target_phase : x.target.phase ≡ phases.Closed
-
--- Requests, one after another: each is handed in once the outcome of the last was taken. While none
--- is too long each is accepted, these are their outcomes, and after all of them the disk is this one
--- (section 4.2; own rule).
-unfoldable pub Converse : initiator.Machine → target.Machine → Disk → List Request → List Done
-    → Disk → Type 0
-Converse m t disk [] outcomes disk_now = (outcomes ≡ []) × (disk_now ≡ disk)
-Converse m t disk (request ∷ more) outcomes disk_now =
-    is_too_long m request ≡ false
-    → (x : Talk) × (turns : ℕ) × (outcome : Done) × (later : List Done)
-    × ((submitted m request).refusal ≡ None)
-    × (x ≡ after_turns turns (handed_in m t disk request)) × (x.to_target ≡ [])
-    × (x.initiator.done ≡ Some outcome) × (outcomes ≡ outcome ∷ later)
-    × Converse (taken x.initiator) x.target x.disk more later disk_now
+-- After some answers it has (own rule).
+abbrev pub ComesTo : Held → Done → Disk → Stand → Type 0
+ComesTo held outcome disk_now x = (n : ℕ) × HasEnded held outcome disk_now (after_answers n x)

@@ -1,19 +1,22 @@
 //! Laws of a pair: functions with no work, whose contracts are of the definitions alone.
 //!
 //! They hold in every world that a pair comes to: over every configuration and every list of events,
-//! however the bytes are cut and wherever memory runs out. The last two are of any two ends that are
+//! however the bytes are cut and wherever memory runs out. `one_request` is of any two ends that are
 //! in step, over whole messages.
 
-ghost use Rattle.std.specs.Prelude.{◌≡◌, ◌⊎◌, ◌++◌, [], List, None, false};
-ghost use Rattle.std.specs.List.{AllByRecursion};
-ghost use Rattle.scsi_disk.specs.Disk.{Disk};
+ghost use Rattle.std.specs.Prelude.{◌≡◌, ◌≤◌, ◌⊎◌, ◌++◌, [], List, None, false, length, ℕ};
+ghost use Rattle.scsi_disk.specs.Disk.{Disk, disk_of};
+ghost use Rattle.iscsi_login.specs.Held.{Held};
 ghost use Rattle.iscsi_login.specs.declared.stage.Stage.TheVariants as stages;
 ghost use Rattle.iscsi_target.specs.State as target;
+ghost use Rattle.iscsi_initiator.specs.declared.request.Done.{Done};
 ghost use Rattle.iscsi_initiator.specs.declared.request.Request.{Request};
-ghost use Rattle.iscsi_initiator.specs.declared.request.Request.TheVariants as requests;
+ghost use Rattle.iscsi_initiator.specs.Laws.{listed};
+ghost use Rattle.iscsi_initiator.specs.Machine.{taken};
 ghost use Rattle.iscsi_initiator.specs.State as initiator;
 ghost use Rattle.iscsi_initiator.specs.Submitted.{is_too_long, submitted};
-ghost use Rattle.iscsi_pair.specs.LocalDisk.{AreInStep, Converse, Ends, HasLoggedOut, IsOfDisk, handed_in, local, local_disk, local_outcomes, turned};
+ghost use Rattle.iscsi_pair.specs.LocalDisk.{AreAtRest, AreInStep, ComesTo, handed_in, local};
+ghost use Rattle.iscsi_pair.specs.Served.{IsNormal, IsServed, RunsServed, asked, disk_after, disk_outcomes};
 ghost use Rattle.iscsi_pair.specs.World.{Event, IsOpening, LooksAlike, Opening, Reached, RunsCalmly, RunsInTime, Suits, World, keeps_no_memory, new_pair};
 ghost use Rattle.iscsi_pair.specs.Traffic.{Traffic, Traces, first_traffic, TargetStands, InitiatorStands};
 
@@ -90,30 +93,46 @@ pub fn no_early_failure()
         → (w.initiator_fault ≡ None) ⊎ (w.initiator.machine.stage ≡ stages.Full) }
 {}
 
-/// A request is that of a local disk: where both ends are in step, one that is accepted has the
-/// outcome that it has on the target's disk, leaves the disk that it leaves there, and both ends in
-/// step, after some turns of sending and answering (RFC 7143, sections 11.3, 11.4, 11.7, 11.8 and
-/// 11.18).
+/// A request is that of a local disk: where both ends are in step, a command, a ping or a logout that
+/// is accepted has the outcome that it has on the target's disk, leaves the disk that it leaves there,
+/// and both ends in step, or parted, after some answers (RFC 7143, sections 11.3, 11.4, 11.7, 11.8,
+/// 11.14 and 11.18).
 pub fn one_request()
     ensures ends { (m : initiator.Machine) (t : target.Machine) (disk : Disk) (request : Request)
-        → IsOfDisk request → AreInStep m t → (submitted m request).refusal ≡ None
+        → IsServed request → AreInStep m t → (submitted m request).refusal ≡ None
         → let here = local m.held.initiator_max_recv disk request in
-        Ends m.held (handed_in m t disk request) here.outcome here.disk }
+        ComesTo m.held here.outcome here.disk (handed_in m t disk request) }
     // Each is accepted that isn't too long.
     ensures accepted { (m : initiator.Machine) (t : target.Machine) (request : Request)
         → AreInStep m t → is_too_long m request ≡ false → (submitted m request).refusal ≡ None }
-    // A logout ends both sessions without a fault.
-    ensures logout { (m : initiator.Machine) (t : target.Machine) (disk : Disk) → AreInStep m t
-        → (submitted m requests.Logout).refusal ≡ None
-        → HasLoggedOut (turned (handed_in m t disk requests.Logout)) disk }
 {}
 
-/// One local disk: where both ends are in step, commands and pings that are handed in one after
-/// another have, in their order, the outcomes of one local disk, and leave its blocks (RFC 7143,
-/// section 4.2).
+/// One local disk: where the names suit each other and authentication isn't demanded, in a normal
+/// session, in which no growth is refused and each request is a command, a ping or a logout and is
+/// accepted (RFC 7143, section 4.2).
 pub fn one_local_disk()
-    ensures outcomes { (m : initiator.Machine) (t : target.Machine) (disk : Disk)
-        (asked : List Request) → AllByRecursion IsOfDisk asked → AreInStep m t
-        → let most = m.held.initiator_max_recv in
-        Converse m t disk asked (local_outcomes most disk asked) (local_disk most disk asked) }
+    // No end fails.
+    ensures well { (c : Opening) (events : List Event) (w : World) (outcomes : List Done)
+        → IsNormal c → RunsServed (new_pair c) events w outcomes
+        → (w.target_fault ≡ None) × (w.initiator_fault ≡ None) }
+    // The outcomes that were taken are, in their order, those of one local disk; that of the last
+    // request may be still to come.
+    ensures outcomes { (c : Opening) (events : List Event) (w : World) (outcomes : List Done)
+        → IsNormal c → RunsServed (new_pair c) events w outcomes → (later : List Done)
+        × (length later ≤ 1) × (outcomes ++ later ≡ disk_outcomes c (asked events)) }
+    // With nothing on its way no request is open,
+    ensures idle { (c : Opening) (events : List Event) (w : World) (outcomes : List Done)
+        → IsNormal c → RunsServed (new_pair c) events w outcomes
+        → w.to_target ≡ [] → w.to_initiator ≡ [] → w.initiator.machine.open_request ≡ None }
+    // each has its outcome, and the blocks are those that all of them leave,
+    ensures whole { (c : Opening) (events : List Event) (w : World) (outcomes : List Done)
+        → IsNormal c → RunsServed (new_pair c) events w outcomes
+        → w.to_target ≡ [] → w.to_initiator ≡ []
+        → (outcomes ++ listed w.initiator.machine.done ≡ disk_outcomes c (asked events))
+        × (disk_of w.blocks ≡ disk_after c (asked events)) }
+    // and once the last outcome is taken both ends are in step, or have parted.
+    ensures rests { (c : Opening) (events : List Event) (w : World) (outcomes : List Done)
+        → IsNormal c → RunsServed (new_pair c) events w outcomes
+        → w.to_target ≡ [] → w.to_initiator ≡ []
+        → (held : Held) × AreAtRest held (taken w.initiator.machine) w.target.machine }
 {}

@@ -156,10 +156,12 @@ fn in_pieces_of_one_length(rt: HostRuntime) -> Result<(), Fail> {
 
 #[test]
 fn small_bursts(rt: HostRuntime) -> Result<(), Fail> {
-    for piece in [1, 47, 4096] {
+    for piece in 1..101 {
         let same = run_script(rt.alloc(), "bursts", &mut Schedule::always(piece), BURSTS)?;
         assert!(rt; same);
     }
+    let same = run_script(rt.alloc(), "bursts", &mut Schedule::always(4096), BURSTS)?;
+    assert!(rt; same);
     Ok(())
 }
 

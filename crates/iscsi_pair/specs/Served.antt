@@ -1,0 +1,69 @@
+-- Runs in which memory is there and every request is accepted (RFC 7143, section 4.2; own rule).
+use Rattle.std.specs.Prelude.{◌≡◌, ℕ, ◌<◌, ◌^◌, false, List, [], ◌∷◌, ◌++◌, length, None}
+use Rattle.scsi_disk.specs.Disk.{Disk, disk_of}
+use Rattle.iscsi_pdu.specs.Meaning.{AreBytes}
+use Rattle.iscsi_login.specs.declared.stage.Session.TheVariants as sessions
+use Rattle.iscsi_initiator.specs.declared.request.Done.{Done}
+use Rattle.iscsi_initiator.specs.declared.request.Request.{Request}
+use Rattle.iscsi_initiator.specs.declared.request.Request.TheVariants as requests
+use Rattle.iscsi_initiator.specs.Laws.{listed}
+use Rattle.iscsi_initiator.specs.Submitted.{submitted}
+use Rattle.iscsi_pair.specs.World.{World, Opening, IsOpening, Suits, Event, Submits, Takes, Happens, keeps_no_memory}
+use Rattle.iscsi_pair.specs.LocalDisk.{local_disk, local_outcomes}
+
+-- The unit and the block of a command have room in their fields (section 11.3).
+abbrev pub HasRoom : ℕ → List ℕ → Type 0
+HasRoom lun cdb = (lun < 2 ^ 64) × (length cdb ≡ 16) × AreBytes cdb
+
+-- A command, a ping or a logout, as a program can say it (sections 11.3, 11.14 and 11.18).
+abbrev pub IsServed : Request → Type 0
+IsServed (requests.In lun cdb expected) = HasRoom lun cdb
+IsServed (requests.Out lun cdb bytes) = HasRoom lun cdb
+IsServed (requests.Ping bytes) = Unit {0}
+IsServed (requests.Text bytes) = ⊥
+IsServed requests.Logout = Unit {0}
+
+-- A request that is handed in is one of these, and accepted (section 4.2).
+abbrev pub IsAccepted : Event → World → Type 0
+IsAccepted (Submits request) w =
+    IsServed request × ((submitted w.initiator.machine request).refusal ≡ None)
+IsAccepted _ w = Unit {0}
+
+-- The request that is handed in (own rule).
+abbrev pub asked_in : Event → List Request
+asked_in (Submits request) = request ∷ []
+asked_in _ = []
+
+-- The requests that are handed in, in their order (own rule).
+abbrev pub asked : List Event → List Request
+asked [] = []
+asked (event ∷ events) = asked_in event ++ asked events
+
+-- The outcome that is taken, if there is one (own rule).
+abbrev pub given_in : Event → World → List Done
+given_in Takes w = listed w.initiator.machine.done
+given_in _ w = []
+
+-- Events, one after another, in which no growth is refused and each request is accepted, and the
+-- outcomes that were taken, in their order (own rule).
+unfoldable pub RunsServed : World → List Event → World → List Done → Type 0
+RunsServed old [] new outcomes = (new ≡ old) × (outcomes ≡ [])
+RunsServed old (event ∷ events) new outcomes =
+    (mid : World) × (later : List Done) × Happens old event mid × IsAccepted event old
+    × (keeps_no_memory mid ≡ false) × (outcomes ≡ given_in event old ++ later)
+    × RunsServed mid events new later
+
+-- Both ends suit each other, in a normal session (section 6.3).
+pub record IsNormal (c : Opening) : Type 0 where
+  pub opening : IsOpening c
+  pub suits : Suits c
+  pub session : c.initiator.proposal.session ≡ sessions.Normal
+
+-- The outcomes that requests have on one local disk: that of the pair at first, with pings of as many
+-- bytes as the initiator takes (own rule).
+abbrev pub disk_outcomes : Opening → List Request → List Done
+disk_outcomes c = local_outcomes c.initiator.proposal.prefs.max_recv (disk_of c.blocks)
+
+-- The disk after them (own rule).
+abbrev pub disk_after : Opening → List Request → Disk
+disk_after c = local_disk c.initiator.proposal.prefs.max_recv (disk_of c.blocks)
