@@ -55,7 +55,7 @@ calm_before old new s e =
     (was_not (target_ran_out old.target_fault) (target_ran_out new.target_fault) s.target n.0)
     (was_not (initiator_ran_out old.initiator_fault) (initiator_ran_out new.initiator_fault) s.initiator n.1)
 
-calm_first : (old : World) (events : List Event) (new : World) → Runs old events new → keeps_no_memory new ≡ false → keeps_no_memory old ≡ false
+pub calm_first : (old : World) (events : List Event) (new : World) → Runs old events new → keeps_no_memory new ≡ false → keeps_no_memory old ≡ false
 unfolding Runs
 calm_first old [] new r e = ap keeps_no_memory (sym r) ∙ e
 calm_first old (event ∷ events) new r e = calm_before old r.0 (stays old event r.0 r.1) (calm_first r.0 events new r.2 e)

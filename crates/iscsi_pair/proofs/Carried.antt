@@ -1,6 +1,7 @@
 -- What both ends keep on whole messages holds in every world of a served run, however the bytes are cut.
 use Rattle.std.proofs.Common.{◌≡◌, ◌≢◌, inl, inr, ℕ, Bool, true, false, List, [], ◌∷◌, ◌++◌, length, take, drop, Option, Some, None, Result, Ok, Err, refl, sym, ap, ◌∙◌, subst, append_assoc}
 use Rattle.std.specs.Result.{result_err}
+use Rattle.std.proofs.lemmas.Bool.{or_parts}
 use Rattle.std.proofs.lemmas.List.{append-nil}
 use Rattle.scsi_disk.specs.Disk.{Disk, disk_of}
 use Rattle.iscsi_stream.specs.declared.fault.StreamFault.{StreamFault}
@@ -38,7 +39,6 @@ use Rattle.iscsi_pair.specs.declared.step.EndFault.{EndFault}
 use Rattle.iscsi_pair.specs.declared.step.EndFault.TheVariants as ends
 use Rattle.iscsi_pair.specs.World.{World, Opening, Event, ToTarget, ToInitiator, Submits, Takes, InitiatorHears, MovesToInitiator, Asks, Happens, new_pair, feed_fault, submit_fault, target_ran_out, initiator_ran_out, keeps_no_memory}
 use Rattle.iscsi_pair.specs.Served.{IsServed, IsAccepted, RunsServed, asked, asked_in, given_in}
-use Rattle.std.proofs.lemmas.Bool.{or_parts}
 use Rattle.iscsi_pair.proofs.Faultless.{both_none}
 use Rattle.iscsi_pair.proofs.InitiatorSide.{begun, begun_open}
 use Rattle.iscsi_pair.proofs.Keeping.{AreWritten, History, Relation, Sends, IsKept}

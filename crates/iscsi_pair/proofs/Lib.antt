@@ -34,3 +34,4 @@ pub mod Unread
 pub mod CarriedOut
 pub mod Carried
 pub mod OneDisk
+pub mod Observed

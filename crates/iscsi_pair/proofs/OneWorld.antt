@@ -1,6 +1,7 @@
 -- Calm runs of one pair over the same events come to one world.
 use Rattle.std.specs.Result.{result_err}
 use Rattle.std.proofs.Common.{◌≡◌, ℕ, Bool, true, false, List, [], ◌∷◌, length, take, drop, Option, Some, None, Result, Ok, Err, refl, sym, ap, subst, ◌∙◌}
+use Rattle.std.proofs.lemmas.Bool.{or_parts}
 use Rattle.scsi_disk.specs.Disk.{disk_of}
 use Rattle.iscsi_stream.specs.Stream.{Message}
 use Rattle.iscsi_stream.specs.Framing.{HasTaken}
@@ -24,7 +25,6 @@ use Rattle.iscsi_pair.specs.declared.step.EndFault.{EndFault}
 use Rattle.iscsi_pair.specs.declared.step.EndFault.TheVariants as ends
 use Rattle.iscsi_pair.specs.World.{World, Opening, Event, ToTarget, ToInitiator, Submits, Takes, TargetHears, InitiatorHears, InitiatorIsAsked, MovesToTarget, MovesToInitiator, Asks, Happens, RunsCalmly, LooksAlike, new_pair, store_of, feed_fault, submit_fault, target_ran_out, initiator_ran_out, keeps_no_memory}
 use Rattle.iscsi_pair.specs.Traffic.{Traffic, coming, first_traffic, traffic_after}
-use Rattle.std.proofs.lemmas.Bool.{or_parts}
 use Rattle.iscsi_pair.proofs.Sides.{Sides, happens_sides, opening_sides}
 
 -- what it was is what it is

@@ -5,6 +5,7 @@
 //! in step, over whole messages.
 
 ghost use Rattle.std.specs.Prelude.{◌≡◌, ◌≤◌, ◌⊎◌, ◌++◌, [], List, None, false, length, ℕ};
+ghost use Rattle.std.specs.List.{AllByRecursion};
 ghost use Rattle.scsi_disk.specs.Disk.{Disk, disk_of};
 ghost use Rattle.iscsi_login.specs.Held.{Held};
 ghost use Rattle.iscsi_login.specs.declared.stage.Stage.TheVariants as stages;
@@ -105,6 +106,16 @@ pub fn one_request()
     // Each is accepted that isn't too long.
     ensures accepted { (m : initiator.Machine) (t : target.Machine) (request : Request)
         → AreInStep m t → is_too_long m request ≡ false → (submitted m request).refusal ≡ None }
+{}
+
+/// The end of a run shows that it was served: where no end keeps that memory ran out, and the
+/// initiator keeps no fault, no growth was refused in it, and each request was accepted. They are to
+/// be commands, pings and logouts.
+pub fn served_runs()
+    ensures served { (c : Opening) (events : List Event) (w : World) → Reached c events w
+        → AllByRecursion IsServed (asked events) → keeps_no_memory w ≡ false
+        → w.initiator_fault ≡ None
+        → (outcomes : List Done) × RunsServed (new_pair c) events w outcomes }
 {}
 
 /// One local disk: where the names suit each other and authentication isn't demanded, in a normal
