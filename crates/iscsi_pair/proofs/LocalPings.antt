@@ -186,7 +186,7 @@ local_logout m t disk a e =
     let ends_ : Ends m.held (leaving begun_ m.window) executed done.Closed disk = record {
       last = last;
       leads = hears_quiet m.held (leaving begun_ m.window) (left begun_ t' m.window) executed.machine disk answer [] last (logout_heard begun_ m t' m.window a.stat_sn refl) refl refl a.none_done (0, refl);
-      ended = record { done_is = refl; silent = refl; disk_is = refl; at_rest = inr (record { initiator_phase = refl; target_phase = refl; none_open = refl }) };
+      ended = record { done_is = refl; silent = refl; disk_is = refl; at_rest = inr (record { initiator_phase = refl; target_phase = refl; none_open = refl }, refl) };
     } in
     let written : ArePlain m.held.target_max_recv (logout_message m ∷ []) =
     plain_one m.held.target_max_recv (logout_message m) (λ logins. logout_readable logins m a.tag_fits a.cmd_sn_fits (stat_sn_sent m t a)) (short_message (logout_message m).head [] m.held.target_max_recv (omega arith)) in

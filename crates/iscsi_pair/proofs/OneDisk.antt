@@ -14,12 +14,12 @@ use Rattle.iscsi_initiator.specs.Laws.{listed}
 use Rattle.iscsi_initiator.specs.Machine.{taken}
 use Rattle.iscsi_initiator.specs.State as initiator
 use Rattle.iscsi_pair.specs.World.{Event, Opening, World, new_pair}
-use Rattle.iscsi_pair.specs.LocalDisk.{AreAtRest, AreInStep}
-use Rattle.iscsi_pair.specs.Served.{IsNormal, RunsServed, asked, disk_after, disk_outcomes}
+use Rattle.iscsi_pair.specs.LocalDisk.{AreInStep}
+use Rattle.iscsi_pair.specs.Served.{AreAtEnd, IsNormal, RunsServed, asked, disk_after, disk_outcomes}
 use Rattle.iscsi_pair.proofs.Keeping.{History}
 use Rattle.iscsi_pair.proofs.CarriedOut.{Stands}
 use Rattle.iscsi_pair.proofs.Carried.{carried, none_waits}
-use Rattle.iscsi_pair.proofs.Serving.{AreFirst, IsIdle, Serves, first_outcomes, first_sends, idle_serves, serves_kept}
+use Rattle.iscsi_pair.proofs.Serving.{AreFirst, AreSettled, IsIdle, Serves, first_outcomes, first_sends, idle_serves, serves_kept}
 
 -- what was asked and taken in these events
 abbrev history : List Event → List Done → History
@@ -66,7 +66,7 @@ pub idle_none : (c : Opening) (events : List Event) (w : World) (outcomes : List
 idle_none c events w outcomes n r p q =
     elim (still c events w outcomes n r p q).is_idle.at_rest [
       | inl on_ ↦ on_.0.none_open
-      | inr over ↦ over.none_open
+      | inr over ↦ over.0.none_open
     ]
 
 pub idle_whole : (c : Opening) (events : List Event) (w : World) (outcomes : List Done) → IsNormal c → RunsServed (new_pair c) events w outcomes → w.to_target ≡ [] → w.to_initiator ≡ []
@@ -75,17 +75,17 @@ idle_whole c events w outcomes n r p q =
     let i = (still c events w outcomes n r p q).is_idle in (i.outcomes_are, i.disk_is)
 
 -- the program keeps no open write as one piece where there is none
-joined_rests : (held : Held) (i : initiator.Machine) (t : target.Machine) → AreAtRest held i t → AreAtRest held i (joined t)
-joined_rests held i t rest =
+joined_ends : (held : Held) (h : History) (i : initiator.Machine) (t : target.Machine) → AreSettled held h i t → AreAtEnd h.requests i (joined t)
+joined_ends held h i t rest =
     elim rest [
       | inl on_ ↦ (let same : t ≡ joined t =
           ap (λ (w : Option Write). record t { write = w }) on_.0.none_written ∙ sym (ap (λ (w : Option Write). record t { write = option_map joined_write w }) on_.0.none_written) in
-          inl (subst (AreInStep i) same on_.0, on_.1))
-      | inr over ↦ inr (record { initiator_phase = over.initiator_phase; target_phase = over.target_phase; none_open = over.none_open })
+          inl (subst (AreInStep i) same on_.0))
+      | inr over ↦ inr (record { initiator_phase = over.0.initiator_phase; target_phase = over.0.target_phase; none_open = over.0.none_open }, over.1)
     ]
 
 pub idle_rests : (c : Opening) (events : List Event) (w : World) (outcomes : List Done) → IsNormal c → RunsServed (new_pair c) events w outcomes → w.to_target ≡ [] → w.to_initiator ≡ []
-    → (held : Held) × AreAtRest held (taken w.initiator.machine) w.target.machine
+    → AreAtEnd (asked events) (taken w.initiator.machine) w.target.machine
 idle_rests c events w outcomes n r p q =
     let s = still c events w outcomes n r p q in
-    (s.is_idle.held, subst (AreAtRest s.is_idle.held (taken w.initiator.machine)) (sym s.machine) (joined_rests s.is_idle.held (taken w.initiator.machine) s.session s.is_idle.at_rest))
+    subst (AreAtEnd (asked events) (taken w.initiator.machine)) (sym s.machine) (joined_ends s.is_idle.held (history events outcomes) (taken w.initiator.machine) s.session s.is_idle.at_rest)

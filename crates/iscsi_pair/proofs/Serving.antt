@@ -1,5 +1,5 @@
 -- What two ends keep that suit each other: the login, and then one request after another on one disk.
-use Rattle.std.proofs.Common.{◌≡◌, ◌≤◌, inl, inr, ℕ, zero, suc, true, false, List, [], ◌∷◌, ◌++◌, length, Option, Some, None, refl, sym, ap, ◌∙◌, subst, arith}
+use Rattle.std.proofs.Common.{◌≡◌, ◌⊎◌, inl, inr, ◌≤◌, ℕ, zero, suc, true, false, List, [], ◌∷◌, ◌++◌, length, Option, Some, None, refl, sym, ap, ◌∙◌, subst, arith}
 use Rattle.std.specs.Prelude.{is_some}
 use Rattle.std.proofs.lemmas.List.{append-nil}
 use Rattle.scsi_disk.specs.Disk.{Disk, disk_of}
@@ -15,7 +15,9 @@ use Rattle.iscsi_target.specs.Machine as target_machine
 use Rattle.iscsi_target.specs.Machine.{answers}
 use Rattle.iscsi_target.proofs.Continuing.{then_nothing}
 use Rattle.iscsi_initiator.specs.declared.request.Done.{Done}
+use Rattle.iscsi_initiator.specs.declared.request.Done.TheVariants as done
 use Rattle.iscsi_initiator.specs.declared.request.Request.{Request}
+use Rattle.iscsi_initiator.specs.declared.request.Request.TheVariants as requests
 use Rattle.iscsi_initiator.specs.State as initiator
 use Rattle.iscsi_initiator.specs.State.{is_closed, is_closed_phase}
 use Rattle.iscsi_initiator.specs.Steps.{Stepped}
@@ -25,8 +27,8 @@ use Rattle.iscsi_initiator.specs.Login.{start_step}
 use Rattle.iscsi_initiator.specs.Machine.{step, taken}
 use Rattle.iscsi_initiator.specs.Submitted.{submitted}
 use Rattle.iscsi_pair.specs.World.{Opening}
-use Rattle.iscsi_pair.specs.LocalDisk.{AreAtRest, AreInStep, HasEnded, Local, Stand, local, local_disk, local_outcomes}
-use Rattle.iscsi_pair.specs.Served.{IsNormal, IsServed, disk_after, disk_outcomes}
+use Rattle.iscsi_pair.specs.LocalDisk.{AreAtRest, AreInStep, HasEnded, HaveParted, Local, Stand, local, local_disk, local_outcomes}
+use Rattle.iscsi_pair.specs.Served.{EndsInLogout, IsNormal, IsServed, disk_after, disk_outcomes}
 use Rattle.iscsi_pair.proofs.Talk.{Asking, Asks_on, Round, asking_readable, asking_short, first_asks, round}
 use Rattle.iscsi_pair.proofs.Going.{Suited, Well, first_suited, goes_well}
 use Rattle.iscsi_pair.proofs.Meeting.{HasMet, Meets, Numbered, first_numbered, meets}
@@ -73,11 +75,15 @@ pub record HaveAgreed (c : Opening) (held : Held) : Type 0 where
   pub out : held.target_max_recv ≤ most_out c
   pub back_ : held.initiator_max_recv ≤ most_back c
 
+-- both ends are in step and hold this, or have parted after the last request, a logout
+abbrev pub AreSettled : Held → History → initiator.Machine → target.Machine → Type 0
+AreSettled held h i t = (AreInStep i t × (i.held ≡ held)) ⊎ (HaveParted i t × EndsInLogout h.requests)
+
 -- nothing is open, and each request has had its outcome
 pub record Rests (c : Opening) (i : initiator.Machine) (t : target.Machine) (disk : Disk) (back : List Message) (h : History) : Type 0 where
   pub held : Held
   pub agreed : HaveAgreed c held
-  pub at_rest : AreAtRest held i t
+  pub at_rest : AreSettled held h i t
   pub none_back : back ≡ []
   pub none_done : i.done ≡ None
   pub disk_is : disk ≡ disk_after c h.requests
@@ -274,20 +280,41 @@ serving_accepts (suc n) c i t disk (m ∷ back) h request v l e = (let bad : tru
 
 -- ---- outcomes
 
--- the outcome that is there is the last request's
-pub serving_done : (n : ℕ) (c : Opening) (i : initiator.Machine) (t : target.Machine) (disk : Disk) (back : List Message) (h : History) (d : Done) (v : IsServing c i t disk back h) → Leads v.held n i t disk back v.last → i.done ≡ Some d
-    → HasEnded v.held d (disk_after c h.requests) (record { initiator = i; target = t; disk = disk; answers = back })
-    × (h.outcomes ++ d ∷ [] ≡ disk_outcomes c h.requests)
+-- a logout alone closes the session
+is_logout : (most : ℕ) (disk : Disk) (request : Request) → (local most disk request).outcome ≡ done.Closed → request ≡ requests.Logout
+is_logout most disk (requests.In lun cdb expected) e = absurd (cc e)
+is_logout most disk (requests.Out lun cdb bytes) e = absurd (cc e)
+is_logout most disk (requests.Ping bytes) e = absurd (cc e)
+is_logout most disk (requests.Text bytes) e = absurd (cc e)
+is_logout most disk requests.Logout e = refl
+
+settles : (c : Opening) (held : Held) (h : History) (past : List Request) (request : Request) (i : initiator.Machine) (t : target.Machine) → h.requests ≡ past ++ request ∷ []
+    → AreAtRest held (local (pinged c) (disk_after c past) request).outcome i t → AreSettled held h i t
+settles c held h past request i t all rest =
+    elim rest [
+      | inl on_ ↦ inl on_
+      | inr over ↦ inr (over.0, (past, all ∙ ap (λ (r : Request). past ++ r ∷ []) (is_logout (pinged c) (disk_after c past) request over.1)))
+    ]
+
+-- the outcome that is there is the last request's, and no answer is on its way
+record IsDone (c : Opening) (held : Held) (i : initiator.Machine) (t : target.Machine) (disk : Disk) (back : List Message) (h : History) (d : Done) : Type 0 where
+  silent : back ≡ []
+  settled : AreSettled held h (taken i) t
+  disk_is : disk ≡ disk_after c h.requests
+  outcomes_are : h.outcomes ++ d ∷ [] ≡ disk_outcomes c h.requests
+
+serving_done : (n : ℕ) (c : Opening) (i : initiator.Machine) (t : target.Machine) (disk : Disk) (back : List Message) (h : History) (d : Done) (v : IsServing c i t disk back h) → Leads v.held n i t disk back v.last → i.done ≡ Some d
+    → IsDone c v.held i t disk back h d
 serving_done zero c i t disk back h d v l is =
     let here : Local = local (pinged c) (disk_after c v.past) v.request in
     let one : here.outcome ≡ d = (let e : Some here.outcome ≡ Some d = sym v.ended.done_is ∙ ap (λ (x : Stand). x.initiator.done) (sym l) ∙ is in cc) in
-    let all : here.disk ≡ disk_after c h.requests = sym (disk_more (pinged c) (disk_of c.blocks) v.past v.request) ∙ ap (disk_after c) (sym v.requests_are) in (
-      subst (λ (x : Stand). HasEnded v.held d (disk_after c h.requests) x) (sym l)
-          (subst (λ (x : Done). HasEnded v.held x (disk_after c h.requests) v.last) one
-          (subst (λ (x : Disk). HasEnded v.held here.outcome x v.last) all v.ended)),
-      ap (λ (x : List Done). x ++ d ∷ []) v.outcomes_are ∙ ap (λ (x : Done). disk_outcomes c v.past ++ x ∷ []) (sym one)
-          ∙ sym (outcomes_more (pinged c) (disk_of c.blocks) v.past v.request) ∙ ap (disk_outcomes c) (sym v.requests_are),
-    )
+    record {
+      silent = ap (λ (x : Stand). x.answers) l ∙ v.ended.silent;
+      settled = settles c v.held h v.past v.request (taken i) t v.requests_are (subst (λ (x : Stand). AreAtRest v.held here.outcome (taken x.initiator) x.target) (sym l) v.ended.at_rest);
+      disk_is = ap (λ (x : Stand). x.disk) l ∙ v.ended.disk_is ∙ sym (disk_more (pinged c) (disk_of c.blocks) v.past v.request) ∙ ap (disk_after c) (sym v.requests_are);
+      outcomes_are = ap (λ (x : List Done). x ++ d ∷ []) v.outcomes_are ∙ ap (λ (x : Done). disk_outcomes c v.past ++ x ∷ []) (sym one)
+          ∙ sym (outcomes_more (pinged c) (disk_of c.blocks) v.past v.request) ∙ ap (disk_outcomes c) (sym v.requests_are);
+    }
 serving_done (suc n) c i t disk [] h d v l is = absurd l
 serving_done (suc n) c i t disk (m ∷ back) h d v l is = absurd (let bad : None ≡ Some d = sym l.0.none_done ∙ is in cc)
 
@@ -307,7 +334,7 @@ serves_asks c i t disk back there here h request (Rest r) served e =
     subst (λ (x : List Message). Sends (most_out c) (most_back c) (Serves c) (submitted i request).machine (submitted i request).output t disk x there here (record h { requests = h.requests ++ request ∷ [] })) (sym r.none_back)
     (elim r.at_rest [
       | inl on_ ↦ rest_sends c i t disk there here h request r.held r.agreed on_.0 on_.1 r.disk_is r.outcomes_are served e
-      | inr over ↦ absurd (parted_accepts i request over.initiator_phase e)
+      | inr over ↦ absurd (parted_accepts i request over.0.initiator_phase e)
     ])
 serves_asks c i t disk back there here h request (Serve v) served e = absurd (serving_accepts v.leads.0 c i t disk back h request v v.leads.1 e)
 
@@ -316,15 +343,15 @@ serves_takes : (c : Opening) (i : initiator.Machine) (t : target.Machine) (disk 
 serves_takes c i t disk back there here h d (Logs l) is = absurd (let bad : None ≡ Some d = sym l.asking.no_outcome ∙ is in cc)
 serves_takes c i t disk back there here h d (Rest r) is = absurd (let bad : None ≡ Some d = sym r.none_done ∙ is in cc)
 serves_takes c i t disk back there here h d (Serve v) is =
-    let e = serving_done v.leads.0 c i t disk back h d v v.leads.1 is in
+    let e : IsDone c v.held i t disk back h d = serving_done v.leads.0 c i t disk back h d v v.leads.1 is in
     Rest (record {
       held = v.held;
       agreed = v.agreed;
-      at_rest = e.0.at_rest;
-      none_back = e.0.silent;
+      at_rest = e.settled;
+      none_back = e.silent;
       none_done = refl;
-      disk_is = e.0.disk_is;
-      outcomes_are = e.1;
+      disk_is = e.disk_is;
+      outcomes_are = e.outcomes_are;
     })
 
 pub serves_kept : (c : Opening) → IsNormal c → IsKept (most_out c) (most_back c) (Serves c)
@@ -357,7 +384,7 @@ first_outcomes c i t disk back there here h (Serve v) =
 -- with nothing on its way every request has its outcome
 pub record IsIdle (c : Opening) (i : initiator.Machine) (t : target.Machine) (disk : Disk) (h : History) : Type 0 where
   pub held : Held
-  pub at_rest : AreAtRest held (taken i) t
+  pub at_rest : AreSettled held h (taken i) t
   pub disk_is : disk ≡ disk_after c h.requests
   pub outcomes_are : h.outcomes ++ listed i.done ≡ disk_outcomes c h.requests
 
@@ -365,8 +392,8 @@ idle_serving : (n : ℕ) (c : Opening) (i : initiator.Machine) (t : target.Machi
 idle_serving zero c i t disk h v l =
     let d : Done = (local (pinged c) (disk_after c v.past) v.request).outcome in
     let is : i.done ≡ Some d = ap (λ (x : Stand). x.initiator.done) l ∙ v.ended.done_is in
-    let e = serving_done zero c i t disk [] h d v l is in
-    record { held = v.held; at_rest = e.0.at_rest; disk_is = e.0.disk_is; outcomes_are = ap (λ (o : Option Done). h.outcomes ++ listed o) is ∙ e.1 }
+    let e : IsDone c v.held i t disk [] h d = serving_done zero c i t disk [] h d v l is in
+    record { held = v.held; at_rest = e.settled; disk_is = e.disk_is; outcomes_are = ap (λ (o : Option Done). h.outcomes ++ listed o) is ∙ e.outcomes_are }
 idle_serving (suc n) c i t disk h v l = absurd l
 
 pub idle_serves : (c : Opening) (i : initiator.Machine) (t : target.Machine) (disk : Disk) (there here : Logins) (h : History) → Serves c i t disk [] there here h → IsIdle c i t disk h
@@ -375,7 +402,7 @@ idle_serves c i t disk there here h (Rest r) =
     let none : taken i ≡ i = ap (λ (d : Option Done). record i { done = d }) (sym r.none_done) in
     record {
       held = r.held;
-      at_rest = subst (λ (x : initiator.Machine). AreAtRest r.held x t) (sym none) r.at_rest;
+      at_rest = subst (λ (x : initiator.Machine). AreSettled r.held h x t) (sym none) r.at_rest;
       disk_is = r.disk_is;
       outcomes_are = ap (λ (o : Option Done). h.outcomes ++ listed o) r.none_done ∙ append-nil h.outcomes ∙ r.outcomes_are;
     }

@@ -1,5 +1,5 @@
--- One local disk: what requests do where the disk is here (RFC 7143, sections 11.3 and 11.4; own
--- rule).
+-- One local disk: what requests do where the disk is here; two ends that are in step, and what a
+-- request leads them to, answer by answer (RFC 7143, sections 11.3 and 11.4; own rule).
 use Rattle.std.specs.Prelude.{◌≡◌, ◌⊎◌, ℕ, ◌<◌, ◌≤◌, ◌^◌, ◌==◌, zero, suc, false, not, List, [], ◌∷◌, ◌++◌, length, take, Option, Some, None}
 use Rattle.scsi_cdb.specs.Sense.{sense_bytes}
 use Rattle.scsi_cdb.specs.declared.sense.Sense.{Sense}
@@ -112,15 +112,17 @@ pub record AreInStep (m : initiator.Machine) (t : target.Machine) : Type 0 where
   pub stat_sn : m.exp_stat_sn ≡ Some t.stat_sn
   pub stat_sn_fits : t.stat_sn < 2 ^ 32
 
--- Both sessions are over, and nothing is open (section 11.14).
+-- Both sessions are over, and no request is open (section 11.14).
 pub record HaveParted (m : initiator.Machine) (t : target.Machine) : Type 0 where
   pub initiator_phase : m.phase ≡ phases.Closed
   pub target_phase : t.phase ≡ phases.Closed
   pub none_open : m.open_request ≡ None
 
--- Both ends are in step and hold this, or have parted (own rule).
-abbrev pub AreAtRest : Held → initiator.Machine → target.Machine → Type 0
-AreAtRest held m t = (AreInStep m t × (m.held ≡ held)) ⊎ HaveParted m t
+-- Both ends are in step and hold this, or have parted after this outcome, that of a logout (own
+-- rule).
+abbrev pub AreAtRest : Held → Done → initiator.Machine → target.Machine → Type 0
+AreAtRest held outcome m t =
+    (AreInStep m t × (m.held ≡ held)) ⊎ (HaveParted m t × (outcome ≡ done.Closed))
 
 -- ---- answers, one by one
 
@@ -167,12 +169,12 @@ handed_in m t disk request =
     }
 
 -- The request has this outcome and left this disk, no answer is on its way, and once the outcome is
--- taken both ends are at rest, and hold this (section 4.2; own rule).
+-- taken both ends are in step and hold this, or have parted (section 4.2; own rule).
 pub record HasEnded (held : Held) (outcome : Done) (disk_now : Disk) (x : Stand) : Type 0 where
   pub done_is : x.initiator.done ≡ Some outcome
   pub silent : x.answers ≡ []
   pub disk_is : x.disk ≡ disk_now
-  pub at_rest : AreAtRest held (taken x.initiator) x.target
+  pub at_rest : AreAtRest held outcome (taken x.initiator) x.target
 
 -- After some answers it has (own rule).
 abbrev pub ComesTo : Held → Done → Disk → Stand → Type 0

@@ -1,5 +1,5 @@
 -- Runs in which memory is there and every request is accepted (RFC 7143, section 4.2; own rule).
-use Rattle.std.specs.Prelude.{◌≡◌, ℕ, ◌<◌, ◌^◌, false, List, [], ◌∷◌, ◌++◌, length, None}
+use Rattle.std.specs.Prelude.{◌≡◌, ◌⊎◌, ℕ, ◌<◌, ◌^◌, false, List, [], ◌∷◌, ◌++◌, length, None}
 use Rattle.scsi_disk.specs.Disk.{Disk, disk_of}
 use Rattle.iscsi_pdu.specs.Meaning.{AreBytes}
 use Rattle.iscsi_login.specs.declared.stage.Session.TheVariants as sessions
@@ -7,9 +7,11 @@ use Rattle.iscsi_initiator.specs.declared.request.Done.{Done}
 use Rattle.iscsi_initiator.specs.declared.request.Request.{Request}
 use Rattle.iscsi_initiator.specs.declared.request.Request.TheVariants as requests
 use Rattle.iscsi_initiator.specs.Laws.{listed}
+use Rattle.iscsi_initiator.specs.State as initiator
 use Rattle.iscsi_initiator.specs.Submitted.{submitted}
+use Rattle.iscsi_target.specs.State as target
 use Rattle.iscsi_pair.specs.World.{World, Opening, IsOpening, Suits, Event, Submits, Takes, Happens, keeps_no_memory}
-use Rattle.iscsi_pair.specs.LocalDisk.{local_disk, local_outcomes}
+use Rattle.iscsi_pair.specs.LocalDisk.{AreInStep, HaveParted, local_disk, local_outcomes}
 
 -- The unit and the block of a command have room in their fields (section 11.3).
 abbrev pub HasRoom : ℕ → List ℕ → Type 0
@@ -67,3 +69,11 @@ disk_outcomes c = local_outcomes c.initiator.proposal.prefs.max_recv (disk_of c.
 -- The disk after them (own rule).
 abbrev pub disk_after : Opening → List Request → Disk
 disk_after c = local_disk c.initiator.proposal.prefs.max_recv (disk_of c.blocks)
+
+-- The last of these requests is a logout (section 11.14).
+abbrev pub EndsInLogout : List Request → Type 0
+EndsInLogout all = (past : List Request) × (all ≡ past ++ requests.Logout ∷ [])
+
+-- Both ends are in step, or have parted after a logout, the last of these requests (own rule).
+abbrev pub AreAtEnd : List Request → initiator.Machine → target.Machine → Type 0
+AreAtEnd all m t = AreInStep m t ⊎ (HaveParted m t × EndsInLogout all)

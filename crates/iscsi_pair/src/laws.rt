@@ -1,13 +1,12 @@
 //! Laws of a pair: functions with no work, whose contracts are of the definitions alone.
 //!
-//! They hold in every world that a pair comes to: over every configuration and every list of events,
-//! however the bytes are cut and wherever memory runs out. `one_request` is of any two ends that are
-//! in step, over whole messages.
+//! They hold over every configuration and every list of events, however the bytes are cut, and
+//! wherever memory runs out but where a law says that no growth was refused. `one_request` is of any
+//! two ends that are in step, over whole messages.
 
-ghost use Rattle.std.specs.Prelude.{◌≡◌, ◌≤◌, ◌⊎◌, ◌++◌, [], List, None, false, length, ℕ};
+ghost use Rattle.std.specs.Prelude.{◌≡◌, ◌≤◌, ◌⊎◌, ◌++◌, [], List, None, false, length};
 ghost use Rattle.std.specs.List.{AllByRecursion};
 ghost use Rattle.scsi_disk.specs.Disk.{Disk, disk_of};
-ghost use Rattle.iscsi_login.specs.Held.{Held};
 ghost use Rattle.iscsi_login.specs.declared.stage.Stage.TheVariants as stages;
 ghost use Rattle.iscsi_target.specs.State as target;
 ghost use Rattle.iscsi_initiator.specs.declared.request.Done.{Done};
@@ -16,8 +15,8 @@ ghost use Rattle.iscsi_initiator.specs.Laws.{listed};
 ghost use Rattle.iscsi_initiator.specs.Machine.{taken};
 ghost use Rattle.iscsi_initiator.specs.State as initiator;
 ghost use Rattle.iscsi_initiator.specs.Submitted.{is_too_long, submitted};
-ghost use Rattle.iscsi_pair.specs.LocalDisk.{AreAtRest, AreInStep, ComesTo, handed_in, local};
-ghost use Rattle.iscsi_pair.specs.Served.{IsNormal, IsServed, RunsServed, asked, disk_after, disk_outcomes};
+ghost use Rattle.iscsi_pair.specs.LocalDisk.{AreInStep, ComesTo, handed_in, local};
+ghost use Rattle.iscsi_pair.specs.Served.{AreAtEnd, IsNormal, IsServed, RunsServed, asked, disk_after, disk_outcomes};
 ghost use Rattle.iscsi_pair.specs.World.{Event, IsOpening, LooksAlike, Opening, Reached, RunsCalmly, RunsInTime, Suits, World, keeps_no_memory, new_pair};
 ghost use Rattle.iscsi_pair.specs.Traffic.{Traffic, Traces, first_traffic, TargetStands, InitiatorStands};
 
@@ -141,9 +140,9 @@ pub fn one_local_disk()
         → w.to_target ≡ [] → w.to_initiator ≡ []
         → (outcomes ++ listed w.initiator.machine.done ≡ disk_outcomes c (asked events))
         × (disk_of w.blocks ≡ disk_after c (asked events)) }
-    // and once the last outcome is taken both ends are in step, or have parted.
+    // and once the last outcome is taken both ends are in step, or have parted after a logout.
     ensures rests { (c : Opening) (events : List Event) (w : World) (outcomes : List Done)
         → IsNormal c → RunsServed (new_pair c) events w outcomes
         → w.to_target ≡ [] → w.to_initiator ≡ []
-        → (held : Held) × AreAtRest held (taken w.initiator.machine) w.target.machine }
+        → AreAtEnd (asked events) (taken w.initiator.machine) w.target.machine }
 {}
