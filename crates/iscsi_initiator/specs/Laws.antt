@@ -105,7 +105,7 @@ AreOutcomesOf [] (outcome ∷ outcomes) = ⊥
 AreOutcomesOf (request ∷ requests) (outcome ∷ outcomes) =
     IsOutcomeOf request outcome × AreOutcomesOf requests outcomes
 
--- The k-th outcome is that of the k-th accepted request.
+-- The k-th outcome is one of the k-th accepted request's kind.
 abbrev pub OutcomesInOrder : Settings → Type 0
 OutcomesInOrder settings = (events : List Event) →
     AreOutcomesOf (accepted (opening settings) events)

@@ -31,7 +31,8 @@ pub fn sequences()
         IsSequence offset bytes (sequence m lun target_transfer_tag offset bytes) }
 {}
 
-/// The k-th outcome is that of the k-th accepted request, over every list of events.
+/// The k-th outcome is one of the k-th accepted request's kind, and at most one request has none yet,
+/// over every list of events.
 pub fn outcomes_in_order()
     ensures order { (settings : Settings) → OutcomesInOrder settings }
 {}

@@ -74,7 +74,7 @@ pub record Completes (held piece : List ℕ) (head : Head) (len : ℕ) : Type 0 
   pub reaches : ReachesHeader held piece
   pub header : IsHeader (take 48 (held ++ piece)) head len
 
--- When feed answers each fault. Memory is asked for where a header is whole, for its segment alone.
+-- When feed answers each fault: want of memory where a header is whole, for its segment alone.
 abbrev pub FeedFails : Framing → List ℕ → StreamFault → Type 0
 FeedFails old piece faults.NoMemory = (old.failed ≡ false) × ((head : Head) × (len : ℕ) × Completes old.held piece head len × (0 < len) × (len ≤ old.limit))
 FeedFails old piece (faults.Head fault place) = (old.failed ≡ false) × ReachesHeader old.held piece × (fault_of (take 48 (old.held ++ piece)) ≡ Some fault) × (place ≡ old.place)
