@@ -21,7 +21,7 @@ import sys
 import tempfile
 
 TOP = os.path.dirname(os.path.dirname(os.path.dirname(os.path.abspath(__file__))))
-PROGRAM = f"{TOP}/crates/iscsi_tool/out/iscsi_tool"
+PROGRAM = f"{TOP}/crates/lanthovur/out/lanthovur"
 ROOM = tempfile.mkdtemp()
 
 # A read of the eight blocks that the session "writes" has written, in sequences of MaxBurstLength bytes.
@@ -171,7 +171,7 @@ def sweep(name, words, data, stops=None, run=run):
 
 def main():
     subprocess.run(["gcc", "-shared", "-fPIC", "-O1", "-o", f"{ROOM}/refuse.so", os.path.join(os.path.dirname(os.path.abspath(__file__)), "refuse.c")], check=True)
-    ping = of_hex("crates/iscsi_tool/stdin")
+    ping = of_hex("crates/lanthovur/stdin")
     session = of_hex("docs/session/initiator.hex") + of_hex("docs/session/target.hex")
     text = b"MaxBurstLength=0X0040000\0\0InitialR2T=Yes\0TargetAddress=b\0TargetAddress=a\0"
     cases = [

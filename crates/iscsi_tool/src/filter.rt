@@ -4,7 +4,7 @@ ghost use Rattle.std.specs.Prelude.{◌≡◌, ◌<◌, ◌≤◌, ◌⊎◌, �
 ghost use Rattle.std.specs.Io.KnownBytes.{Appends, Consumes, IsAtEnd};
 ghost use Rattle.iscsi_stream.specs.declared.fault.ToolFault.TheVariants as tool;
 ghost use Rattle.iscsi_stream.specs.Texts.{NormalisesText};
-ghost use Rattle.iscsi_tool.specs.Filtering.{Filters, HasDisk, IsLine, NormalisesBytes, NormalisesHex, ReadsOn};
+ghost use Rattle.iscsi_tool.specs.Filtering.{exit_status, Filters, HasDisk, IsLine, NormalisesBytes, NormalisesHex, ReadsOn};
 
 use crate::answering::answer;
 use crate::hex_text::{line, read_bytes};
@@ -80,6 +80,22 @@ pub fn run_filter<R: Read, W: Write>(
                 answer(alloc, blocks, r, w)
             }
         }
+    }
+}
+
+/// The exit status that says a fault: 1 where the input is refused, 3 for memory, 4 for reading and
+/// writing (own rule).
+pub fn status(fault: &ToolFault) -> u8
+    ensures status { result ≡ exit_status fault.now }
+{
+    match fault {
+        ToolFault::Stream(_)
+        | ToolFault::Text(_)
+        | ToolFault::TextTooLong
+        | ToolFault::NotHex
+        | ToolFault::Protocol(_) => 1,
+        ToolFault::NoMemory => 3,
+        ToolFault::Read | ToolFault::Write => 4,
     }
 }
 

@@ -2,20 +2,11 @@
 //! runs both ends of a session.
 #![tactic(auto)]
 
-mod answering;
-mod filter;
-mod hex_text;
-#[cfg(test)]
-mod tests;
-mod words;
+ghost use Rattle.std.specs.Prelude.{IfOk};
+ghost use Rattle.iscsi_tool.specs.Filtering.{HasDisk, IsJob};
 
-ghost use Rattle.std.specs.Prelude.{◌≡◌, IfOk};
-ghost use Rattle.iscsi_tool.specs.Filtering.{exit_status, HasDisk, IsJob};
-
-use crate::filter::{Filter, run_filter};
-use crate::words::{Job, LineFault, read_words};
 use iscsi_service::{ServeFault, run_loop, serve};
-use iscsi_stream::ToolFault;
+use iscsi_tool::{Filter, Job, LineFault, read_words, run_filter, status};
 use std::process::ExitCode;
 
 /// The words of the command line, judged before any input is read.
@@ -28,22 +19,6 @@ fn job_of(rt: &HostRuntime) -> Result<Job, LineFault>
     };
     let words: Vec<String> = words.skip(1).collect(alloc)?;
     read_words(alloc, words.as_slice())
-}
-
-/// The exit status that says a fault: 1 where the input is refused, 3 for memory, 4 for reading and
-/// writing (own rule).
-fn status(fault: &ToolFault) -> u8
-    ensures status { result ≡ exit_status fault.now }
-{
-    match fault {
-        ToolFault::Stream(_)
-        | ToolFault::Text(_)
-        | ToolFault::TextTooLong
-        | ToolFault::NotHex
-        | ToolFault::Protocol(_) => 1,
-        ToolFault::NoMemory => 3,
-        ToolFault::Read | ToolFault::Write => 4,
-    }
 }
 
 /// Runs a filter from the standard input to the standard output.

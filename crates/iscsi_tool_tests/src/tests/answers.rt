@@ -3,8 +3,8 @@
 //! `|` stands for a byte 00. The padding is left out.
 
 use super::{Broken, Full};
-use crate::filter::{Filter, Work, run_filter};
 use iscsi_stream::{StreamFault, ToolFault};
+use iscsi_tool::{Filter, Work, run_filter};
 use std::alloc::Global;
 use std::test::Fail;
 

@@ -1,8 +1,7 @@
 //! Words of the command line: those that are a job, and those that are none.
 
 use super::{NORMALISE, NORMALISE_HEX, SHOW, SHOW_HEX, TEXT, TEXT_HEX};
-use crate::filter::{Filter, Work};
-use crate::words::{Job, LineFault, read_words};
+use iscsi_tool::{Filter, Job, LineFault, Work, read_words};
 use std::test::Fail;
 
 fn answer(blocks: u64, hex: bool) -> Filter {

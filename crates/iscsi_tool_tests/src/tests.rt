@@ -4,11 +4,10 @@ mod answers;
 mod session;
 mod words;
 
-use crate::filter::{Filter, Work, run_filter};
-use crate::status;
 use iscsi_pdu::HeadFault;
 use iscsi_stream::{StreamFault, ToolFault};
 use iscsi_text::TextFault;
+use iscsi_tool::{Filter, Work, run_filter, status};
 use std::alloc::Global;
 use std::io;
 use std::io::{Read, Write};

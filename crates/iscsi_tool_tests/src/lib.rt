@@ -1,0 +1,6 @@
+//! Tests of the jobs of `lanthovur` from outside: runs of the filters, the words, and the lines and
+//! statuses of faults.
+#![tactic(auto)]
+
+#[cfg(test)]
+mod tests;
