@@ -1,0 +1,129 @@
+#!/usr/bin/env python3
+"""Runs the gate and tells where its time goes.
+
+    tools/gate_times/gate_times.py [WORD ..]
+
+At the top of the repository: runs `rt ci`, or the words that are given, and passes its lines on. While it runs, the
+processes of the prover and the compilers below it are looked at once a second. At the end there is a table on
+standard error: for each crate and part of the gate (proof, tests, edits) how many checks there were, their seconds of
+processor, the wall seconds from the first to the last, and the most memory of one. What a process does within the
+second before it ends is not seen. The exit status is that of the command.
+"""
+import os
+import subprocess
+import sys
+import threading
+import time
+
+TICK = os.sysconf("SC_CLK_TCK")
+PAGE = os.sysconf("SC_PAGE_SIZE")
+
+
+def words_of(process):
+    """The words that a process was started with, or none where it has ended."""
+    try:
+        with open(f"/proc/{process}/cmdline", encoding="utf-8", errors="replace") as it:
+            return it.read().split("\0")
+    except OSError:
+        return []
+
+
+def times_of(process):
+    """The parent, the moment of the start, the seconds of processor and the bytes of memory of a process, or None
+    where it has ended."""
+    try:
+        with open(f"/proc/{process}/stat", encoding="utf-8", errors="replace") as it:
+            fields = it.read().rsplit(")", 1)[1].split()
+    except OSError:
+        return None
+    return fields[1], fields[19], (int(fields[11]) + int(fields[12])) / TICK, int(fields[21]) * PAGE
+
+
+def part_of(words):
+    """The crate and the part of the gate that a process works on, or None."""
+    if not words or os.path.basename(words[0]) != "rattle" or "--crate-name" not in words:
+        return None
+    crate = words[words.index("--crate-name") + 1]
+    if "--test" in words:
+        return crate, "tests"
+    # a check that keeps nothing is that of an edit
+    return crate, "edits" if words[1] == "check" and "-o" not in words else "proof"
+
+
+class Part:
+    """What was seen of a part of the gate."""
+
+    def __init__(self, now):
+        self.first = self.last = now
+        self.seconds = {}
+        self.checks = self.memory = 0
+
+
+class Table:
+    """What was seen of each part."""
+
+    def __init__(self):
+        self.parts = {}
+        # the part of each process that was seen, by its number and start
+        self.known = {}
+        self.began = time.time()
+
+    def look(self):
+        """Looks at each process once."""
+        now = time.time() - self.began
+        for process in filter(str.isdigit, os.listdir("/proc")):
+            times = times_of(process)
+            if times is None:
+                continue
+            parent, start, seconds, memory = times
+            key = process, start
+            if key not in self.known:
+                self.known[key] = part_of(words_of(process))
+                if self.known[key]:
+                    part = self.parts.setdefault(self.known[key], Part(now))
+                    # the copies that a check makes of itself are no checks of their own
+                    part.checks += part_of(words_of(parent)) is None
+            if self.known[key]:
+                part = self.parts[self.known[key]]
+                part.seconds[key] = seconds
+                part.last = now
+                part.memory = max(part.memory, memory)
+
+    def print(self):
+        """Prints the table, the crates in the order in which they were first seen."""
+        total = 0
+        print(f"{'crate':24} {'part':6} {'checks':>6} {'CPU s':>7} {'from':>6} {'to':>6} {'MB':>6}", file=sys.stderr)
+        for crate in dict.fromkeys(crate for crate, _ in self.parts):
+            for name in ("proof", "tests", "edits"):
+                part = self.parts.get((crate, name))
+                if part is None:
+                    continue
+                seconds = sum(part.seconds.values())
+                total += seconds
+                row = f"{crate:24} {name:6} {part.checks:6} {seconds:7.0f} {part.first:6.0f} {part.last:6.0f}"
+                print(f"{row} {part.memory // 10**6:6}", file=sys.stderr)
+        wall = time.time() - self.began
+        print(f"all: {total / 60:.1f} minutes of processor, {wall / 60:.1f} of wall", file=sys.stderr)
+
+
+def main(words):
+    table, ended = Table(), threading.Event()
+    run = subprocess.Popen(words or ["rt", "ci"])
+
+    def watch():
+        while not ended.wait(1):
+            table.look()
+
+    watcher = threading.Thread(target=watch)
+    watcher.start()
+    try:
+        status = run.wait()
+    finally:
+        ended.set()
+        watcher.join()
+    table.print()
+    return status
+
+
+if __name__ == "__main__":
+    sys.exit(main(sys.argv[1:]))
