@@ -103,9 +103,7 @@ def types_of(path):
     for start, line in enumerate(lines):
         if not (found := TYPE.match(line)):
             continue
-        end = start
-        while not re.match(r"}|.*;$", lines[end]):
-            end += 1
+        end = start if re.search(r"[;}]$", line) else lines.index("}", start)
         head = start
         while head and re.match(r"///|#\[", lines[head - 1]):
             head -= 1
