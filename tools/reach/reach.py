@@ -1,0 +1,327 @@
+#!/usr/bin/env python3
+"""Tells which definitions each part of the headline reaches: the text that has to be believed for it.
+
+    tools/reach/reach.py            prints the tables
+    tools/reach/reach.py --write    puts them into docs/TRUST.md, between its two marks
+
+It begins at a clause of a public function (PARTS), and follows the names that stand in it: through the imports of the
+file to the definitions of `specs/` and to the types of the code that these speak of, and from each to the names in its
+own text. A name that a parameter bears too counts as a use of the definition, so the figures are upper bounds. What is
+reached in the toolchain's own libraries is not followed; its modules are counted.
+
+A line counts where it belongs to a definition: its comment, its type and its equations, but no blank line and no import.
+"""
+import argparse
+import re
+import sys
+from collections import defaultdict
+from dataclasses import dataclass
+from pathlib import Path
+
+TOP = Path(__file__).resolve().parents[2]
+PAGE = TOP / "docs/TRUST.md"
+BEGIN = "<!-- written by tools/reach/reach.py --write: begin -->"
+END = "<!-- written by tools/reach/reach.py --write: end -->"
+
+
+@dataclass(frozen=True)
+class Part:
+    """A clause of the headline. Of a law, whose contract is one theorem, all clauses are looked at."""
+
+    title: str
+    crate: str
+    function: str
+    clause: str | None = None
+    owner: str | None = None
+
+    def __str__(self):
+        owner = f"{self.owner}::" if self.owner else "laws::" if self.clause is None else ""
+        clause = f", clause `{self.clause}`" if self.clause else ""
+        return f"`{self.crate}::{owner}{self.function}`{clause}"
+
+
+PARTS = [
+    Part("normalise", "iscsi_stream", "normalise", "writes"),
+    Part("feed", "iscsi_target", "feed", "fed", owner="Target"),
+    Part("canonical form", "iscsi_target", "canonical_form"),
+    Part("login", "iscsi_pair", "login_agreement"),
+    Part("one disk", "iscsi_pair", "one_local_disk"),
+    Part("filters", "iscsi_tool", "run_filter", "filters"),
+]
+
+
+@dataclass(frozen=True)
+class Definition:
+    """A definition of `specs/`, or a type of the code, and what stands in it."""
+
+    file: str
+    name: str
+    lines: int
+    text: str
+
+
+# ---- reading the files
+
+OPENS = re.compile(r"(?:(?:abbrev|unfoldable|foldable) )?pub (?:(?:record|data) )?(?!mod |use )(\S+)")
+TYPE = re.compile(r"(?:pub(?:\(\w+\))? )?(?:struct|enum) (\w+)")
+CONSTRUCTOR = re.compile(r"^  ([A-Z]\w*) :", re.M)
+IMPORT = re.compile(r"^\s*(?:ghost )?use Rattle\.([\w.]+?)(?:\.\{([^}]*)\}| as (\w+))\s*;?\s*$", re.M)
+NAME = re.compile(r"(?<![\w.'])([A-Za-z_][\w']*)((?:\.[A-Za-z_][\w']*)*)")
+MIXFIX = "◌"
+
+
+def without_comments(text):
+    return re.sub(r"(?:--|//).*", "", text)
+
+
+def without_labels(text):
+    """The text without the names of record fields, where they are declared and where they are given a value."""
+    text = re.sub(r"^ +pub [\w']+ :", " :", text, flags=re.M)
+    return re.sub(r"(^ +|[{;]\s*)[\w']+ = ", r"\1", text, flags=re.M)
+
+
+def definitions_of(path):
+    """The definitions of a file of `specs/`, each with the comment right above it."""
+    lines = path.read_text().splitlines()
+    starts = [(n, found[1]) for n, line in enumerate(lines) if (found := OPENS.match(line))]
+    heads = []
+    for n, _ in starts:
+        while n and re.match(r"--|infix", lines[n - 1]):
+            n -= 1
+        heads.append(n)
+    for (start, name), head, end in zip(starts, heads, heads[1:] + [len(lines)]):
+        while not lines[end - 1].strip() or lines[end - 1].startswith("--"):
+            end -= 1
+        body = "\n".join(lines[start:end])
+        count = sum(1 for line in lines[head:end] if line.strip())
+        yield Definition(str(path.relative_to(TOP)), name, count, without_labels(without_comments(body)))
+
+
+def types_of(path):
+    """The types of a file of code, each with its comment and its attributes."""
+    lines = path.read_text().splitlines()
+    for start, line in enumerate(lines):
+        if not (found := TYPE.match(line)):
+            continue
+        end = start if re.search(r"[;}]$", line) else lines.index("}", start)
+        head = start
+        while head and re.match(r"///|#\[", lines[head - 1]):
+            head -= 1
+        body = "\n".join(lines[start:end + 1])
+        yield Definition(str(path.relative_to(TOP)), found[1], end + 1 - head, without_comments(body))
+
+
+def braced(text, start):
+    """The end of the braces that open at this place."""
+    depth = 0
+    for place in range(start, len(text)):
+        depth += {"{": 1, "}": -1}.get(text[place], 0)
+        if depth == 0:
+            return place + 1
+    raise ValueError("braces that aren't closed")
+
+
+def contract_of(text, part):
+    """The clause that is asked for, or all of them, with the conditions of the call."""
+    start = re.search(rf"pub fn {part.function}\b", text).end()
+    clauses = []
+    clause = re.compile(r"[^{}]*?\b(requires|ensures)\s*(\w*)\s*{")
+    while found := clause.match(text, start):
+        end = braced(text, found.end() - 1)
+        if part.clause is None or found[1] == "requires" or found[2] == part.clause:
+            clauses.append(text[found.end() - 1:end])
+        start = end
+    if not clauses:
+        sys.exit(f"reach: no such clause: {part}")
+    return "\n".join(clauses)
+
+
+def value_of_model(text, owner):
+    """What a contract sees of a value of this type."""
+    found = re.search(rf"impl Model for {owner} {{", text)
+    block = text[found.end() - 1:braced(text, found.end() - 1)]
+    return re.search(r"ghost Value = ({[^}]*})", block)[1]
+
+
+# ---- following names
+
+class Workspace:
+    """All definitions of the crates, by file and name (a constructor names its definition too), and all their types."""
+
+    def __init__(self):
+        self.order = [
+            line.split(":")[0] for line in (TOP / "crates.txt").read_text().splitlines() if not line.startswith("#")
+        ]
+        self.names = defaultdict(dict)
+        self.types = defaultdict(dict)
+        self.imports = {}
+        for crate in self.order:
+            folder = TOP / "crates" / crate
+            for path in sorted(folder.glob("specs/*.antt")):
+                for one in definitions_of(path):
+                    for name in [one.name, *CONSTRUCTOR.findall(one.text)]:
+                        self.names[one.file].setdefault(name, one)
+            for path in sorted(folder.glob("src/**/*.rt")):
+                for one in types_of(path):
+                    self.types[crate][one.name] = one
+
+    def imports_of(self, file):
+        if file not in self.imports:
+            self.imports[file] = Imports(self, file)
+        return self.imports[file]
+
+    def target(self, path, name):
+        """What an imported name stands for: a definition, a type, or the toolchain's module that has it."""
+        parts = path.split(".")
+        crate, rest = parts[0], parts[2:]
+        if crate not in self.order:
+            return f"{crate}.{'.'.join(rest)}"
+        if rest[0] == "declared":
+            kind = [part for part in rest if part != "TheVariants"][-1]
+            return self.types[crate].get(kind)
+        names = self.names[f"crates/{crate}/specs/{rest[0]}.antt"]
+        return names.get(rest[1] if len(rest) > 1 else name)
+
+
+class Imports:
+    """The names that a file brings in, and the modules that it calls by a short name."""
+
+    def __init__(self, workspace, file):
+        self.workspace = workspace
+        self.crate = file.split("/")[1]
+        self.own = workspace.names[file]
+        self.names = {}
+        self.short = {}
+        text = (TOP / file).read_text()
+        for path, names, short in IMPORT.findall(text):
+            if short:
+                self.short[short] = path
+            for name in filter(None, (name.strip() for name in names.split(","))):
+                self.names[name] = path
+        self.types = dict(workspace.types[self.crate]) if file.endswith(".rt") else {}
+        for crate, names in re.findall(r"^use (\w+)::(.*?);", text, re.M | re.S):
+            for name in re.findall(r"\w+", names):
+                if name in workspace.types.get(crate, {}):
+                    self.types[name] = workspace.types[crate][name]
+
+    def imported(self, name):
+        target = self.workspace.target(self.names[name], name)
+        if target is None:
+            sys.exit(f"reach: no definition of {name} of {self.names[name]}")
+        return target
+
+    def used(self, text):
+        """What the names of a text stand for."""
+        for head, tail in NAME.findall(text):
+            if head in self.own:
+                yield self.own[head]
+            elif head in self.names:
+                yield self.imported(head)
+            elif head in self.types:
+                yield self.types[head]
+            elif head in self.short and tail:
+                yield self.workspace.target(self.short[head], tail.split(".")[1])
+        for name in [*self.own, *self.names]:
+            if MIXFIX in name and all(piece in text for piece in name.split(MIXFIX)):
+                yield self.own.get(name) or self.imported(name)
+
+
+def reach(workspace, part):
+    """The definitions and types that a part reaches, and the modules of the toolchain."""
+    files = [
+        path for path in sorted((TOP / "crates" / part.crate / "src").glob("**/*.rt"))
+        if re.search(rf"pub fn {part.function}\b", path.read_text())
+    ]
+    if len(files) != 1:
+        sys.exit(f"reach: not one function of this name: {part}")
+    source = without_comments(files[0].read_text())
+    text = contract_of(source, part) + (value_of_model(source, part.owner) if part.owner else "")
+    waiting = [(str(files[0].relative_to(TOP)), text)]
+    reached, modules = set(), set()
+    while waiting:
+        file, text = waiting.pop()
+        for one in workspace.imports_of(file).used(text):
+            if isinstance(one, str):
+                modules.add(one)
+            elif one and one not in reached:
+                reached.add(one)
+                waiting.append((one.file, one.text))
+    return reached, modules
+
+
+# ---- the tables
+
+def in_order(workspace, files):
+    """The files by crate, the lowest first, and in a crate as its list of modules has them."""
+    def key(file):
+        crate = file.split("/")[1]
+        modules = re.findall(r"pub mod (\w+)", (TOP / "crates" / crate / "specs/Lib.antt").read_text())
+        stem = Path(file).stem
+        return workspace.order.index(crate), modules.index(stem) if stem in modules else -1, file
+    return sorted(files, key=key)
+
+
+def shown(file):
+    return f"`{file.removeprefix('crates/')}`"
+
+
+def row(cells):
+    return f"| {' | '.join(str(cell) for cell in cells)} |"
+
+
+def lines_by_file(definitions):
+    lines = defaultdict(int)
+    for one in definitions:
+        if "/specs/" in one.file:
+            lines[one.file] += one.lines
+    return lines
+
+
+def summary(reaches):
+    yield row(["Column", "Clause", "Definitions", "Lines", "In files", "Types of the code", "Lines", "Toolchain's modules"])
+    yield row(["---"] * 8)
+    for part, (reached, modules) in zip(PARTS, reaches):
+        specs = [one for one in reached if "/specs/" in one.file]
+        types = [one for one in reached if "/src/" in one.file]
+        yield row([
+            part.title, part, len(specs), sum(one.lines for one in specs), len({one.file for one in specs}),
+            len(types), sum(one.lines for one in types), len(modules),
+        ])
+
+
+def matrix(workspace, reaches):
+    columns = [lines_by_file(reached) for reached, _ in reaches]
+    files = in_order(workspace, {file for column in columns for file in column})
+    whole = lines_by_file({one for file in files for one in workspace.names[file].values()})
+    yield row(["File, below `crates/`", "Lines of its definitions", *(part.title for part in PARTS)])
+    yield row(["---"] * (len(PARTS) + 2))
+    for file in files:
+        cells = [column.get(file, "") for column in columns]
+        yield row([shown(file), whole[file], *cells])
+    yield row(["all", *(sum(column.values()) for column in [whole, *columns])])
+
+
+def others(workspace, reaches):
+    """The files of definitions that no part reaches."""
+    reached = {one.file for definitions, _ in reaches for one in definitions}
+    files = in_order(workspace, {file for file in list(workspace.names) if workspace.names[file]} - reached)
+    yield f"No part reaches: {', '.join(map(shown, files))}."
+
+
+def main():
+    parser = argparse.ArgumentParser(description="Which definitions each part of the headline reaches.")
+    parser.add_argument("--write", action="store_true", help="put the tables into docs/TRUST.md")
+    write = parser.parse_args().write
+    workspace = Workspace()
+    reaches = [reach(workspace, part) for part in PARTS]
+    tables = "\n".join([*summary(reaches), "", *matrix(workspace, reaches), "", *others(workspace, reaches)])
+    if not write:
+        print(tables)
+        return
+    before, rest = PAGE.read_text().split(BEGIN)
+    after = rest.split(END)[1]
+    PAGE.write_text(f"{before}{BEGIN}\n\n{tables}\n\n{END}{after}")
+
+
+if __name__ == "__main__":
+    main()
