@@ -76,28 +76,33 @@ fn usage(alloc: Global, error: Error) -> LineFault {
     }
 }
 
-fn program<'a>(alloc: Global, name: &'a str, about: &'a str) -> Result<Command<'a>, AllocError> {
-    let hex = Arg::new(alloc, "hex")
-        .long("hex")
+// A word that may stand there or not.
+fn flag<'a>(alloc: Global, name: &'a str, help: &'a str) -> Arg<'a> {
+    Arg::new(alloc, name)
+        .long(name)
         .action(ArgAction::SetTrue)
-        .help("input is hex text, and bytes are written as a line of hex");
+        .help(help)
+}
+
+// A program whose input may be hex text.
+fn program<'a>(alloc: Global, name: &'a str, about: &'a str) -> Result<Command<'a>, AllocError> {
     Command::new(alloc, name)
         .about(about)
         .disable_version_flag(true)
-        .arg(hex)
+        .arg(flag(
+            alloc,
+            "hex",
+            "input is hex text, and bytes are written as a line of hex",
+        ))
 }
 
 fn normalise_program<'a>(alloc: Global) -> Result<Command<'a>, AllocError> {
-    let text = Arg::new(alloc, "text")
-        .long("text")
-        .action(ArgAction::SetTrue)
-        .help("the input is one text, not a stream");
     program(
         alloc,
         "normalise",
         "Writes the canonical stream or text of the standard input",
     )?
-    .arg(text)
+    .arg(flag(alloc, "text", "the input is one text, not a stream"))
 }
 
 // A number that has to be given.
