@@ -6,8 +6,6 @@ mod head;
 pub mod laws;
 mod pdu;
 mod serial;
-#[cfg(test)]
-mod tests;
 
 pub use head::{
     AsyncMessage, DataIn, DataOut, Head, HeadFault, LoginRequest, LoginResponse, LogoutRequest,

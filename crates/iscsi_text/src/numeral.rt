@@ -149,6 +149,3 @@ fn digit_char(digit: u8) -> u8
         b'a' + (digit - 10)
     }
 }
-
-#[cfg(test)]
-mod tests;

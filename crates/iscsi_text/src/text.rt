@@ -130,6 +130,3 @@ pub fn value_in<'a>(pairs: &[Pair<'a>], key: &[u8], i: usize) -> Option<Value<'a
     let pair = pairs.iter().filter(|pair| pair.key == key).nth(i)?;
     Some(pair.value)
 }
-
-#[cfg(test)]
-mod tests;

@@ -9,8 +9,6 @@ pub mod layout;
 mod numbers;
 mod residual;
 mod sense;
-#[cfg(test)]
-mod tests;
 
 pub use block::{Cdb, Transfer10, Transfer16};
 pub use bytes::Bytes;

@@ -1,35 +1,37 @@
 //! Numerals by example.
 
-use crate::{read_number, write_number};
+use iscsi_text::{read_number, write_number};
 use std::alloc::AllocError;
 use std::process::Abort;
 use std::test::Fail;
 
+// A spelling, and its number.
+const SPELLINGS: &[(&str, &[u8], Option<u64>)] = &[
+    ("zero", b"0", Some(0)),
+    ("zero in hexadecimal", b"0x0", Some(0)),
+    ("a decimal", b"16777215", Some(16_777_215)),
+    ("the same in hexadecimal", b"0xffffff", Some(16_777_215)),
+    ("capital X and leading zeros", b"0X0040000", Some(262_144)),
+    ("capital digits", b"0xFFFFFFFFFFFFFFFF", Some(u64::MAX)),
+    (
+        "the largest, in decimal",
+        b"18446744073709551615",
+        Some(u64::MAX),
+    ),
+    ("2^64", b"18446744073709551616", None),
+    ("2^64 in hexadecimal", b"0x10000000000000000", None),
+    ("a leading zero", b"007", None),
+    ("no digit behind 0x", b"0x", None),
+    ("nothing", b"", None),
+    ("a sign", b"+1", None),
+    ("a letter that is no digit", b"0x1g", None),
+    ("a letter in a decimal", b"1a", None),
+];
+
 #[test]
 fn spellings_are_read(rt: HostRuntime) {
-    let rows = [
-        ("zero", b"0".as_slice(), Some(0)),
-        ("zero in hexadecimal", b"0x0", Some(0)),
-        ("a decimal", b"16777215", Some(16_777_215)),
-        ("the same in hexadecimal", b"0xffffff", Some(16_777_215)),
-        ("capital X and leading zeros", b"0X0040000", Some(262_144)),
-        ("capital digits", b"0xFFFFFFFFFFFFFFFF", Some(u64::MAX)),
-        (
-            "the largest, in decimal",
-            b"18446744073709551615",
-            Some(u64::MAX),
-        ),
-        ("2^64", b"18446744073709551616", None),
-        ("2^64 in hexadecimal", b"0x10000000000000000", None),
-        ("a leading zero", b"007", None),
-        ("no digit behind 0x", b"0x", None),
-        ("nothing", b"", None),
-        ("a sign", b"+1", None),
-        ("a letter that is no digit", b"0x1g", None),
-        ("a letter in a decimal", b"1a", None),
-    ];
-    for (name, text, want) in rows {
-        assert_eq!(rt; read_number(text), want, "{name}");
+    for (name, text, want) in SPELLINGS {
+        assert_eq!(rt; read_number(text), *want, "{name}");
     }
 }
 

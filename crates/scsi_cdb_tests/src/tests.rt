@@ -1,7 +1,10 @@
 //! Blocks and data whose bytes were worked out by hand from the tables of SPC-4 and SBC-3.
 
-use super::*;
-use std::test::*;
+use scsi_cdb::{
+    Bytes, Cdb, Sense, Transfer10, Transfer16, capacity10, capacity16, inquiry_bytes, report_luns,
+    vpd_bytes,
+};
+use std::test::Fail;
 
 /// The block of which these are the words.
 fn block(words: [u32; 4]) -> [u8; 16] {

@@ -1,0 +1,4 @@
+//! Texts and numerals by example.
+
+mod numeral;
+mod text;

@@ -1,0 +1,222 @@
+//! Texts by example.
+
+use iscsi_text::{Text, TextFault, Value, value_in};
+use std::alloc::{AllocError, Global};
+use std::process::Abort;
+use std::test::Fail;
+
+const KEY_OF_63: &[u8] = b"aaaaaaaaaaaaaaaaaaaaaaaaaaaaaaaaaaaaaaaaaaaaaaaaaaaaaaaaaaaaaaa=1\0";
+
+const KEY_OF_64: &[u8] = b"aaaaaaaaaaaaaaaaaaaaaaaaaaaaaaaaaaaaaaaaaaaaaaaaaaaaaaaaaaaaaaaa=1\0";
+
+// A text, and the canonical text of its map.
+const CANONICAL: &[(&str, &[u8], &[u8])] = &[
+    ("nothing", b"", b""),
+    ("spare bytes alone", b"\0\0\0", b""),
+    (
+        "a spare byte, a hexadecimal numeral and keys out of order",
+        b"MaxBurstLength=0X0040000\0\0InitialR2T=Yes\0",
+        b"InitialR2T=Yes\0MaxBurstLength=262144\0",
+    ),
+    (
+        "a plain value stays, and addresses keep their order",
+        b"TargetAddress=b\0A=0x05\0TargetAddress=a\0",
+        b"A=0x05\0TargetAddress=b\0TargetAddress=a\0",
+    ),
+    ("zero", b"MaxBurstLength=0\0", b"MaxBurstLength=0\0"),
+    (
+        "zero in hexadecimal",
+        b"MaxBurstLength=0x0\0",
+        b"MaxBurstLength=0\0",
+    ),
+    (
+        "a decimal",
+        b"MaxBurstLength=16777215\0",
+        b"MaxBurstLength=16777215\0",
+    ),
+    (
+        "the same in hexadecimal",
+        b"MaxBurstLength=0xffffff\0",
+        b"MaxBurstLength=16777215\0",
+    ),
+    (
+        "the last decimal",
+        b"MaxBurstLength=999999999999\0",
+        b"MaxBurstLength=999999999999\0",
+    ),
+    (
+        "the first hexadecimal",
+        b"MaxBurstLength=1000000000000\0",
+        b"MaxBurstLength=0xe8d4a51000\0",
+    ),
+    (
+        "the largest number",
+        b"MaxBurstLength=0xFFFFFFFFFFFFFFFF\0",
+        b"MaxBurstLength=0xffffffffffffffff\0",
+    ),
+    (
+        "2^64 is odd",
+        b"MaxBurstLength=18446744073709551616\0",
+        b"MaxBurstLength=18446744073709551616\0",
+    ),
+    (
+        "a leading zero is odd",
+        b"MaxBurstLength=007\0",
+        b"MaxBurstLength=007\0",
+    ),
+    ("0x is odd", b"MaxBurstLength=0x\0", b"MaxBurstLength=0x\0"),
+    (
+        "the value goes on behind the first =",
+        b"A==b=\0",
+        b"A==b=\0",
+    ),
+    ("a key of 63 letters", KEY_OF_63, KEY_OF_63),
+];
+
+// The canonical text of a row, and its length before it is written.
+fn check_canonical(
+    rt: &impl Abort,
+    alloc: Global,
+    name: &str,
+    bytes: &[u8],
+    want: &[u8],
+) -> Result<(), Fail> {
+    let text = Text::read(alloc, bytes)?;
+    assert_eq!(rt; text.canonical_len(), want.len(), "{name}");
+    let mut out = Vec::new(alloc);
+    text.write(&mut out)?;
+    assert_eq!(rt; out.as_slice(), want, "{name}");
+    Ok(())
+}
+
+#[test]
+fn canonical_texts_are_written(rt: HostRuntime) -> Result<(), Fail> {
+    for (name, bytes, want) in CANONICAL {
+        check_canonical(&rt, rt.alloc(), name, bytes, want)?;
+    }
+    Ok(())
+}
+
+#[test]
+fn many_spare_bytes_are_nothing(rt: HostRuntime) -> Result<(), Fail> {
+    let spare = [0; 16_384];
+    assert_eq!(rt; Text::read(rt.alloc(), &spare)?.len(), 0);
+    Ok(())
+}
+
+// A text, its first fault, and what is printed of it.
+const FAULTS: &[(&[u8], TextFault, &str)] = &[
+    (b"A=1", TextFault::Unterminated(0), "unterminated at 0"),
+    (b"A=1\0B\0", TextFault::NoEquals(4), "no equals at 4"),
+    (b"A=1\0B", TextFault::Unterminated(4), "unterminated at 4"),
+    (b"9A=1\0", TextFault::BadKey(0), "bad key at 0"),
+    (b"=1\0", TextFault::BadKey(0), "bad key at 0"),
+    (KEY_OF_64, TextFault::BadKey(0), "bad key at 0"),
+    (
+        b"InitialR2T=Yes\0InitialR2T=No\0",
+        TextFault::Repeated(15),
+        "repeated key at 15",
+    ),
+];
+
+fn check_line(rt: &impl Abort, alloc: Global, fault: TextFault, line: &str) -> Result<(), Fail> {
+    assert_eq!(rt; format!(in alloc; "{fault}")?.as_str(), line);
+    Ok(())
+}
+
+#[test]
+fn first_faults_are_answered(rt: HostRuntime) -> Result<(), Fail> {
+    for (bytes, want, line) in FAULTS {
+        let fault = Text::read(rt.alloc(), bytes).err();
+        assert_eq!(rt; fault, Some(*want), "{line}");
+        check_line(&rt, rt.alloc(), *want, line)?;
+    }
+    check_line(&rt, rt.alloc(), TextFault::NoMemory, "memory")
+}
+
+const TYPED: &[u8] = b"TargetAddress=b\0MaxBurstLength=0x10\0TargetAddress=a\0ImmediateData=No\0\
+      InitialR2T=no\0AuthMethod=CHAP,None\0DataDigest=CRC32C,,None\0X-test=Yes\0";
+
+// Its pairs.
+const PAIRS: &[(&str, Value<'static>)] = &[
+    ("AuthMethod", Value::Items(b"CHAP,None")),
+    ("DataDigest", Value::Odd(b"CRC32C,,None")),
+    ("ImmediateData", Value::Boolean(false)),
+    ("InitialR2T", Value::Odd(b"no")),
+    ("MaxBurstLength", Value::Number(16)),
+    ("TargetAddress", Value::Plain(b"b")),
+    ("TargetAddress", Value::Plain(b"a")),
+    ("X-test", Value::Plain(b"Yes")),
+];
+
+fn check_pair(rt: &impl Abort, text: &Text, n: usize, want: Option<(&[u8], Value)>) {
+    assert_eq!(rt; text.pair(n), want, "{n}");
+}
+
+#[test]
+fn values_have_their_keys_types(rt: HostRuntime) -> Result<(), Fail> {
+    let text = Text::read(rt.alloc(), TYPED)?;
+    assert_eq!(rt; text.len(), 8);
+    assert_eq!(rt; text.pairs().len(), 8);
+    for (n, (key, value)) in PAIRS.iter().enumerate() {
+        check_pair(&rt, &text, n, Some((key.as_bytes(), *value)));
+    }
+    check_pair(&rt, &text, 8, None);
+    Ok(())
+}
+
+// A key, which of its values, and the value.
+const VALUES: &[(&str, usize, Option<Value<'static>>)] = &[
+    ("MaxBurstLength", 0, Some(Value::Number(16))),
+    ("MaxBurstLength", 1, None),
+    ("TargetAddress", 1, Some(Value::Plain(b"a"))),
+    ("TargetAddress", 2, None),
+    ("X-other", 0, None),
+];
+
+#[test]
+fn values_are_got_by_key_and_place(rt: HostRuntime) -> Result<(), Fail> {
+    let text = Text::read(rt.alloc(), TYPED)?;
+    for (key, place, want) in VALUES {
+        assert_eq!(rt; text.get(key.as_bytes(), *place), *want, "{key}");
+        assert_eq!(rt;
+            value_in(text.pairs(), key.as_bytes(), *place),
+            *want,
+            "{key}"
+        );
+    }
+    Ok(())
+}
+
+// Reads the text again where memory ran out: only that may come in place of the text.
+fn read_twice<'a>(rt: &impl Abort, alloc: Global, bytes: &'a [u8], name: &str) -> Text<'a> {
+    match Text::read(alloc, bytes) {
+        Ok(text) => text,
+        Err(fault) => {
+            assert_eq!(rt; fault, TextFault::NoMemory, "{name}");
+            Text::read(alloc, bytes).expect(rt, "memory is there again")
+        }
+    }
+}
+
+// Writes the text again where memory ran out: that leaves `out` as it was.
+fn write_twice(rt: &impl Abort, alloc: Global, text: &Text, name: &str) -> Vec<u8> {
+    let mut out = Vec::new(alloc);
+    if text.write(&mut out) == Err(AllocError) {
+        assert_eq!(rt; out.len(), 0, "{name}");
+        let again = text.write(&mut out);
+        assert!(rt; again.is_ok(), "{name}");
+    }
+    out
+}
+
+// What `rt try --test --fail-alloc N` is for: what is refused answers want of memory and leaves
+// `out` as it was, and the next call writes what ample memory gives.
+#[test]
+fn refused_memory_changes_no_answer(rt: HostRuntime) {
+    for (name, bytes, want) in CANONICAL {
+        let text = read_twice(&rt, rt.alloc(), bytes, name);
+        let out = write_twice(&rt, rt.alloc(), &text, name);
+        assert_eq!(rt; out.as_slice(), *want, "{name}");
+    }
+}
