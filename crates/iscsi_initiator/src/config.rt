@@ -114,6 +114,7 @@ impl Config {
         })
     }
 
+    // What the initiator wants of each key.
     pub(crate) fn preferences(&self) -> &Preferences
         ensures preferences { result.now ≡ self.now.proposal.prefs }
         ensures range { IsInRange self.now.proposal.prefs }
@@ -121,24 +122,28 @@ impl Config {
         &self.prefs
     }
 
+    // The stage that the login begins in.
     pub(crate) fn start(&self) -> Stage
         ensures { result ≡ self.now.start }
     {
         self.start
     }
 
+    // The initiator's part of the session's number.
     pub(crate) fn isid(&self) -> [u8; 6]
         ensures { result ≡ self.now.isid }
     {
         self.isid
     }
 
+    // The CmdSN of the login.
     pub(crate) fn first_cmd_sn(&self) -> u32
         ensures { result ≡ self.now.first_cmd_sn }
     {
         self.first_cmd_sn
     }
 
+    // The most bytes of a login text that go in one PDU.
     pub(crate) fn login_segment(&self) -> u32
         ensures most { result ≡ self.now.login_segment }
         ensures range { (64 ≤ result) × (result ≤ 8192) }

@@ -9,6 +9,7 @@ ghost use Rattle.iscsi_stream.specs.Gathering.{gathered, IsBody, IsKept, Gathers
 use crate::fault::StreamFault;
 use iscsi_pdu::{Head, pad, read_head};
 
+/// How many bytes the basic header segment has (RFC 7143, section 11.2.1).
 pub(crate) const HEADER: usize = 48;
 
 /// How much of a PDU is gathered.

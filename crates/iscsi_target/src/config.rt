@@ -69,24 +69,28 @@ impl Config {
         })
     }
 
+    // The target's name.
     pub(crate) fn name(&self) -> &[u8]
         ensures { result.now ≡ self.now.name }
     {
         &self.name
     }
 
+    // The number of its portal group.
     pub(crate) fn group(&self) -> u16
         ensures { result ≡ self.now.group }
     {
         self.group
     }
 
+    // The number that it gives its session.
     pub(crate) fn tsih(&self) -> u16
         ensures { result ≡ self.now.tsih }
     {
         self.tsih
     }
 
+    // What it wants of each key.
     pub(crate) fn preferences(&self) -> &Preferences
         ensures preferences { result.now ≡ self.now.preferences }
         ensures range { IsInRange self.now.preferences }

@@ -109,12 +109,14 @@ impl Course {
         }
     }
 
+    /// What is held of each key.
     pub fn params(&self) -> &Params
         ensures { result.now ≡ self.now.held }
     {
         &self.held
     }
 
+    /// What the session is doing.
     pub fn phase(&self) -> Phase
         ensures phase { result ≡ self.now.phase }
         // The bytes of the open write stand as one piece.
@@ -123,12 +125,14 @@ impl Course {
         self.phase
     }
 
+    /// Whether the session is over.
     pub fn is_closed(&self) -> bool
         ensures { result ≡ is_closed self.now }
     {
         matches!(self.phase, Phase::Closed)
     }
 
+    /// The stage of the login.
     pub fn stage(&self) -> Stage
         ensures { result ≡ self.now.stage }
     {

@@ -13,12 +13,15 @@ use std::marker::Model;
 /// A write whose data are not all there.
 #[derive(Debug, Drop)]
 pub struct OpenWrite {
+    /// The command's tag.
     pub initiator_task_tag: u32,
+    /// What the command orders of the disk.
     pub order: Order,
     /// How many bytes it takes.
     pub total: u32,
     /// The bytes that came.
     pub data: Vec<u8>,
+    /// Which data may come next.
     pub due: Due,
     /// How many R2Ts went out.
     pub asked: u32,

@@ -12,8 +12,11 @@ use scsi_disk::Outcome;
 /// What a response says of its number and of the window.
 #[derive(Clone, Copy, Debug, PartialEq, Eq)]
 pub struct Numbers {
+    /// The StatSN of the response.
     pub stat_sn: u32,
+    /// The CmdSN that is due next.
     pub exp_cmd_sn: u32,
+    /// The last CmdSN that is taken.
     pub max_cmd_sn: u32,
 }
 

@@ -10,7 +10,9 @@ use std::alloc::AllocError;
 /// A key and its value, slices of the text or of other bytes (RFC 7143, section 6.1).
 #[derive(Clone, Copy, Debug, PartialEq, Eq)]
 pub struct Pair<'a> {
+    /// The key, as `MaxBurstLength`.
     pub key: &'a [u8],
+    /// What stands behind the equals sign, by its kind.
     pub value: Value<'a>,
 }
 
