@@ -7,18 +7,37 @@ ghost use Rattle.iscsi_tool.specs.Filtering.{HasDisk, IsJob};
 
 use iscsi_service::{ServeFault, run_loop, serve};
 use iscsi_tool::{Filter, Job, LineFault, read_words, run_filter, status};
+use std::alloc::Global;
+use std::io;
+use std::io::ErrorKind;
 use std::process::ExitCode;
+
+/// What is said of words that are not UTF-8.
+const NOT_UTF8: &str =
+    "error: the words are not all UTF-8\n\nFor more information, try '--help'.\n";
 
 /// The words of the command line, judged before any input is read.
 fn job_of(rt: &HostRuntime) -> Result<Job, LineFault>
     ensures disk { IfOk result IsJob }
 {
     let alloc = rt.alloc();
-    let Ok(words) = std::env::args(rt) else {
-        return Err(LineFault::NoMemory);
+    let words = match std::env::args(rt) {
+        Ok(words) => words,
+        Err(error) => return Err(unread_words(alloc, &error)),
     };
     let words: Vec<String> = words.skip(1).collect(alloc)?;
     read_words(alloc, words.as_slice())
+}
+
+/// Why there are no words to judge: memory ran out, or one of them is not UTF-8.
+fn unread_words(alloc: Global, error: &io::Error) -> LineFault {
+    if matches!(error.kind(), ErrorKind::OutOfMemory) {
+        return LineFault::NoMemory;
+    }
+    match String::from_str(alloc, NOT_UTF8) {
+        Ok(text) => LineFault::Usage(text),
+        Err(_) => LineFault::NoMemory,
+    }
 }
 
 /// Runs a filter from the standard input to the standard output.
