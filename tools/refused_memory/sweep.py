@@ -6,7 +6,7 @@ PDUs or lines, of `answer` all answers to some first PDUs, and nothing of a line
 with a script of each command and one that is refused. It also counts the allocations for 1, 2 and 1000 PDUs of 4,096
 bytes, which are the same where the segment buffer is kept.
 
-The sessions of `answer` are the dialogues of iscsi_target's tests, with the answers that stand there, and one that reads
+The sessions of `answer` are the dialogues of iscsi_target_tests, with the answers that stand there, and one that reads
 back the eight blocks of its write. Two of them also go over a socket to `serve`, whose service ends where memory is
 refused, after the answers that were due. A session ends where memory is refused, and its disk with the program. So from outside
 one sees that the answers stop before those of the PDU that memory was refused for: no R2T and no response comes for it or
@@ -115,7 +115,7 @@ def unquoted(literal):
 
 
 def pdu(line):
-    """The PDU of a line of a dialogue, as crates/iscsi_target/src/tests/rows.rt says it."""
+    """The PDU of a line of a dialogue, as crates/iscsi_target_tests/src/tests/rows.rt says it."""
     header, segment = bytes.fromhex(line[:107]), line[107:].strip()
     if segment.startswith("'"):
         data = segment[1:].replace("|", "\0").encode()
@@ -129,7 +129,7 @@ def pdu(line):
 
 def dialogues():
     """The name of each session, what comes, the lengths of the answers before each PDU, the answers, and the status."""
-    rows = open(f"{TOP}/crates/iscsi_target/src/tests/rows.rt").read().split("pub const FAILING")[0]
+    rows = open(f"{TOP}/crates/iscsi_target_tests/src/tests/rows.rt").read().split("pub const FAILING")[0]
     login = unquoted(re.search(r'LOGIN: &str =\s*"(.*?)";', rows, re.S)[1])
     found = re.findall(r'\(\s*"([^"]*)",\s*(true|false),\s*"([^"]*)",\s*\)', rows)
     sessions = [("login", "true", login)] + [(name, fresh, unquoted(lines)) for name, fresh, lines in found]

@@ -8,8 +8,6 @@ mod initiator;
 pub mod laws;
 mod open;
 mod request;
-#[cfg(test)]
-mod tests;
 
 pub use config::Config;
 pub use fault::{InitiatorFault, Key};

@@ -4,8 +4,6 @@
 pub mod laws;
 mod pair;
 mod step;
-#[cfg(test)]
-mod tests;
 
 pub use pair::Pair;
 pub use step::{EndFault, Step};

@@ -10,8 +10,6 @@ mod open_write;
 mod response;
 mod status;
 mod target;
-#[cfg(test)]
-mod tests;
 mod texts;
 mod writing;
 

@@ -1,7 +1,11 @@
 //! Logins of a pair.
 
-use super::*;
-use iscsi_login::{NegKey, Phase};
+use super::{Schedule, deliver, pair_of};
+use iscsi_initiator::InitiatorFault;
+use iscsi_login::{NegKey, Phase, Stage};
+use iscsi_pair::{EndFault, Pair};
+use std::alloc::Global;
+use std::test::Fail;
 
 /// The keys that a login settles (RFC 7143, section 13).
 const KEYS: [NegKey; 14] = [
@@ -32,6 +36,21 @@ pub(super) fn hold_the_same(pair: &Pair) -> bool {
         && KEYS.iter().all(|key| there.get(*key) == here.get(*key))
 }
 
+// A pair that went through its login in pieces of this length.
+fn run_login(alloc: Global, setup: &str, piece: usize) -> Result<Box<Pair>, Fail> {
+    let mut pair = pair_of(alloc, setup)?;
+    deliver(alloc, &mut pair, &mut Schedule::always(piece))?;
+    Ok(pair)
+}
+
+// The detail of the refusal of class 2 that the initiator was answered.
+fn refused_detail(pair: &Pair) -> Option<u8> {
+    match pair.initiator_fault() {
+        Some(EndFault::Feed(InitiatorFault::Refused(2, detail))) => Some(*detail),
+        _ => None,
+    }
+}
+
 #[test]
 fn agree(rt: HostRuntime) -> Result<(), Fail> {
     for setup in [
@@ -43,9 +62,8 @@ fn agree(rt: HostRuntime) -> Result<(), Fail> {
         "discovery",
     ] {
         for piece in [1, 47, 48, 100_000] {
-            let mut pair = pair_of(rt.alloc(), setup)?;
-            deliver(rt.alloc(), &mut pair, &mut Schedule::always(piece))?;
-            assert!(rt; hold_the_same(&pair));
+            let pair = run_login(rt.alloc(), setup, piece)?;
+            assert!(rt; hold_the_same(&pair), "{setup}, pieces of {piece}");
         }
     }
     Ok(())
@@ -55,15 +73,18 @@ fn agree(rt: HostRuntime) -> Result<(), Fail> {
 fn are_refused(rt: HostRuntime) -> Result<(), Fail> {
     for (setup, detail) in [("another name", 3), ("chap", 1)] {
         for piece in [1, 47, 48, 100_000] {
-            let mut pair = pair_of(rt.alloc(), setup)?;
-            deliver(rt.alloc(), &mut pair, &mut Schedule::always(piece))?;
-            let refused = match pair.initiator_fault() {
-                Some(EndFault::Feed(InitiatorFault::Refused(2, found))) => *found == detail,
-                _ => false,
-            };
-            assert!(rt; refused);
-            assert!(rt; pair.target_fault().is_none());
-            assert_eq!(rt; pair.target().phase(), Phase::Closed);
+            let pair = run_login(rt.alloc(), setup, piece)?;
+            assert_eq!(rt;
+                refused_detail(&pair),
+                Some(detail),
+                "{setup}, pieces of {piece}"
+            );
+            assert!(rt; pair.target_fault().is_none(), "{setup}, pieces of {piece}");
+            assert_eq!(rt;
+                pair.target().phase(),
+                Phase::Closed,
+                "{setup}, pieces of {piece}"
+            );
         }
     }
     Ok(())

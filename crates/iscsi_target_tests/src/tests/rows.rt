@@ -19,7 +19,7 @@ pub const LOGIN: &str =
     = full";
 
 /// Sessions over a disk of 2048 blocks.
-pub const DIALOGUES: [Dialogue; 32] = [
+pub const DIALOGUES: &[Dialogue] = &[
     (
         "in three",
         true,
@@ -340,7 +340,7 @@ pub const DIALOGUES: [Dialogue; 32] = [
 ];
 
 /// Sessions over a disk whose first read or write fails.
-pub const FAILING: [Dialogue; 2] = [
+pub const FAILING: &[Dialogue] = &[
     (
         "a read fails",
         false,

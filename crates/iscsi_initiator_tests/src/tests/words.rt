@@ -1,6 +1,6 @@
 //! What calls answer, in the words of a dialogue.
 
-use crate::*;
+use iscsi_initiator::{Done, Initiator, InitiatorFault, Refused, Request, SubmitFault};
 use iscsi_login::{Phase, Stage};
 use scsi_cdb::Residual;
 use std::alloc::{AllocError, Global};
@@ -47,15 +47,19 @@ pub fn submit_of(
     if !is_same(&refused.request, request) {
         return format!(in alloc; "another request");
     }
-    let word = match refused.fault {
+    format!(in alloc; "{}", refusal_of(refused.fault))
+}
+
+// Why a request is refused.
+fn refusal_of(fault: SubmitFault) -> &'static str {
+    match fault {
         SubmitFault::Closed => "was closed",
         SubmitFault::NotReady => "not ready",
         SubmitFault::Busy => "busy",
         SubmitFault::Shut => "shut",
         SubmitFault::TooLong => "too long",
         SubmitFault::NoMemory => "no memory",
-    };
-    format!(in alloc; "{word}")
+    }
 }
 
 // Whether two requests are the same.
@@ -84,6 +88,22 @@ fn data_of(request: &Request) -> &[u8] {
     }
 }
 
+// What came of a command, and how many bytes of sense it has.
+fn command_of(
+    alloc: Global,
+    response: u8,
+    status: u8,
+    sense: usize,
+    residual: Residual,
+) -> Result<String, AllocError> {
+    let (count, rest) = match residual {
+        Residual::Exact => (0, "exact"),
+        Residual::Under(count) => (count, "under"),
+        Residual::Over(count) => (count, "over"),
+    };
+    format!(in alloc; "response {response} status {status} {rest} {count} sense {sense}")
+}
+
 /// An outcome, and its bytes, the sense before the data.
 pub fn outcome_of(
     alloc: Global,
@@ -103,13 +123,7 @@ pub fn outcome_of(
         ) => {
             out.extend_from_slice(sense.as_slice())?;
             out.extend_from_slice(bytes.as_slice())?;
-            let (count, rest) = match residual {
-                Residual::Exact => (0, "exact"),
-                Residual::Under(count) => (count, "under"),
-                Residual::Over(count) => (count, "over"),
-            };
-            let sense = sense.as_slice().len();
-            format!(in alloc; "response {response} status {status} {rest} {count} sense {sense}")
+            command_of(alloc, response, status, sense.as_slice().len(), residual)
         }
         Some(Done::Ping { bytes }) => {
             out.extend_from_slice(bytes.as_slice())?;

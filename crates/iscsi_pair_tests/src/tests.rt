@@ -1,12 +1,10 @@
 //! Pairs by example: logins, commands and failures, in pieces of every length.
 
-use crate::*;
-use hex::{FromHexError, encode};
-use iscsi_initiator::{Done, InitiatorFault, Request};
+use iscsi_initiator::Request;
 use iscsi_login::{Auth, ConfigFault, Offers, Preferences, Session, Stage};
-use scsi_cdb::{Bytes, Residual};
+use iscsi_pair::{Pair, Step};
 use scsi_disk::MemoryStore;
-use std::alloc::Global;
+use std::alloc::{AllocError, Global};
 use std::test::Fail;
 
 mod failures;
@@ -59,35 +57,31 @@ impl Schedule {
     }
 }
 
-// What the initiator of a test offers.
-fn offers_of(setup: &str) -> Offers<'static> {
-    let standard = Offers {
+// The login of a normal session without a password.
+fn standard_offers() -> Offers<'static> {
+    Offers {
         initiator: b"iqn.2026-01.example:host",
         target: b"iqn.2026-01.example:disk",
         session: Session::Normal,
         auth: Auth::None,
         prefs: Preferences::standard(),
-    };
-    match setup {
-        "another name" => Offers {
-            target: b"x",
-            ..standard
-        },
-        "chap" => Offers {
-            auth: Auth::Chap,
-            ..standard
-        },
-        "chap or none" => Offers {
-            auth: Auth::ChapOrNone,
-            ..standard
-        },
-        "discovery" => Offers {
-            session: Session::Discovery,
-            target: b"x",
-            ..standard
-        },
-        _ => standard,
     }
+}
+
+// What the initiator of a test offers.
+fn offers_of(setup: &str) -> Offers<'static> {
+    let mut offers = standard_offers();
+    match setup {
+        "another name" => offers.target = b"x",
+        "chap" => offers.auth = Auth::Chap,
+        "chap or none" => offers.auth = Auth::ChapOrNone,
+        "discovery" => {
+            offers.session = Session::Discovery;
+            offers.target = b"x";
+        }
+        _ => {}
+    }
+    offers
 }
 
 // The initiator of a test.
@@ -106,65 +100,54 @@ fn initiator_of(alloc: Global, setup: &str) -> Result<iscsi_initiator::Config, C
 
 // The target of a test.
 fn target_of(alloc: Global, setup: &str) -> Result<iscsi_target::Config, ConfigFault> {
-    let prefs = match setup {
-        "bursts" => Preferences {
-            max_burst: 1024,
-            max_recv: 512,
-            ..Preferences::standard()
-        },
-        _ => Preferences::standard(),
-    };
+    let mut prefs = Preferences::standard();
+    if setup == "bursts" {
+        prefs.max_burst = 1024;
+        prefs.max_recv = 512;
+    }
     iscsi_target::Config::new(alloc, b"iqn.2026-01.example:disk", 1, 1, prefs)
 }
 
-// A new pair, with a disk of 2,048 blocks.
-fn pair_of(alloc: Global, setup: &str) -> Result<Pair, Fail> {
-    let store = MemoryStore::new(alloc, 2048)?;
+// A new pair, with a disk of 2,048 blocks. It stands in a box: a function that owns it is then proved
+// much sooner.
+fn pair_of(alloc: Global, setup: &str) -> Result<Box<Pair>, Fail> {
     let initiator = initiator_of(alloc, setup)?;
     let target = target_of(alloc, setup)?;
-    Ok(Pair::new(alloc, initiator, target, 1, store)?)
+    let store = MemoryStore::new(alloc, 2048)?;
+    let pair = Pair::new(alloc, initiator, target, 1, store)?;
+    Ok(Box::new(alloc, pair)?)
 }
 
-// Takes some steps, and says whether anything is still on its way.
-fn run_some(alloc: Global, pair: &mut Pair, schedule: &mut Schedule) -> Result<bool, Fail> {
+// Eight moves of a schedule, and after each one to the initiator.
+fn moves(alloc: Global, schedule: &mut Schedule) -> Result<Vec<Step>, AllocError> {
     let mut steps = Vec::new(alloc);
     for _ in 0..8 {
         steps.push(schedule.step())?;
         steps.push(Step::ToInitiator(schedule.next()))?;
     }
-    pair.run(steps);
-    Ok(pair.queued() != (0, 0))
+    Ok(steps)
 }
 
 // Moves all that is on its way, and all that it leads to.
 fn deliver(alloc: Global, pair: &mut Pair, schedule: &mut Schedule) -> Result<(), Fail> {
     for _ in 0..100_000 {
-        if !run_some(alloc, pair, schedule)? {
+        pair.run(moves(alloc, schedule)?);
+        if pair.queued() == (0, 0) {
             return Ok(());
         }
     }
     Err(Fail::from("bytes go on and on"))
 }
 
-// Hands in a request.
-fn submit(alloc: Global, pair: &mut Pair, request: Request) -> Result<(), Fail> {
+// The one step of a request.
+fn one_step(alloc: Global, request: Request) -> Result<Vec<Step>, AllocError> {
     let mut steps = Vec::new(alloc);
     steps.push(Step::Submit(request))?;
-    pair.run(steps);
+    Ok(steps)
+}
+
+// Hands in a request.
+fn submit(alloc: Global, pair: &mut Pair, request: Request) -> Result<(), AllocError> {
+    pair.run(one_step(alloc, request)?);
     Ok(())
-}
-
-// The bytes of hex text.
-fn bytes_of(alloc: Global, text: &str) -> Result<Vec<u8>, FromHexError> {
-    let digits: Vec<u8> = text.as_bytes().iter().copied().collect(alloc)?;
-    hex::decode(alloc, digits)
-}
-
-// The descriptor block of hex text.
-fn block_of(alloc: Global, text: &str) -> Result<[u8; 16], Fail> {
-    let mut block = [0u8; 16];
-    for (at, byte) in block.iter_mut().zip(bytes_of(alloc, text)?) {
-        *at = byte;
-    }
-    Ok(block)
 }

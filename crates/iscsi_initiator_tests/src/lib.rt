@@ -1,0 +1,5 @@
+//! Tests of `iscsi_initiator`: sessions as dialogues and configurations.
+#![tactic(auto)]
+
+#[cfg(test)]
+mod tests;

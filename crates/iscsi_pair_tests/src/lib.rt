@@ -1,0 +1,5 @@
+//! Tests of `iscsi_pair`: logins, commands and failures of two ends, over every kind of schedule.
+#![tactic(auto)]
+
+#[cfg(test)]
+mod tests;

@@ -1,0 +1,5 @@
+//! Tests of `iscsi_target`: sessions as dialogues, ends of streams and configurations.
+#![tactic(auto)]
+
+#[cfg(test)]
+mod tests;

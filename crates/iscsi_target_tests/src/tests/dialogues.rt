@@ -1,0 +1,176 @@
+//! Sessions by example, in pieces of any length.
+
+use super::rows::{DIALOGUES, Dialogue, FAILING, LOGIN};
+use super::{feed_pieces, pdu_of, target_of};
+use iscsi_login::{Phase, Stage};
+use iscsi_stream::StreamFault;
+use iscsi_target::{Target, TargetFault};
+use scsi_disk::{BlockStore, FailAt, MemoryStore};
+use std::alloc::Global;
+use std::process::Abort;
+use std::test::Fail;
+
+/// What comes before an answer, what is sent, and what is answered.
+#[derive(Drop)]
+struct Turn {
+    came: Vec<u8>,
+    want: Vec<u8>,
+    answer: Result<Phase, TargetFault>,
+}
+
+// What a call answers, as a line of a dialogue says it.
+fn answer_of(words: &str) -> Result<Result<Phase, TargetFault>, Fail> {
+    if let Some(rule) = words.strip_prefix("rule ") {
+        return Ok(Err(TargetFault::Protocol(rule.parse()?)));
+    }
+    match words {
+        "login" => Ok(Ok(Phase::Login)),
+        "full" => Ok(Ok(Phase::Full)),
+        "closed" => Ok(Ok(Phase::Closed)),
+        "was closed" => Ok(Err(TargetFault::Closed)),
+        _ => Err(Fail::from("no such answer")),
+    }
+}
+
+// The turns of a session.
+fn turns_of(alloc: Global, lines: &str) -> Result<Vec<Turn>, Fail> {
+    let mut turns = Vec::new(alloc);
+    let (mut came, mut want) = (Vec::new(alloc), Vec::new(alloc));
+    for line in lines.lines() {
+        let (mark, rest) = line.split_once(' ').ok_or("no mark")?;
+        match mark {
+            ">" => pdu_of(alloc, rest, &mut came)?,
+            "<" => pdu_of(alloc, rest, &mut want)?,
+            "=" => {
+                let answer = answer_of(rest)?;
+                turns.push(Turn { came, want, answer })?;
+                (came, want) = (Vec::new(alloc), Vec::new(alloc));
+            }
+            _ => return Err(Fail::from("no such line")),
+        }
+    }
+    if !came.is_empty() || !want.is_empty() {
+        return Err(Fail::from("no answer at the end"));
+    }
+    Ok(turns)
+}
+
+// Goes through the turns of a session, whose stream comes in pieces of this length.
+fn check<S: BlockStore>(
+    rt: &impl Abort,
+    alloc: Global,
+    name: &str,
+    len: usize,
+    target: &mut Target,
+    store: &mut S,
+    lines: &str,
+) -> Result<(), Fail> {
+    for (at, turn) in turns_of(alloc, lines)?.iter().enumerate() {
+        let mut out = Vec::new(alloc);
+        let result = feed_pieces(target, &turn.came, len, store, &mut out);
+        assert_eq!(rt;
+            out.as_slice(),
+            turn.want.as_slice(),
+            "{name}, pieces of {len}, answer {at}"
+        );
+        assert_eq!(rt; result, turn.answer, "{name}, pieces of {len}, answer {at}");
+    }
+    Ok(())
+}
+
+// Goes through a session behind the login, whose stream comes in pieces of this length.
+fn check_after_login<S: BlockStore>(
+    rt: &impl Abort,
+    alloc: Global,
+    name: &str,
+    len: usize,
+    store: &mut S,
+    lines: &str,
+) -> Result<(), Fail> {
+    let mut target = target_of(alloc)?;
+    check(rt, alloc, "login", len, &mut target, store, LOGIN)?;
+    check(rt, alloc, name, len, &mut target, store, lines)
+}
+
+// A session over a disk of 2048 blocks, whose stream comes in pieces of this length.
+fn check_dialogue(rt: &impl Abort, alloc: Global, row: &Dialogue, len: usize) -> Result<(), Fail> {
+    let (name, is_fresh, lines) = *row;
+    let mut store = MemoryStore::new(alloc, 2048)?;
+    if !is_fresh {
+        return check_after_login(rt, alloc, name, len, &mut store, lines);
+    }
+    let mut target = target_of(alloc)?;
+    check(rt, alloc, name, len, &mut target, &mut store, lines)
+}
+
+// A session over a disk whose first read or write fails.
+fn check_failing(rt: &impl Abort, alloc: Global, row: &Dialogue, len: usize) -> Result<(), Fail> {
+    let (name, _, lines) = *row;
+    let mut store = FailAt::new(MemoryStore::new(alloc, 2048)?, 0);
+    check_after_login(rt, alloc, name, len, &mut store, lines)
+}
+
+#[test]
+fn dialogues(rt: HostRuntime) -> Result<(), Fail> {
+    for row in DIALOGUES {
+        for len in [1usize, 47, 48, 100_000] {
+            check_dialogue(&rt, rt.alloc(), row, len)?;
+        }
+    }
+    Ok(())
+}
+
+/// The session goes on after a failure of its store.
+#[test]
+fn stores_that_fail(rt: HostRuntime) -> Result<(), Fail> {
+    for row in FAILING {
+        for len in [1usize, 47, 48, 100_000] {
+            check_failing(&rt, rt.alloc(), row, len)?;
+        }
+    }
+    Ok(())
+}
+
+// A target after its login.
+fn logged_in(rt: &impl Abort, alloc: Global, store: &mut MemoryStore) -> Result<Box<Target>, Fail> {
+    let mut target = target_of(alloc)?;
+    assert_eq!(rt;
+        (target.phase(), target.stage()),
+        (Phase::Login, Stage::Security)
+    );
+    check(rt, alloc, "login", 100_000, &mut target, store, LOGIN)?;
+    assert_eq!(rt;
+        (target.phase(), target.stage()),
+        (Phase::Full, Stage::Full)
+    );
+    assert_eq!(rt; target.params().initiator_max_recv, 4096);
+    Ok(target)
+}
+
+// Ends a stream within a PDU.
+fn end_within(rt: &impl Abort, target: &mut Target) {
+    let fault = TargetFault::Stream(StreamFault::Truncated(320));
+    assert_eq!(rt; target.finish(), Err(fault));
+    assert_eq!(rt;
+        (target.phase(), target.stage()),
+        (Phase::Closed, Stage::Full)
+    );
+    assert_eq!(rt; target.finish(), Err(TargetFault::Closed));
+}
+
+/// The end of a stream between two PDUs, within one, and after that.
+#[test]
+fn ends(rt: HostRuntime) -> Result<(), Fail> {
+    let mut store = MemoryStore::new(rt.alloc(), 1)?;
+    let mut target = logged_in(&rt, rt.alloc(), &mut store)?;
+    assert_eq!(rt; target.finish(), Ok(()));
+    let mut out = Vec::new(rt.alloc());
+    assert_eq!(rt; target.feed(&[0x40], &mut store, &mut out), Ok(Phase::Full));
+    end_within(&rt, &mut target);
+    assert_eq!(rt;
+        target.feed(&[0x40], &mut store, &mut out),
+        Err(TargetFault::Closed)
+    );
+    assert_eq!(rt; out.len(), 0);
+    Ok(())
+}
