@@ -23,6 +23,3 @@ pub use params::{Params, declares_well};
 pub use phase::{ConfigFault, Phase};
 pub use preferences::{Answered, Preferences};
 pub use stage::{Session, Stage};
-
-#[cfg(test)]
-mod tests;

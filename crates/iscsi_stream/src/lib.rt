@@ -10,8 +10,6 @@ mod input;
 mod lines;
 mod logins;
 mod normal;
-#[cfg(test)]
-mod tests;
 mod texts;
 
 pub use counts::Counts;

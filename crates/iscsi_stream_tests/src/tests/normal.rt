@@ -1,8 +1,8 @@
 //! Canonical streams, and the faults of streams with their places.
 
 use super::rows::{LOGIN_REQUEST, NOP_OUT, WRITE_COMMAND, lines_of, parts_of, rows};
-use super::{came_of, feed_piece, normal_of, written_of};
-use crate::*;
+use super::{came_of, feed_piece, normal_of, same, written_of};
+use iscsi_stream::{Counts, Framer, StreamFault, ToolFault};
 use std::alloc::Global;
 use std::process::Abort;
 use std::test::Fail;
@@ -13,21 +13,21 @@ fn check_row(rt: &impl Abort, alloc: Global, row: &str) -> Result<(), Fail> {
     let came = came_of(alloc, lines)?;
     let want = written_of(alloc, lines)?;
     let (result, out) = normal_of(alloc, &came);
-    assert_eq!(rt; out.as_slice(), want.as_slice(), "{name}");
+    same(rt, &out.as_slice(), &want.as_slice(), &name);
     let counts = Counts {
         pdus: lines.lines().filter(|line| line.starts_with("> ")).count() as u64,
         bytes_in: came.len() as u64,
         bytes_out: want.len() as u64,
     };
-    assert_eq!(rt; result, Ok(counts), "{name}");
+    same(rt, &result, &Ok(counts), &name);
     let (_, again) = normal_of(alloc, &want);
-    assert_eq!(rt; again.as_slice(), want.as_slice(), "{name}");
+    same(rt, &again.as_slice(), &want.as_slice(), &name);
     Ok(())
 }
 
 #[test]
 fn canonical_streams(rt: HostRuntime) -> Result<(), Fail> {
-    assert_eq!(rt; rows().split("\n\n").count(), 24);
+    same(&rt, &rows().split("\n\n").count(), &24, &"rows");
     for row in rows().split("\n\n") {
         check_row(&rt, rt.alloc(), row)?;
     }
@@ -63,13 +63,14 @@ fn check_pieces(
     let came = came_of(alloc, lines)?;
     let mut out = Vec::new(alloc);
     let ended = feed_pieces(alloc, &came, first, len, &mut out)?;
-    assert_eq!(rt;
-        ended,
-        (came.len() as u64, Ok(())),
-        "{name} at {first}, {len}"
+    same(
+        rt,
+        &ended,
+        &(came.len() as u64, Ok(())),
+        &(name, first, len),
     );
     let want = written_of(alloc, lines)?;
-    assert_eq!(rt; out.as_slice(), want.as_slice(), "{name} at {first}, {len}");
+    same(rt, &out.as_slice(), &want.as_slice(), &(name, first, len));
     Ok(())
 }
 
@@ -95,9 +96,9 @@ fn check_ends(rt: &impl Abort, alloc: Global, came: &[u8], start: usize, want: &
             assert!(rt; result.is_ok(), "{len} bytes");
         } else {
             let truncated = ToolFault::Stream(StreamFault::Truncated(start as u64));
-            assert_eq!(rt; result, Err(truncated), "{len} bytes");
+            same(rt, &result, &Err(truncated), &len);
         }
-        assert_eq!(rt; out.as_slice(), want, "{len} bytes");
+        same(rt, &out.as_slice(), &want, &len);
     }
 }
 
@@ -144,10 +145,11 @@ fn check_fault(
     let mut stream = came_of(alloc, front)?;
     stream.extend_from_slice(&came_of(alloc, header)?)?;
     let (result, out) = normal_of(alloc, &stream);
-    assert_eq!(rt;
-        out.as_slice(),
-        written_of(alloc, front)?.as_slice(),
-        "{row}"
+    same(
+        rt,
+        &out.as_slice(),
+        &written_of(alloc, front)?.as_slice(),
+        &row,
     );
     let Err(fault) = result else {
         assert!(rt; false, "{row}");
@@ -156,7 +158,7 @@ fn check_fault(
     let said = format!(in alloc; "{fault} = {fault:?}")?;
     let (line, name) = words.split_once(" = ").unwrap_or((words, ""));
     let want = format!(in alloc; "{line} {place} = Stream(Head({name}, {place}))")?;
-    assert_eq!(rt; said.as_str(), want.as_str());
+    same(rt, &said.as_str(), &want.as_str(), &row);
     Ok(())
 }
 
@@ -165,34 +167,36 @@ fn check_fault(
 fn faults_and_places(rt: HostRuntime) -> Result<(), Fail> {
     for row in FAULTY.split("\n\n") {
         check_fault(&rt, rt.alloc(), "", 0, row)?;
-        check_fault(&rt, rt.alloc(), lines_of(NOP_OUT), 52, row)?;
+        check_fault(&rt, rt.alloc(), lines_of(&rt, NOP_OUT), 52, row)?;
     }
     Ok(())
 }
 
+const FAULTS: &[(ToolFault, &str)] = &[
+    (ToolFault::NoMemory, "memory"),
+    (
+        ToolFault::Stream(StreamFault::OverLimit(52)),
+        "stream: over limit at 52",
+    ),
+    (
+        ToolFault::Stream(StreamFault::Truncated(52)),
+        "stream: truncated at 52",
+    ),
+    (
+        ToolFault::Stream(StreamFault::Truncated(18_446_744_073_709_551_615)),
+        "stream: truncated at 18446744073709551615",
+    ),
+    (ToolFault::TextTooLong, "text: over 16384 bytes"),
+    (ToolFault::Read, "read failed"),
+    (ToolFault::Write, "write failed"),
+    (ToolFault::NotHex, "input: not hex"),
+];
+
 #[test]
 fn lines_of_faults(rt: HostRuntime) -> Result<(), Fail> {
-    let rows = [
-        (ToolFault::NoMemory, "memory"),
-        (
-            ToolFault::Stream(StreamFault::OverLimit(52)),
-            "stream: over limit at 52",
-        ),
-        (
-            ToolFault::Stream(StreamFault::Truncated(52)),
-            "stream: truncated at 52",
-        ),
-        (
-            ToolFault::Stream(StreamFault::Truncated(18_446_744_073_709_551_615)),
-            "stream: truncated at 18446744073709551615",
-        ),
-        (ToolFault::TextTooLong, "text: over 16384 bytes"),
-        (ToolFault::Read, "read failed"),
-        (ToolFault::Write, "write failed"),
-        (ToolFault::NotHex, "input: not hex"),
-    ];
-    for (fault, line) in rows {
-        assert_eq!(rt; format!(in rt.alloc(); "{fault}")?.as_str(), line);
+    for (fault, line) in FAULTS {
+        let said = format!(in rt.alloc(); "{fault}")?;
+        same(&rt, &said.as_str(), line, fault);
     }
     Ok(())
 }
@@ -203,7 +207,7 @@ fn is_taken(rt: &impl Abort, alloc: Global, stream: &[u8], place: usize, value: 
     let Err(fault) = result else {
         let (again, twice) = normal_of(alloc, &out);
         assert!(rt; again.is_ok(), "{value} at {place}");
-        assert_eq!(rt; twice.as_slice(), out.as_slice(), "{value} at {place}");
+        same(rt, &twice.as_slice(), &out.as_slice(), &(value, place));
         return true;
     };
     assert!(rt;
@@ -213,27 +217,46 @@ fn is_taken(rt: &impl Abort, alloc: Global, stream: &[u8], place: usize, value: 
     false
 }
 
-/// Each byte of a header takes each value.
+/// Rows of one PDU, and how many streams are taken if each byte of the header in turn has each value.
+///
+/// Any value of a byte of the header is taken but for bytes 0 and 4 to 7: 43 * 256 streams. Byte 0 has
+/// one of the 17 opcodes below two bits that refuse nothing: 17 * 4. Byte 4 has to be 00. Bytes 5 to 7
+/// have to say the length of the segment: a longer one is not whole, and what a shorter one leaves over
+/// is no PDU. So each of the four has one value, but byte 7 of the NOP-Out four: segments of 1 to 4
+/// bytes fill the same word with their padding.
+const CHANGED: [(&str, u64); 3] = [
+    (NOP_OUT, 11_083),
+    (LOGIN_REQUEST, 11_080),
+    (WRITE_COMMAND, 11_080),
+];
+
+// How many streams are taken if the byte at a place has each value in turn.
+fn count_at(rt: &impl Abort, alloc: Global, stream: &mut [u8], place: usize) -> u64 {
+    let kept = stream.get(place).copied().unwrap_or(0);
+    let mut taken = 0u64;
+    for value in 0..=255u8 {
+        if let Some(byte) = stream.get_mut(place) {
+            *byte = value;
+        }
+        if is_taken(rt, alloc, stream, place, value) {
+            taken = taken.saturating_add(1);
+        }
+    }
+    if let Some(byte) = stream.get_mut(place) {
+        *byte = kept;
+    }
+    taken
+}
+
 #[test]
 fn changed_headers(rt: HostRuntime) -> Result<(), Fail> {
-    for name in [NOP_OUT, LOGIN_REQUEST, WRITE_COMMAND] {
-        let mut stream = came_of(rt.alloc(), lines_of(name))?;
+    for (name, want) in CHANGED {
+        let mut stream = came_of(rt.alloc(), lines_of(&rt, name))?;
         let mut taken = 0u64;
         for place in 0..48usize {
-            let kept = stream.get(place).copied().unwrap_or(0);
-            for value in 0..=255u8 {
-                if let Some(byte) = stream.get_mut(place) {
-                    *byte = value;
-                }
-                if is_taken(&rt, rt.alloc(), &stream, place, value) {
-                    taken = taken.saturating_add(1);
-                }
-            }
-            if let Some(byte) = stream.get_mut(place) {
-                *byte = kept;
-            }
+            taken = taken.saturating_add(count_at(&rt, rt.alloc(), &mut stream, place));
         }
-        assert!(rt; taken > 0);
+        same(&rt, &taken, &want, &name);
     }
     Ok(())
 }

@@ -1,6 +1,6 @@
 //! Runs over readers and writers of which a call may fail.
 
-use crate::*;
+use iscsi_stream::{Counts, ToolFault, normalise, show};
 use std::alloc::Global;
 use std::io;
 use std::io::{Read, Write};

@@ -1,8 +1,8 @@
 //! One text from a reader to a writer.
 
 use super::runs::{SURE, Source, Target};
-use super::segment_of;
-use crate::*;
+use super::{same, segment_of};
+use iscsi_stream::{ToolFault, normalise_text};
 use std::alloc::Global;
 use std::test::Fail;
 
@@ -33,8 +33,8 @@ fn canonical_texts(rt: HostRuntime) -> Result<(), Fail> {
         let came = segment_of(rt.alloc(), text)?;
         let due = segment_of(rt.alloc(), want)?;
         let (result, out) = normal_text_of(rt.alloc(), &came);
-        assert_eq!(rt; result, Ok(()), "{row}");
-        assert_eq!(rt; out.as_slice(), due.as_slice(), "{row}");
+        same(&rt, &result, &Ok(()), &row);
+        same(&rt, &out.as_slice(), &due.as_slice(), &row);
     }
     Ok(())
 }
@@ -46,14 +46,20 @@ fn refused_texts(rt: HostRuntime) -> Result<(), Fail> {
         let (answer, line) = want.split_once(" = ").ok_or("no line")?;
         let came = segment_of(rt.alloc(), text)?;
         let (result, out) = normal_text_of(rt.alloc(), &came);
-        assert_eq!(rt;
-            format!(in rt.alloc(); "{result:?}")?.as_str(),
-            answer,
-            "{row}"
+        same(
+            &rt,
+            &format!(in rt.alloc(); "{result:?}")?.as_str(),
+            &answer,
+            &row,
         );
-        assert_eq!(rt; out.len(), 0, "{row}");
+        same(&rt, &out.len(), &0, &row);
         if let Err(fault) = result {
-            assert_eq!(rt; format!(in rt.alloc(); "{fault}")?.as_str(), line);
+            same(
+                &rt,
+                &format!(in rt.alloc(); "{fault}")?.as_str(),
+                &line,
+                &row,
+            );
         }
     }
     Ok(())

@@ -5,6 +5,8 @@
 //! padding: nothing, bytes in hex, `5a*512` for so many of a byte, or behind an apostrophe a text, in
 //! which `|` stands for a byte 00 and `~` for a byte ff.
 
+use std::process::Abort;
+
 /// A NOP-Out of 52 bytes with the data `abc`.
 pub const NOP_OUT: &str = "a NOP-Out with free bits, a LUN that has no meaning, and padding";
 
@@ -143,13 +145,14 @@ pub fn parts_of(row: &str) -> (&str, &str) {
     row.split_once('\n').unwrap_or((row, ""))
 }
 
-/// The lines of the row with this name.
-pub fn lines_of(name: &str) -> &'static str {
+/// The lines of the row with this name, which has to be there.
+pub fn lines_of(rt: &impl Abort, name: &str) -> &'static str {
     for row in rows().split("\n\n") {
         let (first, lines) = parts_of(row);
         if first == name {
             return lines;
         }
     }
+    assert!(rt; false, "no row {name}");
     ""
 }

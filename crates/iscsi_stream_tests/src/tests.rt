@@ -1,8 +1,10 @@
 //! Streams by example: headers in words of hex, worked out by hand from the tables of RFC 7143, section 11.
 
-use crate::*;
 use hex::FromHexError;
+use iscsi_stream::{Counts, Framer, ToolFault, canonical};
 use std::alloc::Global;
+use std::fmt::Debug;
+use std::process::Abort;
 use std::test::Fail;
 
 mod failing;
@@ -18,6 +20,11 @@ use runs::{SURE, run_with};
 
 /// How many characters a header has in a line of a row.
 const HEADER: usize = 107;
+
+// Asserts that a value is the one that is due, in a row of which this tells.
+fn same<T: PartialEq + Debug>(rt: &impl Abort, value: &T, due: &T, row: &impl Debug) {
+    assert_eq!(rt; *value, *due, "{row:?}");
+}
 
 // The bytes of hex text, in which blanks part the words.
 fn bytes_of(alloc: Global, text: &str) -> Result<Vec<u8>, FromHexError> {

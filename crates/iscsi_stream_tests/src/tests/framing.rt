@@ -4,9 +4,9 @@
 //! `feed 0 47` feeds bytes 0 to 47 of the stream, `segment` is what the ready PDU has, `ready` says
 //! whether there is one, and `rest` counts the bytes of the stream past the framer's place.
 
-use super::came_of;
 use super::rows::{LOGIN_IN_THREE, MIXED_REQUESTS, NOP_OUT, lines_of};
-use crate::*;
+use super::{came_of, same};
+use iscsi_stream::{Framer, Logins};
 use std::alloc::Global;
 use std::process::Abort;
 use std::test::Fail;
@@ -205,7 +205,8 @@ fn seen(alloc: Global, framer: &Framer, stream: &[u8], call: &str) -> Result<Str
         "rest" => format!(in alloc; "{}", (stream.len() as u64).saturating_sub(framer.place()))?,
         "ready" => format!(in alloc; "{}", pdu.is_some())?,
         "segment" => format!(in alloc; "{pdu:?}")?,
-        _ => format!(in alloc; "{}", framer.continued())?,
+        "continued" => format!(in alloc; "{}", framer.continued())?,
+        _ => return Err(Fail::from("no such call")),
     })
 }
 
@@ -219,14 +220,14 @@ fn check(rt: &impl Abort, alloc: Global, stream: &[u8], script: &str) -> Result<
             continue;
         }
         let said = said(alloc, &mut framer, stream, call)?;
-        assert_eq!(rt; said.as_str(), want, "{line}");
+        same(rt, &said.as_str(), &want, &line);
     }
     Ok(())
 }
 
 #[test]
 fn calls(rt: HostRuntime) -> Result<(), Fail> {
-    let mut stream = came_of(rt.alloc(), lines_of(NOP_OUT))?;
+    let mut stream = came_of(rt.alloc(), lines_of(&rt, NOP_OUT))?;
     stream.extend_from_slice(&came_of(rt.alloc(), UNKNOWN)?)?;
     for script in [
         OVER_THE_LIMIT,
@@ -241,33 +242,37 @@ fn calls(rt: HostRuntime) -> Result<(), Fail> {
 
 #[test]
 fn pdus_that_continue_others(rt: HostRuntime) -> Result<(), Fail> {
-    let stream = came_of(rt.alloc(), lines_of(LOGIN_IN_THREE))?;
+    let stream = came_of(rt.alloc(), lines_of(&rt, LOGIN_IN_THREE))?;
     check(&rt, rt.alloc(), &stream, IN_THREE)?;
-    let stream = came_of(rt.alloc(), lines_of(MIXED_REQUESTS))?;
+    let stream = came_of(rt.alloc(), lines_of(&rt, MIXED_REQUESTS))?;
     check(&rt, rt.alloc(), &stream, MIXED)
 }
 
 #[test]
 fn logins_of_two_kinds(rt: HostRuntime) -> Result<(), Fail> {
-    assert_eq!(rt;
-        Logins::new(),
-        Logins {
+    same(
+        &rt,
+        &Logins::new(),
+        &Logins {
             request: false,
-            response: false
-        }
+            response: false,
+        },
+        &"at the start",
     );
     // The head of the first login request goes on in the next.
-    let stream = came_of(rt.alloc(), lines_of(LOGIN_IN_THREE))?;
+    let stream = came_of(rt.alloc(), lines_of(&rt, LOGIN_IN_THREE))?;
     let mut framer = Framer::new(rt.alloc(), 8192);
     framer.feed(&stream)?;
     let head = framer.pdu().ok_or("not ready")?.head;
     let logins = Logins::new().after(&head);
-    assert_eq!(rt;
-        logins,
-        Logins {
+    same(
+        &rt,
+        &logins,
+        &Logins {
             request: true,
-            response: false
-        }
+            response: false,
+        },
+        &"after a request",
     );
     assert!(rt; logins.continues(&head));
     assert!(rt; !Logins::new().continues(&head));

@@ -1,9 +1,9 @@
 //! Memory that is refused, for `rt try --test --fail-alloc`: nothing but its want may come in place of an answer.
 
 use super::rows::{NOP_OUT, lines_of};
-use super::{came_of, written_of};
-use crate::*;
+use super::{came_of, same, written_of};
 use hex::FromHexError;
+use iscsi_stream::{Framer, StreamFault, ToolFault, canonical, show, show_line};
 use std::alloc::Global;
 use std::process::Abort;
 use std::test::Fail;
@@ -25,7 +25,7 @@ fn ample_written_of(alloc: Global, lines: &str) -> Result<Vec<u8>, FromHexError>
 
 #[test]
 fn refused_memory_changes_no_line(rt: HostRuntime) -> Result<(), Fail> {
-    let stream = ample_came_of(rt.alloc(), lines_of(NOP_OUT))?;
+    let stream = ample_came_of(rt.alloc(), lines_of(&rt, NOP_OUT))?;
     let line =
         b"0 NOP-Out i=1 itt=00000001 ttt=ffffffff cmdsn=00000005 expstatsn=00000002 data=3\n";
     let mut room = [0u8; 128];
@@ -33,13 +33,18 @@ fn refused_memory_changes_no_line(rt: HostRuntime) -> Result<(), Fail> {
     let mut out = room.as_mut_slice();
     let result = show(rt.alloc(), &mut source, &mut out);
     if result.is_err() {
-        assert_eq!(rt; result, Err(ToolFault::NoMemory));
-        assert_eq!(rt; out.len(), 128);
+        same(&rt, &result, &Err(ToolFault::NoMemory), &"fault");
+        same(&rt, &out.len(), &128, &"room left");
         let mut again = room.as_mut_slice();
         let mut source = stream.as_slice();
         assert!(rt; show(rt.alloc(), &mut source, &mut again).is_ok());
     }
-    assert_eq!(rt; room.get(..line.len()), Some(line.as_slice()));
+    same(
+        &rt,
+        &room.get(..line.len()),
+        &Some(line.as_slice()),
+        &"line",
+    );
     Ok(())
 }
 
@@ -49,10 +54,20 @@ fn ready_framer(rt: &impl Abort, alloc: Global, stream: &[u8]) -> Framer {
     if framer.feed(stream) != Err(StreamFault::NoMemory) {
         return framer;
     }
-    assert_eq!(rt; framer.feed(stream), Err(StreamFault::Failed));
-    assert_eq!(rt; framer.finish(), Err(StreamFault::Failed));
+    same(
+        rt,
+        &framer.feed(stream),
+        &Err(StreamFault::Failed),
+        &"after the fault",
+    );
+    same(
+        rt,
+        &framer.finish(),
+        &Err(StreamFault::Failed),
+        &"end after the fault",
+    );
     let mut again = Framer::new(alloc, 3);
-    assert_eq!(rt; again.feed(stream), Ok(52));
+    same(rt, &again.feed(stream), &Ok(52), &"taken");
     again
 }
 
@@ -61,7 +76,7 @@ fn canonical_at_last(rt: &impl Abort, alloc: Global, framer: &Framer) -> Result<
     let pdu = framer.pdu().ok_or("not ready")?;
     let mut out = Vec::new(alloc);
     if canonical(&pdu, false, &mut out).is_err() {
-        assert_eq!(rt; out.len(), 0);
+        same(rt, &out.len(), &0, &"written");
         canonical(&pdu, false, &mut out)?;
     }
     Ok(out)
@@ -70,14 +85,19 @@ fn canonical_at_last(rt: &impl Abort, alloc: Global, framer: &Framer) -> Result<
 /// A PDU at a time: what ran out of memory leaves what was there, and the next call gives what is due.
 #[test]
 fn refused_memory_leaves_what_was_there(rt: HostRuntime) -> Result<(), Fail> {
-    let stream = ample_came_of(rt.alloc(), lines_of(NOP_OUT))?;
-    let want = ample_written_of(rt.alloc(), lines_of(NOP_OUT))?;
+    let stream = ample_came_of(rt.alloc(), lines_of(&rt, NOP_OUT))?;
+    let want = ample_written_of(rt.alloc(), lines_of(&rt, NOP_OUT))?;
     let framer = ready_framer(&rt, rt.alloc(), &stream);
     let mut out = canonical_at_last(&rt, rt.alloc(), &framer)?;
-    assert_eq!(rt; out.as_slice(), want.as_slice());
+    same(&rt, &out.as_slice(), &want.as_slice(), &"canonical");
     let pdu = framer.pdu().ok_or("not ready")?;
     if show_line(0, &pdu, &mut out).is_err() {
-        assert_eq!(rt; out.as_slice(), want.as_slice());
+        same(
+            &rt,
+            &out.as_slice(),
+            &want.as_slice(),
+            &"canonical before a line",
+        );
         show_line(0, &pdu, &mut out)?;
     }
     assert!(rt; out.len() > want.len());
@@ -87,23 +107,30 @@ fn refused_memory_leaves_what_was_there(rt: HostRuntime) -> Result<(), Fail> {
 /// The limit comes before memory is asked for.
 #[test]
 fn refused_memory_hides_no_limit(rt: HostRuntime) -> Result<(), Fail> {
-    let stream = ample_came_of(rt.alloc(), lines_of(NOP_OUT))?;
+    let stream = ample_came_of(rt.alloc(), lines_of(&rt, NOP_OUT))?;
     let mut framer = Framer::new(rt.alloc(), 2);
-    assert_eq!(rt; framer.feed(&stream), Err(StreamFault::OverLimit(0)));
+    same(
+        &rt,
+        &framer.feed(&stream),
+        &Err(StreamFault::OverLimit(0)),
+        &"limit",
+    );
     Ok(())
 }
 
 /// A segment no longer than an earlier one asks for no memory, so no refusal reaches it.
 #[test]
 fn the_buffer_is_kept(rt: HostRuntime) -> Result<(), Fail> {
-    let stream = ample_came_of(rt.alloc(), lines_of(NOP_OUT))?;
+    let stream = ample_came_of(rt.alloc(), lines_of(&rt, NOP_OUT))?;
     let mut framer = ready_framer(&rt, rt.alloc(), &stream);
     for _ in 0..100u64 {
         framer.take();
-        assert_eq!(rt; framer.feed(&stream), Ok(52));
-        assert_eq!(rt;
-            framer.pdu().map(|pdu| pdu.bytes == b"abc".as_slice()),
-            Some(true)
+        same(&rt, &framer.feed(&stream), &Ok(52), &"taken");
+        same(
+            &rt,
+            &framer.pdu().map(|pdu| pdu.bytes == b"abc".as_slice()),
+            &Some(true),
+            &"segment",
         );
     }
     Ok(())

@@ -2,8 +2,8 @@
 
 use super::rows::{NOP_OUT, lines_of, parts_of};
 use super::runs::{SURE, run_with};
-use super::{bytes_of, came_of, written_of};
-use crate::*;
+use super::{bytes_of, came_of, same, written_of};
+use iscsi_stream::{Counts, Framer, StreamFault, ToolFault, canonical_head, show_line};
 use std::alloc::Global;
 use std::test::Fail;
 
@@ -120,14 +120,14 @@ fn kinds() -> &'static str {
 
 #[test]
 fn a_line_for_each_kind(rt: HostRuntime) -> Result<(), Fail> {
-    assert_eq!(rt; kinds().split("\n\n").count(), 29);
+    same(&rt, &kinds().split("\n\n").count(), &29, &"kinds");
     for row in kinds().split("\n\n") {
         let (header, line) = parts_of(row);
         let (result, out) = shown(rt.alloc(), &bytes_of(rt.alloc(), header)?);
-        assert_eq!(rt; out.get(..line.len()), Some(line.as_bytes()), "{line}");
-        assert_eq!(rt; out.get(line.len()..), Some(b"\n".as_slice()), "{line}");
+        same(&rt, &out.get(..line.len()), &Some(line.as_bytes()), &line);
+        same(&rt, &out.get(line.len()..), &Some(b"\n".as_slice()), &line);
         let bytes_out = (line.len() as u64).saturating_add(1);
-        assert_eq!(rt; result, counts(1, 48, bytes_out), "{line}");
+        same(&rt, &result, &counts(1, 48, bytes_out), &line);
     }
     Ok(())
 }
@@ -135,8 +135,8 @@ fn a_line_for_each_kind(rt: HostRuntime) -> Result<(), Fail> {
 /// The first is shown where the second is not whole.
 #[test]
 fn places_and_lengths(rt: HostRuntime) -> Result<(), Fail> {
-    let mut stream = came_of(rt.alloc(), lines_of(NOP_OUT))?;
-    stream.extend_from_slice(&came_of(rt.alloc(), lines_of(NOP_OUT))?)?;
+    let mut stream = came_of(rt.alloc(), lines_of(&rt, NOP_OUT))?;
+    stream.extend_from_slice(&came_of(rt.alloc(), lines_of(&rt, NOP_OUT))?)?;
     // How much of the stream comes, how much is written, and what is answered.
     let rows = [
         (104usize, 163usize, counts(2, 104, 163)),
@@ -145,11 +145,12 @@ fn places_and_lengths(rt: HostRuntime) -> Result<(), Fail> {
     ];
     for (len, written, want) in rows {
         let (result, out) = shown(rt.alloc(), stream.get(..len).unwrap_or(&[]));
-        assert_eq!(rt; result, want, "{len} bytes");
-        assert_eq!(rt;
-            Some(out.as_slice()),
-            TWICE.as_bytes().get(..written),
-            "{len} bytes"
+        same(&rt, &result, &want, &len);
+        same(
+            &rt,
+            &Some(out.as_slice()),
+            &TWICE.as_bytes().get(..written),
+            &len,
         );
     }
     Ok(())
@@ -158,17 +159,17 @@ fn places_and_lengths(rt: HostRuntime) -> Result<(), Fail> {
 /// The farthest place, behind what was there before; and a head alone.
 #[test]
 fn one_pdu(rt: HostRuntime) -> Result<(), Fail> {
-    let stream = came_of(rt.alloc(), lines_of(NOP_OUT))?;
+    let stream = came_of(rt.alloc(), lines_of(&rt, NOP_OUT))?;
     let mut framer = Framer::new(rt.alloc(), 3);
-    assert_eq!(rt; framer.feed(&stream), Ok(52));
+    same(&rt, &framer.feed(&stream), &Ok(52), &"taken");
     let pdu = framer.pdu().ok_or("not ready")?;
     let mut out = Vec::from_slice(rt.alloc(), b"> ")?;
     show_line(18_446_744_073_709_551_615, &pdu, &mut out)?;
     let want =
         b"> 18446744073709551615 NOP-Out i=1 itt=00000001 ttt=ffffffff cmdsn=00000005 expstatsn=00000002 data=3\n";
-    assert_eq!(rt; out.as_slice(), want.as_slice());
+    same(&rt, &out.as_slice(), &want.as_slice(), &"line");
     let header = canonical_head(rt.alloc(), &pdu, false)?;
-    let want = written_of(rt.alloc(), lines_of(NOP_OUT))?;
-    assert_eq!(rt; Some(header.as_slice()), want.get(..48));
+    let want = written_of(rt.alloc(), lines_of(&rt, NOP_OUT))?;
+    same(&rt, &Some(header.as_slice()), &want.get(..48), &"header");
     Ok(())
 }

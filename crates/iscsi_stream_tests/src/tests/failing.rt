@@ -2,8 +2,8 @@
 
 use super::rows::{NOP_OUT, lines_of, parts_of, rows};
 use super::runs::{SURE, Steps, Target, run_with};
-use super::{came_of, written_of};
-use crate::*;
+use super::{came_of, same, written_of};
+use iscsi_stream::{ToolFault, write_fully};
 use std::alloc::Global;
 use std::process::Abort;
 use std::test::Fail;
@@ -28,17 +28,17 @@ fn check_two(
     fault: ToolFault,
     want: &[u8],
 ) -> Result<(), Fail> {
-    let mut stream = came_of(alloc, lines_of(NOP_OUT))?;
-    stream.extend_from_slice(&came_of(alloc, lines_of(NOP_OUT))?)?;
+    let mut stream = came_of(alloc, lines_of(rt, NOP_OUT))?;
+    stream.extend_from_slice(&came_of(alloc, lines_of(rt, NOP_OUT))?)?;
     let met = run_with(alloc, is_shown, &stream, steps.0, steps.1);
-    assert_eq!(rt; met.result, Err(fault));
-    assert_eq!(rt; met.written.as_slice(), want);
+    same(rt, &met.result, &Err(fault), &is_shown);
+    same(rt, &met.written.as_slice(), &want, &is_shown);
     Ok(())
 }
 
 #[test]
 fn a_read_fails_in_the_second_pdu(rt: HostRuntime) -> Result<(), Fail> {
-    let want = written_of(rt.alloc(), lines_of(NOP_OUT))?;
+    let want = written_of(rt.alloc(), lines_of(&rt, NOP_OUT))?;
     let steps = (second_fails(60), SURE);
     check_two(&rt, rt.alloc(), false, steps, ToolFault::Read, &want)?;
     check_two(&rt, rt.alloc(), true, steps, ToolFault::Read, LINE)
@@ -46,7 +46,7 @@ fn a_read_fails_in_the_second_pdu(rt: HostRuntime) -> Result<(), Fail> {
 
 #[test]
 fn a_write_fails_after_ten_bytes(rt: HostRuntime) -> Result<(), Fail> {
-    let want = written_of(rt.alloc(), lines_of(NOP_OUT))?;
+    let want = written_of(rt.alloc(), lines_of(&rt, NOP_OUT))?;
     let want = want.get(..10).ok_or("too short")?;
     let steps = (SURE, second_fails(10));
     check_two(&rt, rt.alloc(), false, steps, ToolFault::Write, want)?;
@@ -62,18 +62,23 @@ fn a_write_fails_after_ten_bytes(rt: HostRuntime) -> Result<(), Fail> {
 
 #[test]
 fn a_write_takes_no_byte(rt: HostRuntime) -> Result<(), Fail> {
-    let stream = came_of(rt.alloc(), lines_of(NOP_OUT))?;
+    let stream = came_of(rt.alloc(), lines_of(&rt, NOP_OUT))?;
     let none = Steps {
         step: 0,
         before: None,
     };
     let met = run_with(rt.alloc(), false, &stream, SURE, none);
-    assert_eq!(rt; met.result, Err(ToolFault::Write));
-    assert_eq!(rt; met.written.len(), 0);
+    same(&rt, &met.result, &Err(ToolFault::Write), &"result");
+    same(&rt, &met.written.len(), &0, &"written");
     let mut target = Target::new(rt.alloc(), none);
-    assert_eq!(rt; write_fully(&mut target, b"abc"), Err(ToolFault::Write));
+    same(
+        &rt,
+        &write_fully(&mut target, b"abc"),
+        &Err(ToolFault::Write),
+        &"three bytes",
+    );
     // Where there is nothing to write, nothing fails.
-    assert_eq!(rt; write_fully(&mut target, b""), Ok(()));
+    same(&rt, &write_fully(&mut target, b""), &Ok(()), &"no byte");
     Ok(())
 }
 
@@ -105,11 +110,12 @@ fn check_each(rt: &impl Abort, alloc: Global, row: &str, fault: ToolFault) -> Re
         let (reads, writes) = one_fails(fault, before);
         let met = run_with(alloc, false, &came, reads, writes);
         let is_met = met.failures > 0;
-        assert_eq!(rt; met.result == Err(fault), is_met, "{name} at {before}");
-        assert_eq!(rt; met.result.is_ok(), !is_met, "{name} at {before}");
+        let is_fault = met.result == Err(fault);
+        same(rt, &is_fault, &is_met, &(name, before));
+        same(rt, &met.result.is_ok(), &!is_met, &(name, before));
         assert!(rt; want.starts_with(&met.written), "{name} at {before}");
         if !is_met {
-            assert_eq!(rt; met.written.as_slice(), want.as_slice(), "{name}");
+            same(rt, &met.written.as_slice(), &want.as_slice(), &name);
             return Ok(());
         }
     }

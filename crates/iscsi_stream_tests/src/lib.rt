@@ -1,0 +1,5 @@
+//! Tests of `iscsi_stream`: streams, lines and canonical streams by example.
+#![tactic(auto)]
+
+#[cfg(test)]
+mod tests;
