@@ -21,7 +21,7 @@ use iscsi_login::{Answered, NegKey};
 use iscsi_pdu::{DataIn, DataOut, Head, Pdu, RESERVED_TAG, ReadyToTransfer, ScsiCommand};
 use iscsi_stream::write_pdu;
 use scsi_disk::{BlockStore, Order, Outcome, Plan, execute, plan};
-use std::alloc::AllocError;
+use std::alloc::{AllocError, Global};
 
 /// The most that a response takes: a header, the sense data behind their length, padding.
 const RESPONSE_LEN: usize = 71;
@@ -250,20 +250,7 @@ impl Course {
         ensures err { OnErr result (GivesUp (S.failures store.old) (S.failures store.new)
             self.old self.new (S.disk store.old) (S.disk store.new) out.old.items out.new.items) }
     {
-        let mut data = Vec::with_capacity(*out.allocator(), total as usize)?;
-        data.extend_from_slice(bytes)?;
-        let write = OpenWrite {
-            initiator_task_tag: command.initiator_task_tag,
-            order: order_of(command),
-            total,
-            data,
-            due: if command.is_final {
-                Due::Nothing
-            } else {
-                Due::Unsolicited { data_sn: 0 }
-            },
-            asked: 0,
-        };
+        let write = opened(*out.allocator(), command, total, bytes)?;
         self.write = None;
         self.proceed(write, store, out)
     }
@@ -392,6 +379,34 @@ impl Course {
         }
         self.proceed(write, store, out)
     }
+}
+
+// The write of so many bytes that a command opens with its immediate data, and the room for all of
+// them.
+fn opened(
+    alloc: Global,
+    command: &ScsiCommand,
+    total: u32,
+    bytes: &[u8],
+) -> Result<OpenWrite, AllocError>
+    requires plan { (count : ℕ) × (plan_of (order_of command.now) count ≡ Plan.Take total) }
+    requires fits { length bytes.now ≤ total }
+    ensures { IfOk result (λ write. write ≡ opened command.now total bytes.now) }
+{
+    let mut data = Vec::with_capacity(alloc, total as usize)?;
+    data.extend_from_slice(bytes)?;
+    Ok(OpenWrite {
+        initiator_task_tag: command.initiator_task_tag,
+        order: order_of(command),
+        total,
+        data,
+        due: if command.is_final {
+            Due::Nothing
+        } else {
+            Due::Unsolicited { data_sn: 0 }
+        },
+        asked: 0,
+    })
 }
 
 // What a command orders of the disk.
