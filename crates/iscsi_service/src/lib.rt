@@ -9,8 +9,6 @@ mod script;
 mod serve_fault;
 mod serving;
 mod session;
-#[cfg(test)]
-mod tests;
 mod wire;
 
 pub use looping::{LONGEST_PIECE, run_loop};

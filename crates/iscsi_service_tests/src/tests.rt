@@ -6,7 +6,8 @@ mod loops;
 mod serving;
 mod streams;
 
-use std::alloc::Global;
+use hex::FromHexError;
+use std::alloc::{AllocError, Global};
 use std::io;
 use std::io::{Read, Write};
 use std::test::Fail;
@@ -31,21 +32,41 @@ const REFUSAL: &str =
 const PING: &str =
     "40800000 00000000 00000000 00000000 00000001 ffffffff 00000001 00000003 00000000 00000000 00000000 00000000";
 
+// The bytes that fill a segment of this length up to whole words.
+fn padding_of(len: usize) -> &'static [u8] {
+    match len % 4 {
+        1 => &[0, 0, 0],
+        2 => &[0, 0],
+        3 => &[0],
+        _ => &[],
+    }
+}
+
+// The bytes of hex text, in which blanks part the words.
+fn header_of(alloc: Global, text: &str) -> Result<Vec<u8>, FromHexError> {
+    let digits: Vec<u8> = text
+        .as_bytes()
+        .iter()
+        .copied()
+        .filter(|b| *b != b' ')
+        .collect(alloc)?;
+    hex::decode(alloc, digits)
+}
+
+// Appends the segment of this text, with its padding.
+fn write_segment(text: &str, stream: &mut Vec<u8>) -> Result<(), AllocError> {
+    for byte in text.bytes() {
+        stream.push(if byte == b'|' { 0 } else { byte })?;
+    }
+    stream.extend_from_slice(padding_of(text.len()))
+}
+
 fn bytes_of(alloc: Global, lines: &str) -> Result<Vec<u8>, Fail> {
     let mut stream = Vec::new(alloc);
     for line in lines.lines() {
         let (header, text) = line.split_once('\'').unwrap_or((line, ""));
-        let digits: Vec<u8> = header
-            .as_bytes()
-            .iter()
-            .copied()
-            .filter(|b| *b != b' ')
-            .collect(alloc)?;
-        stream.extend_from_slice(&hex::decode(alloc, digits)?)?;
-        for byte in text.bytes() {
-            stream.push(if byte == b'|' { 0 } else { byte })?;
-        }
-        stream.extend_from_slice([0u8; 3].get(..(4 - text.len() % 4) % 4).unwrap_or(&[]))?;
+        stream.extend_from_slice(&header_of(alloc, header)?)?;
+        write_segment(text, &mut stream)?;
     }
     Ok(stream)
 }

@@ -1,14 +1,12 @@
 //! Sessions over sockets: a connection to a listener of the test's own.
 
 use super::{CUT, FIRST_ANSWER, NAMELESS, PING, REFUSAL, bytes_of};
-use crate::serve_fault::ServeFault;
-use crate::serving::serve_one;
-use crate::session::configuration;
 use iscsi_initiator::InitiatorFault;
+use iscsi_service::{ServeFault, configuration, serve_one};
 use iscsi_stream::StreamFault;
 use iscsi_target::TargetFault;
 use scsi_disk::SparseStore;
-use std::alloc::Global;
+use std::alloc::{AllocError, Global};
 use std::io::{Read, Write};
 use std::net::{Ipv4Addr, Net, Shutdown, TcpListener, TcpStream};
 use std::test::Fail;
@@ -77,26 +75,25 @@ fn line_of(alloc: Global, outcome: Result<(), ServeFault>) -> Result<String, Fai
     }
 }
 
+/// Sessions: the requests, the answers, whether the initiator ends the stream, and the fault's line.
+const SESSIONS: &[(&str, &str, bool, &str)] = &[
+    // Closed by the target, while the connection stands.
+    (LOGOUT, LOGOUT_ANSWERS, false, ""),
+    (NAMELESS, REFUSAL, false, ""),
+    (PING, "", false, "protocol: rule 1"),
+    // Ended by the initiator.
+    ("", "", true, ""),
+    (CUT, FIRST_ANSWER, true, "stream: truncated at 160"),
+];
+
 #[test]
 fn sessions_over_a_socket(rt: HostRuntime) -> Result<(), Fail> {
-    let rows = [
-        // Closed by the target, while the connection stands.
-        (LOGOUT, LOGOUT_ANSWERS, false, ""),
-        (NAMELESS, REFUSAL, false, ""),
-        (PING, "", false, "protocol: rule 1"),
-        // Ended by the initiator.
-        ("", "", true, ""),
-        (CUT, FIRST_ANSWER, true, "stream: truncated at 160"),
-    ];
-    for (requests, answers, ends, line) in rows {
+    for (requests, answers, ends, line) in SESSIONS {
         let mut store = SparseStore::new(rt.alloc(), 8);
-        let (result, out) = exchange(&rt, rt.alloc(), &mut store, requests, ends)?;
-        assert_eq!(rt; line_of(rt.alloc(), result)?.as_str(), line, "{requests}");
-        assert_eq!(rt;
-            out.as_slice(),
-            bytes_of(rt.alloc(), answers)?.as_slice(),
-            "{requests}"
-        );
+        let (result, out) = exchange(&rt, rt.alloc(), &mut store, requests, *ends)?;
+        let want = bytes_of(rt.alloc(), answers)?;
+        assert_eq!(rt; line_of(rt.alloc(), result)?.as_str(), *line, "{requests}");
+        assert_eq!(rt; out.as_slice(), want.as_slice(), "{requests}");
     }
     Ok(())
 }
@@ -106,39 +103,47 @@ fn a_session_reads_what_an_earlier_one_wrote(rt: HostRuntime) -> Result<(), Fail
     let mut store = SparseStore::new(rt.alloc(), 8);
     for (requests, answers, ends) in [(WRITE, WRITE_ANSWERS, false), (READ, READ_ANSWERS, true)] {
         let (result, out) = exchange(&rt, rt.alloc(), &mut store, requests, ends)?;
+        let want = bytes_of(rt.alloc(), answers)?;
         assert!(rt; result.is_ok());
-        assert_eq!(rt; out.as_slice(), bytes_of(rt.alloc(), answers)?.as_slice());
+        assert_eq!(rt; out.as_slice(), want.as_slice());
     }
     Ok(())
 }
 
+/// Faults, with their lines and statuses.
+const FAULTS: [(ServeFault, &str, u8); 8] = [
+    (ServeFault::NoMemory, "memory", 3),
+    (
+        ServeFault::Target(TargetFault::Stream(StreamFault::Truncated(48))),
+        "stream: truncated at 48",
+        1,
+    ),
+    (
+        ServeFault::Target(TargetFault::Protocol(4)),
+        "protocol: rule 4",
+        1,
+    ),
+    (
+        ServeFault::Initiator(InitiatorFault::Refused(2, 7)),
+        "login refused: 0207",
+        1,
+    ),
+    (ServeFault::Script(2), "script: line 2", 1),
+    (ServeFault::Network, "network failed", 4),
+    (ServeFault::Read, "read failed", 4),
+    (ServeFault::Write, "write failed", 4),
+];
+
+// The line and the status of a fault.
+fn told(alloc: Global, fault: &ServeFault) -> Result<(String, u8), AllocError> {
+    Ok((format!(in alloc; "{fault}")?, fault.status()))
+}
+
 #[test]
 fn lines_and_statuses_of_faults(rt: HostRuntime) -> Result<(), Fail> {
-    let rows = [
-        (ServeFault::NoMemory, "memory", 3),
-        (
-            ServeFault::Target(TargetFault::Stream(StreamFault::Truncated(48))),
-            "stream: truncated at 48",
-            1,
-        ),
-        (
-            ServeFault::Target(TargetFault::Protocol(4)),
-            "protocol: rule 4",
-            1,
-        ),
-        (
-            ServeFault::Initiator(InitiatorFault::Refused(2, 7)),
-            "login refused: 0207",
-            1,
-        ),
-        (ServeFault::Script(2), "script: line 2", 1),
-        (ServeFault::Network, "network failed", 4),
-        (ServeFault::Read, "read failed", 4),
-        (ServeFault::Write, "write failed", 4),
-    ];
-    for (fault, line, status) in rows {
-        assert_eq!(rt; format!(in rt.alloc(); "{fault}")?.as_str(), line);
-        assert_eq!(rt; fault.status(), status, "{line}");
+    for (fault, line, status) in FAULTS {
+        let (text, found) = told(rt.alloc(), &fault)?;
+        assert_eq!(rt; (text.as_str(), found), (line, status));
     }
     Ok(())
 }

@@ -1,0 +1,5 @@
+//! Tests of `iscsi_service`: sessions over a stream and over sockets, scripts and lines.
+#![tactic(auto)]
+
+#[cfg(test)]
+mod tests;

@@ -1,0 +1,207 @@
+//! Loops of both ends over a socket: scripts, and the lines that they write.
+
+use super::{Broken, Full};
+use iscsi_service::{LONGEST_PIECE, ServeFault, run_loop};
+use std::alloc::{AllocError, Global};
+use std::test::Fail;
+
+// A write, reads and a logout, worked out by hand from the tables of SPC-4 and SBC-3.
+const BLOCKS: &str = "write 0 8 5a\nread 0 1\ncapacity\nread 2047 2\nlogout\n";
+
+const BLOCKS_LINES: &str = "login\ngood 0\ngood 512 5a5a5a5a5a5a5a5a5a5a5a5a5a5a5a5a\n\
+    good 8 000007ff00000200\ncheck 5/21/00 under 1024\nlogout\n";
+
+/// Scripts, and the lines that they write: a name, the script, the lines.
+const SCRIPTS: &[(&str, &str, &str)] = &[
+    (
+        "units",
+        "inquiry 0 5\ninquiry 1 36\ntur 1\nluns\nping 6162\nlogout\n",
+        "login\ngood 5 000006121f\ngood 36 7f0006121f000002564552494449534b\n\
+        check 5/25/00\ngood 16 00000008000000000000000000000000\nping 6162\nlogout\n",
+    ),
+    ("no line", "", "login\n"),
+    (
+        "no logout, no line end, no block",
+        "tur 000\nread 002048 0",
+        "login\ngood 0\ngood 0\n",
+    ),
+    (
+        "a line behind the logout",
+        "logout\nwrite 0 1 Aa\n",
+        "login\nlogout\n",
+    ),
+    (
+        "less and more than expected",
+        "inquiry 0 65535\ninquiry 255 96\nwrite 2048 1 fF\n",
+        "login\ngood 36 000006121f000002564552494449534b under 65499\n\
+        good 36 7f0006121f000002564552494449534b under 60\ncheck 5/21/00 under 512\n",
+    ),
+];
+
+/// Lines that are no command.
+const REFUSED: &[&str] = &[
+    "",
+    " ",
+    "Tur 0",
+    "tur",
+    "tur ",
+    "tur  0",
+    "tur 0 ",
+    " tur 0",
+    "tur 0\r",
+    "tur\t0",
+    "tur +0",
+    "tur -1",
+    "tur 0x1",
+    "tur 256",
+    "tur 18446744073709551616",
+    "tur 0 0",
+    "inquiry 0",
+    "inquiry 0 65536",
+    "inquiry 256 36",
+    "capacity 0",
+    "capacity ",
+    "luns 0",
+    "read 0",
+    "read 0 8193",
+    "read 4294967296 1",
+    "read 0 1 5a",
+    "write 0 8",
+    "write 0 8193 5a",
+    "write 0 8 5",
+    "write 0 8 5a5",
+    "write 0 8 5g",
+    "write 0 8 5a 5a",
+    "ping",
+    "ping ",
+    "ping 6",
+    "ping 616",
+    "ping 6z",
+    "ping 61 62",
+    "logout 0",
+    "sync 0 0",
+];
+
+// How a script ends with a disk of 2048 blocks, in pieces of at most so many bytes, and what it
+// writes.
+fn run(rt: &HostRuntime, script: &[u8], most: usize) -> (Result<(), ServeFault>, Vec<u8>) {
+    let piece = most.max(1).min(LONGEST_PIECE);
+    let mut source = script;
+    let mut out = Vec::new(rt.alloc());
+    let result = run_loop(rt, 2048, piece, &mut source, &mut out);
+    (result, out)
+}
+
+// The line at which a script is refused, and how many bytes it writes.
+fn refusal_of(rt: &HostRuntime, script: &[u8], most: usize) -> (Option<u64>, usize) {
+    match run(rt, script, most) {
+        (Err(ServeFault::Script(line)), out) => (Some(line), out.len()),
+        (_, out) => (None, out.len()),
+    }
+}
+
+#[test]
+fn loops_in_pieces(rt: HostRuntime) -> Result<(), Fail> {
+    for piece in [1, 47, 48, 4096] {
+        let (result, out) = run(&rt, BLOCKS.as_bytes(), piece);
+        assert!(rt; result.is_ok(), "{piece}");
+        assert_eq!(rt; out.as_slice(), BLOCKS_LINES.as_bytes(), "{piece}");
+    }
+    Ok(())
+}
+
+#[test]
+fn loops_over_a_socket(rt: HostRuntime) -> Result<(), Fail> {
+    for (name, script, want) in SCRIPTS {
+        let (result, out) = run(&rt, script.as_bytes(), 48);
+        assert!(rt; result.is_ok(), "{name}");
+        assert_eq!(rt; out.as_slice(), want.as_bytes(), "{name}");
+    }
+    Ok(())
+}
+
+// A script whose second line this is.
+fn script_of(alloc: Global, line: &str) -> Result<Vec<u8>, AllocError> {
+    let mut script = Vec::from_slice(alloc, b"tur 0\n")?;
+    script.extend_from_slice(line.as_bytes())?;
+    script.extend_from_slice(b"\nlogout\n")?;
+    Ok(script)
+}
+
+#[test]
+fn lines_that_are_refused(rt: HostRuntime) -> Result<(), Fail> {
+    for line in REFUSED {
+        let script = script_of(rt.alloc(), line)?;
+        assert_eq!(rt; refusal_of(&rt, &script, 48), (Some(2), 0), "{line:?}");
+    }
+    Ok(())
+}
+
+// These bytes, and so many more in hex.
+fn digits(alloc: Global, start: &[u8], bytes: usize) -> Result<Vec<u8>, AllocError> {
+    let mut text = Vec::from_slice(alloc, start)?;
+    for _ in 0..bytes {
+        text.extend_from_slice(b"5a")?;
+    }
+    Ok(text)
+}
+
+#[test]
+fn a_ping_too_long(rt: HostRuntime) -> Result<(), Fail> {
+    let script = digits(rt.alloc(), b"ping ", 8193)?;
+    assert_eq!(rt; refusal_of(&rt, &script, 4096), (Some(1), 0));
+    Ok(())
+}
+
+#[test]
+fn the_longest_ping(rt: HostRuntime) -> Result<(), Fail> {
+    let script = digits(rt.alloc(), b"ping ", 8192)?;
+    let mut want = digits(rt.alloc(), b"login\nping ", 8192)?;
+    want.push(b'\n')?;
+    let (result, out) = run(&rt, &script, 4096);
+    assert!(rt; result.is_ok());
+    assert_eq!(rt; out.as_slice(), want.as_slice());
+    Ok(())
+}
+
+// A script of so many bytes, of which the third ends the first line.
+fn long_script(alloc: Global, bytes: usize) -> Result<Vec<u8>, AllocError> {
+    let mut script = Vec::from_slice(alloc, b"no\n")?;
+    script.resize(bytes, b' ')?;
+    Ok(script)
+}
+
+// A script whose first byte too many is the first one of the third line.
+fn third_line(alloc: Global) -> Result<Vec<u8>, AllocError> {
+    let mut script = long_script(alloc, 1_048_575)?;
+    script.extend_from_slice(b"\n ")?;
+    Ok(script)
+}
+
+#[test]
+fn the_longest_script(rt: HostRuntime) -> Result<(), Fail> {
+    let script = long_script(rt.alloc(), 1_048_576)?;
+    assert_eq!(rt; refusal_of(&rt, &script, 48), (Some(1), 0));
+    let script = long_script(rt.alloc(), 1_048_577)?;
+    assert_eq!(rt; refusal_of(&rt, &script, 48), (Some(2), 0));
+    let script = third_line(rt.alloc())?;
+    assert_eq!(rt; refusal_of(&rt, &script, 48), (Some(3), 0));
+    Ok(())
+}
+
+#[test]
+fn a_script_that_fails(rt: HostRuntime) -> Result<(), Fail> {
+    let mut out = Vec::new(rt.alloc());
+    let result = run_loop(&rt, 8, 48, &mut Broken(Some(b"tur 0\n")), &mut out);
+    assert!(rt; matches!(result, Err(ServeFault::Read)));
+    assert_eq!(rt; out.len(), 0);
+    Ok(())
+}
+
+#[test]
+fn lines_that_fail(rt: HostRuntime) -> Result<(), Fail> {
+    let mut source = b"tur 0\n".as_slice();
+    let result = run_loop(&rt, 8, 48, &mut source, &mut Full);
+    assert!(rt; matches!(result, Err(ServeFault::Write)));
+    Ok(())
+}
