@@ -4,7 +4,14 @@ use scsi_cdb::{
     Bytes, Cdb, Sense, Transfer10, Transfer16, capacity10, capacity16, inquiry_bytes, report_luns,
     vpd_bytes,
 };
+use std::fmt::Debug;
+use std::process::Abort;
 use std::test::Fail;
+
+/// Asserts that a value is the one that is due, in a row of which this tells.
+fn same<T: PartialEq + Debug>(rt: &impl Abort, value: &T, due: &T, row: &impl Debug) {
+    assert_eq!(rt; *value, *due, "{row:?}");
+}
 
 /// The block of which these are the words.
 fn block(words: [u32; 4]) -> [u8; 16] {
@@ -123,8 +130,8 @@ fn descriptor_blocks(rt: HostRuntime) {
     ];
     for (i, (came, record, written)) in rows.iter().enumerate() {
         let read = Cdb::read(&block(*came));
-        assert_eq!(rt; read, *record, "row {i}");
-        assert_eq!(rt; read.write(), block(*written), "row {i}");
+        same(&rt, &read, record, &i);
+        same(&rt, &read.write(), &block(*written), &i);
     }
 }
 
@@ -139,12 +146,14 @@ fn sense_data(rt: HostRuntime) {
         (Sense::WriteError, 3, 0x0c),
     ];
     for (sense, key, code) in rows {
-        assert_eq!(rt; sense.triple(), (key, code, 0));
-        assert_eq!(rt;
-            sense.bytes(),
-            [
-                0x70, 0, key, 0, 0, 0, 0, 0x0a, 0, 0, 0, 0, code, 0, 0, 0, 0, 0
-            ]
+        same(&rt, &sense.triple(), &(key, code, 0), &sense);
+        same(
+            &rt,
+            &sense.bytes(),
+            &[
+                0x70, 0, key, 0, 0, 0, 0, 0x0a, 0, 0, 0, 0, code, 0, 0, 0, 0, 0,
+            ],
+            &sense,
         );
     }
 }
@@ -153,11 +162,18 @@ fn sense_data(rt: HostRuntime) {
 fn inquiry_data(rt: HostRuntime) {
     for (present, first) in [(true, 0x00), (false, 0x7f)] {
         let bytes = inquiry_bytes(present);
-        assert_eq!(rt;
-            &bytes[..8],
-            [first, 0, 0x06, 0x12, 0x1f, 0, 0, 0x02].as_slice()
+        same(
+            &rt,
+            &&bytes[..8],
+            &[first, 0, 0x06, 0x12, 0x1f, 0, 0, 0x02].as_slice(),
+            &present,
         );
-        assert_eq!(rt; &bytes[8..], b"VERIDISKISCSI DISK      0001".as_slice());
+        same(
+            &rt,
+            &&bytes[8..],
+            &b"VERIDISKISCSI DISK      0001".as_slice(),
+            &present,
+        );
     }
     let pages = [
         (0x00, b"\x00\x00\x00\x03\x00\x80\x83".as_slice()),
@@ -169,7 +185,7 @@ fn inquiry_data(rt: HostRuntime) {
     ];
     for (page, want) in pages {
         let shown = vpd_bytes(page).unwrap_or_default();
-        assert_eq!(rt; shown.as_slice(), want, "page {page}");
+        same(&rt, &shown.as_slice(), &want, &page);
     }
     assert!(rt; vpd_bytes(0xb0).is_none());
 }
@@ -184,14 +200,16 @@ fn capacities(rt: HostRuntime) {
         (0x1_0000_0000, [0xff, 0xff, 0xff, 0xff, 0, 0, 2, 0]),
     ];
     for (last, want) in rows {
-        assert_eq!(rt; capacity10(last), want, "last block {last}");
+        same(&rt, &capacity10(last), &want, &last);
     }
-    assert_eq!(rt;
-        capacity16(0x0102_0304_0506_0708),
-        [
+    same(
+        &rt,
+        &capacity16(0x0102_0304_0506_0708),
+        &[
             1, 2, 3, 4, 5, 6, 7, 8, 0, 0, 2, 0, 0, 0, 0, 0, 0, 0, 0, 0, 0, 0, 0, 0, 0, 0, 0, 0, 0,
-            0, 0, 0
-        ]
+            0, 0, 0,
+        ],
+        &"capacity16",
     );
 }
 
@@ -210,7 +228,7 @@ fn units(rt: HostRuntime) {
     ];
     for (select, want) in rows {
         let list = report_luns(select).unwrap_or_default();
-        assert_eq!(rt; list.as_slice(), want, "select {select}");
+        same(&rt, &list.as_slice(), &want, &select);
     }
     assert!(rt; report_luns(3).is_none());
 }
@@ -218,7 +236,12 @@ fn units(rt: HostRuntime) {
 #[test]
 fn bytes_are_those_given(rt: HostRuntime) -> Result<(), Fail> {
     let bytes = Bytes::from_vec([1, 2, 3].to_vec(rt.alloc())?);
-    assert_eq!(rt; bytes.as_slice(), [1, 2, 3].as_slice());
-    assert_eq!(rt; bytes.into_vec().as_slice(), [1, 2, 3].as_slice());
+    same(&rt, &bytes.as_slice(), &[1, 2, 3].as_slice(), &"lent");
+    same(
+        &rt,
+        &bytes.into_vec().as_slice(),
+        &[1, 2, 3].as_slice(),
+        &"given back",
+    );
     Ok(())
 }

@@ -10,8 +10,6 @@ mod planning;
 mod running;
 mod sparse;
 mod store;
-#[cfg(test)]
-mod tests;
 
 pub use execution::execute;
 pub use fail_at::FailAt;

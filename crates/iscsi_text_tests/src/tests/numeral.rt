@@ -1,5 +1,6 @@
 //! Numerals by example.
 
+use super::same;
 use iscsi_text::{read_number, write_number};
 use std::alloc::AllocError;
 use std::process::Abort;
@@ -31,7 +32,7 @@ const SPELLINGS: &[(&str, &[u8], Option<u64>)] = &[
 #[test]
 fn spellings_are_read(rt: HostRuntime) {
     for (name, text, want) in SPELLINGS {
-        assert_eq!(rt; read_number(text), *want, "{name}");
+        same(&rt, &read_number(text), want, &name);
     }
 }
 
@@ -48,7 +49,7 @@ fn canonical_numerals_are_written(rt: HostRuntime) -> Result<(), Fail> {
     for (n, want) in rows {
         let mut out = Vec::new(rt.alloc());
         write_number(n, &mut out)?;
-        assert_eq!(rt; out.as_slice(), want, "{n}");
+        same(&rt, &out.as_slice(), &want, &n);
     }
     Ok(())
 }
@@ -56,11 +57,11 @@ fn canonical_numerals_are_written(rt: HostRuntime) -> Result<(), Fail> {
 // Writes a number behind what `out` holds, again where memory ran out: that leaves `out` as it was.
 fn write_behind(rt: &impl Abort, out: &mut Vec<u8>, before: &[u8], want: &[u8]) {
     if write_number(1_000_000_000_000, out) == Err(AllocError) {
-        assert_eq!(rt; out.as_slice(), before);
+        same(rt, &out.as_slice(), &before, &"memory ran out");
         let again = write_number(1_000_000_000_000, out);
         assert!(rt; again.is_ok());
     }
-    assert_eq!(rt; out.as_slice(), want);
+    same(rt, &out.as_slice(), &want, &"written");
 }
 
 // What `rt try --test --fail-alloc N` is for.

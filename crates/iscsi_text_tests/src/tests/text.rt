@@ -1,5 +1,6 @@
 //! Texts by example.
 
+use super::same;
 use iscsi_text::{Text, TextFault, Value, value_in};
 use std::alloc::{AllocError, Global};
 use std::process::Abort;
@@ -82,10 +83,10 @@ fn check_canonical(
     want: &[u8],
 ) -> Result<(), Fail> {
     let text = Text::read(alloc, bytes)?;
-    assert_eq!(rt; text.canonical_len(), want.len(), "{name}");
+    same(rt, &text.canonical_len(), &want.len(), &name);
     let mut out = Vec::new(alloc);
     text.write(&mut out)?;
-    assert_eq!(rt; out.as_slice(), want, "{name}");
+    same(rt, &out.as_slice(), &want, &name);
     Ok(())
 }
 
@@ -100,7 +101,12 @@ fn canonical_texts_are_written(rt: HostRuntime) -> Result<(), Fail> {
 #[test]
 fn many_spare_bytes_are_nothing(rt: HostRuntime) -> Result<(), Fail> {
     let spare = [0; 16_384];
-    assert_eq!(rt; Text::read(rt.alloc(), &spare)?.len(), 0);
+    same(
+        &rt,
+        &Text::read(rt.alloc(), &spare)?.len(),
+        &0,
+        &"spare bytes",
+    );
     Ok(())
 }
 
@@ -120,7 +126,7 @@ const FAULTS: &[(&[u8], TextFault, &str)] = &[
 ];
 
 fn check_line(rt: &impl Abort, alloc: Global, fault: TextFault, line: &str) -> Result<(), Fail> {
-    assert_eq!(rt; format!(in alloc; "{fault}")?.as_str(), line);
+    same(rt, &format!(in alloc; "{fault}")?.as_str(), &line, &fault);
     Ok(())
 }
 
@@ -128,7 +134,7 @@ fn check_line(rt: &impl Abort, alloc: Global, fault: TextFault, line: &str) -> R
 fn first_faults_are_answered(rt: HostRuntime) -> Result<(), Fail> {
     for (bytes, want, line) in FAULTS {
         let fault = Text::read(rt.alloc(), bytes).err();
-        assert_eq!(rt; fault, Some(*want), "{line}");
+        same(&rt, &fault, &Some(*want), &line);
         check_line(&rt, rt.alloc(), *want, line)?;
     }
     check_line(&rt, rt.alloc(), TextFault::NoMemory, "memory")
@@ -150,14 +156,14 @@ const PAIRS: &[(&str, Value<'static>)] = &[
 ];
 
 fn check_pair(rt: &impl Abort, text: &Text, n: usize, want: Option<(&[u8], Value)>) {
-    assert_eq!(rt; text.pair(n), want, "{n}");
+    same(rt, &text.pair(n), &want, &n);
 }
 
 #[test]
 fn values_have_their_keys_types(rt: HostRuntime) -> Result<(), Fail> {
     let text = Text::read(rt.alloc(), TYPED)?;
-    assert_eq!(rt; text.len(), 8);
-    assert_eq!(rt; text.pairs().len(), 8);
+    same(&rt, &text.len(), &8, &"length");
+    same(&rt, &text.pairs().len(), &8, &"pairs");
     for (n, (key, value)) in PAIRS.iter().enumerate() {
         check_pair(&rt, &text, n, Some((key.as_bytes(), *value)));
     }
@@ -178,11 +184,12 @@ const VALUES: &[(&str, usize, Option<Value<'static>>)] = &[
 fn values_are_got_by_key_and_place(rt: HostRuntime) -> Result<(), Fail> {
     let text = Text::read(rt.alloc(), TYPED)?;
     for (key, place, want) in VALUES {
-        assert_eq!(rt; text.get(key.as_bytes(), *place), *want, "{key}");
-        assert_eq!(rt;
-            value_in(text.pairs(), key.as_bytes(), *place),
-            *want,
-            "{key}"
+        same(&rt, &text.get(key.as_bytes(), *place), want, &key);
+        same(
+            &rt,
+            &value_in(text.pairs(), key.as_bytes(), *place),
+            want,
+            &key,
         );
     }
     Ok(())
@@ -193,7 +200,7 @@ fn read_twice<'a>(rt: &impl Abort, alloc: Global, bytes: &'a [u8], name: &str) -
     match Text::read(alloc, bytes) {
         Ok(text) => text,
         Err(fault) => {
-            assert_eq!(rt; fault, TextFault::NoMemory, "{name}");
+            same(rt, &fault, &TextFault::NoMemory, &name);
             Text::read(alloc, bytes).expect(rt, "memory is there again")
         }
     }
@@ -203,7 +210,7 @@ fn read_twice<'a>(rt: &impl Abort, alloc: Global, bytes: &'a [u8], name: &str) -
 fn write_twice(rt: &impl Abort, alloc: Global, text: &Text, name: &str) -> Vec<u8> {
     let mut out = Vec::new(alloc);
     if text.write(&mut out) == Err(AllocError) {
-        assert_eq!(rt; out.len(), 0, "{name}");
+        same(rt, &out.len(), &0, &name);
         let again = text.write(&mut out);
         assert!(rt; again.is_ok(), "{name}");
     }
@@ -217,6 +224,6 @@ fn refused_memory_changes_no_answer(rt: HostRuntime) {
     for (name, bytes, want) in CANONICAL {
         let text = read_twice(&rt, rt.alloc(), bytes, name);
         let out = write_twice(&rt, rt.alloc(), &text, name);
-        assert_eq!(rt; out.as_slice(), *want, "{name}");
+        same(&rt, &out.as_slice(), want, &name);
     }
 }

@@ -1,0 +1,5 @@
+//! Tests of `scsi_disk`: orders on disks and stores, by rows.
+#![tactic(auto)]
+
+#[cfg(test)]
+mod tests;

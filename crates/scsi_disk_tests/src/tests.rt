@@ -1,0 +1,575 @@
+//! Orders on disks and stores, by rows.
+
+ghost use Rattle.std.specs.Prelude.{IsTrue};
+ghost use Rattle.scsi_disk.specs.Effect.{IsSupplied};
+ghost use Rattle.scsi_disk.specs.Runs.{AreSupplied};
+
+use scsi_cdb::{Bytes, Cdb, Residual, Sense};
+use scsi_disk::{
+    BlockStore, FailAt, MemoryStore, Order, Outcome, Plan, SparseStore, StoreFault, execute, plan,
+    run_orders,
+};
+use std::alloc::{AllocError, Global};
+use std::fmt::Debug;
+use std::process::Abort;
+use std::test::Fail;
+
+/// Asserts that a value is the one that is due, in a row of which this tells.
+fn same<T: PartialEq + Debug>(rt: &impl Abort, value: &T, due: &T, row: &impl Debug) {
+    assert_eq!(rt; *value, *due, "{row:?}");
+}
+
+/// The descriptor block of which these are the words.
+fn block(words: [u32; 4]) -> [u8; 16] {
+    let mut bytes = [0; 16];
+    for (i, word) in words.iter().enumerate() {
+        bytes[4 * i..4 * i + 4].copy_from_slice(&word.to_be_bytes());
+    }
+    bytes
+}
+
+/// A command by its descriptor block, to unit 0.
+fn order(words: [u32; 4], read: bool, write: bool, expected: u32) -> Order {
+    Order {
+        cdb: Cdb::read(&block(words)),
+        lun: 0,
+        read,
+        write,
+        expected,
+    }
+}
+
+/// What a row says of the data of a command, with how many bytes its initiator expects.
+#[derive(Clone, Copy)]
+enum Data {
+    /// None, and no byte is expected.
+    Silent,
+    /// From the disk.
+    Reads(u32),
+    /// To the disk.
+    Writes(u32),
+    /// Both ways.
+    Both(u32),
+    /// No way.
+    Neither(u32),
+}
+
+/// The command of a row.
+fn order_of(words: [u32; 4], data: Data) -> Order {
+    match data {
+        Data::Silent => order(words, false, false, 0),
+        Data::Reads(expected) => order(words, true, false, expected),
+        Data::Writes(expected) => order(words, false, true, expected),
+        Data::Both(expected) => order(words, true, true, expected),
+        Data::Neither(expected) => order(words, false, false, expected),
+    }
+}
+
+/// The same order to unit 1.
+fn elsewhere(order: Order) -> Order {
+    Order {
+        lun: 0x0001_0000_0000_0000,
+        ..order
+    }
+}
+
+/// The bytes are those that the order takes.
+fn is_supplied(order: &Order, bytes: &[u8], blocks: u64) -> bool
+    ensures { IsTrue result → IsSupplied blocks order.now bytes.now }
+{
+    match plan(order, blocks) {
+        Plan::Take(length) => bytes.len() == length as usize,
+        Plan::Refuse(_) => true,
+        Plan::Give(_) => true,
+    }
+}
+
+/// Executes an order that takes these bytes.
+fn run<S: BlockStore>(
+    rt: &impl Abort,
+    alloc: Global,
+    order: &Order,
+    bytes: &[u8],
+    store: &mut S,
+) -> Result<Outcome, AllocError> {
+    let supplied = is_supplied(order, bytes, store.blocks());
+    assert!(rt; supplied);
+    execute(alloc, order, bytes, store)
+}
+
+const INQUIRY: [u32; 4] = [0x12000000, 0x24000000, 0, 0];
+
+const READ_8: [u32; 4] = [0x28000000, 0, 0x08000000, 0];
+
+const WRITE_8: [u32; 4] = [0x2a000000, 0, 0x08000000, 0];
+
+/// Commands to unit 0 with 2,048 blocks, and their plans.
+const PLANS: &[(&str, [u32; 4], Data, Plan)] = &[
+    (
+        "unknown code",
+        [0x35000000, 0, 0, 0],
+        Data::Silent,
+        Plan::Refuse(Sense::InvalidCode),
+    ),
+    (
+        "both directions",
+        READ_8,
+        Data::Both(4096),
+        Plan::Refuse(Sense::InvalidField),
+    ),
+    (
+        "data for TEST UNIT READY",
+        [0, 0, 0, 0],
+        Data::Writes(4096),
+        Plan::Refuse(Sense::InvalidField),
+    ),
+    (
+        "READ with protection",
+        [0x28200000, 0, 0x08000000, 0],
+        Data::Reads(4096),
+        Plan::Refuse(Sense::InvalidField),
+    ),
+    (
+        "WRITE with protection",
+        [0x2a800000, 0, 0x08000000, 0],
+        Data::Writes(4096),
+        Plan::Refuse(Sense::InvalidField),
+    ),
+    (
+        "READ with other options",
+        [0x281f0000, 0, 0x08000000, 0],
+        Data::Reads(4096),
+        Plan::Give(4096),
+    ),
+    (
+        "list of pages",
+        [0x12010000, 0xff000000, 0, 0],
+        Data::Reads(255),
+        Plan::Give(7),
+    ),
+    (
+        "page b0",
+        [0x1201b000, 0xff000000, 0, 0],
+        Data::Reads(255),
+        Plan::Refuse(Sense::InvalidField),
+    ),
+    (
+        "page without its bit",
+        [0x12008000, 0xff000000, 0, 0],
+        Data::Reads(255),
+        Plan::Refuse(Sense::InvalidField),
+    ),
+    (
+        "report 3",
+        [0xa0000300, 0, 0x00100000, 0],
+        Data::Reads(16),
+        Plan::Refuse(Sense::InvalidField),
+    ),
+    (
+        "8,192 blocks of 2,048",
+        [0x88000000, 0, 0, 0x20000000],
+        Data::Reads(4194304),
+        Plan::Refuse(Sense::OutOfRange),
+    ),
+    (
+        "8,193 blocks",
+        [0x88000000, 0, 0x00000000, 0x20010000],
+        Data::Reads(4194816),
+        Plan::Refuse(Sense::InvalidField),
+    ),
+    (
+        "last block",
+        [0x28000000, 0x07ff0000, 0x01000000, 0],
+        Data::Reads(512),
+        Plan::Give(512),
+    ),
+    (
+        "two at the last block",
+        [0x28000000, 0x07ff0000, 0x02000000, 0],
+        Data::Reads(1024),
+        Plan::Refuse(Sense::OutOfRange),
+    ),
+    (
+        "none at the end",
+        [0x28000000, 0x08000000, 0, 0],
+        Data::Silent,
+        Plan::Give(0),
+    ),
+    (
+        "one at the end",
+        [0x28000000, 0x08000000, 0x01000000, 0],
+        Data::Reads(512),
+        Plan::Refuse(Sense::OutOfRange),
+    ),
+    (
+        "none past the end",
+        [0x28000000, 0x08010000, 0, 0],
+        Data::Silent,
+        Plan::Refuse(Sense::OutOfRange),
+    ),
+    (
+        "block 2^64 - 1",
+        [0x8800ffff, 0xffffffff, 0xffff0000, 0x00010000],
+        Data::Reads(512),
+        Plan::Refuse(Sense::OutOfRange),
+    ),
+    ("WRITE", WRITE_8, Data::Writes(4096), Plan::Take(4096)),
+    (
+        "WRITE of another length",
+        WRITE_8,
+        Data::Writes(4095),
+        Plan::Refuse(Sense::InvalidField),
+    ),
+    (
+        "WRITE without data",
+        WRITE_8,
+        Data::Neither(4096),
+        Plan::Refuse(Sense::InvalidField),
+    ),
+    (
+        "WRITE past the end",
+        [0x2a000000, 0x07ff0000, 0x02000000, 0],
+        Data::Writes(1024),
+        Plan::Refuse(Sense::OutOfRange),
+    ),
+    (
+        "WRITE of none",
+        [0x2a000000, 0x08000000, 0, 0],
+        Data::Silent,
+        Plan::Take(0),
+    ),
+    (
+        "WRITE of none, W=1",
+        [0x2a000000, 0x08000000, 0, 0],
+        Data::Writes(0),
+        Plan::Take(0),
+    ),
+    (
+        "WRITE of none with data",
+        [0x2a000000, 0x08000000, 0, 0],
+        Data::Writes(512),
+        Plan::Refuse(Sense::InvalidField),
+    ),
+];
+
+/// Commands to unit 1.
+const PLANS_ELSEWHERE: &[(&str, [u32; 4], Data, Plan)] = &[
+    (
+        "unknown code at unit 1",
+        [0x35000000, 0, 0, 0],
+        Data::Silent,
+        Plan::Refuse(Sense::InvalidCode),
+    ),
+    (
+        "standard data of unit 1",
+        INQUIRY,
+        Data::Reads(36),
+        Plan::Give(36),
+    ),
+    (
+        "page of unit 1",
+        [0x12010000, 0xff000000, 0, 0],
+        Data::Reads(255),
+        Plan::Refuse(Sense::NoUnit),
+    ),
+    (
+        "READ at unit 1",
+        READ_8,
+        Data::Reads(4096),
+        Plan::Refuse(Sense::NoUnit),
+    ),
+];
+
+#[test]
+fn plans(rt: HostRuntime) {
+    for (name, words, data, want) in PLANS {
+        same(&rt, &plan(&order_of(*words, *data), 2048), want, &name);
+    }
+    for (name, words, data, want) in PLANS_ELSEWHERE {
+        let order = elsewhere(order_of(*words, *data));
+        same(&rt, &plan(&order, 2048), want, &name);
+    }
+}
+
+/// Commands to unit 0 of 2,048 blocks of 00: the sense, the bytes and the residual that they give.
+const OUTCOMES: &[(&str, [u32; 4], Data, Option<Sense>, &[u8], Residual)] = &[
+    (
+        "short INQUIRY",
+        [0x12000000, 0x05000000, 0, 0],
+        Data::Reads(36),
+        None,
+        b"\x00\x00\x06\x12\x1f",
+        Residual::Under(31),
+    ),
+    (
+        "serial number",
+        [0x12018000, 0xff000000, 0, 0],
+        Data::Reads(8),
+        None,
+        b"\x00\x80\x00\x080000",
+        Residual::Over(4),
+    ),
+    (
+        "READ CAPACITY(10)",
+        [0x25000000, 0, 0, 0],
+        Data::Reads(8),
+        None,
+        b"\x00\x00\x07\xff\x00\x00\x02\x00",
+        Residual::Exact,
+    ),
+    (
+        "READ CAPACITY(16) of 12 bytes",
+        [0x9e100000, 0, 0x00000000, 0x000c0000],
+        Data::Reads(32),
+        None,
+        b"\x00\x00\x00\x00\x00\x00\x07\xff\x00\x00\x02\x00",
+        Residual::Under(20),
+    ),
+    (
+        "REPORT LUNS 0",
+        [0xa0000000, 0, 0x00100000, 0],
+        Data::Reads(16),
+        None,
+        b"\x00\x00\x00\x08\x00\x00\x00\x00\x00\x00\x00\x00\x00\x00\x00\x00",
+        Residual::Exact,
+    ),
+    (
+        "REPORT LUNS 1",
+        [0xa0000100, 0, 0x00100000, 0],
+        Data::Reads(16),
+        None,
+        b"\x00\x00\x00\x00\x00\x00\x00\x00",
+        Residual::Under(8),
+    ),
+    (
+        "READ of more than is expected",
+        [0x28000000, 0, 0x02000000, 0],
+        Data::Reads(4),
+        None,
+        b"\x00\x00\x00\x00",
+        Residual::Over(1020),
+    ),
+    (
+        "TEST UNIT READY",
+        [0, 0, 0, 0],
+        Data::Silent,
+        None,
+        b"",
+        Residual::Exact,
+    ),
+    (
+        "two at the last block",
+        [0x28000000, 0x07ff0000, 0x02000000, 0],
+        Data::Reads(1024),
+        Some(Sense::OutOfRange),
+        b"",
+        Residual::Under(1024),
+    ),
+    (
+        "data for TEST UNIT READY",
+        [0, 0, 0, 0],
+        Data::Writes(512),
+        Some(Sense::InvalidField),
+        b"",
+        Residual::Exact,
+    ),
+    (
+        "data for an unknown code",
+        [0x35000000, 0, 0, 0],
+        Data::Writes(512),
+        Some(Sense::InvalidCode),
+        b"",
+        Residual::Under(512),
+    ),
+    (
+        "WRITE of none that expects data",
+        [0x2a000000, 0, 0, 0],
+        Data::Neither(512),
+        Some(Sense::InvalidField),
+        b"",
+        Residual::Exact,
+    ),
+];
+
+/// What a command gave: GOOD, or CHECK CONDITION with this sense.
+fn check_outcome(
+    rt: &impl Abort,
+    name: &str,
+    outcome: &Outcome,
+    sense: Option<Sense>,
+    bytes: &[u8],
+    residual: Residual,
+) {
+    let status = if sense.is_none() { 0x00 } else { 0x02 };
+    same(rt, &outcome.status, &status, &name);
+    same(rt, &outcome.sense, &sense, &name);
+    same(rt, &outcome.bytes.as_slice(), &bytes, &name);
+    same(rt, &outcome.residual, &residual, &name);
+}
+
+#[test]
+fn outcomes(rt: HostRuntime) -> Result<(), Fail> {
+    let mut store = MemoryStore::new(rt.alloc(), 2048)?;
+    for (name, words, data, sense, bytes, residual) in OUTCOMES {
+        let order = order_of(*words, *data);
+        let outcome = run(&rt, rt.alloc(), &order, &[], &mut store)?;
+        check_outcome(&rt, name, &outcome, *sense, bytes, *residual);
+    }
+    Ok(())
+}
+
+#[test]
+fn standard_data_of_unit_1(rt: HostRuntime) -> Result<(), Fail> {
+    let mut store = MemoryStore::new(rt.alloc(), 2048)?;
+    let order = elsewhere(order([0x12000000, 0x05000000, 0, 0], true, false, 5));
+    let outcome = run(&rt, rt.alloc(), &order, &[], &mut store)?;
+    let bytes = b"\x7f\x00\x06\x12\x1f";
+    check_outcome(&rt, "INQUIRY", &outcome, None, bytes, Residual::Exact);
+    Ok(())
+}
+
+/// Asserts that each order takes the bytes beside it.
+fn check_supplied(rt: &impl Abort, orders: &[(Order, Bytes)], blocks: u64)
+    ensures { AreSupplied blocks orders.now }
+{
+    for (order, bytes) in orders {
+        let supplied = is_supplied(order, bytes.as_slice(), blocks);
+        assert!(rt; supplied);
+    }
+}
+
+/// Reads of what two blocks at 63 are written over, at the end and past it.
+const READS: &[([u32; 4], u32)] = &[
+    ([0x28000000, 0x003e0000, 0x04000000, 0], 2048),
+    ([0x28000000, 0x00810000, 0x01000000, 0], 512),
+    ([0x28000000, 0x00810000, 0x02000000, 0], 1024),
+];
+
+/// What a write of two blocks of 5a at 63 and these reads give on 130 blocks of 00: the status, the
+/// sense, how many bytes, and the residual.
+const TOLD: &[(u8, Option<Sense>, usize, Residual)] = &[
+    (0x00, None, 0, Residual::Exact),
+    (0x00, None, 2048, Residual::Exact),
+    (0x00, None, 512, Residual::Exact),
+    (0x02, Some(Sense::OutOfRange), 0, Residual::Under(1024)),
+];
+
+/// That write and those reads.
+fn four_orders(alloc: Global) -> Result<Vec<(Order, Bytes)>, AllocError> {
+    let data = Bytes::from_vec(vec![in alloc; 0x5au8; 1024]?);
+    let write = order([0x2a000000, 0x003f0000, 0x02000000, 0], false, true, 1024);
+    let mut orders = Vec::new(alloc);
+    orders.push((write, data))?;
+    for (words, expected) in READS {
+        let read = order(*words, true, false, *expected);
+        orders.push((read, Bytes::from_vec(Vec::new(alloc))))?;
+    }
+    Ok(orders)
+}
+
+/// Runs them.
+fn run_four<S: BlockStore>(
+    rt: &impl Abort,
+    alloc: Global,
+    store: &mut S,
+) -> Result<Vec<Outcome>, AllocError> {
+    let orders = four_orders(alloc)?;
+    check_supplied(rt, &orders, store.blocks());
+    run_orders(alloc, &orders, store)
+}
+
+/// The bytes that were read: of four blocks the middle two are of 5a, and a block of 00.
+fn check_reads(rt: &impl Abort, four: &[u8], one: &[u8]) {
+    for (i, byte) in four.iter().enumerate() {
+        let want = if i / 512 == 1 || i / 512 == 2 {
+            0x5a
+        } else {
+            0x00
+        };
+        same(rt, byte, &want, &i);
+    }
+    for byte in one {
+        same(rt, byte, &0x00, &"one block");
+    }
+}
+
+/// What the four gave.
+fn check_told(rt: &impl Abort, told: &[Outcome]) {
+    assert_eq!(rt; told.len(), 4);
+    for ((status, sense, length, residual), outcome) in TOLD.iter().zip(told.iter()) {
+        same(rt, &outcome.status, status, &"status");
+        same(rt, &outcome.sense, sense, &"sense");
+        same(rt, &outcome.bytes.as_slice().len(), length, &"length");
+        same(rt, &outcome.residual, residual, &"residual");
+    }
+    check_reads(rt, told[1].bytes.as_slice(), told[2].bytes.as_slice());
+}
+
+#[test]
+fn either_store(rt: HostRuntime) -> Result<(), Fail> {
+    let mut memory = MemoryStore::new(rt.alloc(), 130)?;
+    let mut sparse = SparseStore::new(rt.alloc(), 130);
+    let first = run_four(&rt, rt.alloc(), &mut memory)?;
+    let second = run_four(&rt, rt.alloc(), &mut sparse)?;
+    check_told(&rt, &first);
+    check_told(&rt, &second);
+    Ok(())
+}
+
+/// Asserts that a block is of one byte alone.
+fn check_block<S: BlockStore>(rt: &impl Abort, store: &mut S, lba: u64, want: u8) {
+    assert!(rt; lba < store.blocks());
+    let mut block = [0xff; 512];
+    let read = store.read(lba, &mut block);
+    assert!(rt; read.is_ok(), "block {lba}");
+    same(rt, &block, &[want; 512], &lba);
+}
+
+#[test]
+fn sparse_store(rt: HostRuntime) -> Result<(), Fail> {
+    let mut store = SparseStore::new(rt.alloc(), 130);
+    let written = store.write(63, &[0x5a; 1024]);
+    // Where memory runs out, also for the second extent alone, no block has changed.
+    let want = if written.is_ok() { 0x5a } else { 0x00 };
+    for (lba, byte) in [(0, 0), (62, 0), (63, want), (64, want), (65, 0), (129, 0)] {
+        check_block(&rt, &mut store, lba, byte);
+    }
+    assert_ne!(rt; written, Err(StoreFault::Device));
+    same(&rt, &store.failures(), &0, &"failures");
+    Ok(written?)
+}
+
+#[test]
+fn a_failing_read(rt: HostRuntime) -> Result<(), Fail> {
+    let mut store = FailAt::new(MemoryStore::new(rt.alloc(), 8)?, 0);
+    let order = order([0x28000000, 0, 0x01000000, 0], true, false, 512);
+    let first = run(&rt, rt.alloc(), &order, &[], &mut store)?;
+    let sense = Some(Sense::ReadError);
+    check_outcome(&rt, "first", &first, sense, b"", Residual::Under(512));
+    same(&rt, &store.failures(), &1, &"failures");
+    let second = run(&rt, rt.alloc(), &order, &[], &mut store)?;
+    check_outcome(&rt, "second", &second, None, &[0x00; 512], Residual::Exact);
+    same(&rt, &store.failures(), &1, &"failures");
+    Ok(())
+}
+
+/// Blocks, and the byte of which each is after the first write and after the second.
+const WRITTEN: &[(u64, u8, u8)] = &[(0, 0, 0), (1, 0x5a, 0x5a), (2, 0, 0x5a), (3, 0, 0)];
+
+#[test]
+fn a_failing_write(rt: HostRuntime) -> Result<(), Fail> {
+    let mut store = FailAt::new(MemoryStore::new(rt.alloc(), 8)?, 0);
+    let order = order([0x2a000000, 0x00010000, 0x02000000, 0], false, true, 1024);
+    let first = run(&rt, rt.alloc(), &order, &[0x5a; 1024], &mut store)?;
+    let sense = Some(Sense::WriteError);
+    check_outcome(&rt, "first", &first, sense, b"", Residual::Under(1024));
+    for (lba, byte, _) in WRITTEN {
+        check_block(&rt, &mut store, *lba, *byte);
+    }
+    let second = run(&rt, rt.alloc(), &order, &[0x5a; 1024], &mut store)?;
+    check_outcome(&rt, "second", &second, None, b"", Residual::Exact);
+    for (lba, _, byte) in WRITTEN {
+        check_block(&rt, &mut store, *lba, *byte);
+    }
+    Ok(())
+}
