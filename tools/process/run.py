@@ -1,0 +1,200 @@
+#!/usr/bin/env python3
+"""Runs the built program as a process, and looks at what it writes, its fault line and its status.
+
+    tools/process/run.py [PROGRAM]
+
+PROGRAM is crates/lanthovur/out/lanthovur if none is named; `./lanthovur </dev/null` builds it. Each row has its words,
+its input, and what is due on standard output and standard error, worked out by hand from docs/FORMATS.md; of help and
+usage it is a word that stands there. The last line is 'N passed, M failed'. It takes some seconds.
+"""
+import os
+import socket
+import subprocess
+import sys
+import tempfile
+from dataclasses import dataclass
+from typing import Optional
+
+TOP = os.path.dirname(os.path.dirname(os.path.dirname(os.path.abspath(__file__))))
+# A process that takes longer hangs.
+SECONDS = 20
+
+
+def of_hex(*rows):
+    """The bytes of rows of hex digits and blanks."""
+    return bytes.fromhex(" ".join(rows))
+
+
+# A NOP-Out with garbage in its free bits and three bytes of data, its canonical form, and its line.
+PING = of_hex(
+    "c0800000 00000003 11111111 11111111 00000001 ffffffff 00000005 00000002",
+    "00000000 00000000 00000000 00000000 616263ff",
+)
+CANONICAL = of_hex(
+    "40800000 00000003 00000000 00000000 00000001 ffffffff 00000005 00000002",
+    "00000000 00000000 00000000 00000000 61626300",
+)
+LINE = b"0 NOP-Out i=1 itt=00000001 ttt=ffffffff cmdsn=00000005 expstatsn=00000002 data=3\n"
+HEADER = "{} 00000000 00000000 00000000 00000000 00000000 00000000 00000000 00000000 00000000 00000000"
+UNKNOWN = of_hex(HEADER.format("10800000 00000000"))
+ADDITIONAL = of_hex(HEADER.format("40800000 01000000"))
+LONG_LOGIN = of_hex(HEADER.format("43810000 00002001"))
+# A SCSI Command of 16,777,215 bytes, of which none comes.
+LONG_COMMAND = of_hex(HEADER.format("01800000 00ffffff"))
+
+# The script of the README, and what comes of it over 2,048 blocks.
+SCRIPT = b"write 0 8 5a\nread 0 1\ncapacity\nread 2047 2\nlogout\n"
+REPORT = (
+    b"login\ngood 0\ngood 512 5a5a5a5a5a5a5a5a5a5a5a5a5a5a5a5a\ngood 8 000007ff00000200\n"
+    b"check 5/21/00 under 1024\nlogout\n"
+)
+
+
+@dataclass
+class Row:
+    """Words and input, and what is due. `says` is a word that standard error has, where it isn't one known line."""
+
+    name: str
+    words: list
+    given: bytes = b""
+    out: bytes = b""
+    line: bytes = b""
+    status: int = 0
+    says: Optional[bytes] = None
+
+
+LOOP = ["loop", "--blocks", "2048", "--piece", "48"]
+ANSWER = ["answer", "--blocks", "8"]
+ROWS = [
+    Row("no words, no input", [], b"", b"\n"),
+    Row("no words", [], PING.hex().encode(), CANONICAL.hex().encode() + b"\n"),
+    Row("a canonical stream", ["normalise"], PING + PING, CANONICAL + CANONICAL),
+    Row("a line of each PDU", ["show"], PING, LINE),
+    Row("a line of each PDU of hex text", ["show", "--hex"], PING.hex().encode(), LINE),
+    Row("a canonical text", ["normalise", "--text"], b"B=0x10\0A=5\0\0\0", b"A=5\0B=0x10\0"),
+    Row("no answers to nothing", ANSWER),
+    Row("a script", LOOP, SCRIPT, REPORT),
+    Row("no connection is served", ["serve", "--port", "0", "--blocks", "1", "--sessions", "0"], b"", b"listening\n"),
+    # Input that is refused.
+    Row("an unknown opcode", ["normalise"], PING + UNKNOWN, CANONICAL, b"stream: unknown opcode at 52\n", 1),
+    Row("an additional header", ["normalise"], PING + ADDITIONAL, CANONICAL, b"stream: additional header at 52\n", 1),
+    Row("a long login", ["show"], PING + LONG_LOGIN, LINE, b"stream: login segment too long at 52\n", 1),
+    Row("an end within a PDU", ["show"], PING + PING[:47], LINE, b"stream: truncated at 52\n", 1),
+    Row("a segment over the limit", ANSWER, LONG_COMMAND, b"", b"stream: over limit at 0\n", 1),
+    Row("no hex", [], b"4g", b"", b"input: not hex\n", 1),
+    Row("a text without its end", ["normalise", "--text"], b"A=5", b"", b"text: unterminated at 0\n", 1),
+    Row("a text without equals", ["normalise", "--text"], b"A=5\0B\0", b"", b"text: no equals at 4\n", 1),
+    Row("a bad key", ["normalise", "--text"], b"A=5\0b,=5\0", b"", b"text: bad key at 4\n", 1),
+    Row("a repeated key", ["normalise", "--text"], b"A=5\0A=5\0", b"", b"text: repeated key at 4\n", 1),
+    Row("a text that is too long", ["normalise", "--text"], b"\0" * 16385, b"", b"text: over 16384 bytes\n", 1),
+    Row("a ping before the login", ANSWER, CANONICAL, b"", b"protocol: rule 1\n", 1),
+    Row("a line that is none", LOOP, b"capacity\nread 0\n", b"", b"script: line 2\n", 1),
+    # Words that are no job.
+    Row("help", ["--help"], says=b"Usage: lanthovur", status=2),
+    Row("an unknown word", ["shoe"], says=b"shoe", status=2),
+    Row("no blocks", ["answer"], says=b"--blocks", status=2),
+    Row("too few blocks", ["answer", "--blocks", "0"], says=b"is a number from 1 to", status=2),
+    Row("a port that is none", ["serve", "--port", "65536", "--blocks", "1", "--sessions", "0"], says=b"--port", status=2),
+    Row("a piece of no bytes", ["loop", "--blocks", "1", "--piece", "0"], says=b"--piece", status=2),
+    Row("words that are not UTF-8", [b"\xff"], says=b"UTF-8", status=2),
+]
+
+PASSED, FAILED = [], []
+
+
+def look(name, is_well, seen):
+    """Notes a row, and tells what was seen where it is not well."""
+    (PASSED if is_well else FAILED).append(name)
+    if not is_well:
+        print(f"{name}: {seen}")
+
+
+def run(program, row, **streams):
+    """Runs the program on a row, in an empty folder."""
+    streams = {"input": row.given, "stdout": subprocess.PIPE, **streams}
+    with tempfile.TemporaryDirectory() as room:
+        return subprocess.run([program, *row.words], stderr=subprocess.PIPE, timeout=SECONDS, cwd=room, **streams)
+
+
+def check(program, row):
+    """A row of the table."""
+    ran = run(program, row)
+    is_said = ran.stderr == row.line if row.says is None else row.says in ran.stderr
+    is_well = (ran.stdout, ran.returncode) == (row.out, row.status) and is_said
+    look(row.name, is_well, (ran.stdout[-200:], ran.stderr[-200:], ran.returncode))
+
+
+def check_full_device(program):
+    """Nothing can be written to the standard output."""
+    for row in ROWS:
+        if row.out and row.status == 0:
+            with open("/dev/full", "wb") as full:
+                ran = run(program, row, stdout=full)
+            is_well = (ran.stderr, ran.returncode) == (b"write failed\n", 4)
+            look(f"{row.name}, to a full device", is_well, (ran.stderr, ran.returncode))
+
+
+def check_closed_reader(program):
+    """Who would read the standard output has gone."""
+    for row in ROWS:
+        if row.out and row.status == 0:
+            reader, writer = os.pipe()
+            os.close(reader)
+            ran = run(program, row, stdout=writer)
+            os.close(writer)
+            is_well = (ran.stderr, ran.returncode) == (b"write failed\n", 4)
+            look(f"{row.name}, to a closed reader", is_well, (ran.stderr, ran.returncode))
+
+
+def check_failed_read(program):
+    """The standard input is a folder, which can't be read."""
+    for words in ([], ["show"], ["normalise"], ["normalise", "--text"], ANSWER, LOOP):
+        folder = os.open("/", os.O_RDONLY)
+        ran = run(program, Row("", words), input=None, stdin=folder)
+        os.close(folder)
+        is_well = (ran.stdout, ran.stderr, ran.returncode) == (b"", b"read failed\n", 4)
+        look(f"{words}, a read that fails", is_well, (ran.stdout, ran.stderr, ran.returncode))
+
+
+def check_taken_port(program):
+    """The port is another's."""
+    with socket.create_server(("127.0.0.1", 0)) as other:
+        words = ["serve", "--port", str(other.getsockname()[1]), "--blocks", "1", "--sessions", "1"]
+        ran = run(program, Row("", words))
+    is_well = (ran.stdout, ran.stderr, ran.returncode) == (b"", b"network failed\n", 4)
+    look("a port that is taken", is_well, (ran.stdout, ran.stderr, ran.returncode))
+
+
+def check_two_sessions(program):
+    """Two connections: one breaks a rule, whose line goes to standard error, and one ends at once."""
+    with socket.create_server(("127.0.0.1", 0)) as other:
+        port = other.getsockname()[1]
+    words = ["serve", "--port", str(port), "--blocks", "1", "--sessions", "2"]
+    streams = {"stdout": subprocess.PIPE, "stderr": subprocess.PIPE}
+    with subprocess.Popen([program, *words], stdin=subprocess.DEVNULL, **streams) as service:
+        told = service.stdout.readline()
+        for given in (CANONICAL, b""):
+            with socket.create_connection(("127.0.0.1", port), timeout=SECONDS) as peer:
+                peer.sendall(given)
+                peer.shutdown(socket.SHUT_WR)
+                while peer.recv(4096):
+                    pass
+        rest, line = service.communicate(timeout=SECONDS)
+    is_well = (told + rest, line, service.returncode) == (b"listening\n", b"protocol: rule 1\n", 0)
+    look("two sessions", is_well, (told + rest, line, service.returncode))
+
+
+def main(words):
+    program = os.path.abspath(words[0]) if words else f"{TOP}/crates/lanthovur/out/lanthovur"
+    if not os.path.isfile(program):
+        sys.exit(f"there is no program {program}: `./lanthovur </dev/null` builds it")
+    for row in ROWS:
+        check(program, row)
+    for more in (check_full_device, check_closed_reader, check_failed_read, check_taken_port, check_two_sessions):
+        more(program)
+    print(f"{len(PASSED)} passed, {len(FAILED)} failed")
+    return 1 if FAILED else 0
+
+
+if __name__ == "__main__":
+    sys.exit(main(sys.argv[1:]))
