@@ -23,6 +23,8 @@ import tempfile
 TOP = os.path.dirname(os.path.dirname(os.path.dirname(os.path.abspath(__file__))))
 PROGRAM = f"{TOP}/crates/lanthovur/out/lanthovur"
 ROOM = tempfile.mkdtemp()
+# A process that takes longer hangs.
+SECONDS = 60
 
 # A read of the eight blocks that the session "writes" has written, in sequences of MaxBurstLength bytes.
 READ_BACK = """\
@@ -64,7 +66,7 @@ def run(words, data, fail_at=0):
     with open(f"{ROOM}/input", "wb") as file:
         file.write(data)
     with open(f"{ROOM}/input", "rb") as file:
-        ran = subprocess.run([PROGRAM, *words], stdin=file, env=env, capture_output=True)
+        ran = subprocess.run([PROGRAM, *words], stdin=file, env=env, capture_output=True, timeout=SECONDS)
     return (ran.returncode, ran.stdout, ran.stderr), *told()
 
 
@@ -77,14 +79,17 @@ def run_service(words, data, fail_at=0):
     pipes = {"stdout": subprocess.PIPE, "stderr": subprocess.PIPE}
     with subprocess.Popen([PROGRAM, *words], env=refusing(fail_at), **pipes) as service:
         if service.stdout.readline() == b"listening\n":
-            with socket.create_connection(("127.0.0.1", port)) as peer:
-                try:
+            try:
+                with socket.create_connection(("127.0.0.1", port), timeout=SECONDS) as peer:
                     peer.sendall(data)
                     peer.shutdown(socket.SHUT_WR)
                     while part := peer.recv(4096):
                         came += part
-                except (ConnectionResetError, BrokenPipeError):
-                    pass
+            except TimeoutError:
+                raise
+            except OSError:
+                # a service that ran out of memory is gone before the connection comes, or in the midst of it
+                pass
         err = service.stderr.read()
     return (service.returncode, came, err), *told()
 
