@@ -8,8 +8,10 @@ mod streams;
 
 use hex::FromHexError;
 use std::alloc::{AllocError, Global};
+use std::fmt::Debug;
 use std::io;
 use std::io::{Read, Write};
+use std::process::Abort;
 use std::test::Fail;
 
 // The first request of a login, and the first bytes of another.
@@ -31,6 +33,11 @@ const REFUSAL: &str =
 // A ping before any login.
 const PING: &str =
     "40800000 00000000 00000000 00000000 00000001 ffffffff 00000001 00000003 00000000 00000000 00000000 00000000";
+
+// Asserts that a value is the one that is due, in a row of which this tells.
+fn same<T: PartialEq + Debug>(rt: &impl Abort, value: &T, due: &T, row: &impl Debug) {
+    assert_eq!(rt; *value, *due, "{row:?}");
+}
 
 // The bytes that fill a segment of this length up to whole words.
 fn padding_of(len: usize) -> &'static [u8] {

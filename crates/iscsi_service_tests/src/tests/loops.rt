@@ -1,6 +1,6 @@
 //! Loops of both ends over a socket: scripts, and the lines that they write.
 
-use super::{Broken, Full};
+use super::{Broken, Full, same};
 use iscsi_service::{LONGEST_PIECE, ServeFault, run_loop};
 use std::alloc::{AllocError, Global};
 use std::test::Fail;
@@ -104,8 +104,8 @@ fn refusal_of(rt: &HostRuntime, script: &[u8], most: usize) -> (Option<u64>, usi
 fn loops_in_pieces(rt: HostRuntime) -> Result<(), Fail> {
     for piece in [1, 47, 48, 4096] {
         let (result, out) = run(&rt, BLOCKS.as_bytes(), piece);
-        assert!(rt; result.is_ok(), "{piece}");
-        assert_eq!(rt; out.as_slice(), BLOCKS_LINES.as_bytes(), "{piece}");
+        same(&rt, &result.is_ok(), &true, &piece);
+        same(&rt, &out.as_slice(), &BLOCKS_LINES.as_bytes(), &piece);
     }
     Ok(())
 }
@@ -114,8 +114,8 @@ fn loops_in_pieces(rt: HostRuntime) -> Result<(), Fail> {
 fn loops_over_a_socket(rt: HostRuntime) -> Result<(), Fail> {
     for (name, script, want) in SCRIPTS {
         let (result, out) = run(&rt, script.as_bytes(), 48);
-        assert!(rt; result.is_ok(), "{name}");
-        assert_eq!(rt; out.as_slice(), want.as_bytes(), "{name}");
+        same(&rt, &result.is_ok(), &true, name);
+        same(&rt, &out.as_slice(), &want.as_bytes(), name);
     }
     Ok(())
 }
@@ -132,7 +132,7 @@ fn script_of(alloc: Global, line: &str) -> Result<Vec<u8>, AllocError> {
 fn lines_that_are_refused(rt: HostRuntime) -> Result<(), Fail> {
     for line in REFUSED {
         let script = script_of(rt.alloc(), line)?;
-        assert_eq!(rt; refusal_of(&rt, &script, 48), (Some(2), 0), "{line:?}");
+        same(&rt, &refusal_of(&rt, &script, 48), &(Some(2), 0), line);
     }
     Ok(())
 }
@@ -149,7 +149,12 @@ fn digits(alloc: Global, start: &[u8], bytes: usize) -> Result<Vec<u8>, AllocErr
 #[test]
 fn a_ping_too_long(rt: HostRuntime) -> Result<(), Fail> {
     let script = digits(rt.alloc(), b"ping ", 8193)?;
-    assert_eq!(rt; refusal_of(&rt, &script, 4096), (Some(1), 0));
+    same(
+        &rt,
+        &refusal_of(&rt, &script, 4096),
+        &(Some(1), 0),
+        &"8,193 bytes",
+    );
     Ok(())
 }
 
@@ -159,8 +164,8 @@ fn the_longest_ping(rt: HostRuntime) -> Result<(), Fail> {
     let mut want = digits(rt.alloc(), b"login\nping ", 8192)?;
     want.push(b'\n')?;
     let (result, out) = run(&rt, &script, 4096);
-    assert!(rt; result.is_ok());
-    assert_eq!(rt; out.as_slice(), want.as_slice());
+    same(&rt, &result.is_ok(), &true, &"8,192 bytes");
+    same(&rt, &out.as_slice(), &want.as_slice(), &"8,192 bytes");
     Ok(())
 }
 
@@ -181,11 +186,26 @@ fn third_line(alloc: Global) -> Result<Vec<u8>, AllocError> {
 #[test]
 fn the_longest_script(rt: HostRuntime) -> Result<(), Fail> {
     let script = long_script(rt.alloc(), 1_048_576)?;
-    assert_eq!(rt; refusal_of(&rt, &script, 48), (Some(1), 0));
+    same(
+        &rt,
+        &refusal_of(&rt, &script, 48),
+        &(Some(1), 0),
+        &"the longest",
+    );
     let script = long_script(rt.alloc(), 1_048_577)?;
-    assert_eq!(rt; refusal_of(&rt, &script, 48), (Some(2), 0));
+    same(
+        &rt,
+        &refusal_of(&rt, &script, 48),
+        &(Some(2), 0),
+        &"one byte more",
+    );
     let script = third_line(rt.alloc())?;
-    assert_eq!(rt; refusal_of(&rt, &script, 48), (Some(3), 0));
+    same(
+        &rt,
+        &refusal_of(&rt, &script, 48),
+        &(Some(3), 0),
+        &"in the third line",
+    );
     Ok(())
 }
 
@@ -193,8 +213,13 @@ fn the_longest_script(rt: HostRuntime) -> Result<(), Fail> {
 fn a_script_that_fails(rt: HostRuntime) -> Result<(), Fail> {
     let mut out = Vec::new(rt.alloc());
     let result = run_loop(&rt, 8, 48, &mut Broken(Some(b"tur 0\n")), &mut out);
-    assert!(rt; matches!(result, Err(ServeFault::Read)));
-    assert_eq!(rt; out.len(), 0);
+    let is_read = matches!(result, Err(ServeFault::Read));
+    same(
+        &rt,
+        &(is_read, out.len()),
+        &(true, 0),
+        &"a script that fails",
+    );
     Ok(())
 }
 
@@ -202,6 +227,7 @@ fn a_script_that_fails(rt: HostRuntime) -> Result<(), Fail> {
 fn lines_that_fail(rt: HostRuntime) -> Result<(), Fail> {
     let mut source = b"tur 0\n".as_slice();
     let result = run_loop(&rt, 8, 48, &mut source, &mut Full);
-    assert!(rt; matches!(result, Err(ServeFault::Write)));
+    let is_write = matches!(result, Err(ServeFault::Write));
+    same(&rt, &is_write, &true, &"lines that fail");
     Ok(())
 }

@@ -1,6 +1,6 @@
 //! Sessions over sockets: a connection to a listener of the test's own.
 
-use super::{CUT, FIRST_ANSWER, NAMELESS, PING, REFUSAL, bytes_of};
+use super::{CUT, FIRST_ANSWER, NAMELESS, PING, REFUSAL, bytes_of, same};
 use iscsi_initiator::InitiatorFault;
 use iscsi_service::{ServeFault, configuration, serve_one};
 use iscsi_stream::StreamFault;
@@ -92,8 +92,8 @@ fn sessions_over_a_socket(rt: HostRuntime) -> Result<(), Fail> {
         let mut store = SparseStore::new(rt.alloc(), 8);
         let (result, out) = exchange(&rt, rt.alloc(), &mut store, requests, *ends)?;
         let want = bytes_of(rt.alloc(), answers)?;
-        assert_eq!(rt; line_of(rt.alloc(), result)?.as_str(), *line, "{requests}");
-        assert_eq!(rt; out.as_slice(), want.as_slice(), "{requests}");
+        same(&rt, &line_of(rt.alloc(), result)?.as_str(), line, requests);
+        same(&rt, &out.as_slice(), &want.as_slice(), requests);
     }
     Ok(())
 }
@@ -104,8 +104,8 @@ fn a_session_reads_what_an_earlier_one_wrote(rt: HostRuntime) -> Result<(), Fail
     for (requests, answers, ends) in [(WRITE, WRITE_ANSWERS, false), (READ, READ_ANSWERS, true)] {
         let (result, out) = exchange(&rt, rt.alloc(), &mut store, requests, ends)?;
         let want = bytes_of(rt.alloc(), answers)?;
-        assert!(rt; result.is_ok());
-        assert_eq!(rt; out.as_slice(), want.as_slice());
+        same(&rt, &result.is_ok(), &true, &requests);
+        same(&rt, &out.as_slice(), &want.as_slice(), &requests);
     }
     Ok(())
 }
@@ -143,7 +143,7 @@ fn told(alloc: Global, fault: &ServeFault) -> Result<(String, u8), AllocError> {
 fn lines_and_statuses_of_faults(rt: HostRuntime) -> Result<(), Fail> {
     for (fault, line, status) in FAULTS {
         let (text, found) = told(rt.alloc(), &fault)?;
-        assert_eq!(rt; (text.as_str(), found), (line, status));
+        same(&rt, &(text.as_str(), found), &(line, status), &line);
     }
     Ok(())
 }

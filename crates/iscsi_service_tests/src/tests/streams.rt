@@ -1,6 +1,6 @@
 //! Sessions of a target over a reader and a writer, and those that fail.
 
-use super::{Broken, CUT, FIRST_ANSWER, Full, NAMELESS, PING, REFUSAL, bytes_of};
+use super::{Broken, CUT, FIRST_ANSWER, Full, NAMELESS, PING, REFUSAL, bytes_of, same};
 use iscsi_service::{SessionFault, configuration, serve_stream};
 use iscsi_stream::StreamFault;
 use iscsi_target::TargetFault;
@@ -46,8 +46,8 @@ fn sessions_over_a_stream(rt: HostRuntime) -> Result<(), Fail> {
         let mut source = stream.as_slice();
         let mut out = Vec::new(rt.alloc());
         let result = serve(rt.alloc(), &mut source, &mut out)?;
-        assert_eq!(rt; result, *want, "{name}");
-        assert_eq!(rt; out.as_slice(), answers.as_slice(), "{name}");
+        same(&rt, &result, want, name);
+        same(&rt, &out.as_slice(), &answers.as_slice(), name);
     }
     Ok(())
 }
@@ -59,8 +59,8 @@ fn a_reader_that_fails(rt: HostRuntime) -> Result<(), Fail> {
     // What was read is answered before the read that fails.
     let mut out = Vec::new(rt.alloc());
     let result = serve(rt.alloc(), &mut Broken(Some(&requests)), &mut out)?;
-    assert_eq!(rt; result, Err(SessionFault::Read));
-    assert_eq!(rt; out.as_slice(), answers.as_slice());
+    same(&rt, &result, &Err(SessionFault::Read), &"a reader");
+    same(&rt, &out.as_slice(), &answers.as_slice(), &"a reader");
     Ok(())
 }
 
@@ -69,6 +69,6 @@ fn a_writer_that_fails(rt: HostRuntime) -> Result<(), Fail> {
     let requests = bytes_of(rt.alloc(), CUT)?;
     let mut source = requests.as_slice();
     let result = serve(rt.alloc(), &mut source, &mut Full)?;
-    assert_eq!(rt; result, Err(SessionFault::Write));
+    same(&rt, &result, &Err(SessionFault::Write), &"a writer");
     Ok(())
 }
