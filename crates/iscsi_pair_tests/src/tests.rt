@@ -5,11 +5,18 @@ use iscsi_login::{Auth, ConfigFault, Offers, Preferences, Session, Stage};
 use iscsi_pair::{Pair, Step};
 use scsi_disk::MemoryStore;
 use std::alloc::{AllocError, Global};
+use std::fmt::Debug;
+use std::process::Abort;
 use std::test::Fail;
 
 mod failures;
 mod logins;
 mod scripts;
+
+// Asserts that a value is the one that is due, in a row of which this tells.
+fn same<T: PartialEq + Debug>(rt: &impl Abort, value: &T, due: &T, row: &impl Debug) {
+    assert_eq!(rt; *value, *due, "{row:?}");
+}
 
 /// How many bytes a move has: always as many, or a number up to a limit that a fixed rule draws.
 #[derive(Drop)]

@@ -1,6 +1,6 @@
 //! Requests that come at the wrong time, and what a failed end does.
 
-use super::{Schedule, deliver, pair_of, submit};
+use super::{Schedule, deliver, pair_of, same, submit};
 use iscsi_initiator::{Request, SubmitFault};
 use iscsi_login::Stage;
 use iscsi_pair::{EndFault, Pair, Step};
@@ -53,35 +53,43 @@ fn before_login(rt: HostRuntime) -> Result<(), Fail> {
     let mut pair = pair_of(rt.alloc(), "")?;
     let before = pair.queued();
     submit(rt.alloc(), &mut pair, Request::Logout)?;
-    assert_eq!(rt; refusal(&pair), Some(SubmitFault::NotReady));
-    assert_eq!(rt; pair.queued(), before);
+    let refusal = refusal(&pair);
+    same(&rt, &refusal, &Some(SubmitFault::NotReady), &"before login");
+    same(&rt, &pair.queued(), &before, &"before login");
     // It has failed: it drops what comes, and the login stays where it was.
     deliver(rt.alloc(), &mut pair, &mut Schedule::always(47))?;
-    assert_eq!(rt; pair.initiator().stage(), Stage::Security);
-    assert_eq!(rt; pair.target().stage(), Stage::Operational);
-    assert!(rt; pair.target_fault().is_none());
+    let stages = (pair.initiator().stage(), pair.target().stage());
+    same(
+        &rt,
+        &stages,
+        &(Stage::Security, Stage::Operational),
+        &"stages",
+    );
+    same(
+        &rt,
+        &pair.target_fault().is_none(),
+        &true,
+        &"the target's fault",
+    );
     Ok(())
 }
 
 #[test]
 fn while_one_is_open(rt: HostRuntime) -> Result<(), Fail> {
     let mut pair = logged_in(rt.alloc())?;
-    assert_eq!(rt; refusal_of_ping(rt.alloc(), &mut pair, 2)?, None);
-    assert_eq!(rt;
-        refusal_of_ping(rt.alloc(), &mut pair, 2)?,
-        Some(SubmitFault::Busy)
-    );
+    let first = refusal_of_ping(rt.alloc(), &mut pair, 2)?;
+    same(&rt, &first, &None, &"the first");
+    let second = refusal_of_ping(rt.alloc(), &mut pair, 2)?;
+    same(&rt, &second, &Some(SubmitFault::Busy), &"the second");
     Ok(())
 }
 
 #[test]
 fn too_long(rt: HostRuntime) -> Result<(), Fail> {
     let mut pair = logged_in(rt.alloc())?;
-    assert_eq!(rt;
-        refusal_of_ping(rt.alloc(), &mut pair, 8193)?,
-        Some(SubmitFault::TooLong)
-    );
-    assert_eq!(rt; pair.queued(), (0, 0));
+    let refusal = refusal_of_ping(rt.alloc(), &mut pair, 8193)?;
+    same(&rt, &refusal, &Some(SubmitFault::TooLong), &"8,193 bytes");
+    same(&rt, &pair.queued(), &(0, 0), &"8,193 bytes");
     Ok(())
 }
 
@@ -90,8 +98,8 @@ fn no_bytes(rt: HostRuntime) -> Result<(), Fail> {
     let mut pair = pair_of(rt.alloc(), "")?;
     let before = pair.queued();
     pair.run(no_steps(rt.alloc())?);
-    assert_eq!(rt; pair.queued(), before);
-    assert!(rt; pair.outcome().is_none());
-    assert!(rt; pair.initiator_fault().is_none());
+    same(&rt, &pair.queued(), &before, &"no bytes");
+    let is_quiet = pair.outcome().is_none() && pair.initiator_fault().is_none();
+    same(&rt, &is_quiet, &true, &"no bytes");
     Ok(())
 }

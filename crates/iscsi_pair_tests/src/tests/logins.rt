@@ -1,6 +1,6 @@
 //! Logins of a pair.
 
-use super::{Schedule, deliver, pair_of};
+use super::{Schedule, deliver, pair_of, same};
 use iscsi_initiator::InitiatorFault;
 use iscsi_login::{NegKey, Phase, Stage};
 use iscsi_pair::{EndFault, Pair};
@@ -63,7 +63,7 @@ fn agree(rt: HostRuntime) -> Result<(), Fail> {
     ] {
         for piece in [1, 47, 48, 100_000] {
             let pair = run_login(rt.alloc(), setup, piece)?;
-            assert!(rt; hold_the_same(&pair), "{setup}, pieces of {piece}");
+            same(&rt, &hold_the_same(&pair), &true, &(setup, piece));
         }
     }
     Ok(())
@@ -74,17 +74,9 @@ fn are_refused(rt: HostRuntime) -> Result<(), Fail> {
     for (setup, detail) in [("another name", 3), ("chap", 1)] {
         for piece in [1, 47, 48, 100_000] {
             let pair = run_login(rt.alloc(), setup, piece)?;
-            assert_eq!(rt;
-                refused_detail(&pair),
-                Some(detail),
-                "{setup}, pieces of {piece}"
-            );
-            assert!(rt; pair.target_fault().is_none(), "{setup}, pieces of {piece}");
-            assert_eq!(rt;
-                pair.target().phase(),
-                Phase::Closed,
-                "{setup}, pieces of {piece}"
-            );
+            same(&rt, &refused_detail(&pair), &Some(detail), &(setup, piece));
+            let end = (pair.target_fault().is_none(), pair.target().phase());
+            same(&rt, &end, &(true, Phase::Closed), &(setup, piece));
         }
     }
     Ok(())

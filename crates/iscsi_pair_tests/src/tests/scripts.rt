@@ -1,6 +1,6 @@
 //! Commands over every kind of schedule.
 
-use super::{Schedule, deliver, logins, pair_of, submit};
+use super::{Schedule, deliver, logins, pair_of, same, submit};
 use hex::encode;
 use iscsi_initiator::{Done, Request};
 use iscsi_pair::Pair;
@@ -199,7 +199,7 @@ fn run_script(
 fn in_pieces_of_one_length(rt: HostRuntime) -> Result<(), Fail> {
     for piece in [1, 47, 48, 4096] {
         let wrong = run_script(rt.alloc(), "", &mut Schedule::always(piece), COMMANDS)?;
-        assert_eq!(rt; wrong.as_str(), "", "pieces of {piece}");
+        same(&rt, &wrong.as_str(), &"", &piece);
     }
     Ok(())
 }
@@ -209,7 +209,7 @@ fn small_bursts(rt: HostRuntime) -> Result<(), Fail> {
     for number in 1..102 {
         let piece = if number == 101 { 4096 } else { number };
         let wrong = run_script(rt.alloc(), "bursts", &mut Schedule::always(piece), BURSTS)?;
-        assert_eq!(rt; wrong.as_str(), "", "pieces of {piece}");
+        same(&rt, &wrong.as_str(), &"", &piece);
     }
     Ok(())
 }
@@ -218,7 +218,7 @@ fn small_bursts(rt: HostRuntime) -> Result<(), Fail> {
 fn over_two_hundred_schedules(rt: HostRuntime) -> Result<(), Fail> {
     for number in 0..220 {
         let wrong = run_script(rt.alloc(), "", &mut Schedule::numbered(number), COMMANDS)?;
-        assert_eq!(rt; wrong.as_str(), "", "schedule {number}");
+        same(&rt, &wrong.as_str(), &"", &number);
     }
     Ok(())
 }
