@@ -5,6 +5,8 @@ use iscsi_login::{Phase, Preferences};
 use iscsi_target::{Config, Target, TargetFault};
 use scsi_disk::BlockStore;
 use std::alloc::{AllocError, Global};
+use std::fmt::Debug;
+use std::process::Abort;
 use std::test::Fail;
 
 mod configs;
@@ -15,6 +17,11 @@ const NAME: &[u8] = b"iqn.2026-01.example:disk";
 
 /// How many characters a header has in a line of a dialogue.
 const HEADER: usize = 107;
+
+// Asserts that a value is the one that is due, in a row of which this tells.
+fn same<T: PartialEq + Debug>(rt: &impl Abort, value: &T, due: &T, row: &impl Debug) {
+    assert_eq!(rt; *value, *due, "{row:?}");
+}
 
 // A target that has just begun. It stands in a box: a function that owns it is then proved much sooner.
 fn target_of(alloc: Global) -> Result<Box<Target>, Fail> {

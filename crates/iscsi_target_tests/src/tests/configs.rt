@@ -1,5 +1,6 @@
 //! What a target may be configured with.
 
+use super::same;
 use iscsi_login::{ConfigFault, Preferences};
 use iscsi_target::Config;
 use std::test::Fail;
@@ -27,7 +28,7 @@ fn configurations(rt: HostRuntime) -> Result<(), Fail> {
     ];
     for (what, target, tsih, max_burst, want) in rows {
         let config = Config::new(rt.alloc(), target, 1, tsih, bursts(max_burst));
-        assert_eq!(rt; config.err(), want, "{what}");
+        same(&rt, &config.err(), &want, &what);
     }
     Ok(())
 }

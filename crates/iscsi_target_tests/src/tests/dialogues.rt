@@ -1,7 +1,7 @@
 //! Sessions by example, in pieces of any length.
 
 use super::rows::{DIALOGUES, Dialogue, FAILING, LOGIN};
-use super::{feed_pieces, pdu_of, target_of};
+use super::{feed_pieces, pdu_of, same, target_of};
 use iscsi_login::{Phase, Stage};
 use iscsi_stream::StreamFault;
 use iscsi_target::{Target, TargetFault};
@@ -68,12 +68,8 @@ fn check<S: BlockStore>(
     for (at, turn) in turns_of(alloc, lines)?.iter().enumerate() {
         let mut out = Vec::new(alloc);
         let result = feed_pieces(target, &turn.came, len, store, &mut out);
-        assert_eq!(rt;
-            out.as_slice(),
-            turn.want.as_slice(),
-            "{name}, pieces of {len}, answer {at}"
-        );
-        assert_eq!(rt; result, turn.answer, "{name}, pieces of {len}, answer {at}");
+        same(rt, &out.as_slice(), &turn.want.as_slice(), &(name, len, at));
+        same(rt, &result, &turn.answer, &(name, len, at));
     }
     Ok(())
 }
@@ -134,28 +130,37 @@ fn stores_that_fail(rt: HostRuntime) -> Result<(), Fail> {
 // A target after its login.
 fn logged_in(rt: &impl Abort, alloc: Global, store: &mut MemoryStore) -> Result<Box<Target>, Fail> {
     let mut target = target_of(alloc)?;
-    assert_eq!(rt;
-        (target.phase(), target.stage()),
-        (Phase::Login, Stage::Security)
+    let place = (target.phase(), target.stage());
+    same(
+        rt,
+        &place,
+        &(Phase::Login, Stage::Security),
+        &"before the login",
     );
     check(rt, alloc, "login", 100_000, &mut target, store, LOGIN)?;
-    assert_eq!(rt;
-        (target.phase(), target.stage()),
-        (Phase::Full, Stage::Full)
+    let place = (target.phase(), target.stage());
+    same(rt, &place, &(Phase::Full, Stage::Full), &"after the login");
+    same(
+        rt,
+        &target.params().initiator_max_recv,
+        &4096,
+        &"what is held",
     );
-    assert_eq!(rt; target.params().initiator_max_recv, 4096);
     Ok(target)
 }
 
 // Ends a stream within a PDU.
 fn end_within(rt: &impl Abort, target: &mut Target) {
     let fault = TargetFault::Stream(StreamFault::Truncated(320));
-    assert_eq!(rt; target.finish(), Err(fault));
-    assert_eq!(rt;
-        (target.phase(), target.stage()),
-        (Phase::Closed, Stage::Full)
+    same(rt, &target.finish(), &Err(fault), &"within a PDU");
+    let place = (target.phase(), target.stage());
+    same(rt, &place, &(Phase::Closed, Stage::Full), &"after the end");
+    same(
+        rt,
+        &target.finish(),
+        &Err(TargetFault::Closed),
+        &"once more",
     );
-    assert_eq!(rt; target.finish(), Err(TargetFault::Closed));
 }
 
 /// The end of a stream between two PDUs, within one, and after that.
@@ -163,14 +168,18 @@ fn end_within(rt: &impl Abort, target: &mut Target) {
 fn ends(rt: HostRuntime) -> Result<(), Fail> {
     let mut store = MemoryStore::new(rt.alloc(), 1)?;
     let mut target = logged_in(&rt, rt.alloc(), &mut store)?;
-    assert_eq!(rt; target.finish(), Ok(()));
+    same(&rt, &target.finish(), &Ok(()), &"between two PDUs");
     let mut out = Vec::new(rt.alloc());
-    assert_eq!(rt; target.feed(&[0x40], &mut store, &mut out), Ok(Phase::Full));
+    let begun = target.feed(&[0x40], &mut store, &mut out);
+    same(&rt, &begun, &Ok(Phase::Full), &"a first byte");
     end_within(&rt, &mut target);
-    assert_eq!(rt;
-        target.feed(&[0x40], &mut store, &mut out),
-        Err(TargetFault::Closed)
+    let closed = target.feed(&[0x40], &mut store, &mut out);
+    same(
+        &rt,
+        &closed,
+        &Err(TargetFault::Closed),
+        &"a byte after the end",
     );
-    assert_eq!(rt; out.len(), 0);
+    same(&rt, &out.len(), &0, &"nothing is answered");
     Ok(())
 }
