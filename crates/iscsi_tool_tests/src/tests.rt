@@ -4,13 +4,17 @@ mod answers;
 mod session;
 mod words;
 
+ghost use Rattle.iscsi_tool.specs.Filtering.{HasDisk};
+
 use iscsi_pdu::HeadFault;
 use iscsi_stream::{StreamFault, ToolFault};
 use iscsi_text::TextFault;
 use iscsi_tool::{Filter, Work, run_filter, status};
-use std::alloc::Global;
+use std::alloc::{AllocError, Global};
+use std::fmt::Debug;
 use std::io;
 use std::io::{Read, Write};
+use std::process::Abort;
 use std::test::Fail;
 
 const SHOW: Filter = Filter {
@@ -63,10 +67,15 @@ const CANONICAL_PING_BYTES: &[u8] =
     b"\x40\x80\0\0\0\0\0\x03\0\0\0\0\0\0\0\0\0\0\0\x01\xff\xff\xff\xff\
     \0\0\0\x05\0\0\0\x02\0\0\0\0\0\0\0\0\0\0\0\0\0\0\0\0abc\0";
 
+// Asserts that a value is the one that is due, in a row of which this tells.
+fn same<T: PartialEq + Debug>(rt: &impl Abort, value: &T, due: &T, row: &impl Debug) {
+    assert_eq!(rt; *value, *due, "{row:?}");
+}
+
 // One of the constants above, which need no disk: `answer` has rows of its own.
-fn run(alloc: Global, filter: Filter, input: &[u8]) -> (Result<(), ToolFault>, Vec<u8>) {
-    let mut source = input;
-    let mut out = Vec::new(alloc);
+fn diskless(filter: Filter) -> Filter
+    ensures disk { HasDisk result.work }
+{
     let work = match filter.work {
         Work::Show => Work::Show,
         Work::Normalise => Work::Normalise,
@@ -74,114 +83,152 @@ fn run(alloc: Global, filter: Filter, input: &[u8]) -> (Result<(), ToolFault>, V
         Work::Answer { .. } => Work::Answer { blocks: 1 },
     };
     let hex = filter.hex;
-    let result = run_filter(alloc, Filter { work, hex }, &mut source, &mut out);
+    Filter { work, hex }
+}
+
+// What a filter answers, and what it writes.
+fn run(alloc: Global, filter: Filter, input: &[u8]) -> (Result<(), ToolFault>, Vec<u8>) {
+    let mut source = input;
+    let mut out = Vec::new(alloc);
+    let result = run_filter(alloc, diskless(filter), &mut source, &mut out);
     (result, out)
 }
 
+// Asserts what a filter answers, and all that it writes.
+fn check(
+    rt: &impl Abort,
+    alloc: Global,
+    filter: Filter,
+    input: &[u8],
+    want: Result<(), ToolFault>,
+    due: &[u8],
+) {
+    let (result, out) = run(alloc, filter, input);
+    same(rt, &result, &want, &(filter, input));
+    same(rt, &out.as_slice(), &due, &(filter, input));
+}
+
+/// A filter, its input, and what it writes.
+const GOOD: &[(Filter, &[u8], &[u8])] = &[
+    (NORMALISE, PING_BYTES, CANONICAL_PING_BYTES),
+    (SHOW, PING_BYTES, PING_LINE),
+    (NORMALISE, b"", b""),
+    (SHOW, b"", b""),
+    (NORMALISE_HEX, b"", b"\n"),
+    (NORMALISE_HEX, b" \r\n", b"\n"),
+    (NORMALISE_HEX, b"\n", b"\n"),
+    (SHOW_HEX, b"", b""),
+    (SHOW_HEX, b" \r\n", b""),
+    (SHOW_HEX, b"\n", b""),
+    // A=5 and a spare byte, as bytes and as hex text.
+    (TEXT, b"A=5\0\0", b"A=5\0"),
+    (TEXT_HEX, b"413d 3500\n00", b"413d3500\n"),
+    (TEXT, b"", b""),
+    (TEXT_HEX, b"", b"\n"),
+];
+
 #[test]
-fn streams_as_bytes(rt: HostRuntime) -> Result<(), Fail> {
-    let (result, out) = run(rt.alloc(), NORMALISE, PING_BYTES);
-    assert_eq!(rt; result, Ok(()));
-    assert_eq!(rt; out.as_slice(), CANONICAL_PING_BYTES);
-    let (result, out) = run(rt.alloc(), SHOW, PING_BYTES);
-    assert_eq!(rt; result, Ok(()));
-    assert_eq!(rt; out.as_slice(), PING_LINE);
-    for filter in [NORMALISE, SHOW] {
-        let (result, out) = run(rt.alloc(), filter, b"");
-        assert_eq!(rt; result, Ok(()));
-        assert_eq!(rt; out.len(), 0);
+fn streams_and_texts(rt: HostRuntime) -> Result<(), Fail> {
+    for (filter, input, due) in GOOD {
+        check(&rt, rt.alloc(), *filter, input, Ok(()), due);
     }
     Ok(())
 }
+
+/// The ping as hex text: blanks between words; capitals, with no blank; line ends and blanks within a
+/// byte.
+const SPELLINGS: &[&[u8]] = &[
+    PING,
+    b"C08000000000000311111111111111110000\
+      0001FFFFFFFF000000050000000200000000000000000000000000000000616263FF",
+    b"\r\n c\n0 8\r0000000000003 1111111111111111 0000\n\
+      0001 ffffFFFF 0000000500000002 00000000000000000000000000000000 616263f\r\nf\r\n\n",
+];
 
 #[test]
 fn streams_as_hex(rt: HostRuntime) -> Result<(), Fail> {
-    let rows = [
-        ("blanks between words", PING),
-        (
-            "capitals, with no blank",
-            b"C08000000000000311111111111111110000\
-              0001FFFFFFFF000000050000000200000000000000000000000000000000616263FF",
-        ),
-        (
-            "line ends and blanks within a byte",
-            b"\r\n c\n0 8\r0000000000003 1111111111111111 0000\n\
-              0001 ffffFFFF 0000000500000002 00000000000000000000000000000000 616263f\r\nf\r\n\n",
-        ),
-    ];
-    for (name, text) in rows {
-        let (result, out) = run(rt.alloc(), NORMALISE_HEX, text);
-        assert_eq!(rt; result, Ok(()), "{name}");
-        assert_eq!(rt; out.as_slice(), CANONICAL_PING, "{name}");
-        let (result, out) = run(rt.alloc(), SHOW_HEX, text);
-        assert_eq!(rt; result, Ok(()), "{name}");
-        assert_eq!(rt; out.as_slice(), PING_LINE, "{name}");
-    }
-    for text in [b"".as_slice(), b" \r\n", b"\n"] {
-        let (result, out) = run(rt.alloc(), NORMALISE_HEX, text);
-        assert_eq!(rt; result, Ok(()));
-        assert_eq!(rt; out.as_slice(), b"\n".as_slice());
-        let (result, out) = run(rt.alloc(), SHOW_HEX, text);
-        assert_eq!(rt; result, Ok(()));
-        assert_eq!(rt; out.len(), 0);
+    for text in SPELLINGS {
+        check(&rt, rt.alloc(), NORMALISE_HEX, text, Ok(()), CANONICAL_PING);
+        check(&rt, rt.alloc(), SHOW_HEX, text, Ok(()), PING_LINE);
     }
     Ok(())
 }
 
+/// Texts that are refused: the line is ended after a fault of the text too, but not where it is no
+/// hex.
+const BAD_TEXTS: &[(&[u8], ToolFault, &[u8])] = &[
+    (
+        b"413d3500 4200",
+        ToolFault::Text(TextFault::NoEquals(4)),
+        b"\n",
+    ),
+    (b"413d3500 4", ToolFault::NotHex, b""),
+];
+
 #[test]
-fn texts(rt: HostRuntime) -> Result<(), Fail> {
-    // A=5 and a spare byte, as bytes and as hex text.
-    let (result, out) = run(rt.alloc(), TEXT, b"A=5\0\0");
-    assert_eq!(rt; result, Ok(()));
-    assert_eq!(rt; out.as_slice(), b"A=5\0".as_slice());
-    let (result, out) = run(rt.alloc(), TEXT_HEX, b"413d 3500\n00");
-    assert_eq!(rt; result, Ok(()));
-    assert_eq!(rt; out.as_slice(), b"413d3500\n".as_slice());
-    let (result, out) = run(rt.alloc(), TEXT, b"");
-    assert_eq!(rt; result, Ok(()));
-    assert_eq!(rt; out.len(), 0);
-    let (result, out) = run(rt.alloc(), TEXT_HEX, b"");
-    assert_eq!(rt; result, Ok(()));
-    assert_eq!(rt; out.as_slice(), b"\n".as_slice());
-    // The line is ended after a fault of the text too, but not where the text is no hex.
-    let (result, out) = run(rt.alloc(), TEXT_HEX, b"413d3500 4200");
-    assert_eq!(rt; result, Err(ToolFault::Text(TextFault::NoEquals(4))));
-    assert_eq!(rt; out.as_slice(), b"\n".as_slice());
-    let (result, out) = run(rt.alloc(), TEXT_HEX, b"413d3500 4");
-    assert_eq!(rt; result, Err(ToolFault::NotHex));
-    assert_eq!(rt; out.len(), 0);
+fn texts_that_are_refused(rt: HostRuntime) -> Result<(), Fail> {
+    for (text, fault, due) in BAD_TEXTS {
+        check(&rt, rt.alloc(), TEXT_HEX, text, Err(*fault), due);
+    }
     let mut text = Vec::new(rt.alloc());
     text.resize(32_770, b'0')?;
-    let (result, out) = run(rt.alloc(), TEXT_HEX, &text);
-    assert_eq!(rt; result, Err(ToolFault::TextTooLong));
-    assert_eq!(rt; out.as_slice(), b"\n".as_slice());
+    check(
+        &rt,
+        rt.alloc(),
+        TEXT_HEX,
+        &text,
+        Err(ToolFault::TextTooLong),
+        b"\n",
+    );
     Ok(())
 }
+
+/// Text that is not hex.
+const NOT_HEX: &[&[u8]] = &[
+    b"4",
+    b"4g",
+    b"0x40",
+    b"4\t0",
+    b"40,80",
+    b"\xc0\x80",
+    b"40\0",
+    b"4 \n",
+];
 
 #[test]
 fn text_that_is_not_hex(rt: HostRuntime) -> Result<(), Fail> {
-    let rows = [
-        b"4".as_slice(),
-        b"4g",
-        b"0x40",
-        b"4\t0",
-        b"40,80",
-        b"\xc0\x80",
-        b"40\0",
-        b"4 \n",
-    ];
+    // Whole pairs behind a whole PDU, but for the last one.
+    let mut odd = Vec::from_slice(rt.alloc(), PING)?;
+    odd.extend_from_slice(b"4")?;
     for filter in [NORMALISE_HEX, SHOW_HEX] {
-        for text in rows {
-            let (result, out) = run(rt.alloc(), filter, text);
-            assert_eq!(rt; result, Err(ToolFault::NotHex), "{text:?}");
-            assert_eq!(rt; out.len(), 0, "{text:?}");
+        for text in NOT_HEX {
+            check(&rt, rt.alloc(), filter, text, Err(ToolFault::NotHex), b"");
         }
-        // Whole pairs behind a whole PDU, but for the last one.
-        let mut text = Vec::from_slice(rt.alloc(), PING)?;
-        text.extend_from_slice(b"4")?;
-        let (result, out) = run(rt.alloc(), filter, &text);
-        assert_eq!(rt; result, Err(ToolFault::NotHex));
-        assert_eq!(rt; out.len(), 0);
+        check(&rt, rt.alloc(), filter, &odd, Err(ToolFault::NotHex), b"");
+    }
+    Ok(())
+}
+
+// A text of so many bytes of hex, and that it is refused or not.
+fn check_length(
+    rt: &impl Abort,
+    alloc: Global,
+    filter: Filter,
+    byte: u8,
+    count: usize,
+    is_hex: bool,
+) -> Result<(), AllocError> {
+    let mut text = Vec::new(alloc);
+    text.resize(count, byte)?;
+    let (result, out) = run(alloc, filter, &text);
+    same(
+        rt,
+        &(result == Err(ToolFault::NotHex)),
+        &!is_hex,
+        &(filter, byte, count),
+    );
+    if !is_hex {
+        same(rt, &out.len(), &0, &(filter, byte, count));
     }
     Ok(())
 }
@@ -189,122 +236,123 @@ fn text_that_is_not_hex(rt: HostRuntime) -> Result<(), Fail> {
 #[test]
 fn the_longest_text(rt: HostRuntime) -> Result<(), Fail> {
     for filter in [NORMALISE_HEX, SHOW_HEX] {
-        let mut text = Vec::new(rt.alloc());
-        text.resize(1_048_578, b'0')?;
-        let (result, out) = run(rt.alloc(), filter, &text);
-        assert_eq!(rt; result, Err(ToolFault::NotHex));
-        assert_eq!(rt; out.len(), 0);
+        check_length(&rt, rt.alloc(), filter, b'0', 1_048_578, false)?;
         // What is dropped counts.
-        text.fill(b' ');
-        let (result, out) = run(rt.alloc(), filter, &text);
-        assert_eq!(rt; result, Err(ToolFault::NotHex));
-        assert_eq!(rt; out.len(), 0);
-        text.truncate(1_048_577);
-        let (result, out) = run(rt.alloc(), filter, &text);
-        assert_eq!(rt; result, Err(ToolFault::NotHex));
-        assert_eq!(rt; out.len(), 0);
-        text.truncate(1_048_576);
-        let (result, _) = run(rt.alloc(), filter, &text);
-        assert_eq!(rt; result, Ok(()));
+        check_length(&rt, rt.alloc(), filter, b' ', 1_048_578, false)?;
+        check_length(&rt, rt.alloc(), filter, b' ', 1_048_577, false)?;
+        check_length(&rt, rt.alloc(), filter, b' ', 1_048_576, true)?;
     }
-    // 524,288 bytes of 00 are a NOP-Out again and again, and 32 bytes more.
+    Ok(())
+}
+
+/// 524,288 bytes of 00 are a NOP-Out again and again, and 32 bytes more.
+#[test]
+fn the_longest_stream_as_hex(rt: HostRuntime) -> Result<(), Fail> {
     let mut text = Vec::new(rt.alloc());
     text.resize(1_048_576, b'0')?;
     let (result, _) = run(rt.alloc(), NORMALISE_HEX, &text);
-    assert_eq!(rt;
-        result,
-        Err(ToolFault::Stream(StreamFault::Truncated(524_256)))
-    );
+    let fault = ToolFault::Stream(StreamFault::Truncated(524_256));
+    same(&rt, &result, &Err(fault), &"the longest");
+    Ok(())
+}
+
+/// What follows the ping, the fault, and its line.
+const BAD_STREAMS: &[(&[u8], StreamFault, &str)] = &[
+    (
+        b"10800000 01000000 00000000 00000000 00000000 00000000 00000000 00000000 \
+          00000000 00000000 00000000 00000000",
+        StreamFault::Head(HeadFault::UnknownOpcode, 52),
+        "stream: unknown opcode at 52",
+    ),
+    (
+        b"40800000 01000000 00000000 00000000 00000000 00000000 00000000 00000000 \
+          00000000 00000000 00000000 00000000",
+        StreamFault::Head(HeadFault::Additional, 52),
+        "stream: additional header at 52",
+    ),
+    (
+        b"43810000 00002001 00000000 00000000 00000000 00000000 00000000 00000000 \
+          00000000 00000000 00000000 00000000",
+        StreamFault::Head(HeadFault::TooLong, 52),
+        "stream: login segment too long at 52",
+    ),
+    (
+        b"40800000 00000000 00000000 00000000 00000000 00000000 00000000 00000000 \
+          00000000 00000000 00000000 000000",
+        StreamFault::Truncated(52),
+        "stream: truncated at 52",
+    ),
+];
+
+// A stream whose second PDU is at fault; with nothing before it the line of the bytes is empty.
+fn check_behind(
+    rt: &impl Abort,
+    alloc: Global,
+    rest: &[u8],
+    fault: StreamFault,
+    line: &str,
+) -> Result<(), Fail> {
+    let mut text = Vec::from_slice(alloc, PING)?;
+    text.extend_from_slice(b"\n")?;
+    text.extend_from_slice(rest)?;
+    let fault = ToolFault::Stream(fault);
+    check(rt, alloc, NORMALISE_HEX, &text, Err(fault), CANONICAL_PING);
+    check(rt, alloc, SHOW_HEX, &text, Err(fault), PING_LINE);
+    same(rt, &format!(in alloc; "{fault}")?.as_str(), &line, &line);
+    let (result, out) = run(alloc, NORMALISE_HEX, rest);
+    same(rt, &result.is_err(), &true, &line);
+    same(rt, &out.as_slice(), &b"\n".as_slice(), &line);
     Ok(())
 }
 
 #[test]
 fn faults_behind_a_pdu(rt: HostRuntime) -> Result<(), Fail> {
-    // What follows, the fault, its line and the exit status.
-    let rows = [
-        (
-            b"10800000 01000000 00000000 00000000 00000000 00000000 00000000 00000000 \
-              00000000 00000000 00000000 00000000"
-                .as_slice(),
-            StreamFault::Head(HeadFault::UnknownOpcode, 52),
-            "stream: unknown opcode at 52",
-        ),
-        (
-            b"40800000 01000000 00000000 00000000 00000000 00000000 00000000 00000000 \
-              00000000 00000000 00000000 00000000",
-            StreamFault::Head(HeadFault::Additional, 52),
-            "stream: additional header at 52",
-        ),
-        (
-            b"43810000 00002001 00000000 00000000 00000000 00000000 00000000 00000000 \
-              00000000 00000000 00000000 00000000",
-            StreamFault::Head(HeadFault::TooLong, 52),
-            "stream: login segment too long at 52",
-        ),
-        (
-            b"40800000 00000000 00000000 00000000 00000000 00000000 00000000 00000000 \
-              00000000 00000000 00000000 000000",
-            StreamFault::Truncated(52),
-            "stream: truncated at 52",
-        ),
-    ];
-    for (rest, fault, line) in rows {
-        let mut text = Vec::from_slice(rt.alloc(), PING)?;
-        text.extend_from_slice(b"\n")?;
-        text.extend_from_slice(rest)?;
-        let fault = ToolFault::Stream(fault);
-        let (result, out) = run(rt.alloc(), NORMALISE_HEX, &text);
-        assert_eq!(rt; result, Err(fault), "{line}");
-        assert_eq!(rt; out.as_slice(), CANONICAL_PING, "{line}");
-        let (result, out) = run(rt.alloc(), SHOW_HEX, &text);
-        assert_eq!(rt; result, Err(fault), "{line}");
-        assert_eq!(rt; out.as_slice(), PING_LINE, "{line}");
-        assert_eq!(rt; format!(in rt.alloc(); "{fault}")?.as_str(), line);
-        // With nothing before it the line of the bytes is empty.
-        let (result, out) = run(rt.alloc(), NORMALISE_HEX, rest);
-        assert!(rt; result.is_err(), "{line}");
-        assert_eq!(rt; out.as_slice(), b"\n".as_slice(), "{line}");
+    for (rest, fault, line) in BAD_STREAMS {
+        check_behind(&rt, rt.alloc(), rest, *fault, line)?;
     }
     Ok(())
 }
 
+/// A fault, its line and the exit status.
+const FAULTS: &[(ToolFault, &str, u8)] = &[
+    (ToolFault::NoMemory, "memory", 3),
+    (
+        ToolFault::Stream(StreamFault::Head(HeadFault::UnknownOpcode, 0)),
+        "stream: unknown opcode at 0",
+        1,
+    ),
+    (
+        ToolFault::Stream(StreamFault::Head(HeadFault::Additional, 0)),
+        "stream: additional header at 0",
+        1,
+    ),
+    (
+        ToolFault::Stream(StreamFault::Head(HeadFault::TooLong, 0)),
+        "stream: login segment too long at 0",
+        1,
+    ),
+    (
+        ToolFault::Stream(StreamFault::Truncated(52)),
+        "stream: truncated at 52",
+        1,
+    ),
+    (
+        ToolFault::Text(TextFault::NoEquals(4)),
+        "text: no equals at 4",
+        1,
+    ),
+    (ToolFault::TextTooLong, "text: over 16384 bytes", 1),
+    (ToolFault::NotHex, "input: not hex", 1),
+    (ToolFault::Protocol(3), "protocol: rule 3", 1),
+    (ToolFault::Read, "read failed", 4),
+    (ToolFault::Write, "write failed", 4),
+];
+
 #[test]
 fn fault_lines_and_statuses(rt: HostRuntime) -> Result<(), Fail> {
-    let rows = [
-        (ToolFault::NoMemory, "memory", 3),
-        (
-            ToolFault::Stream(StreamFault::Head(HeadFault::UnknownOpcode, 0)),
-            "stream: unknown opcode at 0",
-            1,
-        ),
-        (
-            ToolFault::Stream(StreamFault::Head(HeadFault::Additional, 0)),
-            "stream: additional header at 0",
-            1,
-        ),
-        (
-            ToolFault::Stream(StreamFault::Head(HeadFault::TooLong, 0)),
-            "stream: login segment too long at 0",
-            1,
-        ),
-        (
-            ToolFault::Stream(StreamFault::Truncated(52)),
-            "stream: truncated at 52",
-            1,
-        ),
-        (
-            ToolFault::Text(TextFault::NoEquals(4)),
-            "text: no equals at 4",
-            1,
-        ),
-        (ToolFault::TextTooLong, "text: over 16384 bytes", 1),
-        (ToolFault::NotHex, "input: not hex", 1),
-        (ToolFault::Read, "read failed", 4),
-        (ToolFault::Write, "write failed", 4),
-    ];
-    for (fault, line, code) in rows {
-        assert_eq!(rt; format!(in rt.alloc(); "{fault}")?.as_str(), line);
-        assert_eq!(rt; status(&fault), code, "{line}");
+    for (fault, line, code) in FAULTS {
+        let said = format!(in rt.alloc(); "{fault}")?;
+        same(&rt, &(said.as_str(), status(fault)), &(*line, *code), line);
     }
     Ok(())
 }
@@ -338,23 +386,29 @@ impl Write for Full {
     }
 }
 
+/// What a filter writes before a read fails behind a whole PDU: with hex nothing.
+const BROKEN: &[(Filter, &[u8], &[u8])] = &[
+    (NORMALISE, PING_BYTES, CANONICAL_PING_BYTES),
+    (SHOW, PING_BYTES, PING_LINE),
+    (NORMALISE_HEX, PING, b""),
+    (SHOW_HEX, PING, b""),
+];
+
+// A filter whose reader fails behind its input, and one whose writer takes no byte.
+fn check_failing(rt: &impl Abort, alloc: Global, filter: Filter, input: &[u8], due: &[u8]) {
+    let mut out = Vec::new(alloc);
+    let result = run_filter(alloc, diskless(filter), &mut Broken(Some(input)), &mut out);
+    same(rt, &result, &Err(ToolFault::Read), &filter);
+    same(rt, &out.as_slice(), &due, &filter);
+    let mut source = input;
+    let result = run_filter(alloc, diskless(filter), &mut source, &mut Full);
+    same(rt, &result, &Err(ToolFault::Write), &filter);
+}
+
 #[test]
 fn readers_and_writers_that_fail(rt: HostRuntime) -> Result<(), Fail> {
-    // What a filter writes before a read fails behind a whole PDU: with hex nothing.
-    let rows = [
-        (NORMALISE, PING_BYTES, CANONICAL_PING_BYTES),
-        (SHOW, PING_BYTES, PING_LINE),
-        (NORMALISE_HEX, PING, b"".as_slice()),
-        (SHOW_HEX, PING, b"".as_slice()),
-    ];
-    for (filter, input, want) in rows {
-        let mut out = Vec::new(rt.alloc());
-        let result = run_filter(rt.alloc(), filter, &mut Broken(Some(input)), &mut out);
-        assert_eq!(rt; result, Err(ToolFault::Read), "{filter:?}");
-        assert_eq!(rt; out.as_slice(), want, "{filter:?}");
-        let mut source = input;
-        let result = run_filter(rt.alloc(), filter, &mut source, &mut Full);
-        assert_eq!(rt; result, Err(ToolFault::Write), "{filter:?}");
+    for (filter, input, due) in BROKEN {
+        check_failing(&rt, rt.alloc(), *filter, input, due);
     }
     Ok(())
 }

@@ -2,10 +2,11 @@
 //! each PDU, with its header in hex and, behind an apostrophe, the text of its segment, in which
 //! `|` stands for a byte 00. The padding is left out.
 
-use super::{Broken, Full};
+use super::{Broken, Full, same};
 use iscsi_stream::{StreamFault, ToolFault};
 use iscsi_tool::{Filter, Work, run_filter};
 use std::alloc::Global;
+use std::process::Abort;
 use std::test::Fail;
 
 // The first request of a login, and the first bytes of another.
@@ -57,48 +58,66 @@ fn bytes_of(alloc: Global, lines: &str) -> Result<Vec<u8>, Fail> {
     Ok(stream)
 }
 
+/// Sessions: the requests, the answers, and how the filter ends.
+const SESSIONS: &[(&str, &str, &str, Result<(), ToolFault>)] = &[
+    ("nothing", "", "", Ok(())),
+    ("a login and a ping", REQUESTS, ANSWERS, Ok(())),
+    ("a login that is refused", NAMELESS, REFUSAL, Ok(())),
+    ("a ping alone", PING, "", Err(ToolFault::Protocol(1))),
+    (
+        "a part of a header",
+        CUT,
+        FIRST_ANSWER,
+        Err(ToolFault::Stream(StreamFault::Truncated(160))),
+    ),
+];
+
+// What a target with eight blocks answers, and what it writes.
+fn answer(alloc: Global, hex: bool, input: &[u8]) -> (Result<(), ToolFault>, Vec<u8>) {
+    let work = Work::Answer { blocks: 8 };
+    let mut source = input;
+    let mut out = Vec::new(alloc);
+    let result = run_filter(alloc, Filter { work, hex }, &mut source, &mut out);
+    (result, out)
+}
+
+// The line of bytes in hex.
+fn line_of(alloc: Global, bytes: &[u8]) -> Result<Vec<u8>, Fail> {
+    let mut line = hex::encode(alloc, bytes)?.into_bytes();
+    line.push(b'\n')?;
+    Ok(line)
+}
+
+// A session as bytes, and as hex text, whose line stands also after a fault.
+fn check(
+    rt: &impl Abort,
+    alloc: Global,
+    name: &str,
+    requests: &str,
+    answers: &str,
+    want: Result<(), ToolFault>,
+) -> Result<(), Fail> {
+    let stream = bytes_of(alloc, requests)?;
+    let due = bytes_of(alloc, answers)?;
+    let (result, out) = answer(alloc, false, &stream);
+    same(rt, &result, &want, &name);
+    same(rt, &out.as_slice(), &due.as_slice(), &name);
+    let text = hex::encode(alloc, &stream)?;
+    let (result, line) = answer(alloc, true, text.as_bytes());
+    same(rt, &result, &want, &name);
+    same(
+        rt,
+        &line.as_slice(),
+        &line_of(alloc, &due)?.as_slice(),
+        &name,
+    );
+    Ok(())
+}
+
 #[test]
 fn answers_to_streams(rt: HostRuntime) -> Result<(), Fail> {
-    let rows = [
-        ("nothing", "", "", Ok(())),
-        ("a login and a ping", REQUESTS, ANSWERS, Ok(())),
-        ("a login that is refused", NAMELESS, REFUSAL, Ok(())),
-        ("a ping alone", PING, "", Err(ToolFault::Protocol(1))),
-        (
-            "a part of a header",
-            CUT,
-            FIRST_ANSWER,
-            Err(ToolFault::Stream(StreamFault::Truncated(160))),
-        ),
-    ];
-    for (name, requests, answers, want) in rows {
-        let work = Work::Answer { blocks: 8 };
-        let stream = bytes_of(rt.alloc(), requests)?;
-        let due = bytes_of(rt.alloc(), answers)?;
-        let mut source = stream.as_slice();
-        let mut out = Vec::new(rt.alloc());
-        let result = run_filter(
-            rt.alloc(),
-            Filter { work, hex: false },
-            &mut source,
-            &mut out,
-        );
-        assert_eq!(rt; result, want, "{name}");
-        assert_eq!(rt; out.as_slice(), due.as_slice(), "{name}");
-        // The same as hex text, whose line stands also after a fault.
-        let text = hex::encode(rt.alloc(), &stream)?;
-        let mut source = text.as_bytes();
-        let mut line = Vec::new(rt.alloc());
-        let result = run_filter(
-            rt.alloc(),
-            Filter { work, hex: true },
-            &mut source,
-            &mut line,
-        );
-        assert_eq!(rt; result, want, "{name}");
-        let mut due_line = hex::encode(rt.alloc(), &due)?.into_bytes();
-        due_line.push(b'\n')?;
-        assert_eq!(rt; line.as_slice(), due_line.as_slice(), "{name}");
+    for (name, requests, answers, want) in SESSIONS {
+        check(&rt, rt.alloc(), name, requests, answers, *want)?;
     }
     Ok(())
 }
@@ -114,10 +133,10 @@ fn a_reader_and_a_writer_that_fail(rt: HostRuntime) -> Result<(), Fail> {
     // What was read is answered before the read that fails.
     let mut out = Vec::new(rt.alloc());
     let result = run_filter(rt.alloc(), filter, &mut Broken(Some(&requests)), &mut out);
-    assert_eq!(rt; result, Err(ToolFault::Read));
-    assert_eq!(rt; out.as_slice(), answers.as_slice());
+    same(&rt, &result, &Err(ToolFault::Read), &"a reader");
+    same(&rt, &out.as_slice(), &answers.as_slice(), &"a reader");
     let mut source = requests.as_slice();
     let result = run_filter(rt.alloc(), filter, &mut source, &mut Full);
-    assert_eq!(rt; result, Err(ToolFault::Write));
+    same(&rt, &result, &Err(ToolFault::Write), &"a writer");
     Ok(())
 }

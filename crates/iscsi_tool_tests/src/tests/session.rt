@@ -1,7 +1,7 @@
 //! A captured session of `iscsi-inq` of libiscsi with the target `tgtd`; how it was made stands in
 //! `docs/session`.
 
-use super::{NORMALISE_HEX, SHOW_HEX, run};
+use super::{NORMALISE_HEX, SHOW_HEX, run, same};
 use std::test::*;
 
 // What the initiator sent, as hex text.
@@ -103,11 +103,9 @@ fn show_names_each_pdu_of_a_session(rt: HostRuntime) {
     ];
     for (name, text, rows) in sides {
         let (result, out) = run(alloc, SHOW_HEX, text);
-        assert_eq!(rt; result, Ok(()), "{name}");
-        match str::from_utf8(&out) {
-            Ok(lines) => assert!(rt; names_each(lines, rows), "{name}"),
-            Err(_) => assert!(rt; false, "{name}"),
-        }
+        same(&rt, &result, &Ok(()), &name);
+        let lines = str::from_utf8(&out).unwrap_or("");
+        same(&rt, &names_each(lines, rows), &true, &name);
     }
 }
 
@@ -117,11 +115,10 @@ fn a_session_normalises_to_what_normalises_to_itself(rt: HostRuntime) {
     for (name, text) in [("initiator", INITIATOR), ("target", TARGET)] {
         let (first, once) = run(alloc, NORMALISE_HEX, text);
         let (second, twice) = run(alloc, NORMALISE_HEX, &once);
-        assert_eq!(rt; first, Ok(()), "{name}");
-        assert_eq!(rt; second, Ok(()), "{name}");
-        assert!(rt; once == twice, "{name}");
+        same(&rt, &(first, second), &(Ok(()), Ok(())), &name);
+        same(&rt, &once.as_slice(), &twice.as_slice(), &name);
         // The keys of its login texts are not in byte order, and no numeral in them gets shorter.
-        assert_eq!(rt; once.len().checked_sub(1), Some(digits(text)), "{name}");
+        same(&rt, &once.len().checked_sub(1), &Some(digits(text)), &name);
     }
 }
 

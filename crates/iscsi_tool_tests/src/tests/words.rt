@@ -1,261 +1,269 @@
 //! Words of the command line: those that are a job, and those that are none.
 
-use super::{NORMALISE, NORMALISE_HEX, SHOW, SHOW_HEX, TEXT, TEXT_HEX};
-use iscsi_tool::{Filter, Job, LineFault, Work, read_words};
+use super::same;
+use iscsi_tool::{LineFault, read_words};
+use std::alloc::{AllocError, Global};
 use std::test::Fail;
 
-fn answer(blocks: u64, hex: bool) -> Filter {
-    Filter {
-        work: Work::Answer { blocks },
-        hex,
+/// Words, parted by one blank each, and the job that they ask for.
+const JOBS: &[(&str, &str)] = &[
+    ("", "Filter(Filter { work: Normalise, hex: true })"),
+    ("show", "Filter(Filter { work: Show, hex: false })"),
+    ("show --hex", "Filter(Filter { work: Show, hex: true })"),
+    (
+        "normalise",
+        "Filter(Filter { work: Normalise, hex: false })",
+    ),
+    (
+        "normalise --hex",
+        "Filter(Filter { work: Normalise, hex: true })",
+    ),
+    (
+        "normalise --text",
+        "Filter(Filter { work: Text, hex: false })",
+    ),
+    (
+        "normalise --text --hex",
+        "Filter(Filter { work: Text, hex: true })",
+    ),
+    (
+        "normalise --hex --text",
+        "Filter(Filter { work: Text, hex: true })",
+    ),
+    (
+        "answer --blocks 1",
+        "Filter(Filter { work: Answer { blocks: 1 }, hex: false })",
+    ),
+    (
+        "answer --hex --blocks=65536",
+        "Filter(Filter { work: Answer { blocks: 65536 }, hex: true })",
+    ),
+    (
+        "answer --blocks 0008",
+        "Filter(Filter { work: Answer { blocks: 8 }, hex: false })",
+    ),
+    (
+        "serve --port 3260 --blocks 2048 --sessions 5",
+        "Serve { port: 3260, blocks: 2048, sessions: 5 }",
+    ),
+    (
+        "serve --sessions=0 --blocks=1 --port=0",
+        "Serve { port: 0, blocks: 1, sessions: 0 }",
+    ),
+    (
+        "serve --port 65535 --sessions 065535 --blocks 65536",
+        "Serve { port: 65535, blocks: 65536, sessions: 65535 }",
+    ),
+    (
+        "loop --blocks 2048 --piece 48",
+        "Loop { blocks: 2048, piece: 48 }",
+    ),
+    ("loop --piece=1 --blocks=1", "Loop { blocks: 1, piece: 1 }"),
+    (
+        "loop --piece 04096 --blocks 65536",
+        "Loop { blocks: 65536, piece: 4096 }",
+    ),
+];
+
+const BLOCKS: &str = "error: '--blocks <N>' is a number from 1 to 65536\n\nUsage: ";
+
+const PORT: &str = "error: '--port <P>' is a number from 0 to 65535\n\nUsage: serve";
+
+const SESSIONS: &str = "error: '--sessions <n>' is a number from 0 to 65535\n\nUsage: serve";
+
+const PIECE: &str = "error: '--piece <k>' is a number from 1 to 4096\n\nUsage: loop";
+
+/// Words that are none, in which `''` is an empty word, and what the text begins with.
+const REFUSED: &[(&str, &str)] = &[
+    (
+        "normalise --hex --hex",
+        "error: the argument '--hex' cannot be used multiple times\n",
+    ),
+    (
+        "show --hex --hex",
+        "error: the argument '--hex' cannot be used multiple times\n",
+    ),
+    ("--hex", "error: unexpected argument '--hex' found\n"),
+    ("''", "error: unrecognized subcommand ''\n"),
+    ("Show", "error: unrecognized subcommand 'Show'\n"),
+    ("shows", "error: unrecognized subcommand 'shows'\n"),
+    ("show show", "error: unexpected argument 'show' found\n"),
+    (
+        "show normalise",
+        "error: unexpected argument 'normalise' found\n",
+    ),
+    ("show --Hex", "error: unexpected argument '--Hex' found\n"),
+    ("show --he", "error: unexpected argument '--he' found\n"),
+    (
+        "show --hex=yes",
+        "error: unexpected value 'yes' for '--hex' found; no more were expected\n",
+    ),
+    (
+        "show -h x",
+        "Writes a line for each PDU of the standard input\n\nUsage: show",
+    ),
+    (
+        "normalise --text --text",
+        "error: the argument '--text' cannot be used multiple times\n",
+    ),
+    ("show --text", "error: unexpected argument '--text' found\n"),
+    ("--text", "error: unexpected argument '--text' found\n"),
+    (
+        "normalise --blocks 8",
+        "error: unexpected argument '--blocks' found\n",
+    ),
+    (
+        "answer",
+        "error: the following required arguments were not provided:\n  --blocks <N>\n",
+    ),
+    (
+        "answer --blocks",
+        "error: a value is required for '--blocks <N>' but none was supplied\n",
+    ),
+    ("answer --blocks 0", BLOCKS),
+    ("answer --blocks 65537", BLOCKS),
+    ("answer --blocks +8", BLOCKS),
+    ("answer --blocks 0x8", BLOCKS),
+    ("answer --blocks=", BLOCKS),
+    ("answer --blocks 18446744073709551617", BLOCKS),
+    (
+        "answer --blocks 8 --blocks 8",
+        "error: the argument '--blocks <N>' cannot be used multiple times\n",
+    ),
+    (
+        "serve",
+        "error: the following required arguments were not provided:\n  \
+        --port <P>\n  --blocks <N>\n  --sessions <n>\n",
+    ),
+    (
+        "serve --port 0",
+        "error: the following required arguments were not provided:\n  \
+        --blocks <N>\n  --sessions <n>\n",
+    ),
+    (
+        "serve --port 0 --blocks 1",
+        "error: the following required arguments were not provided:\n  --sessions <n>\n",
+    ),
+    (
+        "serve --blocks 1 --sessions 1",
+        "error: the following required arguments were not provided:\n  --port <P>\n",
+    ),
+    (
+        "serve --port 0 --sessions 1",
+        "error: the following required arguments were not provided:\n  --blocks <N>\n",
+    ),
+    ("serve --port 65536 --blocks 1 --sessions 1", PORT),
+    (
+        "serve --port -1 --blocks 1 --sessions 1",
+        "error: unexpected argument '-1' found\n",
+    ),
+    ("serve --port +1 --blocks 1 --sessions 1", PORT),
+    ("serve --port '' --blocks 1 --sessions 1", PORT),
+    ("serve --port 0x10 --blocks 1 --sessions 1", PORT),
+    ("serve --port 0 --blocks 0 --sessions 1", BLOCKS),
+    ("serve --port 0 --blocks 65537 --sessions 1", BLOCKS),
+    ("serve --port 0 --blocks 1 --sessions 65536", SESSIONS),
+    (
+        "serve --port 0 --blocks 1 --sessions 1 --hex",
+        "error: unexpected argument '--hex' found\n",
+    ),
+    (
+        "serve --port 0 --blocks 1 --sessions 1 2",
+        "error: unexpected argument '2' found\n",
+    ),
+    (
+        "serve --blocks 1 --piece 1",
+        "error: unexpected argument '--piece' found\n",
+    ),
+    (
+        "loop",
+        "error: the following required arguments were not provided:\n  --blocks <N>\n  --piece <k>\n",
+    ),
+    ("loop --blocks 2048 --piece 0", PIECE),
+    ("loop --blocks 2048 --piece 4097", PIECE),
+    ("loop --blocks 2048 --piece +1", PIECE),
+    ("loop --blocks 2048 --piece ''", PIECE),
+    ("loop --blocks 0 --piece 1", BLOCKS),
+    ("loop --blocks 65537 --piece 1", BLOCKS),
+    (
+        "loop --blocks 2048",
+        "error: the following required arguments were not provided:\n  --piece <k>\n",
+    ),
+    (
+        "loop --piece 1",
+        "error: the following required arguments were not provided:\n  --blocks <N>\n",
+    ),
+    (
+        "loop --blocks 1 --piece 1 --hex",
+        "error: unexpected argument '--hex' found\n",
+    ),
+    (
+        "loop --blocks 1 --piece 1 --piece 1",
+        "error: the argument '--piece <k>' cannot be used multiple times\n",
+    ),
+    ("--port 0", "error: unexpected argument '--port' found\n"),
+    (
+        "show --help",
+        "Writes a line for each PDU of the standard input\n\nUsage: show",
+    ),
+    ("help", "error: unrecognized subcommand 'help'\n"),
+    (
+        "--version",
+        "error: unexpected argument '--version' found\n",
+    ),
+];
+
+/// Each job with what it does, in the text of help.
+const HELP: &[&str] = &[
+    "Usage: lanthovur <COMMAND>",
+    "\n  show       Writes a line for each PDU",
+    "\n  normalise  Writes the canonical stream or text",
+    "\n  answer     Writes a target's answers",
+    "\n  serve      Serves a target's disk on 127.0.0.1",
+    "\n  loop       Does what a script on the standard input says",
+];
+
+// The words of a line.
+fn words_of<'a>(alloc: Global, line: &'a str) -> Result<Vec<&'a str>, AllocError> {
+    line.split(' ')
+        .filter(|word| !word.is_empty())
+        .map(|word| if word == "''" { "" } else { word })
+        .collect(alloc)
+}
+
+// What the words of a line come to: the job, or the text that says why they are none.
+fn said_of(alloc: Global, line: &str) -> Result<String, Fail> {
+    match read_words(alloc, words_of(alloc, line)?.as_slice()) {
+        Ok(job) => Ok(format!(in alloc; "{job:?}")?),
+        Err(LineFault::Usage(text)) => Ok(text),
+        Err(LineFault::NoMemory) => Err(Fail::from("memory")),
     }
 }
 
 #[test]
 fn words_that_are_a_job(rt: HostRuntime) -> Result<(), Fail> {
-    let rows = [
-        ([].as_slice(), NORMALISE_HEX),
-        (["show"].as_slice(), SHOW),
-        (["show", "--hex"].as_slice(), SHOW_HEX),
-        (["normalise"].as_slice(), NORMALISE),
-        (["normalise", "--hex"].as_slice(), NORMALISE_HEX),
-        (["normalise", "--text"].as_slice(), TEXT),
-        (["normalise", "--text", "--hex"].as_slice(), TEXT_HEX),
-        (["normalise", "--hex", "--text"].as_slice(), TEXT_HEX),
-        (["answer", "--blocks", "1"].as_slice(), answer(1, false)),
-        (
-            ["answer", "--hex", "--blocks=65536"].as_slice(),
-            answer(65_536, true),
-        ),
-        (["answer", "--blocks", "0008"].as_slice(), answer(8, false)),
-    ];
-    for (words, want) in rows {
-        match read_words(rt.alloc(), words) {
-            Ok(Job::Filter(filter)) => assert_eq!(rt; filter, want, "{words:?}"),
-            Ok(Job::Serve { .. } | Job::Loop { .. }) | Err(_) => assert!(rt; false, "{words:?}"),
-        }
-    }
-    Ok(())
-}
-
-#[test]
-fn words_of_a_service(rt: HostRuntime) -> Result<(), Fail> {
-    let rows = [
-        (
-            [
-                "serve",
-                "--port",
-                "3260",
-                "--blocks",
-                "2048",
-                "--sessions",
-                "5",
-            ]
-            .as_slice(),
-            (3260, 2048, 5),
-        ),
-        (
-            ["serve", "--sessions=0", "--blocks=1", "--port=0"].as_slice(),
-            (0, 1, 0),
-        ),
-        (
-            [
-                "serve",
-                "--port",
-                "65535",
-                "--sessions",
-                "065535",
-                "--blocks",
-                "65536",
-            ]
-            .as_slice(),
-            (65_535, 65_536, 65_535),
-        ),
-    ];
-    for (words, want) in rows {
-        match read_words(rt.alloc(), words) {
-            Ok(
-                Job::Serve {
-                    port,
-                    blocks,
-                    sessions,
-                },
-            ) => { assert_eq!(rt; (port, blocks, sessions), want, "{words:?}") }
-            Ok(Job::Filter(_) | Job::Loop { .. }) | Err(_) => assert!(rt; false, "{words:?}"),
-        }
+    for (line, job) in JOBS {
+        let said = said_of(rt.alloc(), line)?;
+        same(&rt, &said.as_str(), job, line);
     }
     Ok(())
 }
 
 #[test]
 fn words_that_are_no_job(rt: HostRuntime) -> Result<(), Fail> {
-    let rows = [
-        ["normalise", "--hex", "--hex"].as_slice(),
-        ["show", "--hex", "--hex"].as_slice(),
-        ["--hex"].as_slice(),
-        [""].as_slice(),
-        ["Show"].as_slice(),
-        ["shows"].as_slice(),
-        ["show", "show"].as_slice(),
-        ["show", "normalise"].as_slice(),
-        ["show", "--Hex"].as_slice(),
-        ["show", "--he"].as_slice(),
-        ["show", "--hex=yes"].as_slice(),
-        ["show", "-h", "x"].as_slice(),
-        ["normalise", "--text", "--text"].as_slice(),
-        ["show", "--text"].as_slice(),
-        ["--text"].as_slice(),
-        ["serve"].as_slice(),
-        ["answer"].as_slice(),
-        ["answer", "--blocks"].as_slice(),
-        ["answer", "--blocks", "0"].as_slice(),
-        ["answer", "--blocks", "65537"].as_slice(),
-        ["answer", "--blocks", "+8"].as_slice(),
-        ["answer", "--blocks", "0x8"].as_slice(),
-        ["answer", "--blocks="].as_slice(),
-        ["answer", "--blocks", "18446744073709551617"].as_slice(),
-        ["answer", "--blocks", "8", "--blocks", "8"].as_slice(),
-        ["normalise", "--blocks", "8"].as_slice(),
-        ["loop"].as_slice(),
-        ["serve", "--port", "0"].as_slice(),
-        ["serve", "--port", "0", "--blocks", "1"].as_slice(),
-        ["serve", "--blocks", "1", "--sessions", "1"].as_slice(),
-        ["serve", "--port", "0", "--sessions", "1"].as_slice(),
-        [
-            "serve",
-            "--port",
-            "65536",
-            "--blocks",
-            "1",
-            "--sessions",
-            "1",
-        ]
-        .as_slice(),
-        ["serve", "--port", "-1", "--blocks", "1", "--sessions", "1"].as_slice(),
-        ["serve", "--port", "+1", "--blocks", "1", "--sessions", "1"].as_slice(),
-        ["serve", "--port", "", "--blocks", "1", "--sessions", "1"].as_slice(),
-        [
-            "serve",
-            "--port",
-            "0x10",
-            "--blocks",
-            "1",
-            "--sessions",
-            "1",
-        ]
-        .as_slice(),
-        ["serve", "--port", "0", "--blocks", "0", "--sessions", "1"].as_slice(),
-        [
-            "serve",
-            "--port",
-            "0",
-            "--blocks",
-            "65537",
-            "--sessions",
-            "1",
-        ]
-        .as_slice(),
-        [
-            "serve",
-            "--port",
-            "0",
-            "--blocks",
-            "1",
-            "--sessions",
-            "65536",
-        ]
-        .as_slice(),
-        [
-            "serve",
-            "--port",
-            "0",
-            "--blocks",
-            "1",
-            "--sessions",
-            "1",
-            "--hex",
-        ]
-        .as_slice(),
-        [
-            "serve",
-            "--port",
-            "0",
-            "--blocks",
-            "1",
-            "--sessions",
-            "1",
-            "2",
-        ]
-        .as_slice(),
-        ["--port", "0"].as_slice(),
-        ["--help"].as_slice(),
-        ["show", "--help"].as_slice(),
-        ["help"].as_slice(),
-        ["--version"].as_slice(),
-    ];
-    for words in rows {
-        match read_words(rt.alloc(), words) {
-            Err(LineFault::Usage(text)) => assert!(rt; text.ends_with("\n"), "{words:?}"),
-            Err(LineFault::NoMemory) | Ok(_) => assert!(rt; false, "{words:?}"),
-        }
+    for (line, text) in REFUSED {
+        let said = said_of(rt.alloc(), line)?;
+        let is_whole = said.starts_with(*text) && said.ends_with("\n");
+        same(&rt, &is_whole, &true, &(line, said.as_str()));
     }
     Ok(())
 }
 
 #[test]
-fn help_names_the_programs(rt: HostRuntime) -> Result<(), Fail> {
-    let Err(LineFault::Usage(text)) = read_words(rt.alloc(), &["--help"]) else {
-        assert!(rt; false);
-        return Ok(());
-    };
-    assert!(rt; text.contains("Usage: lanthovur"), "{text}");
-    assert!(rt; text.contains("show"), "{text}");
-    assert!(rt; text.contains("normalise"), "{text}");
-    Ok(())
-}
-
-#[test]
-fn words_of_a_loop(rt: HostRuntime) -> Result<(), Fail> {
-    let rows = [
-        (
-            ["loop", "--blocks", "2048", "--piece", "48"].as_slice(),
-            (2048, 48),
-        ),
-        (["loop", "--piece=1", "--blocks=1"].as_slice(), (1, 1)),
-        (
-            ["loop", "--piece", "04096", "--blocks", "65536"].as_slice(),
-            (65_536, 4096),
-        ),
-    ];
-    for (words, want) in rows {
-        match read_words(rt.alloc(), words) {
-            Ok(Job::Loop { blocks, piece }) => assert_eq!(rt; (blocks, piece), want, "{words:?}"),
-            Ok(_) | Err(_) => assert!(rt; false, "{words:?}"),
-        }
-    }
-    Ok(())
-}
-
-#[test]
-fn words_of_no_loop(rt: HostRuntime) -> Result<(), Fail> {
-    let rows = [
-        ["loop", "--blocks", "2048", "--piece", "0"].as_slice(),
-        ["loop", "--blocks", "2048", "--piece", "4097"].as_slice(),
-        ["loop", "--blocks", "2048", "--piece", "+1"].as_slice(),
-        ["loop", "--blocks", "2048", "--piece", ""].as_slice(),
-        ["loop", "--blocks", "0", "--piece", "1"].as_slice(),
-        ["loop", "--blocks", "65537", "--piece", "1"].as_slice(),
-        ["loop", "--blocks", "2048"].as_slice(),
-        ["loop", "--piece", "1"].as_slice(),
-        ["loop", "--blocks", "1", "--piece", "1", "--hex"].as_slice(),
-        ["loop", "--blocks", "1", "--piece", "1", "--piece", "1"].as_slice(),
-        ["serve", "--blocks", "1", "--piece", "1"].as_slice(),
-    ];
-    for words in rows {
-        match read_words(rt.alloc(), words) {
-            Err(LineFault::Usage(text)) => assert!(rt; text.ends_with("\n"), "{words:?}"),
-            Err(LineFault::NoMemory) | Ok(_) => assert!(rt; false, "{words:?}"),
-        }
+fn help_names_the_jobs(rt: HostRuntime) -> Result<(), Fail> {
+    let said = said_of(rt.alloc(), "--help")?;
+    for text in HELP {
+        same(&rt, &said.contains(*text), &true, text);
     }
     Ok(())
 }
