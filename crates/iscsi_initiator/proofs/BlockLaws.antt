@@ -7,6 +7,7 @@ use Rattle.scsi_cdb.specs.declared.block.Cdb.{Cdb}
 use Rattle.scsi_cdb.specs.Layout.{number_at, bits_at, part}
 use Rattle.scsi_cdb.specs.Blocks.{IsRecord, is_listed}
 use Rattle.iscsi_initiator.specs.Block.{record_of, record_by}
+use Rattle.scsi_cdb.proofs.Records.{part-whole}
 
 by_test : (b : List ℕ) (t : Bool) (x y : Cdb) → (t ≡ true → IsRecord b x) → (t ≡ false → IsRecord b y) → IsRecord b (if t then x else y)
 by_test b true x y p q = p refl
@@ -22,10 +23,6 @@ or_false false y e f = f
 
 other : (b : List ℕ) (code c : ℕ) → number_at 0 0 b ≡ code → (code == c) ≡ false → (c == number_at 0 0 b) ≡ false
 other b code c e t = ne_eqb c (number_at 0 0 b) (λ q. eqb-false code c t (sym (q ∙ e)))
-
-same_part : (b : List ℕ) → length b ≡ 16 → part 0 15 b ≡ b
-unfolding part
-same_part b len = take_all 16 b (omega arith)
 
 by_code : (b : List ℕ) (code : ℕ) → length b ≡ 16 → number_at 0 0 b ≡ code → IsRecord b (record_by code b)
 by_code b code len e =
@@ -43,7 +40,7 @@ by_code b code len e =
       size = len;
       rows = (refl, tt);
       unlisted =
-          subst (λ (x : List ℕ). is_listed x ≡ false) (sym (same_part b len))
+          subst (λ (x : List ℕ). is_listed x ≡ false) (sym (part-whole b len))
           (or_false _ _
           (or_false _ _ (other b code 0x00 e f0) (or_false _ _ (other b code 0x12 e f1) (or_false _ _ (other b code 0x25 e f2) (or_false _ _ (other b code 0x28 e f3)
           (or_false _ _ (other b code 0x2a e f4) (or_false _ _ (other b code 0x88 e f5) (or_false _ _ (other b code 0x8a e f6) (or_false _ _ (other b code 0xa0 e f8) refl))))))))

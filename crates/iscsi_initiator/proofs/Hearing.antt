@@ -8,7 +8,7 @@ use Rattle.iscsi_stream.specs.declared.fault.StreamFault.TheVariants as stream
 use Rattle.iscsi_stream.specs.Stream.{Message}
 use Rattle.iscsi_stream.specs.Canonical.{canon, canonical_bytes}
 use Rattle.iscsi_stream.specs.Framing.{Framing, Takes, Moves, FeedFails, is_ready, given_up, message_of}
-use Rattle.iscsi_stream.proofs.Taking.{moves_none, moves_fed, moves_gave, moves_then}
+use Rattle.iscsi_stream.proofs.Taking.{moves_none, moves_fed, moves_gave, moves_then, taken_more, moves_taken}
 use Rattle.iscsi_stream.proofs.PassOn.{unready_after}
 use Rattle.iscsi_login.specs.declared.phase.Phase.{Phase}
 use Rattle.iscsi_login.specs.declared.phase.Phase.TheVariants as phases
@@ -103,19 +103,13 @@ heard_none old piece before unready live = record {
   live = live;
 }
 
-taken_more : (piece front rest : List ℕ) (n : ℕ) → piece ≡ front ++ rest → piece ≡ (front ++ take n rest) ++ drop n rest
-taken_more piece front rest n e = e ∙ ap (λ (x : List ℕ). front ++ x) (sym (take-append-drop n rest)) ∙ sym (append_assoc front (take n rest) (drop n rest))
-
-moved : (a b c : Framing) (x : List ℕ) (n : ℕ) (rest : List ℕ) (ms : List Message) → Moves a b x ms → Takes b rest n c → Moves a c (x ++ take n rest) ms
-moved a b c x n rest ms p t = subst (λ (ks : List Message). Moves a c (x ++ take n rest) ks) (append-nil ms) (moves_then a b c x (take n rest) ms [] p (moves_fed b rest n c t))
-
 heard_bytes : (old : Connection) (piece rest before : List ℕ) (now : Connection) (written : List ℕ) (n : ℕ) (framing : Framing)
     → GoesUpTo old piece rest now before written → Takes now.framing rest n framing → is_ready framing ≡ false → HeardUpTo old piece (drop n rest) (connection now.machine framing) before written
 heard_bytes old piece rest before now written n framing g t unready = let h = g.heard in record {
   front = h.front ++ take n rest;
   parts = taken_more piece h.front rest n h.parts;
   messages = h.messages;
-  moves = moved old.framing now.framing framing h.front n rest h.messages h.moves t;
+  moves = moves_taken old.framing now.framing framing h.front n rest h.messages h.moves t;
   limit = ap (λ (v : Framing). v.limit) t.gathered ∙ h.limit;
   unready = unready;
   machine_is = h.machine_is;
@@ -140,7 +134,7 @@ heard_pdu old piece rest before now written n framing fault new after g t a =
             subst (λ (v : Framing). Moves old.framing v (h.front ++ take n rest) (h.messages ++ x ∷ [])) (sym a.framing_is)
             (subst (λ (y : List ℕ). Moves old.framing (given_up framing a.head) y (h.messages ++ x ∷ [])) (append-nil (h.front ++ take n rest))
             (moves_then old.framing framing (given_up framing a.head) (h.front ++ take n rest) [] h.messages (x ∷ [])
-            (moved old.framing now.framing framing h.front n rest h.messages h.moves t) (moves_gave framing a.head a.segment a.means)));
+            (moves_taken old.framing now.framing framing h.front n rest h.messages h.moves t) (moves_gave framing a.head a.segment a.means)));
         limit = ap (λ (v : Framing). v.limit) a.framing_is ∙ ap (λ (v : Framing). v.limit) t.gathered ∙ h.limit;
         unready = ap is_ready a.framing_is ∙ unready_after framing a.head;
         machine_is = machine ∙ sym next.machine;

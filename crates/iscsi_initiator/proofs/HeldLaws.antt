@@ -27,7 +27,7 @@ use Rattle.iscsi_initiator.specs.Full.{Due, Asked, Pong, Data, Ready, Response, 
 use Rattle.iscsi_initiator.specs.Machine.{step, step_in, taken}
 use Rattle.iscsi_initiator.specs.Submitted.{submitted, or_accepted, accepted, refusal}
 use Rattle.iscsi_initiator.specs.Configured.{IsStart}
-use Rattle.iscsi_initiator.specs.Laws.{Event, Starts, Comes, Asks, Takes, Ends, after, run, HeldStays}
+use Rattle.iscsi_initiator.specs.Laws.{Event, Starts, Meets, Comes, Asks, Takes, Ends, after, run, HeldStays}
 
 -- ---- in full feature phase
 
@@ -185,9 +185,9 @@ start_goes false m s = started_goes m.started m refl s
 event_goes : (m : Machine) (e : Event) → Sound m → Goes m (after m e)
 unfolding step submitted
 event_goes m Starts s = start_goes (is_closed m) m s
-event_goes m (Comes message) s = step_goes m.phase m message refl s
-event_goes m (Asks request) s = submitted_goes (refusal m request) m request s
-event_goes m Takes s = goes_by m (taken m) s refl refl refl (λ f. f)
+event_goes m (Meets (Comes message)) s = step_goes m.phase m message refl s
+event_goes m (Meets (Asks request)) s = submitted_goes (refusal m request) m request s
+event_goes m (Meets Takes) s = goes_by m (taken m) s refl refl refl (λ f. f)
 event_goes m Ends s = goes_by m (closed m) s refl refl refl (λ g. absurd (subst (λ (p : Phase). IsShut p) g tt))
 
 -- ---- runs
@@ -199,7 +199,7 @@ run_goes m (event ∷ events) s =
     let rest : Goes (after m event) (run (after m event) events) = run_goes (after m event) events one.sound in
     record { sound = rest.sound; stays = λ f. ((rest.stays ((one.stays f).0 ∙ f)).0 ∙ (one.stays f).0, (rest.stays ((one.stays f).0 ∙ f)).1 ∙ (one.stays f).1) }
 
-start_not_full : (stage : Stage) → IsStart stage → stage ≡ stages.Full → ⊥
+pub start_not_full : (stage : Stage) → IsStart stage → stage ≡ stages.Full → ⊥
 start_not_full stages.Security i e = subst (λ (p : Stage). IsLast p) (sym e) tt
 start_not_full stages.Operational i e = subst (λ (p : Stage). IsLast p) (sym e) tt
 start_not_full stages.Full i e = i

@@ -17,7 +17,8 @@ use Rattle.iscsi_initiator.specs.declared.request.Refused.{Refused}
 use Rattle.iscsi_initiator.specs.declared.request.Request.{Request}
 use Rattle.iscsi_initiator.specs.declared.request.SubmitFault.{SubmitFault}
 use Rattle.iscsi_initiator.specs.declared.request.SubmitFault.TheVariants as refusals
-use Rattle.iscsi_initiator.specs.State.{Machine, is_closed, is_closed_phase}
+use Rattle.iscsi_initiator.specs.State.{Machine, is_closed}
+use Rattle.iscsi_login.specs.Stage.{is_closed_phase}
 use Rattle.iscsi_initiator.specs.Steps.{Stepped, closed, quiet}
 use Rattle.iscsi_initiator.specs.Machine.{step, step_in, steps, then_steps}
 use Rattle.iscsi_initiator.specs.Submitted.{or_accepted, refusal_in, submitted}
@@ -217,7 +218,7 @@ one_feed stream piece output written rewritten ms old same a b result other t li
 
 -- ---- a request
 
-closed_phase : (p : Phase) → is_closed_phase p ≡ true → p ≡ phases.Closed
+pub closed_phase : (p : Phase) → is_closed_phase p ≡ true → p ≡ phases.Closed
 closed_phase phases.Login over = absurd cc
 closed_phase phases.Full over = absurd cc
 closed_phase phases.Closed over = refl

@@ -2,7 +2,7 @@
 use Rattle.std.proofs.Common.{◌≡◌, refl, ap, sym, ◌∙◌, subst, Bool, true, false, List, [], ◌∷◌, ◌++◌, ℕ, ◌+◌, ◌≤◌, Option, Some, None, length, is_some, append_assoc, append-nil, arith, length-append}
 use Rattle.std.specs.Prelude.{if◌then◌else◌, not, ◌&&◌, ◌==◌, nat_lt, unwrap_or, ◌||◌}
 use Rattle.std.proofs.lemmas.Bool.{leb-true}
-use Rattle.iscsi_pdu.specs.Fields.{is_tag}
+use Rattle.iscsi_pdu.specs.Fields.{is_tag, reserved_tag}
 use Rattle.iscsi_text.specs.Text.{Pairs}
 use Rattle.iscsi_text.specs.Canonical.{canonical_text}
 use Rattle.iscsi_pdu.specs.declared.head.Head.{Head}
@@ -28,14 +28,15 @@ use Rattle.iscsi_initiator.specs.declared.request.SubmitFault.{SubmitFault}
 use Rattle.iscsi_initiator.specs.declared.open.Open.{Open}
 use Rattle.iscsi_initiator.specs.declared.open.Open.TheVariants.{In, Out, Ping, Text, Logout}
 use Rattle.iscsi_initiator.specs.Progress.{Reading, Writing}
-use Rattle.iscsi_initiator.specs.State.{Settings, Machine, opening, is_closed, next, reserved_tag}
+use Rattle.iscsi_initiator.specs.State.{Settings, Machine, opening, is_closed}
+use Rattle.iscsi_pdu.specs.Serial.{next_sn}
 use Rattle.iscsi_initiator.specs.Steps.{Stepped, closed, breaks, quiet}
 use Rattle.iscsi_initiator.specs.Login.{counted, fits_segment, moves_on, goes_on, is_expected, start_step, login_step, enters, judged, offered, text_answered, in_turn, answered, asked, sends_text}
 use Rattle.iscsi_initiator.specs.Full.{Due, Asked, Pong, Data, Ready, Response, TextAnswer, LogoutAnswer, Notice, Refusal, on_due, outcome_with, sense_of, takes, due, due_to, answer_due, tag_of, fits_reading, fits_writing, passed, is_in_turn, checked_stat_sn, completes, has_received, read_outcome, residual}
 use Rattle.iscsi_initiator.specs.Machine.{step, step_in, taken}
 use Rattle.iscsi_initiator.specs.Submitted.{submitted, or_accepted, accepted as accept, refusal, refusal_in}
 use Rattle.iscsi_initiator.specs.declared.request.SubmitFault.TheVariants as refusals
-use Rattle.iscsi_initiator.specs.Laws.{Event, Starts, Comes, Asks, Takes, Ends, after, run, accepted, accepted_in, accepted_if, given, given_in, listed, IsOutcomeOf, AreOutcomesOf, OutcomesInOrder}
+use Rattle.iscsi_initiator.specs.Laws.{Event, Starts, Meets, Comes, Asks, Takes, Ends, after, run, accepted, accepted_in, accepted_if, given, given_in, listed, IsOutcomeOf, AreOutcomesOf, OutcomesInOrder}
 
 -- an open request as it was handed in
 abbrev pub IsFor : Open → Request → Type 0
@@ -124,11 +125,11 @@ data_turn true false m r h bytes e f =
     let le : length r.received + length bytes ≤ r.expected = leb-true _ _ (and_right _ _ f) in
     goes (record {
       old = In r;
-      new = In (record r { received = r.received ++ bytes; next_data_sn = next r.next_data_sn });
+      new = In (record r { received = r.received ++ bytes; next_data_sn = next_sn r.next_data_sn });
       was = e;
       is = refl;
       outcome = refl;
-      fits = more_fits r bytes (next r.next_data_sn) le;
+      fits = more_fits r bytes (next_sn r.next_data_sn) le;
     })
 
 out_more : (w v : Writing) (q : Request) → IsFor (Out w) q → IsFor (Out v) q
@@ -216,7 +217,7 @@ due_turn (Some Ping) (heads.NopIn h) m bytes e =
 due_turn (Some (In r)) (heads.DataIn h) m bytes e = some_turn m (Data r h) bytes (data_turn (fits_reading r h bytes) h.has_status (passed m (Data r h)) r h bytes e refl)
 due_turn (Some (In r)) (heads.ScsiResponse h) m bytes e = some_turn m (Response r.received h) bytes (in_response (sense_of bytes) (passed m (Response r.received h)) r h e)
 due_turn (Some (Out w)) (heads.ReadyToTransfer h) m bytes e =
-    let v : Writing = record w { sent = w.sent + h.desired_data_transfer_length; next_r2t_sn = next w.next_r2t_sn } in
+    let v : Writing = record w { sent = w.sent + h.desired_data_transfer_length; next_r2t_sn = next_sn w.next_r2t_sn } in
     some_turn m (Ready w h) bytes (turn_if (passed m (Ready w h)) (fits_writing (passed m (Ready w h)) w h) _ _
     (goes (record { old = Out w; new = Out v; was = e; is = refl; outcome = refl; fits = out_more w v }))
     (same _ _ refl refl))
@@ -424,10 +425,10 @@ none_more m n rs ds t i =
 event_inv : (m : Machine) (event : Event) (rs : List Request) (ds : List Done) → Inv m rs ds → Inv (after m event) (rs ++ accepted_in m event) (ds ++ given_in m event)
 unfolding step submitted
 event_inv m Starts rs ds i = none_more m _ rs ds (if_turn (is_closed m) m (start_step m).machine (start_turn m)) i
-event_inv m (Comes message) rs ds i = none_more m _ rs ds (step_turn m.phase m message) i
-event_inv m (Asks request) rs ds i =
+event_inv m (Meets (Comes message)) rs ds i = none_more m _ rs ds (step_turn m.phase m message) i
+event_inv m (Meets (Asks request)) rs ds i =
     subst (λ (ys : List Done). Inv (or_accepted (refusal m request) m request).machine (rs ++ accepted_if (refusal m request) request) ys) (sym (append-nil ds)) (asks_inv (refusal m request) m request rs ds refl i)
-event_inv m Takes rs ds i = subst (λ (xs : List Request). Inv (taken m) xs (ds ++ listed m.done)) (sym (append-nil rs)) (takes_inv m rs ds i)
+event_inv m (Meets Takes) rs ds i = subst (λ (xs : List Request). Inv (taken m) xs (ds ++ listed m.done)) (sym (append-nil rs)) (takes_inv m rs ds i)
 event_inv m Ends rs ds i = none_more m (closed m) rs ds (same m (closed m) refl refl) i
 
 -- ---- runs

@@ -2,7 +2,7 @@
 use Rattle.std.proofs.Common.{◌≡◌, refl, ap, sym, ◌∙◌, subst, Bool, true, false, List, [], ◌∷◌, ◌++◌, ℕ, ◌+◌, ◌⊎◌, inl, inr, Option, Some, None, length, append_assoc, append-nil, arith, length-append}
 use Rattle.std.specs.Prelude.{if◌then◌else◌, not, ◌==◌, nat_lt, unwrap_or}
 use Rattle.std.proofs.lemmas.Bool.{and_parts, eqb-true}
-use Rattle.iscsi_pdu.specs.Fields.{is_tag}
+use Rattle.iscsi_pdu.specs.Fields.{is_tag, reserved_tag}
 use Rattle.iscsi_pdu.specs.declared.head.Head.{Head}
 use Rattle.iscsi_pdu.specs.declared.head.Head.TheVariants as heads
 use Rattle.iscsi_pdu.specs.declared.head.scsi_response.ScsiResponse.{ScsiResponse}
@@ -15,24 +15,23 @@ use Rattle.iscsi_initiator.specs.declared.request.Done.TheVariants as done
 use Rattle.iscsi_initiator.specs.declared.open.Open.{Open}
 use Rattle.iscsi_initiator.specs.declared.open.Open.TheVariants.{In, Out, Ping, Text, Logout}
 use Rattle.iscsi_initiator.specs.Progress.{Reading}
-use Rattle.iscsi_initiator.specs.State.{Machine, next, reserved_tag}
+use Rattle.iscsi_initiator.specs.State.{Machine}
+use Rattle.iscsi_pdu.specs.Serial.{next_sn}
 use Rattle.iscsi_initiator.specs.Steps.{Stepped, breaks, quiet}
 use Rattle.iscsi_initiator.specs.Full.{Due, Asked, Data, Response, Notice, Refusal, on_due, outcome_with, sense_of, takes, due, due_to, answer_due, tag_of, fits_reading, passed, is_in_turn, checked_stat_sn, completes, has_received, read_outcome, residual}
 use Rattle.iscsi_initiator.specs.Machine.{step, step_in}
-use Rattle.iscsi_initiator.specs.Laws.{TilesFrom, data_piece, data_pieces, piece_bytes, hears, IsReceiving, HasReceived, ReadsTile}
+use Rattle.iscsi_initiator.specs.Laws.{hears, IsReceiving, HasReceived, ReadsTile}
+use Rattle.iscsi_stream.specs.Pieces.{TilesFrom, data_piece, data_pieces, data_of, Pieces}
 
 -- the read goes on with these bytes, or has them as its data
 abbrev pub Stands : Machine → List ℕ → Type 0
 Stands m bytes = IsReceiving m bytes ⊎ HasReceived m bytes
 
-abbrev pub Pieces : Type 0
-Pieces = List (ℕ × List ℕ)
-
 -- behind these bytes a message brought these pieces
 pub record Got (a : List ℕ) (ps : Pieces) (n : Machine) : Type 0 where
   pub full : n.phase ≡ phases.Full
-  pub tiles : TilesFrom (length a) ps (length a + length (piece_bytes ps))
-  pub now : Stands n (a ++ piece_bytes ps)
+  pub tiles : TilesFrom (length a) ps (length a + length (data_of ps))
+  pub now : Stands n (a ++ data_of ps)
 
 -- it did, or it closed the session
 pub data Gets (a : List ℕ) (ps : Pieces) (n : Machine) : Type 0 where
@@ -106,7 +105,7 @@ data_gets true false m a r h bytes p e f =
     got (record {
       full = p;
       tiles = one_piece a bytes h.buffer_offset at;
-      now = inl (record { reading = record r { received = r.received ++ bytes; next_data_sn = next r.next_data_sn }; is = refl; received = more_bytes a r.received bytes e });
+      now = inl (record { reading = record r { received = r.received ++ bytes; next_data_sn = next_sn r.next_data_sn }; is = refl; received = more_bytes a r.received bytes e });
     })
 
 response_gets : (o : Option (List ℕ)) (m : Machine) (a : List ℕ) (r : Reading) (h : ScsiResponse) → m.phase ≡ phases.Full → r.received ≡ a → Gets a [] (outcome_with o m r.received h).machine
@@ -182,28 +181,28 @@ tiles_then : (x mid end : ℕ) (ps qs : Pieces) → TilesFrom x ps mid → Tiles
 tiles_then x mid end [] qs t u = subst (λ (n : ℕ). TilesFrom n qs end) (sym t) u
 tiles_then x mid end (p ∷ ps) qs t u = (t.0, tiles_then (x + length p.1) mid end ps qs t.1 u)
 
-bytes_then : (ps qs : Pieces) → piece_bytes (ps ++ qs) ≡ piece_bytes ps ++ piece_bytes qs
+bytes_then : (ps qs : Pieces) → data_of (ps ++ qs) ≡ data_of ps ++ data_of qs
 bytes_then [] qs = refl
-bytes_then (p ∷ ps) qs = ap (λ (x : List ℕ). p.1 ++ x) (bytes_then ps qs) ∙ sym (append_assoc p.1 (piece_bytes ps) (piece_bytes qs))
+bytes_then (p ∷ ps) qs = ap (λ (x : List ℕ). p.1 ++ x) (bytes_then ps qs) ∙ sym (append_assoc p.1 (data_of ps) (data_of qs))
 
 pub record Heard (m : Machine) (a : List ℕ) (messages : List Message) : Type 0 where
-  pub tiles : TilesFrom (length a) (data_pieces messages) (length a + length (piece_bytes (data_pieces messages)))
-  pub now : Stands (hears m messages) (a ++ piece_bytes (data_pieces messages))
+  pub tiles : TilesFrom (length a) (data_pieces messages) (length a + length (data_of (data_pieces messages)))
+  pub now : Stands (hears m messages) (a ++ data_of (data_pieces messages))
 
 joins : (m : Machine) (a : List ℕ) (message : Message) (messages : List Message)
     → Got a (data_piece message.head (segment_bytes message.segment)) (step m message).machine
-    → Heard (step m message).machine (a ++ piece_bytes (data_piece message.head (segment_bytes message.segment))) messages → Heard m a (message ∷ messages)
+    → Heard (step m message).machine (a ++ data_of (data_piece message.head (segment_bytes message.segment))) messages → Heard m a (message ∷ messages)
 joins m a message messages g h =
     let ps : Pieces = data_piece message.head (segment_bytes message.segment) in
     let qs : Pieces = data_pieces messages in
-    let whole : a ++ piece_bytes ps ++ piece_bytes qs ≡ a ++ piece_bytes (ps ++ qs) = append_assoc a (piece_bytes ps) (piece_bytes qs) ∙ ap (λ (x : List ℕ). a ++ x) (sym (bytes_then ps qs)) in
-    let len : length (a ++ piece_bytes ps) ≡ length a + length (piece_bytes ps) = length-append a (piece_bytes ps) in
-    let end : length (a ++ piece_bytes ps) + length (piece_bytes qs) ≡ length a + length (piece_bytes (ps ++ qs)) =
-    sym (length-append (a ++ piece_bytes ps) (piece_bytes qs)) ∙ ap (λ (x : List ℕ). length x) whole ∙ length-append a (piece_bytes (ps ++ qs)) in
+    let whole : a ++ data_of ps ++ data_of qs ≡ a ++ data_of (ps ++ qs) = append_assoc a (data_of ps) (data_of qs) ∙ ap (λ (x : List ℕ). a ++ x) (sym (bytes_then ps qs)) in
+    let len : length (a ++ data_of ps) ≡ length a + length (data_of ps) = length-append a (data_of ps) in
+    let end : length (a ++ data_of ps) + length (data_of qs) ≡ length a + length (data_of (ps ++ qs)) =
+    sym (length-append (a ++ data_of ps) (data_of qs)) ∙ ap (λ (x : List ℕ). length x) whole ∙ length-append a (data_of (ps ++ qs)) in
     record {
-      tiles = tiles_then (length a) (length (a ++ piece_bytes ps)) (length a + length (piece_bytes (ps ++ qs))) ps qs
+      tiles = tiles_then (length a) (length (a ++ data_of ps)) (length a + length (data_of (ps ++ qs))) ps qs
           (subst (λ (n : ℕ). TilesFrom (length a) ps n) (sym len) g.tiles)
-          (subst (λ (n : ℕ). TilesFrom (length (a ++ piece_bytes ps)) qs n) end h.tiles);
+          (subst (λ (n : ℕ). TilesFrom (length (a ++ data_of ps)) qs n) end h.tiles);
       now = subst (λ (x : List ℕ). Stands (hears (step m message).machine messages) x) whole h.now;
     }
 
@@ -212,7 +211,7 @@ hears_all m a [] p s f = record { tiles = omega arith; now = subst (λ (x : List
 hears_all m a (message ∷ messages) p s f =
     elim (step_gets m message a p s) [
       | shut e ↦ absurd (subst (λ (x : Phase). IsShut x) (sym (closed_hears (step m message).machine messages e) ∙ f) tt)
-      | got g ↦ joins m a message messages g (hears_all (step m message).machine (a ++ piece_bytes (data_piece message.head (segment_bytes message.segment))) messages g.full g.now f)
+      | got g ↦ joins m a message messages g (hears_all (step m message).machine (a ++ data_of (data_piece message.head (segment_bytes message.segment))) messages g.full g.now f)
     ]
 
 pub reads_tile : ReadsTile

@@ -3,46 +3,34 @@ use Rattle.std.proofs.Common.{◌≡◌, refl, ap, sym, ◌∙◌, subst, List, 
 use Rattle.std.proofs.lemmas.List.{length-drop}
 use Rattle.iscsi_pdu.specs.declared.head.data_out.DataOut.{DataOut}
 use Rattle.iscsi_stream.specs.Segment.{segment_bytes}
-use Rattle.iscsi_initiator.specs.State.{Machine, next}
-use Rattle.iscsi_initiator.specs.Full.{pieces_of, pieces, data_outs, sequence}
-use Rattle.iscsi_initiator.specs.Laws.{TilesFrom, data_pieces, piece_bytes, IsSequence}
+use Rattle.iscsi_initiator.specs.State.{Machine}
+use Rattle.iscsi_pdu.specs.Serial.{next_sn}
+use Rattle.iscsi_initiator.specs.Full.{data_outs, sequence}
+use Rattle.iscsi_stream.specs.Pieces.{chunks_within, chunks, TilesFrom, data_pieces, data_of}
+use Rattle.iscsi_initiator.specs.Laws.{IsSequence}
+use Rattle.iscsi_stream.proofs.Chunks.{joined, joined_chunks}
 
--- the pieces one after the other
-abbrev pub joined : List (List ℕ) → List ℕ
-joined [] = []
-joined (piece ∷ more) = piece ++ joined more
-
-pub shorter : (n k : ℕ) (x : ℕ) (xs : List ℕ) → 0 < n → length (x ∷ xs) ≤ suc k → length (drop n (x ∷ xs)) ≤ k
-shorter n k x xs some le = rw (length-drop n (x ∷ xs)) (omega arith)
-
-pub joined_pieces : (k n : ℕ) (bytes : List ℕ) → 0 < n → length bytes ≤ k → joined (pieces_of k n bytes) ≡ bytes
-joined_pieces zero n [] some le = refl
-joined_pieces zero n (x ∷ xs) some le = absurd (omega arith)
-joined_pieces (suc k) n [] some le = refl
-joined_pieces (suc k) n (x ∷ xs) some le =
-    ap (λ (ys : List ℕ). take n (x ∷ xs) ++ ys) (joined_pieces k n (drop n (x ∷ xs)) some (shorter n k x xs some le)) ∙ take-append-drop n (x ∷ xs)
-
-carries : (h : DataOut) (ps : List (List ℕ)) → piece_bytes (data_pieces (data_outs h ps)) ≡ joined ps
+carries : (h : DataOut) (ps : List (List ℕ)) → data_of (data_pieces (data_outs h ps)) ≡ joined ps
 unfolding segment_bytes
 carries h [] = refl
-carries h (piece ∷ more) = ap (λ (ys : List ℕ). piece ++ ys) (carries (record h { data_sn = next h.data_sn; buffer_offset = h.buffer_offset + length piece }) more)
+carries h (piece ∷ more) = ap (λ (ys : List ℕ). piece ++ ys) (carries (record h { data_sn = next_sn h.data_sn; buffer_offset = h.buffer_offset + length piece }) more)
 
 tiles : (h : DataOut) (ps : List (List ℕ)) → TilesFrom h.buffer_offset (data_pieces (data_outs h ps)) (h.buffer_offset + length (joined ps))
 unfolding segment_bytes
 tiles h [] = omega arith
 tiles h (piece ∷ more) =
-    let rest : TilesFrom (h.buffer_offset + length piece) (data_pieces (data_outs (record h { data_sn = next h.data_sn; buffer_offset = h.buffer_offset + length piece }) more)) (h.buffer_offset + length piece + length (joined more)) =
-    tiles (record h { data_sn = next h.data_sn; buffer_offset = h.buffer_offset + length piece }) more in (
+    let rest : TilesFrom (h.buffer_offset + length piece) (data_pieces (data_outs (record h { data_sn = next_sn h.data_sn; buffer_offset = h.buffer_offset + length piece }) more)) (h.buffer_offset + length piece + length (joined more)) =
+    tiles (record h { data_sn = next_sn h.data_sn; buffer_offset = h.buffer_offset + length piece }) more in (
       refl,
-      subst (λ (end : ℕ). TilesFrom (h.buffer_offset + length piece) (data_pieces (data_outs (record h { data_sn = next h.data_sn; buffer_offset = h.buffer_offset + length piece }) more)) end)
+      subst (λ (end : ℕ). TilesFrom (h.buffer_offset + length piece) (data_pieces (data_outs (record h { data_sn = next_sn h.data_sn; buffer_offset = h.buffer_offset + length piece }) more)) end)
           (add_assoc h.buffer_offset (length piece) (length (joined more)) ∙ ap (λ (n : ℕ). h.buffer_offset + n) (sym (length-append piece (joined more)))) rest,
     )
 
 -- what a write sends in one sequence is its bytes, tiled from the offset
 pub sequence_is : (m : Machine) (lun : Option ℕ) (target_transfer_tag offset : ℕ) (bytes : List ℕ) → 0 < m.held.target_max_recv → IsSequence offset bytes (sequence m lun target_transfer_tag offset bytes)
 sequence_is m lun target_transfer_tag offset bytes some =
-    let whole : joined (pieces m.held.target_max_recv bytes) ≡ bytes = joined_pieces (length bytes) m.held.target_max_recv bytes some (omega arith) in
+    let whole : joined (chunks m.held.target_max_recv bytes) ≡ bytes = joined_chunks m.held.target_max_recv bytes some in
     record {
-      tiles = subst (λ (ys : List ℕ). TilesFrom offset (data_pieces (sequence m lun target_transfer_tag offset bytes)) (offset + length ys)) whole (tiles _ (pieces m.held.target_max_recv bytes));
-      carries = carries _ (pieces m.held.target_max_recv bytes) ∙ whole;
+      tiles = subst (λ (ys : List ℕ). TilesFrom offset (data_pieces (sequence m lun target_transfer_tag offset bytes)) (offset + length ys)) whole (tiles _ (chunks m.held.target_max_recv bytes));
+      carries = carries _ (chunks m.held.target_max_recv bytes) ∙ whole;
     }

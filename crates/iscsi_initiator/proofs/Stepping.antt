@@ -27,19 +27,16 @@ use Rattle.iscsi_initiator.specs.Inside.{Did}
 use Rattle.iscsi_initiator.specs.Steps.{breaks, quiet, closed}
 use Rattle.iscsi_initiator.specs.Full.{Due, due_to, takes, full_step}
 use Rattle.iscsi_initiator.specs.Machine.{step, step_in}
+use Rattle.std.proofs.Math.Bool.{and-false}
 
 pub step_is : (m : Machine) (message : Message) → step m message ≡ step_in m.phase m message
 unfolding step
 step_is m message = refl
 
-and_false : (b : Bool) → (b && false) ≡ false
-and_false true = refl
-and_false false = refl
-
 by_plain : (continued : Bool) (m : Machine) (head : Head) (bytes : List ℕ) → is_last head ≡ false → full_step m head (segment_bytes (segment_of continued head bytes)) ≡ full_step m head bytes
 unfolding segment_bytes
 by_plain continued m head bytes e =
-    ap (λ (s : Segment). full_step m head (segment_bytes s)) (sym (segment_plain continued head bytes (ap (λ (b : Bool). not continued && b) e ∙ and_false (not continued))))
+    ap (λ (s : Segment). full_step m head (segment_bytes s)) (sym (segment_plain continued head bytes (ap (λ (b : Bool). not continued && b) e ∙ and-false (not continued))))
 
 no_request : (request : Option Open) (h : LoginRequest) → due_to request (heads.LoginRequest h) ≡ None
 no_request None h = refl

@@ -16,20 +16,22 @@ use Rattle.iscsi_pdu.specs.declared.head.ready_to_transfer.ReadyToTransfer.{Read
 use Rattle.iscsi_pdu.specs.declared.head.async_message.AsyncMessage.{AsyncMessage}
 use Rattle.iscsi_pdu.specs.declared.head.reject.Reject.{Reject}
 use Rattle.iscsi_pdu.specs.declared.serial.Window.{Window}
-use Rattle.iscsi_pdu.specs.Fields.{is_tag}
-use Rattle.iscsi_pdu.specs.Serial.{moved}
+use Rattle.iscsi_pdu.specs.Fields.{is_tag, reserved_tag}
+use Rattle.iscsi_pdu.specs.Serial.{moved, next_sn}
 use Rattle.iscsi_stream.specs.Segment.{Bytes}
 use Rattle.iscsi_stream.specs.Stream.{Message}
 use Rattle.iscsi_login.specs.declared.key.NegKey.TheVariants.{MaxBurstLength}
-use Rattle.iscsi_login.specs.Held.{held_value, number_of}
+use Rattle.iscsi_login.specs.Held.{held_value, number_of, max_burst}
 use Rattle.iscsi_initiator.specs.declared.request.Done.{Done}
 use Rattle.iscsi_initiator.specs.declared.request.Done.TheVariants as done
 use Rattle.iscsi_initiator.specs.declared.open.Open.{Open}
 use Rattle.iscsi_initiator.specs.declared.open.Open.TheVariants.{In, Out, Ping, Text, Logout}
-use Rattle.iscsi_initiator.specs.State.{Machine, next, serial, reserved_tag, sent_exp_stat_sn}
+use Rattle.iscsi_initiator.specs.State.{Machine, serial, sent_exp_stat_sn}
 use Rattle.iscsi_initiator.specs.Progress.{Reading, Writing}
 use Rattle.iscsi_initiator.specs.Login.{is_expected}
 use Rattle.iscsi_initiator.specs.Steps.{Stepped, closed, breaks, quiet, sends}
+use Rattle.iscsi_stream.specs.Pieces.{chunks}
+use Rattle.iscsi_pdu.specs.Rules.{data_out_of_order, kind_not_due, rejected, segment_too_long, status_out_of_order, text_at_fault}
 
 -- ---- which messages are due
 
@@ -113,7 +115,7 @@ is_in_turn expected (Some stat_sn) = is_expected expected stat_sn
 -- The number expected after it (section 4.2.2.2).
 abbrev pub stat_sn_after : Option ℕ → Option ℕ → Option ℕ
 stat_sn_after expected None = expected
-stat_sn_after expected (Some stat_sn) = Some (next stat_sn)
+stat_sn_after expected (Some stat_sn) = Some (next_sn stat_sn)
 
 -- The session once a message has passed (section 4.2.2).
 abbrev pub passed : Machine → Due → Machine
@@ -157,7 +159,7 @@ abbrev pub has_received : Machine → Reading → List ℕ → Machine
 has_received m r bytes = record m {
   open_request = Some (In (record r {
     received = r.received ++ bytes;
-    next_data_sn = next r.next_data_sn;
+    next_data_sn = next_sn r.next_data_sn;
   }));
 }
 
@@ -175,20 +177,9 @@ read_outcome received h = done.Command 0 (unwrap_or h.status 0) [] received
 -- Data of a read; with a status they complete it (section 11.7).
 abbrev pub on_data : Machine → Reading → DataIn → List ℕ → Stepped
 on_data m r h bytes =
-    if not (fits_reading r h bytes) then breaks m 3
+    if not (fits_reading r h bytes) then breaks m data_out_of_order
     else (if h.has_status then completes m (read_outcome (r.received ++ bytes) h)
     else quiet (has_received m r bytes))
-
--- The bytes in pieces of at most n, in at most so many (section 11.7).
-abbrev pub pieces_of : ℕ → ℕ → List ℕ → List (List ℕ)
-pieces_of zero n bytes = []
-pieces_of (suc more) n [] = []
-pieces_of (suc more) n (byte ∷ bytes) =
-    take n (byte ∷ bytes) ∷ pieces_of more n (drop n (byte ∷ bytes))
-
--- The bytes in pieces of n, the last with the rest (section 11.7).
-abbrev pub pieces : ℕ → List ℕ → List (List ℕ)
-pieces n bytes = pieces_of (length bytes) n bytes
 
 -- No piece follows (section 11.7.1).
 abbrev pub is_last : List (List ℕ) → Bool
@@ -202,7 +193,7 @@ data_outs h [] = []
 data_outs h (piece ∷ more) =
     record { head = heads.DataOut (record h { is_final = is_last more }); segment = Bytes piece }
     ∷ data_outs (record h {
-      data_sn = next h.data_sn;
+      data_sn = next_sn h.data_sn;
       buffer_offset = h.buffer_offset + length piece;
     }) more
 
@@ -217,20 +208,20 @@ sequence m lun target_transfer_tag offset bytes =
       exp_stat_sn = sent_exp_stat_sn m;
       data_sn = 0;
       buffer_offset = offset;
-    }) (pieces m.held.target_max_recv bytes)
+    }) (chunks m.held.target_max_recv bytes)
 
 -- The next R2TSN, the next offset, 1 to MaxBurstLength bytes, all within the data (section 11.8).
 abbrev pub fits_writing : Machine → Writing → ReadyToTransfer → Bool
 fits_writing m w h =
     (h.r2t_sn == w.next_r2t_sn) && (h.buffer_offset == w.sent)
     && nat_le 1 h.desired_data_transfer_length
-    && nat_le h.desired_data_transfer_length (number_of (held_value m.held MaxBurstLength))
+    && nat_le h.desired_data_transfer_length (max_burst m.held)
     && nat_le (w.sent + h.desired_data_transfer_length) (length w.bytes)
 
 -- The write has sent so many bytes more, and was asked once more (section 11.8).
 abbrev pub has_sent : Machine → Writing → ℕ → Machine
 has_sent m w n = record m {
-  open_request = Some (Out (record w { sent = w.sent + n; next_r2t_sn = next w.next_r2t_sn }));
+  open_request = Some (Out (record w { sent = w.sent + n; next_r2t_sn = next_sn w.next_r2t_sn }));
 }
 
 -- A request for data is answered with one sequence (section 11.8).
@@ -240,7 +231,7 @@ on_ready m w h =
     then sends (has_sent m w h.desired_data_transfer_length)
     (sequence m (then_some (is_tag h.target_transfer_tag) h.lun) h.target_transfer_tag w.sent
     (take h.desired_data_transfer_length (drop w.sent w.bytes)))
-    else breaks m 3
+    else breaks m data_out_of_order
 
 -- The sense bytes behind their length; none where the segment is empty (section 11.4.7).
 abbrev pub sense_of : List ℕ → Option (List ℕ)
@@ -251,7 +242,7 @@ sense_of (high ∷ low ∷ bytes) =
 
 -- A response completes its command, unless its sense is cut off (section 11.4).
 abbrev pub outcome_with : Option (List ℕ) → Machine → List ℕ → ScsiResponse → Stepped
-outcome_with None m received h = breaks m 3
+outcome_with None m received h = breaks m data_out_of_order
 outcome_with (Some sense) m received h =
     completes m (done.Command h.response (unwrap_or h.status 0) sense received
     (residual h.overflow h.underflow (unwrap_or h.residual 0)))
@@ -259,7 +250,7 @@ outcome_with (Some sense) m received h =
 -- An answer to a text is to be whole (section 11.11.1; own profile).
 abbrev pub on_text : Machine → TextResponse → List ℕ → Stepped
 on_text m h bytes =
-    if h.is_final && not h.continues then completes m (done.Text bytes) else breaks m 4
+    if h.is_final && not h.continues then completes m (done.Text bytes) else breaks m text_at_fault
 
 -- What a message that passed does (section 11).
 abbrev pub on_due : Machine → Due → List ℕ → Stepped
@@ -271,14 +262,14 @@ on_due m (Response received h) bytes = outcome_with (sense_of bytes) m received 
 on_due m (TextAnswer h) bytes = on_text m h bytes
 on_due m (LogoutAnswer h) bytes = completes (closed m) done.Closed
 on_due m (Notice h) bytes = quiet m
-on_due m (Refusal h) bytes = breaks m 8
+on_due m (Refusal h) bytes = breaks m rejected
 
 -- Kind and tag come first, then the length of the segment, then StatSN (section 7.7; own rule).
 abbrev pub takes : Option Due → Machine → List ℕ → Stepped
-takes None m bytes = breaks m 1
+takes None m bytes = breaks m kind_not_due
 takes (Some d) m bytes =
-    if nat_lt m.held.initiator_max_recv (length bytes) then breaks m 2
-    else (if not (is_in_turn m.exp_stat_sn (checked_stat_sn d)) then breaks m 6
+    if nat_lt m.held.initiator_max_recv (length bytes) then breaks m segment_too_long
+    else (if not (is_in_turn m.exp_stat_sn (checked_stat_sn d)) then breaks m status_out_of_order
     else on_due (passed m d) d bytes)
 
 -- A message in full feature phase (section 4.2).

@@ -15,12 +15,14 @@ use Rattle.iscsi_initiator.specs.declared.fault.InitiatorFault.TheVariants as fa
 use Rattle.iscsi_initiator.specs.declared.fault.InitiatorFault.{InitiatorFault}
 use Rattle.iscsi_initiator.specs.declared.open.Open.{Open}
 use Rattle.iscsi_initiator.specs.declared.open.Open.TheVariants as opens
-use Rattle.iscsi_initiator.specs.State.{Machine, is_closed, serial, next_tag, reserved_tag, sent_exp_stat_sn}
+use Rattle.iscsi_initiator.specs.State.{Machine, is_closed, serial, next_tag, sent_exp_stat_sn}
+use Rattle.iscsi_pdu.specs.Fields.{reserved_tag}
 use Rattle.iscsi_initiator.specs.Steps.{Stepped, closed, breaks}
 use Rattle.iscsi_initiator.specs.Machine.{step}
 use Rattle.iscsi_initiator.specs.Calls.{Connection, Heard, heard_steps, Feeds}
 use Rattle.iscsi_initiator.specs.Submitted.{immediate}
 use Rattle.iscsi_initiator.specs.Full.{is_in_turn, stat_sn_after, on_data, on_ready}
+use Rattle.iscsi_pdu.specs.Rules.{kind_not_due}
 
 -- The step was taken: the session, the output and the fault are its own (own rule).
 pub record Did (stepped : Stepped) (fault : Option InitiatorFault) (new : Machine)
@@ -55,12 +57,12 @@ received_by _ = []
 -- Data that have passed, by the open request (section 11.7).
 abbrev pub received : Option Open → Machine → DataIn → List ℕ → Stepped
 received (Some (opens.In r)) m h bytes = on_data m r h bytes
-received _ m h bytes = breaks m 1
+received _ m h bytes = breaks m kind_not_due
 
 -- A request for data that has passed, by the open request (section 11.8).
 abbrev pub readied : Option Open → Machine → ReadyToTransfer → Stepped
 readied (Some (opens.Out w)) m h = on_ready m w h
-readied _ m h = breaks m 1
+readied _ m h = breaks m kind_not_due
 
 -- The session with this open request (own rule).
 abbrev pub opened : Machine → Open → Machine

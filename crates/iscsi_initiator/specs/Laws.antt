@@ -20,24 +20,34 @@ use Rattle.iscsi_initiator.specs.Steps.{closed}
 use Rattle.iscsi_initiator.specs.Login.{start_step}
 use Rattle.iscsi_initiator.specs.Machine.{step, taken}
 use Rattle.iscsi_initiator.specs.Submitted.{submitted, refusal}
+use Rattle.iscsi_stream.specs.Pieces.{TilesFrom, data_pieces, data_of}
 
 -- ---- runs
 
--- What happens to a session: it is started, a message comes, a request is handed in, the outcome is
--- taken, or a faulty stream or want of memory ends it.
+-- What a session meets once it is started: a message comes, a request is handed in, or the outcome
+-- is taken.
+pub data Input : Type 0 where
+  Comes : Message → Input
+  Asks : Request → Input
+  Takes : Input
+
+-- What happens to a session: it is started, it meets one of these, or a faulty stream or want of
+-- memory ends it.
 pub data Event : Type 0 where
   Starts : Event
-  Comes : Message → Event
-  Asks : Request → Event
-  Takes : Event
+  Meets : Input → Event
   Ends : Event
+
+-- The session after what it meets.
+abbrev pub met : Machine → Input → Machine
+met m (Comes message) = (step m message).machine
+met m (Asks request) = (submitted m request).machine
+met m Takes = taken m
 
 -- The session after an event.
 abbrev pub after : Machine → Event → Machine
 after m Starts = if is_closed m then m else (start_step m).machine
-after m (Comes message) = (step m message).machine
-after m (Asks request) = (submitted m request).machine
-after m Takes = taken m
+after m (Meets input) = met m input
 after m Ends = closed m
 
 -- The session after events.
@@ -52,7 +62,7 @@ accepted_if (Some fault) request = []
 
 -- The request that an event hands in, if it is accepted.
 abbrev pub accepted_in : Machine → Event → List Request
-accepted_in m (Asks request) = accepted_if (refusal m request) request
+accepted_in m (Meets (Asks request)) = accepted_if (refusal m request) request
 accepted_in m _ = []
 
 -- The requests that are accepted.
@@ -67,7 +77,7 @@ listed (Some outcome) = outcome ∷ []
 
 -- The outcome that an event takes, if there is one.
 abbrev pub given_in : Machine → Event → List Done
-given_in m Takes = listed m.done
+given_in m (Meets Takes) = listed m.done
 given_in m _ = []
 
 -- The outcomes that are taken.
@@ -113,30 +123,10 @@ OutcomesInOrder settings = (events : List Event) →
 
 -- ---- pieces
 
--- The pieces lie one behind the other from this offset, and end at the other (section 11.7.5).
-abbrev pub TilesFrom : ℕ → List (ℕ × List ℕ) → ℕ → Type 0
-TilesFrom offset [] end = offset ≡ end
-TilesFrom offset (piece ∷ pieces) end =
-    (piece.0 ≡ offset) × TilesFrom (offset + length piece.1) pieces end
-
--- The offset and bytes of a PDU with data (section 11.7).
-abbrev pub data_piece : Head → List ℕ → List (ℕ × List ℕ)
-data_piece (heads.DataOut h) bytes = (h.buffer_offset, bytes) ∷ []
-data_piece (heads.DataIn h) bytes = (h.buffer_offset, bytes) ∷ []
-data_piece _ bytes = []
-
--- The offsets and bytes of the PDUs with data (section 11.7).
-abbrev pub data_pieces : List Message → List (ℕ × List ℕ)
-data_pieces messages = flat_map (λ m. data_piece m.head (segment_bytes m.segment)) messages
-
--- The bytes of pieces, one after the other.
-abbrev pub piece_bytes : List (ℕ × List ℕ) → List ℕ
-piece_bytes pieces = flat_map (λ p. p.1) pieces
-
 -- A sequence of Data-Out PDUs carries these bytes, from this offset on (section 11.7).
 pub record IsSequence (offset : ℕ) (bytes : List ℕ) (messages : List Message) : Type 0 where
   pub tiles : TilesFrom offset (data_pieces messages) (offset + length bytes)
-  pub carries : piece_bytes (data_pieces messages) ≡ bytes
+  pub carries : data_of (data_pieces messages) ≡ bytes
 
 -- ---- what a read receives
 
@@ -163,9 +153,9 @@ pub record HasReceived (m : Machine) (bytes : List ℕ) : Type 0 where
 -- The Data-In that came for a read tile its data: each lies where the last one ended, and what is
 -- received, or the outcome has, are their bytes (section 11.7.5).
 pub record TilesRead (m : Machine) (messages : List Message) : Type 0 where
-  pub tiles : TilesFrom 0 (data_pieces messages) (length (piece_bytes (data_pieces messages)))
-  pub carries : IsReceiving (hears m messages) (piece_bytes (data_pieces messages))
-      ⊎ HasReceived (hears m messages) (piece_bytes (data_pieces messages))
+  pub tiles : TilesFrom 0 (data_pieces messages) (length (data_of (data_pieces messages)))
+  pub carries : IsReceiving (hears m messages) (data_of (data_pieces messages))
+      ⊎ HasReceived (hears m messages) (data_of (data_pieces messages))
 
 -- So it is of every read, as long as no fault closes the session.
 abbrev pub ReadsTile : Type 0

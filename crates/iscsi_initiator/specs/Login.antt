@@ -7,19 +7,21 @@ use Rattle.iscsi_pdu.specs.declared.head.Head.{Head}
 use Rattle.iscsi_pdu.specs.declared.head.Head.TheVariants as heads
 use Rattle.iscsi_pdu.specs.declared.head.login_request.LoginRequest.{LoginRequest}
 use Rattle.iscsi_pdu.specs.declared.head.login_response.LoginResponse.{LoginResponse}
-use Rattle.iscsi_pdu.specs.Serial.{moved}
+use Rattle.iscsi_pdu.specs.Serial.{moved, next_sn}
 use Rattle.iscsi_stream.specs.Segment.{Segment, Text, Bytes}
 use Rattle.iscsi_stream.specs.Stream.{Message}
 use Rattle.iscsi_login.specs.declared.stage.Stage.{Stage}
 use Rattle.iscsi_login.specs.declared.stage.Stage.TheVariants.{Security, Operational, Full}
 use Rattle.iscsi_login.specs.declared.phase.Phase.TheVariants as phases
-use Rattle.iscsi_login.specs.Answer.{initiator_holds, in_order}
+use Rattle.iscsi_login.specs.Answer.{initiator_holds}
+use Rattle.iscsi_text.specs.Reading.{in_order}
 use Rattle.iscsi_login.specs.Check.{bad_key}
 use Rattle.iscsi_login.specs.Stage.{stage_number}
 use Rattle.iscsi_login.specs.Offers.{offers_at}
 use Rattle.iscsi_initiator.specs.declared.fault.InitiatorFault.TheVariants.{Refused, BadAnswer}
-use Rattle.iscsi_initiator.specs.State.{Machine, next, serial, sent_exp_stat_sn}
+use Rattle.iscsi_initiator.specs.State.{Machine, serial, sent_exp_stat_sn}
 use Rattle.iscsi_initiator.specs.Steps.{Stepped, fails, breaks, quiet, sends}
+use Rattle.iscsi_pdu.specs.Rules.{kind_not_due, login_out_of_turn, status_out_of_order, text_at_fault}
 
 -- ---- what is sent
 
@@ -88,7 +90,7 @@ is_expected (Some expected) n = n == expected
 -- The StatSN and the window of an answer are counted (sections 4.2.2.1 and 4.2.2.2).
 abbrev pub counted : Machine → LoginResponse → Machine
 counted m h = record m {
-  exp_stat_sn = Some (next (unwrap_or h.stat_sn 0));
+  exp_stat_sn = Some (next_sn (unwrap_or h.stat_sn 0));
   window = moved m.window (serial h.exp_cmd_sn) (serial h.max_cmd_sn);
 }
 
@@ -105,7 +107,7 @@ judged None m h answer =
 
 -- The text that answers the present one; bytes that are no text break a rule (section 6.1).
 abbrev pub text_answered : Machine → LoginResponse → Segment → Stepped
-text_answered m h (Bytes bytes) = breaks m 4
+text_answered m h (Bytes bytes) = breaks m text_at_fault
 text_answered m h (Text answer) = judged (bad_key (offered m) answer) m h answer
 
 -- There is nothing in the segment (own rule).
@@ -127,23 +129,23 @@ moves_on m h =
 
 -- An answer to a segment: with a part of the text left, it was not the last (section 11.13).
 abbrev pub in_turn : List ℕ → Machine → LoginResponse → Segment → Stepped
-in_turn [] m h segment = if moves_on m h then text_answered m h segment else breaks m 7
+in_turn [] m h segment = if moves_on m h then text_answered m h segment else breaks m login_out_of_turn
 in_turn (byte ∷ bytes) m h segment =
-    if goes_on m h segment then sends_more (counted m h) else breaks m 7
+    if goes_on m h segment then sends_more (counted m h) else breaks m login_out_of_turn
 
 -- An answer: a refusal, a wrong StatSN, or one in turn (sections 11.13.5 and 4.2.2.2).
 abbrev pub answered : Machine → LoginResponse → Segment → Stepped
 answered m h segment =
     if not (h.status_class == 0) then fails m (Refused h.status_class h.status_detail)
-    else (if not (is_expected m.exp_stat_sn (unwrap_or h.stat_sn 0)) then breaks m 6
+    else (if not (is_expected m.exp_stat_sn (unwrap_or h.stat_sn 0)) then breaks m status_out_of_order
     else in_turn m.left m h segment)
 
 -- A message in the login; another kind or tag is not due (section 6.3).
 abbrev pub login_step : Machine → Head → Segment → Stepped
 login_step m (heads.LoginResponse h) segment =
-    if h.initiator_task_tag == 0 then answered m h segment else breaks m 1
-login_step m _ segment = breaks m 1
+    if h.initiator_task_tag == 0 then answered m h segment else breaks m kind_not_due
+login_step m _ segment = breaks m kind_not_due
 
 -- The login is started; a second start breaks a rule (section 6.3; own rule).
 abbrev pub start_step : Machine → Stepped
-start_step m = if m.started then breaks m 1 else sends_text (record m { started = true })
+start_step m = if m.started then breaks m kind_not_due else sends_text (record m { started = true })

@@ -10,6 +10,7 @@ use Rattle.iscsi_login.specs.Offers.{Proposal}
 use Rattle.iscsi_login.specs.Held.{Held, defaults}
 use Rattle.iscsi_initiator.specs.declared.request.Done.{Done}
 use Rattle.iscsi_initiator.specs.declared.open.Open.{Open}
+use Rattle.iscsi_login.specs.Stage.{is_closed_phase}
 
 -- What an initiator was told: what it offers, and how it logs in (section 6.3).
 pub record Settings : Type 0 where
@@ -45,17 +46,9 @@ pub record Machine : Type 0 where
 
 -- ---- numbers
 
--- The number after n, round the circle (section 4.2.2).
-abbrev pub next : ℕ → ℕ
-next n = (n + 1) % 2 ^ 32
-
 -- A number that counts round (section 4.2.2).
 abbrev pub serial : ℕ → Serial
 serial n = record { 0 = n }
-
--- The tag that names no task and no transfer (section 11.2.1.8).
-abbrev pub reserved_tag : ℕ
-reserved_tag = 0xffff_ffff
 
 -- Task tags count from 0 to fffffffe (section 11.2.1.8; the counting is own rule).
 abbrev pub next_tag : ℕ → ℕ
@@ -86,11 +79,6 @@ opening settings = record {
   open_request = None;
   done = None;
 }
-
--- The phase of a session that is over (section 6.3; own rule).
-abbrev pub is_closed_phase : Phase → Bool
-is_closed_phase phases.Closed = true
-is_closed_phase _ = false
 
 -- The session is over (own rule).
 abbrev pub is_closed : Machine → Bool

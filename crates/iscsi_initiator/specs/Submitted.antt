@@ -6,7 +6,7 @@ use Rattle.iscsi_pdu.specs.declared.head.nop_out.NopOut.{NopOut}
 use Rattle.iscsi_pdu.specs.declared.head.text_request.TextRequest.{TextRequest}
 use Rattle.iscsi_pdu.specs.declared.head.logout_request.LogoutRequest.{LogoutRequest}
 use Rattle.iscsi_pdu.specs.declared.serial.Window.{Window}
-use Rattle.iscsi_pdu.specs.Serial.{distance}
+use Rattle.iscsi_pdu.specs.Serial.{distance, next_sn, is_within}
 use Rattle.iscsi_stream.specs.Segment.{Bytes}
 use Rattle.iscsi_stream.specs.Stream.{Message}
 use Rattle.iscsi_login.specs.declared.key.NegKey.TheVariants.{InitialR2T, ImmediateData}
@@ -14,14 +14,15 @@ use Rattle.iscsi_login.specs.declared.preferences.Answered.{Answered}
 use Rattle.iscsi_login.specs.declared.preferences.Answered.TheVariants.{Flag}
 use Rattle.iscsi_login.specs.declared.phase.Phase.{Phase}
 use Rattle.iscsi_login.specs.declared.phase.Phase.TheVariants as phases
-use Rattle.iscsi_login.specs.Held.{held_value, first_burst}
+use Rattle.iscsi_login.specs.Held.{held_value, first_burst, is_on, unasked}
 use Rattle.iscsi_initiator.specs.declared.request.Request.{Request}
 use Rattle.iscsi_initiator.specs.declared.request.Request.TheVariants.{In, Out, Ping, Text, Logout}
 use Rattle.iscsi_initiator.specs.declared.request.SubmitFault.{SubmitFault}
 use Rattle.iscsi_initiator.specs.declared.request.SubmitFault.TheVariants as refusals
 use Rattle.iscsi_initiator.specs.declared.open.Open.{Open}
 use Rattle.iscsi_initiator.specs.declared.open.Open.TheVariants as opens
-use Rattle.iscsi_initiator.specs.State.{Machine, next, next_tag, reserved_tag, sent_exp_stat_sn}
+use Rattle.iscsi_initiator.specs.State.{Machine, next_tag, sent_exp_stat_sn}
+use Rattle.iscsi_pdu.specs.Fields.{reserved_tag}
 use Rattle.iscsi_initiator.specs.Block.{record_of}
 use Rattle.iscsi_initiator.specs.Full.{sequence}
 
@@ -32,12 +33,6 @@ pub record Submitted : Type 0 where
   pub refusal : Option SubmitFault
 
 -- ---- refusals, in their order
-
--- The number is one of those that the target takes (section 4.2.2.1).
-abbrev pub is_within : ℕ → Window → Bool
-is_within n w =
-    nat_lt (distance w.exp.0 w.max.0) (2 ^ 31)
-    && nat_le (distance w.exp.0 n) (distance w.exp.0 w.max.0)
 
 -- The most bytes that one command moves (own profile).
 abbrev pub most_bytes : ℕ
@@ -56,7 +51,7 @@ is_too_long m Logout = false
 abbrev pub refusal_when_full : Machine → Request → Option SubmitFault
 refusal_when_full m request =
     if is_some m.open_request || is_some m.done then Some refusals.Busy
-    else (if not (is_within m.cmd_sn m.window) then Some refusals.Shut
+    else (if not (is_within m.cmd_sn m.window.exp.0 m.window.max.0) then Some refusals.Shut
     else (if is_too_long m request then Some refusals.TooLong else None))
 
 -- Why a request is refused, by the phase (own rule).
@@ -75,7 +70,7 @@ refusal m request = refusal_in m.phase m request
 abbrev pub begun : Machine → Open → Machine
 begun m request = record m {
   initiator_task_tag = next_tag m.initiator_task_tag;
-  cmd_sn = next m.cmd_sn;
+  cmd_sn = next_sn m.cmd_sn;
   open_request = Some request;
 }
 
@@ -83,31 +78,22 @@ begun m request = record m {
 abbrev pub accepts : Machine → List Message → Submitted
 accepts m messages = record { machine = m; output = messages; refusal = None }
 
--- The held value is `Yes` (section 6.1).
-abbrev pub is_yes : Answered → Bool
-is_yes (Flag b) = b
-is_yes _ = false
-
--- How many bytes may go out before the target asks for them (section 13.14).
-abbrev pub burst : Machine → List ℕ → ℕ
-burst m bytes = min (first_burst m.held) (length bytes)
-
 -- The bytes that the command itself carries (section 13.11).
 abbrev pub immediate : Machine → List ℕ → List ℕ
 immediate m bytes =
-    if is_yes (held_value m.held ImmediateData)
-    then take (min (burst m bytes) m.held.target_max_recv) bytes else []
+    if is_on m.held ImmediateData
+    then take (min (unasked m.held (length bytes)) m.held.target_max_recv) bytes else []
 
 -- Bytes of the first burst are left, and follow without being asked for (section 13.10).
 abbrev pub has_more : Machine → List ℕ → Bool
 has_more m bytes =
-    not (is_yes (held_value m.held InitialR2T))
-    && nat_lt (length (immediate m bytes)) (burst m bytes)
+    not (is_on m.held InitialR2T)
+    && nat_lt (length (immediate m bytes)) (unasked m.held (length bytes))
 
 -- The bytes that follow the command without being asked for (section 13.10).
 abbrev pub unsolicited : Machine → List ℕ → List ℕ
 unsolicited m bytes =
-    if has_more m bytes then drop (length (immediate m bytes)) (take (burst m bytes) bytes) else []
+    if has_more m bytes then drop (length (immediate m bytes)) (take (unasked m.held (length bytes)) bytes) else []
 
 -- What a command moves: R, W and the expected length (section 11.3).
 pub record Moves : Type 0 where

@@ -2,7 +2,8 @@
 
 ghost use Rattle.std.specs.Prelude.{◌≡◌, ◌≤◌, ◌++◌, None, OnOk, OnErr};
 ghost use Rattle.iscsi_login.specs.Negotiation.{IsInRange};
-ghost use Rattle.iscsi_login.specs.Answer.{in_order, DeclaresWell};
+ghost use Rattle.iscsi_login.specs.Answer.{DeclaresWell};
+ghost use Rattle.iscsi_text.specs.Reading.{in_order};
 ghost use Rattle.iscsi_login.specs.Check.{bad_key};
 ghost use Rattle.iscsi_login.specs.Offers.{proposed, text_of, offers_at};
 ghost use Rattle.iscsi_initiator.specs.Configured.{Configures};

@@ -20,24 +20,10 @@ use crate::fault::InitiatorFault;
 use crate::open::Open;
 use crate::request::Done;
 use iscsi_login::{Params, Phase, Stage};
+use iscsi_pdu::rule::KIND_NOT_DUE;
 use iscsi_pdu::{Pdu, Serial, Window};
 use std::alloc::{AllocError, Global};
 use std::marker::Model;
-
-/// A kind or a tag of PDU is not due.
-const KIND_NOT_DUE: u8 = 1;
-/// A segment is longer than the initiator declared.
-const SEGMENT_TOO_LONG: u8 = 2;
-/// Data, or a request for data, come out of order or past the transfer.
-const DATA_OUT_OF_ORDER: u8 = 3;
-/// A text, or its flags, are at fault.
-const TEXT_AT_FAULT: u8 = 4;
-/// StatSN is not the expected one.
-const STATUS_OUT_OF_ORDER: u8 = 6;
-/// The flags or the stage of a login answer are not those that are due.
-const LOGIN_OUT_OF_TURN: u8 = 7;
-/// A Reject came.
-const REJECTED: u8 = 8;
 
 /// A session between two messages. Where a call runs out of memory it has written nothing and is as
 /// it was.

@@ -12,12 +12,10 @@ use crate::course::Course;
 use crate::fault::InitiatorFault;
 use crate::request::{Done, Refused, Request};
 use iscsi_login::{Params, Phase, Stage};
+use iscsi_pdu::LOGIN_SEGMENT;
 use iscsi_stream::{Framer, StreamFault};
 use std::alloc::{AllocError, Global};
 use std::marker::Model;
-
-/// The longest segment of a login PDU, in bytes (RFC 7143, section 13.12).
-const LOGIN_SEGMENT: u32 = 8192;
 
 /// An initiator's session: it takes the bytes of a target, appends what it sends, and gives the
 /// outcome of each request.

@@ -3,7 +3,8 @@
 ghost use Rattle.std.specs.Prelude.{◌≡◌, ◌≤◌, ◌+◌, ◌++◌, length, take, drop, OnOk, OnErr};
 ghost use Rattle.iscsi_login.specs.declared.key.NegKey.TheVariants.{MaxBurstLength};
 ghost use Rattle.iscsi_login.specs.Held.{held_value, number_of};
-ghost use Rattle.iscsi_initiator.specs.State.{Machine, next};
+ghost use Rattle.iscsi_initiator.specs.State.{Machine};
+ghost use Rattle.iscsi_pdu.specs.Serial.{next_sn};
 ghost use Rattle.iscsi_initiator.specs.Full.{fits_reading, fits_writing};
 
 use iscsi_pdu::{DataIn, ReadyToTransfer};
@@ -51,7 +52,7 @@ impl Reading {
     pub(crate) fn receive(&mut self, bytes: &[u8]) -> Result<(), AllocError>
         ensures ok { OnOk result (self.new ≡ record self.old {
           received = self.old.received ++ bytes.now;
-          next_data_sn = next self.old.next_data_sn;
+          next_data_sn = next_sn self.old.next_data_sn;
         }) }
         ensures err { OnErr result (self.new ≡ self.old) }
     {
@@ -118,7 +119,7 @@ impl Writing {
         requires { self.old.sent + head.now.desired_data_transfer_length ≤ length self.old.bytes }
         ensures { self.new ≡ record self.old {
           sent = self.old.sent + head.now.desired_data_transfer_length;
-          next_r2t_sn = next self.old.next_r2t_sn;
+          next_r2t_sn = next_sn self.old.next_r2t_sn;
         } }
     {
         self.sent += head.desired_data_transfer_length as usize;

@@ -30,7 +30,7 @@ use Rattle.iscsi_login.specs.Answer.{answer_to, other_answer, answered_no, rejec
 use Rattle.iscsi_login.proofs.Agreement.{outcome, preference_allowed}
 use Rattle.iscsi_login.proofs.Answers.{values_of-answer, answer_values, undeclared}
 use Rattle.iscsi_login.proofs.Adding.{unanswered_tag}
-use Rattle.iscsi_login.proofs.Order.{in_order_is, all_in_order}
+use Rattle.iscsi_text.proofs.Order.{in_order_is, all_in_order}
 use Rattle.iscsi_login.proofs.Texts.{answered_lengths, unanswered}
 use Rattle.iscsi_login.proofs.KeyTests.{key_from, no_zero_from}
 

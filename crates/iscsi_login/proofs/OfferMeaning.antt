@@ -12,10 +12,10 @@ use Rattle.iscsi_text.proofs.Pairs.{values_of-same, values_of-other, key_cases}
 use Rattle.iscsi_login.specs.declared.stage.Session.{Session}
 use Rattle.iscsi_login.specs.declared.stage.Session.TheVariants.{Normal, Discovery}
 use Rattle.iscsi_login.specs.Key.{name_of, all_keys}
-use Rattle.iscsi_login.specs.Answer.{in_order}
+use Rattle.iscsi_text.specs.Reading.{in_order}
 use Rattle.iscsi_login.specs.Offers.{Proposal, auth_items, session_name, target_pair, security_offers, operational_offers, single_offers}
 use Rattle.iscsi_login.specs.Check.{described, IsOffer}
-use Rattle.iscsi_login.proofs.Order.{values_in_order}
+use Rattle.iscsi_text.proofs.Order.{values_in_order}
 
 -- no later pair has this key
 abbrev is_new : List ℕ → Pairs → Bool

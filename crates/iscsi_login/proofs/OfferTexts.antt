@@ -16,12 +16,13 @@ use Rattle.iscsi_login.specs.declared.offers.Auth.{Auth}
 use Rattle.iscsi_login.specs.declared.offers.Auth.TheVariants as auths
 use Rattle.iscsi_login.specs.Key.{name_of, rule_of, operational_keys}
 use Rattle.iscsi_login.specs.Negotiation.{IsInRange, preference, answered_value}
-use Rattle.iscsi_login.specs.Answer.{in_order, max_recv_key}
+use Rattle.iscsi_login.specs.Answer.{max_recv_key}
+use Rattle.iscsi_text.specs.Reading.{in_order}
 use Rattle.iscsi_login.specs.Offers.{Proposal, auth_items, session_name, target_pair, names, security_offers, preferred_pair, operational_offers, single_offers}
 use Rattle.iscsi_login.proofs.Agreement.{preference_allowed}
 use Rattle.iscsi_login.proofs.AnswerMeaning.{Writable, kind_of_name, writable_value, highest_small, writable_number, pair_of, all_append, kind_max_recv}
 use Rattle.iscsi_login.proofs.KeyTests.{key_from, no_zero_from}
-use Rattle.iscsi_login.proofs.Order.{in_order_is, all_in_order}
+use Rattle.iscsi_text.proofs.Order.{in_order_is, all_in_order}
 use Rattle.iscsi_login.proofs.OfferMeaning.{security_is_offer, operational_is_offer, single_is_offer}
 
 name_is_key : (key : NegKey) → IsKey (name_of key)

@@ -13,6 +13,7 @@ use Rattle.iscsi_login.specs.declared.preferences.Preferences.{Preferences}
 use Rattle.iscsi_login.specs.Key.{name_of, rule_of, default_of, key_named, is_irrelevant, all_keys, IsWithin}
 use Rattle.iscsi_login.specs.Negotiation.{max_recv_range, result_of, value_of, word, answered_value, or_default}
 use Rattle.iscsi_login.specs.Held.{Held, held_value}
+use Rattle.iscsi_text.specs.Reading.{in_order}
 
 -- ---- one key
 
@@ -73,16 +74,6 @@ max_recv_key = codes "MaxRecvDataSegmentLength"
 abbrev pub declarations : Option ℕ → Option ℕ → Pairs
 declarations tag max_recv =
     pairs_with max_recv_key (option_map values.Number max_recv) ++ pairs_with tag_key (option_map values.Number tag)
-
--- The pair before the first whose key isn't less (own rule).
-abbrev pub placed : List ℕ × Typed → Pairs → Pairs
-placed pair [] = pair ∷ []
-placed pair (p ∷ pairs) = if key_le pair.0 p.0 then pair ∷ p ∷ pairs else p ∷ placed pair pairs
-
--- The pairs in the byte order of their keys; the law `order` says that they have no other (own rule).
-abbrev pub in_order : Pairs → Pairs
-in_order [] = []
-in_order (p ∷ pairs) = placed p (in_order pairs)
 
 -- The answer to a text: what is declared, and an answer to each pair that has one (section 6.2).
 abbrev pub answer : Session → Preferences → Option ℕ → Option ℕ → Pairs → Pairs

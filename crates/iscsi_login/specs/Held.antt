@@ -1,9 +1,9 @@
 -- What an end holds of a login: a value of each negotiated key, and what each end takes (RFC 7143, section 13).
-use Rattle.std.specs.Prelude.{ℕ, List, map, min, slice_index_or}
+use Rattle.std.specs.Prelude.{ℕ, Bool, false, List, map, min, slice_index_or}
 use Rattle.iscsi_login.specs.declared.key.NegKey.{NegKey}
 use Rattle.iscsi_login.specs.declared.key.NegKey.TheVariants as keys
 use Rattle.iscsi_login.specs.declared.preferences.Answered.{Answered}
-use Rattle.iscsi_login.specs.declared.preferences.Answered.TheVariants.{Number, Reject}
+use Rattle.iscsi_login.specs.declared.preferences.Answered.TheVariants.{Flag, Number, Reject}
 use Rattle.iscsi_login.specs.Key.{rule_of, default_of, all_keys, IsWithin}
 use Rattle.iscsi_login.specs.Negotiation.{Allows, max_recv_range}
 
@@ -53,10 +53,27 @@ abbrev pub number_of : Answered → ℕ
 number_of (Number n) = n
 number_of _ = 0
 
+-- The value of a boolean key (section 6.1).
+abbrev pub flag_of : Answered → Bool
+flag_of (Flag b) = b
+flag_of _ = false
+
+-- The held value of the key is `Yes` (section 6.1).
+abbrev pub is_on : Held → NegKey → Bool
+is_on held key = flag_of (held_value held key)
+
+-- How many bytes a sequence of data has at most (section 13.13).
+abbrev pub max_burst : Held → ℕ
+max_burst held = number_of (held_value held keys.MaxBurstLength)
+
 -- How many bytes a command may send before it is asked for more (sections 13.13 and 13.14).
 abbrev pub first_burst : Held → ℕ
 first_burst held =
-    min (number_of (held_value held keys.FirstBurstLength)) (number_of (held_value held keys.MaxBurstLength))
+    min (number_of (held_value held keys.FirstBurstLength)) (max_burst held)
+
+-- How many of so many bytes of a command may come unasked (sections 13.11 and 13.14).
+abbrev pub unasked : Held → ℕ → ℕ
+unasked held n = min n (first_burst held)
 
 -- Each key has a value that it allows, and each length is one that may be declared (section 13).
 pub record IsHeld (held : Held) : Type 0 where

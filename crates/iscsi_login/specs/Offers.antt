@@ -15,7 +15,8 @@ use Rattle.iscsi_login.specs.declared.offers.Auth.TheVariants as auths
 use Rattle.iscsi_login.specs.declared.offers.Offers.{Offers}
 use Rattle.iscsi_login.specs.Key.{name_of, rule_of, operational_keys}
 use Rattle.iscsi_login.specs.Negotiation.{preference, answered_value}
-use Rattle.iscsi_login.specs.Answer.{max_recv_key, in_order}
+use Rattle.iscsi_login.specs.Answer.{max_recv_key}
+use Rattle.iscsi_text.specs.Reading.{in_order}
 
 -- What an initiator brings to a login (section 6.3).
 pub record Proposal : Type 0 where

@@ -1,5 +1,7 @@
 -- The stages of a login, and the moves between them (RFC 7143, section 6.3).
 use Rattle.std.specs.Prelude.{ℕ, Bool, true, false}
+use Rattle.iscsi_login.specs.declared.phase.Phase.{Phase}
+use Rattle.iscsi_login.specs.declared.phase.Phase.TheVariants as phases
 use Rattle.iscsi_login.specs.declared.stage.Stage.{Stage}
 use Rattle.iscsi_login.specs.declared.stage.Stage.TheVariants.{Security, Operational, Full}
 
@@ -15,3 +17,8 @@ may_move Security Operational = true
 may_move Security Full = true
 may_move Operational Full = true
 may_move _ _ = false
+
+-- The session is over (section 6.3).
+abbrev pub is_closed_phase : Phase → Bool
+is_closed_phase phases.Closed = true
+is_closed_phase _ = false

@@ -4,7 +4,8 @@ ghost use Rattle.std.specs.Prelude.{◌≡◌, ◌≤◌, length, find, IfSome};
 ghost use Rattle.std.specs.Option.{option_map};
 ghost use Rattle.iscsi_text.specs.Value.{typed};
 ghost use Rattle.iscsi_text.specs.Inside.{shown, all_shown};
-ghost use Rattle.iscsi_login.specs.Answer.{in_order, DeclaresWell};
+ghost use Rattle.iscsi_login.specs.Answer.{DeclaresWell};
+ghost use Rattle.iscsi_text.specs.Reading.{in_order};
 ghost use Rattle.iscsi_login.specs.Offers.{proposed, offers_at};
 ghost use Rattle.iscsi_login.specs.Check.{bad_key, is_bad, is_unanswered, key_or, may_answer, may_declare};
 

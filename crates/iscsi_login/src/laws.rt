@@ -9,7 +9,8 @@ ghost use Rattle.iscsi_login.specs.declared.preferences.Preferences.{Preferences
 ghost use Rattle.iscsi_login.specs.Key.{name_of, IsWithin};
 ghost use Rattle.iscsi_login.specs.Negotiation.{IsInRange, IsLegal, max_recv_range};
 ghost use Rattle.iscsi_login.specs.Held.{Held};
-ghost use Rattle.iscsi_login.specs.Answer.{answer_to, held_by_target, held_by_initiator, declared_max_recv, answer, in_order, initiator_holds, target_holds};
+ghost use Rattle.iscsi_login.specs.Answer.{answer_to, held_by_target, held_by_initiator, declared_max_recv, answer, initiator_holds, target_holds};
+ghost use Rattle.iscsi_text.specs.Reading.{in_order};
 ghost use Rattle.iscsi_login.specs.Offers.{Proposal, security_offers, operational_offers, single_offers};
 ghost use Rattle.iscsi_login.specs.Check.{IsOffer, IsGoodAnswer, bad_key};
 

@@ -3,7 +3,7 @@
 ghost use Rattle.std.specs.Prelude.{◌≡◌, ◌++◌, OnOk, OnErr, codes};
 ghost use Rattle.iscsi_text.specs.Value as values;
 ghost use Rattle.iscsi_text.specs.Inside.{shown, all_shown};
-ghost use Rattle.iscsi_login.specs.Answer.{in_order};
+ghost use Rattle.iscsi_text.specs.Reading.{in_order};
 ghost use Rattle.iscsi_login.specs.Offers.{auth_items, session_name, preferred_pair, max_recv_pair, proposed, security_offers, operational_offers, single_offers, offers_at, text_of};
 ghost use Rattle.iscsi_login.specs.Inside.{said};
 

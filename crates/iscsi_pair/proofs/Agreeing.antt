@@ -19,21 +19,24 @@ use Rattle.iscsi_initiator.specs.declared.request.SubmitFault.{SubmitFault}
 use Rattle.iscsi_initiator.specs.declared.request.SubmitFault.TheVariants as refusals
 use Rattle.iscsi_initiator.specs.Configured.{IsStart}
 use Rattle.iscsi_initiator.specs.State as initiator
-use Rattle.iscsi_initiator.specs.State.{is_closed, is_closed_phase}
+use Rattle.iscsi_initiator.specs.State.{is_closed}
+use Rattle.iscsi_login.specs.Stage.{is_closed_phase}
 use Rattle.iscsi_initiator.specs.Steps.{Stepped}
 use Rattle.iscsi_initiator.specs.Login.{start_step}
 use Rattle.iscsi_initiator.specs.Machine.{step, taken}
 use Rattle.iscsi_initiator.specs.Submitted.{Submitted, submitted, or_accepted, refusal_in}
 use Rattle.iscsi_initiator.specs.Laws as history
-use Rattle.iscsi_initiator.proofs.HeldLaws.{held_stays}
-use Rattle.iscsi_initiator.proofs.OneOutcome.{closed_step}
+use Rattle.iscsi_initiator.proofs.HeldLaws.{held_stays, start_not_full}
+use Rattle.iscsi_initiator.proofs.OneOutcome.{closed_step, closed_phase}
 use Rattle.iscsi_pair.specs.World.{World, Opening, IsOpening}
-use Rattle.iscsi_pair.specs.Traffic.{Traffic, Input, Comes, Asks, Takes, after, after_all, sent, coming}
+use Rattle.iscsi_pair.specs.Traffic.{Traffic, after_all, sent, coming}
+use Rattle.iscsi_initiator.specs.Laws.{Input, Comes, Asks, Takes, met}
 use Rattle.iscsi_pair.proofs.InitiatorSide.{begun}
 use Rattle.iscsi_pair.proofs.Sides.{Sides}
 use Rattle.iscsi_pair.proofs.Front.{IsFirst, first_is}
 use Rattle.iscsi_pair.proofs.Talk.{Asking, Round, Asks_on, asking_readable, round, first_asks}
-use Rattle.iscsi_pair.proofs.TargetStays.{held_stays as target_stays, Keeps, IsLater}
+use Rattle.iscsi_target.proofs.Keeping.{Stays, IsLater}
+use Rattle.iscsi_pair.proofs.TargetStays.{held_stays as target_stays}
 
 -- ---- what an initiator keeps
 
@@ -44,14 +47,8 @@ unfolding submitted
 refused p m request fault is e =
     ap (λ (o : Option SubmitFault). or_accepted o m request) (ap (λ (x : Phase). refusal_in x m request) is ∙ e)
 
--- a session is closed exactly in that phase
-closed_phase : (p : Phase) → is_closed_phase p ≡ true → p ≡ phases.Closed
-closed_phase phases.Login e = absurd (cc e)
-closed_phase phases.Full e = absurd (cc e)
-closed_phase phases.Closed e = refl
-
 -- a closed session stays in its stage
-after_closed : (m : initiator.Machine) (input : Input) → m.phase ≡ phases.Closed → ((after m input).phase ≡ phases.Closed) × ((after m input).stage ≡ m.stage)
+after_closed : (m : initiator.Machine) (input : Input) → m.phase ≡ phases.Closed → ((met m input).phase ≡ phases.Closed) × ((met m input).stage ≡ m.stage)
 after_closed m (Comes message) e =
     let q = closed_step m message (ap is_closed_phase e) in
     (ap (λ (s : Stepped). s.machine.phase) q ∙ e, ap (λ (s : Stepped). s.machine.stage) q)
@@ -64,20 +61,12 @@ pub closed_stays : (m : initiator.Machine) (inputs : List Input) → m.phase ≡
 closed_stays m [] e = (e, refl)
 closed_stays m (input ∷ inputs) e =
     let q = after_closed m input e in
-    let r = closed_stays (after m input) inputs q.0 in
+    let r = closed_stays (met m input) inputs q.0 in
     (r.0, r.1 ∙ q.1)
 
--- an input, as the law of what is held knows it
-abbrev as_event : Input → history.Event
-as_event (Comes message) = history.Comes message
-as_event (Asks request) = history.Asks request
-as_event Takes = history.Takes
-
-run_inputs : (m : initiator.Machine) (inputs : List Input) → history.run m (map as_event inputs) ≡ after_all m inputs
+run_inputs : (m : initiator.Machine) (inputs : List Input) → history.run m (map history.Meets inputs) ≡ after_all m inputs
 run_inputs m [] = refl
-run_inputs m (Comes message ∷ inputs) = run_inputs (step m message).machine inputs
-run_inputs m (Asks request ∷ inputs) = run_inputs (submitted m request).machine inputs
-run_inputs m (Takes ∷ inputs) = run_inputs (taken m) inputs
+run_inputs m (input ∷ inputs) = run_inputs (met m input) inputs
 
 run_append : (m : initiator.Machine) (a b : List history.Event) → history.run m (a ++ b) ≡ history.run (history.run m a) b
 run_append m [] b = refl
@@ -90,8 +79,8 @@ pub record IsReached (c : Opening) (m : initiator.Machine) : Type 0 where
 
 pub reached_more : (c : Opening) (m : initiator.Machine) (message : Message) → IsReached c m → IsReached c (step m message).machine
 reached_more c m message r = record {
-  events = r.events ++ history.Comes message ∷ [];
-  is = ap (λ (x : initiator.Machine). (step x message).machine) r.is ∙ sym (run_append (initiator.opening c.initiator) r.events (history.Comes message ∷ []));
+  events = r.events ++ history.Meets (Comes message) ∷ [];
+  is = ap (λ (x : initiator.Machine). (step x message).machine) r.is ∙ sym (run_append (initiator.opening c.initiator) r.events (history.Meets (Comes message) ∷ []));
 }
 
 -- what is held after the login stays
@@ -99,8 +88,8 @@ pub full_stays : (c : Opening) (m : initiator.Machine) (inputs : List Input) →
     → ((after_all m inputs).stage ≡ stages.Full) × ((after_all m inputs).held ≡ m.held)
 full_stays c m inputs o r full =
     let first : initiator.Machine = history.run (initiator.opening c.initiator) r.events in
-    let h = held_stays c.initiator o.initiator.in_range.start r.events (map as_event inputs) (ap (λ (x : initiator.Machine). x.stage) (sym r.is) ∙ full) in
-    let same : after_all m inputs ≡ history.run first (map as_event inputs) = ap (λ (x : initiator.Machine). after_all x inputs) r.is ∙ sym (run_inputs first inputs) in
+    let h = held_stays c.initiator o.initiator.in_range.start r.events (map history.Meets inputs) (ap (λ (x : initiator.Machine). x.stage) (sym r.is) ∙ full) in
+    let same : after_all m inputs ≡ history.run first (map history.Meets inputs) = ap (λ (x : initiator.Machine). after_all x inputs) r.is ∙ sym (run_inputs first inputs) in
     (ap (λ (x : initiator.Machine). x.stage) same ∙ h.0, ap (λ (x : initiator.Machine). x.held) same ∙ h.1 ∙ ap (λ (x : initiator.Machine). x.held) (sym r.is))
 
 -- ---- both ends
@@ -121,11 +110,6 @@ not_empty limit back given y a ms p e =
     let b = p.3 in
     no_pdu_none limit p.0 p.1 (p.2 ++ y) a.head (sym e ∙ ap (λ (x : List ℕ). x ++ y) b.whole ∙ append_assoc p.0 p.2 y) b.means b.within
 
-not_full : (stage : Stage) → IsStart stage → stage ≡ stages.Full → ⊥
-not_full stages.Security is e = absurd (cc e)
-not_full stages.Operational is e = absurd (cc e)
-not_full stages.Full is e = is
-
 -- where the target's messages are those that the initiator sent, and the initiator's those that the target answered
 pub agree : (inputs : List Input) (c : Opening) (i : initiator.Machine) (t : target.Machine) (out back : Logins) (r : Message) (disk : Disk) (ms : List Message) (l k : ℕ) (given x taken_ y : List ℕ)
     → IsOpening c → Asking c i t out r → back.response ≡ false → IsReached c i
@@ -133,7 +117,7 @@ pub agree : (inputs : List Input) (c : Opening) (i : initiator.Machine) (t : tar
     → ReadsAs k back taken_ (coming inputs) → taken_ ++ y ≡ canon (answers t disk ms).answers
     → (after_all i inputs).stage ≡ stages.Full → Same (answers t disk ms) (after_all i inputs)
 unfolding answers
-agree [] c i t out back r disk ms l k given x taken_ y o a b reach p e q f full = absurd (not_full i.stage a.stage full)
+agree [] c i t out back r disk ms l k given x taken_ y o a b reach p e q f full = absurd (start_not_full i.stage a.stage full)
 agree (Takes ∷ inputs) c i t out back r disk ms l k given x taken_ y o a b reach p e q f full =
     let same : taken i ≡ i = ap (λ (d : Option Done). record i { done = d }) (sym a.no_outcome) in
     subst (λ (m : initiator.Machine). Same (answers t disk ms) (after_all m inputs)) (sym same)
@@ -159,9 +143,9 @@ agree (Comes m ∷ inputs) c i t out back r disk (n ∷ ms) l k given x taken_ y
     let end : (after_all s.machine inputs).stage ≡ stages.Full = ap (λ (w : Message). (after_all i (Comes w ∷ inputs)).stage) (sym two.same) ∙ full in
     let reach_ : IsReached c s.machine = reached_more c i turn.answer reach in
     let core : Same later (after_all s.machine inputs) = elim turn.leads [
-      | inl closes ↦ absurd (not_full i.stage a.stage (sym ((closed_stays s.machine inputs closes.phase).1 ∙ closes.stage) ∙ end))
+      | inl closes ↦ absurd (start_not_full i.stage a.stage (sym ((closed_stays s.machine inputs closes.phase).1 ∙ closes.stage) ∙ end))
       | inr on ↦ elim on [
-        | inl agreed ↦ (let keeps : Keeps now.machine later.machine = target_stays now.machine now.disk ms (subst IsLater (sym agreed.target_phase) tt) in record {
+        | inl agreed ↦ (let keeps : Stays now.machine later.machine = target_stays now.machine now.disk ms (subst IsLater (sym agreed.target_phase) tt) in record {
           stage = keeps.stage ∙ agreed.target_stage;
           held = keeps.held ∙ agreed.held ∙ sym (full_stays c s.machine inputs o reach_ agreed.stage).1;
         })

@@ -21,7 +21,8 @@ use Rattle.iscsi_initiator.specs.declared.fault.InitiatorFault.TheVariants.{Refu
 use Rattle.iscsi_initiator.specs.declared.request.Request.{Request}
 use Rattle.iscsi_initiator.specs.declared.request.Request.TheVariants.{In, Out, Ping, Text as Asked_text, Logout}
 use Rattle.iscsi_initiator.specs.declared.request.SubmitFault.{SubmitFault}
-use Rattle.iscsi_initiator.specs.State.{Machine, is_closed, is_closed_phase}
+use Rattle.iscsi_initiator.specs.State.{Machine, is_closed}
+use Rattle.iscsi_login.specs.Stage.{is_closed_phase}
 use Rattle.iscsi_initiator.specs.Steps.{Stepped, fails, breaks, sends}
 use Rattle.iscsi_initiator.specs.Login.{login_step, answered, in_turn, is_expected, goes_on, moves_on, text_answered, judged, enters, asked, counted, sends_more, sends_text, sends_cut, offered, fits_segment, login_message}
 use Rattle.iscsi_initiator.specs.Full.{due}
@@ -29,7 +30,8 @@ use Rattle.iscsi_initiator.specs.Machine.{step, step_in, steps}
 use Rattle.iscsi_initiator.specs.Submitted.{submitted, or_accepted, accepted, refusal}
 use Rattle.iscsi_initiator.proofs.Stepping.{step_is}
 use Rattle.iscsi_initiator.proofs.HeldLaws.{takes_keeps}
-use Rattle.iscsi_pair.specs.Traffic.{Input, Comes, Asks, Takes, after, after_all}
+use Rattle.iscsi_pair.specs.Traffic.{after_all}
+use Rattle.iscsi_initiator.specs.Laws.{Input, Comes, Asks, Takes, met}
 
 -- full feature phase is the last stage
 abbrev pub IsFullStage : Machine → Type 0
@@ -142,7 +144,7 @@ closed_or_open : (b : Bool) (m : Machine) (x : Message) → is_closed m ≡ b �
 closed_or_open true m x is s = subst IsFullStage (sym (ap (λ (r : Stepped). r.machine) (closed_step m x is))) s
 closed_or_open false m x is s = (step_well m x is s).full
 
-input_full : (m : Machine) (input : Input) → IsFullStage m → IsFullStage (after m input)
+input_full : (m : Machine) (input : Input) → IsFullStage m → IsFullStage (met m input)
 unfolding submitted
 input_full m (Comes x) s = closed_or_open (is_closed m) m x refl s
 input_full m (Asks request) s = asked_full (refusal m request) m request s
@@ -150,4 +152,4 @@ input_full m Takes s = s
 
 pub inputs_full : (m : Machine) (inputs : List Input) → IsFullStage m → IsFullStage (after_all m inputs)
 inputs_full m [] s = s
-inputs_full m (input ∷ inputs) s = inputs_full (after m input) inputs (input_full m input s)
+inputs_full m (input ∷ inputs) s = inputs_full (met m input) inputs (input_full m input s)

@@ -14,16 +14,19 @@ use Rattle.iscsi_target.specs.Machine.{answers}
 use Rattle.iscsi_initiator.specs.declared.request.Done.{Done}
 use Rattle.iscsi_initiator.specs.declared.request.SubmitFault.TheVariants as refusals
 use Rattle.iscsi_initiator.specs.State as initiator
-use Rattle.iscsi_initiator.specs.State.{is_closed, is_closed_phase}
+use Rattle.iscsi_initiator.specs.State.{is_closed}
+use Rattle.iscsi_login.specs.Stage.{is_closed_phase}
 use Rattle.iscsi_initiator.specs.Steps.{Stepped}
 use Rattle.iscsi_initiator.specs.Machine.{step, taken}
 use Rattle.iscsi_initiator.specs.Submitted.{Submitted}
 use Rattle.iscsi_pair.specs.World.{Opening, IsOpening, Suits}
-use Rattle.iscsi_pair.specs.Traffic.{Input, Comes, Asks, Takes, after_all, sent, coming}
+use Rattle.iscsi_pair.specs.Traffic.{after_all, sent, coming}
+use Rattle.iscsi_initiator.specs.Laws.{Input, Comes, Asks, Takes}
 use Rattle.iscsi_pair.proofs.Front.{Readable, IsFirst, first_is}
 use Rattle.iscsi_pair.proofs.Talk.{Asking, Round, asking_readable, asking_short, round}
 use Rattle.iscsi_pair.proofs.Going.{Suited, Well, goes_well}
-use Rattle.iscsi_pair.proofs.TargetStays.{held_stays as target_stays, Keeps, IsLater}
+use Rattle.iscsi_target.proofs.Keeping.{Stays, IsLater}
+use Rattle.iscsi_pair.proofs.TargetStays.{held_stays as target_stays}
 use Rattle.iscsi_pair.proofs.Agreeing.{IsReached, reached_more, refused, nothing_read, not_empty, full_stays}
 
 -- a message stands at the front of these bytes as it was written
@@ -60,7 +63,7 @@ last_heard : (ms : List Message) (c : Opening) (i : initiator.Machine) (t : targ
 unfolding answers
 last_heard [] c i t out back r disk l given x y o suits a s b p e f = record {
   target = inr (
-    ap target_machine.is_closed_phase a.logs_in.phase,
+    ap is_closed_phase a.logs_in.phase,
     inr (record {
       logins = out;
       message = r;
@@ -130,7 +133,7 @@ stay_well (Comes m ∷ inputs) c i t out back r disk (n ∷ ms) l k given x take
     let sent_is : one.given ++ x ≡ canon (h.output ++ sent h.machine inputs) = one.rest ∙ ap (λ (v : Message). canon (sent i (Comes v ∷ inputs))) two.same in
     let reach_ : IsReached c h.machine = reached_more c i turn.answer reach in
     let core : AreWell (after_all h.machine inputs) later x y = elim w.on [
-      | inl agreed ↦ (let keeps : Keeps now.machine later.machine = target_stays now.machine now.disk ms (subst IsLater (sym agreed.target_phase) tt) in record {
+      | inl agreed ↦ (let keeps : Stays now.machine later.machine = target_stays now.machine now.disk ms (subst IsLater (sym agreed.target_phase) tt) in record {
         target = inl (keeps.stage ∙ agreed.target_stage);
         initiator = inl (full_stays c h.machine inputs o reach_ agreed.stage).0;
       })

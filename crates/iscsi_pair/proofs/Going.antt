@@ -6,7 +6,7 @@ use Rattle.std.proofs.lemmas.Bool.{and_from, cond_both, cond-true, cond-false, l
 use Rattle.scsi_disk.specs.Disk.{Disk}
 use Rattle.iscsi_text.specs.Text.{Pairs}
 use Rattle.iscsi_text.specs.Canonical.{canonical_text}
-use Rattle.iscsi_text.specs.Reading.{text_in}
+use Rattle.iscsi_text.specs.Reading.{text_in, in_order}
 use Rattle.std.proofs.lemmas.List.{append-nil, length-append}
 use Rattle.iscsi_pdu.specs.declared.head.login_request.LoginRequest.{LoginRequest}
 use Rattle.iscsi_pdu.specs.declared.head.login_response.LoginResponse.{LoginResponse}
@@ -26,8 +26,7 @@ use Rattle.iscsi_login.specs.declared.stage.Session.TheVariants as sessions
 use Rattle.iscsi_login.specs.declared.offers.Auth.TheVariants as auths
 use Rattle.iscsi_login.specs.declared.preferences.Preferences.{Preferences}
 use Rattle.iscsi_login.specs.Negotiation.{IsInRange, max_recv_range}
-use Rattle.iscsi_login.specs.Stage.{stage_number}
-use Rattle.iscsi_login.specs.Answer.{in_order}
+use Rattle.iscsi_login.specs.Stage.{stage_number, is_closed_phase}
 use Rattle.iscsi_login.specs.Offers.{Proposal, offers_at, security_offers, operational_offers, single_offers}
 use Rattle.iscsi_initiator.specs.Configured.{IsStart}
 use Rattle.iscsi_initiator.specs.State as initiator
@@ -38,7 +37,7 @@ use Rattle.iscsi_initiator.specs.Machine.{step}
 use Rattle.iscsi_target.specs.declared.status.Status.{Status}
 use Rattle.iscsi_target.specs.Configured as target_settings
 use Rattle.iscsi_target.specs.State as target
-use Rattle.iscsi_target.specs.State.{first_of}
+use Rattle.scsi_disk.specs.Plan.{first_of}
 use Rattle.iscsi_target.specs.LoginText.{known_keys, gives_again, given_with, text_refusals, answer_pairs, session_for, declared_tag, declared_length}
 use Rattle.iscsi_target.specs.Login as login
 use Rattle.iscsi_target.specs.Login.{request_refusals, is_same_stage, stage_named, stage_asked, is_move, numbered, entered, gather, text_answered, text_ending}
@@ -50,6 +49,7 @@ use Rattle.iscsi_pair.proofs.InitiatorLogin.{answering, with_answer, hears}
 use Rattle.iscsi_pair.proofs.Talk.{Agreed, Asking, Asks_on, Leads, Round, IsWhole, IsPart, is_sent, fits_limit, offered_read}
 use Rattle.iscsi_pair.proofs.Sizes.{answer_is_short}
 use Rattle.iscsi_pair.proofs.Suiting.{IsFew, offers_few, few_fits, none_of, says_security, says_single, second_gives, security_auth, operational_auth, single_auth, security_length, operational_length, single_length, first_text, second_text}
+use Rattle.iscsi_pdu.specs.Serial.{next_sn}
 
 -- ---- where the login is, beside what the initiator asks
 
@@ -228,7 +228,7 @@ record GoesOn (s : Stepped) : Type 0 where
 text_on : (m : initiator.Machine) → m.phase ≡ phases.Login → GoesOn (sends_text m)
 text_on m p =
     cond_both (fits_segment m (canonical_text (offered m))) (sends (record m { left = [] }) (login_message m true (Text (offered m)) ∷ [])) (sends_cut m (canonical_text (offered m)) false) GoesOn
-    (λ is. record { live = ap initiator.is_closed_phase p; fault = refl }) (λ is. record { live = ap initiator.is_closed_phase p; fault = refl })
+    (λ is. record { live = ap is_closed_phase p; fault = refl }) (λ is. record { live = ap is_closed_phase p; fault = refl })
 
 enters_on : (stage : Stage) (m : initiator.Machine) → m.phase ≡ phases.Login → GoesOn (enters stage m)
 enters_on stages.Security m p = text_on (record m { stage = stages.Security }) p
@@ -275,7 +275,7 @@ due_at : (b : Bool) (here there : Stage) (n : ℕ) → b ≡ true → there ≡ 
 due_at true here there n e f = ap (λ (x : Stage). is_same_stage x (stage_named (stage_number here))) f ∙ same_stage here
 due_at false here there n e f = absurd (cc e)
 
-phase_open : (stage : Stage) → target_machine.is_closed_phase (login.phase_at stage) ≡ false
+phase_open : (stage : Stage) → is_closed_phase (login.phase_at stage) ≡ false
 phase_open stages.Security = refl
 phase_open stages.Operational = refl
 phase_open stages.Full = refl
@@ -303,7 +303,7 @@ takes c i e o there is here =
 leads_on : (c : Opening) (i : initiator.Machine) (s : Stepped) (t : target.Machine) (logins : Logins) → Leads c i s t logins → is_closed s.machine ≡ false → (Asks_on c s t logins → Suited c s.machine t)
     → Agreed s t ⊎ (Asks_on c s t logins × Suited c s.machine t)
 leads_on c i s t logins leads live suited = elim leads [
-  | inl closes ↦ absurd (apart (ap initiator.is_closed_phase closes.phase) live)
+  | inl closes ↦ absurd (apart (ap is_closed_phase closes.phase) live)
   | inr on ↦ elim on [
     | inl agreed ↦ inl agreed
     | inr asks ↦ inr (asks, suited asks)
@@ -435,7 +435,7 @@ next_suited c i t h g answer there s is hs number =
     let same : SameState t (entered t h) = entered_same t h in
     let asked_is : stage_asked h ≡ Some stages.Operational = ap stage_asked hs ∙ ap (λ (x : Stage). stage_named (stage_number (asked_from x))) is in
     record {
-      expected = ap (λ (n : Option ℕ). is_expected n (target.next_sn e.stat_sn)) (k.number ∙ ap (λ (o : Option ℕ). Some (initiator.next (unwrap_or o 0))) number) ∙ eq-eqb (target.next_sn e.stat_sn) (target.next_sn e.stat_sn) refl;
+      expected = ap (λ (n : Option ℕ). is_expected n (next_sn e.stat_sn)) (k.number ∙ ap (λ (o : Option ℕ). Some (next_sn (unwrap_or o 0))) number) ∙ eq-eqb (next_sn e.stat_sn) (next_sn e.stat_sn) refl;
       due = due_at (entered t h).begun (sends_text m).machine.stage _ _ (entered_begun t h) (ap (λ (o : Option Stage). unwrap_or o e.stage) asked_is ∙ sym k.stage);
       texts = elim s.texts [
         | inl f ↦ inr (record {
@@ -489,9 +489,9 @@ part_well c i t logins next r disk a s turn q =
     let e : target.Machine = entered t h in
     let same : SameState t e = entered_same t h in
     let n : Stepped = sends_more (counted i (part_head e h)) in
-    let live : is_closed (step i turn.answer).machine ≡ false = ap (λ (x : Stepped). is_closed x.machine) q.now ∙ ap initiator.is_closed_phase a.phase in
+    let live : is_closed (step i turn.answer).machine ≡ false = ap (λ (x : Stepped). is_closed x.machine) q.now ∙ ap is_closed_phase a.phase in
     let begun : Suited c n.machine (gather e h q.bytes).machine = record {
-      expected = eq-eqb (target.next_sn e.stat_sn) (target.next_sn e.stat_sn) refl;
+      expected = eq-eqb (next_sn e.stat_sn) (next_sn e.stat_sn) refl;
       due = due_at e.begun i.stage _ _ (entered_begun t h) (in_stage i.stage t.stage);
       texts = elim s.texts [
         | inl f ↦ inl (record { none = same.has_text ∙ f.none; given = same.given ∙ f.given; stage = f.stage })
@@ -503,7 +503,7 @@ part_well c i t logins next r disk a s turn q =
     (subst (λ (x : target.Stepped). Suited c n.machine x.machine) (sym q.there) begun) in
     record {
       on = leads_on c i (step i turn.answer) (target_machine.step t disk r).machine next turn.leads live (λ asks. suited);
-      open_ = ap (λ (x : target.Stepped). target_machine.is_closed x.machine) q.there ∙ ap target_machine.is_closed_phase (entered_phase t h ∙ a.logs_in.phase);
+      open_ = ap (λ (x : target.Stepped). target_machine.is_closed x.machine) q.there ∙ ap is_closed_phase (entered_phase t h ∙ a.logs_in.phase);
       rule = ap (λ (x : target.Stepped). x.rule) q.there;
       live = live;
       fault = ap (λ (x : Stepped). x.fault) q.now;

@@ -17,13 +17,15 @@ use Rattle.iscsi_target.specs.Machine.{answers}
 use Rattle.iscsi_initiator.specs.declared.request.Done.{Done}
 use Rattle.iscsi_initiator.specs.declared.request.SubmitFault.TheVariants as refusals
 use Rattle.iscsi_initiator.specs.State as initiator
-use Rattle.iscsi_initiator.specs.State.{is_closed, is_closed_phase}
+use Rattle.iscsi_initiator.specs.State.{is_closed}
+use Rattle.iscsi_login.specs.Stage.{is_closed_phase}
 use Rattle.iscsi_initiator.specs.Steps.{Stepped}
 use Rattle.iscsi_initiator.specs.Login.{start_step}
 use Rattle.iscsi_initiator.specs.Machine.{step, taken}
 use Rattle.iscsi_initiator.specs.Submitted.{Submitted}
 use Rattle.iscsi_pair.specs.World.{World, Opening, IsOpening}
-use Rattle.iscsi_pair.specs.Traffic.{Traffic, said, Input, Comes, Asks, Takes, after_all, sent, coming}
+use Rattle.iscsi_pair.specs.Traffic.{Traffic, said, after_all, sent, coming}
+use Rattle.iscsi_initiator.specs.Laws.{Input, Comes, Asks, Takes}
 use Rattle.iscsi_pair.proofs.InitiatorSide.{InitiatorLives, begun}
 use Rattle.iscsi_pair.proofs.TargetSide.{TargetLives, TargetOver}
 use Rattle.iscsi_pair.proofs.Sides.{Sides}
@@ -50,7 +52,7 @@ unfolding answers
 idle [] c i t out back r disk [] l k given x taken_ y o a b reach p e here q f there live =
     elim here [
       | inl h ↦ absurd (not_waiting l out x [] r h (asking_readable c i t out r o a) (asking_short c i t out r a) (ap (λ (z : List ℕ). z ++ x) (sym (nothing_read l out given p)) ∙ e))
-      | inr over ↦ absurd (apart over (ap target_machine.is_closed_phase a.logs_in.phase))
+      | inr over ↦ absurd (apart over (ap is_closed_phase a.logs_in.phase))
     ]
 idle [] c i t out back r disk (n ∷ ms) l k given x taken_ y o a b reach p e here q f there live =
     let one : IsFirst l out x (canon (sent i [])) n r ms = first_is l out given x (canon (sent i [])) n r ms (asking_readable c i t out r o a) p e in

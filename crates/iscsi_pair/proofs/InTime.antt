@@ -33,7 +33,8 @@ use Rattle.iscsi_initiator.specs.Login.{start_step}
 use Rattle.iscsi_pair.specs.declared.step.EndFault.{EndFault}
 use Rattle.iscsi_pair.specs.declared.step.EndFault.TheVariants as ends
 use Rattle.iscsi_pair.specs.World.{World, Opening, IsOpening, IsInTime, Suits, Event, feed_fault, submit_fault, ToTarget, ToInitiator, Submits, Takes, Happens, Runs, RunsInTime, MovesToTarget, MovesToInitiator, Asks, new_pair, target_ran_out, initiator_ran_out, keeps_no_memory}
-use Rattle.iscsi_pair.specs.Traffic.{Traffic, Input, said, after_all, sent, coming}
+use Rattle.iscsi_pair.specs.Traffic.{Traffic, said, after_all, sent, coming}
+use Rattle.iscsi_initiator.specs.Laws.{Input}
 use Rattle.iscsi_pair.proofs.TargetSide.{TargetFront, TargetEnded, TargetBroken, TargetFailed}
 use Rattle.iscsi_pair.proofs.InitiatorSide.{InitiatorFront, InitiatorEnded, InitiatorBroken, InitiatorFailed, begun, all_sent}
 use Rattle.iscsi_pair.proofs.Sides.{Sides}

@@ -19,7 +19,8 @@ use Rattle.iscsi_initiator.specs.declared.fault.InitiatorFault.TheVariants as fa
 use Rattle.iscsi_initiator.specs.declared.request.Request.{Request}
 use Rattle.iscsi_initiator.specs.declared.request.Refused.{Refused}
 use Rattle.iscsi_initiator.specs.declared.request.SubmitFault.{SubmitFault}
-use Rattle.iscsi_initiator.specs.State.{Machine, opening, is_closed, is_closed_phase}
+use Rattle.iscsi_initiator.specs.State.{Machine, opening, is_closed}
+use Rattle.iscsi_login.specs.Stage.{is_closed_phase}
 use Rattle.iscsi_initiator.specs.Steps.{Stepped, quiet}
 use Rattle.iscsi_text.specs.Canonical.{canonical_text}
 use Rattle.iscsi_initiator.specs.Login.{start_step, fits_segment, offered}
@@ -32,20 +33,19 @@ use Rattle.iscsi_pair.proofs.Ending.{IsFullStage, asked_phase, steps_well, input
 use Rattle.iscsi_pair.specs.declared.step.EndFault.{EndFault}
 use Rattle.iscsi_pair.specs.declared.step.EndFault.TheVariants as ends
 use Rattle.iscsi_pair.specs.World.{Opening, started, new_pair, feed_fault, submit_fault}
-use Rattle.iscsi_pair.specs.Traffic.{Input, Comes, Asks, Takes, after, sent_in, after_all, sent, coming, coming_in, demanded, demanded_in}
+use Rattle.iscsi_pair.specs.Traffic.{sent_in, after_all, sent, coming, coming_in, demanded, demanded_in}
+use Rattle.iscsi_initiator.specs.Laws.{Input, Comes, Asks, Takes, met}
+use Rattle.iscsi_stream.proofs.Writing.{canon_append}
 
 -- ---- inputs, one after another
 
-pub canon_append : (a b : List Message) → canon (a ++ b) ≡ canon a ++ canon b
-canon_append a b = flat_map-append canonical_bytes a b
-
 pub after_append : (m : Machine) (a b : List Input) → after_all m (a ++ b) ≡ after_all (after_all m a) b
 after_append m [] b = refl
-after_append m (x ∷ a) b = after_append (after m x) a b
+after_append m (x ∷ a) b = after_append (met m x) a b
 
 pub sent_append : (m : Machine) (a b : List Input) → sent m (a ++ b) ≡ sent m a ++ sent (after_all m a) b
 sent_append m [] b = refl
-sent_append m (x ∷ a) b = ap (λ (ms : List Message). sent_in m x ++ ms) (sent_append (after m x) a b) ∙ sym (append_assoc (sent_in m x) (sent (after m x) a) (sent (after_all (after m x) a) b))
+sent_append m (x ∷ a) b = ap (λ (ms : List Message). sent_in m x ++ ms) (sent_append (met m x) a b) ∙ sym (append_assoc (sent_in m x) (sent (met m x) a) (sent (after_all (met m x) a) b))
 
 pub coming_append : (a b : List Input) → coming (a ++ b) ≡ coming a ++ coming b
 coming_append [] b = refl

@@ -14,19 +14,21 @@ use Rattle.iscsi_initiator.specs.declared.open.Open.{Open}
 use Rattle.iscsi_initiator.specs.declared.request.Done.{Done}
 use Rattle.iscsi_initiator.specs.declared.request.SubmitFault.{SubmitFault}
 use Rattle.iscsi_initiator.specs.declared.request.SubmitFault.TheVariants as refusals_
-use Rattle.iscsi_initiator.specs.Submitted.{accepted, is_too_long, is_within, or_accepted, refusal, refusal_in, refusal_when_full, submitted}
+use Rattle.iscsi_initiator.specs.Submitted.{accepted, is_too_long, or_accepted, refusal, refusal_in, refusal_when_full, submitted}
+use Rattle.iscsi_pdu.specs.Serial.{is_within}
 use Rattle.iscsi_pair.specs.LocalDisk.{AreInStep, ComesTo, HasEnded, Local, handed_in, local, local_disk, local_outcomes}
 use Rattle.iscsi_pair.specs.Served.{IsServed}
 use Rattle.iscsi_pair.proofs.Courses.{Begins, leads_after}
 use Rattle.iscsi_pair.proofs.LocalPings.{local_logout, local_ping}
 use Rattle.iscsi_pair.proofs.LocalReads.{local_read, unrefused}
 use Rattle.iscsi_pair.proofs.LocalWrites.{local_write}
+use Rattle.iscsi_pdu.specs.declared.serial.Window.{Window}
 
 -- a request that isn't too long is accepted
 taken_in : (m : initiator.Machine) (t : target.Machine) (request : Request) (long : Bool) → AreInStep m t → is_too_long m request ≡ long → long ≡ false → refusal_when_full m request ≡ None
 taken_in m t request long a is short =
-    let now : is_within m.cmd_sn m.window ≡ true =
-    ap (is_within m.cmd_sn) a.window ∙ (let d : (m.cmd_sn + (2 ^ 32 - m.cmd_sn)) % 2 ^ 32 ≡ 0 = (let lt = a.cmd_sn_fits in omega (arith, lt)) in rw d refl) in
+    let now : is_within m.cmd_sn m.window.exp.0 m.window.max.0 ≡ true =
+    ap (λ (w : Window). is_within m.cmd_sn w.exp.0 w.max.0) a.window ∙ (let d : (m.cmd_sn + (2 ^ 32 - m.cmd_sn)) % 2 ^ 32 ≡ 0 = (let lt = a.cmd_sn_fits in omega (arith, lt)) in rw d refl) in
     let none : is_some m.open_request ≡ false = ap (λ (x : Option Open). is_some x) a.none_open in
     let taken_ : is_some m.done ≡ false = ap (λ (x : Option Done). is_some x) a.none_done in
     rw (none, taken_, now, is ∙ short) refl
@@ -77,7 +79,7 @@ free_in : (p : Phase) (m : initiator.Machine) (request : Request) → m.phase �
 free_in phases.Login m request is e = absurd (cc e)
 free_in phases.Closed m request is e = absurd (cc e)
 free_in phases.Full m request is e =
-    let r = not_busy (is_some m.open_request) (is_some m.done) (not (is_within m.cmd_sn m.window)) (is_too_long m request) e in record { full = is; none_open = r.0; none_done = r.1 }
+    let r = not_busy (is_some m.open_request) (is_some m.done) (not (is_within m.cmd_sn m.window.exp.0 m.window.max.0)) (is_too_long m request) e in record { full = is; none_open = r.0; none_done = r.1 }
 
 pub is_free : (m : initiator.Machine) (request : Request) → (submitted m request).refusal ≡ None → IsFree m
 unfolding submitted

@@ -14,7 +14,8 @@ use Rattle.iscsi_login.specs.declared.phase.Phase.{Phase}
 use Rattle.iscsi_login.specs.declared.phase.Phase.TheVariants as phases
 use Rattle.iscsi_login.specs.Held.{Held}
 use Rattle.iscsi_target.specs.State as target
-use Rattle.iscsi_target.specs.State.{next_sn, on, say}
+use Rattle.iscsi_target.specs.State.{on, say}
+use Rattle.iscsi_pdu.specs.Serial.{next_sn, is_within}
 use Rattle.iscsi_target.specs.Requests.{logged_out, logout_head, nop_in_head}
 use Rattle.iscsi_target.specs.Machine as target_machine
 use Rattle.iscsi_target.specs.Machine.{accepting, answers, step_on}
@@ -24,16 +25,18 @@ use Rattle.iscsi_initiator.specs.declared.request.Done.TheVariants as done
 use Rattle.iscsi_initiator.specs.declared.request.Request.{Request}
 use Rattle.iscsi_initiator.specs.declared.request.Request.TheVariants as requests
 use Rattle.iscsi_initiator.specs.State as initiator
-use Rattle.iscsi_initiator.specs.State.{next, next_tag}
+use Rattle.iscsi_initiator.specs.State.{next_tag}
 use Rattle.iscsi_initiator.specs.Steps.{quiet}
 use Rattle.iscsi_initiator.specs.Machine.{step}
-use Rattle.iscsi_initiator.specs.Submitted.{Submitted, accepted, logout_request, ping, refusal, refusal_in, refusal_when_full, submitted, is_within}
+use Rattle.iscsi_initiator.specs.Submitted.{Submitted, accepted, logout_request, ping, refusal, refusal_in, refusal_when_full, submitted}
 use Rattle.iscsi_pair.specs.LocalDisk.{AreInStep, Stand, window_of_one}
 use Rattle.iscsi_pair.proofs.Windows.{near_one, tells_one, tag_after}
 use Rattle.iscsi_pair.proofs.Written.{left_readable, logout_readable, ping_readable, pong_readable}
 use Rattle.iscsi_pair.proofs.Keeping.{IsOpenFor}
 use Rattle.iscsi_pair.proofs.Courses.{ArePlain, Begins, Ends, heard_by, hears_quiet, plain_one, short_message}
 use Rattle.iscsi_pair.proofs.LocalReads.{in_step_again, not_long, ready, stat_sn_sent, submitted_is, told_window, unrefused, window_now}
+use Rattle.iscsi_target.specs.Execution.{reliable}
+use Rattle.iscsi_login.specs.Stage.{is_closed_phase}
 
 -- ---- a ping
 
@@ -47,7 +50,7 @@ ping_message m bytes = record { head = heads.NopOut (ping m); segment = Bytes by
 -- the target answers
 ping_taken : (m : initiator.Machine) (t : target.Machine) (disk : Disk) (bytes : List ℕ) → m.cmd_sn < 2 ^ 32 → m.initiator_task_tag ≤ 0xffff_fffe
     → length bytes ≤ t.held.target_max_recv → t.held.target_max_recv ≤ target.limit t.settings
-    → step_on effect (ready t m.cmd_sn) disk (ping_message m bytes)
+    → step_on reliable (ready t m.cmd_sn) disk (ping_message m bytes)
     ≡ accepting (ping_message m bytes) (on disk (say (ready t (next_sn m.cmd_sn)) (nop_in_head (ready t (next_sn m.cmd_sn)) (ping m)) (take t.held.initiator_max_recv bytes)))
 unfolding segment_bytes
 ping_taken m t disk bytes lt tag short limit =
@@ -60,7 +63,7 @@ pinging m window = record m { phase = phases.Full; open_request = Some opens.Pin
 abbrev pinged : initiator.Machine → target.Machine → Window → List ℕ → initiator.Machine
 pinged m t window bytes = record m {
   phase = phases.Full;
-  exp_stat_sn = Some (next t.stat_sn);
+  exp_stat_sn = Some (next_sn t.stat_sn);
   window = told_window window t;
   open_request = None;
   done = Some (done.Ping bytes);
@@ -81,7 +84,7 @@ short_ping m bytes full e =
     let none : refusal_in m.phase m (requests.Ping bytes) ≡ None = unrefused (refusal m (requests.Ping bytes)) m (requests.Ping bytes) e in
     let when : refusal_when_full m (requests.Ping bytes) ≡ None = subst (λ (p : Phase). refusal_in p m (requests.Ping bytes) ≡ None) full none in
     ltb-false m.held.target_max_recv (length bytes)
-    (not_long (is_some m.open_request || is_some m.done) (not (is_within m.cmd_sn m.window)) (nat_lt m.held.target_max_recv (length bytes)) when)
+    (not_long (is_some m.open_request || is_some m.done) (not (is_within m.cmd_sn m.window.exp.0 m.window.max.0)) (nat_lt m.held.target_max_recv (length bytes)) when)
 
 pub local_ping : (m : initiator.Machine) (t : target.Machine) (disk : Disk) (bytes : List ℕ) → AreInStep m t → (submitted m (requests.Ping bytes)).refusal ≡ None
     → Begins m.held m t disk (requests.Ping bytes) (done.Ping (take m.held.initiator_max_recv bytes)) disk
@@ -92,7 +95,7 @@ local_ping m t disk bytes a e =
     let fits : n < 2 ^ 32 = mod-lt (m.cmd_sn + 1) (omega arith) in
     let short : length bytes ≤ m.held.target_max_recv = short_ping m bytes a.initiator_phase e in
     let sent : submitted m request ≡ accepted m request = submitted_is m request e in
-    let begun_ : initiator.Machine = record m { initiator_task_tag = next_tag m.initiator_task_tag; cmd_sn = next m.cmd_sn } in
+    let begun_ : initiator.Machine = record m { initiator_task_tag = next_tag m.initiator_task_tag; cmd_sn = next_sn m.cmd_sn } in
     let t' : target.Machine = ready t n in
     let given : List ℕ = take m.held.initiator_max_recv bytes in
     let few : length given ≤ m.held.initiator_max_recv = omega (arith, length-take m.held.initiator_max_recv bytes) in
@@ -103,8 +106,8 @@ local_ping m t disk bytes a e =
     let executed : target.Stepped = accepting (ping_message m bytes) (on disk (say t' (nop_in_head t' (ping m)) given)) in
     let r : answers t disk (submitted m request).output ≡ executed =
     ap (λ (s : Submitted). answers t disk s.output) sent
-    ∙ then_nothing (step_on effect t disk (ping_message m bytes))
-    ∙ ap (λ (x : target.Machine). step_on effect x disk (ping_message m bytes)) is_t
+    ∙ then_nothing (step_on reliable t disk (ping_message m bytes))
+    ∙ ap (λ (x : target.Machine). step_on reliable x disk (ping_message m bytes)) is_t
     ∙ ping_taken m t disk bytes a.cmd_sn_fits a.tag_fits (subst (λ (h : Held). length bytes ≤ h.target_max_recv) (sym a.held) short) (subst (λ (h : Held). h.target_max_recv ≤ target.limit t.settings) (sym a.held) a.segment)
     ∙ ap (λ (h : Held). accepting (ping_message m bytes) (on disk (say t' (nop_in_head t' (ping m)) (take h.initiator_max_recv bytes)))) a.held in
     let one : step (pinging begun_ m.window) answer ≡ quiet (pinged begun_ t' m.window given) = pong_heard begun_ m t' m.window given a.stat_sn refl tag few in
@@ -140,7 +143,7 @@ abbrev logout_message : initiator.Machine → Message
 logout_message m = record { head = heads.LogoutRequest (logout_request m); segment = Bytes [] }
 
 logout_taken : (m : initiator.Machine) (t : target.Machine) (disk : Disk) → m.cmd_sn < 2 ^ 32
-    → step_on effect (ready t m.cmd_sn) disk (logout_message m) ≡ accepting (logout_message m) (on disk (logged_out (ready t (next_sn m.cmd_sn)) (logout_request m)))
+    → step_on reliable (ready t m.cmd_sn) disk (logout_message m) ≡ accepting (logout_message m) (on disk (logged_out (ready t (next_sn m.cmd_sn)) (logout_request m)))
 unfolding segment_bytes
 logout_taken m t disk lt =
     rw (le-ltb (target.limit t.settings) 0 (omega arith), le-ltb t.held.target_max_recv 0 (omega arith), window_now m.cmd_sn lt) refl
@@ -151,7 +154,7 @@ leaving m window = record m { phase = phases.Full; open_request = Some opens.Log
 abbrev left : initiator.Machine → target.Machine → Window → initiator.Machine
 left m t window = record m {
   phase = phases.Closed;
-  exp_stat_sn = Some (next t.stat_sn);
+  exp_stat_sn = Some (next_sn t.stat_sn);
   window = told_window window t;
   open_request = None;
   done = Some done.Closed;
@@ -170,7 +173,7 @@ local_logout m t disk a e =
     let n : ℕ = next_sn m.cmd_sn in
     let fits : n < 2 ^ 32 = mod-lt (m.cmd_sn + 1) (omega arith) in
     let sent : submitted m request ≡ accepted m request = submitted_is m request e in
-    let begun_ : initiator.Machine = record m { initiator_task_tag = next_tag m.initiator_task_tag; cmd_sn = next m.cmd_sn } in
+    let begun_ : initiator.Machine = record m { initiator_task_tag = next_tag m.initiator_task_tag; cmd_sn = next_sn m.cmd_sn } in
     let t' : target.Machine = ready t n in
     let tag : next_tag m.initiator_task_tag ≤ 0xffff_fffe = tag_after m.initiator_task_tag a.tag_fits in
     let is_t : t ≡ ready t m.cmd_sn = λ i. record t { phase = a.target_phase i; session = a.session i; write = a.none_written i; exp_cmd_sn = a.cmd_sn i } in
@@ -179,8 +182,8 @@ local_logout m t disk a e =
     let executed : target.Stepped = accepting (logout_message m) (on disk (logged_out t' (logout_request m))) in
     let r : answers t disk (submitted m request).output ≡ executed =
     ap (λ (s : Submitted). answers t disk s.output) sent
-    ∙ then_nothing (step_on effect t disk (logout_message m))
-    ∙ ap (λ (x : target.Machine). step_on effect x disk (logout_message m)) is_t
+    ∙ then_nothing (step_on reliable t disk (logout_message m))
+    ∙ ap (λ (x : target.Machine). step_on reliable x disk (logout_message m)) is_t
     ∙ logout_taken m t disk a.cmd_sn_fits in
     let last : Stand = record { initiator = left begun_ t' m.window; target = executed.machine; disk = disk; answers = [] } in
     let ends_ : Ends m.held (leaving begun_ m.window) executed done.Closed disk = record {
@@ -191,7 +194,7 @@ local_logout m t disk a e =
     let written : ArePlain m.held.target_max_recv (logout_message m ∷ []) =
     plain_one m.held.target_max_recv (logout_message m) (λ logins. logout_readable logins m a.tag_fits a.cmd_sn_fits (stat_sn_sent m t a)) (short_message (logout_message m).head [] m.held.target_max_recv (omega arith)) in
     let open_ : IsOpenFor t disk (submitted m request).output =
-    subst (λ (s : Submitted). IsOpenFor t disk s.output) (sym sent) (ap target_machine.is_closed_phase a.target_phase, tt) in
+    subst (λ (s : Submitted). IsOpenFor t disk s.output) (sym sent) (ap is_closed_phase a.target_phase, tt) in
     record {
       heard = record {
         written = subst (λ (s : Submitted). ArePlain m.held.target_max_recv s.output) (sym sent) written;

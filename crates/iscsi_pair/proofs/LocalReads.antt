@@ -18,7 +18,7 @@ use Rattle.scsi_disk.specs.Plan.{expected_length, first_refusal, is_unknown, is_
 use Rattle.scsi_disk.proofs.Planned.{all_false}
 use Rattle.iscsi_pdu.specs.declared.head.Head.TheVariants as heads
 use Rattle.iscsi_pdu.specs.declared.serial.Window.{Window}
-use Rattle.iscsi_pdu.specs.Serial.{moved}
+use Rattle.iscsi_pdu.specs.Serial.{moved, next_sn, is_within}
 use Rattle.iscsi_pdu.specs.Meaning.{AreBytes}
 use Rattle.iscsi_pdu.specs.declared.head.scsi_command.ScsiCommand.{ScsiCommand}
 use Rattle.iscsi_pdu.specs.declared.head.scsi_response.ScsiResponse.{ScsiResponse}
@@ -27,27 +27,29 @@ use Rattle.iscsi_stream.specs.Stream.{Message}
 use Rattle.iscsi_login.specs.declared.phase.Phase.{Phase}
 use Rattle.iscsi_login.specs.declared.phase.Phase.TheVariants as phases
 use Rattle.iscsi_login.specs.declared.stage.Session.TheVariants as sessions
-use Rattle.iscsi_login.specs.Held.{Held, IsHeld}
-use Rattle.iscsi_target.specs.Transfer.{max_burst}
+use Rattle.iscsi_login.specs.Held.{Held, IsHeld, max_burst}
 use Rattle.iscsi_target.specs.State as target
-use Rattle.iscsi_target.specs.State.{is_within, max_cmd_sn, message, next_sn}
+use Rattle.iscsi_target.specs.State.{max_cmd_sn, message}
 use Rattle.iscsi_target.specs.Command.{order_of, planned}
 use Rattle.iscsi_target.specs.Machine.{accepting, answers, step_on}
-use Rattle.iscsi_target.specs.Execution.{command_answers, execute, data_ins, data_in_head, marked, parts, parts_given, parts_within, response_head, run_given, sense_segment}
+use Rattle.iscsi_target.specs.Execution.{command_answers, execute, data_ins, data_in_head, marked, parts_given, response_head, run_given, sense_segment, reliable}
+use Rattle.iscsi_stream.specs.Pieces.{chunks_within, chunks}
 use Rattle.iscsi_target.proofs.Reached.{can_give}
 use Rattle.iscsi_target.proofs.Continuing.{then_nothing}
-use Rattle.iscsi_target.proofs.DataIns.{Parts, all_given, bytes_of, flat, flat_parts}
+use Rattle.iscsi_target.proofs.DataIns.{Parts, all_given, bytes_of}
+use Rattle.iscsi_stream.proofs.Chunks.{joined, joined_chunks}
 use Rattle.iscsi_initiator.specs.declared.request.Done.TheVariants as done
 use Rattle.iscsi_initiator.specs.declared.open.Open.{Open}
 use Rattle.iscsi_initiator.specs.declared.open.Open.TheVariants as opens
 use Rattle.iscsi_initiator.specs.Full.{Response, due_to}
 use Rattle.iscsi_initiator.specs.State as initiator
-use Rattle.iscsi_initiator.specs.State.{is_closed, is_closed_phase, next, next_tag, sent_exp_stat_sn, serial}
+use Rattle.iscsi_initiator.specs.State.{is_closed, next_tag, sent_exp_stat_sn, serial}
+use Rattle.iscsi_login.specs.Stage.{is_closed_phase}
 use Rattle.iscsi_initiator.specs.declared.request.Request.{Request}
 use Rattle.iscsi_initiator.specs.declared.request.Request.TheVariants as requests
 use Rattle.iscsi_initiator.specs.declared.request.SubmitFault.{SubmitFault}
 use Rattle.iscsi_initiator.specs.declared.request.SubmitFault.TheVariants as refusals_
-use Rattle.iscsi_initiator.specs.Submitted.{Submitted, accepted, command, or_accepted, refusal, refusal_in, refusal_when_full, submitted, is_within as submit_within}
+use Rattle.iscsi_initiator.specs.Submitted.{Submitted, accepted, command, or_accepted, refusal, refusal_in, refusal_when_full, submitted}
 use Rattle.iscsi_initiator.specs.Progress.{Reading}
 use Rattle.iscsi_initiator.specs.Steps.{quiet}
 use Rattle.iscsi_initiator.specs.Machine.{step}
@@ -71,7 +73,7 @@ told_window window t = moved window (serial t.exp_cmd_sn) (serial (max_cmd_sn t)
 part_heard : (m : initiator.Machine) (t : target.Machine) (r : Reading) (window : Window) (part : List ℕ × Bool)
     → length part.0 ≤ m.held.initiator_max_recv → length r.received + length part.0 ≤ r.expected
     → step (reading m r window) (message (data_in_head t m.initiator_task_tag r.next_data_sn (length r.received) part.1) part.0)
-    ≡ quiet (reading m (record r { received = r.received ++ part.0; next_data_sn = next r.next_data_sn }) (told_window window t))
+    ≡ quiet (reading m (record r { received = r.received ++ part.0; next_data_sn = next_sn r.next_data_sn }) (told_window window t))
 unfolding step segment_bytes
 part_heard m t r window part short room =
     rw (
@@ -83,7 +85,7 @@ part_heard m t r window part short room =
     ) refl
 
 -- counting below the end of the circle
-pub next_small : (n : ℕ) → n + 1 < 2 ^ 32 → next n ≡ n + 1
+pub next_small : (n : ℕ) → n + 1 < 2 ^ 32 → next_sn n ≡ n + 1
 next_small n lt = mod-eq_of_lt lt
 
 -- parts that are due, one behind the other
@@ -112,7 +114,7 @@ parts_heard m t r window [] more none short room few =
 parts_heard m t r window (part ∷ given) more none short room few =
     let r' : Reading = record { expected = r.expected; received = r.received ++ part.0; next_data_sn = r.next_data_sn + 1 } in
     let room' : length r.received + length part.0 ≤ r.expected = omega (arith, room, length-append part.0 (bytes_of given)) in
-    let sn : next r.next_data_sn ≡ r.next_data_sn + 1 = next_small r.next_data_sn (omega (arith, few)) in
+    let sn : next_sn r.next_data_sn ≡ r.next_data_sn + 1 = next_small r.next_data_sn (omega (arith, few)) in
     let h : PartsHeard m t r' (told_window window t) given more =
     parts_heard m t r' (told_window window t) given more none short.1 (omega (arith, room, length-append part.0 (bytes_of given), length-append r.received part.0)) (omega (arith, few)) in
     let one : step (reading m r window) (message (data_in_head t m.initiator_task_tag r.next_data_sn (length r.received) part.1) part.0) ≡ quiet (reading m r' (told_window window t)) =
@@ -139,7 +141,7 @@ pub all_append : {A : Type 0} (P : A → Type 0) (xs ys : List A) → AllByRecur
 all_append P [] ys p q = q
 all_append P (x ∷ xs) ys p q = (p.0, all_append P xs ys p.1 q)
 
-parts_short : (fuel size : ℕ) (bytes : List ℕ) → AllByRecursion (λ part. length part ≤ size) (parts_within fuel size bytes)
+parts_short : (fuel size : ℕ) (bytes : List ℕ) → AllByRecursion (λ part. length part ≤ size) (chunks_within fuel size bytes)
 parts_short zero size bytes = tt
 parts_short (suc more) size [] = tt
 parts_short (suc more) size (b ∷ bytes) = (omega (arith, length-take size (b ∷ bytes)), parts_short more size (drop size (b ∷ bytes)))
@@ -153,9 +155,9 @@ runs_short : (held : Held) (runs : List (List ℕ)) → AreShort held.initiator_
 runs_short held [] = tt
 runs_short held (run ∷ runs) =
     all_append (λ part. length part.0 ≤ held.initiator_max_recv) (run_given held run) (flat_map (run_given held) runs)
-    (marked_short held.initiator_max_recv (parts held.initiator_max_recv run) (parts_short (length run) held.initiator_max_recv run)) (runs_short held runs)
+    (marked_short held.initiator_max_recv (chunks held.initiator_max_recv run) (parts_short (length run) held.initiator_max_recv run)) (runs_short held runs)
 
-parts_few : (fuel size : ℕ) (bytes : List ℕ) → 0 < size → length (parts_within fuel size bytes) ≤ length bytes
+parts_few : (fuel size : ℕ) (bytes : List ℕ) → 0 < size → length (chunks_within fuel size bytes) ≤ length bytes
 parts_few zero size bytes lt = omega arith
 parts_few (suc more) size [] lt = omega arith
 parts_few (suc more) size (b ∷ bytes) lt = omega (arith, parts_few more size (drop size (b ∷ bytes)) lt, length-drop size (b ∷ bytes), lt)
@@ -165,14 +167,14 @@ marked_few [] = refl
 marked_few (x ∷ []) = refl
 marked_few (x ∷ y ∷ xs) = ap suc (marked_few (y ∷ xs))
 
-runs_few : (held : Held) (runs : List (List ℕ)) → 0 < held.initiator_max_recv → length (flat_map (run_given held) runs) ≤ length (flat runs)
+runs_few : (held : Held) (runs : List (List ℕ)) → 0 < held.initiator_max_recv → length (flat_map (run_given held) runs) ≤ length (joined runs)
 runs_few held [] lt = omega arith
 runs_few held (run ∷ runs) lt =
     omega (
       arith,
       length-append (run_given held run) (flat_map (run_given held) runs),
-      length-append run (flat runs),
-      marked_few (parts held.initiator_max_recv run),
+      length-append run (joined runs),
+      marked_few (chunks held.initiator_max_recv run),
       parts_few (length run) held.initiator_max_recv run lt,
       runs_few held runs lt,
     )
@@ -180,7 +182,7 @@ runs_few held (run ∷ runs) lt =
 -- no more parts than bytes
 given_few : (held : Held) (bytes : List ℕ) → 0 < max_burst held → 0 < held.initiator_max_recv → length (parts_given held bytes) ≤ length bytes
 given_few held bytes burst most =
-    omega (arith, runs_few held (parts (max_burst held) bytes) most, ap (λ (x : List ℕ). length x) (flat_parts (max_burst held) bytes burst))
+    omega (arith, runs_few held (chunks (max_burst held) bytes) most, ap (λ (x : List ℕ). length x) (joined_chunks (max_burst held) bytes burst))
 
 -- ---- the initiator hears the response
 
@@ -188,7 +190,7 @@ given_few held bytes burst most =
 abbrev pub finished : initiator.Machine → target.Machine → Window → Outcome → List ℕ → initiator.Machine
 finished m t window outcome received = record m {
   phase = phases.Full;
-  exp_stat_sn = Some (next t.stat_sn);
+  exp_stat_sn = Some (next_sn t.stat_sn);
   window = told_window window t;
   open_request = None;
   done = Some (done.Command 0 outcome.status (told_sense outcome.sense) received outcome.residual);
@@ -238,7 +240,7 @@ are_given held bytes is =
     let most : 0 < held.initiator_max_recv = omega (arith, is.initiator_max_recv.0) in
     record {
       all = all_given held bytes (can_give held is).burst most;
-      short = runs_short held (parts (max_burst held) bytes);
+      short = runs_short held (chunks (max_burst held) bytes);
       few = given_few held bytes (can_give held is).burst most;
     }
 
@@ -314,7 +316,7 @@ window_now n lt =
 
 -- a command that takes no data waits for none
 planned_now : (p : Plan) (t : target.Machine) (cmd_sn : ℕ) (disk : Disk) (h : ScsiCommand) → ((total : ℕ) → p ≡ Take total → total ≡ 0)
-    → planned effect (ready t cmd_sn) disk h [] p ≡ execute effect (ready t cmd_sn) disk h.initiator_task_tag (order_of h) []
+    → planned reliable (ready t cmd_sn) disk h [] p ≡ execute reliable (ready t cmd_sn) disk h.initiator_task_tag (order_of h) []
 planned_now (Take total) t cmd_sn disk h none = (let e : total ≡ 0 = none total refl in rw e refl)
 planned_now (Give n) t cmd_sn disk h none = refl
 planned_now (Refuse sense) t cmd_sn disk h none = refl
@@ -356,8 +358,8 @@ outcome_few (Give n) disk order most few = omega (arith, few n refl, length-take
 
 -- the command is executed
 read_taken : (m : initiator.Machine) (t : target.Machine) (disk : Disk) (lun : ℕ) (cdb : List ℕ) (expected : ℕ) → m.cmd_sn < 2 ^ 32
-    → step_on effect (ready t m.cmd_sn) disk (read_command m lun cdb expected)
-    ≡ accepting (read_command m lun cdb expected) (execute effect (ready t (next_sn m.cmd_sn)) disk (next_tag m.initiator_task_tag) (reading_order lun cdb expected) [])
+    → step_on reliable (ready t m.cmd_sn) disk (read_command m lun cdb expected)
+    ≡ accepting (read_command m lun cdb expected) (execute reliable (ready t (next_sn m.cmd_sn)) disk (next_tag m.initiator_task_tag) (reading_order lun cdb expected) [])
 unfolding segment_bytes
 read_taken m t disk lun cdb expected lt =
     let order : Order = reading_order lun cdb expected in
@@ -393,12 +395,12 @@ few_expected m lun cdb expected full e =
     let none : refusal_in m.phase m (requests.In lun cdb expected) ≡ None = unrefused (refusal m (requests.In lun cdb expected)) m (requests.In lun cdb expected) e in
     let when : refusal_when_full m (requests.In lun cdb expected) ≡ None = subst (λ (p : Phase). refusal_in p m (requests.In lun cdb expected) ≡ None) full none in
     ltb-false 4194304 expected
-    (not_long (is_some m.open_request || is_some m.done) (not (submit_within m.cmd_sn m.window)) (nat_lt 4194304 expected) when)
+    (not_long (is_some m.open_request || is_some m.done) (not (is_within m.cmd_sn m.window.exp.0 m.window.max.0)) (nat_lt 4194304 expected) when)
 
 -- A command or a ping was answered: both ends are in step again.
 pub in_step_again : (m : initiator.Machine) (t : target.Machine) (window : Window) → t.held ≡ m.held → IsHeld m.held → m.held.target_max_recv ≤ target.limit t.settings → m.initiator_task_tag ≤ 0xffff_fffe → m.cmd_sn < 2 ^ 32
     → told_window window (ready t m.cmd_sn) ≡ window_of_one m.cmd_sn
-    → AreInStep (record m { phase = phases.Full; exp_stat_sn = Some (next t.stat_sn); window = told_window window (ready t m.cmd_sn); open_request = None; done = None }) (target.counted (ready t m.cmd_sn))
+    → AreInStep (record m { phase = phases.Full; exp_stat_sn = Some (next_sn t.stat_sn); window = told_window window (ready t m.cmd_sn); open_request = None; done = None }) (target.counted (ready t m.cmd_sn))
 in_step_again m t window held is_held segment tag cmd_sn told_ = record {
   initiator_phase = refl;
   target_phase = refl;
@@ -432,16 +434,16 @@ local_read m t disk lun cdb expected on_ size are a e =
     let fits : n < 2 ^ 32 = mod-lt (m.cmd_sn + 1) (omega arith) in
     let few : expected ≤ 4194304 = few_expected m lun cdb expected a.initiator_phase e in
     let sent : submitted m request ≡ accepted m request = submitted_is m request e in
-    let begun_ : initiator.Machine = record m { initiator_task_tag = next_tag m.initiator_task_tag; cmd_sn = next m.cmd_sn } in
+    let begun_ : initiator.Machine = record m { initiator_task_tag = next_tag m.initiator_task_tag; cmd_sn = next_sn m.cmd_sn } in
     let t' : target.Machine = ready t n in
     let r0 : Reading = record { expected = expected; received = []; next_data_sn = 0 } in
     let is_t : t ≡ ready t m.cmd_sn = λ i. record t { phase = a.target_phase i; session = a.session i; write = a.none_written i; exp_cmd_sn = a.cmd_sn i } in
     let is_m : (accepted m request).machine ≡ reading begun_ r0 m.window = λ i. record begun_ { phase = a.initiator_phase i; open_request = Some (opens.In r0) } in
-    let executed : target.Stepped = accepting (read_command m lun cdb expected) (execute effect t' disk (next_tag m.initiator_task_tag) order []) in
+    let executed : target.Stepped = accepting (read_command m lun cdb expected) (execute reliable t' disk (next_tag m.initiator_task_tag) order []) in
     let r : answers t disk (submitted m request).output ≡ executed =
     ap (λ (s : Submitted). answers t disk s.output) sent
-    ∙ then_nothing (step_on effect t disk (read_command m lun cdb expected))
-    ∙ ap (λ (x : target.Machine). step_on effect x disk (read_command m lun cdb expected)) is_t
+    ∙ then_nothing (step_on reliable t disk (read_command m lun cdb expected))
+    ∙ ap (λ (x : target.Machine). step_on reliable x disk (read_command m lun cdb expected)) is_t
     ∙ read_taken m t disk lun cdb expected a.cmd_sn_fits in
     let tag : next_tag m.initiator_task_tag ≤ 0xffff_fffe = tag_after m.initiator_task_tag a.tag_fits in
     let room : length after.outcome.bytes ≤ expected = outcome_few (plan_of order disk.count) disk order expected (λ n. gives_few (first_refusal order disk.count) order disk.count n) in

@@ -20,24 +20,26 @@ use Rattle.iscsi_pdu.specs.declared.head.Head.TheVariants as heads
 use Rattle.iscsi_pdu.specs.declared.head.data_out.DataOut.{DataOut}
 use Rattle.iscsi_pdu.specs.declared.head.scsi_command.ScsiCommand.{ScsiCommand}
 use Rattle.iscsi_pdu.specs.declared.serial.Window.{Window}
-use Rattle.iscsi_pdu.specs.Fields.{is_tag}
+use Rattle.iscsi_pdu.specs.Fields.{is_tag, reserved_tag}
 use Rattle.iscsi_pdu.specs.Meaning.{AreBytes}
 use Rattle.iscsi_stream.specs.Segment.{Bytes, segment_bytes}
 use Rattle.iscsi_stream.specs.Stream.{Message}
 use Rattle.iscsi_login.specs.declared.phase.Phase.{Phase}
 use Rattle.iscsi_login.specs.declared.phase.Phase.TheVariants as phases
 use Rattle.iscsi_login.specs.declared.stage.Session.TheVariants as sessions
-use Rattle.iscsi_login.specs.Held.{Held, IsHeld, first_burst, held_value}
+use Rattle.iscsi_login.specs.Held.{Held, IsHeld, first_burst, held_value, flag_of, is_on, max_burst, unasked}
 use Rattle.iscsi_login.specs.declared.key.NegKey.TheVariants as keys
 use Rattle.iscsi_login.specs.declared.preferences.Answered.{Answered}
 use Rattle.iscsi_login.specs.declared.preferences.Answered.TheVariants.{Flag, Number, NoneItem, Reject}
 use Rattle.iscsi_target.specs.declared.due.Due.{Due}
 use Rattle.iscsi_target.specs.declared.due.Due.TheVariants.{Nothing, Unsolicited, Solicited}
 use Rattle.iscsi_target.specs.State as target
-use Rattle.iscsi_target.specs.State.{Pieces, Stepped, Write, data_of, message, next_sn, nothing, on, reserved_tag}
-use Rattle.iscsi_target.specs.Transfer.{asking, continued, desired, is_idle, is_in_sequence, is_whole, max_burst, received, with_data, with_piece}
-use Rattle.iscsi_target.specs.Execution.{command_answers, execute, parts_given, response_head, sense_segment}
-use Rattle.iscsi_target.specs.Command.{ask, breaks_burst_rules, flag_of, is_bad_announcement, is_bad_segment, is_on, opened, planned, proceed, r2t_head, unasked}
+use Rattle.iscsi_target.specs.State.{Stepped, Write, message, nothing, on}
+use Rattle.iscsi_stream.specs.Pieces.{Pieces, data_of, chunks_within, chunks}
+use Rattle.iscsi_pdu.specs.Serial.{next_sn, is_within}
+use Rattle.iscsi_target.specs.Transfer.{asking, continued, desired, is_idle, is_in_sequence, is_whole, received, with_data, with_piece}
+use Rattle.iscsi_target.specs.Execution.{command_answers, execute, parts_given, response_head, sense_segment, reliable}
+use Rattle.iscsi_target.specs.Command.{ask, breaks_burst_rules, is_bad_announcement, is_bad_segment, opened, planned, proceed, r2t_head}
 use Rattle.iscsi_target.specs.Machine.{accepting, answers, is_closed, step_on, then_stepped}
 use Rattle.iscsi_target.proofs.Continuing.{then_nothing}
 use Rattle.iscsi_target.proofs.Reached.{can_give}
@@ -45,16 +47,16 @@ use Rattle.iscsi_initiator.specs.declared.open.Open.{Open}
 use Rattle.iscsi_initiator.specs.declared.open.Open.TheVariants as opens
 use Rattle.iscsi_initiator.specs.declared.request.Done.TheVariants as done
 use Rattle.iscsi_initiator.specs.State as initiator
-use Rattle.iscsi_initiator.specs.State.{next, next_tag, sent_exp_stat_sn}
+use Rattle.iscsi_initiator.specs.State.{next_tag, sent_exp_stat_sn}
 use Rattle.iscsi_initiator.specs.Progress.{Writing}
 use Rattle.iscsi_initiator.specs.Steps.{quiet, sends}
-use Rattle.iscsi_initiator.specs.Full.{data_outs, is_last, pieces, pieces_of, sequence}
+use Rattle.iscsi_initiator.specs.Full.{data_outs, is_last, sequence}
 use Rattle.iscsi_initiator.specs.Submitted as initiator_writes
-use Rattle.iscsi_initiator.specs.Submitted.{Submitted, accepted, burst, command, has_more, immediate, is_within, is_yes, refusal, refusal_in, refusal_when_full, submitted}
+use Rattle.iscsi_initiator.specs.Submitted.{Submitted, accepted, command, has_more, immediate, refusal, refusal_in, refusal_when_full, submitted}
 use Rattle.iscsi_initiator.specs.declared.request.Request.{Request}
 use Rattle.iscsi_initiator.specs.declared.request.Request.TheVariants as requests
 use Rattle.iscsi_initiator.specs.Machine.{step, taken}
-use Rattle.iscsi_initiator.proofs.SequenceLaws.{joined, joined_pieces}
+use Rattle.iscsi_stream.proofs.Chunks.{joined, joined_chunks}
 use Rattle.iscsi_target.proofs.OpenWrites.{data_of_one}
 use Rattle.iscsi_pair.specs.LocalDisk.{AreInStep, Stand, told, told_sense, writing_order}
 use Rattle.iscsi_pair.proofs.Windows.{IsNear, near_one, tells_none, tells_one, tag_after}
@@ -63,6 +65,7 @@ use Rattle.iscsi_pair.proofs.Written.{command_readable, data_out_readable, ready
 use Rattle.iscsi_pair.proofs.Outcomes.{outcome_fits}
 use Rattle.iscsi_pair.proofs.Courses.{AreHeard, ArePlain, Begins, Ends, LeadsTo, heard_by, hears_quiet, hears_sends, plain_more, plain_one, short_message}
 use Rattle.iscsi_pair.proofs.LocalReads.{Awaits, command_written, finished, in_step_again, next_small, not_long, outcome_heard, ready, stat_sn_sent, submitted_is, told_window, unrefused, waiting, window_now}
+use Rattle.std.proofs.Math.Bool.{and-false}
 
 -- ---- a Data-Out
 
@@ -75,7 +78,7 @@ data_message h piece = record { head = heads.DataOut h; segment = Bytes piece }
 
 data_taken : (t : target.Machine) (cmd_sn : ℕ) (w : Write) (disk : Disk) (h : DataOut) (piece : List ℕ) → length piece ≤ t.held.target_max_recv → t.held.target_max_recv ≤ target.limit t.settings
     → h.initiator_task_tag ≡ w.initiator_task_tag → is_in_sequence (first_burst t.held) w h (received w + length piece) w.due ≡ true
-    → step_on effect (writer t cmd_sn w) disk (data_message h piece) ≡ proceed effect (ready t cmd_sn) disk (with_data w h piece)
+    → step_on reliable (writer t cmd_sn w) disk (data_message h piece) ≡ proceed reliable (ready t cmd_sn) disk (with_data w h piece)
 unfolding segment_bytes
 data_taken t cmd_sn w disk h piece short limit tag due =
     rw (le-ltb (target.limit t.settings) (length piece) (omega (arith, short, limit)), le-ltb t.held.target_max_recv (length piece) short, eq-eqb h.initiator_task_tag w.initiator_task_tag tag, due) refl
@@ -133,7 +136,7 @@ received_more w offset (b ∷ bytes) some =
 piece_taken : (t : target.Machine) (cmd_sn : ℕ) (w : Write) (disk : Disk) (h : DataOut) (piece : List ℕ) (end : ℕ) (due : ℕ → Due) → IsSequence (first_burst t.held) w.total h.target_transfer_tag end due
     → w.due ≡ due h.data_sn → h.is_final ≡ false → h.buffer_offset ≡ received w → h.initiator_task_tag ≡ w.initiator_task_tag → 0 < length piece → length piece ≤ t.held.target_max_recv
     → t.held.target_max_recv ≤ target.limit t.settings → received w + length piece < end → end ≤ w.total
-    → step_on effect (writer t cmd_sn w) disk (data_message h piece)
+    → step_on reliable (writer t cmd_sn w) disk (data_message h piece)
     ≡ on disk (nothing (writer t cmd_sn (record w { pieces = with_piece w.pieces (received w) piece; due = due (next_sn h.data_sn) })))
 piece_taken t cmd_sn w disk h piece end due s is_due final at tag some short limit before_ room =
     let v : Write = record w { pieces = with_piece w.pieces (received w) piece; due = due (next_sn h.data_sn) } in
@@ -145,14 +148,14 @@ piece_taken t cmd_sn w disk h piece end due s is_due final at tag some short lim
     let part : is_whole v ≡ false =
     ne_eqb w.total (received v) (λ e. omega (arith, e, ap (λ (x : List ℕ). length x) (received_more w (received w) piece some), length-append (data_of w.pieces) piece, before_, room)) in
     data_taken t cmd_sn w disk h piece short limit tag here
-    ∙ ap (proceed effect (ready t cmd_sn) disk) is
+    ∙ ap (proceed reliable (ready t cmd_sn) disk) is
     ∙ rw (part, s.busy (next_sn h.data_sn)) refl
 
 -- what a whole sequence leads to
 record SequenceTaken (t : target.Machine) (cmd_sn : ℕ) (w : Write) (disk : Disk) (ms : List Message) (bytes : List ℕ) : Type 0 where
   came : Pieces
   whole : data_of came ≡ data_of w.pieces ++ bytes
-  is : answers (writer t cmd_sn w) disk ms ≡ proceed effect (ready t cmd_sn) disk (record w { pieces = came; due = Nothing })
+  is : answers (writer t cmd_sn w) disk ms ≡ proceed reliable (ready t cmd_sn) disk (record w { pieces = came; due = Nothing })
 
 sequence_taken : (t : target.Machine) (cmd_sn : ℕ) (w : Write) (disk : Disk) (h : DataOut) (piece : List ℕ) (more : List (List ℕ)) (end : ℕ) (due : ℕ → Due) → IsSequence (first_burst t.held) w.total h.target_transfer_tag end due
     → w.due ≡ due h.data_sn → h.buffer_offset ≡ received w → h.initiator_task_tag ≡ w.initiator_task_tag → ArePieces t.held.target_max_recv (piece ∷ more)
@@ -167,16 +170,16 @@ sequence_taken t cmd_sn w disk h piece [] end due s is_due at tag all limit up r
     record {
       came = with_piece w.pieces (received w) piece;
       whole = received_more w (received w) piece all.0.0 ∙ ap (λ (x : List ℕ). data_of w.pieces ++ x) (sym (append-nil piece));
-      is = then_nothing (step_on effect (writer t cmd_sn w) disk (data_message h' piece)) ∙ data_taken t cmd_sn w disk h' piece all.0.1 limit tag here;
+      is = then_nothing (step_on reliable (writer t cmd_sn w) disk (data_message h' piece)) ∙ data_taken t cmd_sn w disk h' piece all.0.1 limit tag here;
     }
 sequence_taken t cmd_sn w disk h piece (second ∷ more) end due s is_due at tag all limit up room =
     let h' : DataOut = record h { is_final = false } in
     let v : Write = record w { pieces = with_piece w.pieces (received w) piece; due = due (next_sn h.data_sn) } in
-    let h2 : DataOut = record h { data_sn = next h.data_sn; buffer_offset = h.buffer_offset + length piece } in
+    let h2 : DataOut = record h { data_sn = next_sn h.data_sn; buffer_offset = h.buffer_offset + length piece } in
     let len = length-append piece (joined (second ∷ more)) in
     let len2 = length-append second (joined more) in
     let now = ap (λ (x : List ℕ). length x) (received_more w (received w) piece all.0.0) ∙ length-append (data_of w.pieces) piece in
-    let one : step_on effect (writer t cmd_sn w) disk (data_message h' piece) ≡ on disk (nothing (writer t cmd_sn v)) =
+    let one : step_on reliable (writer t cmd_sn w) disk (data_message h' piece) ≡ on disk (nothing (writer t cmd_sn v)) =
     piece_taken t cmd_sn w disk h' piece end due s is_due refl at tag all.0.0 all.0.1 limit (omega (arith, up, len, len2, all.1.0.0)) room in
     let r : SequenceTaken t cmd_sn v disk (data_outs h2 (second ∷ more)) (joined (second ∷ more)) =
     sequence_taken t cmd_sn v disk h2 second more end due s refl (omega (arith, at, now)) tag all.1 limit (omega (arith, up, len, now)) room in
@@ -188,7 +191,7 @@ sequence_taken t cmd_sn w disk h piece (second ∷ more) end due s is_due at tag
 
 -- ---- the pieces of a sequence
 
-pieces_are : (fuel size : ℕ) (bytes : List ℕ) → 0 < size → ArePieces size (pieces_of fuel size bytes)
+pieces_are : (fuel size : ℕ) (bytes : List ℕ) → 0 < size → ArePieces size (chunks_within fuel size bytes)
 pieces_are zero size bytes lt = tt
 pieces_are (suc more) size [] lt = tt
 pieces_are (suc more) size (b ∷ bytes) lt =
@@ -209,7 +212,7 @@ data_outs_written : (most : ℕ) (h : DataOut) (ps : List (List ℕ)) → most <
 data_outs_written most h [] size a room all = λ logins. tt
 data_outs_written most h (piece ∷ more) size a room all =
     let h' : DataOut = record h { is_final = is_last more } in
-    let h2 : DataOut = record h { data_sn = next h.data_sn; buffer_offset = h.buffer_offset + length piece } in
+    let h2 : DataOut = record h { data_sn = next_sn h.data_sn; buffer_offset = h.buffer_offset + length piece } in
     let len = length-append piece (joined more) in
     let a2 : AreSmall h2 = record {
       has_lun = a.has_lun;
@@ -247,8 +250,8 @@ sequence_written m lun transfer offset bytes is tag stat_sn has_lun on_ transfer
       stat_sn = stat_sn;
       data_sn = omega arith;
     } in
-    data_outs_written most h (pieces most bytes) (omega (arith, is.target_max_recv.1)) small
-    (omega (arith, ap (λ (x : List ℕ). length x) (joined_pieces (length bytes) most bytes lt (omega arith)), room)) (pieces_are (length bytes) most bytes lt)
+    data_outs_written most h (chunks most bytes) (omega (arith, is.target_max_recv.1)) small
+    (omega (arith, ap (λ (x : List ℕ). length x) (joined_chunks most bytes lt), room)) (pieces_are (length bytes) most bytes lt)
 
 -- the LUN that goes along where the transfer tag is one has room
 lun_fits : (b : Bool) (lun : ℕ) → lun < 2 ^ 64 → IfSome (then_some b lun) (λ n. n < 2 ^ 64)
@@ -261,13 +264,13 @@ lun_fits false lun lt = tt
 batch_taken : (t : target.Machine) (cmd_sn : ℕ) (w : Write) (disk : Disk) (h : DataOut) (bytes : List ℕ) (end : ℕ) (due : ℕ → Due) → IsSequence (first_burst t.held) w.total h.target_transfer_tag end due
     → w.due ≡ due h.data_sn → h.buffer_offset ≡ received w → h.initiator_task_tag ≡ w.initiator_task_tag → 0 < t.held.target_max_recv → t.held.target_max_recv ≤ target.limit t.settings
     → 0 < length bytes → received w + length bytes ≡ end → end ≤ w.total
-    → SequenceTaken t cmd_sn w disk (data_outs h (pieces t.held.target_max_recv bytes)) bytes
+    → SequenceTaken t cmd_sn w disk (data_outs h (chunks t.held.target_max_recv bytes)) bytes
 batch_taken t cmd_sn w disk h [] end due s is_due at tag lt limit some up room = absurd (omega (arith, some))
 batch_taken t cmd_sn w disk h (b ∷ bytes) end due s is_due at tag lt limit some up room =
     let most : ℕ = t.held.target_max_recv in
-    let whole : joined (pieces most (b ∷ bytes)) ≡ b ∷ bytes = joined_pieces (length (b ∷ bytes)) most (b ∷ bytes) lt (omega arith) in
-    subst (SequenceTaken t cmd_sn w disk (data_outs h (pieces most (b ∷ bytes)))) whole
-    (sequence_taken t cmd_sn w disk h (take most (b ∷ bytes)) (pieces_of (length bytes) most (drop most (b ∷ bytes))) end due s is_due at tag (pieces_are (length (b ∷ bytes)) most (b ∷ bytes) lt) limit
+    let whole : joined (chunks most (b ∷ bytes)) ≡ b ∷ bytes = joined_chunks most (b ∷ bytes) lt in
+    subst (SequenceTaken t cmd_sn w disk (data_outs h (chunks most (b ∷ bytes)))) whole
+    (sequence_taken t cmd_sn w disk h (take most (b ∷ bytes)) (chunks_within (length bytes) most (drop most (b ∷ bytes))) end due s is_due at tag (pieces_are (length (b ∷ bytes)) most (b ∷ bytes) lt) limit
     (ap (λ (x : List ℕ). received w + length x) whole ∙ up) room)
 
 -- ---- the initiator hears an R2T
@@ -282,7 +285,7 @@ asked_for m v w n = sequence m (then_some (is_tag w.asked) w.order.lun) w.asked 
 ready_heard : (m : initiator.Machine) (t : target.Machine) (v : Writing) (w : Write) (window : Window) → w.initiator_task_tag ≡ m.initiator_task_tag → w.asked ≡ v.next_r2t_sn → received w ≡ v.sent
     → 1 ≤ desired t.held w → desired t.held w ≤ max_burst m.held → v.sent + desired t.held w ≤ length v.bytes
     → step (writing m v window) (message (r2t_head t w) [])
-    ≡ sends (writing m (record v { sent = v.sent + desired t.held w; next_r2t_sn = next v.next_r2t_sn }) (told_window window t)) (asked_for m v w (desired t.held w))
+    ≡ sends (writing m (record v { sent = v.sent + desired t.held w; next_r2t_sn = next_sn v.next_r2t_sn }) (told_window window t)) (asked_for m v w (desired t.held w))
 unfolding step segment_bytes
 ready_heard m t v w window tag asked at some most room =
     rw (
@@ -336,11 +339,11 @@ record IsAnswered (held : Held) (r : Stepped) : Type 0 where
 
 -- the response to a command is read as it was written
 executed_written : (m : initiator.Machine) (t : target.Machine) (cmd_sn : ℕ) (bytes : List ℕ) (order : Order) (disk : Disk) (tag : ℕ) (pieces_ : Pieces)
-    → Throughout m t cmd_sn bytes order disk → tag ≡ m.initiator_task_tag → IsAnswered m.held (execute effect (ready t cmd_sn) disk tag order pieces_)
+    → Throughout m t cmd_sn bytes order disk → tag ≡ m.initiator_task_tag → IsAnswered m.held (execute reliable (ready t cmd_sn) disk tag order pieces_)
 executed_written m t cmd_sn bytes order disk tag pieces_ a same = record {
   live = refl;
   rule = refl;
-  answered = subst (λ (k : Held). ArePlain k.initiator_max_recv (execute effect (ready t cmd_sn) disk tag order pieces_).answers) a.held
+  answered = subst (λ (k : Held). ArePlain k.initiator_max_recv (execute reliable (ready t cmd_sn) disk tag order pieces_).answers) a.held
       (command_written (ready t cmd_sn) tag (effect disk order (data_of pieces_)).outcome (subst IsHeld (sym a.held) a.is_held) (omega (arith, same, a.tag_fits)) (omega (arith, a.cmd_sn_is, a.cmd_sn_fits)) a.stat_sn_fits
       (omega (arith, ap (λ (x : List ℕ). length x) a.none_given)) (outcome_fits disk order (data_of pieces_) a.expected));
 }
@@ -348,7 +351,7 @@ executed_written m t cmd_sn bytes order disk tag pieces_ a same = record {
 -- the response to a command that gives no data
 response_ends : (m : initiator.Machine) (t : target.Machine) (cmd_sn : ℕ) (open_ : Open) (window : Window) (bytes : List ℕ) (order : Order) (disk : Disk) (tag : ℕ) (pieces_ : Pieces)
     → Throughout m t cmd_sn bytes order disk → IsNear cmd_sn window → Awaits open_ [] → tag ≡ m.initiator_task_tag → effect disk order (data_of pieces_) ≡ effect disk order bytes
-    → Ends m.held (waiting m open_ window) (execute effect (ready t cmd_sn) disk tag order pieces_) (told (effect disk order bytes).outcome) (effect disk order bytes).disk
+    → Ends m.held (waiting m open_ window) (execute reliable (ready t cmd_sn) disk tag order pieces_) (told (effect disk order bytes).outcome) (effect disk order bytes).disk
 response_ends m t cmd_sn open_ window bytes order disk tag pieces_ a near d same data_ =
     let after : Effect = effect disk order bytes in
     let s : target.Machine = ready t cmd_sn in
@@ -357,17 +360,17 @@ response_ends m t cmd_sn open_ window bytes order disk tag pieces_ a near d same
     let last : Stand = record { initiator = ended_; target = target.counted s; disk = after.disk; answers = [] } in
     let one : step (waiting m open_ window) response ≡ quiet ended_ =
     outcome_heard m s open_ [] window after.outcome.status after.outcome.sense after.outcome.bytes after.outcome.residual 0 d a.stat_sn (omega (arith, a.is_held.initiator_max_recv.0)) in
-    let is : (execute effect s disk tag order pieces_).answers ≡ response ∷ [] =
+    let is : (execute reliable s disk tag order pieces_).answers ≡ response ∷ [] =
     ap (λ (x : Effect). command_answers s tag x.outcome (parts_given s.held x.outcome.bytes)) data_
     ∙ ap (λ (x : List ℕ). command_answers s tag after.outcome (parts_given s.held x)) a.none_given
     ∙ ap (λ (x : ℕ). command_answers s x after.outcome []) same in
-    let disk_is : (execute effect s disk tag order pieces_).disk ≡ after.disk = ap (λ (x : Effect). x.disk) data_ in
+    let disk_is : (execute reliable s disk tag order pieces_).disk ≡ after.disk = ap (λ (x : Effect). x.disk) data_ in
     let again : AreInStep (taken (finished m (ready t m.cmd_sn) window after.outcome [])) (target.counted (ready t m.cmd_sn)) =
     in_step_again m t window a.held a.is_held (subst (λ (h : Held). h.target_max_recv ≤ target.limit t.settings) a.held a.segment) a.tag_fits a.cmd_sn_fits
     (tells_one m.cmd_sn window a.cmd_sn_fits (subst (λ (x : ℕ). IsNear x window) a.cmd_sn_is near)) in
     record {
       last = last;
-      leads = subst (λ (ms : List Message). LeadsTo m.held (waiting m open_ window) (target.counted s) (execute effect s disk tag order pieces_).disk ms last) (sym is)
+      leads = subst (λ (ms : List Message). LeadsTo m.held (waiting m open_ window) (target.counted s) (execute reliable s disk tag order pieces_).disk ms last) (sym is)
           (subst (λ (x : Disk). LeadsTo m.held (waiting m open_ window) (target.counted s) x (response ∷ []) last) (sym disk_is)
           (hears_quiet m.held (waiting m open_ window) ended_ (target.counted s) after.disk response [] last one refl refl a.none_done (0, refl)));
       ended = record {
@@ -381,21 +384,21 @@ response_ends m t cmd_sn open_ window bytes order disk tag pieces_ a near d same
 -- the write goes on from where all that was due came
 abbrev GoesOn : initiator.Machine → target.Machine → ℕ → Writing → Write → Window → Order → Disk → Type 0
 GoesOn m t cmd_sn v w window order disk =
-    Ends m.held (writing m v window) (proceed effect (ready t cmd_sn) disk w) (told (effect disk order v.bytes).outcome) (effect disk order v.bytes).disk
+    Ends m.held (writing m v window) (proceed reliable (ready t cmd_sn) disk w) (told (effect disk order v.bytes).outcome) (effect disk order v.bytes).disk
 
 -- where all came the command is executed
 whole_is : (m : initiator.Machine) (t : target.Machine) (cmd_sn : ℕ) (v : Writing) (w : Write) (order : Order) (disk : Disk) → InHand m v w order → is_whole w ≡ true
-    → proceed effect (ready t cmd_sn) disk w ≡ execute effect (ready t cmd_sn) disk w.initiator_task_tag order w.pieces
-whole_is m t cmd_sn v w order disk i whole = rw whole (ap (λ (x : Order). execute effect (ready t cmd_sn) disk w.initiator_task_tag x w.pieces) i.order_is)
+    → proceed reliable (ready t cmd_sn) disk w ≡ execute reliable (ready t cmd_sn) disk w.initiator_task_tag order w.pieces
+whole_is m t cmd_sn v w order disk i whole = rw whole (ap (λ (x : Order). execute reliable (ready t cmd_sn) disk w.initiator_task_tag x w.pieces) i.order_is)
 
 -- else the target asks for more
 part_is : (m : initiator.Machine) (t : target.Machine) (cmd_sn : ℕ) (v : Writing) (w : Write) (order : Order) (disk : Disk) → InHand m v w order → is_whole w ≡ false
-    → proceed effect (ready t cmd_sn) disk w ≡ on disk (ask (writer t cmd_sn w) w)
+    → proceed reliable (ready t cmd_sn) disk w ≡ on disk (ask (writer t cmd_sn w) w)
 part_is m t cmd_sn v w order disk i part = rw (part, i.due) refl
 
 -- what the target answers then is read as it was written
 proceed_written : (m : initiator.Machine) (t : target.Machine) (cmd_sn : ℕ) (v : Writing) (w : Write) (order : Order) (disk : Disk) → Throughout m t cmd_sn v.bytes order disk → InHand m v w order
-    → (whole : Bool) → is_whole w ≡ whole → IsAnswered m.held (proceed effect (ready t cmd_sn) disk w)
+    → (whole : Bool) → is_whole w ≡ whole → IsAnswered m.held (proceed reliable (ready t cmd_sn) disk w)
 proceed_written m t cmd_sn v w order disk a i true whole =
     subst (IsAnswered m.held) (sym (whole_is m t cmd_sn v w order disk i whole)) (executed_written m t cmd_sn v.bytes order disk w.initiator_task_tag w.pieces a i.tag)
 proceed_written m t cmd_sn v w order disk a i false part =
@@ -428,7 +431,7 @@ below n total part le = (let apart = eqb-false total n part in omega (arith, le,
 
 -- the write of the initiator once it has sent so many bytes more
 abbrev more_sent : Writing → ℕ → Writing
-more_sent v n = record v { sent = v.sent + n; next_r2t_sn = next v.next_r2t_sn }
+more_sent v n = record v { sent = v.sent + n; next_r2t_sn = next_sn v.next_r2t_sn }
 
 -- the write of the target once they came
 abbrev more_came : target.Machine → Write → Pieces → Write
@@ -442,8 +445,8 @@ record Turned (m : initiator.Machine) (t : target.Machine) (cmd_sn : ℕ) (v : W
   n : ℕ
   some : 0 < n
   hand : InHand m (more_sent v n) (more_came t w came) order
-  leads : (x : Stand) → (let r = proceed effect (ready t cmd_sn) disk (more_came t w came) in LeadsTo m.held (writing m (more_sent v n) window_now) r.machine r.disk r.answers x)
-      → (let r = proceed effect (ready t cmd_sn) disk w in LeadsTo m.held (writing m v window) r.machine r.disk r.answers x)
+  leads : (x : Stand) → (let r = proceed reliable (ready t cmd_sn) disk (more_came t w came) in LeadsTo m.held (writing m (more_sent v n) window_now) r.machine r.disk r.answers x)
+      → (let r = proceed reliable (ready t cmd_sn) disk w in LeadsTo m.held (writing m v window) r.machine r.disk r.answers x)
 
 turn : (m : initiator.Machine) (t : target.Machine) (cmd_sn : ℕ) (v : Writing) (w : Write) (window : Window) (order : Order) (disk : Disk) → Throughout m t cmd_sn v.bytes order disk → InHand m v w order
     → is_whole w ≡ false → Turned m t cmd_sn v w window order disk
@@ -470,11 +473,11 @@ turn m t cmd_sn v w window order disk a i part =
       buffer_offset = v.sent;
     } in
     let lt : 0 < t.held.target_max_recv = subst (λ (x : Held). 0 < x.target_max_recv) (sym a.held) (omega (arith, a.is_held.target_max_recv.0)) in
-    let r : SequenceTaken t cmd_sn (asking t.held w) disk (data_outs h (pieces t.held.target_max_recv batch)) batch =
+    let r : SequenceTaken t cmd_sn (asking t.held w) disk (data_outs h (chunks t.held.target_max_recv batch)) batch =
     batch_taken t cmd_sn (asking t.held w) disk h batch (received w + n) (λ data_sn. Solicited w.asked data_sn (received w + n)) (solicited (first_burst t.held) w.total w.asked (received w + n)) refl (sym at) (sym i.tag) lt a.segment
     (omega (arith, size, some)) (omega (arith, size)) (omega (arith, at, i.total, room)) in
-    let sent_ : answers (writer t cmd_sn (asking t.held w)) disk out ≡ proceed effect (ready t cmd_sn) disk (more_came t w r.came) =
-    ap (λ (k : Held). answers (writer t cmd_sn (asking t.held w)) disk (data_outs h (pieces k.target_max_recv batch))) (sym a.held) ∙ r.is in
+    let sent_ : answers (writer t cmd_sn (asking t.held w)) disk out ≡ proceed reliable (ready t cmd_sn) disk (more_came t w r.came) =
+    ap (λ (k : Held). answers (writer t cmd_sn (asking t.held w)) disk (data_outs h (chunks k.target_max_recv batch))) (sym a.held) ∙ r.is in
     let hand_ : InHand m (more_sent v n) (more_came t w r.came) order = record {
       tag = i.tag;
       order_is = i.order_is;
@@ -489,7 +492,7 @@ turn m t cmd_sn v w window order disk a i part =
     let written : ArePlain m.held.target_max_recv out =
     sequence_written m (then_some (is_tag w.asked) w.order.lun) w.asked v.sent batch a.is_held a.tag_fits a.stat_sn_sends (some_then (is_tag w.asked) w.order.lun)
     (lun_fits (is_tag w.asked) w.order.lun on_) (omega (arith, i.few, i.sent, a.few)) (omega (arith, size, room, a.few)) in
-    let now : Stepped = proceed effect (ready t cmd_sn) disk (more_came t w r.came) in
+    let now : Stepped = proceed reliable (ready t cmd_sn) disk (more_came t w r.came) in
     let then_ : IsAnswered m.held now = proceed_written m t cmd_sn (more_sent v n) (more_came t w r.came) order disk a hand_ (is_whole (more_came t w r.came)) refl in
     let heard : AreHeard m.held (writer t cmd_sn (asking t.held w)) disk out =
     heard_by m.held (writer t cmd_sn (asking t.held w)) disk out now sent_ written then_.live then_.rule then_.answered in
@@ -523,16 +526,6 @@ goes_on (suc fuel) m t cmd_sn v w window order disk a near i le false part =
 
 -- ---- the command breaks no rule of the first burst
 
-and_false : (b : Bool) → (b && false) ≡ false
-and_false true = refl
-and_false false = refl
-
-yes_is_on : (value : Answered) → is_yes value ≡ flag_of value
-yes_is_on (Flag b) = refl
-yes_is_on (Number n) = refl
-yes_is_on NoneItem = refl
-yes_is_on Reject = refl
-
 segment_by : (on_ : Bool) (bytes : List ℕ) (size unasked_ : ℕ) → size ≤ unasked_
     → (let n = length (if on_ then take size bytes else []) in (nat_lt 0 n && (not (not (length bytes == 0)) || (not on_ || nat_lt unasked_ n))) ≡ false)
 segment_by false bytes size unasked_ le = refl
@@ -540,14 +533,14 @@ segment_by true [] size unasked_ le = (let empty : List ℕ = [] in let none : n
 segment_by true (b ∷ bytes) size unasked_ le =
     let none : nat_lt unasked_ (length (take size (b ∷ bytes))) ≡ false = le-ltb unasked_ (length (take size (b ∷ bytes))) (omega (arith, length-take size (b ∷ bytes), le)) in
     let some : (length (b ∷ bytes) == 0) ≡ false = ne_eqb (length (b ∷ bytes)) 0 (λ e. omega (arith, e)) in
-    rw (none, some) (and_false (nat_lt 0 (length (take size (b ∷ bytes)))))
+    rw (none, some) (and-false (nat_lt 0 (length (take size (b ∷ bytes)))))
 
 more_by : (write late fits : Bool) → (fits ≡ true → late ≡ false) → (write && (not (not fits) && late)) ≡ false
-more_by write late true none = (let e : late ≡ false = none refl in rw e (and_false write))
-more_by write late false none = and_false write
+more_by write late true none = (let e : late ≡ false = none refl in rw e (and-false write))
+more_by write late false none = and-false write
 
 announcement_by : (write waits : Bool) (n unasked_ burst_ : ℕ) → unasked_ ≡ burst_ → (write && (not (not (not waits && nat_lt n burst_)) && (waits || nat_le unasked_ n))) ≡ false
-announcement_by write true n unasked_ burst_ e = and_false write
+announcement_by write true n unasked_ burst_ e = and-false write
 announcement_by write false n unasked_ burst_ e =
     more_by write (nat_le unasked_ n) (nat_lt n burst_) (λ lt. lt-leb unasked_ n (omega (arith, ltb-true n burst_ lt, e)))
 
@@ -558,15 +551,11 @@ write_head m lun cdb bytes = command m (not (has_more m bytes)) lun cdb (record 
 burst_kept : (m : initiator.Machine) (lun : ℕ) (cdb bytes : List ℕ) → breaks_burst_rules m.held (write_head m lun cdb bytes) (length (immediate m bytes)) ≡ false
 burst_kept m lun cdb bytes =
     let h : ScsiCommand = write_head m lun cdb bytes in
-    let on_ : is_on m.held keys.ImmediateData ≡ is_yes (held_value m.held keys.ImmediateData) = sym (yes_is_on (held_value m.held keys.ImmediateData)) in
-    let waits : is_on m.held keys.InitialR2T ≡ is_yes (held_value m.held keys.InitialR2T) = sym (yes_is_on (held_value m.held keys.InitialR2T)) in
-    let size : ℕ = min (burst m bytes) m.held.target_max_recv in
+    let size : ℕ = min (unasked m.held (length bytes)) m.held.target_max_recv in
     let one : is_bad_segment m.held h (length (immediate m bytes)) ≡ false =
-    ap (λ (b : Bool). nat_lt 0 (length (immediate m bytes)) && (not h.write || (not b || nat_lt (unasked m.held h) (length (immediate m bytes))))) on_
-    ∙ segment_by (is_yes (held_value m.held keys.ImmediateData)) bytes size (unasked m.held h) (omega arith) in
+    segment_by (is_on m.held keys.ImmediateData) bytes size (unasked m.held h.expected_data_transfer_length) (omega arith) in
     let two : is_bad_announcement m.held h (length (immediate m bytes)) ≡ false =
-    ap (λ (b : Bool). h.write && (not h.is_final && (b || nat_le (unasked m.held h) (length (immediate m bytes))))) waits
-    ∙ announcement_by h.write (is_yes (held_value m.held keys.InitialR2T)) (length (immediate m bytes)) (unasked m.held h) (burst m bytes) (omega arith) in
+    announcement_by h.write (is_on m.held keys.InitialR2T) (length (immediate m bytes)) (unasked m.held h.expected_data_transfer_length) (unasked m.held (length bytes)) (omega arith) in
     rw (one, two) refl
 
 -- ---- what the command is planned to do
@@ -610,8 +599,8 @@ unfolding answers segment_bytes
 dropped t cmd_sn disk h [] limit all = refl
 dropped t cmd_sn disk h (piece ∷ more) limit all =
     let h' : DataOut = record h { is_final = is_last more } in
-    let h2 : DataOut = record h { data_sn = next h.data_sn; buffer_offset = h.buffer_offset + length piece } in
-    let one : step_on effect (ready t cmd_sn) disk (data_message h' piece) ≡ on disk (nothing (ready t cmd_sn)) =
+    let h2 : DataOut = record h { data_sn = next_sn h.data_sn; buffer_offset = h.buffer_offset + length piece } in
+    let one : step_on reliable (ready t cmd_sn) disk (data_message h' piece) ≡ on disk (nothing (ready t cmd_sn)) =
     rw (le-ltb (target.limit t.settings) (length piece) (omega (arith, all.0.1, limit)), le-ltb t.held.target_max_recv (length piece) all.0.1) refl in
     ap (λ (x : Stepped). then_stepped x (answers x.machine x.disk (data_outs h2 more))) one ∙ dropped t cmd_sn disk h2 more limit all.1
 
@@ -619,7 +608,7 @@ dropped t cmd_sn disk h (piece ∷ more) limit all =
 
 -- the initiator that has sent them
 abbrev begun_write : initiator.Machine → initiator.Machine
-begun_write m = record m { initiator_task_tag = next_tag m.initiator_task_tag; cmd_sn = next m.cmd_sn }
+begun_write m = record m { initiator_task_tag = next_tag m.initiator_task_tag; cmd_sn = next_sn m.cmd_sn }
 
 abbrev first_sent : initiator.Machine → List ℕ → Writing
 first_sent m bytes = record { bytes = bytes; sent = length (immediate m bytes) + length (initiator_writes.unsolicited m bytes); next_r2t_sn = 0 }
@@ -632,8 +621,8 @@ unasked_data m bytes = sequence (begun_write m) None reserved_tag (length (immed
 
 command_taken : (m : initiator.Machine) (t : target.Machine) (disk : Disk) (lun : ℕ) (cdb bytes : List ℕ) → m.cmd_sn < 2 ^ 32 → t.held ≡ m.held → t.held.target_max_recv ≤ target.limit t.settings
     → length (immediate m bytes) ≤ t.held.target_max_recv
-    → step_on effect (ready t m.cmd_sn) disk (write_message m lun cdb bytes)
-    ≡ accepting (write_message m lun cdb bytes) (planned effect (ready t (next_sn m.cmd_sn)) disk (write_head m lun cdb bytes) (immediate m bytes) (plan_of (writing_order lun cdb bytes) disk.count))
+    → step_on reliable (ready t m.cmd_sn) disk (write_message m lun cdb bytes)
+    ≡ accepting (write_message m lun cdb bytes) (planned reliable (ready t (next_sn m.cmd_sn)) disk (write_head m lun cdb bytes) (immediate m bytes) (plan_of (writing_order lun cdb bytes) disk.count))
 unfolding segment_bytes
 command_taken m t disk lun cdb bytes lt held limit short =
     let kept : breaks_burst_rules t.held (write_head m lun cdb bytes) (length (immediate m bytes)) ≡ false =
@@ -643,7 +632,7 @@ command_taken m t disk lun cdb bytes lt held limit short =
 -- the answers to the command and the data behind it
 abbrev first_answers : initiator.Machine → target.Machine → Disk → ℕ → List ℕ → List ℕ → Plan → Stepped
 first_answers m t disk lun cdb bytes p =
-    let r = planned effect (ready t (next_sn m.cmd_sn)) disk (write_head m lun cdb bytes) (immediate m bytes) p in
+    let r = planned reliable (ready t (next_sn m.cmd_sn)) disk (write_head m lun cdb bytes) (immediate m bytes) p in
     then_stepped r (answers r.machine r.disk (unasked_data m bytes))
 
 -- The target answers well, and it comes to the outcome of this order.
@@ -659,11 +648,11 @@ same_effect (Refuse sense) disk order bytes none = refl
 executed_alone : (m : initiator.Machine) (t : target.Machine) (disk : Disk) (lun : ℕ) (cdb bytes : List ℕ) (window : Window)
     → Throughout (begun_write m) t (next_sn m.cmd_sn) bytes (writing_order lun cdb bytes) disk → IsNear (next_sn m.cmd_sn) window → ((n : ℕ) → plan_of (writing_order lun cdb bytes) disk.count ≡ Take n → ⊥)
     → Comes m (writing (begun_write m) (first_sent m bytes) window) (writing_order lun cdb bytes) bytes disk
-    (let r = execute effect (ready t (next_sn m.cmd_sn)) disk (next_tag m.initiator_task_tag) (writing_order lun cdb bytes) [] in then_stepped r (answers r.machine r.disk (unasked_data m bytes)))
+    (let r = execute reliable (ready t (next_sn m.cmd_sn)) disk (next_tag m.initiator_task_tag) (writing_order lun cdb bytes) [] in then_stepped r (answers r.machine r.disk (unasked_data m bytes)))
 executed_alone m t disk lun cdb bytes window a near none =
     let order : Order = writing_order lun cdb bytes in
     let n : ℕ = next_sn m.cmd_sn in
-    let r : Stepped = execute effect (ready t n) disk (next_tag m.initiator_task_tag) order [] in
+    let r : Stepped = execute reliable (ready t n) disk (next_tag m.initiator_task_tag) order [] in
     let after : Effect = effect disk order bytes in
     let i : initiator.Machine = writing (begun_write m) (first_sent m bytes) window in
     let uns : List ℕ = initiator_writes.unsolicited m bytes in
@@ -678,8 +667,8 @@ executed_alone m t disk lun cdb bytes window a near none =
     } in
     let lt : 0 < t.held.target_max_recv = subst (λ (x : Held). 0 < x.target_max_recv) (sym a.held) (omega (arith, a.is_held.target_max_recv.0)) in
     let gone : answers r.machine r.disk (unasked_data m bytes) ≡ on r.disk (nothing r.machine) =
-    ap (λ (k : Held). answers r.machine r.disk (data_outs h (pieces k.target_max_recv uns))) (sym a.held)
-    ∙ dropped (target.counted t) n r.disk h (pieces t.held.target_max_recv uns) a.segment (pieces_are (length uns) t.held.target_max_recv uns lt) in
+    ap (λ (k : Held). answers r.machine r.disk (data_outs h (chunks k.target_max_recv uns))) (sym a.held)
+    ∙ dropped (target.counted t) n r.disk h (chunks t.held.target_max_recv uns) a.segment (pieces_are (length uns) t.held.target_max_recv uns lt) in
     let same : effect disk order [] ≡ after = λ i_. record { disk = same_effect (plan_of order disk.count) disk order bytes none i_; outcome = after.outcome } in
     let well : IsAnswered m.held r = executed_written (begun_write m) t n bytes order disk (next_tag m.initiator_task_tag) [] a refl in
     let ends_ : Ends m.held i r (told after.outcome) after.disk =
@@ -701,7 +690,7 @@ first_write m lun cdb bytes total = opened (write_head m lun cdb bytes) total (i
 none_unasked : (m : initiator.Machine) (t : target.Machine) (disk : Disk) (lun : ℕ) (cdb bytes : List ℕ) (window : Window) (total : ℕ)
     → Throughout (begun_write m) t (next_sn m.cmd_sn) bytes (writing_order lun cdb bytes) disk → IsNear (next_sn m.cmd_sn) window → total ≡ length bytes → has_more m bytes ≡ false
     → Comes m (writing (begun_write m) (first_sent m bytes) window) (writing_order lun cdb bytes) bytes disk
-    (let r = proceed effect (ready t (next_sn m.cmd_sn)) disk (first_write m lun cdb bytes total) in then_stepped r (answers r.machine r.disk (unasked_data m bytes)))
+    (let r = proceed reliable (ready t (next_sn m.cmd_sn)) disk (first_write m lun cdb bytes total) in then_stepped r (answers r.machine r.disk (unasked_data m bytes)))
 unfolding answers
 none_unasked m t disk lun cdb bytes window total a near all none =
     let order : Order = writing_order lun cdb bytes in
@@ -711,7 +700,7 @@ none_unasked m t disk lun cdb bytes window total a near all none =
     let imm : List ℕ = immediate m bytes in
     let uns : initiator_writes.unsolicited m bytes ≡ [] = rw none refl in
     let zero_ : length (initiator_writes.unsolicited m bytes) ≡ 0 = ap (λ (x : List ℕ). length x) uns in
-    let front : imm ≡ take (length imm) bytes = immediate_are (is_yes (held_value m.held keys.ImmediateData)) (min (burst m bytes) m.held.target_max_recv) bytes in
+    let front : imm ≡ take (length imm) bytes = immediate_are (is_on m.held keys.ImmediateData) (min (unasked m.held (length bytes)) m.held.target_max_recv) bytes in
     let i : InHand (begun_write m) v w order = record {
       tag = refl;
       order_is = refl;
@@ -723,7 +712,7 @@ none_unasked m t disk lun cdb bytes window total a near all none =
       few = omega arith;
     } in
     let silent : unasked_data m bytes ≡ [] = ap (λ (x : List ℕ). sequence (begun_write m) None reserved_tag (length imm) x) uns in
-    let r : Stepped = proceed effect (ready t n) disk w in
+    let r : Stepped = proceed reliable (ready t n) disk w in
     subst (λ (ms : List Message). Comes m (writing (begun_write m) v window) order bytes disk (then_stepped r (answers r.machine r.disk ms))) (sym silent)
     (subst (Comes m (writing (begun_write m) v window) order bytes disk) (sym (then_nothing r))
     (proceed_written (begun_write m) t n v w order disk a i (is_whole w) refl, goes_on (length bytes) (begun_write m) t n v w window order disk a near i (omega arith) (is_whole w) refl))
@@ -732,23 +721,23 @@ none_unasked m t disk lun cdb bytes window total a near all none =
 some_unasked : (m : initiator.Machine) (t : target.Machine) (disk : Disk) (lun : ℕ) (cdb bytes : List ℕ) (window : Window) (total : ℕ)
     → Throughout (begun_write m) t (next_sn m.cmd_sn) bytes (writing_order lun cdb bytes) disk → IsNear (next_sn m.cmd_sn) window → total ≡ length bytes → has_more m bytes ≡ true
     → Comes m (writing (begun_write m) (first_sent m bytes) window) (writing_order lun cdb bytes) bytes disk
-    (let r = proceed effect (ready t (next_sn m.cmd_sn)) disk (first_write m lun cdb bytes total) in then_stepped r (answers r.machine r.disk (unasked_data m bytes)))
+    (let r = proceed reliable (ready t (next_sn m.cmd_sn)) disk (first_write m lun cdb bytes total) in then_stepped r (answers r.machine r.disk (unasked_data m bytes)))
 some_unasked m t disk lun cdb bytes window total a near all more =
     let order : Order = writing_order lun cdb bytes in
     let n : ℕ = next_sn m.cmd_sn in
     let w : Write = first_write m lun cdb bytes total in
     let v : Writing = first_sent m bytes in
     let imm : List ℕ = immediate m bytes in
-    let uns : List ℕ = drop (length imm) (take (burst m bytes) bytes) in
+    let uns : List ℕ = drop (length imm) (take (unasked m.held (length bytes)) bytes) in
     let uns_is : initiator_writes.unsolicited m bytes ≡ uns = rw more refl in
-    let short : length imm < burst m bytes = ltb-true (length imm) (burst m bytes) (and_parts (not (is_yes (held_value m.held keys.InitialR2T))) (nat_lt (length imm) (burst m bytes)) more).1 in
-    let front : imm ≡ take (length imm) bytes = immediate_are (is_yes (held_value m.held keys.ImmediateData)) (min (burst m bytes) m.held.target_max_recv) bytes in
-    let size : length uns ≡ burst m bytes - length imm = omega (arith, length-drop (length imm) (take (burst m bytes) bytes), length-take (burst m bytes) bytes) in
-    let sent_ : v.sent ≡ burst m bytes = omega (arith, ap (λ (x : List ℕ). length x) uns_is, size, short) in
+    let short : length imm < unasked m.held (length bytes) = ltb-true (length imm) (unasked m.held (length bytes)) (and_parts (not (is_on m.held keys.InitialR2T)) (nat_lt (length imm) (unasked m.held (length bytes))) more).1 in
+    let front : imm ≡ take (length imm) bytes = immediate_are (is_on m.held keys.ImmediateData) (min (unasked m.held (length bytes)) m.held.target_max_recv) bytes in
+    let size : length uns ≡ unasked m.held (length bytes) - length imm = omega (arith, length-drop (length imm) (take (unasked m.held (length bytes)) bytes), length-take (unasked m.held (length bytes)) bytes) in
+    let sent_ : v.sent ≡ unasked m.held (length bytes) = omega (arith, ap (λ (x : List ℕ). length x) uns_is, size, short) in
     let due : w.due ≡ Unsolicited 0 = rw more refl in
     let here : received w ≡ length imm = ap (λ (x : List ℕ). length x) (data_of_one imm) in
     let part : is_whole w ≡ false = ne_eqb total (received w) (λ e. omega (arith, e, here, all, short)) in
-    let first : proceed effect (ready t n) disk w ≡ on disk (nothing (writer t n w)) = rw (part, due) refl in
+    let first : proceed reliable (ready t n) disk w ≡ on disk (nothing (writer t n w)) = rw (part, due) refl in
     let h : DataOut = record {
       is_final = false;
       lun = None;
@@ -760,16 +749,16 @@ some_unasked m t disk lun cdb bytes window total a near all more =
     } in
     let most : first_burst t.held ≡ first_burst m.held = ap first_burst a.held in
     let lt : 0 < t.held.target_max_recv = subst (λ (x : Held). 0 < x.target_max_recv) (sym a.held) (omega (arith, a.is_held.target_max_recv.0)) in
-    let r : SequenceTaken t n w disk (data_outs h (pieces t.held.target_max_recv uns)) uns =
+    let r : SequenceTaken t n w disk (data_outs h (chunks t.held.target_max_recv uns)) uns =
     batch_taken t n w disk h uns (min w.total (first_burst t.held)) Unsolicited (unsolicited (first_burst t.held) w.total) due (sym here) refl lt a.segment
     (omega (arith, size, short)) (omega (arith, here, size, all, most)) (omega arith) in
-    let data_ : unasked_data m bytes ≡ data_outs h (pieces t.held.target_max_recv uns) =
-    ap (λ (x : List ℕ). sequence (begun_write m) None reserved_tag (length imm) x) uns_is ∙ ap (λ (k : Held). data_outs h (pieces k.target_max_recv uns)) (sym a.held) in
+    let data_ : unasked_data m bytes ≡ data_outs h (chunks t.held.target_max_recv uns) =
+    ap (λ (x : List ℕ). sequence (begun_write m) None reserved_tag (length imm) x) uns_is ∙ ap (λ (k : Held). data_outs h (chunks k.target_max_recv uns)) (sym a.held) in
     let w' : Write = record w { pieces = r.came; due = Nothing } in
     let all_came_ : data_of w'.pieces ≡ take v.sent bytes =
     r.whole ∙ ap (λ (x : List ℕ). x ++ uns) (data_of_one imm ∙ front)
-    ∙ (let e : take (length imm) bytes ≡ take (length imm) (take (burst m bytes) bytes) = sym (take-take (length imm) (burst m bytes) bytes (omega (arith, short))) in ap (λ (x : List ℕ). x ++ uns) e)
-    ∙ take-append-drop (length imm) (take (burst m bytes) bytes) ∙ ap (λ (k : ℕ). take k bytes) (sym sent_) in
+    ∙ (let e : take (length imm) bytes ≡ take (length imm) (take (unasked m.held (length bytes)) bytes) = sym (take-take (length imm) (unasked m.held (length bytes)) bytes (omega (arith, short))) in ap (λ (x : List ℕ). x ++ uns) e)
+    ∙ take-append-drop (length imm) (take (unasked m.held (length bytes)) bytes) ∙ ap (λ (k : ℕ). take k bytes) (sym sent_) in
     let i : InHand (begun_write m) v w' order = record {
       tag = refl;
       order_is = refl;
@@ -780,7 +769,7 @@ some_unasked m t disk lun cdb bytes window total a near all more =
       asked = refl;
       few = omega arith;
     } in
-    let is : (let x = proceed effect (ready t n) disk w in then_stepped x (answers x.machine x.disk (unasked_data m bytes))) ≡ proceed effect (ready t n) disk w' =
+    let is : (let x = proceed reliable (ready t n) disk w in then_stepped x (answers x.machine x.disk (unasked_data m bytes))) ≡ proceed reliable (ready t n) disk w' =
     ap (λ (x : Stepped). then_stepped x (answers x.machine x.disk (unasked_data m bytes))) first ∙ ap (answers (writer t n w) disk) data_ ∙ r.is in
     subst (Comes m (writing (begun_write m) v window) order bytes disk) (sym is)
     (proceed_written (begun_write m) t n v w' order disk a i (is_whole w') refl, goes_on (length bytes) (begun_write m) t n v w' window order disk a near i (omega arith) (is_whole w') refl)
@@ -806,7 +795,7 @@ few_bytes m lun cdb bytes full e =
     let none : refusal_in m.phase m request ≡ None = unrefused (refusal m request) m request e in
     let when : refusal_when_full m request ≡ None = subst (λ (p : Phase). refusal_in p m request ≡ None) full none in
     ltb-false 4194304 (length bytes)
-    (not_long (is_some m.open_request || is_some m.done) (not (is_within m.cmd_sn m.window)) (nat_lt 4194304 (length bytes)) when)
+    (not_long (is_some m.open_request || is_some m.done) (not (is_within m.cmd_sn m.window.exp.0 m.window.max.0)) (nat_lt 4194304 (length bytes)) when)
 
 immediate_short : (on_ : Bool) (size : ℕ) (bytes : List ℕ) → (let x : List ℕ = if on_ then take size bytes else [] in length x ≤ size)
 immediate_short true size bytes = omega (arith, length-take size bytes)
@@ -819,8 +808,8 @@ unasked_few false n size bytes le = omega (arith, le)
 
 first_few : (m : initiator.Machine) (bytes : List ℕ) → length (immediate m bytes) + length (initiator_writes.unsolicited m bytes) ≤ length bytes
 first_few m bytes =
-    unasked_few (has_more m bytes) (length (immediate m bytes)) (burst m bytes) bytes
-    (omega (arith, immediate_short (is_yes (held_value m.held keys.ImmediateData)) (min (burst m bytes) m.held.target_max_recv) bytes))
+    unasked_few (has_more m bytes) (length (immediate m bytes)) (unasked m.held (length bytes)) bytes
+    (omega (arith, immediate_short (is_on m.held keys.ImmediateData) (min (unasked m.held (length bytes)) m.held.target_max_recv) bytes))
 
 -- A write between two ends that are in step is heard, and comes to the outcome and the disk of its order.
 pub local_write : (m : initiator.Machine) (t : target.Machine) (disk : Disk) (lun : ℕ) (cdb bytes : List ℕ) → lun < 2 ^ 64 → length cdb ≡ 16 → AreBytes cdb
@@ -840,7 +829,7 @@ local_write m t disk lun cdb bytes on_ size are a e =
     let limit : t.held.target_max_recv ≤ target.limit t.settings = subst (λ (h : Held). h.target_max_recv ≤ target.limit t.settings) (sym a.held) a.segment in
     let short : length (immediate m bytes) ≤ t.held.target_max_recv =
     subst (λ (h : Held). length (immediate m bytes) ≤ h.target_max_recv) (sym a.held)
-    (omega (arith, immediate_short (is_yes (held_value m.held keys.ImmediateData)) (min (burst m bytes) m.held.target_max_recv) bytes)) in
+    (omega (arith, immediate_short (is_on m.held keys.ImmediateData) (min (unasked m.held (length bytes)) m.held.target_max_recv) bytes)) in
     let all : Throughout (begun_write m) t (next_sn m.cmd_sn) bytes order disk = record {
       held = a.held;
       is_held = a.is_held;
@@ -857,7 +846,7 @@ local_write m t disk lun cdb bytes on_ size are a e =
       expected = few;
       none_done = a.none_done;
     } in
-    let first : Stepped = planned effect (ready t (next_sn m.cmd_sn)) disk (write_head m lun cdb bytes) (immediate m bytes) p in
+    let first : Stepped = planned reliable (ready t (next_sn m.cmd_sn)) disk (write_head m lun cdb bytes) (immediate m bytes) p in
     let x : Comes m i order bytes disk (first_answers m t disk lun cdb bytes p) =
     by_plan p m t disk lun cdb bytes m.window refl all (near_one (next_sn m.cmd_sn) m.cmd_sn m.window a.cmd_sn_fits refl a.window) (has_more m bytes) refl in
     let r : Stepped = then_stepped (accepting (write_message m lun cdb bytes) first) (answers first.machine first.disk (unasked_data m bytes)) in

@@ -5,7 +5,7 @@ use Rattle.std.proofs.Math.Nat.{mod-lt}
 use Rattle.std.proofs.lemmas.Bool.{cond_both, cond-true}
 use Rattle.scsi_disk.specs.Disk.{Disk, disk_of}
 use Rattle.iscsi_text.specs.Canonical.{canonical_text}
-use Rattle.iscsi_pdu.specs.Serial.{moved}
+use Rattle.iscsi_pdu.specs.Serial.{moved, next_sn}
 use Rattle.iscsi_pdu.specs.declared.serial.Window.{Window}
 use Rattle.iscsi_pdu.specs.declared.head.login_request.LoginRequest.{LoginRequest}
 use Rattle.iscsi_pdu.specs.declared.head.login_response.LoginResponse.{LoginResponse}
@@ -19,11 +19,12 @@ use Rattle.iscsi_login.specs.declared.stage.Session.{Session}
 use Rattle.iscsi_login.specs.declared.stage.Session.TheVariants as sessions
 use Rattle.iscsi_login.specs.Held.{Held, IsHeld}
 use Rattle.iscsi_login.specs.Negotiation.{IsInRange}
-use Rattle.iscsi_login.specs.Answer.{in_order}
+use Rattle.iscsi_text.specs.Reading.{in_order}
 use Rattle.iscsi_login.specs.Offers.{Proposal, offers_at}
 use Rattle.iscsi_target.specs.Configured as target_settings
 use Rattle.iscsi_target.specs.State as target
-use Rattle.iscsi_target.specs.State.{Write, max_cmd_sn, next_sn, waiting, first_of}
+use Rattle.iscsi_target.specs.State.{Write, max_cmd_sn, waiting}
+use Rattle.scsi_disk.specs.Plan.{first_of}
 use Rattle.iscsi_target.specs.LoginText.{answer_pairs, session_for, session_in}
 use Rattle.iscsi_target.specs.Login.{entered, numbered, gather, text_answered}
 use Rattle.iscsi_target.specs.Machine as target_machine
@@ -198,7 +199,7 @@ steady c i t e u g held n o a b begun tells k most fit session = record {
   cmd_sn = k.cmd_sn ∙ b.cmd_sn;
   window = k.window ∙ ap (λ (x : ℕ). moved i.window (serial x) (serial g.max_cmd_sn)) tells.told_exp ∙ ap (λ (x : ℕ). moved i.window (serial e.exp_cmd_sn) (serial x)) tells.told_max
       ∙ tells_window i.window e c.initiator.first_cmd_sn o.cmd_sn b.window begun.cmd_sn (begun.write ∙ b.none_written);
-  stat_sn = k.exp_stat_sn ∙ ap (λ (x : Option ℕ). Some (initiator.next (unwrap_or x 0))) tells.told_sn ∙ ap (λ (x : ℕ). Some x) (sym tells.stat_sn);
+  stat_sn = k.exp_stat_sn ∙ ap (λ (x : Option ℕ). Some (next_sn (unwrap_or x 0))) tells.told_sn ∙ ap (λ (x : ℕ). Some x) (sym tells.stat_sn);
   stat_sn_fits = subst (λ (x : ℕ). x < 2 ^ 32) (sym tells.stat_sn) (mod-lt (e.stat_sn + 1) (omega arith));
   target_settings = tells.settings;
   exp_cmd_sn = tells.exp_cmd_sn ∙ begun.cmd_sn;

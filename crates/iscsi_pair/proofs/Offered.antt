@@ -2,7 +2,7 @@
 use Rattle.std.proofs.Common.{◌≡◌, ℕ, List, Some, refl, ap, ◌∙◌, arith}
 use Rattle.iscsi_text.specs.Text.{Pairs, HasNo, IsMeaning}
 use Rattle.iscsi_text.specs.Canonical.{canonical_text}
-use Rattle.iscsi_text.specs.Reading.{text_in}
+use Rattle.iscsi_text.specs.Reading.{text_in, in_order}
 use Rattle.iscsi_text.proofs.TextLaws as texts
 use Rattle.iscsi_login.specs.declared.stage.Stage.{Stage}
 use Rattle.iscsi_login.specs.declared.stage.Stage.TheVariants.{Security, Operational, Full}
@@ -10,7 +10,7 @@ use Rattle.iscsi_login.specs.declared.stage.Session.{Session}
 use Rattle.iscsi_login.specs.declared.stage.Session.TheVariants.{Normal, Discovery}
 use Rattle.iscsi_login.specs.Name.{IsName}
 use Rattle.iscsi_login.specs.Negotiation.{IsInRange}
-use Rattle.iscsi_login.specs.Answer.{in_order, declared_max_recv}
+use Rattle.iscsi_login.specs.Answer.{declared_max_recv}
 use Rattle.iscsi_login.specs.Offers.{Proposal, offers_at, single_offers}
 use Rattle.iscsi_login.proofs.OfferTexts.{security_text_is, operational_text_is, single_text_is}
 use Rattle.iscsi_initiator.specs.State.{Settings}

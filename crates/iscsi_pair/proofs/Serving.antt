@@ -19,7 +19,8 @@ use Rattle.iscsi_initiator.specs.declared.request.Done.TheVariants as done
 use Rattle.iscsi_initiator.specs.declared.request.Request.{Request}
 use Rattle.iscsi_initiator.specs.declared.request.Request.TheVariants as requests
 use Rattle.iscsi_initiator.specs.State as initiator
-use Rattle.iscsi_initiator.specs.State.{is_closed, is_closed_phase}
+use Rattle.iscsi_initiator.specs.State.{is_closed}
+use Rattle.iscsi_login.specs.Stage.{is_closed_phase}
 use Rattle.iscsi_initiator.specs.Steps.{Stepped}
 use Rattle.iscsi_initiator.specs.Calls as initiator_calls
 use Rattle.iscsi_initiator.specs.Laws.{listed}
@@ -142,7 +143,7 @@ login_sends c i out t there here r o is a s n whole =
     subst (λ (ms : List Message). Sends (most_out c) (most_back c) (Serves c) i ms t disk [] there here none_asked) (sym is) (record {
       written = (record { readable = asking_readable c i t there r o.opening a; short = (let short = asking_short c i t there r a in omega (arith, short)) }, tt);
       heard = record {
-        open_ = (ap target_machine.is_closed_phase a.logs_in.phase, tt);
+        open_ = (ap is_closed_phase a.logs_in.phase, tt);
         rule = ap (λ (x : target.Stepped). x.rule) all ∙ w.rule;
         answered = subst (AreWritten (most_back c) here) (sym said) (record { readable = turn.readable here whole; short = (let short = turn.short in omega (arith, short)) }, tt);
       };

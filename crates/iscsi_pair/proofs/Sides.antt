@@ -19,7 +19,7 @@ use Rattle.iscsi_initiator.specs.Calls as initiator
 use Rattle.iscsi_initiator.specs.Calls.{heard_steps}
 use Rattle.iscsi_pair.specs.declared.step.EndFault.{EndFault}
 use Rattle.iscsi_pair.specs.World.{World, Opening, Event, ToTarget, ToInitiator, Submits, Takes, TargetHears, InitiatorHears, MovesToTarget, MovesToInitiator, Asks, Happens, Runs, new_pair, store_of, feed_fault, submit_fault}
-use Rattle.iscsi_pair.specs.Traffic as inputs
+use Rattle.iscsi_initiator.specs.Laws as inputs
 use Rattle.iscsi_pair.specs.Traffic.{Traffic, first_traffic, behind, traffic_after, Traces}
 use Rattle.iscsi_pair.proofs.TargetSide.{TargetSide, target_heard, opening_side as target_opening, front_drops as target_drops, failed_drops as target_failed}
 use Rattle.iscsi_pair.proofs.InitiatorSide.{InitiatorSide, initiator_heard, initiator_asked, initiator_took_outcome, failed_drops, fault_drops, opening_side as initiator_opening, front_drops as initiator_drops}

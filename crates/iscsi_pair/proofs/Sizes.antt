@@ -26,9 +26,10 @@ use Rattle.iscsi_login.specs.declared.key.Range.{Range}
 use Rattle.iscsi_login.specs.declared.key.Rule.{Rule}
 use Rattle.iscsi_login.specs.declared.key.Rule.TheVariants as rules
 use Rattle.iscsi_login.specs.Negotiation.{IsInRange, has_none, preference, in_range, value_of, chosen, result_of, word, answered_value}
-use Rattle.iscsi_login.specs.Answer.{answer_to, answer_value, answers_to, other_answer, answered_no, rejected, pairs_with, declarations, placed, in_order, answer, max_recv_key, tag_key}
+use Rattle.iscsi_login.specs.Answer.{answer_to, answer_value, answers_to, other_answer, answered_no, rejected, pairs_with, declarations, answer, max_recv_key, tag_key}
+use Rattle.iscsi_text.specs.Reading.{placed, in_order}
 use Rattle.iscsi_login.specs.Offers.{Proposal, auth_items, session_name, target_pair, names, security_offers, operational_offers, single_offers, preferred_pair}
-use Rattle.iscsi_login.proofs.Order.{all_in_order}
+use Rattle.iscsi_text.proofs.Order.{all_in_order}
 use Rattle.iscsi_login.proofs.AnswerMeaning.{all_append}
 
 -- ---- values and texts

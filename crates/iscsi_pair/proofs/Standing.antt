@@ -7,7 +7,8 @@ use Rattle.iscsi_initiator.specs.Login.{start_step}
 use Rattle.iscsi_pair.specs.World.{World, Opening}
 use Rattle.iscsi_pair.specs.Traffic.{Traffic, TargetStands, InitiatorStands, sent}
 use Rattle.iscsi_pair.proofs.TargetSide.{TargetSide, TargetLives, TargetOver}
-use Rattle.iscsi_pair.proofs.InitiatorSide.{InitiatorSide, InitiatorLives, InitiatorOver, begun, canon_append}
+use Rattle.iscsi_pair.proofs.InitiatorSide.{InitiatorSide, InitiatorLives, InitiatorOver, begun}
+use Rattle.iscsi_stream.proofs.Writing.{canon_append}
 
 target_by : (b : Bool) (c : Opening) (t : Traffic) (w : World) → target_machine.is_closed w.target.machine ≡ b → w.target_fault ≡ None
     → TargetSide c t.moved_to_target t.queued_for_initiator w.target w.blocks w.target_fault → TargetStands c t w

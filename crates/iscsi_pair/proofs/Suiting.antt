@@ -6,7 +6,7 @@ use Rattle.std.proofs.lemmas.Bool.{le-leb}
 use Rattle.iscsi_text.specs.Value.{Typed}
 use Rattle.iscsi_text.specs.Value as values
 use Rattle.iscsi_text.specs.Text.{Pairs}
-use Rattle.iscsi_text.specs.Reading.{is_empty}
+use Rattle.iscsi_text.specs.Reading.{is_empty, in_order}
 use Rattle.iscsi_text.specs.Canonical.{canonical_text}
 use Rattle.iscsi_login.specs.declared.stage.Session.{Session}
 use Rattle.iscsi_login.specs.declared.stage.Session.TheVariants as sessions
@@ -17,15 +17,16 @@ use Rattle.iscsi_login.specs.declared.offers.Auth.TheVariants as auths
 use Rattle.iscsi_login.specs.declared.preferences.Preferences.{Preferences}
 use Rattle.iscsi_login.specs.Name.{IsName}
 use Rattle.iscsi_login.specs.Negotiation.{IsInRange}
-use Rattle.iscsi_login.specs.Answer.{in_order, max_recv_key}
+use Rattle.iscsi_login.specs.Answer.{max_recv_key}
 use Rattle.iscsi_login.specs.Offers.{Proposal, names, target_pair, offers_at, security_offers, operational_offers, single_offers}
 use Rattle.iscsi_initiator.specs.Configured.{IsStart}
 use Rattle.std.proofs.lemmas.List.{length-append}
 use Rattle.iscsi_text.proofs.Keys.{bytes_eq_same}
-use Rattle.iscsi_login.proofs.Order.{all_in_order}
+use Rattle.iscsi_text.proofs.Order.{all_in_order}
 use Rattle.iscsi_pair.proofs.Sizes.{IsShort, text_short, length-in_order, security_short, operational_short, single_short}
 use Rattle.iscsi_target.specs.declared.status.Status.{Status}
-use Rattle.iscsi_target.specs.State.{Machine, first_of}
+use Rattle.iscsi_target.specs.State.{Machine}
+use Rattle.scsi_disk.specs.Plan.{first_of}
 use Rattle.iscsi_target.specs.LoginText.{answer_pairs, is_normal, session_for, text_refusals, known_keys, gives_again, given_with, value_for, is_name, session_in, names_target, demands_authentication, is_bad_length}
 
 -- ---- what a target reads in an offer

@@ -2,14 +2,14 @@
 use Rattle.std.proofs.Common.{◌≡◌, ◌<◌, ◌≤◌, ◌⊎◌, inl, inr, ℕ, ◌-◌, Bool, true, false, List, [], ◌∷◌, ◌++◌, length, take, drop, Option, Some, None, refl, sym, ap, ◌∙◌, subst, append_assoc, arith}
 use Rattle.std.specs.Prelude.{not, ◌&&◌, nat_le, is_some, IfSome, ◌^◌, if◌then◌else◌, unwrap_or}
 use Rattle.std.specs.Bool.{then_some}
-use Rattle.std.proofs.Math.Bool.{not-not}
+use Rattle.std.proofs.Math.Bool.{not-not, and-false}
 use Rattle.std.proofs.Math.Nat.{mod-lt}
 use Rattle.std.proofs.lemmas.Bool.{leb-true, le-leb, lt-leb, le-ltb}
 use Rattle.std.proofs.lemmas.List.{append-nil, take-append-drop, length-take, length-drop}
 use Rattle.scsi_disk.specs.Disk.{Disk}
 use Rattle.iscsi_text.specs.Text.{Pairs}
 use Rattle.iscsi_text.specs.Canonical.{canonical_text}
-use Rattle.iscsi_text.specs.Reading.{text_in}
+use Rattle.iscsi_text.specs.Reading.{text_in, in_order}
 use Rattle.iscsi_pdu.specs.declared.head.login_request.LoginRequest.{LoginRequest}
 use Rattle.iscsi_pdu.specs.declared.head.login_response.LoginResponse.{LoginResponse}
 use Rattle.iscsi_stream.specs.declared.logins.Logins.{Logins}
@@ -217,10 +217,6 @@ sends_part c m t logins text last o g whole is part =
       };
     }
 
-and_false : (b : Bool) → (b && false) ≡ false
-and_false true = refl
-and_false false = refl
-
 -- the text of the next stage goes out, whole or a part of it
 sends_next : (c : Opening) (m : initiator.Machine) (t : target.Machine) (logins : Logins) → IsOpening c → Goes c m t → t.gathered ≡ [] → logins.request ≡ false
     → Asks_on c (sends_text m) t logins
@@ -249,7 +245,7 @@ sends_next c m t logins o g none first =
         how = inl (record { is = refl; left = refl; gathered = none; first = first; short = omega (arith, leb-true (length text) n fits, short) });
       };
     })
-    (λ long. sends_part c m t logins text false o g (ap (λ (x : List ℕ). x ++ text) none) (sym long ∙ fits_drop n text) (and_false (not logins.request)))
+    (λ long. sends_part c m t logins text false o g (ap (λ (x : List ℕ). x ++ text) none) (sym long ∙ fits_drop n text) (and-false (not logins.request)))
   where
     by_fit : (b : Bool) (P : Stepped → Type 0) (x y : Stepped) → (b ≡ true → P x) → (b ≡ false → P y) → P (if b then x else y)
     by_fit true P x y p q = p refl
@@ -382,7 +378,7 @@ told_to stages.Operational c i t logins next r reply o a is first q =
     held_same (declared_max_recv (offered i)) answer i.held t.held a.values a.most in
     let valid : AreValid i.settings = subst AreValid (sym a.settings) o.initiator in
     let d : declared_max_recv (offered i) ≡ Some c.initiator.proposal.prefs.max_recv =
-    ap (λ (x : Stage). declared_max_recv (login.in_order (offers_at i.settings.proposal i.settings.start x))) is
+    ap (λ (x : Stage). declared_max_recv (in_order (offers_at i.settings.proposal i.settings.start x))) is
     ∙ declares i.settings.proposal i.settings.start valid.in_range.start ∙ ap (λ (x : initiator.Settings). Some x.proposal.prefs.max_recv) a.settings in
     let own : unwrap_or (declared_max_recv (offered i)) t.held.initiator_max_recv ≡ i.held.initiator_max_recv =
     ap (λ (x : Option ℕ). unwrap_or x t.held.initiator_max_recv) d ∙ sym a.own in

@@ -25,11 +25,14 @@ use Rattle.iscsi_login.specs.Answer as login
 use Rattle.iscsi_login.specs.Answer.{target_holds}
 use Rattle.iscsi_target.specs.declared.status.Status.{Status}
 use Rattle.iscsi_target.specs.Configured.{Settings}
-use Rattle.iscsi_target.specs.State.{Machine, Reply, on, first_of}
+use Rattle.iscsi_target.specs.State.{Machine, Reply, on}
+use Rattle.scsi_disk.specs.Plan.{first_of}
 use Rattle.iscsi_target.specs.LoginText.{out_of_resources, text_refusals, session_for, declared_tag, declared_length, answer_pairs}
 use Rattle.iscsi_target.specs.Login.{login_request, request_refusals, refuse, refuse_or, response, login_message, numbered, entered, segment_taken, gather, whole_text, text_ending, text_answered, text_response, stage_asked, stage_after, phase_at, tsih_at}
-use Rattle.iscsi_target.specs.Machine.{step, is_closed, is_closed_phase, is_over_limit, phase_step}
+use Rattle.iscsi_target.specs.Machine.{step, is_closed, is_over_limit, phase_step}
+use Rattle.iscsi_login.specs.Stage.{is_closed_phase}
 use Rattle.iscsi_pair.proofs.Front.{RequestFits, ResponseFits}
+use Rattle.iscsi_target.specs.Execution.{reliable}
 
 -- ---- a request comes in a login
 
@@ -44,7 +47,7 @@ pub login_step_is : (s : Machine) (disk : Disk) (h : LoginRequest) (segment : Se
 login_step_is s disk h segment p short =
     let m : Message = record { head = heads.LoginRequest h; segment = segment } in
     let open_ : is_closed s ≡ false = ap is_closed_phase p in
-    rw (open_, short) (ap (λ (x : Phase). phase_step effect x s disk m) p)
+    rw (open_, short) (ap (λ (x : Phase). phase_step reliable x s disk m) p)
 
 -- ---- refusals
 

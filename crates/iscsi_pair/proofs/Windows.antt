@@ -5,8 +5,8 @@ use Rattle.std.proofs.Math.Nat.{mod-lt}
 use Rattle.std.proofs.lemmas.Bool.{eqb-false}
 use Rattle.iscsi_pdu.specs.declared.serial.Serial.{Serial}
 use Rattle.iscsi_pdu.specs.declared.serial.Window.{Window}
-use Rattle.iscsi_pdu.specs.Serial.{later_of, moved}
-use Rattle.iscsi_initiator.specs.State.{next, next_tag, serial}
+use Rattle.iscsi_pdu.specs.Serial.{later_of, moved, next_sn}
+use Rattle.iscsi_initiator.specs.State.{next_tag, serial}
 use Rattle.iscsi_pair.specs.LocalDisk.{window_of_one}
 
 -- the number before this one
@@ -52,7 +52,7 @@ tells_none n w lt near =
     rw d (λ i. record { exp = later_now n w.exp lt near.exp i; max = later_stays n w.max lt near.max i }) in
     subst (IsNear n) (sym is) (record { exp = inr refl; max = near.max })
 
-pub near_one : (n c : ℕ) (w : Window) → c < 2 ^ 32 → n ≡ next c → w ≡ window_of_one c → IsNear n w
+pub near_one : (n c : ℕ) (w : Window) → c < 2 ^ 32 → n ≡ next_sn c → w ≡ window_of_one c → IsNear n w
 near_one n c w lt e is =
     let b : c ≡ before n = omega (arith, e, lt) in
     record { exp = inl (ap (λ (x : Window). x.exp) is ∙ ap serial b); max = inl (ap (λ (x : Window). x.max) is ∙ ap serial b) }

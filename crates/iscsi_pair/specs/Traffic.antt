@@ -15,15 +15,9 @@ use Rattle.iscsi_initiator.specs.Machine.{step, taken}
 use Rattle.iscsi_initiator.specs.Submitted.{submitted}
 use Rattle.iscsi_pair.specs.World as world
 use Rattle.iscsi_pair.specs.World.{World, Opening, Event, started, new_pair, Happens}
+use Rattle.iscsi_initiator.specs.Laws.{Input, Comes, Asks, Takes, met}
 
 -- ---- bytes
-
--- What an initiator's session meets once it is started: a message comes, a request is handed in, or
--- the outcome is taken (own rule).
-pub data Input : Type 0 where
-  Comes : Message → Input
-  Asks : Request → Input
-  Takes : Input
 
 -- All bytes that were moved to each end, all that were queued for it, and what was asked of the
 -- initiator and taken from it (own rule).
@@ -72,12 +66,6 @@ Traces t old (event ∷ events) new u =
 
 -- ---- messages
 
--- The session after it (own rule).
-abbrev pub after : Machine → Input → Machine
-after m (Comes message) = (step m message).machine
-after m (Asks request) = (submitted m request).machine
-after m Takes = taken m
-
 -- What it sends then (own rule).
 abbrev pub sent_in : Machine → Input → List Message
 sent_in m (Comes message) = (step m message).output
@@ -87,12 +75,12 @@ sent_in m Takes = []
 -- The session after all of these (own rule).
 abbrev pub after_all : Machine → List Input → Machine
 after_all m [] = m
-after_all m (input ∷ inputs) = after_all (after m input) inputs
+after_all m (input ∷ inputs) = after_all (met m input) inputs
 
 -- What it sends in all of these (own rule).
 abbrev pub sent : Machine → List Input → List Message
 sent m [] = []
-sent m (input ∷ inputs) = sent_in m input ++ sent (after m input) inputs
+sent m (input ∷ inputs) = sent_in m input ++ sent (met m input) inputs
 
 -- The message that comes in it (own rule).
 abbrev pub coming_in : Input → List Message

@@ -7,6 +7,7 @@ ghost use Rattle.iscsi_pair.specs.World as worlds;
 
 use crate::step::{EndFault, Step, feed_fault, submit_fault};
 use iscsi_initiator::{Done, Initiator, InitiatorFault, Request};
+use iscsi_stream::drop_front;
 use iscsi_target::{Target, TargetFault};
 use scsi_disk::MemoryStore;
 use std::alloc::Global;
@@ -42,14 +43,6 @@ impl Model for Pair {
       target_fault = p.target_fault;
       initiator_fault = p.initiator_fault;
     } };
-}
-
-// Drops the first bytes of a queue.
-fn drop_front(queue: &mut Vec<u8>, n: usize)
-    requires { n ≤ queue.old.len }
-    ensures { queue.new.items ≡ drop n queue.old.items }
-{
-    queue.drain(..n);
 }
 
 impl Pair {

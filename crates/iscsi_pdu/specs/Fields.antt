@@ -25,9 +25,13 @@ use Rattle.iscsi_pdu.specs.declared.head.ready_to_transfer.ReadyToTransfer.{Read
 use Rattle.iscsi_pdu.specs.declared.head.async_message.AsyncMessage.{AsyncMessage}
 use Rattle.iscsi_pdu.specs.declared.head.reject.Reject.{Reject}
 
+-- the tag that names no task and no transfer (RFC 7143, sections 11.2.1.8 and 11.7.4)
+abbrev pub reserved_tag : ℕ
+reserved_tag = 0xffff_ffff
+
 -- a tag other than the reserved one (RFC 7143, section 11.7.4)
 abbrev pub is_tag : ℕ → Bool
-is_tag target_transfer_tag = not (target_transfer_tag == 0xffff_ffff)
+is_tag target_transfer_tag = not (target_transfer_tag == reserved_tag)
 
 -- NOP-Out, RFC 7143, section 11.18
 abbrev pub nop_out : NopOut → List Row

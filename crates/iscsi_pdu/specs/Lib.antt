@@ -1,3 +1,4 @@
 pub mod Fields
 pub mod Meaning
+pub mod Rules
 pub mod Serial

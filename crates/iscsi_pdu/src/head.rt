@@ -42,14 +42,9 @@ pub use self::task_request::TaskRequest;
 pub use self::task_response::TaskResponse;
 pub use self::text_request::TextRequest;
 pub use self::text_response::TextResponse;
-use crate::RESERVED_TAG;
+use crate::{LOGIN_SEGMENT, RESERVED_TAG};
 use scsi_cdb::layout::{bits, put_bit, put_number, put_u8, put_u24, put_u32, u8_at, u24_at};
 use thiserror::Error;
-
-/// The longest data segment of a login PDU, in bytes: the default of MaxRecvDataSegmentLength,
-/// which holds during
-/// login (RFC 7143, section 13.12).
-const MAX_LOGIN: u32 = 8192;
 
 /// What the header of a PDU means, by its kind: all but the length of the data segment.
 ///
@@ -242,7 +237,7 @@ fn checked(bytes: &[u8; 48]) -> Result<(Head, u32), HeadFault>
     }
     let len = u24_at(bytes, 5);
     let is_login = matches!(head.opcode(), 0x03 | 0x23);
-    if is_login && len > MAX_LOGIN {
+    if is_login && len > LOGIN_SEGMENT {
         return Err(HeadFault::TooLong);
     }
     Ok((head, len))

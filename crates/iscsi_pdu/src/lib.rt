@@ -5,6 +5,7 @@
 mod head;
 pub mod laws;
 mod pdu;
+pub mod rule;
 mod serial;
 
 pub use head::{
@@ -16,6 +17,9 @@ pub use pdu::Pdu;
 pub use serial::{Serial, Window, pad};
 
 /// The reserved tag, ffffffff: as an initiator task tag it names no task, as a target transfer tag
-/// no transfer
-/// (RFC 7143, sections 11.2.1.8 and 11.7.4).
+/// no transfer (RFC 7143, sections 11.2.1.8 and 11.7.4).
 pub const RESERVED_TAG: u32 = 0xffff_ffff;
+
+/// The longest data segment of a login PDU, in bytes: the default of MaxRecvDataSegmentLength,
+/// which holds during login (RFC 7143, section 13.12).
+pub const LOGIN_SEGMENT: u32 = 8192;

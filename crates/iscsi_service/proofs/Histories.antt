@@ -12,7 +12,7 @@ use Rattle.iscsi_initiator.specs.Login.{start_step}
 use Rattle.iscsi_initiator.specs.Machine.{step, steps, then_steps}
 use Rattle.iscsi_initiator.specs.Submitted.{submitted, or_accepted, refusal}
 use Rattle.iscsi_initiator.specs.Calls.{Connection, Starts, Feeds, Submits, HearsAll, ClosesAt, after_taking}
-use Rattle.iscsi_initiator.specs.Laws.{Event, Comes, Asks, Takes, after, run, accepted, accepted_in, accepted_if, given, given_in, listed, AreOutcomesOf, IsOutcomeOf}
+use Rattle.iscsi_initiator.specs.Laws.{Event, Meets, Comes, Asks, Takes, after, run, accepted, accepted_in, accepted_if, given, given_in, listed, AreOutcomesOf, IsOutcomeOf}
 use Rattle.iscsi_initiator.specs.Laws as laws
 use Rattle.iscsi_initiator.proofs.OutcomeLaws.{outcomes_in_order}
 use Rattle.std.specs.Io.KnownBytes.{Appends}
@@ -76,7 +76,7 @@ started old new before output s = record {
 }
 
 quiet_step : (m : Machine) (message : Message) → Continues m [] [] (step m message).machine
-quiet_step m message = record { events = Comes message ∷ []; reached = refl; requests = refl; outcomes = refl }
+quiet_step m message = record { events = Meets (Comes message) ∷ []; reached = refl; requests = refl; outcomes = refl }
 
 heard : (m : Machine) (messages : List Message) → Continues m [] [] (steps m messages).machine
 unfolding steps
@@ -98,7 +98,7 @@ fed phase old new piece before output f = go f.1.1
 pub submits : (old new : Connection) (request : Request) (before output : List ℕ) → Submits (Ok tt) old request new before output → Continues old.machine (request ∷ []) [] new.machine
 unfolding submitted
 submits old new request before output s = record {
-  events = Asks request ∷ [];
+  events = Meets (Asks request) ∷ [];
   reached = ap (λ (c : Connection). c.machine) s.connection;
   requests = taken_in (refusal old.machine request) s.none;
   outcomes = refl;
@@ -109,7 +109,7 @@ submits old new request before output s = record {
     taken_in (Some fault) e = absurd cc
 
 pub takes : (old : Connection) (outcome : Done) → old.machine.done ≡ Some outcome → Continues old.machine [] (outcome ∷ []) (after_taking old).machine
-takes old outcome is = record { events = Takes ∷ []; reached = refl; requests = refl; outcomes = ap (λ (o : Option Done). listed o ++ []) is }
+takes old outcome is = record { events = Meets Takes ∷ []; reached = refl; requests = refl; outcomes = ap (λ (o : Option Done). listed o ++ []) is }
 
 -- ---- outcomes
 

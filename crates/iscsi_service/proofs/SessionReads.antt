@@ -1,10 +1,12 @@
 -- What a session keeps from read to read.
-use Rattle.std.proofs.Common.{◌≡◌, ◌⊎◌, inl, inr, drop, take-append-drop, ℕ, Bool, true, false, List, [], ◌∷◌, ◌++◌, take, Option, Result, Ok, Err, refl, sym, ap, subst, ◌∙◌, arith, append-nil, append_assoc}
+use Rattle.std.proofs.Common.{◌≡◌, ◌⊎◌, inl, inr, drop, take-append-drop, ℕ, Bool, true, false, List, [], ◌∷◌, ◌++◌, length, ◌≤◌, ◌<◌, take, Option, Result, Ok, Err, refl, sym, ap, subst, ◌∙◌, arith, append-nil, append_assoc}
 use Rattle.std.specs.Io.KnownBytes.{Appends, Consumes, Keeps}
 use Rattle.std.proofs.KnownBytes.{Appends-trans, Appends-nil, Consumes-trans, Consumes-kept, Consumes-nil}
 use Rattle.scsi_disk.specs.Disk.{Disk}
+use Rattle.iscsi_stream.specs.Stream.{Splits, longest_segment}
+use Rattle.iscsi_stream.specs.Canonical.{canon}
 use Rattle.iscsi_stream.specs.Normalising.{WroteFront}
-use Rattle.iscsi_stream.proofs.Taking.{at_opening}
+use Rattle.iscsi_stream.proofs.Taking.{at_opening, taken_more}
 use Rattle.iscsi_stream.proofs.Ready.{apart}
 use Rattle.iscsi_login.specs.declared.phase.Phase.{Phase}
 use Rattle.iscsi_login.specs.Negotiation.{IsInRange}
@@ -12,25 +14,18 @@ use Rattle.iscsi_target.specs.declared.fault.TargetFault.{TargetFault}
 use Rattle.iscsi_target.specs.declared.fault.TargetFault.TheVariants as faults
 use Rattle.iscsi_target.specs.Configured.{Settings}
 use Rattle.iscsi_target.specs.State.{Execution, limit}
-use Rattle.iscsi_target.specs.Machine.{answers, is_closed, is_closed_phase}
-use Rattle.iscsi_target.specs.Feed.{Connection, Store, Fed, FedIf, Feeds, Stays, HasAnswered, FedAll, GoesWell, opening_connection, stream_of}
+use Rattle.iscsi_target.specs.Machine.{answers, is_closed}
+use Rattle.iscsi_login.specs.Stage.{is_closed_phase}
+use Rattle.iscsi_target.specs.Feed.{Connection, Store, Fed, FedIf, FedNext, FedNextIf, Feeds, Stays, HasAnswered, FedAll, GoesWell, opening_connection, stream_of}
 use Rattle.iscsi_target.specs.Laws.{Leads}
 use Rattle.iscsi_target.proofs.Feeding.{Told, told, fed_any}
 use Rattle.iscsi_target.proofs.Streaming.{goes_on}
-use Rattle.iscsi_target.proofs.Leading.{may_leads}
+use Rattle.iscsi_target.proofs.Leading.{may_leads, leads_append}
 use Rattle.iscsi_service.specs.declared.session.SessionFault.{SessionFault}
 use Rattle.iscsi_service.specs.declared.session.SessionFault.TheVariants as session
 use Rattle.iscsi_service.specs.Session.{HasExecuted, ServesAll, Serves, IsOver, EndsWell}
+use Rattle.iscsi_service.specs.SessionSteps.{ServedUpTo, Service, service, Goes, ClosesBy, Loses, Breaks}
 use Rattle.iscsi_service.specs.Serving.{session_fault, ServesOne}
-
--- Pieces were read, fed and answered, from the first store on; steady says that no device fails.
-pub record ServedUpTo (steady : Type 0) (settings : Settings) (first : Store) (target : Connection) (store : Store) (remaining_old remaining_new contents_old contents_new : Option (List ℕ)) : Type 0 where
-  pub pieces : List (List ℕ)
-  pub written : List ℕ
-  pub consumed : Consumes remaining_old remaining_new (stream_of pieces)
-  pub appended : Appends contents_old contents_new written
-  pub fed : steady → FedAll (opening_connection settings 1) first [] pieces target store written
-  pub executed : HasExecuted first.disk store.disk
 
 -- what a call has read and written
 abbrev pub Leaves : Option (List ℕ) → Option (List ℕ) → Option (List ℕ) → Option (List ℕ) → (List ℕ → List ℕ → Type 0) → Type 0
@@ -48,27 +43,27 @@ nothing_executed disk = refl
 pub none_executed : (disk : Disk) → HasExecuted disk disk
 none_executed disk = ([], nothing_executed disk)
 
-pub at_start : (steady : Type 0) (settings : Settings) (first : Store) (a b : Option (List ℕ)) → ServedUpTo steady settings first (opening_connection settings 1) first a a b b
+pub at_start : (steady : Type 0) (settings : Settings) (first : Store) (contents : Option (List ℕ)) → ServedUpTo steady settings first [] (opening_connection settings 1) first contents contents []
 unfolding FedAll
-at_start steady settings first a b = record {
+at_start steady settings first contents = record {
   pieces = [];
-  written = [];
-  consumed = Consumes-nil a;
-  appended = Appends-nil b;
+  whole = refl;
+  sent = [];
+  appended = Appends-nil contents;
   fed = λ h. (refl, refl, refl);
   executed = none_executed first.disk;
 }
 
 -- what a call of feed appends, behind what was written
-fed_behind : (b : Bool) (old new : Connection) (before after : Store) (front piece out : List ℕ) (result : Result Phase TargetFault)
-    → FedIf b old before [] piece result new after out → FedIf b old before front piece result new after (front ++ out)
-fed_behind true old new before after front piece out result f = record {
+fed_behind : (b : Bool) (old new : Connection) (before after : Store) (front piece out written : List ℕ) (result : Result Phase TargetFault)
+    → FedIf b old before out piece result new after written → FedIf b old before (front ++ out) piece result new after (front ++ written)
+fed_behind true old new before after front piece out written result f = record {
   result_is = f.result_is;
   connection = f.connection;
   store = f.store;
-  output_is = ap (λ (x : List ℕ). front ++ x) f.output_is ∙ append-nil front;
+  output_is = ap (λ (x : List ℕ). front ++ x) f.output_is;
 }
-fed_behind false old new before after front piece out result f = record {
+fed_behind false old new before after front piece out written result f = record {
   framing = f.framing;
   count = f.count;
   some = f.some;
@@ -78,11 +73,13 @@ fed_behind false old new before after front piece out result f = record {
     taken = f.answered.taken;
     limit = f.answered.limit;
     ready = f.answered.ready;
+    failures = f.answered.failures;
     may = f.answered.may;
     works = f.answered.works;
     disk = f.answered.disk;
-    output_is = ap (λ (x : List ℕ). front ++ x) f.answered.output_is;
+    output_is = ap (λ (x : List ℕ). front ++ x) f.answered.output_is ∙ sym (append_assoc front out (canon f.stepped.answers));
   };
+  counts = f.counts;
   ends = f.ends;
 }
 
@@ -109,17 +106,12 @@ stream_more : (pieces : List (List ℕ)) (piece : List ℕ) → stream_of pieces
 stream_more [] piece = sym (append-nil piece)
 stream_more (p ∷ pieces) piece = append_assoc p (stream_of pieces) piece ∙ ap (λ (x : List ℕ). p ++ x) (stream_more pieces piece)
 
-leads_append : (disk mid last : Disk) (a b : List Execution) → Leads disk a mid → Leads mid b last → Leads disk (a ++ b) last
-unfolding Leads
-leads_append disk mid last [] b p q = subst (λ (d : Disk). Leads d b last) p q
-leads_append disk mid last (e ∷ a) b p q = (p.0, p.1, p.2, leads_append p.0.disk mid last a b p.3 q)
-
 -- what a call of feed executed
 fed_executed : (b : Bool) (old new : Connection) (before after : Store) (out piece written : List ℕ) (result : Result Phase TargetFault)
     → FedIf b old before out piece result new after written → HasExecuted before.disk after.disk
 fed_executed true old new before after out piece written result f = ([], subst (λ (x : Store). Leads before.disk [] x.disk) (sym f.store) (nothing_executed before.disk))
 fed_executed false old new before after out piece written result f =
-    (f.stepped.executed, subst (λ (d : Disk). Leads before.disk f.stepped.executed d) (sym f.answered.disk) (may_leads old.machine before.disk f.messages f.stepped f.answered.may))
+    (f.stepped.executed, subst (λ (d : Disk). Leads before.disk f.stepped.executed d) (sym f.answered.disk) (may_leads old.machine before.disk before.failures f.answered.failures f.messages f.stepped f.answered.may))
 
 -- so the blocks are those that commands left, one call more
 pub executed_more : (first : Disk) (old new : Connection) (before after : Store) (out piece written : List ℕ) (result : Result Phase TargetFault)
@@ -128,62 +120,250 @@ executed_more first old new before after out piece written result e f =
     let more : HasExecuted before.disk after.disk = fed_executed (is_closed old.machine) old new before after out piece written result f in
     (e.0 ++ more.0, leads_append first before.disk after.disk e.0 more.0 e.1 more.1)
 
-pub served_more : (steady : Type 0) (settings : Settings) (first : Store) (now new : Connection) (store after : Store) (r0 r1 r2 w0 w1 w2 : Option (List ℕ)) (piece out : List ℕ) (result : Result Phase TargetFault)
-    → ServedUpTo steady settings first now store r0 r1 w0 w1 → Consumes r1 r2 piece → Fed now store [] piece result new after out → (steady → GoesWell result store after) → Appends w1 w2 out
-    → ServedUpTo steady settings first new after r0 r2 w0 w2
-served_more steady settings first now new store after r0 r1 r2 w0 w1 w2 piece out result up read one well wrote = record {
+served_more : (steady : Type 0) (settings : Settings) (first : Store) (stream : List ℕ) (old new : Connection) (before after : Store) (start contents : Option (List ℕ)) (waiting piece written : List ℕ) (result : Result Phase TargetFault)
+    → ServedUpTo steady settings first stream old before start contents waiting → Fed old before waiting piece result new after written → (steady → GoesWell result before after)
+    → ServedUpTo steady settings first (stream ++ piece) new after start contents written
+served_more steady settings first stream old new before after start contents waiting piece written result up one well = record {
   pieces = up.pieces ++ piece ∷ [];
-  written = up.written ++ out;
-  consumed = subst (λ (x : List ℕ). Consumes r0 r2 x) (stream_more up.pieces piece) (Consumes-trans r0 r1 r2 (stream_of up.pieces) piece up.consumed read);
-  appended = Appends-trans w0 w1 w2 up.written out up.appended wrote;
+  whole = ap (λ (x : List ℕ). x ++ piece) up.whole ∙ stream_more up.pieces piece;
+  sent = up.sent;
+  appended = up.appended;
   fed = λ h.
-      fed_more up.pieces (opening_connection settings 1) now new first store after [] up.written piece (up.written ++ out) result (up.fed h) (fed_behind (is_closed now.machine) now new store after up.written piece out result one) (well h);
-  executed = executed_more first.disk now new store after [] piece out result up.executed one;
+      fed_more up.pieces (opening_connection settings 1) old new first before after [] (up.sent ++ waiting) piece (up.sent ++ written) result (up.fed h)
+      (fed_behind (is_closed old.machine) old new before after up.sent piece waiting written result one) (well h);
+  executed = executed_more first.disk old new before after waiting piece written result up.executed one;
 }
 
--- all PDUs of what was read are answered
-all_served : (steady : Type 0) (settings : Settings) (first : Store) (now : Connection) (store : Store) (r0 r1 w0 w1 : Option (List ℕ)) (up : ServedUpTo steady settings first now store r0 r1 w0 w1)
-    → IsInRange settings.preferences → steady → ServesAll settings first.disk (stream_of up.pieces) store.disk up.written
-all_served steady settings first now store r0 r1 w0 w1 up range h ms given rest s =
-    fed_any settings 1 first up.pieces now store up.written ms given rest (omega (arith, range.max_recv.1)) (up.fed h) s
+-- the answers that waited were written
+pub written_out : (steady : Type 0) (settings : Settings) (first : Store) (stream : List ℕ) (target : Connection) (store : Store) (start contents now : Option (List ℕ)) (waiting : List ℕ)
+    → ServedUpTo steady settings first stream target store start contents waiting → Appends contents now waiting → ServedUpTo steady settings first stream target store start now []
+written_out steady settings first stream target store start contents now waiting up more = record {
+  pieces = up.pieces;
+  whole = up.whole;
+  sent = up.sent ++ waiting;
+  appended = Appends-trans start contents now up.sent waiting up.appended more;
+  fed = λ h. subst (λ (x : List ℕ). FedAll (opening_connection settings 1) first [] up.pieces target store x) (sym (append-nil (up.sent ++ waiting))) (up.fed h);
+  executed = up.executed;
+}
+
+-- a part of them was, or none
+pub front_out : (steady : Type 0) (settings : Settings) (first : Store) (stream : List ℕ) (target : Connection) (store : Store) (start contents now : Option (List ℕ)) (waiting : List ℕ)
+    → ServedUpTo steady settings first stream target store start contents waiting → WroteFront contents now waiting → (sent : List ℕ) × Appends start now sent × HasExecuted first.disk store.disk
+front_out steady settings first stream target store start contents now waiting up front =
+    (up.sent ++ take front.0 waiting, Appends-trans start contents now up.sent (take front.0 waiting) up.appended front.1, up.executed)
+
+-- bytes behind the end of a session are dropped
+rest_dropped : (steady : Type 0) (settings : Settings) (first : Store) (stream : List ℕ) (target : Connection) (store : Store) (start contents : Option (List ℕ)) (waiting rest : List ℕ)
+    → is_closed target.machine ≡ true → ServedUpTo steady settings first stream target store start contents waiting → ServedUpTo steady settings first (stream ++ rest) target store start contents waiting
+rest_dropped steady settings first stream target store start contents waiting rest over up =
+    let stays : Stays target store waiting (Err faults.Closed) target store waiting = record { result_is = refl; connection = refl; store = refl; output_is = refl } in
+    served_more steady settings first stream target target store store start contents waiting rest waiting (Err faults.Closed) up
+    (subst (λ (b : Bool). FedIf b target store waiting rest (Err faults.Closed) target store waiting) (sym over) stays)
+    (λ h. record { memory = λ e. cc; device = refl })
+
+-- ---- one PDU
+
+next_is : (b : Bool) (old new : Connection) (before after : Store) (out piece written : List ℕ) (done : ℕ × Phase)
+    → FedNextIf b old before out piece (Ok done) new after written → FedIf b old before out (take done.0 piece) (Ok done.1) new after written
+next_is true old new before after out piece written done f = absurd cc
+next_is false old new before after out piece written done f = f.fed
+
+pub next_bound : (b : Bool) (old new : Connection) (before after : Store) (out piece written : List ℕ) (done : ℕ × Phase)
+    → FedNextIf b old before out piece (Ok done) new after written → (done.0 ≤ length piece) × (0 < length piece → 0 < done.0)
+next_bound true old new before after out piece written done f = absurd cc
+next_bound false old new before after out piece written done f = (f.bound, f.some)
+
+abbrev as_phase : Result (ℕ × Phase) TargetFault → Result Phase TargetFault
+as_phase (Ok done) = Ok done.1
+as_phase (Err fault) = Err fault
+
+next_fails : (b : Bool) (old new : Connection) (before after : Store) (out piece written : List ℕ) (fault : TargetFault)
+    → FedNextIf b old before out piece (Err fault) new after written → FedIf b old before out piece (Err fault) new after written
+next_fails true old new before after out piece written fault f = record { result_is = ap as_phase f.0; connection = f.1; store = f.2; output_is = f.3 }
+next_fails false old new before after out piece written fault f = f
+
+pub next_goes : (steady : Type 0) (old new : Connection) (before after : Store) (contents : Option (List ℕ)) (out piece written : List ℕ) (done : ℕ × Phase)
+    → FedNext old before out piece (Ok done) new after written → (steady → after.failures ≡ before.failures)
+    → Goes steady (service old before contents out) (take done.0 piece) (service new after contents written)
+next_goes steady old new before after contents out piece written done f same = λ settings first stream start up.
+    served_more steady settings first stream old new before after start contents out (take done.0 piece) written (Ok done.1) up
+    (next_is (is_closed old.machine) old new before after out piece written done f) (λ h. record { memory = λ e. cc; device = same h })
+
+executed_next : (first : Disk) (old new : Connection) (before after : Store) (out piece written : List ℕ) (result : Result (ℕ × Phase) TargetFault)
+    → HasExecuted first before.disk → FedNext old before out piece result new after written → HasExecuted first after.disk
+executed_next first old new before after out piece written (Ok done) e f =
+    executed_more first old new before after out (take done.0 piece) written (Ok done.1) e (next_is (is_closed old.machine) old new before after out piece written done f)
+executed_next first old new before after out piece written (Err fault) e f =
+    executed_more first old new before after out piece written (Err fault) e (next_fails (is_closed old.machine) old new before after out piece written fault f)
+
+-- the answers could not be written, or a part of them alone
+pub write_loses : (steady : Type 0) (old new : Connection) (before after : Store) (contents now : Option (List ℕ)) (out piece written waiting : List ℕ) (result : Result (ℕ × Phase) TargetFault)
+    → FedNext old before out piece result new after written → WroteFront contents now written → Loses steady (service old before contents out) (service new after now waiting)
+write_loses steady old new before after contents now out piece written waiting result f front = λ settings first stream start up. (
+  up.sent ++ take front.0 written,
+  Appends-trans start contents now up.sent (take front.0 written) up.appended front.1,
+  executed_next first.disk old new before after out piece written result up.executed f,
+)
+
+fault_served_to : (steady : Type 0) (old new : Connection) (before after : Store) (contents now : Option (List ℕ)) (out piece written : List ℕ) (fault : TargetFault)
+    → FedNext old before out piece (Err fault) new after written → (steady → GoesWell (Err fault) before after) → Appends contents now written
+    → Goes steady (service old before contents out) piece (service new after now [])
+fault_served_to steady old new before after contents now out piece written fault f well wrote = λ settings first stream start up.
+    written_out steady settings first (stream ++ piece) new after start contents now written
+    (served_more steady settings first stream old new before after start contents out piece written (Err fault) up (next_fails (is_closed old.machine) old new before after out piece written fault f) well) wrote
+
+-- a fault that a call of feed_next answers, and then the answers were written
+pub fault_breaks : (steady : Type 0) (old new : Connection) (before after : Store) (contents now : Option (List ℕ)) (out piece written : List ℕ) (fault : TargetFault)
+    → FedNext old before out piece (Err fault) new after written → (steady → after.failures ≡ before.failures) → Appends contents now written
+    → Breaks steady (service old before contents out) piece (session.Target fault) (service new after now [])
+fault_breaks steady old new before after contents now out piece written faults.NoMemory f same wrote = λ settings first stream start up. (
+  up.sent ++ written,
+  Appends-trans start contents now up.sent written up.appended wrote,
+  executed_next first.disk old new before after out piece written (Err faults.NoMemory) up.executed f,
+)
+fault_breaks steady old new before after contents now out piece written (faults.Stream fault) f same wrote =
+    fault_served_to steady old new before after contents now out piece written (faults.Stream fault) f (λ h. record { memory = λ e. cc; device = same h }) wrote
+fault_breaks steady old new before after contents now out piece written (faults.Protocol rule) f same wrote =
+    fault_served_to steady old new before after contents now out piece written (faults.Protocol rule) f (λ h. record { memory = λ e. cc; device = same h }) wrote
+fault_breaks steady old new before after contents now out piece written faults.Closed f same wrote =
+    fault_served_to steady old new before after contents now out piece written faults.Closed f (λ h. record { memory = λ e. cc; device = same h }) wrote
+
+-- ---- bytes after bytes
+
+pub goes_then : (steady : Type 0) (old mid new : Service) (a b : List ℕ) → Goes steady old a mid → Goes steady mid b new → Goes steady old (a ++ b) new
+goes_then steady old mid new a b p q = λ settings first stream start up.
+    subst (λ (x : List ℕ). ServedUpTo steady settings first x new.target new.store start new.contents new.waiting) (append_assoc stream a b) (q settings first (stream ++ a) start (p settings first stream start up))
+
+loses_then : (steady : Type 0) (old mid new : Service) (a : List ℕ) → Goes steady old a mid → Loses steady mid new → Loses steady old new
+loses_then steady old mid new a p q = λ settings first stream start up. q settings first (stream ++ a) start (p settings first stream start up)
+
+pub breaks_then : (steady : Type 0) (old mid new : Service) (a b : List ℕ) (fault : SessionFault) → Goes steady old a mid → Breaks steady mid b fault new → Breaks steady old (a ++ b) fault new
+breaks_then steady old mid new a b (session.Target faults.NoMemory) p q = loses_then steady old mid new a p q
+breaks_then steady old mid new a b (session.Target (faults.Stream fault)) p q = goes_then steady old mid new a b p q
+breaks_then steady old mid new a b (session.Target (faults.Protocol rule)) p q = goes_then steady old mid new a b p q
+breaks_then steady old mid new a b (session.Target faults.Closed) p q = goes_then steady old mid new a b p q
+breaks_then steady old mid new a b session.Read p q = q
+breaks_then steady old mid new a b session.Write p q = loses_then steady old mid new a p q
+
+is_over_more : (settings : Settings) (disk : Disk) (read more : List ℕ) → IsOver settings disk read → IsOver settings disk (read ++ more)
+is_over_more settings disk read more o = record {
+  front = o.front;
+  rest = o.rest ++ more;
+  split = ap (λ (x : List ℕ). x ++ more) o.split ∙ append_assoc o.front o.rest more;
+  messages = o.messages;
+  framing = o.framing;
+  taken = o.taken;
+  closed = o.closed;
+}
+
+-- no bytes change nothing
+goes_none : (steady : Type 0) (s : Service) → Goes steady s [] s
+goes_none steady s = λ settings first stream start up. subst (λ (x : List ℕ). ServedUpTo steady settings first x s.target s.store start s.contents s.waiting) (sym (append-nil stream)) up
+
+-- the answers that wait are written
+pub goes_written : (steady : Type 0) (old : Service) (bytes : List ℕ) (target : Connection) (store : Store) (contents now : Option (List ℕ)) (waiting : List ℕ)
+    → Goes steady old bytes (service target store contents waiting) → Appends contents now waiting → Goes steady old bytes (service target store now [])
+goes_written steady old bytes target store contents now waiting p wrote = λ settings first stream start up.
+    written_out steady settings first (stream ++ bytes) target store start contents now waiting (p settings first stream start up) wrote
+
+pub breaks_write : (steady : Type 0) (old new : Service) (bytes : List ℕ) (fault : SessionFault) → fault ≡ session.Write → Loses steady old new → Breaks steady old bytes fault new
+breaks_write steady old new bytes fault is lost = subst (λ (f : SessionFault). Breaks steady old bytes f new) (sym is) lost
+
+-- ---- a piece
+
+-- the bytes of a piece before the rest were served
+pub record PieceUpTo (steady : Type 0) (old : Service) (piece rest : List ℕ) (new : Service) : Type 0 where
+  pub front : List ℕ
+  pub parts : piece ≡ front ++ rest
+  pub goes : Goes steady old front new
+
+pub piece_start : (steady : Type 0) (s : Service) (piece : List ℕ) → PieceUpTo steady s piece piece s
+piece_start steady s piece = record { front = []; parts = refl; goes = goes_none steady s }
+
+pub piece_next : (steady : Type 0) (old mid new : Service) (piece rest : List ℕ) (n : ℕ) → PieceUpTo steady old piece rest mid → Goes steady mid (take n rest) new → PieceUpTo steady old piece (drop n rest) new
+piece_next steady old mid new piece rest n p q = record {
+  front = p.front ++ take n rest;
+  parts = taken_more piece p.front rest n p.parts;
+  goes = goes_then steady old mid new p.front (take n rest) p.goes q;
+}
+
+pub piece_breaks : (steady : Type 0) (old mid new : Service) (piece rest : List ℕ) (fault : SessionFault) → PieceUpTo steady old piece rest mid → Breaks steady mid rest fault new → Breaks steady old piece fault new
+piece_breaks steady old mid new piece rest fault p q = subst (λ (x : List ℕ). Breaks steady old x fault new) (sym p.parts) (breaks_then steady old mid new p.front rest fault p.goes q)
+
+pub piece_lost : (steady : Type 0) (old : Service) (piece rest : List ℕ) (target : Connection) (store : Store) (contents now : Option (List ℕ)) (waiting : List ℕ) (fault : SessionFault)
+    → PieceUpTo steady old piece rest (service target store contents waiting) → fault ≡ session.Write → WroteFront contents now waiting → Breaks steady old piece fault (service target store now [])
+piece_lost steady old piece rest target store contents now waiting fault p is front =
+    breaks_write steady old (service target store now []) piece fault is (λ settings first stream start up.
+    front_out steady settings first (stream ++ p.front) target store start contents now waiting (p.goes settings first stream start up) front)
+
+-- the whole piece was served, and the answers that waited were written
+pub piece_done : (steady : Type 0) (old : Service) (piece rest : List ℕ) (target : Connection) (store : Store) (contents now : Option (List ℕ)) (waiting : List ℕ)
+    → PieceUpTo steady old piece rest (service target store contents waiting) → length rest ≡ 0 → Appends contents now waiting → Goes steady old piece (service target store now [])
+piece_done steady old piece [] target store contents now waiting p none wrote =
+    subst (λ (x : List ℕ). Goes steady old x (service target store now [])) (sym (p.parts ∙ append-nil p.front)) (goes_written steady old p.front target store contents now waiting p.goes wrote)
+piece_done steady old piece (b ∷ rest) target store contents now waiting p none wrote = absurd (omega (arith, none))
+
+-- the session is over, and the rest of the piece is dropped
+pub piece_over : (steady : Type 0) (old : Service) (piece rest : List ℕ) (target : Connection) (store : Store) (contents now : Option (List ℕ)) (waiting : List ℕ)
+    → PieceUpTo steady old piece rest (service target store contents waiting) → is_closed target.machine ≡ true → Appends contents now waiting → Goes steady old piece (service target store now [])
+piece_over steady old piece rest target store contents now waiting p over wrote =
+    goes_written steady old piece target store contents now waiting
+    (subst (λ (x : List ℕ). Goes steady old x (service target store contents waiting)) (sym p.parts)
+    (goes_then steady old (service target store contents waiting) (service target store contents waiting) p.front rest p.goes
+    (λ settings first stream start up. rest_dropped steady settings first stream target store start contents waiting rest over up))) wrote
+
+pub piece_closes : (steady : Type 0) (old mid : Service) (piece rest : List ℕ) (n : ℕ) → PieceUpTo steady old piece rest mid → ClosesBy steady mid (take n rest) → ClosesBy steady old piece
+piece_closes steady old mid piece rest n p q = λ settings first stream start up h.
+    let ended : IsOver settings first.disk (((stream ++ p.front) ++ take n rest) ++ drop n rest) =
+    is_over_more settings first.disk ((stream ++ p.front) ++ take n rest) (drop n rest) (q settings first (stream ++ p.front) start (p.goes settings first stream start up) h) in
+    let all : ((stream ++ p.front) ++ take n rest) ++ drop n rest ≡ stream ++ piece =
+    append_assoc (stream ++ p.front) (take n rest) (drop n rest) ∙ ap (λ (x : List ℕ). (stream ++ p.front) ++ x) (take-append-drop n rest)
+    ∙ append_assoc stream p.front rest ∙ ap (λ (x : List ℕ). stream ++ x) (sym p.parts) in
+    subst (λ (x : List ℕ). IsOver settings first.disk x) all ended
 
 -- ---- how a session ends
 
--- where its pieces end
-pub stops : (steady : Type 0) (settings : Settings) (first : Store) (now : Connection) (store : Store) (r0 r1 w0 w1 : Option (List ℕ)) → ServedUpTo steady settings first now store r0 r1 w0 w1
+-- bytes were read, and served
+pub record ReadUpTo (steady : Type 0) (settings : Settings) (first : Store) (target : Connection) (store : Store) (remaining_old remaining_new contents_old contents_new : Option (List ℕ)) : Type 0 where
+  pub stream : List ℕ
+  pub consumed : Consumes remaining_old remaining_new stream
+  pub served : ServedUpTo steady settings first stream target store contents_old contents_new []
+
+pub read_start : (steady : Type 0) (settings : Settings) (first : Store) (a b : Option (List ℕ)) → ReadUpTo steady settings first (opening_connection settings 1) first a a b b
+read_start steady settings first a b = record { stream = []; consumed = Consumes-nil a; served = at_start steady settings first b }
+
+pub read_more : (steady : Type 0) (settings : Settings) (first : Store) (now new : Connection) (store after : Store) (r0 r1 r2 w0 w1 w2 : Option (List ℕ)) (piece : List ℕ)
+    → ReadUpTo steady settings first now store r0 r1 w0 w1 → Consumes r1 r2 piece → Goes steady (service now store w1 []) piece (service new after w2 []) → ReadUpTo steady settings first new after r0 r2 w0 w2
+read_more steady settings first now new store after r0 r1 r2 w0 w1 w2 piece up read goes =
+    record { stream = up.stream ++ piece; consumed = Consumes-trans r0 r1 r2 up.stream piece up.consumed read; served = goes settings first up.stream w0 up.served }
+
+-- all PDUs of what was read are answered
+all_served : (steady : Type 0) (settings : Settings) (first : Store) (stream : List ℕ) (now : Connection) (store : Store) (w0 w1 : Option (List ℕ)) → (up : ServedUpTo steady settings first stream now store w0 w1 [])
+    → IsInRange settings.preferences → steady → ServesAll settings first.disk stream store.disk up.sent
+all_served steady settings first stream now store w0 w1 up range h ms given rest s =
+    fed_any settings 1 first up.pieces now store up.sent ms given rest (omega (arith, range.max_recv.1))
+    (subst (λ (x : List ℕ). FedAll (opening_connection settings 1) first [] up.pieces now store x) (append-nil up.sent) (up.fed h))
+    (subst (λ (x : List ℕ). Splits longest_segment x ms given rest) up.whole s)
+
+pub stops : (steady : Type 0) (settings : Settings) (first : Store) (now : Connection) (store : Store) (r0 r1 w0 w1 : Option (List ℕ)) → ReadUpTo steady settings first now store r0 r1 w0 w1
     → Leaves r0 r1 w0 w1 (Given steady settings (λ read written. ServesAll settings first.disk read store.disk written))
-stops steady settings first now store r0 r1 w0 w1 up = (stream_of up.pieces, up.written, up.consumed, up.appended, all_served steady settings first now store r0 r1 w0 w1 up)
+stops steady settings first now store r0 r1 w0 w1 up = (up.stream, up.served.sent, up.consumed, up.served.appended, all_served steady settings first up.stream now store w0 w1 up.served)
 
 -- a read failed
-pub read_stops : (steady : Type 0) (settings : Settings) (first : Store) (now : Connection) (store : Store) (r0 r1 r2 w0 w1 : Option (List ℕ)) → ServedUpTo steady settings first now store r0 r1 w0 w1 → Keeps r1 r2
+pub read_stops : (steady : Type 0) (settings : Settings) (first : Store) (now : Connection) (store : Store) (r0 r1 r2 w0 w1 : Option (List ℕ)) → ReadUpTo steady settings first now store r0 r1 w0 w1 → Keeps r1 r2
     → Leaves r0 r2 w0 w1 (Given steady settings (λ read written. ServesAll settings first.disk read store.disk written))
 read_stops steady settings first now store r0 r1 r2 w0 w1 up kept =
-    (stream_of up.pieces, up.written, Consumes-kept r0 r1 r2 (stream_of up.pieces) up.consumed kept, up.appended, all_served steady settings first now store r0 r1 w0 w1 up)
+    stops steady settings first now store r0 r2 w0 w1 (record { stream = up.stream; consumed = Consumes-kept r0 r1 r2 up.stream up.consumed kept; served = up.served })
 
 -- the stream ended
-pub end_stops : (steady : Type 0) (settings : Settings) (first : Store) (now : Connection) (store : Store) (r0 r1 r2 w0 w1 : Option (List ℕ)) → ServedUpTo steady settings first now store r0 r1 w0 w1 → Consumes r1 r2 []
+pub end_stops : (steady : Type 0) (settings : Settings) (first : Store) (now : Connection) (store : Store) (r0 r1 r2 w0 w1 : Option (List ℕ)) → ReadUpTo steady settings first now store r0 r1 w0 w1 → Consumes r1 r2 []
     → Leaves r0 r2 w0 w1 (Given steady settings (λ read written. ServesAll settings first.disk read store.disk written))
-end_stops steady settings first now store r0 r1 r2 w0 w1 up read = (
-  stream_of up.pieces,
-  up.written,
-  subst (λ (x : List ℕ). Consumes r0 r2 x) (append-nil (stream_of up.pieces)) (Consumes-trans r0 r1 r2 (stream_of up.pieces) [] up.consumed read),
-  up.appended,
-  all_served steady settings first now store r0 r1 w0 w1 up,
-)
-
--- a write failed, of which nothing is said
-pub write_stops : (steady : Type 0) (settings : Settings) (first : Store) (now : Connection) (store : Store) (r0 r1 r2 w0 w1 w2 : Option (List ℕ)) (piece out : List ℕ) → ServedUpTo steady settings first now store r0 r1 w0 w1
-    → Consumes r1 r2 piece → WroteFront w1 w2 out
-    → Leaves r0 r2 w0 w2 (Given steady settings (λ read written. Unit {0}))
-write_stops steady settings first now store r0 r1 r2 w0 w1 w2 piece out up read front =
-    (stream_of up.pieces ++ piece, up.written ++ take front.0 out, Consumes-trans r0 r1 r2 (stream_of up.pieces) piece up.consumed read, Appends-trans w0 w1 w2 up.written (take front.0 out) up.appended front.1, λ range h. tt)
-
--- memory ran out, after which nothing is said either
-memory_stops : (steady : Type 0) (settings : Settings) (first : Store) (now : Connection) (store : Store) (r0 r1 r2 w0 w1 w2 : Option (List ℕ)) (piece out : List ℕ) → ServedUpTo steady settings first now store r0 r1 w0 w1
-    → Consumes r1 r2 piece → Appends w1 w2 out
-    → Leaves r0 r2 w0 w2 (Given steady settings (λ read written. Unit {0}))
-memory_stops steady settings first now store r0 r1 r2 w0 w1 w2 piece out up read wrote =
-    (stream_of up.pieces ++ piece, up.written ++ out, Consumes-trans r0 r1 r2 (stream_of up.pieces) piece up.consumed read, Appends-trans w0 w1 w2 up.written out up.appended wrote, λ range h. tt)
+end_stops steady settings first now store r0 r1 r2 w0 w1 up read =
+    stops steady settings first now store r0 r2 w0 w1 (record {
+      stream = up.stream;
+      consumed = subst (λ (x : List ℕ). Consumes r0 r2 x) (append-nil up.stream) (Consumes-trans r0 r1 r2 up.stream [] up.consumed read);
+      served = up.served;
+    })
 
 any_fault : (settings : Settings) (disk : Disk) (fault : TargetFault) (read : List ℕ) (disk_now : Disk) (written : List ℕ) → ServesAll settings disk read disk_now written
     → Serves settings disk (Err (session.Target fault)) read disk_now written
@@ -193,29 +373,39 @@ any_fault settings disk (faults.Protocol rule) read disk_now written a = a
 any_fault settings disk faults.Closed read disk_now written a = a
 
 -- the stream ended within a PDU
-pub finish_stops : (steady : Type 0) (settings : Settings) (fault : TargetFault) (first : Store) (now : Connection) (store : Store) (r0 r1 r2 w0 w1 : Option (List ℕ)) → ServedUpTo steady settings first now store r0 r1 w0 w1 → Consumes r1 r2 []
+pub finish_stops : (steady : Type 0) (settings : Settings) (fault : TargetFault) (first : Store) (now : Connection) (store : Store) (r0 r1 r2 w0 w1 : Option (List ℕ)) → ReadUpTo steady settings first now store r0 r1 w0 w1 → Consumes r1 r2 []
     → Leaves r0 r2 w0 w1 (Given steady settings (λ read written. Serves settings first.disk (Err (session.Target fault)) read store.disk written))
 finish_stops steady settings fault first now store r0 r1 r2 w0 w1 up read =
     let s = end_stops steady settings first now store r0 r1 r2 w0 w1 up read in (s.0, s.1, s.2, s.3, λ range h. any_fault settings first.disk fault s.0 store.disk s.1 (s.4 range h))
 
--- a fault that a call of feed answers
-pub fault_stops : (steady : Type 0) (settings : Settings) (fault : TargetFault) (first : Store) (now new : Connection) (store after : Store) (r0 r1 r2 w0 w1 w2 : Option (List ℕ)) (piece out : List ℕ)
-    → ServedUpTo steady settings first now store r0 r1 w0 w1 → Consumes r1 r2 piece → Fed now store [] piece (Err fault) new after out → (steady → after.failures ≡ store.failures) → Appends w1 w2 out
-    → Leaves r0 r2 w0 w2 (Given steady settings (λ read written. Serves settings first.disk (Err (session.Target fault)) read after.disk written))
-fault_stops steady settings faults.NoMemory first now new store after r0 r1 r2 w0 w1 w2 piece out up read one same wrote = memory_stops steady settings first now store r0 r1 r2 w0 w1 w2 piece out up read wrote
-fault_stops steady settings (faults.Stream fault) first now new store after r0 r1 r2 w0 w1 w2 piece out up read one same wrote =
-    stops steady settings first new after r0 r2 w0 w2 (served_more steady settings first now new store after r0 r1 r2 w0 w1 w2 piece out (Err (faults.Stream fault)) up read one (λ h. record { memory = λ e. cc; device = same h }) wrote)
-fault_stops steady settings (faults.Protocol rule) first now new store after r0 r1 r2 w0 w1 w2 piece out up read one same wrote =
-    stops steady settings first new after r0 r2 w0 w2 (served_more steady settings first now new store after r0 r1 r2 w0 w1 w2 piece out (Err (faults.Protocol rule)) up read one (λ h. record { memory = λ e. cc; device = same h }) wrote)
-fault_stops steady settings faults.Closed first now new store after r0 r1 r2 w0 w1 w2 piece out up read one same wrote =
-    stops steady settings first new after r0 r2 w0 w2 (served_more steady settings first now new store after r0 r1 r2 w0 w1 w2 piece out (Err faults.Closed) up read one (λ h. record { memory = λ e. cc; device = same h }) wrote)
+-- a session that ends by a fault
+loses : (steady : Type 0) (settings : Settings) (first : Store) (now new : Connection) (store after : Store) (r0 r1 r2 w0 w1 w2 : Option (List ℕ)) (piece waiting : List ℕ) → ReadUpTo steady settings first now store r0 r1 w0 w1
+    → Consumes r1 r2 piece → Loses steady (service now store w1 []) (service new after w2 waiting) → Leaves r0 r2 w0 w2 (Given steady settings (λ read written. Unit {0}))
+loses steady settings first now new store after r0 r1 r2 w0 w1 w2 piece waiting up read lost =
+    let l = lost settings first up.stream w0 up.served in (up.stream ++ piece, l.0, Consumes-trans r0 r1 r2 up.stream piece up.consumed read, l.1, λ range h. tt)
 
--- a phase that a call of feed answers
-pub phase_more : (steady : Type 0) (settings : Settings) (phase : Phase) (first : Store) (now new : Connection) (store after : Store) (r0 r1 r2 w0 w1 w2 : Option (List ℕ)) (piece out : List ℕ)
-    → ServedUpTo steady settings first now store r0 r1 w0 w1 → Consumes r1 r2 piece → Fed now store [] piece (Ok phase) new after out → (steady → after.failures ≡ store.failures) → Appends w1 w2 out
-    → ServedUpTo steady settings first new after r0 r2 w0 w2
-phase_more steady settings phase first now new store after r0 r1 r2 w0 w1 w2 piece out up read one same wrote =
-    served_more steady settings first now new store after r0 r1 r2 w0 w1 w2 piece out (Ok phase) up read one (λ h. record { memory = λ e. cc; device = same h }) wrote
+pub fault_stops : (steady : Type 0) (settings : Settings) (fault : SessionFault) (first : Store) (now new : Connection) (store after : Store) (r0 r1 r2 w0 w1 w2 : Option (List ℕ)) (piece : List ℕ)
+    → ReadUpTo steady settings first now store r0 r1 w0 w1 → Consumes r1 r2 piece → Breaks steady (service now store w1 []) piece fault (service new after w2 [])
+    → Leaves r0 r2 w0 w2 (Given steady settings (λ read written. Serves settings first.disk (Err fault) read after.disk written))
+fault_stops steady settings (session.Target faults.NoMemory) first now new store after r0 r1 r2 w0 w1 w2 piece up read lost = loses steady settings first now new store after r0 r1 r2 w0 w1 w2 piece [] up read lost
+fault_stops steady settings (session.Target (faults.Stream fault)) first now new store after r0 r1 r2 w0 w1 w2 piece up read goes =
+    stops steady settings first new after r0 r2 w0 w2 (read_more steady settings first now new store after r0 r1 r2 w0 w1 w2 piece up read goes)
+fault_stops steady settings (session.Target (faults.Protocol rule)) first now new store after r0 r1 r2 w0 w1 w2 piece up read goes =
+    stops steady settings first new after r0 r2 w0 w2 (read_more steady settings first now new store after r0 r1 r2 w0 w1 w2 piece up read goes)
+fault_stops steady settings (session.Target faults.Closed) first now new store after r0 r1 r2 w0 w1 w2 piece up read goes =
+    stops steady settings first new after r0 r2 w0 w2 (read_more steady settings first now new store after r0 r1 r2 w0 w1 w2 piece up read goes)
+fault_stops steady settings session.Read first now new store after r0 r1 r2 w0 w1 w2 piece up read broken = absurd broken
+fault_stops steady settings session.Write first now new store after r0 r1 r2 w0 w1 w2 piece up read lost = loses steady settings first now new store after r0 r1 r2 w0 w1 w2 piece [] up read lost
+
+-- the blocks are those that commands left
+pub fault_executed : (steady : Type 0) (settings : Settings) (fault : SessionFault) (first : Store) (now new : Connection) (store after : Store) (r0 r1 w0 w1 w2 : Option (List ℕ)) (piece : List ℕ)
+    → ReadUpTo steady settings first now store r0 r1 w0 w1 → Breaks steady (service now store w1 []) piece fault (service new after w2 []) → HasExecuted first.disk after.disk
+fault_executed steady settings (session.Target faults.NoMemory) first now new store after r0 r1 w0 w1 w2 piece up lost = (lost settings first up.stream w0 up.served).2
+fault_executed steady settings (session.Target (faults.Stream fault)) first now new store after r0 r1 w0 w1 w2 piece up goes = (goes settings first up.stream w0 up.served).executed
+fault_executed steady settings (session.Target (faults.Protocol rule)) first now new store after r0 r1 w0 w1 w2 piece up goes = (goes settings first up.stream w0 up.served).executed
+fault_executed steady settings (session.Target faults.Closed) first now new store after r0 r1 w0 w1 w2 piece up goes = (goes settings first up.stream w0 up.served).executed
+fault_executed steady settings session.Read first now new store after r0 r1 w0 w1 w2 piece up broken = absurd broken
+fault_executed steady settings session.Write first now new store after r0 r1 w0 w1 w2 piece up lost = (lost settings first up.stream w0 up.served).2
 
 -- ---- a session that is closed
 
@@ -278,26 +468,42 @@ over_by phase settings disk stream piece now new store after written all h f ove
       closed = sym (ap is_closed t.machine) ∙ sym (ap is_closed_phase f.ends.2) ∙ over;
     }
 
-closed_answers_no_phase : (phase : Phase) → (let r : Result Phase TargetFault = Ok phase in r ≡ Err faults.Closed) → ⊥
-closed_answers_no_phase phase e = absurd cc
+ok_is_no_fault : (done : ℕ × Phase) → (let r : Result (ℕ × Phase) TargetFault = Ok done in r ≡ Err faults.Closed) → ⊥
+ok_is_no_fault done e = absurd cc
 
--- where a call of feed answers that the session is closed
-pub closes : (steady : Type 0) (phase : Phase) (settings : Settings) (first : Store) (now new : Connection) (store after : Store) (r0 r1 r2 w0 w1 : Option (List ℕ)) (piece out : List ℕ)
-    → ServedUpTo steady settings first now store r0 r1 w0 w1 → Consumes r1 r2 piece → Fed now store [] piece (Ok phase) new after out → is_closed_phase phase ≡ true → (steady → after.failures ≡ store.failures)
-    → steady → EndsWell settings first.disk r0 r2
-closes steady phase settings first now new store after r0 r1 r2 w0 w1 piece out up read one over same s =
-    elim (either (is_closed now.machine)) [
-      | inl c ↦
-          let stays : Stays now store [] (Ok phase) new after out = subst (λ (b : Bool). FedIf b now store [] piece (Ok phase) new after out) c one in
-          absurd (closed_answers_no_phase phase stays.result_is)
+-- where a call of feed_next answers that the session is closed
+pub next_closes : (steady : Type 0) (old new : Connection) (before after : Store) (contents : Option (List ℕ)) (out piece written : List ℕ) (done : ℕ × Phase)
+    → FedNext old before out piece (Ok done) new after written → (steady → after.failures ≡ before.failures) → is_closed_phase done.1 ≡ true
+    → ClosesBy steady (service old before contents out) (take done.0 piece)
+next_closes steady old new before after contents out piece written done f same over = λ settings first stream start up h.
+    let fed : Fed old before out (take done.0 piece) (Ok done.1) new after written = next_is (is_closed old.machine) old new before after out piece written done f in
+    elim (either (is_closed old.machine)) [
+      | inl c ↦ absurd (ended_twice c f)
       | inr live ↦
-          let h : HasAnswered settings 1 first.disk (stream_of up.pieces) now store.disk up.written =
-          live_answered settings first.disk [] up.pieces (opening_connection settings 1) now first store [] up.written (at_first settings first.disk) (up.fed s) live in
-          let f : Feeds now store up.written piece (Ok phase) new after (up.written ++ out) =
-          subst (λ (b : Bool). FedIf b now store up.written piece (Ok phase) new after (up.written ++ out)) live
-          (fed_behind (is_closed now.machine) now new store after up.written piece out (Ok phase) one) in
-          inr (stream_of up.pieces ++ piece, Consumes-trans r0 r1 r2 (stream_of up.pieces) piece up.consumed read, over_by phase settings first.disk (stream_of up.pieces) piece now new store after up.written (up.written ++ out) h f over (same s))
+          let has : HasAnswered settings 1 first.disk (stream_of up.pieces) old before.disk (up.sent ++ out) =
+          live_answered settings first.disk [] up.pieces (opening_connection settings 1) old first before [] (up.sent ++ out) (at_first settings first.disk) (up.fed h) live in
+          let one : Feeds old before (up.sent ++ out) (take done.0 piece) (Ok done.1) new after (up.sent ++ written) =
+          subst (λ (b : Bool). FedIf b old before (up.sent ++ out) (take done.0 piece) (Ok done.1) new after (up.sent ++ written)) live
+          (fed_behind (is_closed old.machine) old new before after up.sent (take done.0 piece) out written (Ok done.1) fed) in
+          subst (λ (x : List ℕ). IsOver settings first.disk (x ++ take done.0 piece)) (sym up.whole)
+          (over_by done.1 settings first.disk (stream_of up.pieces) (take done.0 piece) old new before after (up.sent ++ out) (up.sent ++ written) has one over (same h))
     ]
+  where
+    ended_twice : is_closed old.machine ≡ true → FedNext old before out piece (Ok done) new after written → ⊥
+    ended_twice c g = ok_is_no_fault done (subst (λ (b : Bool). FedNextIf b old before out piece (Ok done) new after written) c g).0
+
+pub next_is_closed : (b : Bool) (old new : Connection) (before after : Store) (out piece written : List ℕ) (done : ℕ × Phase)
+    → FedNextIf b old before out piece (Ok done) new after written → is_closed_phase done.1 ≡ true → is_closed new.machine ≡ true
+next_is_closed true old new before after out piece written done f over = absurd cc
+next_is_closed false old new before after out piece written done f over = ap is_closed f.fed.ends.1 ∙ sym (ap is_closed_phase f.fed.ends.2) ∙ over
+
+pub over_ends : (steady : Type 0) (settings : Settings) (first : Store) (now : Connection) (store : Store) (r0 r1 r2 w0 w1 : Option (List ℕ)) (piece : List ℕ)
+    → ReadUpTo steady settings first now store r0 r1 w0 w1 → Consumes r1 r2 piece → ClosesBy steady (service now store w1 []) piece → steady → EndsWell settings first.disk r0 r2
+over_ends steady settings first now store r0 r1 r2 w0 w1 piece up read closes h =
+    inr (up.stream ++ piece, Consumes-trans r0 r1 r2 up.stream piece up.consumed read, closes settings first up.stream w0 up.served h)
+
+pub ok_is : (b : Bool) → b ≡ true → (let r : Result Bool SessionFault = Ok b in let s : Result Bool SessionFault = Ok true in r ≡ s)
+ok_is b e = ap (λ (x : Bool). (let r : Result Bool SessionFault = Ok x in r)) e
 
 -- ---- over a socket
 

@@ -1,4 +1,5 @@
 pub mod Session
+pub mod SessionSteps
 pub mod Serving
 pub mod Commands
 pub mod Script

@@ -20,6 +20,7 @@ use crate::session::{FIRST_STAT_SN, TARGET_NAME, configuration};
 use crate::wire::Wire;
 use iscsi_initiator::{Config, Done, Initiator, InitiatorFault, SubmitFault};
 use iscsi_login::{Auth, Offers, Phase, Preferences, Session, Stage};
+use iscsi_pdu::LOGIN_SEGMENT;
 use iscsi_stream::write_fully;
 use iscsi_target::Target;
 use scsi_disk::SparseStore;
@@ -35,8 +36,6 @@ const INITIATOR_NAME: &[u8] = b"iqn.2026-01.example:host";
 const ISID: [u8; 6] = [0x40, 0, 0, 1, 0, 0];
 /// The CmdSN of the login and of the first request (own rule).
 const FIRST_CMD_SN: u32 = 1;
-/// The most bytes of one segment of a login text (own rule).
-const LOGIN_SEGMENT: u32 = 8192;
 /// How often one end answers the other before the connection counts as failed (own rule).
 const TURNS: u32 = 16_777_216;
 

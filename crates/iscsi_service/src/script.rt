@@ -12,6 +12,7 @@ use crate::command::Command;
 use crate::serve_fault::ServeFault;
 use hex::{FromHex, FromHexError};
 use iscsi_stream::{PIECE, READS};
+use iscsi_text::split_at_byte;
 use scsi_cdb::Bytes;
 use std::alloc::{AllocError, Global};
 use std::io::Read;
@@ -141,15 +142,6 @@ fn parted(bytes: &[u8], byte: u8) -> (&[u8], Option<&[u8]>)
         Some((front, behind)) => (front, Some(behind)),
         None => (bytes, None),
     }
-}
-
-// What stands before the first such byte, and what behind it.
-fn split_at_byte(bytes: &[u8], byte: u8) -> Option<(&[u8], &[u8])>
-    ensures found { IfSome result (λ parts. SplitsAt bytes.now byte parts.0.now parts.1.now) }
-    ensures none { IfNone result (HasNo byte bytes.now) }
-{
-    let at = bytes.iter().position(|b| *b == byte)?;
-    Some((&bytes[..at], &bytes[at + 1..]))
 }
 
 // The command that a line means.

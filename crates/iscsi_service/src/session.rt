@@ -1,10 +1,14 @@
 //! A target's session over a stream (RFC 7143, sections 6 and 11).
 
-ghost use Rattle.std.specs.Prelude.{◌≡◌, ℕ, List, IfOk, OnOk};
+ghost use Rattle.std.specs.Prelude.{◌≡◌, ◌≤◌, ◌<◌, ℕ, List, [], true, length, take, Ok, IfOk, IfErr, OnOk};
 ghost use Rattle.std.specs.Io.KnownBytes.{Appends, Consumes};
 ghost use Rattle.iscsi_login.specs.Negotiation.{IsInRange};
-ghost use Rattle.iscsi_target.specs.Machine.{is_closed_phase};
+ghost use Rattle.iscsi_login.specs.Stage.{is_closed_phase};
+ghost use Rattle.iscsi_stream.specs.Normalising.{WroteFront};
+ghost use Rattle.iscsi_target.specs.Machine.{is_closed};
+ghost use Rattle.iscsi_target.specs.Inside.{store_of};
 ghost use Rattle.iscsi_service.specs.Session.{target_settings, EndsWell, HasExecuted, NeverFails, Serves};
+ghost use Rattle.iscsi_service.specs.SessionSteps.{Goes, ClosesBy, Breaks, service};
 
 use iscsi_login::{Phase, Preferences};
 use iscsi_stream::{PIECE, READS, write_fully};
@@ -21,6 +25,8 @@ const GROUP: u16 = 1;
 const TSIH: u16 = 1;
 /// The StatSN of the first answer (own rule).
 pub(crate) const FIRST_STAT_SN: u32 = 1;
+/// So many bytes of answers may wait while the PDUs of a read are answered (own rule).
+const MOST_WAITING: usize = 65_536;
 
 /// What the target of the programs is configured with: its name, portal group 1, TSIH 1, and the
 /// standard preferences of `iscsi_login` (own rule). The only error is that memory ran out.
@@ -43,8 +49,9 @@ pub enum SessionFault {
 }
 
 /// Runs the session of a target with a store over a stream: takes what a reader gives, in reads of
-/// at most 4,096 bytes, and writes the answers; what one read leads to goes out in one write. It
-/// stops where the session is closed, by a logout or a refused login, and where the stream ends.
+/// at most 4,096 bytes, and writes the answers, as soon as more than 65,536 bytes of them wait and at
+/// the end of each read. It stops where the session is closed, by a logout or a refused login, and
+/// where the stream ends.
 ///
 /// What is written are the answers to all PDUs of what was read, and the store has the blocks that
 /// they leave, but after want of memory and a failed write. Answers `Target` where the stream ends
@@ -85,20 +92,97 @@ pub fn serve_stream<S: BlockStore, R: Read, W: Write>(
             }
             return Ok(());
         }
-        out.clear();
-        let fed = target.feed(&buffer[..n], store, &mut out);
-        if let Err(_) = write_fully(w, &out) {
-            return Err(SessionFault::Write);
-        }
-        let phase = match fed {
-            Ok(phase) => phase,
-            Err(fault) => return Err(SessionFault::Target(fault)),
-        };
-        if is_over(phase) {
+        if serve_piece(&mut target, &buffer[..n], store, &mut out, w)? {
             return Ok(());
         }
     }
     Err(SessionFault::Read)
+}
+
+// Answers the PDUs of a piece, and writes their answers. Says whether the session is over.
+fn serve_piece<S: BlockStore, W: Write>(
+    target: &mut Target,
+    piece: &[u8],
+    store: &mut S,
+    out: &mut Vec<u8>,
+    w: &mut W,
+) -> Result<bool, SessionFault>
+    ensures goes { OnOk result (Goes (NeverFails S.failures)
+        (service target.old (store_of (S.disk store.old) (S.failures store.old)) (W.contents w.old) [])
+        piece.now
+        (service target.new (store_of (S.disk store.new) (S.failures store.new)) (W.contents w.new) [])) }
+    ensures closes { result ≡ Ok true → ClosesBy (NeverFails S.failures)
+        (service target.old (store_of (S.disk store.old) (S.failures store.old)) (W.contents w.old) [])
+        piece.now }
+    ensures err { IfErr result (λ fault. Breaks (NeverFails S.failures)
+        (service target.old (store_of (S.disk store.old) (S.failures store.old)) (W.contents w.old) [])
+        piece.now fault
+        (service target.new (store_of (S.disk store.new) (S.failures store.new)) (W.contents w.new) [])) }
+{
+    out.clear();
+    let mut rest = piece;
+    while !rest.is_empty() {
+        let (taken, phase) = serve_next(target, rest, store, out, w)?;
+        rest = &rest[taken..];
+        if is_over(phase) {
+            write_out(out, w)?;
+            return Ok(true);
+        }
+    }
+    write_out(out, w)?;
+    Ok(false)
+}
+
+// Answers the next PDU of a piece. The answers that wait are written where they are too many, and
+// where the session ends by a fault.
+fn serve_next<S: BlockStore, W: Write>(
+    target: &mut Target,
+    piece: &[u8],
+    store: &mut S,
+    out: &mut Vec<u8>,
+    w: &mut W,
+) -> Result<(usize, Phase), SessionFault>
+    ensures bound { IfOk result (λ done. (done.0 ≤ length piece.now)
+        × (0 < length piece.now → 0 < done.0)) }
+    ensures goes { IfOk result (λ done. Goes (NeverFails S.failures)
+        (service target.old (store_of (S.disk store.old) (S.failures store.old)) (W.contents w.old) out.old.items)
+        (take done.0 piece.now)
+        (service target.new (store_of (S.disk store.new) (S.failures store.new)) (W.contents w.new) out.new.items)) }
+    ensures closes { IfOk result (λ done. is_closed_phase done.1 ≡ true
+        → (is_closed target.new.machine ≡ true) × ClosesBy (NeverFails S.failures)
+        (service target.old (store_of (S.disk store.old) (S.failures store.old)) (W.contents w.old) out.old.items)
+        (take done.0 piece.now)) }
+    ensures err { IfErr result (λ fault. Breaks (NeverFails S.failures)
+        (service target.old (store_of (S.disk store.old) (S.failures store.old)) (W.contents w.old) out.old.items)
+        piece.now fault
+        (service target.new (store_of (S.disk store.new) (S.failures store.new)) (W.contents w.new) [])) }
+{
+    match target.feed_next(piece, store, out) {
+        Ok(done) => {
+            if out.len() > MOST_WAITING {
+                write_out(out, w)?;
+            }
+            Ok(done)
+        }
+        Err(fault) => {
+            write_out(out, w)?;
+            Err(SessionFault::Target(fault))
+        }
+    }
+}
+
+// Writes the answers that wait.
+fn write_out<W: Write>(out: &mut Vec<u8>, w: &mut W) -> Result<(), SessionFault>
+    ensures ok { OnOk result (Appends (W.contents w.old) (W.contents w.new) out.old.items) }
+    ensures none { OnOk result (out.new.items ≡ []) }
+    ensures err { IfErr result (λ fault. (fault ≡ SessionFault.Write)
+        × WroteFront (W.contents w.old) (W.contents w.new) out.old.items) }
+{
+    if let Err(_) = write_fully(w, out) {
+        return Err(SessionFault::Write);
+    }
+    out.clear();
+    Ok(())
 }
 
 // Whether a session is closed.

@@ -6,9 +6,9 @@ use Rattle.std.proofs.lemmas.List.{get_or-take, get_or_past, take-take, length-t
 use Rattle.scsi_cdb.specs.Layout.{number_at}
 use Rattle.iscsi_pdu.specs.declared.head.Head.{Head}
 use Rattle.iscsi_pdu.specs.declared.head.HeadFault.{HeadFault}
-use Rattle.iscsi_pdu.specs.Meaning.{IsHeader, Means, fault_of, is_login, opcode, whole}
+use Rattle.iscsi_pdu.specs.Meaning.{IsHeader, Means, fault_of, is_login, opcode, whole, AreBytes}
 use Rattle.iscsi_pdu.proofs.Headers.{IsHeader-room, IsHeader-reads, IsHeader-short, IsHeader-faultless, whole-means}
-use Rattle.iscsi_stream.specs.Stream.{AreBytes, pdu_len}
+use Rattle.iscsi_stream.specs.Stream.{pdu_len}
 use Rattle.iscsi_stream.specs.Framing.{length_at}
 
 -- ---- the length that a header says

@@ -2,7 +2,8 @@
 use Rattle.std.proofs.Common.{◌≡◌, ℕ, ◌*◌, ◌≤◌, false, List, ◌++◌, length, Option}
 use Rattle.std.specs.Io.KnownBytes.{Appends, Consumes}
 use Rattle.iscsi_stream.specs.declared.counts.Counts.{Counts}
-use Rattle.iscsi_stream.specs.Stream.{AreBytes, Message, longest_segment}
+use Rattle.iscsi_stream.specs.Stream.{Message, longest_segment}
+use Rattle.iscsi_pdu.specs.Meaning.{AreBytes}
 use Rattle.iscsi_stream.specs.Canonical.{canon}
 use Rattle.iscsi_stream.specs.Framing.{Framing, HasTaken, is_ready}
 use Rattle.iscsi_stream.specs.Passing.{PassesOn}

@@ -10,11 +10,11 @@ use Rattle.std.proofs.lemmas.List.{length-append, take-append-le, take_at, drop_
 use Rattle.std.proofs.lemmas.List.Concat.{flat_map-cons}
 use Rattle.iscsi_pdu.specs.declared.head.Head.{Head}
 use Rattle.iscsi_pdu.specs.declared.head.HeadFault.{HeadFault}
-use Rattle.iscsi_pdu.specs.Meaning.{IsHeader, Means, fault_of}
+use Rattle.iscsi_pdu.specs.Meaning.{IsHeader, Means, fault_of, AreBytes}
 use Rattle.iscsi_pdu.proofs.Headers.{IsHeader-unique}
 use Rattle.iscsi_stream.specs.declared.logins.Logins.{Logins}
 use Rattle.iscsi_stream.specs.Segment.{Segment, no_login, continues, after, is_last, text_or_bytes, segment_if, segment_of, segment_bytes}
-use Rattle.iscsi_stream.specs.Stream.{AreBytes, pdu_len, Message, Begins, ReadsAs, StreamMeans, after_all, NoPdu, Splits, longest_segment}
+use Rattle.iscsi_stream.specs.Stream.{pdu_len, Message, Begins, ReadsAs, StreamMeans, after_all, NoPdu, Splits, longest_segment}
 use Rattle.iscsi_stream.specs.Canonical.{canonical_bytes, canon}
 use Rattle.iscsi_stream.specs.Framing.{length_at, is_whole, IsBegun}
 use Rattle.iscsi_stream.proofs.Heads.{front-length, means-data, whole-again, bad_header}

@@ -13,7 +13,8 @@ use Rattle.iscsi_stream.specs.declared.fault.ToolFault.TheVariants as tool
 use Rattle.iscsi_stream.specs.declared.counts.Counts.{Counts}
 use Rattle.iscsi_stream.specs.Faults.{tool_fault}
 use Rattle.iscsi_stream.specs.Segment.{no_login}
-use Rattle.iscsi_stream.specs.Stream.{AreBytes, Message, StreamMeans, ReadsAs, longest_segment, Splits}
+use Rattle.iscsi_stream.specs.Stream.{Message, StreamMeans, ReadsAs, longest_segment, Splits}
+use Rattle.iscsi_pdu.specs.Meaning.{AreBytes}
 use Rattle.iscsi_stream.specs.Canonical.{canon, canonical_bytes}
 use Rattle.iscsi_stream.specs.Framing.{Framing, opening, is_ready, IsBegun, HasTaken, FinishFails}
 use Rattle.iscsi_stream.specs.Normalising.{RestFails, AreCounts, NormaliseFails, AtEnd, WroteFront}

@@ -6,14 +6,14 @@ use Rattle.std.proofs.lemmas.List.{length-append, take-append-drop, take_rest, n
 use Rattle.std.proofs.lemmas.List.Concat.{flat_map-cons, flat_map-append}
 use Rattle.iscsi_pdu.specs.declared.head.Head.{Head}
 use Rattle.iscsi_pdu.specs.declared.head.HeadFault.{HeadFault}
-use Rattle.iscsi_pdu.specs.Meaning.{IsHeader, Means, fault_of}
+use Rattle.iscsi_pdu.specs.Meaning.{IsHeader, Means, fault_of, AreBytes}
 use Rattle.iscsi_pdu.proofs.Headers.{IsHeader-short}
 use Rattle.iscsi_stream.specs.declared.fault.StreamFault.{StreamFault}
 use Rattle.iscsi_stream.specs.declared.fault.StreamFault.TheVariants as stream
 use Rattle.iscsi_stream.specs.declared.counts.Counts.{Counts}
 use Rattle.iscsi_stream.specs.Faults.{tool_fault}
 use Rattle.iscsi_stream.specs.Segment.{no_login}
-use Rattle.iscsi_stream.specs.Stream.{AreBytes, Message, longest_segment, Splits, ReadsAs}
+use Rattle.iscsi_stream.specs.Stream.{Message, longest_segment, Splits, ReadsAs}
 use Rattle.iscsi_stream.specs.Canonical.{canon, canonical_bytes}
 use Rattle.iscsi_stream.specs.Framing.{Framing, is_whole, is_ready, settled, Takes, FeedFails, HasTaken, Moves, given_up, message_of, last_place}
 use Rattle.iscsi_stream.specs.Passing.{PassesOn, Counted, Appended, PassFails}

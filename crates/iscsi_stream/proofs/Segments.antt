@@ -1,5 +1,5 @@
 -- What a segment means, by the reading of its text.
-use Rattle.std.proofs.Common.{◌≡◌, ℕ, Bool, true, false, List, Option, Some, None, Result, Ok, Err, refl}
+use Rattle.std.proofs.Common.{◌≡◌, ℕ, Bool, true, false, List, Option, Some, None, Result, Ok, Err, refl, sym}
 use Rattle.std.specs.Prelude.{not, ◌&&◌, IfOk, OnOk}
 use Rattle.iscsi_text.specs.declared.fault.TextFault.{TextFault}
 use Rattle.iscsi_text.specs.declared.fault.TextFault.TheVariants.{NoMemory}
@@ -19,14 +19,11 @@ pub segment_whole : (c : Bool) (h : Head) (d : List ℕ) (r : Option Pairs) → 
 unfolding segment_of
 segment_whole c h d r first last read = rw (first, last, read) refl
 
-pub segment_text : (c : Bool) (h : Head) (d : List ℕ) (m : Pairs) → c ≡ false → is_last h ≡ true → TextMeans d m → Text m ≡ segment_of c h d
-segment_text c h d m first last means = segment_whole c h d (Some m) first last ((reading_some d m).1 means)
-
--- bytes that were refused
-pub segment_refused : {E : Type 0} (c : Bool) (h : Head) (d : List ℕ) (fault : TextFault) (r : Result (Option Pairs) E) → c ≡ false → is_last h ≡ true
-    → ((fault ≡ NoMemory → ⊥) → (m : Pairs) → TextMeans d m → ⊥) → IfOk r (λ text. text ≡ None) → OnOk r (fault ≡ NoMemory → ⊥) → IfOk r (λ text. text_or_bytes text d ≡ segment_of c h d)
-segment_refused c h d fault (Ok text) first last never none other = rw none (segment_whole c h d None first last ((reading_none d).1 (never other)))
-segment_refused c h d fault (Err e) first last never none other = tt
+-- a segment that was read as a text, if it is one
+pub segment_read : {E : Type 0} (c : Bool) (h : Head) (d : List ℕ) (r : Result (Option Pairs) E) → c ≡ false → is_last h ≡ true → IfOk r (λ text. text ≡ text_in d)
+    → IfOk r (λ text. text_or_bytes text d ≡ segment_of c h d)
+segment_read c h d (Ok text) first last means = segment_whole c h d text first last (sym means)
+segment_read c h d (Err e) first last means = tt
 
 -- a PDU that continues another, or is continued, has no whole text
 pub none_whole : ((c last : Bool) → c ≡ true → (not c && last) ≡ false) × ((c last : Bool) → last ≡ false → (not c && last) ≡ false)

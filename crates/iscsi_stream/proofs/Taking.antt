@@ -1,6 +1,6 @@
 -- A framer that takes bytes and gives PDUs up, whichever pieces the bytes came in.
-use Rattle.std.proofs.Common.{◌≡◌, ℕ, ◌≤◌, Bool, false, List, [], ◌∷◌, ◌++◌, length, take, refl, sym, ap, subst, ◌∙◌, arith, append-nil, append_assoc}
-use Rattle.std.proofs.lemmas.List.{length-append}
+use Rattle.std.proofs.Common.{◌≡◌, ℕ, ◌≤◌, Bool, false, List, [], ◌∷◌, ◌++◌, length, take, drop, refl, sym, ap, subst, ◌∙◌, arith, append-nil, append_assoc}
+use Rattle.std.proofs.lemmas.List.{length-append, take-append-drop}
 use Rattle.iscsi_pdu.specs.declared.head.Head.{Head}
 use Rattle.iscsi_pdu.specs.Meaning.{Means}
 use Rattle.iscsi_stream.specs.declared.logins.Logins.{Logins}
@@ -87,3 +87,11 @@ splits_taken s ms v t part = record {
   reads = t.reads;
   no_more = no_pdu_begun v.limit t.rest t.begun (sym (is_whole-settled t.rest) ∙ ap is_whole (sym t.held) ∙ part);
 }
+
+-- ---- bytes that complete no PDU
+
+pub taken_more : (piece front rest : List ℕ) (n : ℕ) → piece ≡ front ++ rest → piece ≡ (front ++ take n rest) ++ drop n rest
+taken_more piece front rest n e = e ∙ ap (λ (x : List ℕ). front ++ x) (sym (take-append-drop n rest)) ∙ sym (append_assoc front (take n rest) (drop n rest))
+
+pub moves_taken : (a b c : Framing) (x : List ℕ) (n : ℕ) (rest : List ℕ) (ms : List Message) → Moves a b x ms → Takes b rest n c → Moves a c (x ++ take n rest) ms
+moves_taken a b c x n rest ms p t = subst (λ (ks : List Message). Moves a c (x ++ take n rest) ks) (append-nil ms) (moves_then a b c x (take n rest) ms [] p (moves_fed b rest n c t))

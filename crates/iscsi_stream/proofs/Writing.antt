@@ -3,6 +3,9 @@ use Rattle.std.proofs.Common.{◌≡◌, ℕ, ◌-◌, List, [], ◌++◌, lengt
 use Rattle.std.specs.Io.KnownBytes.{Appends, Keeps}
 use Rattle.std.proofs.KnownBytes.{Appends-trans, Appends-kept}
 use Rattle.std.proofs.lemmas.List.{take_rest, take-append-drop, take_at}
+use Rattle.std.proofs.lemmas.List.Concat.{flat_map-append}
+use Rattle.iscsi_stream.specs.Stream.{Message}
+use Rattle.iscsi_stream.specs.Canonical.{canonical_bytes, canon}
 use Rattle.iscsi_stream.specs.Normalising.{WroteFront}
 use Rattle.iscsi_stream.proofs.Loops.{WroteUpTo}
 
@@ -22,3 +25,6 @@ pub wrote_none : (bytes rest : List ℕ) (a b c : Option (List ℕ)) → WroteUp
 wrote_none bytes rest a b c w more =
     let front : take (length w.before) bytes ≡ w.before = ap (take (length w.before)) w.parts ∙ take_at w.before rest (length w.before) refl in
     (length w.before, subst (Appends a c) (append-nil w.before ∙ sym front) (Appends-trans a b c w.before [] w.written more))
+
+pub canon_append : (a b : List Message) → canon (a ++ b) ≡ canon a ++ canon b
+canon_append a b = flat_map-append canonical_bytes a b

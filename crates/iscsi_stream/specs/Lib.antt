@@ -1,11 +1,12 @@
-pub mod Segment
-pub mod Stream
 pub mod Canonical
+pub mod Faults
 pub mod Framing
 pub mod Gathering
-pub mod Faults
 pub mod Input
-pub mod Texts
 pub mod Normalising
 pub mod Passing
+pub mod Pieces
 pub mod Runs
+pub mod Segment
+pub mod Stream
+pub mod Texts

@@ -4,7 +4,8 @@ use Rattle.iscsi_stream.specs.declared.fault.StreamFault.TheVariants as stream
 use Rattle.iscsi_stream.specs.declared.fault.ToolFault.{ToolFault}
 use Rattle.iscsi_stream.specs.declared.fault.ToolFault.TheVariants as tool
 use Rattle.iscsi_stream.specs.declared.counts.Counts.{Counts}
-use Rattle.iscsi_stream.specs.Stream.{Message, AreBytes, longest_segment, NoPdu, Reaches}
+use Rattle.iscsi_stream.specs.Stream.{Message, longest_segment, NoPdu, Reaches}
+use Rattle.iscsi_pdu.specs.Meaning.{AreBytes}
 use Rattle.iscsi_stream.specs.Canonical.{canon}
 use Rattle.iscsi_stream.specs.Framing.{Framing, HasTaken, Moves, is_ready}
 use Rattle.iscsi_stream.specs.Normalising.{RestFails}

@@ -5,10 +5,6 @@ use Rattle.iscsi_pdu.specs.Meaning.{Means, padding}
 use Rattle.iscsi_stream.specs.declared.logins.Logins.{Logins}
 use Rattle.iscsi_stream.specs.Segment.{Segment, no_login, continues, after, segment_of}
 
--- each number is a byte
-abbrev pub AreBytes : List ℕ → Type 0
-AreBytes bytes = (i : ℕ) → slice_index bytes i < 256
-
 -- the length of a PDU whose segment has n bytes
 abbrev pub pdu_len : ℕ → ℕ
 pdu_len n = 48 + n + padding n

@@ -8,7 +8,7 @@ ghost use Rattle.iscsi_stream.specs.Stream.{message};
 ghost use Rattle.iscsi_stream.specs.Canonical.{canonical_header, canonical_bytes};
 
 use iscsi_pdu::{Head, Pdu, pad, write_head};
-use iscsi_text::{Text, TextFault};
+use iscsi_text::{Text, read_text};
 use std::alloc::{AllocError, Global};
 
 const PADDING: [u8; 3] = [0; 3];
@@ -39,21 +39,7 @@ pub fn text_of<'a>(
     if continued || !is_last(&pdu.head) {
         return Ok(None);
     }
-    match Text::read(alloc, pdu.bytes) {
-        Ok(text) => Ok(Some(text)),
-        Err(fault) => no_text(fault),
-    }
-}
-
-// What is left of a segment that was not read as a text.
-fn no_text<'a>(fault: TextFault) -> Result<Option<Text<'a>>, AllocError>
-    ensures ok { IfOk result (λ text. text ≡ None) }
-    ensures memory { OnOk result (fault ≡ TextFault.NoMemory → ⊥) }
-{
-    match fault {
-        TextFault::NoMemory => Err(AllocError),
-        _ => Ok(None),
-    }
+    read_text(alloc, pdu.bytes)
 }
 
 /// The header of a PDU's canonical form, with the length of its canonical segment. The PDU continues another login PDU

@@ -1,6 +1,6 @@
 //! Inputs that are read whole, up to a limit.
 
-ghost use Rattle.std.specs.Prelude.{◌≡◌, ◌≤◌, ◌<◌, ◌^◌, ◌⊎◌, ℕ, List, IfOk, IfErr, option_map};
+ghost use Rattle.std.specs.Prelude.{◌≡◌, ◌≤◌, ◌<◌, ◌^◌, ◌⊎◌, ℕ, List, drop, length, IfOk, IfErr, option_map};
 ghost use Rattle.std.specs.Io.KnownBytes.{Consumes, IsAtEnd};
 ghost use Rattle.iscsi_stream.specs.declared.fault.ToolFault.TheVariants as tool;
 ghost use Rattle.iscsi_stream.specs.Input.{ReadWithin};
@@ -41,4 +41,12 @@ pub fn read_within<R: Read>(
         bytes.extend_from_slice(&buffer[..n])?;
     }
     Err(ToolFault::Read)
+}
+
+/// Drops the first bytes of a buffer.
+pub fn drop_front(bytes: &mut Vec<u8>, count: usize)
+    requires { count ≤ length bytes.old.items }
+    ensures { bytes.new.items ≡ drop count bytes.old.items }
+{
+    bytes.drain(..count);
 }

@@ -4,10 +4,10 @@
 ghost use Rattle.std.specs.Prelude.{◌≡◌, ◌≤◌, ◌<◌, ◌++◌, ◌∷◌, [], ◌↔◌, ℕ, List, length, take, min, false, Some};
 ghost use Rattle.iscsi_pdu.specs.declared.head.Head.{Head};
 ghost use Rattle.iscsi_pdu.specs.declared.head.HeadFault.{HeadFault};
-ghost use Rattle.iscsi_pdu.specs.Meaning.{IsHeader, Means, fault_of};
+ghost use Rattle.iscsi_pdu.specs.Meaning.{IsHeader, Means, fault_of, AreBytes};
 ghost use Rattle.iscsi_stream.specs.declared.fault.StreamFault.TheVariants as faults;
 ghost use Rattle.iscsi_stream.specs.Segment.{no_login};
-ghost use Rattle.iscsi_stream.specs.Stream.{AreBytes, StreamMeans, ReadsAs, Message, longest_segment, Splits};
+ghost use Rattle.iscsi_stream.specs.Stream.{StreamMeans, ReadsAs, Message, longest_segment, Splits};
 ghost use Rattle.iscsi_stream.specs.Canonical.{canon};
 ghost use Rattle.iscsi_stream.specs.Framing.{Framing, opening, HasTaken, Takes, FeedFails, given_up, message_of, is_ready, last_place};
 ghost use Rattle.iscsi_stream.specs.Runs.{Call, Runs, bytes_of, messages_of};

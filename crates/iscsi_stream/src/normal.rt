@@ -2,7 +2,8 @@
 
 ghost use Rattle.std.specs.Prelude.{◌≡◌, ◌≤◌, ℕ, List, [], IfErr, OnOk, OnErr, false};
 ghost use Rattle.std.specs.Io.KnownBytes.{Appends, Consumes, IsAtEnd};
-ghost use Rattle.iscsi_stream.specs.Stream.{AreBytes, Message, longest_segment};
+ghost use Rattle.iscsi_stream.specs.Stream.{Message, longest_segment};
+ghost use Rattle.iscsi_pdu.specs.Meaning.{AreBytes};
 ghost use Rattle.iscsi_stream.specs.Framing.{is_ready};
 ghost use Rattle.iscsi_stream.specs.Normalising.{Normalises, AtEnd, WroteFront};
 ghost use Rattle.iscsi_stream.specs.Passing.{PassesOn, Appended, PassFails};

@@ -5,7 +5,6 @@ use Rattle.std.specs.List.{AllByRecursion}
 use Rattle.std.proofs.lemmas.List.{append-nil, map-append}
 use Rattle.std.proofs.lemmas.Grind.{flat_map-append}
 use Rattle.scsi_disk.specs.Disk.{Disk}
-use Rattle.scsi_disk.specs.Effect.{effect}
 use Rattle.iscsi_pdu.specs.declared.head.Head.{Head}
 use Rattle.iscsi_pdu.specs.declared.head.Head.TheVariants.{NopOut, ScsiCommand, TaskRequest, TextRequest, LogoutRequest}
 use Rattle.iscsi_pdu.specs.declared.head.scsi_command.ScsiCommand.{ScsiCommand as Command}
@@ -15,11 +14,12 @@ use Rattle.iscsi_stream.specs.Stream.{Message}
 use Rattle.iscsi_stream.proofs.Ready.{apart}
 use Rattle.iscsi_login.specs.Held.{first_burst}
 use Rattle.iscsi_target.specs.Configured.{Settings}
-use Rattle.iscsi_target.specs.State.{Machine, Write, Execution, Stepped, Reply, on, nothing, opening, max_cmd_sn, is_within}
+use Rattle.iscsi_target.specs.State.{Machine, Write, Execution, Stepped, Reply, on, nothing, opening, max_cmd_sn}
+use Rattle.iscsi_pdu.specs.Serial.{is_within}
 use Rattle.iscsi_target.specs.Rejecting.{breach}
 use Rattle.iscsi_target.specs.Login.{login_step}
 use Rattle.iscsi_target.specs.Transfer.{is_whole, is_idle, taken, with_data, is_in_sequence, received}
-use Rattle.iscsi_target.specs.Execution.{Device, execute}
+use Rattle.iscsi_target.specs.Execution.{Device, execute, reliable}
 use Rattle.iscsi_target.specs.Command.{proceed, order_of, opened}
 use Rattle.iscsi_target.specs.Machine.{step, step_on, answers, then_stepped, is_closed, accepting}
 use Rattle.iscsi_target.specs.Laws.{Task, task_in, tasks_in, task_of, tasks_done, task_open, cmd_sn_of, FitsNumber, HasCmdSn, AreInOrder}
@@ -204,11 +204,11 @@ unfolding answers
 answers_queue s disk [] lt all = record { more = task_open s.write; order = append-nil (task_open s.write); few = open_few s.write; open_write = λ f. refl }
 answers_queue s disk (m ∷ ms) lt all =
     let first : Stepped = step s disk m in
-    let q : Queues s.write first = step_order effect disk s m lt all.0 in
+    let q : Queues s.write first = step_order reliable disk s m lt all.0 in
     by_cases (is_closed first.machine)
     (λ e. subst (λ (r : Stepped). Queues s.write (then_stepped first r)) (sym (closed_answers first.machine first.disk ms e)) (closed_queues s.write first first.disk q e))
     (λ e. open_queues s.write first (answers first.machine first.disk ms) q e
-    (answers_queue first.machine first.disk ms ((step_tells effect disk s m).fits lt all.0.login) all.1))
+    (answers_queue first.machine first.disk ms ((step_tells reliable disk s m).fits lt all.0.login) all.1))
 
 pub opening_in_order : (settings : Settings) (n : ℕ) (disk : Disk) (ms : List Message) → AllByRecursion HasCmdSn ms → AreInOrder (answers (opening settings n) disk ms)
 opening_in_order settings n disk ms all =

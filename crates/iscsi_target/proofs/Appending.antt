@@ -29,15 +29,17 @@ answers_append s disk (m ∷ ms) more =
     ap (λ (r : Stepped). then_stepped first r) (answers_append first.machine first.disk ms more)
     ∙ sym (then_assoc first later (answers later.machine later.disk more))
 
-pub may_append : (s : Machine) (disk : Disk) (ms more : List Message) (a b : Stepped)
-    → MayAnswer s disk ms a → MayAnswer a.machine a.disk more b → MayAnswer s disk (ms ++ more) (then_stepped a b)
+pub may_append : (s : Machine) (disk : Disk) (before now after : ℕ) (ms more : List Message) (a b : Stepped)
+    → MayAnswer s disk before ms a now → MayAnswer a.machine a.disk now more b after → MayAnswer s disk before (ms ++ more) (then_stepped a b) after
 unfolding MayAnswer
-may_append s disk [] more a b e f =
-    subst (λ (x : Stepped). MayAnswer s disk more (then_stepped x b)) (sym e) (subst (λ (x : Stepped). MayAnswer x.machine x.disk more b) e f)
-may_append s disk (m ∷ ms) more a b e f = (
+may_append s disk before now after [] more a b e f =
+    subst (λ (n : ℕ). MayAnswer s disk n more (then_stepped a b) after) e.1
+    (subst (λ (x : Stepped). MayAnswer s disk now more (then_stepped x b) after) (sym e.0) (subst (λ (x : Stepped). MayAnswer x.machine x.disk now more b after) e.0 f))
+may_append s disk before now after (m ∷ ms) more a b e f = (
   e.0,
   then_stepped e.1 b,
   e.2,
-  may_append e.0.machine e.0.disk ms more e.1 b e.3 (subst (λ (x : Stepped). MayAnswer x.machine x.disk more b) e.4 f),
-  ap (λ (x : Stepped). then_stepped x b) e.4 ∙ then_assoc e.0 e.1 b,
+  e.3,
+  may_append e.0.machine e.0.disk e.2 now after ms more e.1 b e.4 (subst (λ (x : Stepped). MayAnswer x.machine x.disk now more b after) e.5 f),
+  ap (λ (x : Stepped). then_stepped x b) e.5 ∙ then_assoc e.0 e.1 b,
 )

@@ -6,7 +6,6 @@ use Rattle.std.proofs.lemmas.Bool.{eqb-true, ltb-true, or_cases}
 use Rattle.std.proofs.lemmas.List.{length-append}
 use Rattle.std.proofs.lemmas.Grind.{flat_map-append}
 use Rattle.scsi_disk.specs.Disk.{Disk}
-use Rattle.scsi_disk.specs.Effect.{effect}
 use Rattle.iscsi_pdu.specs.declared.head.Head.{Head}
 use Rattle.iscsi_pdu.specs.declared.head.Head.TheVariants.{LoginRequest, DataOut}
 use Rattle.iscsi_pdu.specs.declared.head.data_out.DataOut.{DataOut as DataPdu}
@@ -15,13 +14,15 @@ use Rattle.iscsi_stream.specs.Stream.{Message}
 use Rattle.iscsi_stream.proofs.Ready.{apart}
 use Rattle.iscsi_login.specs.Held.{first_burst}
 use Rattle.iscsi_target.specs.Configured.{Settings}
-use Rattle.iscsi_target.specs.State.{Machine, Write, Stepped, Reply, on, nothing, shut, opening, max_cmd_sn, is_within}
-use Rattle.iscsi_target.specs.Rejecting.{breach, kind_not_due}
+use Rattle.iscsi_target.specs.State.{Machine, Write, Stepped, Reply, on, nothing, shut, opening, max_cmd_sn}
+use Rattle.iscsi_pdu.specs.Serial.{is_within}
+use Rattle.iscsi_target.specs.Rejecting.{breach}
+use Rattle.iscsi_pdu.specs.Rules.{kind_not_due}
 use Rattle.iscsi_target.specs.Login.{login_step, login_in}
 use Rattle.iscsi_target.specs.declared.due.Due.{Due}
 use Rattle.iscsi_target.specs.declared.due.Due.TheVariants.{Nothing, Unsolicited, Solicited}
 use Rattle.iscsi_target.specs.Transfer.{is_whole, is_idle, taken, with_data, is_in_sequence, received, continued, is_next, is_solicited_piece}
-use Rattle.iscsi_target.specs.Execution.{Device, execute}
+use Rattle.iscsi_target.specs.Execution.{Device, execute, reliable}
 use Rattle.iscsi_target.specs.Command.{proceed, order_of, opened}
 use Rattle.iscsi_target.specs.Machine.{step, step_on, answers, then_stepped, is_closed, accepting}
 use Rattle.iscsi_target.specs.Tiles.{r2t_ranges, r2t_range, ends_r2t, data_answers, pdu_answers, r2ts_answered}
@@ -233,12 +234,12 @@ answers_asks s disk [] lt all o = omega (arith, unanswered_few s.write)
 answers_asks s disk (m ∷ ms) lt all o =
     let first : Stepped = step s disk m in
     let later : Stepped = answers first.machine first.disk ms in
-    let c : Asks (unanswered s.write) (pdu_answers s m m.head) first = step_asks effect disk s m lt all.0 o in
+    let c : Asks (unanswered s.write) (pdu_answers s m m.head) first = step_asks reliable disk s m lt all.0 o in
     let size = sent_append first later in
     by_cases (is_closed first.machine)
     (λ e. let none : sent later ≡ 0 = ap sent (closed_answers first.machine first.disk ms e) in omega (arith, c.closed_ e, none, size))
-    (λ e. let sound : IsSound first.disk.count first.machine = subst (λ (n : ℕ). IsSound n first.machine) (sym (step_count s disk m)) (step_goes effect disk s m o).sound in
-    let rest = answers_asks first.machine first.disk ms ((step_tells effect disk s m).fits lt all.0.login) all.1 sound in
+    (λ e. let sound : IsSound first.disk.count first.machine = subst (λ (n : ℕ). IsSound n first.machine) (sym (step_count s disk m)) (step_goes reliable disk s m o).sound in
+    let rest = answers_asks first.machine first.disk ms ((step_tells reliable disk s m).fits lt all.0.login) all.1 sound in
     omega (arith, c.open_ e, rest, size))
 
 pub opening_asks : (settings : Settings) (n : ℕ) (disk : Disk) (ms : List Message) → AllByRecursion HasCmdSn ms

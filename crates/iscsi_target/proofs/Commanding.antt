@@ -6,8 +6,10 @@ use Rattle.iscsi_pdu.specs.declared.head.scsi_command.ScsiCommand.{ScsiCommand}
 use Rattle.iscsi_pdu.specs.declared.head.data_out.DataOut.{DataOut}
 use Rattle.iscsi_stream.specs.Stream.{Message}
 use Rattle.iscsi_login.specs.Held.{first_burst}
-use Rattle.iscsi_target.specs.State.{Machine, Write, Stepped, data_of, on, nothing}
-use Rattle.iscsi_target.specs.Rejecting.{breach, data_out_of_order}
+use Rattle.iscsi_target.specs.State.{Machine, Write, Stepped, on, nothing}
+use Rattle.iscsi_stream.specs.Pieces.{data_of}
+use Rattle.iscsi_target.specs.Rejecting.{breach}
+use Rattle.iscsi_pdu.specs.Rules.{data_out_of_order}
 use Rattle.iscsi_target.specs.Transfer.{received, is_whole, is_idle, is_in_sequence, taken, with_data, with_piece, joined_write}
 use Rattle.iscsi_target.specs.Execution.{Device, execute}
 use Rattle.iscsi_target.specs.Command.{breaks_burst_rules, scsi_command, order_of, planned, proceed, ask, data_out, data_for, data_taken}

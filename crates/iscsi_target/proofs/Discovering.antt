@@ -1,5 +1,5 @@
 -- The answer to a text request, pair by pair.
-use Rattle.std.proofs.Common.{◌≡◌, ◌<◌, ◌≤◌, ◌∙◌, ℕ, zero, suc, ◌+◌, List, [], ◌∷◌, ◌++◌, Bool, true, false, not, length, take, drop, get_or, Some, None, refl, sym, ap, subst, arith, append_assoc}
+use Rattle.std.proofs.Common.{◌≡◌, ◌≤◌, ◌∙◌, ℕ, zero, suc, ◌+◌, List, [], ◌∷◌, ◌++◌, Bool, true, false, not, length, take, drop, get_or, Some, None, refl, sym, ap, subst, arith, append_assoc}
 use Rattle.std.specs.Prelude.{slice_get, codes, ◌&&◌, ◌||◌, if◌then◌else◌}
 use Rattle.std.specs.List.{AllByRecursion, AllWithin}
 use Rattle.std.specs.List.Sorted.{IsPartitionedBy}
@@ -16,9 +16,8 @@ use Rattle.iscsi_text.proofs.Keys.{key_le_both, key_le_trans, same_key, bytes_eq
 use Rattle.iscsi_target.specs.Discovery.{replies, reply_to, word_for, name_if, reply_pairs, is_asked}
 use Rattle.iscsi_target.specs.Inside.{has_first, has_reply}
 use Rattle.iscsi_target.proofs.StepParts.{by_cases}
-
-both : {b : Bool} → b ≡ true → b ≡ false → ⊥
-both {b} e f = let bad : true ≡ false = sym e ∙ f in absurd cc
+use Rattle.iscsi_text.proofs.Pairs.{at_all}
+use Rattle.iscsi_stream.proofs.Ready.{apart}
 
 pub first_some : (ps : Pairs) (n : ℕ) (p : List ℕ × Typed) (key : List ℕ) → slice_get ps n ≡ Some p → bytes_eq p.0 key ≡ has_first key (drop n ps)
 first_some [] n p key e = absurd cc
@@ -45,7 +44,7 @@ no_later : (key at : List ℕ) (ps : Pairs) → key_le key at ≡ true → bytes
 no_later key at [] le other all = refl
 no_later key at (p ∷ ps) le other all =
     by_cases (bytes_eq p.0 key)
-    (λ e. absurd (both (bytes_eq_same at key (key_le_both at key (subst (λ (k : List ℕ). key_le at k ≡ true) (same_key p.0 key e) all.0) le)) other))
+    (λ e. absurd (apart (bytes_eq_same at key (key_le_both at key (subst (λ (k : List ℕ). key_le at k ≡ true) (same_key p.0 key e) all.0) le)) other))
     (λ e. ap (λ (b : Bool). b || has_key key ps) e ∙ no_later key at ps le other all.1)
 
 -- a key that stands again stands next
@@ -141,14 +140,9 @@ reply_named name ps order e =
 
 -- ---- the place of the name
 
-at_all : (k : List ℕ) (xs : List Pair) (j : ℕ) (d : Pair) → AllByRecursion (λ q. key_le k q.0 ≡ true) (all_shown xs) → j < length xs → key_le k (get_or xs j d).key.now ≡ true
-at_all k [] j d all lt = absurd (omega arith)
-at_all k (x ∷ xs) zero d all lt = all.0
-at_all k (x ∷ xs) (suc j) d all lt = at_all k xs j d all.1 (omega arith)
-
 not_before : (key a b : List ℕ) → key_le a b ≡ true → not (key_le key b) ≡ true → not (key_le key a) ≡ true
 not_before key a b le h =
-    by_cases (key_le key a) (λ e. absurd (both h (ap not (key_le_trans key a b e le)))) (λ e. ap not e)
+    by_cases (key_le key a) (λ e. absurd (apart h (ap not (key_le_trans key a b e le)))) (λ e. ap not e)
 
 pub partitioned : (key : List ℕ) (xs : List Pair) → IsInOrder (all_shown xs) → IsPartitionedBy (λ y. not (key_le key y.key.now)) xs
 partitioned key [] order i j d le lt h = absurd (omega arith)

@@ -10,17 +10,18 @@ use Rattle.iscsi_target.specs.Command.{proceed, opened}
 use Rattle.iscsi_target.specs.Machine.{step, answers}
 use Rattle.iscsi_target.specs.Laws.{supplied}
 use Rattle.iscsi_target.proofs.StepParts.{by_cases, Parts, step_parts}
+use Rattle.iscsi_target.specs.Execution.{reliable}
 
 pub record Folds (disk : Disk) (r : Stepped) : Type 0 where
   pub is : r.disk ≡ disk_after (map supplied r.executed) disk
 
-proceed_folds : (s : Machine) (disk : Disk) (w : Write) → Folds disk (proceed effect s disk w)
+proceed_folds : (s : Machine) (disk : Disk) (w : Write) → Folds disk (proceed reliable s disk w)
 unfolding disk_after
 proceed_folds s disk w =
     by_cases (is_whole w) (λ h. rw h (record { is = refl }))
     (λ h. by_cases (is_idle w.due) (λ g. rw (h, g) (record { is = refl })) (λ g. rw (h, g) (record { is = refl })))
 
-parts_fold : (disk : Disk) → Parts effect disk (λ s m r. Folds disk r) (λ s m r. Folds disk r)
+parts_fold : (disk : Disk) → Parts reliable disk (λ s m r. Folds disk r) (λ s m r. Folds disk r)
 unfolding disk_after
 parts_fold disk = record {
   nothing_ = λ s m c. record { is = refl };
@@ -41,7 +42,7 @@ parts_fold disk = record {
 }
 
 pub step_folds : (s : Machine) (disk : Disk) (m : Message) → Folds disk (step s disk m)
-step_folds s disk m = step_parts effect disk (λ s m r. Folds disk r) (λ s m r. Folds disk r) (parts_fold disk) s m
+step_folds s disk m = step_parts reliable disk (λ s m r. Folds disk r) (λ s m r. Folds disk r) (parts_fold disk) s m
 
 disk_after_append : (disk : Disk) (a b : List Execution) → disk_after (map supplied (a ++ b)) disk ≡ disk_after (map supplied b) (disk_after (map supplied a) disk)
 unfolding disk_after

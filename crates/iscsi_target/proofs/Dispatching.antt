@@ -5,7 +5,7 @@ use Rattle.std.proofs.lemmas.Bool.{le-ltb}
 use Rattle.scsi_disk.specs.Disk.{Disk}
 use Rattle.iscsi_text.specs.Text.{Pairs}
 use Rattle.iscsi_text.specs.Reading.{text_in}
-use Rattle.iscsi_pdu.specs.Serial.{distance}
+use Rattle.iscsi_pdu.specs.Serial.{distance, is_within}
 use Rattle.iscsi_pdu.specs.declared.head.Head.{Head}
 use Rattle.iscsi_pdu.specs.declared.head.Head.TheVariants as heads
 use Rattle.iscsi_pdu.specs.declared.head.Head.TheVariants.{LoginRequest, LoginResponse, NopOut, TaskRequest, TextRequest, LogoutRequest, ScsiCommand, DataOut}
@@ -19,8 +19,9 @@ use Rattle.iscsi_stream.specs.Segment.{segment_if, segment_of, segment_bytes, te
 use Rattle.iscsi_stream.specs.Stream.{Message, message}
 use Rattle.iscsi_login.specs.declared.phase.Phase.{Phase}
 use Rattle.iscsi_login.specs.declared.stage.Session.{Session}
-use Rattle.iscsi_target.specs.State.{Machine, Stepped, limit, on, nothing, shut, is_within, max_cmd_sn, closed}
-use Rattle.iscsi_target.specs.Rejecting.{reject, breach, kind_not_due, segment_too_long, too_many_immediate}
+use Rattle.iscsi_target.specs.State.{Machine, Stepped, limit, on, nothing, shut, max_cmd_sn, closed}
+use Rattle.iscsi_target.specs.Rejecting.{reject, breach}
+use Rattle.iscsi_pdu.specs.Rules.{kind_not_due, segment_too_long, too_many_immediate}
 use Rattle.iscsi_target.specs.Discovery.{text_request}
 use Rattle.iscsi_target.specs.Requests.{nop_out, task_request, logout_request}
 use Rattle.iscsi_target.specs.Command.{scsi_command, data_out}

@@ -3,41 +3,43 @@ use Rattle.std.proofs.Common.{◌≡◌, ◌<◌, ◌≤◌, ◌⊎◌, inl, inr
 use Rattle.std.specs.Prelude.{nat_lt}
 use Rattle.std.specs.List.{flat_map}
 use Rattle.std.proofs.lemmas.Bool.{lt-ltb}
-use Rattle.std.proofs.lemmas.List.{append-nil, take-append-drop, take_all}
-use Rattle.std.proofs.lemmas.Grind.{flat_map-append}
+use Rattle.std.proofs.lemmas.List.{append-nil, take-append-drop, take_all, take-append-le, length-append}
 use Rattle.scsi_disk.specs.Disk.{Disk}
-use Rattle.scsi_disk.specs.Effect.{effect}
 use Rattle.iscsi_pdu.specs.Meaning.{IsHeader, fault_of}
 use Rattle.iscsi_pdu.proofs.Headers.{IsHeader-unique}
 use Rattle.iscsi_stream.specs.declared.fault.StreamFault.{StreamFault}
 use Rattle.iscsi_stream.specs.declared.fault.StreamFault.TheVariants as stream
 use Rattle.iscsi_stream.specs.Segment.{Segment, Bytes, no_login, continues, segment_bytes}
 use Rattle.iscsi_stream.specs.Stream.{Message, ReadsAs, StreamMeans, after_all, longest_segment, Splits}
-use Rattle.iscsi_stream.specs.Canonical.{canonical_bytes, canon}
-use Rattle.iscsi_stream.specs.Framing.{Framing, HasTaken, FeedFails, is_ready, is_whole}
+use Rattle.iscsi_stream.specs.Canonical.{canon}
+use Rattle.iscsi_stream.specs.Framing.{Framing, HasTaken, FeedFails, is_ready, is_whole, IsBegun, length_at}
 use Rattle.iscsi_stream.proofs.Settled.{is_whole-settled}
 use Rattle.iscsi_stream.proofs.Ready.{unready_of, not_whole-nil, apart}
 use Rattle.iscsi_stream.proofs.Taking.{taken_at, at_opening}
 use Rattle.iscsi_stream.proofs.Heads.{bad_header}
 use Rattle.iscsi_stream.proofs.Fronts.{held_is}
 use Rattle.iscsi_login.specs.declared.phase.Phase.{Phase}
+use Rattle.iscsi_login.specs.declared.phase.Phase.TheVariants as phases
 use Rattle.iscsi_target.specs.declared.fault.TargetFault.{TargetFault}
 use Rattle.iscsi_target.specs.declared.fault.TargetFault.TheVariants as faults
 use Rattle.iscsi_target.specs.Configured.{Settings}
 use Rattle.iscsi_target.specs.State.{Machine, Write, Stepped, Reply, closed, limit, opening, on, nothing, shut}
 use Rattle.iscsi_target.specs.Transfer.{joined, is_whole as write_is_whole, is_idle}
 use Rattle.iscsi_target.specs.Login.{login_step}
-use Rattle.iscsi_target.specs.Execution.{Device}
+use Rattle.iscsi_target.specs.Execution.{Device, reliable}
 use Rattle.iscsi_target.specs.Command.{proceed, opened}
 use Rattle.iscsi_target.specs.Machine.{is_closed, is_over_limit, step, answers, then_stepped, first_rule}
 use Rattle.iscsi_target.specs.Laws.{joined_stepped}
-use Rattle.iscsi_target.specs.Feed.{Connection, Store, Answers, Ends, Feeds, Fed, HasAnswered, GoesWell, FedAll, FedIf, Stays, Meets, opening_connection, Writes}
+use Rattle.iscsi_target.specs.Feed.{Connection, Store, Answers, Ends, Feeds, Fed, HasAnswered, GoesWell, FedAll, FedIf, Stays, Meets, opening_connection, Writes, Holds, Refuses, SameSession}
 use Rattle.iscsi_target.proofs.StepParts.{by_cases, Parts, step_parts}
 use Rattle.iscsi_target.proofs.Replies.{IsReply, login_logs, nothing_reply, shut_reply, reject_reply, breach_reply, nop_reply, task_reply, text_reply_is, logout_reply}
 use Rattle.iscsi_target.proofs.Numbers.{closed_answers, answers_settings}
 use Rattle.iscsi_target.proofs.Appending.{answers_append}
 use Rattle.iscsi_target.proofs.Joining.{answers_joined}
 use Rattle.iscsi_target.proofs.Prefixes.{Rests, Heads, prefix_of, begins_with, no_bad_header, none_whole, long_bytes, Leaves, prefix_split, header_or_none, none_begun}
+use Rattle.iscsi_stream.proofs.Writing.{canon_append}
+use Rattle.iscsi_stream.specs.declared.logins.Logins.{Logins}
+use Rattle.iscsi_login.specs.Stage.{is_closed_phase}
 
 -- ---- a broken rule closes the session
 
@@ -72,7 +74,7 @@ parts_close device disk = record {
 }
 
 step_closes : (s : Machine) (disk : Disk) (m : Message) → Closes (step s disk m)
-step_closes s disk m = step_parts effect disk (λ s m r. Closes r) (λ s m r. Closes r) (parts_close effect disk) s m
+step_closes s disk m = step_parts reliable disk (λ s m r. Closes r) (λ s m r. Closes r) (parts_close reliable disk) s m
 
 rule_case : (first later : Option ℕ) (k : ℕ) → first_rule first later ≡ Some k → (first ≡ Some k) ⊎ (later ≡ Some k)
 rule_case None later k e = inr e
@@ -100,9 +102,6 @@ record Live (settings : Settings) (n : ℕ) (disk : Disk) (taken : List ℕ) (no
 -- it is closed, whatever follows in the stream
 record Over (settings : Settings) (n : ℕ) (disk : Disk) (taken : List ℕ) (now : Connection) (disk_now : Disk) (written : List ℕ) : Type 0 where
   over : (more : List ℕ) (ms : List Message) → StreamMeans (taken ++ more) ms → Meets settings n disk ms now disk_now written
-
-canon_append : (a b : List Message) → canon (a ++ b) ≡ canon a ++ canon b
-canon_append a b = flat_map-append canonical_bytes a b
 
 -- what a call answered, told from the opening state
 pub record Told (settings : Settings) (n : ℕ) (disk : Disk) (ms : List Message) (r : Stepped) (disk_now : Disk) (written : List ℕ) : Type 0 where
@@ -352,13 +351,18 @@ fed_stream settings n store pieces new after written ms f p =
 
 -- ---- a stream that isn't all PDUs
 
+-- what is written, the blocks and the session
+record Leads (settings : Settings) (n : ℕ) (disk : Disk) (ms : List Message) (rest : List ℕ) (now : Connection) (disk_now : Disk) (written : List ℕ) : Type 0 where
+  writes : Writes settings n disk ms disk_now written
+  holds : Holds settings n disk ms rest now.machine
+
 -- the session is closed, and nothing is written any more
-record Stopped (settings : Settings) (n : ℕ) (disk : Disk) (taken : List ℕ) (disk_now : Disk) (written : List ℕ) : Type 0 where
-  over : (more : List ℕ) (ms : List Message) (given rest : List ℕ) → Splits longest_segment (taken ++ more) ms given rest → Writes settings n disk ms disk_now written
+record Stopped (settings : Settings) (n : ℕ) (disk : Disk) (taken : List ℕ) (now : Connection) (disk_now : Disk) (written : List ℕ) : Type 0 where
+  over : (more : List ℕ) (ms : List Message) (given rest : List ℕ) → Splits longest_segment (taken ++ more) ms given rest → Leads settings n disk ms rest now disk_now written
 
 abbrev Fate : Settings → ℕ → Disk → List ℕ → Connection → Disk → List ℕ → Type 0
 Fate settings n disk taken now disk_now written =
-    ((is_closed now.machine ≡ false) × Live settings n disk taken now disk_now written) ⊎ ((is_closed now.machine ≡ true) × Stopped settings n disk taken disk_now written)
+    ((is_closed now.machine ≡ false) × Live settings n disk taken now disk_now written) ⊎ ((is_closed now.machine ≡ true) × Stopped settings n disk taken now disk_now written)
 
 abbrev Fits : Settings → Type 0
 Fits settings = limit settings ≤ longest_segment
@@ -369,15 +373,52 @@ left taken piece more count first ms given rest v le t s =
     prefix_split v.limit no_login t.given first ((t.rest ++ drop count piece) ++ more) given ms rest le t.reads s.reads s.no_more
     (sym (whole_stream taken piece more t.given t.rest count t.whole) ∙ s.whole)
 
-writes_of : (settings : Settings) (n : ℕ) (disk : Disk) (ms : List Message) (now : Connection) (disk_now : Disk) (written : List ℕ) → Meets settings n disk ms now disk_now written
-    → Writes settings n disk ms disk_now written
-writes_of settings n disk ms now disk_now written m = record { disk_is = m.disk_is; output_is = m.output_is }
+writes_of : (settings : Settings) (n : ℕ) (disk : Disk) (ms : List Message) (rest : List ℕ) (now : Connection) (disk_now : Disk) (written : List ℕ) → Meets settings n disk ms now disk_now written
+    → is_closed now.machine ≡ true → Leads settings n disk ms rest now disk_now written
+writes_of settings n disk ms rest now disk_now written m over = record {
+  writes = record { disk_is = m.disk_is; output_is = m.output_is };
+  holds = record {
+    machine = ap closed m.machine;
+    goes_on = λ live. absurd (apart over live);
+    ends = λ _. inl (sym (ap is_closed m.machine) ∙ over);
+    refuses = λ _. over;
+  };
+}
 
 -- no PDU is left
-writes_all : (settings : Settings) (n : ℕ) (disk : Disk) (first ms more : List Message) (disk_now : Disk) (written : List ℕ) → ms ≡ first ++ more → more ≡ []
-    → Writes settings n disk first disk_now written → Writes settings n disk ms disk_now written
-writes_all settings n disk first ms more disk_now written e none w =
-    subst (λ (x : List Message). Writes settings n disk x disk_now written) (sym (e ∙ ap (λ (x : List Message). first ++ x) none ∙ append-nil first)) w
+leads_all : (settings : Settings) (n : ℕ) (disk : Disk) (first ms more : List Message) (rest : List ℕ) (now : Connection) (disk_now : Disk) (written : List ℕ) → ms ≡ first ++ more → more ≡ []
+    → Leads settings n disk first rest now disk_now written → Leads settings n disk ms rest now disk_now written
+leads_all settings n disk first ms more rest now disk_now written e none w =
+    subst (λ (x : List Message). Leads settings n disk x rest now disk_now written) (sym (e ∙ ap (λ (x : List Message). first ++ x) none ∙ append-nil first)) w
+
+-- then the rest is what is left of the bytes
+rest_left : (logins : Logins) (bytes given rest : List ℕ) (ms : List Message) → ReadsAs longest_segment logins given ms → bytes ≡ given ++ rest → ms ≡ [] → bytes ≡ rest
+unfolding ReadsAs
+rest_left logins bytes given rest [] q e none = e ∙ ap (λ (x : List ℕ). x ++ rest) q
+rest_left logins bytes given rest (m ∷ ms) q e none = absurd cc
+
+-- it begins as the front of them
+front_left : (front more rest : List ℕ) → 48 ≤ length front → front ++ more ≡ rest → (48 ≤ length rest) × (take 48 front ≡ take 48 rest)
+front_left front more rest long e = (
+  subst (λ (x : List ℕ). 48 ≤ length x) e (omega (arith, long, length-append front more)),
+  sym (take-append-le 48 front more long) ∙ ap (λ (x : List ℕ). take 48 x) e,
+)
+
+-- closed at a header that is refused
+shut_leads : (settings : Settings) (n : ℕ) (disk : Disk) (first : List Message) (rest : List ℕ) (now : Connection) (disk_now : Disk) (written : List ℕ)
+    → now.machine ≡ closed (answers (opening settings n) disk first).machine → disk_now ≡ (answers (opening settings n) disk first).disk
+    → written ≡ canon (answers (opening settings n) disk first).answers → Refuses (limit settings) rest → Leads settings n disk first rest now disk_now written
+shut_leads settings n disk first rest now disk_now written is_now is_disk is_written refused =
+    let over : is_closed now.machine ≡ true = ap is_closed is_now in
+    record {
+      writes = record { disk_is = is_disk; output_is = is_written };
+      holds = record {
+        machine = ap closed is_now;
+        goes_on = λ live. absurd (apart over live);
+        ends = λ _. inr refused;
+        refuses = λ _. over;
+      };
+    }
 
 stopping : (settings : Settings) (n : ℕ) (disk : Disk) (taken piece : List ℕ) (count : ℕ) (first : List Message) (v : Framing) (r : Stepped) (new : Connection) (disk_now : Disk) (written : List ℕ)
     → v.limit ≤ longest_segment → HasTaken (taken ++ take count piece) first v → Told settings n disk first r disk_now written → new.machine ≡ joined r.machine → is_closed r.machine ≡ true
@@ -390,8 +431,8 @@ stopping settings n disk taken piece count first v r new disk_now written le t t
       record {
         over = λ more ms given rest s.
             let x = left taken piece more count first ms given rest v le t s in
-            subst (λ (xs : List Message). Writes settings n disk xs disk_now written) (sym x.whole)
-            (writes_of settings n disk (first ++ x.more) new disk_now written (closed_meets settings n disk first x.more new disk_now written there meets));
+            subst (λ (xs : List Message). Leads settings n disk xs rest new disk_now written) (sym x.whole)
+            (writes_of settings n disk (first ++ x.more) rest new disk_now written (closed_meets settings n disk first x.more new disk_now written there meets) (ap is_closed e ∙ c));
       },
     )
 
@@ -400,7 +441,7 @@ fault_writes : (settings : Settings) (n : ℕ) (disk : Disk) (taken piece : List
     → is_closed (answers (opening settings n) disk first).machine ≡ false
     → now.machine ≡ closed (answers (opening settings n) disk first).machine → disk_now ≡ (answers (opening settings n) disk first).disk
     → written ≡ canon (answers (opening settings n) disk first).answers → (more : List ℕ) (ms : List Message) (given rest : List ℕ) → Splits longest_segment ((taken ++ piece) ++ more) ms given rest
-    → Writes settings n disk ms disk_now written
+    → Leads settings n disk ms rest now disk_now written
 fault_writes settings n disk taken piece count first v now disk_now written stream.NoMemory t bound le none f live is_now is_disk is_written more ms given rest s = absurd (none refl)
 fault_writes settings n disk taken piece count first v now disk_now written (stream.Head fault place) t bound le none f live is_now is_disk is_written more ms given rest s =
     let x = left taken piece more count first ms given rest v le t s in
@@ -408,7 +449,10 @@ fault_writes settings n disk taken piece count first v now disk_now written (str
     let long : 48 ≤ length (t.rest ++ drop count piece) = subst (λ (y : List ℕ). 48 ≤ length (y ++ drop count piece)) held f.1.reached in
     let bad : fault_of (take 48 (t.rest ++ drop count piece)) ≡ Some fault = subst (λ (y : List ℕ). fault_of (take 48 (y ++ drop count piece)) ≡ Some fault) held f.2 in
     elim (header_or_none (after_all no_login first) (t.rest ++ drop count piece) more x.given rest x.more long x.reads x.bytes_are) [
-      | inl e ↦ writes_all settings n disk first ms x.more disk_now written x.whole e (record { disk_is = is_disk; output_is = is_written })
+      | inl e ↦
+          let start = front_left (t.rest ++ drop count piece) more rest long (rest_left (after_all no_login first) ((t.rest ++ drop count piece) ++ more) x.given rest x.more x.reads x.bytes_are e) in
+          leads_all settings n disk first ms x.more rest now disk_now written x.whole e
+          (shut_leads settings n disk first rest now disk_now written is_now is_disk is_written (start.0, inl (fault, subst (λ (y : List ℕ). fault_of y ≡ Some fault) start.1 bad)))
       | inr h ↦ absurd (bad_header (take 48 (t.rest ++ drop count piece)) h.m.head (length h.segment) fault h.says bad)
     ]
 fault_writes settings n disk taken piece count first v now disk_now written (stream.OverLimit place) t bound le none f live is_now is_disk is_written more ms given rest s =
@@ -418,7 +462,11 @@ fault_writes settings n disk taken piece count first v now disk_now written (str
     let long : 48 ≤ length (t.rest ++ drop count piece) = subst (λ (y : List ℕ). 48 ≤ length (y ++ drop count piece)) held f.1.2.reaches.reached in
     let header : IsHeader (take 48 (t.rest ++ drop count piece)) f.1.0 f.1.1 = subst (λ (y : List ℕ). IsHeader (take 48 (y ++ drop count piece)) f.1.0 f.1.1) held f.1.2.header in
     elim (header_or_none (after_all no_login first) (t.rest ++ drop count piece) more x.given rest x.more long x.reads x.bytes_are) [
-      | inl e ↦ writes_all settings n disk first ms x.more disk_now written x.whole e (record { disk_is = is_disk; output_is = is_written })
+      | inl e ↦
+          let start = front_left (t.rest ++ drop count piece) more rest long (rest_left (after_all no_login first) ((t.rest ++ drop count piece) ++ more) x.given rest x.more x.reads x.bytes_are e) in
+          let past : limit settings < f.1.1 = omega (arith, f.1.3, bound) in
+          leads_all settings n disk first ms x.more rest now disk_now written x.whole e
+          (shut_leads settings n disk first rest now disk_now written is_now is_disk is_written (start.0, inr (f.1.0, f.1.1, subst (λ (y : List ℕ). IsHeader y f.1.0 f.1.1) start.1 header, past)))
       | inr h ↦
           let size : length h.segment ≡ f.1.1 = (IsHeader-unique (take 48 (t.rest ++ drop count piece)) h.m.head f.1.0 (length h.segment) f.1.1 h.says header).1 in
           let past : limit settings < length h.segment = omega (arith, f.1.3, size, bound) in
@@ -426,9 +474,9 @@ fault_writes settings n disk taken piece count first v now disk_now written (str
           let same : a.machine.settings ≡ settings = answers_settings (opening settings n) disk first in
           let over : is_over_limit a.machine h.m.segment ≡ true =
           ap (λ (y : Segment). is_over_limit a.machine y) bytes ∙ ap (λ (y : Settings). nat_lt (limit y) (length h.segment)) same ∙ lt-ltb (limit settings) (length h.segment) past in
-          subst (λ (y : List Message). Writes settings n disk y disk_now written) (sym (x.whole ∙ ap (λ (y : List Message). first ++ y) h.is))
-          (writes_of settings n disk (first ++ h.m ∷ h.more) now disk_now written
-          (over_meets settings n disk first h.m h.more now disk_now written live over is_now is_disk is_written))
+          subst (λ (y : List Message). Leads settings n disk y rest now disk_now written) (sym (x.whole ∙ ap (λ (y : List Message). first ++ y) h.is))
+          (writes_of settings n disk (first ++ h.m ∷ h.more) rest now disk_now written
+          (over_meets settings n disk first h.m h.more now disk_now written live over is_now is_disk is_written) (ap is_closed is_now))
     ]
 fault_writes settings n disk taken piece count first v now disk_now written (stream.Truncated place) t bound le none f live is_now is_disk is_written more ms given rest s = absurd f
 fault_writes settings n disk taken piece count first v now disk_now written stream.Failed t bound le none f live is_now is_disk is_written more ms given rest s = absurd (apart f t.live)
@@ -473,51 +521,107 @@ next_fate settings n disk taken old before out piece result new after written le
     well.memory f.ends
 next_fate settings n disk taken old before out piece result new after written le (inr o) fed well =
     let s : Stays old before out result new after written = subst (λ (b : Bool). FedIf b old before out piece result new after written) o.0 fed in
-    let stopped : Stopped settings n disk (taken ++ piece) before.disk out = record {
+    let stopped : Stopped settings n disk (taken ++ piece) old before.disk out = record {
       over = λ more ms given rest q.
           o.1.over (piece ++ more) ms given rest (subst (λ (x : List ℕ). Splits longest_segment x ms given rest) (append_assoc taken piece more) q);
     } in
     inr (
       ap (λ (x : Connection). is_closed x.machine) s.connection ∙ o.0,
-      subst (λ (x : Store). Stopped settings n disk (taken ++ piece) x.disk written) (sym s.store)
-          (subst (λ (x : List ℕ). Stopped settings n disk (taken ++ piece) before.disk x) (sym s.output_is) stopped),
+      subst (λ (x : Connection). Stopped settings n disk (taken ++ piece) x after.disk written) (sym s.connection)
+          (subst (λ (x : Store). Stopped settings n disk (taken ++ piece) old x.disk written) (sym s.store)
+          (subst (λ (x : List ℕ). Stopped settings n disk (taken ++ piece) old before.disk x) (sym s.output_is) stopped)),
     )
 
-live_writes : (settings : Settings) (n : ℕ) (disk : Disk) (taken : List ℕ) (now : Connection) (disk_now : Disk) (written : List ℕ) (ms : List Message) (given rest : List ℕ)
-    → Fits settings → Live settings n disk taken now disk_now written → Splits longest_segment taken ms given rest → Writes settings n disk ms disk_now written
-live_writes settings n disk taken now disk_now written ms given rest le live s =
+not_refused : (limit : ℕ) (rest : List ℕ) → IsBegun limit rest → Refuses limit rest → ⊥
+not_refused limit rest begun r = let good = begun r.0 in elim r.1 [
+  | inl bad ↦ bad_header (take 48 rest) good.0 (length_at rest) bad.0 good.1.header bad.1
+  | inr long ↦ (let same = (IsHeader-unique (take 48 rest) good.0 long.0 (length_at rest) long.1 good.1.header long.2).1 in omega (arith, same, good.1.within, long.3))
+]
+
+live_leads : (settings : Settings) (n : ℕ) (disk : Disk) (taken : List ℕ) (now : Connection) (disk_now : Disk) (written : List ℕ) (ms : List Message) (given rest : List ℕ)
+    → Fits settings → is_closed now.machine ≡ false → Live settings n disk taken now disk_now written → Splits longest_segment taken ms given rest → Leads settings n disk ms rest now disk_now written
+live_leads settings n disk taken now disk_now written ms given rest le open_ live s =
     let h : HasAnswered settings n disk taken now disk_now written = live.has in
     let t : HasTaken taken h.messages now.framing = h.taken in
     let x : Leaves no_login h.messages ms t.rest rest =
     prefix_split now.framing.limit no_login t.given h.messages t.rest given ms rest (omega (arith, le, live.bound)) t.reads s.reads s.no_more (sym t.whole ∙ s.whole) in
     let part : is_whole t.rest ≡ false = sym (is_whole-settled t.rest) ∙ ap is_whole (sym t.held) ∙ unready_of now.framing.failed now.framing.held t.live live.ready in
-    writes_all settings n disk h.messages ms x.more disk_now written x.whole
-    (none_begun now.framing.limit (after_all no_login h.messages) t.rest x.given rest x.more t.begun part x.reads x.bytes_are)
-    (record { disk_is = h.disk_is; output_is = h.output_is })
+    let none : x.more ≡ [] = none_begun now.framing.limit (after_all no_login h.messages) t.rest x.given rest x.more t.begun part x.reads x.bytes_are in
+    let same : t.rest ≡ rest = rest_left (after_all no_login h.messages) t.rest x.given rest x.more x.reads x.bytes_are none in
+    let begun : IsBegun (limit settings) rest = subst (λ (k : ℕ). IsBegun k rest) live.bound (subst (λ (y : List ℕ). IsBegun now.framing.limit y) same t.begun) in
+    leads_all settings n disk h.messages ms x.more rest now disk_now written x.whole none (record {
+      writes = record { disk_is = h.disk_is; output_is = h.output_is };
+      holds = record {
+        machine = ap closed h.machine;
+        goes_on = λ _. h.machine;
+        ends = λ over. absurd (apart over open_);
+        refuses = λ r. absurd (not_refused (limit settings) rest begun r);
+      };
+    })
 
-fate_writes : (settings : Settings) (n : ℕ) (disk : Disk) (taken : List ℕ) (now : Connection) (disk_now : Disk) (written : List ℕ) (ms : List Message) (given rest : List ℕ)
-    → Fits settings → Fate settings n disk taken now disk_now written → Splits longest_segment taken ms given rest → Writes settings n disk ms disk_now written
-fate_writes settings n disk taken now disk_now written ms given rest le (inl l) s = live_writes settings n disk taken now disk_now written ms given rest le l.1 s
-fate_writes settings n disk taken now disk_now written ms given rest le (inr o) s =
+fate_leads : (settings : Settings) (n : ℕ) (disk : Disk) (taken : List ℕ) (now : Connection) (disk_now : Disk) (written : List ℕ) (ms : List Message) (given rest : List ℕ)
+    → Fits settings → Fate settings n disk taken now disk_now written → Splits longest_segment taken ms given rest → Leads settings n disk ms rest now disk_now written
+fate_leads settings n disk taken now disk_now written ms given rest le (inl l) s = live_leads settings n disk taken now disk_now written ms given rest le l.0 l.1 s
+fate_leads settings n disk taken now disk_now written ms given rest le (inr o) s =
     o.1.over [] ms given rest (subst (λ (x : List ℕ). Splits longest_segment x ms given rest) (sym (append-nil taken)) s)
 
 fed_fate : (settings : Settings) (n : ℕ) (disk : Disk) (taken : List ℕ) (pieces : List (List ℕ)) (old : Connection) (before : Store) (out : List ℕ) (new : Connection) (after : Store) (written : List ℕ)
     (ms : List Message) (given rest : List ℕ) → Fits settings
     → Fate settings n disk taken old before.disk out → FedAll old before out pieces new after written → Splits longest_segment (taken ++ flat_map (λ x. x) pieces) ms given rest
-    → Writes settings n disk ms after.disk written
+    → Leads settings n disk ms rest new after.disk written
 unfolding FedAll
 fed_fate settings n disk taken [] old before out new after written ms given rest le e f p =
-    subst (λ (x : Store). Writes settings n disk ms x.disk written) (sym f.1)
-    (subst (λ (x : List ℕ). Writes settings n disk ms before.disk x) (sym f.2)
-    (fate_writes settings n disk taken old before.disk out ms given rest le e (subst (λ (x : List ℕ). Splits longest_segment x ms given rest) (append-nil taken) p)))
+    subst (λ (x : Connection). Leads settings n disk ms rest x after.disk written) (sym f.0)
+    (subst (λ (x : Store). Leads settings n disk ms rest old x.disk written) (sym f.1)
+    (subst (λ (x : List ℕ). Leads settings n disk ms rest old before.disk x) (sym f.2)
+    (fate_leads settings n disk taken old before.disk out ms given rest le e (subst (λ (x : List ℕ). Splits longest_segment x ms given rest) (append-nil taken) p))))
 fed_fate settings n disk taken (piece ∷ pieces) old before out new after written ms given rest le e f p =
     fed_fate settings n disk (taken ++ piece) pieces f.1 f.2 f.3 new after written ms given rest le
     (next_fate settings n disk taken old before out piece f.0 f.1 f.2 f.3 le e f.4 f.5) f.6
     (subst (λ (x : List ℕ). Splits longest_segment x ms given rest) (sym (append_assoc taken piece (flat_map (λ x. x) pieces))) p)
 
+fed_leads : (settings : Settings) (n : ℕ) (store : Store) (pieces : List (List ℕ)) (new : Connection) (after : Store) (written : List ℕ) (ms : List Message) (given rest : List ℕ)
+    → Fits settings → FedAll (opening_connection settings n) store [] pieces new after written → Splits longest_segment (flat_map (λ x. x) pieces) ms given rest
+    → Leads settings n store.disk ms rest new after.disk written
+fed_leads settings n store pieces new after written ms given rest le f s =
+    fed_fate settings n store.disk [] pieces (opening_connection settings n) store [] new after written ms given rest le (inl (refl, opening_live settings n store.disk)) f s
+
 -- any stream that was fed in pieces
 pub fed_any : (settings : Settings) (n : ℕ) (store : Store) (pieces : List (List ℕ)) (new : Connection) (after : Store) (written : List ℕ) (ms : List Message) (given rest : List ℕ)
     → Fits settings → FedAll (opening_connection settings n) store [] pieces new after written → Splits longest_segment (flat_map (λ x. x) pieces) ms given rest
     → Writes settings n store.disk ms after.disk written
-fed_any settings n store pieces new after written ms given rest le f s =
-    fed_fate settings n store.disk [] pieces (opening_connection settings n) store [] new after written ms given rest le (inl (refl, opening_live settings n store.disk)) f s
+fed_any settings n store pieces new after written ms given rest le f s = (fed_leads settings n store pieces new after written ms given rest le f s).writes
+
+pub fed_holds : (settings : Settings) (n : ℕ) (store : Store) (pieces : List (List ℕ)) (new : Connection) (after : Store) (written : List ℕ) (ms : List Message) (given rest : List ℕ)
+    → Fits settings → FedAll (opening_connection settings n) store [] pieces new after written → Splits longest_segment (flat_map (λ x. x) pieces) ms given rest
+    → Holds settings n store.disk ms rest new.machine
+fed_holds settings n store pieces new after written ms given rest le f s = (fed_leads settings n store pieces new after written ms given rest le f s).holds
+
+-- ---- in any two cuts
+
+closed_in : (p : Phase) → is_closed_phase p ≡ true → p ≡ phases.Closed
+closed_in phases.Login e = absurd cc
+closed_in phases.Full e = absurd cc
+closed_in phases.Closed e = refl
+
+both_live : (settings : Settings) (n : ℕ) (disk : Disk) (ms : List Message) (rest : List ℕ) (a b : Machine) → Holds settings n disk ms rest a → Holds settings n disk ms rest b
+    → is_closed a ≡ false → is_closed b ≡ false
+both_live settings n disk ms rest a b x y live = by_cases (is_closed b)
+    (λ over. absurd (elim (y.ends over) [
+      | inl done ↦ apart done (sym (ap is_closed (x.goes_on live)) ∙ live)
+      | inr r ↦ apart (x.refuses r) live
+    ]))
+    (λ e. e)
+
+pub same_session : (settings : Settings) (n : ℕ) (disk : Disk) (ms : List Message) (rest : List ℕ) (a b : Machine) → Holds settings n disk ms rest a → Holds settings n disk ms rest b → SameSession a b
+same_session settings n disk ms rest a b x y =
+    let same : closed b ≡ closed a = y.machine ∙ sym x.machine in
+    let goes_on : is_closed a ≡ false → b ≡ a = λ live. y.goes_on (both_live settings n disk ms rest a b x y live) ∙ sym (x.goes_on live) in
+    record {
+      held = ap (λ (s : Machine). s.held) same;
+      stage = ap (λ (s : Machine). s.stage) same;
+      phase = by_cases (is_closed a)
+          (λ over. by_cases (is_closed b) (λ e. closed_in b.phase e ∙ sym (closed_in a.phase over)) (λ live. absurd (apart over (both_live settings n disk ms rest b a y x live))))
+          (λ live. ap (λ (s : Machine). s.phase) (goes_on live));
+      goes_on = goes_on;
+    }

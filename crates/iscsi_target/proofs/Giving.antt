@@ -10,11 +10,12 @@ use Rattle.iscsi_pdu.specs.declared.head.Head.{Head}
 use Rattle.iscsi_stream.specs.Segment.{segment_bytes}
 use Rattle.iscsi_stream.specs.Stream.{Message}
 use Rattle.iscsi_stream.specs.Canonical.{canon, canonical_bytes}
-use Rattle.iscsi_login.specs.Held.{Held}
+use Rattle.iscsi_login.specs.Held.{Held, max_burst}
 use Rattle.iscsi_target.specs.State.{Machine, message}
-use Rattle.iscsi_target.specs.Transfer.{max_burst}
-use Rattle.iscsi_target.specs.Execution.{parts, parts_within, marked, run_given, parts_given, data_ins, data_in_head}
+use Rattle.iscsi_target.specs.Execution.{marked, run_given, parts_given, data_ins, data_in_head}
+use Rattle.iscsi_stream.specs.Pieces.{chunks_within, chunks}
 use Rattle.iscsi_target.specs.declared.course.command.Sent.{Sent}
+use Rattle.iscsi_stream.proofs.Chunks.{chunks_step}
 
 -- the bytes before the rest of a run went out, behind others
 pub record GaveUpTo (s : Machine) (tag : ℕ) (before : Sent) (run rest : List ℕ) (sent : Sent) (old new : List ℕ) : Type 0 where
@@ -34,26 +35,7 @@ pub record GaveRuns (s : Machine) (tag : ℕ) (bytes rest : List ℕ) (sent : Se
 
 -- ---- parts
 
--- a longer count down makes no difference
-parts_any : (one two size : ℕ) (bytes : List ℕ) → 0 < size → length bytes ≤ one → length bytes ≤ two → parts_within one size bytes ≡ parts_within two size bytes
-parts_any zero zero size bytes lt le le' = refl
-parts_any zero (suc two) size [] lt le le' = refl
-parts_any zero (suc two) size (b ∷ bytes) lt le le' = absurd (omega (arith, le))
-parts_any (suc one) zero size [] lt le le' = refl
-parts_any (suc one) zero size (b ∷ bytes) lt le le' = absurd (omega (arith, le'))
-parts_any (suc one) (suc two) size [] lt le le' = refl
-parts_any (suc one) (suc two) size (b ∷ bytes) lt le le' =
-    ap (λ (x : List (List ℕ)). take size (b ∷ bytes) ∷ x)
-    (parts_any one two size (drop size (b ∷ bytes)) lt (omega (arith, length-drop size (b ∷ bytes), lt, le)) (omega (arith, length-drop size (b ∷ bytes), lt, le')))
-
-parts_more : (fuel size : ℕ) (bytes : List ℕ) → 0 < size → length bytes ≤ fuel → parts_within fuel size bytes ≡ parts size bytes
-parts_more fuel size bytes lt le = parts_any fuel (length bytes) size bytes lt le (omega arith)
-
-parts_step : (size b : ℕ) (bytes : List ℕ) → 0 < size → parts size (b ∷ bytes) ≡ take size (b ∷ bytes) ∷ parts size (drop size (b ∷ bytes))
-parts_step size b bytes lt =
-    ap (λ (x : List (List ℕ)). take size (b ∷ bytes) ∷ x) (parts_more (length bytes) size (drop size (b ∷ bytes)) lt (omega (arith, length-drop size (b ∷ bytes), lt)))
-
-mark_step : (size : ℕ) (part rest : List ℕ) (last : Bool) → 0 < size → (last ≡ true → length rest ≡ 0) → (last ≡ false → 0 < length rest) → marked (part ∷ parts size rest) ≡ (part, last) ∷ marked (parts size rest)
+mark_step : (size : ℕ) (part rest : List ℕ) (last : Bool) → 0 < size → (last ≡ true → length rest ≡ 0) → (last ≡ false → 0 < length rest) → marked (part ∷ chunks size rest) ≡ (part, last) ∷ marked (chunks size rest)
 mark_step size part [] true lt yes_ no_ = refl
 mark_step size part [] false lt yes_ no_ = absurd (omega (arith, no_ refl))
 mark_step size part (b ∷ rest) true lt yes_ no_ = absurd (omega (arith, yes_ refl))
@@ -80,8 +62,8 @@ run_step held (b ∷ rest) n last some lt is is_last =
     let all : List ℕ = b ∷ rest in
     let same_take : take most all ≡ take n all = take_min most n all is in
     let same_drop : drop most all ≡ drop n all = drop_min most n all is in
-    let step : run_given held all ≡ marked (take n all ∷ parts most (drop n all)) =
-    ap marked (parts_step most b rest lt ∙ (λ i. same_take i ∷ parts most (same_drop i))) in
+    let step : run_given held all ≡ marked (take n all ∷ chunks most (drop n all)) =
+    ap marked (chunks_step most b rest lt ∙ (λ i. same_take i ∷ chunks most (same_drop i))) in
     step ∙ mark_step most (take n all) (drop n all) last lt
     (λ e. (let f : n ≡ length all = eqb-true n (length all) (sym is_last ∙ e) in omega (arith, f, length-drop n all)))
     (λ e. (let f = eqb-false n (length all) (sym is_last ∙ e) in omega (arith, f, is, length-drop n all)))
@@ -156,7 +138,7 @@ size_marked [] = refl
 size_marked (x ∷ []) = refl
 size_marked (x ∷ y ∷ xs) = ap (λ (k : ℕ). length x + k) (size_marked (y ∷ xs))
 
-sizes_within : (fuel size : ℕ) (bytes : List ℕ) → 0 < size → length bytes ≤ fuel → sizes (parts_within fuel size bytes) ≡ length bytes
+sizes_within : (fuel size : ℕ) (bytes : List ℕ) → 0 < size → length bytes ≤ fuel → sizes (chunks_within fuel size bytes) ≡ length bytes
 sizes_within zero size [] lt le = refl
 sizes_within zero size (b ∷ bytes) lt le = absurd (omega (arith, le))
 sizes_within (suc more) size [] lt le = refl
@@ -165,7 +147,7 @@ sizes_within (suc more) size (b ∷ bytes) lt le =
     omega (arith, e, length-drop size (b ∷ bytes), length-take size (b ∷ bytes))
 
 size_run : (held : Held) (run : List ℕ) → 0 < held.initiator_max_recv → size_of (run_given held run) ≡ length run
-size_run held run lt = size_marked (parts held.initiator_max_recv run) ∙ sizes_within (length run) held.initiator_max_recv run lt (omega arith)
+size_run held run lt = size_marked (chunks held.initiator_max_recv run) ∙ sizes_within (length run) held.initiator_max_recv run lt (omega arith)
 
 runs_step : (held : Held) (rest : List ℕ) (n : ℕ) → 0 < length rest → 0 < max_burst held → n ≡ min (max_burst held) (length rest)
     → parts_given held rest ≡ run_given held (take n rest) ++ parts_given held (drop n rest)
@@ -173,8 +155,8 @@ runs_step held [] n some lt is = absurd (omega (arith, some))
 runs_step held (b ∷ rest) n some lt is =
     let burst : ℕ = max_burst held in
     let all : List ℕ = b ∷ rest in
-    ap (flat_map (run_given held)) (parts_step burst b rest lt)
-    ∙ flat_map-cons (run_given held) (take burst all) (parts burst (drop burst all))
+    ap (flat_map (run_given held)) (chunks_step burst b rest lt)
+    ∙ flat_map-cons (run_given held) (take burst all) (chunks burst (drop burst all))
     ∙ (λ i. run_given held (take_min burst n all is i) ++ parts_given held (drop_min burst n all is i))
 
 pub gave_run : (s : Machine) (tag : ℕ) (bytes rest : List ℕ) (sent next : Sent) (old new now after : List ℕ) (n : ℕ)

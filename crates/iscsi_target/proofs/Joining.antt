@@ -3,10 +3,9 @@ use Rattle.std.proofs.Common.{◌≡◌, not, ℕ, ◌+◌, ◌-◌, min, List, 
 use Rattle.std.specs.Prelude.{◌==◌, nat_lt, nat_le, ◌&&◌, ◌||◌, if◌then◌else◌}
 use Rattle.std.proofs.lemmas.List.{map-append}
 use Rattle.scsi_disk.specs.Disk.{Disk}
-use Rattle.scsi_disk.specs.Effect.{effect}
 use Rattle.scsi_disk.specs.declared.order.Plan.{Plan}
 use Rattle.scsi_disk.specs.declared.order.Plan.TheVariants.{Refuse, Take, Give}
-use Rattle.scsi_disk.specs.Plan.{plan_of}
+use Rattle.scsi_disk.specs.Plan.{plan_of, first_of}
 use Rattle.iscsi_text.specs.Text.{Pairs}
 use Rattle.iscsi_text.specs.Canonical.{canonical_text}
 use Rattle.iscsi_text.specs.Reading.{text_in}
@@ -22,18 +21,22 @@ use Rattle.iscsi_stream.specs.Segment.{Segment, segment_bytes}
 use Rattle.iscsi_stream.specs.Stream.{Message}
 use Rattle.iscsi_login.specs.declared.phase.Phase.{Phase}
 use Rattle.iscsi_login.specs.declared.phase.Phase.TheVariants.{Login, Full, Closed}
-use Rattle.iscsi_login.specs.Held.{first_burst}
-use Rattle.iscsi_target.specs.State.{Machine, Write, Pieces, data_of, Execution, Stepped, Reply, on, nothing, message, counted, is_within, max_cmd_sn, first_of, reserved_tag}
-use Rattle.iscsi_target.specs.Rejecting.{reject, too_many_immediate}
+use Rattle.iscsi_login.specs.Held.{first_burst, max_burst}
+use Rattle.iscsi_target.specs.State.{Machine, Write, Execution, Stepped, Reply, on, nothing, message, counted, max_cmd_sn}
+use Rattle.iscsi_stream.specs.Pieces.{Pieces, data_of}
+use Rattle.iscsi_pdu.specs.Serial.{is_within}
+use Rattle.iscsi_pdu.specs.Fields.{reserved_tag}
+use Rattle.iscsi_target.specs.Rejecting.{reject}
+use Rattle.iscsi_pdu.specs.Rules.{too_many_immediate}
 use Rattle.iscsi_target.specs.declared.status.Status.{Status}
 use Rattle.iscsi_target.specs.LoginText.{text_refusals}
 use Rattle.iscsi_target.specs.Login.{login_step, login_in, login_request, refuse_or, numbered, entered, segment_taken, whole_text, text_answered, text_ending, request_refusals, gather}
 use Rattle.iscsi_target.specs.Discovery.{text_request, text_reply_to, reply_pairs}
 use Rattle.iscsi_target.specs.Requests.{nop_out, task_request, logout_request}
-use Rattle.iscsi_target.specs.Transfer.{with_piece, with_data, is_in_sequence, received, is_idle, joined_write, joined, max_burst, is_unsolicited_piece, is_solicited_piece, unsolicited_end}
+use Rattle.iscsi_target.specs.Transfer.{with_piece, with_data, is_in_sequence, received, is_idle, joined_write, joined, is_unsolicited_piece, is_solicited_piece, unsolicited_end}
 use Rattle.iscsi_target.specs.declared.due.Due.{Due}
 use Rattle.iscsi_target.specs.declared.due.Due.TheVariants.{Nothing, Unsolicited, Solicited}
-use Rattle.iscsi_target.specs.Execution.{Device, execute}
+use Rattle.iscsi_target.specs.Execution.{Device, execute, reliable}
 use Rattle.iscsi_target.specs.Command.{scsi_command, data_for, data_taken, planned, proceed, order_of, breaks_burst_rules, ask}
 use Rattle.iscsi_target.specs.Machine.{step, answers, then_stepped, step_on, phase_step, full_step, due_step, request, handled, advanced, accepting, is_due_kind, is_too_long, is_over_limit, is_closed}
 use Rattle.iscsi_target.specs.Laws.{joined_execution, joined_stepped}
@@ -183,7 +186,7 @@ request_same_in device s w disk m false n =
 
 -- what an execution with these bytes leaves, with its pieces joined
 abbrev executed_with : Device → Machine → Disk → Write → List ℕ → Stepped
-executed_with device s disk v bytes = record (joined_stepped (execute (λ d o b. device disk v.order bytes) s disk v.initiator_task_tag v.order [])) {
+executed_with device s disk v bytes = record (joined_stepped (execute (λ n d o b. device 0 disk v.order bytes) s disk v.initiator_task_tag v.order [])) {
   executed = record { initiator_task_tag = v.initiator_task_tag; disk = disk; order = v.order; pieces = with_piece [] 0 bytes } ∷ [];
 }
 
@@ -334,7 +337,7 @@ answers_joined s disk [] = step_joined_nothing s disk
 answers_joined s disk (m ∷ ms) =
     let a : Stepped = step (joined s) disk m in
     let b : Stepped = step s disk m in
-    let e : joined_stepped a ≡ joined_stepped b = step_joined effect s disk m in
+    let e : joined_stepped a ≡ joined_stepped b = step_joined reliable s disk m in
     joined_then a (answers a.machine a.disk ms)
     ∙ ap (λ (r : Stepped). then_stepped (joined_stepped a) r) (sym (answers_joined a.machine a.disk ms))
     ∙ ap (λ (r : Stepped). then_stepped r (joined_stepped (answers r.machine r.disk ms))) e

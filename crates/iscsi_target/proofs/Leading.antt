@@ -1,21 +1,23 @@
 -- The disk after messages, over a store that may fail.
-use Rattle.std.proofs.Common.{◌≡◌, List, [], ◌∷◌, ◌++◌, refl, sym, subst}
-use Rattle.std.specs.List.{AllByRecursion}
+use Rattle.std.proofs.Common.{◌≡◌, ℕ, inl, inr, arith, List, [], ◌∷◌, ◌++◌, refl, sym, subst}
+use Rattle.std.proofs.lemmas.Bool.{cases_lt}
 use Rattle.scsi_disk.specs.Disk.{Disk}
+use Rattle.scsi_disk.specs.Effect.{Effect, Executes}
 use Rattle.iscsi_stream.specs.Segment.{segment_bytes}
 use Rattle.iscsi_stream.specs.Stream.{Message}
-use Rattle.iscsi_target.specs.State.{Machine, Write, Execution, Stepped, data_of}
+use Rattle.iscsi_target.specs.State.{Machine, Write, Execution, Stepped}
+use Rattle.iscsi_stream.specs.Pieces.{data_of}
 use Rattle.iscsi_target.specs.Transfer.{is_whole, is_idle}
-use Rattle.iscsi_target.specs.Execution.{Device}
+use Rattle.iscsi_target.specs.Execution.{Device, device_next}
 use Rattle.iscsi_target.specs.Command.{proceed, opened}
-use Rattle.iscsi_target.specs.Machine.{step_on, IsAllowed, MayStep, MayAnswer}
-use Rattle.iscsi_target.specs.Laws.{Leads}
+use Rattle.iscsi_target.specs.Machine.{step_on, RunsIn, MayStep, MayAnswer}
+use Rattle.iscsi_target.specs.Laws.{Leads, MayLeave}
 use Rattle.iscsi_target.proofs.StepParts.{by_cases, Parts, step_parts}
 
 -- what was executed led from disk to disk as the device did it
 abbrev Does : Device → Disk → List Execution → Disk → Type 0
 Does device disk [] last = last ≡ disk
-Does device disk (e ∷ es) last = (e.disk ≡ disk) × Does device (device e.disk e.order (data_of e.pieces)).disk es last
+Does device disk (e ∷ es) last = (e.disk ≡ disk) × Does (device_next device) (device 0 e.disk e.order (data_of e.pieces)).disk es last
 
 record Goes (device : Device) (disk : Disk) (r : Stepped) : Type 0 where
   is : Does device disk r.executed r.disk
@@ -47,25 +49,35 @@ parts_do device disk = record {
 step_does : (device : Device) (s : Machine) (disk : Disk) (m : Message) → Goes device disk (step_on device s disk m)
 step_does device s disk m = step_parts device disk (λ s m r. Goes device disk r) (λ s m r. Goes device disk r) (parts_do device disk) s m
 
-leads_of : (device : Device) (disk : Disk) (es : List Execution) (last : Disk) → Does device disk es last → AllByRecursion (IsAllowed device) es → Leads disk es last
-unfolding Leads
-leads_of device disk [] last d a = d
-leads_of device disk (e ∷ es) last d a =
-    (device e.disk e.order (data_of e.pieces), d.0, a.0, leads_of device (device e.disk e.order (data_of e.pieces)).disk es last d.1 a.1)
+leaves : (e : Execution) (before after : ℕ) (left : Effect) → Executes before after e.disk e.order (data_of e.pieces) left → MayLeave e left
+leaves e before after left x = elim (cases_lt before after) [
+  | inl lt ↦ inr (x.fails lt)
+  | inr ge ↦ inl (x.works (omega (arith, ge, x.rises)))
+]
 
-leads_append : (disk mid last : Disk) (a b : List Execution) → Leads disk a mid → Leads mid b last → Leads disk (a ++ b) last
+leads_of : (device : Device) (disk : Disk) (before after : ℕ) (es : List Execution) (last : Disk) → Does device disk es last → RunsIn device before es after → Leads disk es last
+unfolding Leads
+leads_of device disk before after [] last d r = d
+leads_of device disk before after (e ∷ es) last d r = (
+  device 0 e.disk e.order (data_of e.pieces),
+  d.0,
+  leaves e before r.0 (device 0 e.disk e.order (data_of e.pieces)) r.1,
+  leads_of (device_next device) (device 0 e.disk e.order (data_of e.pieces)).disk r.0 after es last d.1 r.2,
+)
+
+pub leads_append : (disk mid last : Disk) (a b : List Execution) → Leads disk a mid → Leads mid b last → Leads disk (a ++ b) last
 unfolding Leads
 leads_append disk mid last [] b p q = subst (λ (d : Disk). Leads d b last) p q
 leads_append disk mid last (e ∷ a) b p q = (p.0, p.1, p.2, leads_append p.0.disk mid last a b p.3 q)
 
-step_leads : (s : Machine) (disk : Disk) (m : Message) (r : Stepped) → MayStep s disk m r → Leads disk r.executed r.disk
-step_leads s disk m r p =
+step_leads : (s : Machine) (disk : Disk) (before after : ℕ) (m : Message) (r : Stepped) → MayStep s disk before m r after → Leads disk r.executed r.disk
+step_leads s disk before after m r p =
     let d : Goes p.device disk r = subst (λ (x : Stepped). Goes p.device disk x) (sym p.is) (step_does p.device s disk m) in
-    leads_of p.device disk r.executed r.disk d.is p.allowed
+    leads_of p.device disk before after r.executed r.disk d.is p.runs
 
-pub may_leads : (s : Machine) (disk : Disk) (ms : List Message) (r : Stepped) → MayAnswer s disk ms r → Leads disk r.executed r.disk
+pub may_leads : (s : Machine) (disk : Disk) (before after : ℕ) (ms : List Message) (r : Stepped) → MayAnswer s disk before ms r after → Leads disk r.executed r.disk
 unfolding MayAnswer Leads
-may_leads s disk [] r e = subst (λ (x : Stepped). Leads disk x.executed x.disk) (sym e) refl
-may_leads s disk (m ∷ ms) r e =
-    subst (λ (x : Stepped). Leads disk x.executed x.disk) (sym e.4)
-    (leads_append disk e.0.disk e.1.disk e.0.executed e.1.executed (step_leads s disk m e.0 e.2) (may_leads e.0.machine e.0.disk ms e.1 e.3))
+may_leads s disk before after [] r e = subst (λ (x : Stepped). Leads disk x.executed x.disk) (sym e.0) refl
+may_leads s disk before after (m ∷ ms) r e =
+    subst (λ (x : Stepped). Leads disk x.executed x.disk) (sym e.5)
+    (leads_append disk e.0.disk e.1.disk e.0.executed e.1.executed (step_leads s disk before e.2 m e.0 e.3) (may_leads e.0.machine e.0.disk e.2 after ms e.1 e.4))

@@ -1,6 +1,6 @@
 -- Segments and answers of a login.
 use Rattle.std.proofs.Common.{◌≡◌, ◌<◌, ◌≤◌, inl, inr, ◌∙◌, ℕ, ◌+◌, List, [], ◌∷◌, ◌++◌, Bool, true, false, length, Option, Some, None, refl, sym, ap, subst}
-use Rattle.std.specs.Prelude.{not, nat_lt, if◌then◌else◌, Result, Ok, Err, IfOk}
+use Rattle.std.specs.Prelude.{not, nat_lt, if◌then◌else◌, Result, IfOk}
 use Rattle.std.proofs.lemmas.Bool.{lt-ltb, le-ltb, cases_lt}
 use Rattle.std.proofs.lemmas.List.{append-nil}
 use Rattle.iscsi_text.specs.Text.{Pairs}
@@ -8,12 +8,11 @@ use Rattle.iscsi_text.specs.Canonical.{canonical_text}
 use Rattle.iscsi_text.specs.Reading.{text_in}
 use Rattle.iscsi_pdu.specs.Meaning.{whole}
 use Rattle.iscsi_pdu.specs.declared.head.Head.{Head}
-use Rattle.iscsi_pdu.specs.declared.head.Head.TheVariants.{LoginRequest, LoginResponse}
+use Rattle.iscsi_pdu.specs.declared.head.Head.TheVariants.{LoginResponse}
 use Rattle.iscsi_pdu.specs.declared.head.login_request.LoginRequest.{LoginRequest as Request}
 use Rattle.iscsi_pdu.specs.declared.head.login_response.LoginResponse.{LoginResponse as Response}
-use Rattle.iscsi_stream.specs.Segment.{Segment, Bytes, Text, segment_of, segment_bytes, text_or_bytes}
+use Rattle.iscsi_stream.specs.Segment.{Segment, Bytes, Text, segment_bytes}
 use Rattle.iscsi_stream.specs.Canonical.{canon}
-use Rattle.iscsi_stream.proofs.Segments.{segment_whole}
 use Rattle.iscsi_target.specs.State.{Machine, Reply, say, closed, message}
 use Rattle.iscsi_target.specs.Login.{login_message, refuse, response, segment_taken, whole_text, text_ending, gather}
 use Rattle.iscsi_target.specs.LoginText.{out_of_resources}
@@ -23,11 +22,6 @@ use Rattle.iscsi_target.proofs.Serving.{by_ok}
 
 pub not_false : (b : Bool) → b ≡ true → not b ≡ false
 not_false b e = rw e refl
-
-pub text_of_segment : {E : Type 0} (c : Bool) (r : Request) (bytes : List ℕ) (result : Result (Option Pairs) E) → c ≡ false → r.continues ≡ false → IfOk result (λ text. text ≡ text_in bytes)
-    → IfOk result (λ text. text_or_bytes text bytes ≡ segment_of c (LoginRequest r) bytes)
-text_of_segment c r bytes (Ok text) first last is = segment_whole c (LoginRequest r) bytes text first (rw last refl) (sym is)
-text_of_segment c r bytes (Err e) first last is = tt
 
 -- one answer with a text as bytes
 pub one_text : (h : Response) (pairs : Pairs) → canon (login_message h pairs ∷ []) ≡ whole (LoginResponse h) (canonical_text pairs)

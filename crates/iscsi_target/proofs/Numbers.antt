@@ -4,7 +4,6 @@ use Rattle.std.specs.List.{AllByRecursion}
 use Rattle.std.proofs.lemmas.List.{map-append}
 use Rattle.std.proofs.lemmas.Grind.{flat_map-append}
 use Rattle.scsi_disk.specs.Disk.{Disk}
-use Rattle.scsi_disk.specs.Effect.{effect}
 use Rattle.iscsi_pdu.specs.declared.head.Head.{Head}
 use Rattle.iscsi_pdu.specs.declared.head.Head.TheVariants.{LoginRequest}
 use Rattle.iscsi_pdu.specs.declared.head.login_request.LoginRequest.{LoginRequest as LoginPdu}
@@ -12,13 +11,15 @@ use Rattle.iscsi_stream.specs.Stream.{Message}
 use Rattle.iscsi_login.specs.Negotiation.{IsInRange}
 use Rattle.iscsi_login.specs.Held.{IsHeld}
 use Rattle.iscsi_target.specs.Configured.{Settings}
-use Rattle.iscsi_target.specs.State.{Machine, Execution, Stepped, limit, on, nothing, shut, opening, next_sn}
+use Rattle.iscsi_target.specs.State.{Machine, Execution, Stepped, limit, on, nothing, shut, opening}
+use Rattle.iscsi_pdu.specs.Serial.{next_sn}
 use Rattle.iscsi_target.specs.Login.{login_step, login_in, login_request, numbered}
 use Rattle.iscsi_target.specs.Machine.{step, answers, then_stepped, is_closed, is_over_limit}
 use Rattle.iscsi_target.specs.Laws.{stat_sns, stat_sn_of, given_number, response_tags, response_tag, cmd_sns, cmd_sn_of, HasCmdSn, CountOn}
 use Rattle.iscsi_target.proofs.StepParts.{by_cases}
 use Rattle.iscsi_target.proofs.Replies.{Count, IsReply, request_reply}
 use Rattle.iscsi_target.proofs.Telling.{StepTells, step_tells, tags_done}
+use Rattle.iscsi_target.specs.Execution.{reliable}
 
 pub count_append : (n : ℕ) (a b : List ℕ) (mid after : ℕ) → Count n a mid → Count mid b after → Count n (a ++ b) after
 count_append n [] b mid after e c = subst (λ (x : ℕ). Count x b after) e c
@@ -44,7 +45,7 @@ answers_stat_sns s disk (m ∷ ms) =
     let later : Stepped = answers first.machine first.disk ms in
     subst (λ (ns : List ℕ). Count s.stat_sn ns later.machine.stat_sn) (sym (flat_map-append (λ (x : Message). given_number (stat_sn_of x.head)) first.answers later.answers))
     (count_append s.stat_sn (stat_sns first.answers) (stat_sns later.answers) first.machine.stat_sn later.machine.stat_sn
-    (step_tells effect disk s m).stat_sn (answers_stat_sns first.machine first.disk ms))
+    (step_tells reliable disk s m).stat_sn (answers_stat_sns first.machine first.disk ms))
 
 pub answers_tags : (s : Machine) (disk : Disk) (ms : List Message) → response_tags (answers s disk ms).answers ≡ tags_done (answers s disk ms).executed
 unfolding answers
@@ -53,7 +54,7 @@ answers_tags s disk (m ∷ ms) =
     let first : Stepped = step s disk m in
     let later : Stepped = answers first.machine first.disk ms in
     flat_map-append (λ (x : Message). response_tag x.head) first.answers later.answers
-    ∙ ap (λ (ts : List ℕ). ts ++ response_tags later.answers) (step_tells effect disk s m).tags
+    ∙ ap (λ (ts : List ℕ). ts ++ response_tags later.answers) (step_tells reliable disk s m).tags
     ∙ ap (λ (ts : List ℕ). tags_done first.executed ++ ts) (answers_tags first.machine first.disk ms)
     ∙ sym (map-append (λ (e : Execution). e.initiator_task_tag) first.executed later.executed)
 
@@ -66,7 +67,7 @@ answers_cmd_sns s disk [] b f all = refl
 answers_cmd_sns s disk (m ∷ ms) b f all =
     let first : Stepped = step s disk m in
     let later : Stepped = answers first.machine first.disk ms in
-    let t : StepTells effect s m first = step_tells effect disk s m in
+    let t : StepTells reliable s m first = step_tells reliable disk s m in
     subst (λ (ns : List ℕ). Count s.exp_cmd_sn ns later.machine.exp_cmd_sn) (sym (flat_map-append (λ (x : Message). given_number (cmd_sn_of x.head)) first.accepted later.accepted))
     (count_append s.exp_cmd_sn (cmd_sns first.accepted) (cmd_sns later.accepted) first.machine.exp_cmd_sn later.machine.exp_cmd_sn
     (t.cmd_sns b f all.0) (answers_cmd_sns first.machine first.disk ms (t.begun b) (t.fits f all.0.login) all.1))
@@ -91,7 +92,7 @@ pub record IsFit (s : Machine) : Type 0 where
 
 pub step_fit : (s : Machine) (disk : Disk) (m : Message) → IsFit s → IsFit (step s disk m).machine
 step_fit s disk m f =
-    let t : StepTells effect s m (step s disk m) = step_tells effect disk s m in
+    let t : StepTells reliable s m (step s disk m) = step_tells reliable disk s m in
     record {
       held = λ p. let q : IsInRange s.settings.preferences = subst (λ (x : Settings). IsInRange x.preferences) t.settings p in t.held q (f.held q);
       limit = subst (λ (x : Settings). (step s disk m).machine.held.target_max_recv ≤ limit x) (sym t.settings) (t.limit f.limit);
@@ -105,7 +106,7 @@ answers_fit s disk (m ∷ ms) f = answers_fit (step s disk m).machine (step s di
 pub answers_settings : (s : Machine) (disk : Disk) (ms : List Message) → (answers s disk ms).machine.settings ≡ s.settings
 unfolding answers
 answers_settings s disk [] = refl
-answers_settings s disk (m ∷ ms) = answers_settings (step s disk m).machine (step s disk m).disk ms ∙ (step_tells effect disk s m).settings
+answers_settings s disk (m ∷ ms) = answers_settings (step s disk m).machine (step s disk m).disk ms ∙ (step_tells reliable disk s m).settings
 
 -- ---- from the first login request
 

@@ -7,11 +7,13 @@ use Rattle.scsi_disk.specs.Plan.{plan_of}
 use Rattle.scsi_disk.specs.declared.order.Plan.TheVariants.{Take}
 use Rattle.iscsi_pdu.specs.declared.head.data_out.DataOut.{DataOut as DataPdu}
 use Rattle.iscsi_login.specs.Held.{Held}
-use Rattle.iscsi_target.specs.State.{Write, Pieces, data_of, reserved_tag}
+use Rattle.iscsi_target.specs.State.{Write}
+use Rattle.iscsi_stream.specs.Pieces.{Pieces, data_of, TilesFrom}
+use Rattle.iscsi_pdu.specs.Fields.{reserved_tag}
 use Rattle.iscsi_target.specs.declared.due.Due.{Due}
 use Rattle.iscsi_target.specs.declared.due.Due.TheVariants.{Nothing, Unsolicited, Solicited}
 use Rattle.iscsi_target.specs.Transfer.{received, with_piece, with_data, taken, is_in_sequence, is_next, is_unsolicited_piece, is_solicited_piece, unsolicited_end, continued, desired, asking}
-use Rattle.iscsi_target.specs.Tiles.{TilesFrom, Tiles, IsModest}
+use Rattle.iscsi_target.specs.Tiles.{Tiles, IsModest}
 
 -- What is due lies within what the write takes (section 11.8).
 abbrev pub DueFits : ℕ → Due → Type 0
@@ -42,7 +44,7 @@ size_with pieces at [] = omega arith
 size_with pieces at (b ∷ bytes) = size_append pieces at (b ∷ bytes)
 
 tiles_append : (from : ℕ) (pieces : Pieces) (n : ℕ) (bytes : List ℕ) → TilesFrom from pieces n → TilesFrom from (pieces ++ (n, bytes) ∷ []) (n + length bytes)
-tiles_append from [] n bytes e = (e, ap (λ (x : ℕ). x + length bytes) e)
+tiles_append from [] n bytes e = (sym e, ap (λ (x : ℕ). x + length bytes) e)
 tiles_append from (p ∷ pieces) n bytes e = (e.0, tiles_append (from + length p.1) pieces n bytes e.1)
 
 pub tiles_with : (pieces : Pieces) (n : ℕ) (bytes : List ℕ) → Tiles pieces n → Tiles (with_piece pieces n bytes) (n + length bytes)

@@ -3,7 +3,6 @@ use Rattle.std.proofs.Common.{◌≡◌, ◌<◌, ◌≤◌, ℕ, List, Bool, tr
 use Rattle.std.specs.Prelude.{nat_lt}
 use Rattle.std.proofs.lemmas.Bool.{ltb-false, ltb-true}
 use Rattle.scsi_disk.specs.Disk.{Disk}
-use Rattle.scsi_disk.specs.Effect.{effect}
 use Rattle.iscsi_pdu.specs.declared.head.Head.{Head}
 use Rattle.iscsi_pdu.specs.declared.head.Head.TheVariants.{NopOut, ScsiCommand, TaskRequest, TextRequest, LogoutRequest}
 use Rattle.iscsi_stream.specs.Segment.{Segment, Bytes, Text, segment_bytes}
@@ -18,13 +17,16 @@ use Rattle.iscsi_login.specs.Negotiation.{Allows, IsInRange}
 use Rattle.iscsi_login.specs.Held.{Held, IsHeld, defaults, held_value, number_of}
 use Rattle.iscsi_login.proofs.Agreement.{default_allowed}
 use Rattle.iscsi_target.specs.Configured.{Settings}
-use Rattle.iscsi_target.specs.State.{Machine, Stepped, opening, on, nothing, limit, is_within, max_cmd_sn}
-use Rattle.iscsi_target.specs.Machine.{step, answers, is_closed, is_closed_phase, is_over_limit, full_step, phase_step, due_step, request}
+use Rattle.iscsi_target.specs.State.{Machine, Stepped, opening, on, nothing, limit, max_cmd_sn}
+use Rattle.iscsi_pdu.specs.Serial.{is_within}
+use Rattle.iscsi_target.specs.Machine.{step, answers, is_closed, is_over_limit, full_step, phase_step, due_step, request}
+use Rattle.iscsi_login.specs.Stage.{is_closed_phase}
 use Rattle.iscsi_target.specs.Tiles.{TilesDataIn}
 use Rattle.iscsi_target.specs.Laws.{IsOutside, cmd_sn_of, cmd_sn_if}
 use Rattle.iscsi_target.proofs.StepParts.{by_cases}
 use Rattle.iscsi_target.proofs.Telling.{StepTells, step_tells, CanGive}
 use Rattle.iscsi_target.proofs.Numbers.{IsFit, answers_fit, answers_settings}
+use Rattle.iscsi_target.specs.Execution.{reliable}
 
 -- ---- what is held
 
@@ -72,20 +74,20 @@ pub reached_data_in : (settings : Settings) (n : ℕ) (disk : Disk) (ms : List M
     → TilesDataIn (step (answers (opening settings n) disk ms).machine (answers (opening settings n) disk ms).disk m)
 reached_data_in settings n disk ms m p =
     let r : Stepped = answers (opening settings n) disk ms in
-    let t : StepTells effect r.machine m (step r.machine r.disk m) = step_tells effect r.disk r.machine m in
+    let t : StepTells reliable r.machine m (step r.machine r.disk m) = step_tells reliable r.disk r.machine m in
     record { tags = t.gives_tags; tiled = t.gives (can_give r.machine.held (reached_held settings n disk ms p)); none = t.gives_none }
 
 -- ---- outside the window
 
 outside_if : (s : Machine) (disk : Disk) (m : Message) (i : Bool) (cmd_sn n : ℕ) → cmd_sn_if i cmd_sn ≡ Some n
-    → is_within n s.exp_cmd_sn (max_cmd_sn s) ≡ false → request effect s disk m i cmd_sn ≡ on disk (nothing s)
+    → is_within n s.exp_cmd_sn (max_cmd_sn s) ≡ false → request reliable s disk m i cmd_sn ≡ on disk (nothing s)
 outside_if s disk m true cmd_sn n e o = absurd cc
 outside_if s disk m false cmd_sn n e o =
     let f : cmd_sn ≡ n = cc in
     rw f (rw o refl)
 
 outside_due : (s : Machine) (disk : Disk) (m : Message) (head : Head) (n : ℕ) → cmd_sn_of head ≡ Some n
-    → is_within n s.exp_cmd_sn (max_cmd_sn s) ≡ false → due_step effect s disk m head ≡ on disk (nothing s)
+    → is_within n s.exp_cmd_sn (max_cmd_sn s) ≡ false → due_step reliable s disk m head ≡ on disk (nothing s)
 outside_due s disk m (NopOut h) n e o = outside_if s disk m h.immediate h.cmd_sn n e o
 outside_due s disk m (ScsiCommand h) n e o = outside_if s disk m h.immediate h.cmd_sn n e o
 outside_due s disk m (TaskRequest h) n e o = outside_if s disk m h.immediate h.cmd_sn n e o
@@ -93,7 +95,7 @@ outside_due s disk m (TextRequest h) n e o = outside_if s disk m h.immediate h.c
 outside_due s disk m (LogoutRequest h) n e o = outside_if s disk m h.immediate h.cmd_sn n e o
 outside_due s disk m _ n e o = absurd cc
 
-outside_full : (s : Machine) (disk : Disk) (m : Message) → IsOutside s m → full_step effect s disk m ≡ on disk (nothing s)
+outside_full : (s : Machine) (disk : Disk) (m : Message) → IsOutside s m → full_step reliable s disk m ≡ on disk (nothing s)
 outside_full s disk m o = rw (o.kind, o.size) (outside_due s disk m m.head o.number o.is_number o.outside)
 
 within_limit : (s : Machine) (segment : Segment) → nat_lt s.held.target_max_recv (length (segment_bytes segment)) ≡ false
@@ -108,7 +110,7 @@ pub outside_step : (s : Machine) (disk : Disk) (m : Message) → s.held.target_m
 outside_step s disk m le o =
     let open_ : is_closed s ≡ false = ap is_closed_phase o.phase in
     let short : is_over_limit s m.segment ≡ false = within_limit s m.segment o.size le in
-    rw (open_, short) (ap (λ (p : Phase). phase_step effect p s disk m) o.phase ∙ outside_full s disk m o)
+    rw (open_, short) (ap (λ (p : Phase). phase_step reliable p s disk m) o.phase ∙ outside_full s disk m o)
 
 pub reached_outside : (settings : Settings) (n : ℕ) (disk : Disk) (ms : List Message) (m : Message) → IsOutside (answers (opening settings n) disk ms).machine m
     → step (answers (opening settings n) disk ms).machine (answers (opening settings n) disk ms).disk m

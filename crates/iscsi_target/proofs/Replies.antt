@@ -20,15 +20,20 @@ use Rattle.iscsi_login.specs.Key.{IsWithin}
 use Rattle.iscsi_login.specs.Negotiation.{IsInRange, max_recv_range}
 use Rattle.iscsi_login.specs.Held.{IsHeld}
 use Rattle.iscsi_login.specs.Answer.{max_recv_key}
-use Rattle.iscsi_target.specs.State.{Machine, Reply, limit, nothing, shut, first_of, next_sn, reserved_tag}
-use Rattle.iscsi_target.specs.Rejecting.{reject, breach, kind_not_due}
+use Rattle.iscsi_target.specs.State.{Machine, Reply, limit, nothing, shut}
+use Rattle.scsi_disk.specs.Plan.{first_of}
+use Rattle.iscsi_pdu.specs.Serial.{next_sn}
+use Rattle.iscsi_pdu.specs.Fields.{reserved_tag}
+use Rattle.iscsi_target.specs.Rejecting.{reject, breach}
+use Rattle.iscsi_pdu.specs.Rules.{kind_not_due}
 use Rattle.iscsi_target.specs.declared.status.Status.{Status}
 use Rattle.iscsi_target.specs.LoginText.{text_refusals, declared_length, is_operational, is_bad_length, value_for, session_for}
 use Rattle.iscsi_target.specs.Login.{login_step, login_in, login_request, refuse_or, refuse, numbered, entered, segment_taken, whole_text, text_answered, text_ending, request_refusals, gather}
 use Rattle.iscsi_target.specs.Discovery.{text_request, text_reply_to, reply_pairs}
 use Rattle.iscsi_target.specs.Requests.{nop_out, task_request, logout_request}
 use Rattle.iscsi_target.specs.Machine.{is_closed}
-use Rattle.iscsi_target.specs.Tiles.{r2t_ranges, data_in_pieces}
+use Rattle.iscsi_target.specs.Tiles.{r2t_ranges}
+use Rattle.iscsi_stream.specs.Pieces.{data_pieces}
 use Rattle.iscsi_target.specs.Laws.{stat_sns, response_tags, FitsNumber, login_cmd_sn}
 use Rattle.iscsi_target.proofs.StepParts.{by_cases}
 use Rattle.iscsi_target.proofs.Lengths.{declares_well, holds}
@@ -48,7 +53,7 @@ pub record IsReply (s : Machine) (r : Reply) : Type 0 where
   pub ranges : r2t_ranges r.answers ≡ []
   pub rule : (k : ℕ) → r.rule ≡ Some k → is_closed r.machine ≡ true
   pub tags : response_tags r.answers ≡ []
-  pub data_ins : data_in_pieces r.answers ≡ []
+  pub data_ins : data_pieces r.answers ≡ []
   pub settings : r.machine.settings ≡ s.settings
   pub exp_cmd_sn : r.machine.exp_cmd_sn ≡ s.exp_cmd_sn
   pub begun : r.machine.begun ≡ s.begun

@@ -1,18 +1,17 @@
 -- What the parts of a session do with a store.
-use Rattle.std.proofs.Common.{◌≡◌, ◌⊎◌, inl, inr, ◌∙◌, ℕ, List, [], ◌∷◌, ◌++◌, map, Option, None, refl, sym, ap, subst, arith}
+use Rattle.std.proofs.Common.{◌≡◌, inl, inr, ◌∙◌, ℕ, List, [], ◌∷◌, ◌++◌, map, Option, None, refl, sym, ap, subst, arith}
 use Rattle.std.specs.Prelude.{Result, Ok, Err, IfOk, OnErr}
-use Rattle.std.specs.List.{AllByRecursion}
 use Rattle.std.proofs.lemmas.Bool.{cases_lt}
 use Rattle.scsi_disk.specs.Disk.{Disk}
-use Rattle.scsi_disk.specs.Effect.{Effect, Executes, FailsBy, effect}
-use Rattle.scsi_disk.specs.Plan.{plan_of}
+use Rattle.scsi_disk.specs.Effect.{Effect, Executes, effect}
 use Rattle.scsi_disk.specs.declared.order.Order.{Order}
 use Rattle.iscsi_stream.specs.Stream.{Message}
 use Rattle.iscsi_stream.specs.Canonical.{canon}
-use Rattle.iscsi_target.specs.State.{Machine, Reply, Stepped, Execution, Pieces, data_of, on, counted}
+use Rattle.iscsi_target.specs.State.{Machine, Reply, Stepped, Execution, on, counted}
+use Rattle.iscsi_stream.specs.Pieces.{Pieces, data_of}
 use Rattle.iscsi_target.specs.Transfer.{joined}
-use Rattle.iscsi_target.specs.Execution.{Device, execute, command_answers, parts_given}
-use Rattle.iscsi_target.specs.Machine.{IsAllowed, accepting}
+use Rattle.iscsi_target.specs.Execution.{Device, reliable, device_next, execute, command_answers, parts_given}
+use Rattle.iscsi_target.specs.Machine.{RunsIn, accepting}
 use Rattle.iscsi_target.specs.Laws.{joined_execution, joined_stepped}
 use Rattle.iscsi_target.specs.Inside.{Replied, Serves}
 use Rattle.iscsi_target.proofs.OpenWrites.{data_of_one}
@@ -26,14 +25,14 @@ by_ok P Q (Err e) step h = tt
 pub reply_serves : (n : ℕ) (r : Reply) (f : Device → Stepped) (disk : Disk) (broken : Option ℕ) (new : Machine) (before after : List ℕ)
     → ((d : Device) → f d ≡ on disk r) → Replied r broken new before after → Serves n n f broken new disk before after
 reply_serves n r f disk broken new before after is h = record {
-  device = effect;
+  device = reliable;
   rises = omega arith;
   works = λ _. refl;
-  allowed = subst (λ (x : Stepped). AllByRecursion (IsAllowed effect) x.executed) (sym (is effect)) tt;
-  machine = ap joined h.machine ∙ ap (λ (x : Stepped). joined x.machine) (sym (is effect));
-  disk_is = ap (λ (x : Stepped). x.disk) (sym (is effect));
-  output = h.output ∙ ap (λ (x : Stepped). before ++ canon x.answers) (sym (is effect));
-  rule_is = h.rule_is ∙ ap (λ (x : Stepped). x.rule) (sym (is effect));
+  runs = subst (λ (x : Stepped). RunsIn reliable n x.executed n) (sym (is reliable)) refl;
+  machine = ap joined h.machine ∙ ap (λ (x : Stepped). joined x.machine) (sym (is reliable));
+  disk_is = ap (λ (x : Stepped). x.disk) (sym (is reliable));
+  output = h.output ∙ ap (λ (x : Stepped). before ++ canon x.answers) (sym (is reliable));
+  rule_is = h.rule_is ∙ ap (λ (x : Stepped). x.rule) (sym (is reliable));
 }
 
 pub reply_if : {E : Type 0} (result : Result (Option ℕ) E) (n : ℕ) (r : Reply) (f : Device → Stepped) (disk : Disk) (new : Machine) (before after : List ℕ)
@@ -43,19 +42,25 @@ reply_if result n r f disk new before after is h =
 
 -- ---- the same step
 
-abbrev AllowedWith : Device → Disk → Order → List ℕ → Type 0
-AllowedWith d disk order bytes = (d disk order bytes ≡ effect disk order bytes) ⊎ FailsBy (plan_of order disk.count) disk order bytes (d disk order bytes)
+runs_joined : (d : Device) (before : ℕ) (xs : List Execution) (after : ℕ) → RunsIn d before xs after → RunsIn d before (map joined_execution xs) after
+runs_joined d before [] after h = h
+runs_joined d before (x ∷ xs) after h = (
+  h.0,
+  subst (λ (bytes : List ℕ). Executes before h.0 x.disk x.order bytes (d 0 x.disk x.order bytes)) (sym (data_of_one (data_of x.pieces))) h.1,
+  runs_joined (device_next d) h.0 xs after h.2,
+)
 
-all_to : (d : Device) (xs : List Execution) → AllByRecursion (IsAllowed d) xs → AllByRecursion (IsAllowed d) (map joined_execution xs)
-all_to d [] h = tt
-all_to d (x ∷ xs) h = (subst (λ (bytes : List ℕ). AllowedWith d x.disk x.order bytes) (sym (data_of_one (data_of x.pieces))) h.0, all_to d xs h.1)
+runs_apart : (d : Device) (before : ℕ) (xs : List Execution) (after : ℕ) → RunsIn d before (map joined_execution xs) after → RunsIn d before xs after
+runs_apart d before [] after h = h
+runs_apart d before (x ∷ xs) after h = (
+  h.0,
+  subst (λ (bytes : List ℕ). Executes before h.0 x.disk x.order bytes (d 0 x.disk x.order bytes)) (data_of_one (data_of x.pieces)) h.1,
+  runs_apart (device_next d) h.0 xs after h.2,
+)
 
-all_from : (d : Device) (xs : List Execution) → AllByRecursion (IsAllowed d) (map joined_execution xs) → AllByRecursion (IsAllowed d) xs
-all_from d [] h = tt
-all_from d (x ∷ xs) h = (subst (λ (bytes : List ℕ). AllowedWith d x.disk x.order bytes) (data_of_one (data_of x.pieces)) h.0, all_from d xs h.1)
-
-pub allowed_as : (d : Device) (a b : Stepped) → joined_stepped a ≡ joined_stepped b → AllByRecursion (IsAllowed d) a.executed → AllByRecursion (IsAllowed d) b.executed
-allowed_as d a b e h = all_from d b.executed (subst (λ (x : Stepped). AllByRecursion (IsAllowed d) x.executed) e (all_to d a.executed h))
+-- where a piece ended makes no difference to what a store did
+pub runs_as : (d : Device) (before after : ℕ) (a b : Stepped) → joined_stepped a ≡ joined_stepped b → RunsIn d before a.executed after → RunsIn d before b.executed after
+runs_as d before after a b e h = runs_apart d before b.executed after (subst (λ (x : Stepped). RunsIn d before x.executed after) e (runs_joined d before a.executed after h))
 
 pub serves_same : (fb fa : ℕ) (f g : Device → Stepped) (broken : Option ℕ) (new : Machine) (now : Disk) (before after : List ℕ)
     → ((d : Device) → joined_stepped (g d) ≡ joined_stepped (f d)) → Serves fb fa g broken new now before after → Serves fb fa f broken new now before after
@@ -65,7 +70,7 @@ serves_same fb fa f g broken new now before after is h =
       device = h.device;
       rises = h.rises;
       works = h.works;
-      allowed = allowed_as h.device (g h.device) (f h.device) q h.allowed;
+      runs = runs_as h.device fb fa (g h.device) (f h.device) q h.runs;
       machine = h.machine ∙ ap (λ (x : Stepped). x.machine) q;
       disk_is = h.disk_is ∙ ap (λ (x : Stepped). x.disk) q;
       output = h.output ∙ ap (λ (x : Stepped). before ++ canon x.answers) q;
@@ -90,7 +95,7 @@ accepts_by fb fa m g broken new now before after h = record {
   device = h.device;
   rises = h.rises;
   works = h.works;
-  allowed = h.allowed;
+  runs = h.runs;
   machine = h.machine;
   disk_is = h.disk_is;
   output = h.output;
@@ -112,10 +117,10 @@ pub order_serves : (fb fa tag : ℕ) (s : Machine) (disk : Disk) (order : Order)
 order_serves fb fa tag s disk order pieces e new now before after x is_new is_now is_after =
     elim (cases_lt fb fa) [
       | inl lt ↦ record {
-        device = λ _ _ _. e;
+        device = λ _ _ _ _. e;
         rises = x.rises;
         works = λ same. absurd (omega (arith, same, lt));
-        allowed = (inr (x.fails lt), tt);
+        runs = (fa, x, refl);
         machine = ap joined is_new;
         disk_is = is_now;
         output = is_after;
@@ -124,10 +129,10 @@ order_serves fb fa tag s disk order pieces e new now before after x is_new is_no
       | inr ge ↦
           let same : e ≡ effect disk order (data_of pieces) = x.works (omega (arith, ge, x.rises)) in
           record {
-            device = effect;
+            device = reliable;
             rises = x.rises;
             works = λ _. refl;
-            allowed = (inl refl, tt);
+            runs = (fa, subst (λ (y : Effect). Executes fb fa disk order (data_of pieces) y) same x, refl);
             machine = ap joined is_new;
             disk_is = is_now ∙ ap (λ (y : Effect). y.disk) same;
             output = is_after ∙ ap (λ (y : Effect). before ++ canon (command_answers s tag y.outcome (parts_given s.held y.outcome.bytes))) same;

@@ -7,7 +7,7 @@ use Rattle.scsi_cdb.specs.declared.sense.Sense.{Sense}
 use Rattle.scsi_disk.specs.Disk.{Disk}
 use Rattle.scsi_disk.specs.Effect.{Effect, effect, disk_by}
 use Rattle.scsi_disk.specs.Runs.{disk_after}
-use Rattle.scsi_disk.specs.Plan.{plan_of, plan_by, first_of, first_refusal, refusals, is_write, transfer}
+use Rattle.scsi_disk.specs.Plan.{plan_of, plan_by, first_refusal, refusals, is_write, transfer}
 use Rattle.scsi_disk.specs.declared.order.Order.{Order}
 use Rattle.scsi_disk.specs.declared.order.Plan.{Plan}
 use Rattle.scsi_disk.specs.declared.order.Plan.TheVariants.{Refuse, Take, Give}
@@ -15,14 +15,15 @@ use Rattle.iscsi_pdu.specs.declared.head.scsi_command.ScsiCommand.{ScsiCommand a
 use Rattle.iscsi_stream.specs.Segment.{segment_bytes}
 use Rattle.iscsi_stream.specs.Stream.{Message}
 use Rattle.iscsi_login.specs.declared.key.NegKey.TheVariants as keys
-use Rattle.iscsi_login.specs.Held.{Held, first_burst}
+use Rattle.iscsi_login.specs.Held.{Held, first_burst, is_on, unasked}
 use Rattle.iscsi_target.specs.Configured.{Settings}
-use Rattle.iscsi_target.specs.State.{Machine, Write, Pieces, data_of, Execution, Stepped, Reply, on, message, opening}
+use Rattle.iscsi_target.specs.State.{Machine, Write, Execution, Stepped, Reply, on, message, opening}
+use Rattle.iscsi_stream.specs.Pieces.{Pieces, data_of}
 use Rattle.iscsi_target.specs.Login.{login_step}
 use Rattle.iscsi_target.specs.declared.due.Due.TheVariants.{Nothing, Unsolicited}
 use Rattle.iscsi_target.specs.Transfer.{is_whole, is_idle, received, with_piece}
-use Rattle.iscsi_target.specs.Execution.{Device, execute, parts_given, data_ins, response_head, sense_segment}
-use Rattle.iscsi_target.specs.Command.{proceed, order_of, opened, breaks_burst_rules, is_bad_segment, is_bad_announcement, unasked, is_on}
+use Rattle.iscsi_target.specs.Execution.{Device, execute, parts_given, data_ins, response_head, sense_segment, reliable}
+use Rattle.iscsi_target.specs.Command.{proceed, order_of, opened, breaks_burst_rules, is_bad_segment, is_bad_announcement}
 use Rattle.iscsi_target.specs.Machine.{step, step_on, answers}
 use Rattle.iscsi_target.specs.Tiles.{r2t_ranges, IsModest, total_of, Tiles, TilesPlan, IsTiled}
 use Rattle.iscsi_target.specs.Laws.{supplied}
@@ -30,6 +31,7 @@ use Rattle.iscsi_target.proofs.StepParts.{by_cases, Parts, step_parts}
 use Rattle.iscsi_target.proofs.Replies.{IsReply, IsOver, Logs, login_logs, nothing_reply, shut_reply, reject_reply, breach_reply, nop_reply, task_reply, text_reply_is, logout_reply}
 use Rattle.iscsi_target.proofs.OpenWrites.{DueFits, IsOpen, size_with, tiles_with, taken_open, asking_modest, asking_open}
 use Rattle.iscsi_target.proofs.DiskFold.{step_folds}
+use Rattle.scsi_disk.proofs.Planned.{all_false}
 
 -- This holds of the open write, if there is one (own rule).
 abbrev pub OnWrite : Option Write → (Write → Type 0) → Type 0
@@ -76,7 +78,7 @@ ins_ranges s tag data_sn at (part ∷ given) more = ins_ranges s tag (data_sn + 
 
 pub execute_ranges : (device : Device) (s : Machine) (disk : Disk) (tag : ℕ) (order : Order) (pieces : Pieces) → r2t_ranges (execute device s disk tag order pieces).answers ≡ []
 execute_ranges device s disk tag order pieces =
-    let e : Effect = device disk order (data_of pieces) in
+    let e : Effect = device 0 disk order (data_of pieces) in
     let given : List (List ℕ × Bool) = parts_given s.held e.outcome.bytes in
     ins_ranges s tag 0 0 given (message (response_head s tag e.outcome (length given)) (sense_segment e.outcome.sense) ∷ [])
 
@@ -123,16 +125,6 @@ opened_open count held h total bytes f fits =
 
 -- ---- a write takes what its initiator expects
 
-row_of_none : (b : Bool) (sense : Sense) (more : Option Sense) → (if b then Some sense else more) ≡ None → (b ≡ false) × (more ≡ None)
-row_of_none true sense more e = absurd cc
-row_of_none false sense more e = (refl, e)
-
-none_of : (rows : List (Bool × Sense)) → first_of rows ≡ None → AllByRecursion (λ row. row.0 ≡ false) rows
-none_of [] e = tt
-none_of (row ∷ rows) e =
-    let f = row_of_none row.0 row.1 (first_of rows) e in
-    (f.0, none_of rows f.1)
-
 not_and : (a b : Bool) → a ≡ true → (a && not b) ≡ false → b ≡ true
 not_and true true e f = refl
 not_and true false e f = cc
@@ -146,7 +138,7 @@ take_is_by order count total None false e w f = absurd (let g = rw w at f in cc)
 take_is_by order count total None true e w f =
     let g : Take (512 * (transfer order.cdb).count) ≡ Take total = rw w at f in
     let size : 512 * (transfer order.cdb).count ≡ total = cc in
-    let rows = none_of (refusals order count) e in
+    let rows = all_false (refusals order count) e in
     eqb-true order.expected (512 * (transfer order.cdb).count) (not_and (is_write order.cdb) (order.expected == 512 * (transfer order.cdb).count) w rows.1.1.1.1.1.1.1.1.0) ∙ size
 
 pub take_is : (order : Order) (count total : ℕ) → plan_of order count ≡ Take total → order.expected ≡ total
@@ -172,7 +164,7 @@ immediate_bound most expected total (suc n) write immediate e le is =
 
 pub immediate_fits : (count : ℕ) (h : Command) (held : Held) (total : ℕ) (bytes : List ℕ) → breaks_burst_rules held h (length bytes) ≡ false → plan_of (order_of h) count ≡ Take total → length bytes ≤ total
 immediate_fits count h held total bytes e f =
-    immediate_bound (unasked held h) h.expected_data_transfer_length total (length bytes) h.write (is_on held keys.ImmediateData)
+    immediate_bound (unasked held h.expected_data_transfer_length) h.expected_data_transfer_length total (length bytes) h.write (is_on held keys.ImmediateData)
     (or_left (is_bad_segment held h (length bytes)) (is_bad_announcement held h (length bytes)) e) (omega arith) (take_is (order_of h) count total f)
 
 -- ---- all parts
@@ -230,7 +222,7 @@ answers_sound s disk [] o = o
 answers_sound s disk (m ∷ ms) o =
     let first : Stepped = step s disk m in
     let same : first.disk.count ≡ disk.count = step_count s disk m in
-    let now : IsSound first.disk.count first.machine = subst (λ (n : ℕ). IsSound n first.machine) (sym same) (step_goes effect disk s m o).sound in
+    let now : IsSound first.disk.count first.machine = subst (λ (n : ℕ). IsSound n first.machine) (sym same) (step_goes reliable disk s m o).sound in
     subst (λ (n : ℕ). IsSound n (answers first.machine first.disk ms).machine) same (answers_sound first.machine first.disk ms now)
 
 -- after any messages, the next one keeps what is said of writes
@@ -238,5 +230,5 @@ pub reached_keeps : (settings : Settings) (n : ℕ) (disk : Disk) (ms : List Mes
     → KeepsWrites (answers (opening settings n) disk ms).disk.count (step (answers (opening settings n) disk ms).machine (answers (opening settings n) disk ms).disk m)
 reached_keeps settings n disk ms m =
     let r : Stepped = answers (opening settings n) disk ms in
-    step_goes effect r.disk r.machine m
+    step_goes reliable r.disk r.machine m
     (subst (λ (k : ℕ). IsSound k r.machine) (sym (answers_count (opening settings n) disk ms)) (answers_sound (opening settings n) disk ms tt))

@@ -18,15 +18,18 @@ use Rattle.iscsi_stream.specs.Stream.{Message}
 use Rattle.iscsi_login.specs.declared.phase.Phase.{Phase}
 use Rattle.iscsi_login.specs.declared.phase.Phase.TheVariants.{Login, Full, Closed}
 use Rattle.iscsi_login.specs.Held.{first_burst}
-use Rattle.iscsi_target.specs.State.{Machine, Write, Stepped, on, nothing, shut, is_within, max_cmd_sn}
-use Rattle.iscsi_target.specs.Rejecting.{reject, breach, data_out_of_order, kind_not_due, segment_too_long, too_many_immediate}
+use Rattle.iscsi_target.specs.State.{Machine, Write, Stepped, on, nothing, shut, max_cmd_sn}
+use Rattle.iscsi_pdu.specs.Serial.{is_within}
+use Rattle.iscsi_target.specs.Rejecting.{reject, breach}
+use Rattle.iscsi_pdu.specs.Rules.{kind_not_due, segment_too_long, data_out_of_order, too_many_immediate}
 use Rattle.iscsi_target.specs.Login.{login_step}
 use Rattle.iscsi_target.specs.Discovery.{text_request}
 use Rattle.iscsi_target.specs.Requests.{nop_out, task_request, logout_request}
 use Rattle.iscsi_target.specs.Transfer.{taken}
 use Rattle.iscsi_target.specs.Execution.{Device, execute}
 use Rattle.iscsi_target.specs.Command.{scsi_command, data_for, data_taken, planned, proceed, order_of, opened, breaks_burst_rules}
-use Rattle.iscsi_target.specs.Machine.{step_on, phase_step, full_step, due_step, request, handled, advanced, accepting, has_write, is_due_kind, is_too_long, is_over_limit, is_closed, is_closed_phase}
+use Rattle.iscsi_target.specs.Machine.{step_on, phase_step, full_step, due_step, request, handled, advanced, accepting, has_write, is_due_kind, is_too_long, is_over_limit, is_closed}
+use Rattle.iscsi_login.specs.Stage.{is_closed_phase}
 use Rattle.iscsi_target.specs.Tiles.{pdu_answers, data_answers}
 use Rattle.iscsi_target.specs.Laws.{cmd_sn_of, cmd_sn_if}
 

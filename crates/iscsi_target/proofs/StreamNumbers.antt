@@ -4,11 +4,11 @@ use Rattle.std.specs.List.{AllByRecursion}
 use Rattle.scsi_cdb.specs.Layout.{HaveRoom}
 use Rattle.iscsi_pdu.specs.declared.head.Head.{Head}
 use Rattle.iscsi_pdu.specs.declared.head.Head.TheVariants.{NopOut, ScsiCommand, TaskRequest, LoginRequest, TextRequest, LogoutRequest}
-use Rattle.iscsi_pdu.specs.Meaning.{rows}
+use Rattle.iscsi_pdu.specs.Meaning.{rows, AreBytes}
 use Rattle.iscsi_pdu.proofs.Headers.{IsHeader-room}
 use Rattle.iscsi_stream.specs.declared.logins.Logins.{Logins}
 use Rattle.iscsi_stream.specs.Segment.{after}
-use Rattle.iscsi_stream.specs.Stream.{Message, ReadsAs, AreBytes}
+use Rattle.iscsi_stream.specs.Stream.{Message, ReadsAs}
 use Rattle.iscsi_stream.proofs.Heads.{AreBytes-take}
 use Rattle.iscsi_stream.proofs.Meaning.{AreBytes-front, AreBytes-back}
 use Rattle.iscsi_target.specs.Laws.{FitsNumber, cmd_sn_if, cmd_sn_of, login_cmd_sn, HasCmdSn}

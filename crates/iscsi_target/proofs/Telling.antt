@@ -7,15 +7,17 @@ use Rattle.scsi_disk.specs.declared.order.Order.{Order}
 use Rattle.iscsi_stream.specs.Segment.{segment_bytes}
 use Rattle.iscsi_stream.specs.Stream.{Message}
 use Rattle.iscsi_login.specs.Negotiation.{IsInRange}
-use Rattle.iscsi_login.specs.Held.{Held, IsHeld}
+use Rattle.iscsi_login.specs.Held.{Held, IsHeld, max_burst}
 use Rattle.iscsi_target.specs.Configured.{Settings}
-use Rattle.iscsi_target.specs.State.{Machine, Write, Pieces, data_of, Execution, Stepped, Reply, limit, on, message, next_sn, max_cmd_sn, is_within}
+use Rattle.iscsi_target.specs.State.{Machine, Write, Execution, Stepped, Reply, limit, on, message, max_cmd_sn}
+use Rattle.iscsi_stream.specs.Pieces.{Pieces, data_of, data_pieces}
+use Rattle.iscsi_pdu.specs.Serial.{next_sn, is_within}
 use Rattle.iscsi_target.specs.Login.{login_step}
-use Rattle.iscsi_target.specs.Transfer.{is_whole, is_idle, max_burst}
+use Rattle.iscsi_target.specs.Transfer.{is_whole, is_idle}
 use Rattle.iscsi_target.specs.Execution.{Device, execute, parts_given, data_ins, response_head, sense_segment}
 use Rattle.iscsi_target.specs.Command.{proceed, order_of, opened}
 use Rattle.iscsi_target.specs.Machine.{step_on, advanced, accepting}
-use Rattle.iscsi_target.specs.Tiles.{data_in_pieces, TileBytes, AreTags, data_in_tags}
+use Rattle.iscsi_target.specs.Tiles.{TileBytes, AreTags, data_in_tags}
 use Rattle.iscsi_target.specs.Laws.{stat_sns, response_tags, cmd_sns, cmd_sn_of, given_number, FitsNumber, login_cmd_sn, HasCmdSn}
 use Rattle.iscsi_target.proofs.StepParts.{by_cases, Parts, step_parts}
 use Rattle.iscsi_target.proofs.Replies.{Count, IsReply, Logs, login_logs, nothing_reply, shut_reply, reject_reply, breach_reply, nop_reply, task_reply, text_reply_is, logout_reply}
@@ -31,13 +33,13 @@ tags_done es = map (λ e. e.initiator_task_tag) es
 
 -- what was executed gave the Data-In
 abbrev pub Gives : Device → Stepped → Type 0
-Gives device r = AllByRecursion (λ e. TileBytes (data_in_pieces r.answers) (device e.disk e.order (data_of e.pieces)).outcome.bytes) r.executed
+Gives device r = AllByRecursion (λ e. TileBytes (data_pieces r.answers) (device 0 e.disk e.order (data_of e.pieces)).outcome.bytes) r.executed
 
 pub record Tells (device : Device) (s : Machine) (r : Stepped) : Type 0 where
   pub stat_sn : Count s.stat_sn (stat_sns r.answers) r.machine.stat_sn
   pub tags : response_tags r.answers ≡ tags_done r.executed
   pub gives : CanGive s.held → Gives device r
-  pub gives_none : r.executed ≡ [] → data_in_pieces r.answers ≡ []
+  pub gives_none : r.executed ≡ [] → data_pieces r.answers ≡ []
   pub gives_tags : AllByRecursion (AreTags (data_in_tags r.answers)) r.executed
   pub settings : r.machine.settings ≡ s.settings
   pub exp_cmd_sn : r.machine.exp_cmd_sn ≡ s.exp_cmd_sn
@@ -74,7 +76,7 @@ ins_own_tags s tag data_sn at (part ∷ given) more a = (refl, ins_own_tags s ta
 
 execute_tells : (device : Device) (s : Machine) (disk : Disk) (tag : ℕ) (order : Order) (pieces : Pieces) → Tells device s (execute device s disk tag order pieces)
 execute_tells device s disk tag order pieces =
-    let e : Effect = device disk order (data_of pieces) in
+    let e : Effect = device 0 disk order (data_of pieces) in
     let given : List (List ℕ × Bool) = parts_given s.held e.outcome.bytes in
     let last : Message = message (response_head s tag e.outcome (length given)) (sense_segment e.outcome.sense) in
     record {
@@ -115,7 +117,7 @@ pub record StepTells (device : Device) (s : Machine) (m : Message) (r : Stepped)
   pub stat_sn : Count s.stat_sn (stat_sns r.answers) r.machine.stat_sn
   pub tags : response_tags r.answers ≡ tags_done r.executed
   pub gives : CanGive s.held → Gives device r
-  pub gives_none : r.executed ≡ [] → data_in_pieces r.answers ≡ []
+  pub gives_none : r.executed ≡ [] → data_pieces r.answers ≡ []
   pub gives_tags : AllByRecursion (AreTags (data_in_tags r.answers)) r.executed
   pub settings : r.machine.settings ≡ s.settings
   pub held : IsInRange s.settings.preferences → IsHeld s.held → IsHeld r.machine.held

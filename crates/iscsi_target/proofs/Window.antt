@@ -2,8 +2,8 @@
 use Rattle.std.proofs.Common.{◌≡◌, ◌<◌, ℕ, ◌+◌, ◌-◌, ◌^◌, ◌%◌, true, Option, Some, None, refl, arith, leb-true}
 use Rattle.std.specs.Prelude.{nat_lt, nat_le}
 use Rattle.std.proofs.lemmas.Bool.{ltb-true}
-use Rattle.iscsi_pdu.specs.Serial.{distance}
-use Rattle.iscsi_target.specs.State.{Write, is_within, waiting}
+use Rattle.iscsi_pdu.specs.Serial.{distance, is_within}
+use Rattle.iscsi_target.specs.State.{Write, waiting}
 use Rattle.iscsi_target.proofs.OpenWrites.{and_left, and_right}
 
 -- the window is shut while a write is open, and else has the number that is due alone

@@ -1,5 +1,5 @@
 -- SCSI commands, and the data that writes take (RFC 7143, sections 11.3, 11.7 and 11.8).
-use Rattle.std.specs.Prelude.{ℕ, Bool, false, not, ◌==◌, ◌&&◌, ◌||◌, nat_lt, nat_le, min, if◌then◌else◌, List, [], ◌∷◌, length, Option, Some, None}
+use Rattle.std.specs.Prelude.{ℕ, Bool, not, ◌==◌, ◌&&◌, ◌||◌, nat_lt, nat_le, if◌then◌else◌, List, [], ◌∷◌, length, Option, Some, None}
 use Rattle.scsi_disk.specs.Disk.{Disk}
 use Rattle.scsi_disk.specs.Plan.{plan_of}
 use Rattle.scsi_disk.specs.declared.order.Order.{Order}
@@ -10,13 +10,11 @@ use Rattle.iscsi_pdu.specs.declared.head.data_out.DataOut.{DataOut}
 use Rattle.iscsi_pdu.specs.declared.head.Head.{Head}
 use Rattle.iscsi_pdu.specs.declared.head.Head.TheVariants as heads
 use Rattle.iscsi_stream.specs.Stream.{Message}
-use Rattle.iscsi_login.specs.declared.key.NegKey.{NegKey}
 use Rattle.iscsi_login.specs.declared.key.NegKey.TheVariants as keys
-use Rattle.iscsi_login.specs.declared.preferences.Answered.{Answered}
-use Rattle.iscsi_login.specs.declared.preferences.Answered.TheVariants.{Flag}
-use Rattle.iscsi_login.specs.Held.{Held, held_value, first_burst}
+use Rattle.iscsi_login.specs.Held.{Held, first_burst, is_on, unasked}
 use Rattle.iscsi_target.specs.State.{Machine, Write, Stepped, Reply, on, message, nothing, max_cmd_sn}
-use Rattle.iscsi_target.specs.Rejecting.{breach, data_out_of_order}
+use Rattle.iscsi_target.specs.Rejecting.{breach}
+use Rattle.iscsi_pdu.specs.Rules.{data_out_of_order}
 use Rattle.iscsi_target.specs.declared.due.Due.TheVariants.{Nothing, Unsolicited}
 use Rattle.iscsi_target.specs.Transfer.{received, with_piece, is_whole, taken, asking, desired, is_idle}
 use Rattle.iscsi_target.specs.Execution.{Device, execute}
@@ -33,29 +31,16 @@ order_of h = record {
   expected = h.expected_data_transfer_length;
 }
 
--- The value of a boolean key (section 6.1).
-abbrev pub flag_of : Answered → Bool
-flag_of (Flag b) = b
-flag_of _ = false
-
--- The held value of the key is `Yes` (section 6.1).
-abbrev pub is_on : Held → NegKey → Bool
-is_on held key = flag_of (held_value held key)
-
--- How many bytes of a command may come unasked (sections 13.11 and 13.14).
-abbrev pub unasked : Held → ScsiCommand → ℕ
-unasked held h = min h.expected_data_transfer_length (first_burst held)
-
 -- Immediate data come that may not be there, or too many of them (section 13.11).
 abbrev pub is_bad_segment : Held → ScsiCommand → ℕ → Bool
 is_bad_segment held h n =
     nat_lt 0 n
-    && (not h.write || (not (is_on held keys.ImmediateData) || nat_lt (unasked held h) n))
+    && (not h.write || (not (is_on held keys.ImmediateData) || nat_lt (unasked held h.expected_data_transfer_length) n))
 
 -- More data are announced where none may come unasked (section 13.10).
 abbrev pub is_bad_announcement : Held → ScsiCommand → ℕ → Bool
 is_bad_announcement held h n =
-    h.write && (not h.is_final && (is_on held keys.InitialR2T || nat_le (unasked held h) n))
+    h.write && (not h.is_final && (is_on held keys.InitialR2T || nat_le (unasked held h.expected_data_transfer_length) n))
 
 -- A command with so many immediate bytes breaks the rules of the first burst (sections 13.10, 13.11
 -- and 13.14).

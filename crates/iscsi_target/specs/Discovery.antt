@@ -11,8 +11,10 @@ use Rattle.iscsi_pdu.specs.declared.head.text_request.TextRequest.{TextRequest}
 use Rattle.iscsi_pdu.specs.declared.head.Head.{Head}
 use Rattle.iscsi_pdu.specs.declared.head.Head.TheVariants as heads
 use Rattle.iscsi_stream.specs.Stream.{Message}
-use Rattle.iscsi_target.specs.State.{Machine, Reply, say, max_cmd_sn, reserved_tag}
-use Rattle.iscsi_target.specs.Rejecting.{breach, text_at_fault}
+use Rattle.iscsi_target.specs.State.{Machine, Reply, say, max_cmd_sn}
+use Rattle.iscsi_pdu.specs.Fields.{reserved_tag}
+use Rattle.iscsi_target.specs.Rejecting.{breach}
+use Rattle.iscsi_pdu.specs.Rules.{text_at_fault}
 use Rattle.iscsi_target.specs.LoginText.{value_for}
 
 -- ---- the text

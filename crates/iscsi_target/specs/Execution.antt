@@ -1,38 +1,36 @@
 -- The execution of an order: its data in Data-In PDUs, and its response (RFC 7143, sections 11.4
 -- and 11.7).
-use Rattle.std.specs.Prelude.{ℕ, zero, suc, ◌+◌, Bool, true, false, List, [], ◌∷◌, ◌++◌, length, take, drop, Option, Some, None}
+use Rattle.std.specs.Prelude.{ℕ, ◌+◌, Bool, true, false, List, [], ◌∷◌, ◌++◌, length, Option, Some, None}
 use Rattle.std.specs.List.{flat_map}
 use Rattle.scsi_cdb.specs.Sense.{sense_bytes}
 use Rattle.scsi_cdb.specs.declared.sense.Sense.{Sense}
 use Rattle.scsi_cdb.specs.declared.residual.Residual.{Residual}
 use Rattle.scsi_cdb.specs.declared.residual.Residual.TheVariants.{Exact, Under, Over}
 use Rattle.scsi_disk.specs.Disk.{Disk}
-use Rattle.scsi_disk.specs.Effect.{Effect}
+use Rattle.scsi_disk.specs.Effect.{Effect, effect}
 use Rattle.scsi_disk.specs.declared.order.Order.{Order}
 use Rattle.scsi_disk.specs.declared.order.Outcome.{Outcome}
 use Rattle.iscsi_pdu.specs.declared.head.Head.{Head}
 use Rattle.iscsi_pdu.specs.declared.head.Head.TheVariants as heads
 use Rattle.iscsi_stream.specs.Stream.{Message}
-use Rattle.iscsi_login.specs.Held.{Held}
-use Rattle.iscsi_target.specs.State.{Machine, Pieces, data_of, Execution, Stepped, message, counted, max_cmd_sn, reserved_tag}
-use Rattle.iscsi_target.specs.Transfer.{max_burst}
+use Rattle.iscsi_login.specs.Held.{Held, max_burst}
+use Rattle.iscsi_target.specs.State.{Machine, Execution, Stepped, message, counted, max_cmd_sn}
+use Rattle.iscsi_stream.specs.Pieces.{Pieces, data_of, chunks}
+use Rattle.iscsi_pdu.specs.Fields.{reserved_tag}
 
--- What a store does with an order and its data; one that doesn't fail does `effect` (own rule).
+-- What a store does with the n-th order of a message, from 0, and its data (own rule).
 abbrev pub Device : Type 0
-Device = Disk → Order → List ℕ → Effect
+Device = ℕ → Disk → Order → List ℕ → Effect
+
+-- A store that doesn't fail does each time what the order does (own rule).
+abbrev pub reliable : Device
+reliable n = effect
+
+-- What is left of it behind one order (own rule).
+abbrev pub device_next : Device → Device
+device_next device n = device (n + 1)
 
 -- ---- data that a command gives
-
--- Parts of at most so many bytes; the first number counts down to no part (section 11.7).
-abbrev pub parts_within : ℕ → ℕ → List ℕ → List (List ℕ)
-parts_within zero size bytes = []
-parts_within (suc more) size [] = []
-parts_within (suc more) size (byte ∷ bytes) =
-    take size (byte ∷ bytes) ∷ parts_within more size (drop size (byte ∷ bytes))
-
--- Bytes in parts of a size, of which the last has what is left (section 11.7).
-abbrev pub parts : ℕ → List ℕ → List (List ℕ)
-parts size bytes = parts_within (length bytes) size bytes
 
 -- The parts of a run, of which the last is marked (section 11.7.1).
 abbrev pub marked : List (List ℕ) → List (List ℕ × Bool)
@@ -42,11 +40,11 @@ marked (part ∷ next ∷ more) = (part, false) ∷ marked (next ∷ more)
 
 -- A run of data in parts, each of at most what the initiator takes in one segment (section 13.12).
 abbrev pub run_given : Held → List ℕ → List (List ℕ × Bool)
-run_given held run = marked (parts held.initiator_max_recv run)
+run_given held run = marked (chunks held.initiator_max_recv run)
 
 -- Data in runs of MaxBurstLength bytes (sections 11.7.1 and 13.13).
 abbrev pub parts_given : Held → List ℕ → List (List ℕ × Bool)
-parts_given held bytes = flat_map (run_given held) (parts (max_burst held) bytes)
+parts_given held bytes = flat_map (run_given held) (chunks (max_burst held) bytes)
 
 -- The head of a Data-In; the status comes in a response of its own (section 11.7; own rule).
 abbrev pub data_in_head : Machine → ℕ → ℕ → ℕ → Bool → Head
@@ -139,4 +137,4 @@ told s e effect = record {
 abbrev pub execute : Device → Machine → Disk → ℕ → Order → Pieces → Stepped
 execute device s disk tag order pieces =
     told s (record { initiator_task_tag = tag; disk = disk; order = order; pieces = pieces })
-    (device disk order (data_of pieces))
+    (device 0 disk order (data_of pieces))

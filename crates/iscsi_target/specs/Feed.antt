@@ -1,7 +1,10 @@
 -- What the calls of a target do: a stream that comes in pieces (RFC 7143, section 11; own rule).
-use Rattle.std.specs.Prelude.{◌≡◌, ◌≢◌, ◌≤◌, ◌⊎◌, ℕ, Bool, true, false, List, [], ◌∷◌, ◌++◌, length, take, drop, Some, None, Result, Ok, Err}
+use Rattle.std.specs.Prelude.{◌≡◌, ◌≢◌, ◌≤◌, ◌<◌, ◌⊎◌, ℕ, Bool, true, false, List, [], ◌∷◌, ◌++◌, length, take, drop, Some, None, Result, Ok, Err}
 use Rattle.std.specs.List.{flat_map}
 use Rattle.scsi_disk.specs.Disk.{Disk}
+use Rattle.iscsi_pdu.specs.declared.head.Head.{Head}
+use Rattle.iscsi_pdu.specs.declared.head.HeadFault.{HeadFault}
+use Rattle.iscsi_pdu.specs.Meaning.{IsHeader, fault_of}
 use Rattle.iscsi_stream.specs.declared.fault.StreamFault.TheVariants as stream
 use Rattle.iscsi_stream.specs.Stream.{Message}
 use Rattle.iscsi_stream.specs.Canonical.{canon}
@@ -34,14 +37,17 @@ pub record Store : Type 0 where
 
 -- ---- a call of feed
 
--- A call took bytes that complete these PDUs, and answered them one after another. Where the device
--- didn't fail the answers are those of the machine; else they are any that the store may lead to.
+-- A call took bytes that complete these PDUs, and answered them one after another. Each execution did
+-- what the order does where no failure was counted at it, and failed where one was; where none was
+-- counted at all the answers are those of the machine.
 pub record Answers (old : Connection) (before : Store) (output bytes : List ℕ) (framing : Framing)
     (ms : List Message) (r : Stepped) (after : Store) (written : List ℕ) : Type 0 where
   pub taken : Moves old.framing framing bytes ms
   pub limit : framing.limit ≡ old.framing.limit
   pub ready : is_ready framing ≡ false
-  pub may : MayAnswer old.machine before.disk ms r
+  -- the failures that were counted behind the last of them
+  pub failures : ℕ
+  pub may : MayAnswer old.machine before.disk before.failures ms r failures
   pub works : after.failures ≡ before.failures → r ≡ answers old.machine before.disk ms
   pub disk : after.disk ≡ r.disk
   pub output_is : written ≡ output ++ canon r.answers
@@ -79,6 +85,12 @@ Ends piece (Err (faults.Protocol rule)) framing n r new =
     (r.rule ≡ Some rule) × (new.machine ≡ joined r.machine)
 Ends piece (Err faults.Closed) framing n r new = ⊥
 
+-- No failure was counted behind the PDUs that were answered, but at one at which memory ran out (own
+-- rule).
+abbrev pub CountsTo : Result Phase TargetFault → ℕ → ℕ → Type 0
+CountsTo (Err faults.NoMemory) counted after = counted ≤ after
+CountsTo _ counted after = after ≡ counted
+
 -- A call in a session that isn't closed took the first bytes of the piece, and answered the PDUs
 -- that they complete (own rule).
 pub record Feeds (old : Connection) (before : Store) (output piece : List ℕ)
@@ -90,6 +102,7 @@ pub record Feeds (old : Connection) (before : Store) (output piece : List ℕ)
   pub messages : List Message
   pub stepped : Stepped
   pub answered : Answers old before output (take count piece) framing messages stepped after written
+  pub counts : CountsTo result answered.failures after.failures
   pub ends : Ends piece result framing count stepped new
 
 -- A closed session stays as it is (own rule).
@@ -114,6 +127,39 @@ abbrev pub Fed : Connection → Store → List ℕ → List ℕ → Result Phase
     → Connection → Store → List ℕ → Type 0
 Fed old before output piece result new after written =
     FedIf (is_closed old.machine) old before output piece result new after written
+
+-- ---- a call of feed_next
+
+-- A call in a session that isn't closed took the first n bytes, did with them what feed does, and
+-- answered one PDU at most (own rule).
+pub record FeedsOne (old : Connection) (before : Store) (output piece : List ℕ) (n : ℕ)
+    (phase : Phase) (new : Connection) (after : Store) (written : List ℕ) : Type 0 where
+  pub bound : n ≤ length piece
+  pub some : 0 < length piece → 0 < n
+  pub fed : Feeds old before output (take n piece) (Ok phase) new after written
+  pub one : length fed.messages ≤ 1
+
+-- A call that fails is one of feed with the piece (own rule).
+abbrev pub FeedsNext : Connection → Store → List ℕ → List ℕ → Result (ℕ × Phase) TargetFault
+    → Connection → Store → List ℕ → Type 0
+FeedsNext old before output piece (Ok done) new after written =
+    FeedsOne old before output piece done.0 done.1 new after written
+FeedsNext old before output piece (Err fault) new after written =
+    Feeds old before output piece (Err fault) new after written
+
+-- What a call of feed_next does, by whether the session is closed (own rule).
+abbrev pub FedNextIf : Bool → Connection → Store → List ℕ → List ℕ
+    → Result (ℕ × Phase) TargetFault → Connection → Store → List ℕ → Type 0
+FedNextIf true old before output piece result new after written =
+    (result ≡ Err faults.Closed) × (new ≡ old) × (after ≡ before) × (written ≡ output)
+FedNextIf false old before output piece result new after written =
+    FeedsNext old before output piece result new after written
+
+-- What a call of feed_next does with a piece of the stream (own rule).
+abbrev pub FedNext : Connection → Store → List ℕ → List ℕ → Result (ℕ × Phase) TargetFault
+    → Connection → Store → List ℕ → Type 0
+FedNext old before output piece result new after written =
+    FedNextIf (is_closed old.machine) old before output piece result new after written
 
 -- ---- a call of finish
 
@@ -172,6 +218,34 @@ pub record Writes (settings : Settings) (first_stat_sn : ℕ) (disk : Disk) (mes
     (disk_now : Disk) (written : List ℕ) : Type 0 where
   pub disk_is : disk_now ≡ (answers (opening settings first_stat_sn) disk messages).disk
   pub output_is : written ≡ canon (answers (opening settings first_stat_sn) disk messages).answers
+
+-- Bytes begin with a header that a target refuses: no PDU has it, or its segment is longer than the
+-- framer takes (sections 11.2 and 13.12).
+abbrev pub Refuses : ℕ → List ℕ → Type 0
+Refuses limit bytes =
+    (48 ≤ length bytes)
+    × (((fault : HeadFault) × (fault_of (take 48 bytes) ≡ Some fault))
+    ⊎ ((head : Head) × (len : ℕ) × IsHeader (take 48 bytes) head len × (limit < len)))
+
+-- The session is where these messages lead to from the opening state, or was closed there. It is
+-- closed where they close it, and where the rest begins with a header that is refused (own rule).
+pub record Holds (settings : Settings) (first_stat_sn : ℕ) (disk : Disk) (messages : List Message)
+    (rest : List ℕ) (now : Machine) : Type 0 where
+  pub machine : closed now ≡ closed (answers (opening settings first_stat_sn) disk messages).machine
+  pub goes_on : is_closed now ≡ false →
+      now ≡ joined (answers (opening settings first_stat_sn) disk messages).machine
+  pub ends : is_closed now ≡ true →
+      (is_closed (answers (opening settings first_stat_sn) disk messages).machine ≡ true)
+      ⊎ Refuses (limit settings) rest
+  pub refuses : Refuses (limit settings) rest → is_closed now ≡ true
+
+-- Two sessions hold the same values, are in the same stage and phase, and are equal while they go on
+-- (own rule).
+pub record SameSession (a b : Machine) : Type 0 where
+  pub held : b.held ≡ a.held
+  pub stage : b.stage ≡ a.stage
+  pub phase : b.phase ≡ a.phase
+  pub goes_on : is_closed a ≡ false → b ≡ a
 
 -- ---- one outcome
 

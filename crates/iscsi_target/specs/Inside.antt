@@ -1,10 +1,8 @@
 -- What the parts of a session do. No reader of its contract needs these.
 use Rattle.std.specs.Prelude.{◌≡◌, ◌≢◌, ◌⊎◌, ℕ, ◌+◌, ◌*◌, ◌≤◌, Option, Some, None, Bool, true, false, not, ◌&&◌, List, [], ◌∷◌, ◌++◌, length, codes}
 use Rattle.std.specs.Str.{bytes_eq}
-use Rattle.std.specs.List.{AllByRecursion}
 use Rattle.iscsi_stream.specs.Canonical.{canon}
 use Rattle.scsi_disk.specs.Disk.{Disk}
-use Rattle.scsi_disk.specs.Effect.{effect}
 use Rattle.scsi_disk.specs.Plan.{is_write, transfer}
 use Rattle.scsi_disk.specs.declared.order.Order.{Order}
 use Rattle.iscsi_text.specs.Text.{Pairs}
@@ -14,14 +12,14 @@ use Rattle.iscsi_pdu.specs.declared.head.login_response.LoginResponse.{LoginResp
 use Rattle.iscsi_target.specs.State.{Machine, Write, Reply, Stepped, closed, counted}
 use Rattle.iscsi_target.specs.Login.{answered}
 use Rattle.iscsi_target.specs.Transfer.{received, joined}
-use Rattle.iscsi_target.specs.Execution.{Device}
-use Rattle.iscsi_target.specs.Machine.{IsAllowed, step_on}
+use Rattle.iscsi_target.specs.Execution.{Device, reliable}
+use Rattle.iscsi_target.specs.Machine.{RunsIn, step_on}
 use Rattle.iscsi_target.specs.Feed.{Connection, Store}
 use Rattle.iscsi_pdu.specs.declared.head.Head.{Head}
 use Rattle.iscsi_pdu.specs.Meaning.{Means}
 use Rattle.iscsi_stream.specs.declared.fault.StreamFault.{StreamFault}
 use Rattle.iscsi_stream.specs.declared.fault.StreamFault.TheVariants as stream
-use Rattle.iscsi_stream.specs.Framing.{Framing, FeedFails, is_ready, given_up, message_of}
+use Rattle.iscsi_stream.specs.Framing.{Framing, Takes, FeedFails, is_ready, given_up, message_of}
 use Rattle.iscsi_target.specs.declared.fault.TargetFault.{TargetFault}
 use Rattle.iscsi_target.specs.declared.fault.TargetFault.TheVariants as faults
 use Rattle.iscsi_target.specs.declared.due.Due.{Due}
@@ -61,15 +59,14 @@ pub record Replied (r : Reply) (broken : Option ℕ) (new : Machine)
   pub output : after ≡ before ++ canon r.answers
   pub rule_is : broken ≡ r.rule
 
--- The same after any message, over a store whose failures were counted before and after. What the
--- store did with an order is allowed; where no failure was counted, it did what the order does (own
--- rule).
+-- The same after any message, over a store whose failures were counted before and after, execution
+-- by execution (own rule).
 pub record Serves (failures_before failures_after : ℕ) (step : Device → Stepped) (broken : Option ℕ)
     (new : Machine) (now : Disk) (before after : List ℕ) : Type 0 where
   pub device : Device
   pub rises : failures_before ≤ failures_after
-  pub works : failures_after ≡ failures_before → device ≡ effect
-  pub allowed : AllByRecursion (IsAllowed device) (step device).executed
+  pub works : failures_after ≡ failures_before → device ≡ reliable
+  pub runs : RunsIn device failures_before (step device).executed failures_after
   pub machine : joined new ≡ joined (step device).machine
   pub disk_is : now ≡ (step device).disk
   pub output : after ≡ before ++ canon (step device).answers
@@ -163,6 +160,36 @@ RestFails framing rest (faults.Stream fault) =
     (fault ≢ stream.NoMemory) × FeedFails framing rest fault
 RestFails framing rest (faults.Protocol rule) = ⊥
 RestFails framing rest faults.Closed = ⊥
+
+-- Bytes were taken up to the end of a PDU or of the piece, and the PDU was answered if it is whole
+-- (own rule).
+pub record TakesOne (old : Connection) (before : Store) (output piece : List ℕ) (n : ℕ)
+    (broken : Option ℕ) (new : Connection) (after : Store) (written : List ℕ) : Type 0 where
+  pub framing : Framing
+  pub takes : Takes old.framing piece n framing
+  pub answers : AnswersReady (connection old.machine framing) before output broken new after written
+
+-- The bytes are refused: the session is closed (own rule).
+pub record AreRefused (old : Connection) (before : Store) (output piece : List ℕ)
+    (fault : TargetFault) (new : Connection) (after : Store) (written : List ℕ) : Type 0 where
+  pub fails : RestFails old.framing piece fault
+  pub machine : new.machine ≡ closed old.machine
+  pub store_is : after ≡ before
+  pub output_is : written ≡ output
+
+-- Memory ran out at the PDU that they complete (own rule).
+pub record RunsOut (old : Connection) (before : Store) (output piece : List ℕ)
+    (fault : TargetFault) (new : Connection) (after : Store) (written : List ℕ) : Type 0 where
+  pub memory : fault ≡ faults.NoMemory
+  pub framing : Framing
+  pub shuts : ShutsReady (connection old.machine framing) before output new after written
+
+-- Why no bytes could be taken, or no PDU answered (own rule).
+abbrev pub FailsOne : Connection → Store → List ℕ → List ℕ → TargetFault
+    → Connection → Store → List ℕ → Type 0
+FailsOne old before output piece fault new after written =
+    AreRefused old before output piece fault new after written
+    ⊎ RunsOut old before output piece fault new after written
 
 -- A stream's want of memory is the target's own (own rule).
 abbrev pub target_fault : StreamFault → TargetFault

@@ -11,7 +11,9 @@ use Rattle.iscsi_pdu.specs.declared.head.Head.{Head}
 use Rattle.iscsi_pdu.specs.declared.head.Head.TheVariants as heads
 use Rattle.iscsi_stream.specs.Stream.{Message}
 use Rattle.iscsi_login.specs.declared.phase.Phase.TheVariants as phases
-use Rattle.iscsi_target.specs.State.{Machine, Write, Execution, data_of, Stepped, is_within, max_cmd_sn}
+use Rattle.iscsi_target.specs.State.{Machine, Write, Execution, Stepped, max_cmd_sn}
+use Rattle.iscsi_stream.specs.Pieces.{data_of}
+use Rattle.iscsi_pdu.specs.Serial.{is_within}
 use Rattle.iscsi_target.specs.Transfer.{with_piece, joined}
 use Rattle.iscsi_target.specs.Command.{order_of}
 use Rattle.iscsi_target.specs.Machine.{is_closed, is_due_kind, is_too_long}

@@ -14,8 +14,9 @@ use Rattle.iscsi_login.specs.declared.phase.Phase.TheVariants as phases
 use Rattle.iscsi_login.specs.declared.stage.Stage.{Stage}
 use Rattle.iscsi_login.specs.declared.stage.Stage.TheVariants as stages
 use Rattle.iscsi_login.specs.Stage.{may_move}
-use Rattle.iscsi_target.specs.State.{Machine, Reply, shut, closed, counted, max_cmd_sn, first_of}
-use Rattle.iscsi_target.specs.Rejecting.{kind_not_due}
+use Rattle.iscsi_target.specs.State.{Machine, Reply, shut, closed, counted, max_cmd_sn}
+use Rattle.scsi_disk.specs.Plan.{first_of}
+use Rattle.iscsi_pdu.specs.Rules.{kind_not_due}
 use Rattle.iscsi_target.specs.declared.status.Status.{Status}
 use Rattle.iscsi_target.specs.LoginText.{initiator_error, unsupported_version, session_does_not_exist, out_of_resources, is_operational, known_keys, given_with, session_for, answer_pairs, held_after, text_refusals}
 

@@ -2,11 +2,9 @@
 --
 -- `step` is one message, and `answers` any number of them. A login stands in `Login`, SCSI commands
 -- in `Command`, the other requests in `Requests` and `Discovery`.
-use Rattle.std.specs.Prelude.{◌≡◌, ◌⊎◌, ℕ, Bool, true, false, not, nat_lt, if◌then◌else◌, List, [], ◌∷◌, ◌++◌, length, Option, Some, None}
-use Rattle.std.specs.List.{AllByRecursion}
+use Rattle.std.specs.Prelude.{◌≡◌, ℕ, Bool, true, false, not, nat_lt, if◌then◌else◌, List, [], ◌∷◌, ◌++◌, length, Option, Some, None}
 use Rattle.scsi_disk.specs.Disk.{Disk}
-use Rattle.scsi_disk.specs.Effect.{effect, FailsBy}
-use Rattle.scsi_disk.specs.Plan.{plan_of}
+use Rattle.scsi_disk.specs.Effect.{Executes}
 use Rattle.iscsi_pdu.specs.declared.head.Head.{Head}
 use Rattle.iscsi_pdu.specs.declared.head.Head.TheVariants as heads
 use Rattle.iscsi_stream.specs.Segment.{Segment, Bytes, Text, segment_bytes}
@@ -14,14 +12,18 @@ use Rattle.iscsi_stream.specs.Stream.{Message}
 use Rattle.iscsi_login.specs.declared.phase.Phase.{Phase}
 use Rattle.iscsi_login.specs.declared.phase.Phase.TheVariants as phases
 use Rattle.iscsi_login.specs.declared.stage.Session.{Session}
-use Rattle.iscsi_target.specs.State.{Machine, Write, Execution, data_of, Stepped, limit, on, nothing, shut, next_sn, is_within, max_cmd_sn}
-use Rattle.iscsi_target.specs.Rejecting.{reject, breach, kind_not_due, segment_too_long, too_many_immediate}
+use Rattle.iscsi_target.specs.State.{Machine, Write, Execution, Stepped, limit, on, nothing, shut, max_cmd_sn}
+use Rattle.iscsi_stream.specs.Pieces.{data_of}
+use Rattle.iscsi_pdu.specs.Serial.{next_sn, is_within}
+use Rattle.iscsi_target.specs.Rejecting.{reject, breach}
+use Rattle.iscsi_pdu.specs.Rules.{kind_not_due, segment_too_long, too_many_immediate}
 use Rattle.iscsi_target.specs.LoginText.{is_normal}
 use Rattle.iscsi_target.specs.Login.{login_step}
 use Rattle.iscsi_target.specs.Discovery.{text_request}
-use Rattle.iscsi_target.specs.Execution.{Device}
+use Rattle.iscsi_target.specs.Execution.{Device, reliable, device_next}
 use Rattle.iscsi_target.specs.Requests.{nop_out, task_request, logout_request}
 use Rattle.iscsi_target.specs.Command.{scsi_command, data_out}
+use Rattle.iscsi_login.specs.Stage.{is_closed_phase}
 
 -- ---- full feature phase
 
@@ -115,11 +117,6 @@ phase_step device phases.Full s disk m = full_step device s disk m
 phase_step device phases.Closed s disk m = on disk (nothing s)
 
 -- The session is over (own rule).
-abbrev pub is_closed_phase : Phase → Bool
-is_closed_phase phases.Closed = true
-is_closed_phase _ = false
-
--- The session is over (own rule).
 abbrev pub is_closed : Machine → Bool
 is_closed s = is_closed_phase s.phase
 
@@ -133,7 +130,7 @@ step_on device s disk m =
 
 -- One message, over a store that doesn't fail (own rule).
 abbrev pub step : Machine → Disk → Message → Stepped
-step s disk m = step_on effect s disk m
+step s disk m = step_on reliable s disk m
 
 -- ---- messages one after another
 
@@ -161,22 +158,27 @@ answers s disk (m ∷ ms) =
 
 -- ---- a store that may fail
 
--- What the store did is what the order does, or what it may do where the device fails (own rule).
-abbrev pub IsAllowed : Device → Execution → Type 0
-IsAllowed device e =
-    (device e.disk e.order (data_of e.pieces) ≡ effect e.disk e.order (data_of e.pieces))
-    ⊎ FailsBy (plan_of e.order e.disk.count) e.disk e.order (data_of e.pieces)
-    (device e.disk e.order (data_of e.pieces))
+-- The orders were executed one after another, from one count of the store's failures to another: each did what the
+-- order does where the count stayed, and failed where it rose (own rule).
+abbrev pub RunsIn : Device → ℕ → List Execution → ℕ → Type 0
+RunsIn device before [] after = after ≡ before
+RunsIn device before (e ∷ es) after =
+    (now : ℕ)
+    × Executes before now e.disk e.order (data_of e.pieces)
+    (device 0 e.disk e.order (data_of e.pieces))
+    × RunsIn (device_next device) now es after
 
--- One message, over a store that may fail (own rule).
-pub record MayStep (s : Machine) (disk : Disk) (m : Message) (r : Stepped) : Type 0 where
+-- One message, over a store that may fail, whose failures were counted before and behind it (own
+-- rule).
+pub record MayStep (s : Machine) (disk : Disk) (before : ℕ) (m : Message) (r : Stepped)
+    (after : ℕ) : Type 0 where
   pub device : Device
   pub is : r ≡ step_on device s disk m
-  pub allowed : AllByRecursion (IsAllowed device) r.executed
+  pub runs : RunsIn device before r.executed after
 
 -- Any messages, over a store that may fail (own rule).
-unfoldable pub MayAnswer : Machine → Disk → List Message → Stepped → Type 0
-MayAnswer s disk [] r = r ≡ on disk (nothing s)
-MayAnswer s disk (m ∷ ms) r =
-    (first : Stepped) × (later : Stepped) × MayStep s disk m first
-    × MayAnswer first.machine first.disk ms later × (r ≡ then_stepped first later)
+unfoldable pub MayAnswer : Machine → Disk → ℕ → List Message → Stepped → ℕ → Type 0
+MayAnswer s disk before [] r after = (r ≡ on disk (nothing s)) × (after ≡ before)
+MayAnswer s disk before (m ∷ ms) r after =
+    (first : Stepped) × (later : Stepped) × (now : ℕ) × MayStep s disk before m first now
+    × MayAnswer first.machine first.disk now ms later after × (r ≡ then_stepped first later)

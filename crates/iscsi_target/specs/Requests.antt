@@ -8,8 +8,10 @@ use Rattle.iscsi_pdu.specs.declared.head.Head.{Head}
 use Rattle.iscsi_pdu.specs.declared.head.Head.TheVariants as heads
 use Rattle.iscsi_stream.specs.Stream.{Message}
 use Rattle.iscsi_stream.specs.Canonical.{canonical_header}
-use Rattle.iscsi_target.specs.State.{Machine, Reply, nothing, say, closed, max_cmd_sn, reserved_tag}
-use Rattle.iscsi_target.specs.Rejecting.{breached, logout_reason}
+use Rattle.iscsi_target.specs.State.{Machine, Reply, nothing, say, closed, max_cmd_sn}
+use Rattle.iscsi_pdu.specs.Fields.{reserved_tag}
+use Rattle.iscsi_target.specs.Rejecting.{breached}
+use Rattle.iscsi_pdu.specs.Rules.{logout_reason}
 
 -- The head of the answer to a ping (section 11.19).
 abbrev pub nop_in_head : Machine → NopOut → Head

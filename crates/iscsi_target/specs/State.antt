@@ -1,10 +1,9 @@
 -- The session of a target between two PDUs, and the words that all of its steps use (RFC 7143,
 -- section 4.2).
-use Rattle.std.specs.Prelude.{ℕ, ◌+◌, ◌-◌, ◌^◌, ◌%◌, Bool, false, ◌&&◌, nat_lt, nat_le, max, if◌then◌else◌, List, [], ◌∷◌, Option, Some, None, replicate}
-use Rattle.std.specs.List.{flat_map}
+use Rattle.std.specs.Prelude.{ℕ, ◌+◌, ◌-◌, ◌^◌, ◌%◌, Bool, false, max, List, [], ◌∷◌, Option, Some, None, replicate}
 use Rattle.scsi_disk.specs.Disk.{Disk}
 use Rattle.scsi_disk.specs.declared.order.Order.{Order}
-use Rattle.iscsi_pdu.specs.Serial.{distance}
+use Rattle.iscsi_pdu.specs.Serial.{next_sn}
 use Rattle.iscsi_pdu.specs.declared.head.Head.{Head}
 use Rattle.iscsi_stream.specs.Segment.{Bytes}
 use Rattle.iscsi_stream.specs.Stream.{Message}
@@ -17,16 +16,9 @@ use Rattle.iscsi_login.specs.declared.stage.Stage.TheVariants as stages
 use Rattle.iscsi_login.specs.Held.{Held, defaults}
 use Rattle.iscsi_target.specs.Configured.{Settings}
 use Rattle.iscsi_target.specs.declared.due.Due.{Due}
+use Rattle.iscsi_stream.specs.Pieces.{Pieces}
 
 -- ---- the open write
-
--- Offsets, and the bytes that stand there (section 11.7.5).
-abbrev pub Pieces : Type 0
-Pieces = List (ℕ × List ℕ)
-
--- The bytes of the pieces, one after another (section 11.7).
-abbrev pub data_of : Pieces → List ℕ
-data_of pieces = flat_map (λ piece. piece.1) pieces
 
 -- A write for which data are due (sections 11.3, 11.7 and 11.8).
 pub record Write : Type 0 where
@@ -91,19 +83,6 @@ abbrev pub closed : Machine → Machine
 closed s = record s { phase = phases.Closed; gathered = []; write = None }
 
 -- ---- numbers
-
--- The tag that names no task and no transfer (sections 11.2.1.8 and 11.7.4).
-abbrev pub reserved_tag : ℕ
-reserved_tag = 0xffff_ffff
-
--- The number after another, round the circle of 2^32 (section 4.2.2).
-abbrev pub next_sn : ℕ → ℕ
-next_sn n = (n + 1) % 2 ^ 32
-
--- The number is in low..high, round the circle (section 4.2.2.1).
-abbrev pub is_within : ℕ → ℕ → ℕ → Bool
-is_within n low high =
-    nat_lt (distance low high) (2 ^ 31) && nat_le (distance low n) (distance low high)
 
 -- How many commands wait (own rule).
 abbrev pub waiting : Option Write → ℕ
@@ -174,8 +153,3 @@ say s head bytes =
     record { machine = counted s; answers = message head bytes ∷ []; rule = None }
 
 -- ---- reasons
-
--- The first reason that holds (own rule).
-abbrev pub first_of : {A : Type 0} → List (Bool × A) → Option A
-first_of [] = None
-first_of (row ∷ rows) = if row.0 then Some row.1 else first_of rows

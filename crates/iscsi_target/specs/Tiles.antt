@@ -11,20 +11,15 @@ use Rattle.iscsi_pdu.specs.declared.head.Head.{Head}
 use Rattle.iscsi_pdu.specs.declared.head.Head.TheVariants as heads
 use Rattle.iscsi_stream.specs.Segment.{segment_bytes}
 use Rattle.iscsi_stream.specs.Stream.{Message}
-use Rattle.iscsi_login.specs.Held.{Held, first_burst}
-use Rattle.iscsi_target.specs.State.{Machine, Write, Execution, Pieces, data_of, Stepped}
+use Rattle.iscsi_login.specs.Held.{Held, first_burst, max_burst}
+use Rattle.iscsi_target.specs.State.{Machine, Write, Execution, Stepped}
+use Rattle.iscsi_stream.specs.Pieces.{Pieces, data_of, TilesFrom, data_pieces}
 use Rattle.iscsi_target.specs.declared.due.Due.{Due}
 use Rattle.iscsi_target.specs.declared.due.Due.TheVariants.{Solicited}
-use Rattle.iscsi_target.specs.Transfer.{max_burst, taken}
+use Rattle.iscsi_target.specs.Transfer.{taken}
 use Rattle.iscsi_target.specs.Machine.{step}
 
 -- ---- pieces tile a transfer
-
--- The offsets ascend from one on, each piece begins where the last ended, and the end is n (section
--- 11.7.5).
-abbrev pub TilesFrom : ℕ → Pieces → ℕ → Type 0
-TilesFrom at [] n = n ≡ at
-TilesFrom at (piece ∷ pieces) n = (piece.0 ≡ at) × TilesFrom (at + length piece.1) pieces n
 
 -- The offsets ascend from 0, each piece begins where the last ended, and the lengths add up to n
 -- (section 11.7.5).
@@ -34,15 +29,6 @@ Tiles pieces n = TilesFrom 0 pieces n
 -- Pieces that tile these bytes (section 11.7.5).
 abbrev pub TileBytes : Pieces → List ℕ → Type 0
 TileBytes pieces bytes = Tiles pieces (length bytes) × (data_of pieces ≡ bytes)
-
--- A Data-In by its offset and bytes (section 11.7).
-abbrev pub data_in_piece : Message → Head → Pieces
-data_in_piece m (heads.DataIn h) = (h.buffer_offset, segment_bytes m.segment) ∷ []
-data_in_piece m _ = []
-
--- The Data-In among answers (section 11.7).
-abbrev pub data_in_pieces : List Message → Pieces
-data_in_pieces ms = flat_map (λ m. data_in_piece m m.head) ms
 
 -- The tag of a Data-In (section 11.7).
 abbrev pub data_in_tag : Head → List ℕ
@@ -65,8 +51,8 @@ AreTags tags e = AllByRecursion (λ tag. tag ≡ e.initiator_task_tag) tags
 -- without it there are none (section 11.7).
 pub record TilesDataIn (r : Stepped) : Type 0 where
   pub tags : AllByRecursion (AreTags (data_in_tags r.answers)) r.executed
-  pub tiled : AllByRecursion (λ e. TileBytes (data_in_pieces r.answers) (bytes_given e)) r.executed
-  pub none : r.executed ≡ [] → data_in_pieces r.answers ≡ []
+  pub tiled : AllByRecursion (λ e. TileBytes (data_pieces r.answers) (bytes_given e)) r.executed
+  pub none : r.executed ≡ [] → data_pieces r.answers ≡ []
 
 -- The pieces of the data of an order tile what it takes, by its plan (section 11.7).
 abbrev pub TilesPlan : Plan → Pieces → Type 0

@@ -3,15 +3,13 @@
 use Rattle.std.specs.Prelude.{ℕ, ◌+◌, ◌-◌, Bool, true, false, not, ◌==◌, ◌&&◌, ◌||◌, nat_lt, min, if◌then◌else◌, List, [], ◌∷◌, ◌++◌, length, Option, Some, None, option_map}
 use Rattle.iscsi_text.specs.Reading.{is_empty}
 use Rattle.iscsi_pdu.specs.declared.head.data_out.DataOut.{DataOut}
-use Rattle.iscsi_login.specs.declared.key.NegKey.TheVariants as keys
-use Rattle.iscsi_login.specs.Held.{Held, held_value, number_of}
-use Rattle.iscsi_target.specs.State.{Machine, Write, Pieces, data_of, reserved_tag, next_sn}
+use Rattle.iscsi_login.specs.Held.{Held, max_burst}
+use Rattle.iscsi_target.specs.State.{Machine, Write}
+use Rattle.iscsi_stream.specs.Pieces.{Pieces, data_of}
+use Rattle.iscsi_pdu.specs.Serial.{next_sn}
+use Rattle.iscsi_pdu.specs.Fields.{reserved_tag}
 use Rattle.iscsi_target.specs.declared.due.Due.{Due}
 use Rattle.iscsi_target.specs.declared.due.Due.TheVariants.{Nothing, Unsolicited, Solicited}
-
--- How many bytes a sequence of data has at most (section 13.13).
-abbrev pub max_burst : Held → ℕ
-max_burst held = number_of (held_value held keys.MaxBurstLength)
 
 -- How many bytes of a write came (section 11.7.5).
 abbrev pub received : Write → ℕ

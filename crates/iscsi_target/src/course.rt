@@ -20,26 +20,11 @@ use crate::config::Config;
 use crate::open_write::OpenWrite;
 use crate::response::Numbers;
 use iscsi_login::{Params, Phase, Session, Stage};
+use iscsi_pdu::rule::PROTOCOL_ERROR;
 use iscsi_pdu::{Head, Pdu, Reject};
 use iscsi_stream::{canonical_head, write_pdu};
 use std::alloc::{AllocError, Global};
 use std::marker::Model;
-
-/// A kind of PDU is not due.
-const KIND_NOT_DUE: u8 = 1;
-/// A segment is longer than the target declared.
-const SEGMENT_TOO_LONG: u8 = 2;
-/// Data come out of order, or past a burst.
-const DATA_OUT_OF_ORDER: u8 = 3;
-/// A text or its flags are at fault.
-const TEXT_AT_FAULT: u8 = 4;
-/// A logout is for another reason than to close.
-const LOGOUT_REASON: u8 = 5;
-
-/// Why a PDU is rejected that breaks a rule (RFC 7143, section 11.17.1).
-const PROTOCOL_ERROR: u8 = 0x04;
-/// Why an immediate PDU is rejected while a write is open (RFC 7143, section 11.17.1).
-const TOO_MANY_IMMEDIATE: u8 = 0x06;
 
 /// A session between two PDUs. Where a call runs out of memory it has written nothing, and what is
 /// left of the session is good for nothing but to be closed.

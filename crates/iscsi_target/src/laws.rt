@@ -7,7 +7,8 @@ ghost use Rattle.scsi_disk.specs.Disk.{Disk};
 ghost use Rattle.scsi_disk.specs.Runs.{disk_after};
 ghost use Rattle.iscsi_pdu.specs.declared.head.Head.TheVariants as heads;
 ghost use Rattle.iscsi_pdu.specs.declared.head.login_request.LoginRequest.{LoginRequest};
-ghost use Rattle.iscsi_stream.specs.Stream.{Message, StreamMeans, AreBytes, Splits, longest_segment};
+ghost use Rattle.iscsi_stream.specs.Stream.{Message, StreamMeans, Splits, longest_segment};
+ghost use Rattle.iscsi_pdu.specs.Meaning.{AreBytes};
 ghost use Rattle.iscsi_stream.specs.Canonical.{canon};
 ghost use Rattle.iscsi_stream.specs.Framing.{HasTaken};
 ghost use Rattle.iscsi_login.specs.declared.phase.Phase.{Phase};
@@ -19,7 +20,7 @@ ghost use Rattle.iscsi_target.specs.State.{Machine, Stepped, opening, on, nothin
 ghost use Rattle.iscsi_target.specs.Transfer.{joined};
 ghost use Rattle.iscsi_target.specs.Execution.{Device};
 ghost use Rattle.iscsi_target.specs.Machine.{is_closed, step, step_on, answers, then_stepped, MayStep, MayAnswer};
-ghost use Rattle.iscsi_target.specs.Feed.{Alike, Connection, Fed, FedAlike, FedAll, GoesWell, Meets, Store, Writes, opening_connection, stream_of};
+ghost use Rattle.iscsi_target.specs.Feed.{Alike, Connection, Fed, FedAlike, FedAll, GoesWell, Holds, Meets, SameSession, Store, Writes, opening_connection, stream_of};
 ghost use Rattle.iscsi_target.specs.Tiles.{TilesDataIn, IsTiled, IsModest, total_of, r2t_ranges, r2ts_answered};
 ghost use Rattle.iscsi_target.specs.Sessions.{LoginIsAnswered, LoginLeads, WriteIsAnswered};
 ghost use Rattle.iscsi_target.specs.Laws.{CountOn, stat_sns, cmd_sns, HasCmdSn, supplied, Leads, tasks_done, response_tags, AreInOrder, IsOutside, joined_stepped};
@@ -39,8 +40,8 @@ pub fn one_disk()
     ensures fold { (s : Machine) (disk : Disk) (ms : List Message)
         → (answers s disk ms).disk ≡ disk_after (map supplied (answers s disk ms).executed) disk }
     // Over a store that may fail, each does what it does, or what it may do where the device fails.
-    ensures may { (s : Machine) (disk : Disk) (ms : List Message) (r : Stepped)
-        → MayAnswer s disk ms r → Leads disk r.executed r.disk }
+    ensures may { (s : Machine) (disk : Disk) (before after : ℕ) (ms : List Message) (r : Stepped)
+        → MayAnswer s disk before ms r after → Leads disk r.executed r.disk }
     ensures answered { (s : Machine) (disk : Disk) (ms : List Message)
         → response_tags (answers s disk ms).answers
         ≡ map (λ task. task.0) (tasks_done (answers s disk ms).executed) }
@@ -117,9 +118,10 @@ pub fn in_two_parts()
     ensures together { (s : Machine) (disk : Disk) (ms more : List Message)
         → answers s disk (ms ++ more) ≡ then_stepped (answers s disk ms)
         (answers (answers s disk ms).machine (answers s disk ms).disk more) }
-    ensures may { (s : Machine) (disk : Disk) (ms more : List Message) (a b : Stepped)
-        → MayAnswer s disk ms a → MayAnswer a.machine a.disk more b
-        → MayAnswer s disk (ms ++ more) (then_stepped a b) }
+    ensures may { (s : Machine) (disk : Disk) (before now after : ℕ) (ms more : List Message)
+        (a b : Stepped) → MayAnswer s disk before ms a now
+        → MayAnswer a.machine a.disk now more b after
+        → MayAnswer s disk before (ms ++ more) (then_stepped a b) after }
 {}
 
 /// Where one piece of a write ended and the next began makes no difference, whatever the store
@@ -128,9 +130,9 @@ pub fn pieces_joined()
     ensures same { (device : Device) (s : Machine) (disk : Disk) (m : Message)
         → joined_stepped (step_on device (joined s) disk m)
         ≡ joined_stepped (step_on device s disk m) }
-    ensures may { (s : Machine) (disk : Disk) (m : Message) (a : Stepped)
-        → MayStep (joined s) disk m a
-        → (b : Stepped) × MayStep s disk m b × (joined_stepped a ≡ joined_stepped b) }
+    ensures may { (s : Machine) (disk : Disk) (before after : ℕ) (m : Message) (a : Stepped)
+        → MayStep (joined s) disk before m a after
+        → (b : Stepped) × MayStep s disk before m b after × (joined_stepped a ≡ joined_stepped b) }
 {}
 
 /// Two streams of one meaning get the same answers, and so do a stream and its canonical form.
@@ -160,6 +162,22 @@ pub fn any_pieces()
         → FedAll (opening_connection settings n) store [] pieces target after written
         → Splits longest_segment (stream_of pieces) ms given rest
         → Writes settings n store.disk ms after.disk written }
+    // The session is where that prefix leads to, or was closed there by what follows it.
+    ensures holds { (settings : Settings) (n : ℕ) (store after : Store)
+        (pieces : List (List ℕ)) (target : Connection) (written : List ℕ) (ms : List Message)
+        (given rest : List ℕ) → IsInRange settings.preferences
+        → FedAll (opening_connection settings n) store [] pieces target after written
+        → Splits longest_segment (stream_of pieces) ms given rest
+        → Holds settings n store.disk ms rest target.machine }
+    // So it is the same however the stream is cut.
+    ensures alike { (settings : Settings) (n : ℕ) (store first second : Store)
+        (pieces others : List (List ℕ)) (a b : Connection) (written rewritten : List ℕ)
+        (ms : List Message) (given rest : List ℕ) → IsInRange settings.preferences
+        → Splits longest_segment (stream_of pieces) ms given rest
+        → stream_of others ≡ stream_of pieces
+        → FedAll (opening_connection settings n) store [] pieces a first written
+        → FedAll (opening_connection settings n) store [] others b second rewritten
+        → (rewritten ≡ written) × (second.disk ≡ first.disk) × SameSession a.machine b.machine }
 {}
 
 /// A target writes the same bytes for a stream and for its canonical form, in whatever pieces they

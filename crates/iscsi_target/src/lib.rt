@@ -10,7 +10,6 @@ mod open_write;
 mod response;
 mod status;
 mod target;
-mod texts;
 mod writing;
 
 pub use config::Config;

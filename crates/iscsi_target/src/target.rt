@@ -4,22 +4,20 @@ ghost use Rattle.std.specs.Prelude.{◌≡◌, ◌++◌, ℕ, List, false, IfOk,
 ghost use Rattle.iscsi_stream.specs.Framing.{Takes, is_ready, stopped};
 ghost use Rattle.iscsi_target.specs.State.{limit, closed};
 ghost use Rattle.iscsi_target.specs.Machine.{is_closed};
-ghost use Rattle.iscsi_target.specs.Feed.{opening_connection, Feeds, Fed, Finishes, HasAnswered};
+ghost use Rattle.iscsi_target.specs.Feed.{opening_connection, Feeds, FeedsNext, Fed, FedNext, Finishes, HasAnswered};
 ghost use Rattle.iscsi_target.specs.Configured.{Settings};
 ghost use Rattle.scsi_disk.specs.Disk.{Disk};
-ghost use Rattle.iscsi_target.specs.Inside.{connection, store_of, target_fault, AnswersReady, ShutsReady, RestFails};
+ghost use Rattle.iscsi_target.specs.Inside.{connection, store_of, target_fault, AnswersReady, ShutsReady, RestFails, TakesOne, FailsOne};
 
 use crate::config::Config;
 use crate::course::Course;
 use crate::fault::TargetFault;
 use iscsi_login::{Params, Phase, Stage};
+use iscsi_pdu::LOGIN_SEGMENT;
 use iscsi_stream::{Framer, StreamFault};
 use scsi_disk::BlockStore;
 use std::alloc::{AllocError, Global};
 use std::marker::Model;
-
-/// The longest segment of a login PDU, in bytes (RFC 7143, section 13.12).
-const LOGIN_SEGMENT: u32 = 8192;
 
 /// A target's session: it takes the bytes of an initiator and appends its answers.
 ///
@@ -90,6 +88,26 @@ impl Target {
         feed_all(&mut self.course, &mut self.framer, piece, store, out)
     }
 
+    /// Takes bytes of a piece up to the end of one PDU, answers it, and says how many bytes it took and
+    /// in which phase the session is then: `feed`, one PDU at a time, for a caller that writes the
+    /// answers before it goes on. A piece that completes no PDU is taken whole. Faults and what they
+    /// leave are those of `feed` with the piece.
+    pub fn feed_next<S: BlockStore>(
+        &mut self,
+        piece: &[u8],
+        store: &mut S,
+        out: &mut Vec<u8>,
+    ) -> Result<(usize, Phase), TargetFault>
+        ensures fed { FedNext self.old (store_of (S.disk store.old) (S.failures store.old))
+            out.old.items piece.now result self.new
+            (store_of (S.disk store.new) (S.failures store.new)) out.new.items }
+    {
+        if self.course.is_closed() {
+            return Err(TargetFault::Closed);
+        }
+        feed_once(&mut self.course, &mut self.framer, piece, store, out)
+    }
+
     /// What the session holds of its login (RFC 7143, section 13).
     pub fn params(&self) -> &Params
         ensures held { result.now ≡ self.now.machine.held }
@@ -151,9 +169,8 @@ fn feed_all<S: BlockStore>(
 {
     let mut rest = piece;
     while !rest.is_empty() {
-        let taken = take_bytes(course, framer, rest)?;
+        let (taken, broken) = feed_one(course, framer, rest, store, out)?;
         rest = &rest[taken..];
-        let broken = answer_ready(course, framer, store, out)?;
         let phase = course.phase();
         if let Some(rule) = broken {
             return Err(TargetFault::Protocol(rule));
@@ -163,6 +180,60 @@ fn feed_all<S: BlockStore>(
         }
     }
     Ok(course.phase())
+}
+
+// Takes bytes of a piece up to the end of one PDU in a session that isn't closed, and answers it.
+fn feed_once<S: BlockStore>(
+    course: &mut Course,
+    framer: &mut Framer,
+    piece: &[u8],
+    store: &mut S,
+    out: &mut Vec<u8>,
+) -> Result<(usize, Phase), TargetFault>
+    requires limit { framer.old.limit ≡ limit course.old.settings }
+    requires unready { is_ready framer.old ≡ false }
+    requires live { is_closed course.old ≡ false }
+    ensures fed { FeedsNext (connection course.old framer.old)
+        (store_of (S.disk store.old) (S.failures store.old)) out.old.items piece.now result
+        (connection course.new framer.new)
+        (store_of (S.disk store.new) (S.failures store.new)) out.new.items }
+    ensures limit { framer.new.limit ≡ limit course.new.settings }
+    ensures unready { is_ready framer.new ≡ false }
+{
+    let (taken, broken) = feed_one(course, framer, piece, store, out)?;
+    let phase = course.phase();
+    match broken {
+        Some(rule) => Err(TargetFault::Protocol(rule)),
+        None => Ok((taken, phase)),
+    }
+}
+
+// Takes bytes up to the end of a PDU, and answers it if it is whole. Says how many bytes, and which
+// rule was broken. A fault closes the session.
+fn feed_one<S: BlockStore>(
+    course: &mut Course,
+    framer: &mut Framer,
+    piece: &[u8],
+    store: &mut S,
+    out: &mut Vec<u8>,
+) -> Result<(usize, Option<u8>), TargetFault>
+    requires limit { framer.old.limit ≡ limit course.old.settings }
+    requires unready { is_ready framer.old ≡ false }
+    requires live { is_closed course.old ≡ false }
+    ensures ok { IfOk result (λ done. TakesOne (connection course.old framer.old)
+        (store_of (S.disk store.old) (S.failures store.old)) out.old.items piece.now done.0 done.1
+        (connection course.new framer.new)
+        (store_of (S.disk store.new) (S.failures store.new)) out.new.items) }
+    ensures err { IfErr result (λ fault. FailsOne (connection course.old framer.old)
+        (store_of (S.disk store.old) (S.failures store.old)) out.old.items piece.now fault
+        (connection course.new framer.new)
+        (store_of (S.disk store.new) (S.failures store.new)) out.new.items) }
+    ensures limit { framer.new.limit ≡ limit course.new.settings }
+    ensures unready { is_ready framer.new ≡ false }
+{
+    let taken = take_bytes(course, framer, piece)?;
+    let broken = answer_ready(course, framer, store, out)?;
+    Ok((taken, broken))
 }
 
 // Takes bytes up to the end of a PDU. A fault closes the session.

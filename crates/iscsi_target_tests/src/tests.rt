@@ -15,6 +15,9 @@ mod rows;
 
 const NAME: &[u8] = b"iqn.2026-01.example:disk";
 
+/// In place of the length of pieces: one PDU at a time.
+const BY_PDU: usize = 0;
+
 /// How many characters a header has in a line of a dialogue.
 const HEADER: usize = 107;
 
@@ -82,6 +85,29 @@ fn pdu_of(alloc: Global, line: &str, out: &mut Vec<u8>) -> Result<(), Fail> {
     Ok(())
 }
 
+// Feeds what comes in a turn one PDU at a time, and gives the last answer.
+fn feed_pdus<S: BlockStore>(
+    target: &mut Target,
+    stream: &[u8],
+    store: &mut S,
+    out: &mut Vec<u8>,
+) -> Result<Phase, TargetFault> {
+    let mut phase = target.phase();
+    let mut rest = stream;
+    for _ in 0..100 {
+        if rest.is_empty() {
+            return Ok(phase);
+        }
+        let (taken, now) = target.feed_next(rest, store, out)?;
+        rest = rest.get(taken..).unwrap_or_default();
+        phase = now;
+        if phase == Phase::Closed {
+            return Ok(phase);
+        }
+    }
+    Ok(phase)
+}
+
 // Feeds what comes in a turn in pieces of this length, and gives the last answer.
 fn feed_pieces<S: BlockStore>(
     target: &mut Target,
@@ -90,6 +116,9 @@ fn feed_pieces<S: BlockStore>(
     store: &mut S,
     out: &mut Vec<u8>,
 ) -> Result<Phase, TargetFault> {
+    if len == BY_PDU {
+        return feed_pdus(target, stream, store, out);
+    }
     let mut phase = target.phase();
     for piece in stream.chunks(len.max(1)) {
         phase = target.feed(piece, store, out)?;

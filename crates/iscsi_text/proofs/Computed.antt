@@ -21,13 +21,14 @@ use Rattle.iscsi_text.specs.Key.{IsLetter, IsKeyByte, IsKey, kind_of, target_add
 use Rattle.iscsi_text.specs.Value.{Typed, Means, boolean_text}
 use Rattle.iscsi_text.specs.Text.{Pairs, values_of, key_le, IsSingle, IsInOrder, Field, entry_bytes, HasNo, IsField, IsEntry, pairs_of, TextMeans}
 use Rattle.iscsi_text.specs.Inside.{SplitsAt}
-use Rattle.iscsi_text.specs.Reading.{is_empty, parts_at, onto_front, cut_at, number_of_digits, number_behind_zero, number_in, number_or_odd, value_in, is_letter, is_key_byte, is_key, pair_of_cut, pair_in, has_key, added, pairs_in, placed, in_order, text_in}
-use Rattle.iscsi_text.proofs.Keys.{key_le_refl, key_le_trans, key_le_other, bytes_eq_same, bytes_eq_other}
+use Rattle.iscsi_text.specs.Reading.{is_empty, parts_at, onto_front, cut_at, number_of_digits, number_behind_zero, number_in, number_or_odd, value_in, is_letter, is_key_byte, is_key, pair_of_cut, pair_in, has_key, added, pairs_in, in_order, text_in}
+use Rattle.iscsi_text.proofs.Keys.{bytes_eq_same, bytes_eq_other}
 use Rattle.iscsi_text.proofs.Pairs.{values_of-append, values_of-same, values_of-other, key_cases}
 use Rattle.iscsi_text.proofs.Meanings.{one_value}
 use Rattle.iscsi_text.proofs.Arranged.{one_order}
 use Rattle.iscsi_text.proofs.ReadSoFar.{no_parts}
 use Rattle.iscsi_text.proofs.Rows.{key_some, key_no_equals, field_no_zero}
+use Rattle.iscsi_text.proofs.Order.{in_order_is, values_in_order}
 
 -- ---- tests and what they decide
 
@@ -322,56 +323,6 @@ parts_end (c ∷ bytes) = elim (decided (c == 0) (Decides-eqb c 0)) [
     onto [] apart all = (All-cons (λ b. b ≢ 0) c [] apart (All-nil (λ b. b ≢ 0)), tt)
     onto (part ∷ parts) apart all = (All-cons (λ b. b ≢ 0) c part apart all.0, all.1)
 
--- ---- order
-
-all_placed : (P : List ℕ × Typed → Type 0) (p : List ℕ × Typed) (ps : Pairs) → P p → AllByRecursion P ps → AllByRecursion P (placed p ps)
-all_placed P p [] here all = (here, tt)
-all_placed P p (q ∷ ps) here all = elim (decided (key_le p.0 q.0) ((λ e. e), (λ e. e))) [
-  | inl h ↦ subst (AllByRecursion P) (sym (cond-true _ _ _ h.0)) (here, all)
-  | inr h ↦ subst (AllByRecursion P) (sym (cond-false _ _ _ h.0)) (all.0, all_placed P p ps here all.1)
-]
-
-below_all : (a b : List ℕ) (ps : Pairs) → key_le a b ≡ true → AllByRecursion (λ q. key_le b q.0 ≡ true) ps → AllByRecursion (λ q. key_le a q.0 ≡ true) ps
-below_all a b [] le all = tt
-below_all a b (q ∷ ps) le all = (key_le_trans a b q.0 le all.0, below_all a b ps le all.1)
-
-placed_in_order : (p : List ℕ × Typed) (ps : Pairs) → IsInOrder ps → IsInOrder (placed p ps)
-placed_in_order p [] order = (tt, tt)
-placed_in_order p (q ∷ ps) order = elim (decided (key_le p.0 q.0) ((λ e. e), (λ e. e))) [
-  | inl h ↦ subst IsInOrder (sym (cond-true _ _ _ h.0)) ((h.0, below_all p.0 q.0 ps h.0 order.0), order)
-  | inr h ↦ subst IsInOrder (sym (cond-false _ _ _ h.0)) (all_placed (λ r. key_le q.0 r.0 ≡ true) p ps (key_le_other p.0 q.0 h.0) order.0, placed_in_order p ps order.1)
-]
-
-sorted : (ps : Pairs) → IsInOrder (in_order ps)
-sorted [] = tt
-sorted (p ∷ ps) = placed_in_order p (in_order ps) (sorted ps)
-
--- the same values behind one pair
-values_behind : (key : List ℕ) (p : List ℕ × Typed) (ps qs : Pairs) → values_of key ps ≡ values_of key qs → values_of key (p ∷ ps) ≡ values_of key (p ∷ qs)
-values_behind key p ps qs same = values_of-append key (p ∷ []) ps ∙ ap (λ vs. values_of key (p ∷ []) ++ vs) same ∙ sym (values_of-append key (p ∷ []) qs)
-
--- two pairs of different keys, in either order
-values_swapped : (key : List ℕ) (p q : List ℕ × Typed) (ps : Pairs) → p.0 ≢ q.0 → values_of key (q ∷ p ∷ ps) ≡ values_of key (p ∷ q ∷ ps)
-values_swapped key p q ps apart = elim (key_cases p.0 key) [
-  | inl same ↦
-      let other : q.0 ≢ key = λ is. apart (same ∙ sym is) in
-      values_of-other key q (p ∷ ps) other ∙ values_of-same key p ps same ∙ ap (λ vs. p.1 ∷ vs) (sym (values_of-other key q ps other)) ∙ sym (values_of-same key p (q ∷ ps) same)
-  | inr other ↦ values_behind key q (p ∷ ps) ps (values_of-other key p ps other) ∙ sym (values_of-other key p (q ∷ ps) other)
-]
-
-placed_values : (key : List ℕ) (p : List ℕ × Typed) (ps : Pairs) → values_of key (placed p ps) ≡ values_of key (p ∷ ps)
-placed_values key p [] = refl
-placed_values key p (q ∷ ps) = elim (decided (key_le p.0 q.0) ((λ e. e), (λ e. e))) [
-  | inl h ↦ ap (values_of key) (cond-true _ _ _ h.0)
-  | inr h ↦
-      let apart : p.0 ≢ q.0 = λ same. h.1 (subst (λ k. key_le p.0 k ≡ true) same (key_le_refl p.0)) in
-      ap (values_of key) (cond-false _ _ _ h.0) ∙ values_behind key q (placed p ps) (p ∷ ps) (placed_values key p ps) ∙ values_swapped key p q ps apart
-]
-
-sorted_values : (key : List ℕ) (ps : Pairs) → values_of key (in_order ps) ≡ values_of key ps
-sorted_values key [] = refl
-sorted_values key (p ∷ ps) = placed_values key p (in_order ps) ∙ values_behind key p (in_order ps) ps (sorted_values key ps)
-
 -- ---- texts
 
 abbrev pub IsThere : Option Pairs → Type 0
@@ -389,7 +340,7 @@ read_means bytes m read = by (pairs_in (parts_at 0 bytes)) (subst (λ bs. IsRowI
         subst (TextMeans bytes) is (record {
           entries = row.entries;
           row = record { spelled = row.spelled ∙ sym (append-nil (flat_map entry_bytes row.entries)); each = row.each; single = row.single };
-          arranges = record { in_order = sorted ps; same = λ key. sorted_values key ps ∙ ap (values_of key) (sym row.pairs) };
+          arranges = record { in_order = in_order_is ps; same = λ key. values_in_order key ps ∙ ap (values_of key) (sym row.pairs) };
         })
 
 -- and what is meant is read
@@ -398,4 +349,4 @@ means_read bytes m means =
     let ps = pairs_of means.entries in
     ap text_in (means.row.spelled ∙ append-nil (flat_map entry_bytes means.entries))
     ∙ ap (option_map in_order) (row_read means.entries means.row.each means.row.single)
-    ∙ ap (λ (qs : Pairs). Some qs) (one_order (in_order ps) m (sorted ps) means.arranges.in_order (λ key. sorted_values key ps ∙ sym (means.arranges.same key)))
+    ∙ ap (λ (qs : Pairs). Some qs) (one_order (in_order ps) m (in_order_is ps) means.arranges.in_order (λ key. values_in_order key ps ∙ sym (means.arranges.same key)))

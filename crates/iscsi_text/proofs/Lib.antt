@@ -5,6 +5,7 @@ pub mod Digits
 pub mod Faults
 pub mod Keys
 pub mod Meanings
+pub mod Order
 pub mod Pairs
 pub mod ReadSoFar
 pub mod Rows

@@ -95,7 +95,7 @@ inserted front back p order low high last = record {
 }
 
 -- The places of a partition, for pairs as they lie in memory.
-at_all : (k : List ℕ) (xs : List Pair) (j : ℕ) (d : Pair) → AllByRecursion (λ q. key_le k q.0 ≡ true) (all_shown xs) → j < length xs → key_le k (get_or xs j d).key.now ≡ true
+pub at_all : (k : List ℕ) (xs : List Pair) (j : ℕ) (d : Pair) → AllByRecursion (λ q. key_le k q.0 ≡ true) (all_shown xs) → j < length xs → key_le k (get_or xs j d).key.now ≡ true
 at_all k [] j d all lt = absurd (omega arith)
 at_all k (x ∷ xs) zero d all lt = all.0
 at_all k (x ∷ xs) (suc j) d all lt = at_all k xs j d all.1 (omega arith)

@@ -1,7 +1,9 @@
 -- The laws of texts, for crates above: each is also the contract of a function of `laws`.
-use Rattle.std.proofs.Common.{◌≡◌, ℕ, ◌≤◌, List, length, Option, Some, None, refl, sym, ap, subst, ◌↔◌}
+use Rattle.std.proofs.Common.{◌≡◌, ℕ, ◌≤◌, List, length, Option, Some, None, Result, Ok, Err, refl, sym, ap, subst, ◌∙◌, ◌↔◌}
+use Rattle.std.specs.Prelude.{IfOk, OnOk}
 use Rattle.iscsi_text.specs.Text.{Pairs, TextMeans, IsMeaning}
 use Rattle.iscsi_text.specs.declared.fault.TextFault.{TextFault}
+use Rattle.iscsi_text.specs.declared.fault.TextFault.TheVariants.{NoMemory}
 use Rattle.iscsi_text.specs.Fault.{IsFirstFault}
 use Rattle.iscsi_text.specs.Canonical.{canonical_text}
 use Rattle.iscsi_text.specs.Reading.{text_in}
@@ -66,3 +68,13 @@ canonical_read bytes m read = computed.means_read (canonical_text m) m (canonica
 -- from no more bytes
 pub read_no_longer : (bytes : List ℕ) (m : Pairs) → text_in bytes ≡ Some m → length (canonical_text m) ≤ length bytes
 read_no_longer bytes m read = canonical.canonical_no_longer bytes m (computed.read_means bytes m read)
+
+-- ---- a text, if bytes mean one
+
+pub read_is : (bytes : List ℕ) (m : Pairs) → TextMeans bytes m → Some m ≡ text_in bytes
+read_is bytes m means = sym ((reading_some bytes m).1 means)
+
+pub refused_is : {E : Type 0} (bytes : List ℕ) (fault : TextFault) (r : Result (Option Pairs) E)
+    → ((fault ≡ NoMemory → ⊥) → (m : Pairs) → TextMeans bytes m → ⊥) → IfOk r (λ text. text ≡ None) → OnOk r (fault ≡ NoMemory → ⊥) → IfOk r (λ text. text ≡ text_in bytes)
+refused_is bytes fault (Ok text) never none other = none ∙ sym ((reading_none bytes).1 (never other))
+refused_is bytes fault (Err e) never none other = tt

@@ -1,11 +1,12 @@
 //! A text, read into the map from keys to values that it means.
 
-ghost use Rattle.std.specs.Prelude.{◌≡◌, ◌≢◌, ◌≤◌, ◌++◌, length, IfOk, IfErr, OnOk, OnErr, slice_get};
+ghost use Rattle.std.specs.Prelude.{◌≡◌, ◌≢◌, ◌≤◌, ◌++◌, length, None, IfOk, IfErr, IfSome, OnOk, OnErr, slice_get};
 ghost use Rattle.std.specs.Option.{option_map};
 ghost use Rattle.iscsi_text.specs.Value.{typed};
 ghost use Rattle.iscsi_text.specs.Text.{Pairs, values_of, TextMeans, IsMeaning};
 ghost use Rattle.iscsi_text.specs.Fault.{IsFirstFault};
 ghost use Rattle.iscsi_text.specs.Canonical.{canonical_text};
+ghost use Rattle.iscsi_text.specs.Reading.{text_in};
 ghost use Rattle.iscsi_text.specs.Inside.{all_shown};
 
 mod read;
@@ -15,6 +16,7 @@ use crate::fault::TextFault;
 use crate::pair::Pair;
 use crate::value::Value;
 use read::read_pairs;
+pub use read::split_at_byte;
 use std::alloc::{AllocError, Global};
 use std::marker::Model;
 use write::pairs_len;
@@ -129,4 +131,28 @@ pub fn value_in<'a>(pairs: &[Pair<'a>], key: &[u8], i: usize) -> Option<Value<'a
 {
     let pair = pairs.iter().filter(|pair| pair.key == key).nth(i)?;
     Some(pair.value)
+}
+
+/// The text that bytes mean, if they mean one (RFC 7143, section 6.1). Its canonical text is no
+/// longer. The only error is that memory ran out.
+pub fn read_text<'a>(alloc: Global, bytes: &'a [u8]) -> Result<Option<Text<'a>>, AllocError>
+    ensures means { IfOk result (λ text. text ≡ text_in bytes.now) }
+    ensures no_longer { IfOk result (λ text. IfSome text
+        (λ pairs. length (canonical_text pairs) ≤ length bytes.now)) }
+{
+    match Text::read(alloc, bytes) {
+        Ok(text) => Ok(Some(text)),
+        Err(fault) => no_text(fault),
+    }
+}
+
+// What is left of bytes that were not read as a text.
+fn no_text<'a>(fault: TextFault) -> Result<Option<Text<'a>>, AllocError>
+    ensures ok { IfOk result (λ text. text ≡ None) }
+    ensures memory { OnOk result (fault ≡ TextFault.NoMemory → ⊥) }
+{
+    match fault {
+        TextFault::NoMemory => Err(AllocError),
+        _ => Ok(None),
+    }
 }

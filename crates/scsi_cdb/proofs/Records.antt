@@ -11,7 +11,7 @@ use Rattle.scsi_cdb.specs.Layout.{Hold, HaveRoom, part, number_at, bits_at}
 use Rattle.scsi_cdb.specs.Blocks.{IsRecord, IsUnlisted, Fits, canonical, rows, is_listed, transfer10, transfer16}
 use Rattle.scsi_cdb.proofs.Laws.{is_table, put_all-holds, length-put_all, Hold-room, HaveRoom-filled}
 
-part-whole : (b : List ℕ) → length b ≡ 16 → part 0 15 b ≡ b
+pub part-whole : (b : List ℕ) → length b ≡ 16 → part 0 15 b ≡ b
 unfolding part
 part-whole b len = take_all 16 b (omega arith)
 

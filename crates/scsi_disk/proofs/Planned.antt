@@ -11,10 +11,10 @@ use Rattle.scsi_disk.specs.Effect.{wanted_data}
 use Rattle.scsi_disk.specs.Plan.{transfer, is_write, is_read, first_of, refusals, first_refusal, plan_by, plan_of, wanted_length, expected_length}
 
 -- where nothing is refused, each test was false
-pub all_false : (rows : List (Bool × Sense)) → first_of rows ≡ None → AllByRecursion (λ row. row.0 ≡ false) rows
+pub all_false : {A : Type 0} (rows : List (Bool × A)) → first_of rows ≡ None → AllByRecursion (λ row. row.0 ≡ false) rows
 all_false [] e = tt
-all_false ((true, sense) ∷ rows) e = absurd (let h : Some sense ≡ None = e in cc)
-all_false ((false, sense) ∷ rows) e = (refl, all_false rows e)
+all_false ((true, reason) ∷ rows) e = absurd (let h : Some reason ≡ None = e in cc)
+all_false ((false, reason) ∷ rows) e = (refl, all_false rows e)
 
 -- the blocks that an order names are inside the disk, and few
 pub record NamesBlocks (order : Order) (blocks : ℕ) : Type 0 where

@@ -100,7 +100,7 @@ refusals order blocks =
     ∷ []
 
 -- the first reason that holds
-abbrev pub first_of : List (Bool × Sense) → Option Sense
+abbrev pub first_of : {A : Type 0} → List (Bool × A) → Option A
 first_of [] = None
 first_of (row ∷ rows) = if row.0 then Some row.1 else first_of rows
 

@@ -11,12 +11,13 @@ ghost use Rattle.iscsi_initiator.specs.Full.{due_to, takes, residual, sense_of, 
 ghost use Rattle.iscsi_initiator.specs.declared.open.Open.TheVariants as opens;
 ghost use Rattle.iscsi_initiator.specs.Inside.{Did, uncounted, opened, received, readied, received_by};
 
+use super::Course;
 use super::sequence::write_sequence;
-use super::{Course, DATA_OUT_OF_ORDER, KIND_NOT_DUE, TEXT_AT_FAULT};
 use crate::fault::InitiatorFault;
 use crate::open::{Open, Reading, Writing};
 use crate::request::Done;
 use iscsi_login::NegKey;
+use iscsi_pdu::rule::{DATA_OUT_OF_ORDER, KIND_NOT_DUE, TEXT_AT_FAULT};
 use iscsi_pdu::{
     DataIn, DataOut, Head, LogoutResponse, NopIn, RESERVED_TAG, ReadyToTransfer, ScsiResponse,
     TextResponse,

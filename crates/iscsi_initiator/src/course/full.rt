@@ -6,8 +6,9 @@ ghost use Rattle.iscsi_pdu.specs.declared.head.Head.TheVariants as heads;
 ghost use Rattle.iscsi_initiator.specs.Full.{Asked, Notice, Refusal, tag_of, nop_answer, takes, full_step};
 ghost use Rattle.iscsi_initiator.specs.Inside.{Did, uncounted, broken, passed_by};
 
-use super::{Course, KIND_NOT_DUE, REJECTED, SEGMENT_TOO_LONG, STATUS_OUT_OF_ORDER};
+use super::Course;
 use crate::fault::InitiatorFault;
+use iscsi_pdu::rule::{KIND_NOT_DUE, REJECTED, SEGMENT_TOO_LONG, STATUS_OUT_OF_ORDER};
 use iscsi_pdu::{AsyncMessage, Head, NopIn, NopOut, Pdu, RESERVED_TAG, Reject, Serial};
 use iscsi_stream::write_pdu;
 use std::alloc::AllocError;

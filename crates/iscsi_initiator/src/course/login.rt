@@ -9,11 +9,12 @@ ghost use Rattle.iscsi_login.specs.Answer.{DeclaresWell, initiator_holds};
 ghost use Rattle.iscsi_initiator.specs.Login.{asked, asked_from, login_request, fits_segment, sends_text, sends_more, is_expected, counted, enters, text_answered, is_empty_segment, goes_on, moves_on, in_turn, answered, login_step, start_step};
 ghost use Rattle.iscsi_initiator.specs.Inside.{Did, uncounted};
 
-use super::{Course, KIND_NOT_DUE, LOGIN_OUT_OF_TURN, STATUS_OUT_OF_ORDER, TEXT_AT_FAULT};
+use super::Course;
 use crate::fault::InitiatorFault;
 use iscsi_login::{Phase, Stage};
+use iscsi_pdu::rule::{KIND_NOT_DUE, LOGIN_OUT_OF_TURN, STATUS_OUT_OF_ORDER, TEXT_AT_FAULT};
 use iscsi_pdu::{Head, LoginRequest, LoginResponse, Pdu, Serial};
-use iscsi_stream::{text_of, write_pdu};
+use iscsi_stream::{drop_front, text_of, write_pdu};
 use iscsi_text::Text;
 use std::alloc::AllocError;
 
@@ -320,12 +321,4 @@ fn is_empty_segment(text: Option<&Text<'_>>, bytes: &[u8]) -> bool
         Some(text) => text.len() == 0,
         None => bytes.is_empty(),
     }
-}
-
-// Drops the first bytes.
-fn drop_front(bytes: &mut Vec<u8>, count: usize)
-    requires { count ≤ length bytes.old.items }
-    ensures { bytes.new.items ≡ drop count bytes.old.items }
-{
-    bytes.drain(..count);
 }

@@ -4,7 +4,8 @@ ghost use Rattle.std.specs.Prelude.{◌≡◌, ◌<◌, ◌≤◌, ◌+◌, ◌^
 ghost use Rattle.iscsi_pdu.specs.Meaning.{Fits};
 ghost use Rattle.iscsi_pdu.specs.declared.head.Head.TheVariants as heads;
 ghost use Rattle.iscsi_stream.specs.Canonical.{canon};
-ghost use Rattle.iscsi_initiator.specs.Full.{data_outs, pieces};
+ghost use Rattle.iscsi_initiator.specs.Full.{data_outs};
+ghost use Rattle.iscsi_stream.specs.Pieces.{chunks};
 
 use iscsi_pdu::{DataOut, Head};
 use iscsi_stream::write_pdu;
@@ -23,7 +24,7 @@ pub fn write_sequence(
     requires short { most < 2 ^ 24 }
     requires within { first.buffer_offset + length bytes.now < 2 ^ 32 }
     ensures ok { OnOk result
-        (out.new.items ≡ out.old.items ++ canon (data_outs first (pieces most bytes.now))) }
+        (out.new.items ≡ out.old.items ++ canon (data_outs first (chunks most bytes.now))) }
     ensures err { OnErr result (out.new.items ≡ out.old.items) }
 {
     let held = out.len();
@@ -46,7 +47,7 @@ fn write_pieces(
     requires short { most < 2 ^ 24 }
     requires within { first.buffer_offset + length bytes.now < 2 ^ 32 }
     ensures ok { OnOk result
-        (out.new.items ≡ out.old.items ++ canon (data_outs first (pieces most bytes.now))) }
+        (out.new.items ≡ out.old.items ++ canon (data_outs first (chunks most bytes.now))) }
     ensures front { take (length out.old.items) out.new.items ≡ out.old.items }
 {
     let mut next = first;

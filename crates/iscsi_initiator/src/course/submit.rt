@@ -8,8 +8,8 @@ ghost use Rattle.iscsi_stream.specs.Canonical.{canon};
 ghost use Rattle.iscsi_initiator.specs.Block.{record_of};
 ghost use Rattle.iscsi_initiator.specs.State.{next_tag};
 ghost use Rattle.iscsi_initiator.specs.Calls.{refused_for};
-ghost use Rattle.iscsi_initiator.specs.Submitted.{refusal, refusal_when_full, is_too_long, accepted, burst, immediate, has_more, unsolicited, writes, command, begun, is_yes, ping, text_request, logout_request};
-ghost use Rattle.iscsi_login.specs.Held.{held_value};
+ghost use Rattle.iscsi_initiator.specs.Submitted.{refusal, refusal_when_full, is_too_long, accepted, immediate, has_more, unsolicited, writes, command, begun, ping, text_request, logout_request};
+ghost use Rattle.iscsi_login.specs.Held.{is_on, unasked};
 ghost use Rattle.iscsi_initiator.specs.Inside.{unsolicited_head};
 
 use super::Course;
@@ -239,7 +239,7 @@ impl Course {
 
     // How many bytes may go out before the target asks for them.
     fn burst(&self, bytes: &[u8]) -> usize
-        ensures value { result ≡ burst self.now bytes.now }
+        ensures value { result ≡ unasked self.now.held (length bytes.now) }
         ensures most { result ≤ length bytes.now }
     {
         (self.held.first_burst() as usize).min(bytes.len())
@@ -279,7 +279,7 @@ impl Course {
 
     // Whether `Yes` is held for the key.
     fn is_yes(&self, key: NegKey) -> bool
-        ensures { result ≡ is_yes (held_value self.now.held key) }
+        ensures { result ≡ is_on self.now.held key }
     {
         matches!(self.held.get(key), Answered::Flag(true))
     }

@@ -9,8 +9,9 @@ ghost use Rattle.iscsi_target.specs.Login.{login_step};
 ghost use Rattle.iscsi_target.specs.Machine.{is_due_kind, has_write, advanced, handled, immediate, in_turn, due_step, full_step, is_closed, step_on};
 ghost use Rattle.iscsi_target.specs.Inside.{Replied, Serves, GivesUp};
 
-use super::{Course, KIND_NOT_DUE, SEGMENT_TOO_LONG, TOO_MANY_IMMEDIATE};
+use super::Course;
 use iscsi_login::{Phase, Session};
+use iscsi_pdu::rule::{KIND_NOT_DUE, SEGMENT_TOO_LONG, TOO_MANY_IMMEDIATE};
 use iscsi_pdu::{Head, Pdu, Serial};
 use scsi_disk::BlockStore;
 use std::alloc::AllocError;

@@ -4,20 +4,21 @@ ghost use Rattle.std.specs.Prelude.{◌≡◌, ◌≢◌, ◌<◌, ◌≤◌, �
 ghost use Rattle.scsi_disk.specs.Plan.{plan_of};
 ghost use Rattle.iscsi_pdu.specs.Meaning.{Fits};
 ghost use Rattle.iscsi_stream.specs.Stream.{message};
-ghost use Rattle.iscsi_login.specs.Held.{first_burst};
+ghost use Rattle.iscsi_login.specs.Held.{first_burst, is_on, max_burst};
 ghost use Rattle.iscsi_stream.specs.Canonical.{canon};
 ghost use Rattle.iscsi_target.specs.State.{closed};
 ghost use Rattle.iscsi_target.specs.Execution.{parts_given, run_given, data_in_head, data_ins, command_answers, execute};
-ghost use Rattle.iscsi_target.specs.Transfer.{is_whole, is_idle, desired, max_burst};
-ghost use Rattle.iscsi_target.specs.Command.{order_of, is_on, breaks_burst_rules, r2t_head, ask, proceed, opened, scsi_command, data_out};
+ghost use Rattle.iscsi_target.specs.Transfer.{is_whole, is_idle, desired};
+ghost use Rattle.iscsi_target.specs.Command.{order_of, breaks_burst_rules, r2t_head, ask, proceed, opened, scsi_command, data_out};
 ghost use Rattle.iscsi_target.specs.Inside.{Replied, Serves, GivesUp};
 
-use super::{Course, DATA_OUT_OF_ORDER};
+use super::Course;
 use crate::due::Due;
 use crate::open_write::OpenWrite;
 use crate::response::response_head;
 use crate::writing::append_response;
 use iscsi_login::{Answered, NegKey};
+use iscsi_pdu::rule::DATA_OUT_OF_ORDER;
 use iscsi_pdu::{DataIn, DataOut, Head, Pdu, RESERVED_TAG, ReadyToTransfer, ScsiCommand};
 use iscsi_stream::write_pdu;
 use scsi_disk::{BlockStore, Order, Outcome, Plan, execute, plan};

@@ -11,10 +11,10 @@ ghost use Rattle.iscsi_stream.specs.Stream.{message};
 ghost use Rattle.iscsi_target.specs.Discovery.{text_request, is_asked, word_for, replies, name_if, reply_pairs};
 ghost use Rattle.iscsi_target.specs.Inside.{Replied, has_first, has_reply, shown_option};
 
-use super::{Course, TEXT_AT_FAULT};
-use crate::texts::read_text;
+use super::Course;
+use iscsi_pdu::rule::TEXT_AT_FAULT;
 use iscsi_pdu::{Head, Pdu, RESERVED_TAG, TextRequest, TextResponse};
-use iscsi_text::{Pair, Text, Value, key_kind, write_pairs};
+use iscsi_text::{Pair, Text, Value, key_kind, read_text, write_pairs};
 use std::alloc::{AllocError, Global};
 
 const TARGET_NAME: &[u8] = b"TargetName";

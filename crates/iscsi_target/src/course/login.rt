@@ -8,18 +8,18 @@ ghost use Rattle.iscsi_pdu.specs.declared.head.login_request.LoginRequest.{Login
 ghost use Rattle.iscsi_pdu.specs.declared.head.Head.TheVariants as heads;
 ghost use Rattle.iscsi_login.specs.Answer.{DeclaresWell};
 ghost use Rattle.iscsi_stream.specs.Segment.{Bytes, Text as Whole, segment_of, text_or_bytes};
-ghost use Rattle.iscsi_target.specs.State.{closed, first_of};
+ghost use Rattle.iscsi_target.specs.State.{closed};
+ghost use Rattle.scsi_disk.specs.Plan.{first_of};
 ghost use Rattle.iscsi_target.specs.Login.{stage_named, is_due_stage, is_move, stage_asked, stage_after, tsih_at, phase_at, response, refuse, after_text, whole_text, segment_taken, request_refusals, login_request};
 ghost use Rattle.iscsi_target.specs.Inside.{Replied, left_by, login_answer};
 
 use super::Course;
 use super::login_text::given_with;
 use crate::status::Status;
-use crate::texts::read_text;
 use iscsi_login::{Phase, Stage, answer_text};
 use iscsi_pdu::{Head, LoginRequest, LoginResponse};
 use iscsi_stream::write_pdu;
-use iscsi_text::Text;
+use iscsi_text::{Text, read_text};
 use std::alloc::{AllocError, Global};
 
 /// The most bytes of a text that comes in several segments (own rule).

@@ -8,7 +8,7 @@ ghost use Rattle.iscsi_text.specs.Value.{Plain, typed};
 ghost use Rattle.iscsi_text.specs.Canonical.{canonical_text};
 ghost use Rattle.iscsi_text.specs.Reading.{has_key};
 ghost use Rattle.iscsi_login.specs.Answer.{DeclaresWell, max_recv_key};
-ghost use Rattle.iscsi_target.specs.State.{first_of};
+ghost use Rattle.scsi_disk.specs.Plan.{first_of};
 ghost use Rattle.iscsi_target.specs.LoginText.{known_keys, gives_again, given_with, is_name, value_for, is_bad_length, session_named, session_in, session_for, is_normal, names_target, demands_authentication, declared_tag, declared_length, answer_pairs, text_refusals};
 
 use super::Course;

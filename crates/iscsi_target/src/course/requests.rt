@@ -6,7 +6,8 @@ ghost use Rattle.iscsi_stream.specs.Stream.{message};
 ghost use Rattle.iscsi_target.specs.Requests.{nop_out, task_request, logout_request};
 ghost use Rattle.iscsi_target.specs.Inside.{Replied};
 
-use super::{Course, LOGOUT_REASON};
+use super::Course;
+use iscsi_pdu::rule::LOGOUT_REASON;
 use iscsi_pdu::{
     Head, LogoutRequest, LogoutResponse, NopIn, NopOut, Pdu, RESERVED_TAG, TaskRequest,
     TaskResponse,

@@ -1,7 +1,7 @@
 //! Sessions by example, in pieces of any length.
 
 use super::rows::{DIALOGUES, Dialogue, FAILING, LOGIN};
-use super::{feed_pieces, pdu_of, same, target_of};
+use super::{BY_PDU, feed_pieces, pdu_of, same, target_of};
 use iscsi_login::{Phase, Stage};
 use iscsi_stream::StreamFault;
 use iscsi_target::{Target, TargetFault};
@@ -109,7 +109,7 @@ fn check_failing(rt: &impl Abort, alloc: Global, row: &Dialogue, len: usize) -> 
 #[test]
 fn dialogues(rt: HostRuntime) -> Result<(), Fail> {
     for row in DIALOGUES {
-        for len in [1usize, 47, 48, 100_000] {
+        for len in [BY_PDU, 1, 47, 48, 100_000] {
             check_dialogue(&rt, rt.alloc(), row, len)?;
         }
     }
@@ -120,7 +120,7 @@ fn dialogues(rt: HostRuntime) -> Result<(), Fail> {
 #[test]
 fn stores_that_fail(rt: HostRuntime) -> Result<(), Fail> {
     for row in FAILING {
-        for len in [1usize, 47, 48, 100_000] {
+        for len in [BY_PDU, 1, 47, 48, 100_000] {
             check_failing(&rt, rt.alloc(), row, len)?;
         }
     }

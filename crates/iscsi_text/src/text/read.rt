@@ -63,8 +63,8 @@ fn insert<'a>(pairs: &mut Vec<Pair<'a>>, pair: Pair<'a>) -> Result<bool, AllocEr
     Ok(true)
 }
 
-// What stands before the first such byte, and what stands behind it.
-fn split_at_byte(bytes: &[u8], byte: u8) -> Option<(&[u8], &[u8])>
+/// What stands before the first such byte, and what stands behind it.
+pub fn split_at_byte(bytes: &[u8], byte: u8) -> Option<(&[u8], &[u8])>
     ensures found { IfSome result (λ parts. SplitsAt bytes.now byte parts.0.now parts.1.now) }
     ensures none { IfNone result (HasNo byte bytes.now) }
 {

@@ -1,7 +1,7 @@
 //! Texts by example.
 
 use super::same;
-use iscsi_text::{Text, TextFault, Value, value_in};
+use iscsi_text::{Text, TextFault, Value, read_text, split_at_byte, value_in};
 use std::alloc::{AllocError, Global};
 use std::process::Abort;
 use std::test::Fail;
@@ -226,4 +226,33 @@ fn refused_memory_changes_no_answer(rt: HostRuntime) {
         let out = write_twice(&rt, rt.alloc(), &text, name);
         same(&rt, &out.as_slice(), want, &name);
     }
+}
+
+// Bytes, and how many pairs they have where they are a text.
+const READ: &[(&[u8], Option<usize>)] = &[
+    (b"", Some(0)),
+    (b"A=1\0B=2\0", Some(2)),
+    (b"A=1", None),
+    (b"A\0", None),
+];
+
+fn check_read(rt: &impl Abort, alloc: Global, bytes: &[u8], pairs: Option<usize>) {
+    let Ok(text) = read_text(alloc, bytes) else {
+        return;
+    };
+    same(rt, &text.map(|text| text.len()), &pairs, &bytes);
+}
+
+#[test]
+fn bytes_are_a_text_or_none(rt: HostRuntime) {
+    for (bytes, pairs) in READ {
+        check_read(&rt, rt.alloc(), bytes, *pairs);
+    }
+}
+
+#[test]
+fn bytes_split_at_the_first_byte_sought(rt: HostRuntime) {
+    let parts = split_at_byte(b"key=a=b", b'=');
+    same(&rt, &parts, &Some((&b"key"[..], &b"a=b"[..])), &"a pair");
+    same(&rt, &split_at_byte(b"key", b'='), &None, &"no byte sought");
 }

@@ -1,6 +1,6 @@
 use Rattle.std.proofs.Common.{sym, ◌∙◌}
 use Rattle.iscsi_stream.specs.Segment.{is_last}
-use Rattle.iscsi_stream.proofs.Segments.{segment_plain, segment_text, segment_refused, none_whole}
+use Rattle.iscsi_stream.proofs.Segments.{segment_plain, segment_read, none_whole}
 use Rattle.iscsi_stream.proofs.forms.text_of.Goals as goal
 use Rattle.iscsi_stream.proofs.forms.text_of.Goals.{then-continued-via-then-continued, then-continued-via-else-continued+then-not-is_last}
 
@@ -11,8 +11,5 @@ returns-then-continued-clause-means c =
       | then-continued-via-else-continued+then-not-is_last w ↦ none_whole.1 c.args.continued (is_last c.args.pdu.now.head) (sym w.is_last.ensures ∙ w.if-not-is_last.true)
     ])
 
-pub returns-in-Ok-clause-means : goal.returns-in-Ok-clause-means
-returns-in-Ok-clause-means c = segment_text c.args.continued c.args.pdu.now.head c.args.pdu.now.bytes.now c.in-Ok.text c.if-continued.false (sym c.is_last.ensures ∙ c.if-not-is_last.false) c.in-Ok.ensures.found
-
-pub returns-in-Err-clause-means : goal.returns-in-Err-clause-means
-returns-in-Err-clause-means c = segment_refused c.args.continued c.args.pdu.now.head c.args.pdu.now.bytes.now c.in-Err.fault c.no_text.result c.if-continued.false (sym c.is_last.ensures ∙ c.if-not-is_last.false) c.in-Err.ensures.none c.no_text.ensures.ok c.no_text.ensures.memory
+pub returns-clause-means : goal.returns-clause-means
+returns-clause-means c = segment_read c.args.continued c.args.pdu.now.head c.args.pdu.now.bytes.now c.read_text.result c.if-continued.false (sym c.is_last.ensures ∙ c.if-not-is_last.false) c.read_text.ensures.means

@@ -1,5 +1,5 @@
 use Rattle.std.proofs.Common.{◌≡◌, sym, ap, inl, inr, ◌∙◌}
-use Rattle.iscsi_login.specs.Answer.{in_order}
+use Rattle.iscsi_text.specs.Reading.{in_order}
 use Rattle.iscsi_login.specs.Offers.{proposed, operational_offers, offers_at}
 use Rattle.iscsi_login.specs.Check.{bad_key}
 use Rattle.iscsi_login.proofs.offers.Offers.bad_key.Goals as goal

@@ -13,7 +13,7 @@ returns c =
       blocks = c.self.inside.store;
       initiator = c.feed-fed.new.self;
       to_target = c.feed-fed.new.out.items;
-      to_initiator = c.drop_front-2.new.queue.items;
+      to_initiator = c.drop_front-2.new.bytes.items;
       target_fault = c.self.inside.target_fault;
       initiator_fault = c.feed_fault-self-inside.result;
     } in

@@ -7,7 +7,8 @@ use Rattle.iscsi_target.specs.Command.{data_out, proceed}
 use Rattle.iscsi_login.specs.Held.{first_burst}
 use Rattle.iscsi_target.specs.Transfer.{received, is_in_sequence, with_data, joined_write}
 use Rattle.iscsi_target.specs.Laws.{joined_stepped}
-use Rattle.iscsi_target.specs.Rejecting.{breach, data_out_of_order}
+use Rattle.iscsi_target.specs.Rejecting.{breach}
+use Rattle.iscsi_pdu.specs.Rules.{data_out_of_order}
 use Rattle.iscsi_target.proofs.Serving.{reply_if, reply_serves, same_if}
 use Rattle.iscsi_target.proofs.Logins.{replied_as}
 use Rattle.iscsi_target.proofs.Commanding.{no_write, other_tag, out_of_order, in_order, replied_kept, none_written, some_written, same_tags}

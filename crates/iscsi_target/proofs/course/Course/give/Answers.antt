@@ -1,7 +1,7 @@
 use Rattle.std.proofs.Common.{◌<◌, ℕ, min, length, sym, ap, ◌∙◌, arith}
 use Rattle.std.proofs.lemmas.Bool.{eqb-false}
 use Rattle.std.proofs.lemmas.List.{take_rest}
-use Rattle.iscsi_target.specs.Transfer.{max_burst}
+use Rattle.iscsi_login.specs.Held.{max_burst}
 use Rattle.iscsi_target.proofs.Giving.{gave_run}
 use Rattle.iscsi_target.proofs.course.Course.give.Goals as goal
 

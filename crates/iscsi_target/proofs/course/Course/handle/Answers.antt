@@ -2,7 +2,8 @@ use Rattle.iscsi_stream.specs.Stream.{message}
 use Rattle.iscsi_target.specs.Execution.{Device}
 use Rattle.iscsi_target.specs.Machine.{handled}
 use Rattle.iscsi_target.specs.Command.{scsi_command}
-use Rattle.iscsi_target.specs.Rejecting.{breach, kind_not_due}
+use Rattle.iscsi_target.specs.Rejecting.{breach}
+use Rattle.iscsi_pdu.specs.Rules.{kind_not_due}
 use Rattle.iscsi_target.specs.Requests.{nop_out, task_request, logout_request}
 use Rattle.iscsi_target.specs.Discovery.{text_request}
 use Rattle.iscsi_target.proofs.Serving.{reply_if, serves_if}

@@ -2,7 +2,8 @@ use Rattle.std.proofs.Common.{sym, ◌∙◌}
 use Rattle.iscsi_stream.specs.Stream.{message}
 use Rattle.iscsi_target.specs.Execution.{Device}
 use Rattle.iscsi_target.specs.Command.{scsi_command}
-use Rattle.iscsi_target.specs.Rejecting.{breach, data_out_of_order}
+use Rattle.iscsi_target.specs.Rejecting.{breach}
+use Rattle.iscsi_pdu.specs.Rules.{data_out_of_order}
 use Rattle.iscsi_target.proofs.Serving.{reply_if}
 use Rattle.iscsi_target.proofs.Commanding.{command_broken}
 use Rattle.iscsi_target.proofs.course.Course.scsi_command.Goals as goal

@@ -2,7 +2,8 @@ use Rattle.std.proofs.Common.{sym, ◌∙◌}
 use Rattle.iscsi_stream.specs.Stream.{message}
 use Rattle.iscsi_target.specs.Execution.{Device}
 use Rattle.iscsi_target.specs.Machine.{due_step, full_step}
-use Rattle.iscsi_target.specs.Rejecting.{breach, kind_not_due, segment_too_long}
+use Rattle.iscsi_target.specs.Rejecting.{breach}
+use Rattle.iscsi_pdu.specs.Rules.{kind_not_due, segment_too_long}
 use Rattle.iscsi_target.proofs.Serving.{reply_if, serves_if}
 use Rattle.iscsi_target.proofs.Dispatching.{not_due, due_too_long, due_served}
 use Rattle.iscsi_target.proofs.course.Course.serve.Goals as goal

@@ -2,7 +2,8 @@ use Rattle.std.proofs.Common.{sym, ◌∙◌}
 use Rattle.iscsi_stream.specs.Stream.{message}
 use Rattle.iscsi_target.specs.Execution.{Device}
 use Rattle.iscsi_target.specs.Machine.{immediate}
-use Rattle.iscsi_target.specs.Rejecting.{reject, too_many_immediate}
+use Rattle.iscsi_target.specs.Rejecting.{reject}
+use Rattle.iscsi_pdu.specs.Rules.{too_many_immediate}
 use Rattle.iscsi_target.proofs.Serving.{reply_if}
 use Rattle.iscsi_target.proofs.Dispatching.{no_room}
 use Rattle.iscsi_target.proofs.course.Course.serve_at_once.Goals as goal

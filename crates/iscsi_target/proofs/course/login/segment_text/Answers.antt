@@ -1,7 +1,8 @@
+use Rattle.std.proofs.Common.{ap}
 use Rattle.std.specs.Prelude.{not}
 use Rattle.iscsi_pdu.specs.declared.head.Head.TheVariants.{LoginRequest}
-use Rattle.iscsi_stream.proofs.Segments.{segment_plain, none_whole}
-use Rattle.iscsi_target.proofs.Logins.{text_of_segment, not_false}
+use Rattle.iscsi_stream.proofs.Segments.{segment_plain, none_whole, segment_read}
+use Rattle.iscsi_target.proofs.Logins.{not_false}
 use Rattle.iscsi_target.proofs.course.login.segment_text.Goals as goal
 use Rattle.iscsi_target.proofs.course.login.segment_text.Goals.{then-continued-via-then-continued, then-continued-via-else-continued+then-request}
 
@@ -13,4 +14,4 @@ returns-then-continued-clause-means c =
     ])
 
 pub returns-clause-means : goal.returns-clause-means
-returns-clause-means c = text_of_segment c.args.continued c.args.request.now c.args.bytes.now c.read_text.result c.if-continued.false c.if-request.false c.read_text.ensures.means
+returns-clause-means c = segment_read c.args.continued (LoginRequest c.args.request.now) c.args.bytes.now c.read_text.result c.if-continued.false (ap not c.if-request.false) c.read_text.ensures.means

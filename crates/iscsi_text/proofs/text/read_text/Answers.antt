@@ -1,5 +1,5 @@
-use Rattle.iscsi_target.proofs.TextReading.{read_is, refused_is}
-use Rattle.iscsi_target.proofs.texts.read_text.Goals as goal
+use Rattle.iscsi_text.proofs.TextLaws.{read_is, refused_is}
+use Rattle.iscsi_text.proofs.text.read_text.Goals as goal
 
 pub returns-in-Ok-clause-means : goal.returns-in-Ok-clause-means
 returns-in-Ok-clause-means c = read_is c.args.bytes.now c.in-Ok.text c.in-Ok.ensures.found

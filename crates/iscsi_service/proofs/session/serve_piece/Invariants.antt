@@ -1,0 +1,15 @@
+use Rattle.std.proofs.Common.{length, []}
+use Rattle.iscsi_target.specs.Inside.{store_of}
+use Rattle.iscsi_service.specs.Session.{NeverFails}
+use Rattle.iscsi_service.specs.SessionSteps.{service}
+use Rattle.iscsi_service.proofs.SessionReads.{PieceUpTo}
+use Rattle.iscsi_service.proofs.session.serve_piece.Given as goal
+
+abbrev pub invariant-loop-rest : goal.invariant-loop-rest
+invariant-loop-rest g l =
+    PieceUpTo (NeverFails g.S.BlockStore.failures)
+    (service l.fn.target (store_of (g.S.BlockStore.disk l.fn.store) (g.S.BlockStore.failures l.fn.store)) (g.W.Write.contents l.fn.w) []) l.fn.piece l.rest
+    (service l.target (store_of (g.S.BlockStore.disk l.store) (g.S.BlockStore.failures l.store)) (g.W.Write.contents l.w) l.out.items)
+
+abbrev pub decreases-loop-rest : goal.decreases-loop-rest
+decreases-loop-rest g l = length l.rest

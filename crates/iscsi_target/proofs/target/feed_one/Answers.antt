@@ -1,0 +1,42 @@
+use Rattle.std.proofs.Common.{List, ℕ, drop, refl, subst}
+use Rattle.iscsi_target.specs.State.{Machine}
+use Rattle.iscsi_target.specs.Feed.{Connection, Store}
+use Rattle.iscsi_target.specs.Inside.{connection, store_of, AnswersReady}
+use Rattle.iscsi_target.proofs.FeedLoop.{fed_none, fed_one, stays_within}
+use Rattle.iscsi_target.proofs.target.feed_one.Goals as goal
+
+pub returns-clause-ok : goal.returns-clause-ok
+returns-clause-ok g c =
+    let before : Store = store_of (g.S.BlockStore.disk c.args.store.now) (g.S.BlockStore.failures c.args.store.now) in
+    let after : Store = store_of (g.S.BlockStore.disk c.answer_ready.new.store) (g.S.BlockStore.failures c.answer_ready.new.store) in
+    let new : Connection = connection c.answer_ready.new.course c.answer_ready.new.framer in
+    record {
+      framing = c.take_bytes.new.framer;
+      takes = c.in_ok-taken.ensures.ok;
+      answers = subst (λ (m : Machine). AnswersReady (connection m c.take_bytes.new.framer) before c.args.out.now.items c.in_ok-broken.broken new after c.answer_ready.new.out.items)
+          c.in_ok-taken.ensures.kept c.in_ok-broken.ensures.ok;
+    }
+
+pub returns-clause-limit : goal.returns-clause-limit
+returns-clause-limit g c =
+    let old : Connection = connection c.args.course.now c.args.framer.now in
+    let before : Store = store_of (g.S.BlockStore.disk c.args.store.now) (g.S.BlockStore.failures c.args.store.now) in
+    let new : Connection = connection c.answer_ready.new.course c.answer_ready.new.framer in
+    let after : Store = store_of (g.S.BlockStore.disk c.answer_ready.new.store) (g.S.BlockStore.failures c.answer_ready.new.store) in
+    let out : List ℕ = c.args.out.now.items in
+    let piece : List ℕ = c.args.piece.now in
+    let fed = fed_one old before out piece piece (drop c.in_ok-taken.taken piece) old before out c.in_ok-taken.taken c.in_ok-broken.broken new after c.answer_ready.new.out.items
+    (fed_none old before out piece c.requires.unready c.requires.live) (returns-clause-ok g c) refl in
+    stays_within old before out piece (drop c.in_ok-taken.taken piece) new after c.answer_ready.new.out.items fed.fed c.requires.limit
+
+pub returns-clause-unready : goal.returns-clause-unready
+returns-clause-unready g c =
+    let old : Connection = connection c.args.course.now c.args.framer.now in
+    let before : Store = store_of (g.S.BlockStore.disk c.args.store.now) (g.S.BlockStore.failures c.args.store.now) in
+    let new : Connection = connection c.answer_ready.new.course c.answer_ready.new.framer in
+    let after : Store = store_of (g.S.BlockStore.disk c.answer_ready.new.store) (g.S.BlockStore.failures c.answer_ready.new.store) in
+    let out : List ℕ = c.args.out.now.items in
+    let piece : List ℕ = c.args.piece.now in
+    let fed = fed_one old before out piece piece (drop c.in_ok-taken.taken piece) old before out c.in_ok-taken.taken c.in_ok-broken.broken new after c.answer_ready.new.out.items
+    (fed_none old before out piece c.requires.unready c.requires.live) (returns-clause-ok g c) refl in
+    fed.fed.answered.ready
