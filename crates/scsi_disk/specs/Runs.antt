@@ -1,9 +1,9 @@
 -- Orders one after another, on one disk.
-use Rattle.std.specs.Prelude.{ℕ, List, [], ◌∷◌, All}
+use Rattle.std.specs.Prelude.{◌≡◌, ℕ, ◌≤◌, List, [], ◌∷◌, length, take, All}
 use Rattle.scsi_disk.specs.declared.order.Order.{Order}
 use Rattle.scsi_disk.specs.declared.order.Outcome.{Outcome}
 use Rattle.scsi_disk.specs.Disk.{Disk}
-use Rattle.scsi_disk.specs.Effect.{effect, IsSupplied}
+use Rattle.scsi_disk.specs.Effect.{Effect, Executes, effect, IsSupplied}
 
 -- an order and the bytes that come with it
 abbrev pub Supplied : Type 0
@@ -12,6 +12,25 @@ Supplied = Order × List ℕ
 -- each order has the bytes that it takes, on a disk of so many blocks
 abbrev pub AreSupplied : ℕ → List Supplied → Type 0
 AreSupplied count orders = All (λ o. IsSupplied count o.0 o.1) orders
+
+-- ---- on a store that may fail
+
+-- orders ran in turn, each as `Executes` says and the next on the disk that it left
+unfoldable pub RunsIn : ℕ → Disk → List Supplied → ℕ → Disk → List Outcome → Type 0
+RunsIn before disk [] after last told = (after ≡ before) × (last ≡ disk) × (told ≡ [])
+RunsIn before disk (o ∷ orders) after last told =
+    (now : ℕ) × (left : Effect) × (more : List Outcome)
+    × Executes before now disk o.0 o.1 left
+    × RunsIn now left.disk orders after last more
+    × (told ≡ left.outcome ∷ more)
+
+-- so many first orders ran, and no other did anything
+abbrev pub RunsSome : ℕ → Disk → List Supplied → ℕ → Disk → Type 0
+RunsSome before disk orders after last =
+    (n : ℕ) × (told : List Outcome) × (n ≤ length orders)
+    × RunsIn before disk (take n orders) after last told
+
+-- ---- where no failure is counted
 
 -- the disk that is left in the end
 unfoldable pub disk_after : List Supplied → Disk → Disk

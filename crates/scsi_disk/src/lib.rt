@@ -4,6 +4,7 @@
 
 mod execution;
 mod fail_at;
+mod laws;
 mod memory;
 mod order;
 mod planning;
@@ -13,6 +14,7 @@ mod store;
 
 pub use execution::execute;
 pub use fail_at::FailAt;
+pub use laws::run_without_failures;
 pub use memory::MemoryStore;
 pub use order::{Order, Outcome, Plan};
 pub use planning::plan;

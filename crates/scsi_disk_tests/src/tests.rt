@@ -391,7 +391,21 @@ const OUTCOMES: &[(&str, [u32; 4], Data, Option<Sense>, &[u8], Residual)] = &[
     ),
 ];
 
-/// What a command gave: GOOD, or CHECK CONDITION with this sense.
+/// What a command gave beside its data: GOOD, or CHECK CONDITION with this sense.
+fn check_status(
+    rt: &impl Abort,
+    name: &str,
+    outcome: &Outcome,
+    sense: Option<Sense>,
+    residual: Residual,
+) {
+    let status = if sense.is_none() { 0x00 } else { 0x02 };
+    same(rt, &outcome.status, &status, &name);
+    same(rt, &outcome.sense, &sense, &name);
+    same(rt, &outcome.residual, &residual, &name);
+}
+
+/// What a command gave, with its data.
 fn check_outcome(
     rt: &impl Abort,
     name: &str,
@@ -400,11 +414,8 @@ fn check_outcome(
     bytes: &[u8],
     residual: Residual,
 ) {
-    let status = if sense.is_none() { 0x00 } else { 0x02 };
-    same(rt, &outcome.status, &status, &name);
-    same(rt, &outcome.sense, &sense, &name);
+    check_status(rt, name, outcome, sense, residual);
     same(rt, &outcome.bytes.as_slice(), &bytes, &name);
-    same(rt, &outcome.residual, &residual, &name);
 }
 
 #[test]
@@ -438,81 +449,190 @@ fn check_supplied(rt: &impl Abort, orders: &[(Order, Bytes)], blocks: u64)
     }
 }
 
-/// Reads of what two blocks at 63 are written over, at the end and past it.
-const READS: &[([u32; 4], u32)] = &[
-    ([0x28000000, 0x003e0000, 0x04000000, 0], 2048),
-    ([0x28000000, 0x00810000, 0x01000000, 0], 512),
-    ([0x28000000, 0x00810000, 0x02000000, 0], 1024),
+/// Commands that are run one after another, and what each gives: the sense, of which byte each of its
+/// blocks is, and the residual. A WRITE has bytes of 5a.
+type Rows = &'static [(
+    &'static str,
+    [u32; 4],
+    Data,
+    Option<Sense>,
+    &'static [u8],
+    Residual,
+)];
+
+/// A write of two blocks on an end of an extent, and reads over it, at the end and past it, on 130
+/// blocks of 00.
+const OVER_AN_EXTENT: Rows = &[
+    (
+        "WRITE of two at 63",
+        [0x2a000000, 0x003f0000, 0x02000000, 0],
+        Data::Writes(1024),
+        None,
+        &[],
+        Residual::Exact,
+    ),
+    (
+        "READ of four at 62",
+        [0x28000000, 0x003e0000, 0x04000000, 0],
+        Data::Reads(2048),
+        None,
+        &[0x00, 0x5a, 0x5a, 0x00],
+        Residual::Exact,
+    ),
+    (
+        "last block",
+        [0x28000000, 0x00810000, 0x01000000, 0],
+        Data::Reads(512),
+        None,
+        &[0x00],
+        Residual::Exact,
+    ),
+    (
+        "two at the last block",
+        [0x28000000, 0x00810000, 0x02000000, 0],
+        Data::Reads(1024),
+        Some(Sense::OutOfRange),
+        &[],
+        Residual::Under(1024),
+    ),
 ];
 
-/// What a write of two blocks of 5a at 63 and these reads give on 130 blocks of 00: the status, the
-/// sense, how many bytes, and the residual.
-const TOLD: &[(u8, Option<Sense>, usize, Residual)] = &[
-    (0x00, None, 0, Residual::Exact),
-    (0x00, None, 2048, Residual::Exact),
-    (0x00, None, 512, Residual::Exact),
-    (0x02, Some(Sense::OutOfRange), 0, Residual::Under(1024)),
+/// Two equal reads, of which the first fails.
+const FAILING_READ: Rows = &[
+    (
+        "READ that fails",
+        [0x28000000, 0, 0x02000000, 0],
+        Data::Reads(1024),
+        Some(Sense::ReadError),
+        &[],
+        Residual::Under(1024),
+    ),
+    (
+        "the same again",
+        [0x28000000, 0, 0x02000000, 0],
+        Data::Reads(1024),
+        None,
+        &[0x00, 0x00],
+        Residual::Exact,
+    ),
 ];
 
-/// That write and those reads.
-fn four_orders(alloc: Global) -> Result<Vec<(Order, Bytes)>, AllocError> {
-    let data = Bytes::from_vec(vec![in alloc; 0x5au8; 1024]?);
-    let write = order([0x2a000000, 0x003f0000, 0x02000000, 0], false, true, 1024);
+/// Two equal writes, of which the first fails behind its first block.
+const FAILING_WRITE: Rows = &[
+    (
+        "TEST UNIT READY",
+        [0, 0, 0, 0],
+        Data::Silent,
+        None,
+        &[],
+        Residual::Exact,
+    ),
+    (
+        "WRITE that fails",
+        [0x2a000000, 0x00010000, 0x02000000, 0],
+        Data::Writes(1024),
+        Some(Sense::WriteError),
+        &[],
+        Residual::Under(1024),
+    ),
+    (
+        "READ of what it left",
+        [0x28000000, 0, 0x04000000, 0],
+        Data::Reads(2048),
+        None,
+        &[0x00, 0x5a, 0x00, 0x00],
+        Residual::Exact,
+    ),
+    (
+        "the same WRITE",
+        [0x2a000000, 0x00010000, 0x02000000, 0],
+        Data::Writes(1024),
+        None,
+        &[],
+        Residual::Exact,
+    ),
+    (
+        "the same READ",
+        [0x28000000, 0, 0x04000000, 0],
+        Data::Reads(2048),
+        None,
+        &[0x00, 0x5a, 0x5a, 0x00],
+        Residual::Exact,
+    ),
+];
+
+/// The bytes that a command takes.
+fn bytes_for(alloc: Global, data: Data) -> Result<Bytes, AllocError> {
+    let bytes = match data {
+        Data::Writes(length) => vec![in alloc; 0x5au8; length as usize]?,
+        Data::Silent | Data::Reads(_) | Data::Both(_) | Data::Neither(_) => Vec::new(alloc),
+    };
+    Ok(Bytes::from_vec(bytes))
+}
+
+/// The orders of some rows.
+fn orders_of(alloc: Global, rows: Rows) -> Result<Vec<(Order, Bytes)>, AllocError> {
     let mut orders = Vec::new(alloc);
-    orders.push((write, data))?;
-    for (words, expected) in READS {
-        let read = order(*words, true, false, *expected);
-        orders.push((read, Bytes::from_vec(Vec::new(alloc))))?;
+    for (_, words, data, _, _, _) in rows {
+        orders.push((order_of(*words, *data), bytes_for(alloc, *data)?))?;
     }
     Ok(orders)
 }
 
-/// Runs them.
-fn run_four<S: BlockStore>(
+/// Asserts that blocks are each of one byte alone.
+fn check_blocks(rt: &impl Abort, name: &str, bytes: &[u8], fills: &[u8]) {
+    same(rt, &(bytes.len() / 512), &fills.len(), &name);
+    for (i, byte) in bytes.iter().enumerate() {
+        same(rt, &Some(byte), &fills.get(i / 512), &name);
+    }
+}
+
+/// What a command gave, with data of whole blocks.
+fn check_run(
+    rt: &impl Abort,
+    name: &str,
+    outcome: &Outcome,
+    sense: Option<Sense>,
+    fills: &[u8],
+    residual: Residual,
+) {
+    check_status(rt, name, outcome, sense, residual);
+    check_blocks(rt, name, outcome.bytes.as_slice(), fills);
+}
+
+/// Runs the commands of some rows, and asserts that each gives what is due.
+fn check_rows<S: BlockStore>(
     rt: &impl Abort,
     alloc: Global,
+    rows: Rows,
     store: &mut S,
-) -> Result<Vec<Outcome>, AllocError> {
-    let orders = four_orders(alloc)?;
+) -> Result<(), AllocError> {
+    let orders = orders_of(alloc, rows)?;
     check_supplied(rt, &orders, store.blocks());
-    run_orders(alloc, &orders, store)
-}
-
-/// The bytes that were read: of four blocks the middle two are of 5a, and a block of 00.
-fn check_reads(rt: &impl Abort, four: &[u8], one: &[u8]) {
-    for (i, byte) in four.iter().enumerate() {
-        let want = if i / 512 == 1 || i / 512 == 2 {
-            0x5a
-        } else {
-            0x00
-        };
-        same(rt, byte, &want, &i);
+    let told = run_orders(alloc, &orders, store)?;
+    same(rt, &told.len(), &rows.len(), &"outcomes");
+    for ((name, _, _, sense, fills, residual), outcome) in rows.iter().zip(told.iter()) {
+        check_run(rt, name, outcome, *sense, fills, *residual);
     }
-    for byte in one {
-        same(rt, byte, &0x00, &"one block");
-    }
-}
-
-/// What the four gave.
-fn check_told(rt: &impl Abort, told: &[Outcome]) {
-    assert_eq!(rt; told.len(), 4);
-    for ((status, sense, length, residual), outcome) in TOLD.iter().zip(told.iter()) {
-        same(rt, &outcome.status, status, &"status");
-        same(rt, &outcome.sense, sense, &"sense");
-        same(rt, &outcome.bytes.as_slice().len(), length, &"length");
-        same(rt, &outcome.residual, residual, &"residual");
-    }
-    check_reads(rt, told[1].bytes.as_slice(), told[2].bytes.as_slice());
+    Ok(())
 }
 
 #[test]
 fn either_store(rt: HostRuntime) -> Result<(), Fail> {
     let mut memory = MemoryStore::new(rt.alloc(), 130)?;
+    check_rows(&rt, rt.alloc(), OVER_AN_EXTENT, &mut memory)?;
     let mut sparse = SparseStore::new(rt.alloc(), 130);
-    let first = run_four(&rt, rt.alloc(), &mut memory)?;
-    let second = run_four(&rt, rt.alloc(), &mut sparse)?;
-    check_told(&rt, &first);
-    check_told(&rt, &second);
+    check_rows(&rt, rt.alloc(), OVER_AN_EXTENT, &mut sparse)?;
+    Ok(())
+}
+
+#[test]
+fn orders_behind_a_failure(rt: HostRuntime) -> Result<(), Fail> {
+    for rows in [FAILING_READ, FAILING_WRITE] {
+        let mut store = FailAt::new(MemoryStore::new(rt.alloc(), 8)?, 0);
+        check_rows(&rt, rt.alloc(), rows, &mut store)?;
+        same(&rt, &store.failures(), &1, &"failures");
+    }
     Ok(())
 }
 

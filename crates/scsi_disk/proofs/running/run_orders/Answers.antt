@@ -1,18 +1,14 @@
-use Rattle.std.proofs.Common.{◌≡◌, ℕ, ◌+◌, ◌++◌, drop, take, refl, sym, ◌∙◌, ap, arith}
-use Rattle.scsi_disk.specs.Effect.{effect}
-use Rattle.scsi_disk.specs.Runs.{disk_after, outcomes}
-use Rattle.scsi_disk.proofs.Steps.{on_err, disk_after-none, step_after, step_told, told_all}
+use Rattle.std.proofs.Common.{◌+◌, ◌++◌, ◌∷◌, [], ◌∙◌, refl, arith}
+use Rattle.std.proofs.lemmas.List.{take_all}
+use Rattle.scsi_disk.specs.Runs.{RunsSome}
+use Rattle.scsi_disk.proofs.Steps.{on_err, ran_none, ran_next}
 use Rattle.scsi_disk.proofs.running.run_orders.Goals as goal
 
 pub loop-order-init : goal.loop-order-init
 loop-order-init g c =
-    let start = g.S.BlockStore.disk c.args.store.now in
-    record {
-      count = refl;
-      rises = omega arith;
-      told = λ same. ap (λ t. t ++ outcomes c.args.orders.now start) c.new-told.ensures.items;
-      so_far = λ same. sym (disk_after-none start);
-    }
+    let disk = g.S.BlockStore.disk in
+    let failures = g.S.BlockStore.failures in
+    record { count = refl; ran = ran_none (failures c.args.store.now) (disk c.args.store.now) _ c.new-told.ensures.items }
 
 pub execute-requires : goal.execute-requires
 execute-requires g c =
@@ -25,52 +21,32 @@ pub returns-in_err-outcome-clause-err : goal.returns-in_err-outcome-clause-err
 returns-in_err-outcome-clause-err g c =
     let failures = g.S.BlockStore.failures in
     let disk = g.S.BlockStore.disk in
-    let i = c.loop-order.order-index in
-    let kept : failures c.execute.new.store ≡ failures c.args.store.now → (n : ℕ) × (disk c.execute.new.store ≡ disk_after (take n c.args.orders.now) (disk c.args.store.now)) =
-    λ (same : failures c.execute.new.store ≡ failures c.args.store.now). (i, c.in_err-outcome.ensures.err ∙ c.loop-order.invariant.so_far (sym c.in_err-outcome.ensures.err_failures ∙ same)) in
-    on_err _ kept
+    let ran : RunsSome (failures c.args.store.now) (disk c.args.store.now) c.args.orders.now (failures c.execute.new.store) (disk c.execute.new.store) =
+    (c.loop-order.order-index, c.loop-order.told.items, omega arith, rw (c.in_err-outcome.ensures.err, c.in_err-outcome.ensures.err_failures) c.loop-order.invariant.ran) in
+    on_err _ ran
 
 pub returns-in_err-push-clause-err : goal.returns-in_err-push-clause-err
 returns-in_err-push-clause-err g c =
     let failures = g.S.BlockStore.failures in
     let disk = g.S.BlockStore.disk in
+    let orders = c.args.orders.now in
     let i = c.loop-order.order-index in
     let o = c.loop-order-item.result in
-    let done = c.in_ok-outcome.ensures.ok in
-    let kept : failures c.execute.new.store ≡ failures c.args.store.now → (n : ℕ) × (disk c.execute.new.store ≡ disk_after (take n c.args.orders.now) (disk c.args.store.now)) =
-    λ (same : failures c.execute.new.store ≡ failures c.args.store.now).
-    (let low = c.loop-order.invariant.rises in
-    let high = done.rises in
-    let before : failures c.loop-order.store ≡ failures c.args.store.now = omega arith in
-    let after : failures c.execute.new.store ≡ failures c.loop-order.store = omega arith in
-    let works = done.works after ∙ ap (effect (disk c.loop-order.store) o.0) c.as_slice.ensures in
-    (i + 1, step_after c.args.orders.now i o (omega arith) c.loop-order-item.is (disk c.loop-order.store) (disk c.execute.new.store) (disk c.args.store.now) c.in_ok-outcome.outcome works (c.loop-order.invariant.so_far before))) in
-    on_err _ kept
+    let done = rw c.as_slice.ensures at c.in_ok-outcome.ensures.ok in
+    let ran : RunsSome (failures c.args.store.now) (disk c.args.store.now) orders (failures c.execute.new.store) (disk c.execute.new.store) =
+    (i + 1, c.loop-order.told.items ++ c.in_ok-outcome.outcome ∷ [], omega arith, ran_next orders i o (omega arith) c.loop-order-item.is _ _ _ _ _ _ _ c.loop-order.invariant.ran done) in
+    on_err _ ran
 
 pub loop-order-preserved : goal.loop-order-preserved
 loop-order-preserved g c =
-    let failures = g.S.BlockStore.failures in
-    let disk = g.S.BlockStore.disk in
+    let orders = c.args.orders.now in
     let i = c.loop-order.order-index in
     let o = c.loop-order-item.result in
-    let done = c.in_ok-outcome.ensures.ok in
-    let low = c.loop-order.invariant.rises in
-    let high = done.rises in
+    let done = rw c.as_slice.ensures at c.in_ok-outcome.ensures.ok in
     record {
       count = c.in_ok-outcome.ensures.count ∙ c.loop-order.invariant.count;
-      rises = omega arith;
-      told = λ same.
-          (let before : failures c.loop-order.store ≡ failures c.args.store.now = omega arith in
-          let after : failures c.execute.new.store ≡ failures c.loop-order.store = omega arith in
-          let works = done.works after ∙ ap (effect (disk c.loop-order.store) o.0) c.as_slice.ensures in
-          ap (λ t. t ++ outcomes (drop (i + 1) c.args.orders.now) (disk c.execute.new.store)) c.in_ok-push.ensures.items
-          ∙ step_told c.args.orders.now i o (omega arith) c.loop-order-item.is c.loop-order.told.items (outcomes c.args.orders.now (disk c.args.store.now)) (disk c.loop-order.store) (disk c.execute.new.store) c.in_ok-outcome.outcome works (c.loop-order.invariant.told before));
-      so_far = λ same.
-          (let before : failures c.loop-order.store ≡ failures c.args.store.now = omega arith in
-          let after : failures c.execute.new.store ≡ failures c.loop-order.store = omega arith in
-          let works = done.works after ∙ ap (effect (disk c.loop-order.store) o.0) c.as_slice.ensures in
-          step_after c.args.orders.now i o (omega arith) c.loop-order-item.is (disk c.loop-order.store) (disk c.execute.new.store) (disk c.args.store.now) c.in_ok-outcome.outcome works (c.loop-order.invariant.so_far before));
+      ran = rw c.in_ok-push.ensures.items (ran_next orders i o (omega arith) c.loop-order-item.is _ _ _ _ _ _ _ c.loop-order.invariant.ran done);
     }
 
-pub returns-clause-outcomes : goal.returns-clause-outcomes
-returns-clause-outcomes g c same = told_all c.args.orders.now c.loop-order.order-index _ _ _ (omega arith) (c.loop-order.invariant.told same)
+pub returns-clause-ok : goal.returns-clause-ok
+returns-clause-ok g c = rw (take_all c.loop-order.order-index c.args.orders.now (omega arith)) at c.loop-order.invariant.ran
