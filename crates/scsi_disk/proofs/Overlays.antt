@@ -1,30 +1,12 @@
 -- Writes on blocks: what one leaves, a part of one, and one after another.
-use Rattle.std.proofs.Common.{◌≡◌, ℕ, zero, suc, ◌+◌, ◌-◌, ◌*◌, ◌<◌, ◌≤◌, List, [], ◌∷◌, length, take, drop, refl, sym, ◌∙◌, ap, ◌⊎◌, inl, inr, arith}
+use Rattle.std.proofs.Common.{◌≡◌, ℕ, zero, suc, ◌+◌, ◌-◌, ◌*◌, ◌<◌, ◌≤◌, nat_lt, List, [], ◌∷◌, length, take, drop, refl, sym, ◌∙◌, ap, ◌⊎◌, inl, inr, arith}
 use mathlib.Core.Path.{fun_ext}
-use Rattle.std.proofs.lemmas.Bool.{cases_lt, cases_order}
-use Rattle.std.proofs.lemmas.List.{take_all, take-take, drop-take, length-take-le}
+use Rattle.std.proofs.lemmas.Bool.{cases_lt}
+use Rattle.std.proofs.lemmas.List.{take-take, drop-take, drop-drop, length-take-le, length-drop}
 use Rattle.std.proofs.Math.Nat.{mul-le-mul_left}
 use borrow.Author.Tests.{lt-ltb, le-ltb}
 use Rattle.scsi_disk.specs.Disk.{Disk, IsOldOrNew, cut, overlaid, written}
-use Rattle.scsi_disk.proofs.Blocks.{length-cut, same_disk}
-
--- an overlay of one part, at its place
-pub overlaid_here : (size first : ℕ) (ys : List ℕ) (block : ℕ → List ℕ) → 0 < size → length ys ≡ size → overlaid size first ys block first ≡ ys
-unfolding overlaid cut
-overlaid_here size first ys block some long =
-    let none : size * (first - first) ≡ 0 = (let e : first - first ≡ 0 = omega arith in ap (λ k. size * k) e ∙ (let f : size * 0 ≡ 0 = omega arith in f)) in
-    let near : size * (first - first) < length ys = omega arith in
-    rw (le-ltb first first (omega arith), lt-ltb (size * (first - first)) (length ys) near, none) (take_all size ys (omega arith))
-
--- and away from it
-pub overlaid_apart : (size first : ℕ) (ys : List ℕ) (block : ℕ → List ℕ) (n : ℕ) → length ys ≡ size → (n < first) ⊎ (first < n) → overlaid size first ys block n ≡ block n
-unfolding overlaid
-overlaid_apart size first ys block n long (inl lt) = rw (lt-ltb n first lt) refl
-overlaid_apart size first ys block n long (inr gt) =
-    let low : first ≤ n = omega arith in
-    let one : 1 ≤ n - first = omega arith in
-    let past : length ys ≤ size * (n - first) = omega (arith, mul-le-mul_left size one) in
-    rw (le-ltb n first low, le-ltb (size * (n - first)) (length ys) past) refl
+use Rattle.scsi_disk.proofs.Blocks.{same_disk}
 
 -- a part that lies in the front
 cut_front : (size k : ℕ) (bytes : List ℕ) (m : ℕ) → size * m + size ≤ k → cut size (take k bytes) m ≡ cut size bytes m
@@ -33,7 +15,7 @@ cut_front size k bytes m fits =
     sym (drop-take (size * m) size (take k bytes)) ∙ ap (drop (size * m)) (take-take (size * m + size) k bytes fits) ∙ drop-take (size * m) size bytes
 
 -- an overlay below its first part, at one of its parts, and past them
-overlaid_below : (size first : ℕ) (ys : List ℕ) (block : ℕ → List ℕ) (n : ℕ) → n < first → overlaid size first ys block n ≡ block n
+pub overlaid_below : (size first : ℕ) (ys : List ℕ) (block : ℕ → List ℕ) (n : ℕ) → n < first → overlaid size first ys block n ≡ block n
 unfolding overlaid
 overlaid_below size first ys block n lt = rw (lt-ltb n first lt) refl
 
@@ -43,50 +25,110 @@ overlaid_in size first ys block m lt =
     let at : first + m - first ≡ m = omega arith in
     rw (le-ltb (first + m) first (omega arith), at, lt-ltb (size * m) (length ys) lt) refl
 
-overlaid_past : (size first : ℕ) (ys : List ℕ) (block : ℕ → List ℕ) (n : ℕ) → first ≤ n → length ys ≤ size * (n - first) → overlaid size first ys block n ≡ block n
+pub overlaid_past : (size first : ℕ) (ys : List ℕ) (block : ℕ → List ℕ) (n : ℕ) → first ≤ n → length ys ≤ size * (n - first) → overlaid size first ys block n ≡ block n
 unfolding overlaid
 overlaid_past size first ys block n ge past = rw (le-ltb n first ge, le-ltb (size * (n - first)) (length ys) past) refl
 
--- the part behind a front, written after the front
-overlaid_next_at : (size first i : ℕ) (bytes : List ℕ) (block : ℕ → List ℕ) (n : ℕ) → 0 < size → size * (i + 1) ≤ length bytes
-    → overlaid size (first + i) (cut size bytes i) (overlaid size first (take (size * i) bytes) block) n ≡ overlaid size first (take (size * (i + 1)) bytes) block n
-overlaid_next_at size first i bytes block n some room =
-    let next : size * (i + 1) ≡ size * i + size = omega arith in
-    let part : length (cut size bytes i) ≡ size = length-cut size bytes i (omega arith) in
-    let front : length (take (size * i) bytes) ≡ size * i = length-take-le (size * i) bytes (omega arith) in
-    let more : length (take (size * (i + 1)) bytes) ≡ size * (i + 1) = length-take-le (size * (i + 1)) bytes room in
-    let inner = overlaid size first (take (size * i) bytes) block in
-    elim (cases_order n (first + i)) [
-      | inl same ↦
-          ap (overlaid size (first + i) (cut size bytes i) inner) same ∙ overlaid_here size (first + i) (cut size bytes i) inner some part
-          ∙ sym (ap (overlaid size first (take (size * (i + 1)) bytes) block) same
-          ∙ overlaid_in size first (take (size * (i + 1)) bytes) block i (omega arith) ∙ cut_front size (size * (i + 1)) bytes i (omega arith))
-      | inr differ ↦ overlaid_apart size (first + i) (cut size bytes i) inner n part differ ∙ elim differ [
-        | inl low ↦ elim (cases_lt n first) [
-          | inl lt ↦ overlaid_below size first (take (size * i) bytes) block n lt ∙ sym (overlaid_below size first (take (size * (i + 1)) bytes) block n lt)
-          | inr ge ↦
-              let m = n - first in
-              let at : n ≡ first + (n - first) = omega arith in
-              let few : n - first + 1 ≤ i = omega arith in
-              let grown : size * (n - first + 1) ≡ size * (n - first) + size = omega arith in
-              let within : size * (n - first) + size ≤ size * i = omega (arith, mul-le-mul_left size few) in
-              ap (overlaid size first (take (size * i) bytes) block) at ∙ overlaid_in size first (take (size * i) bytes) block (n - first) (omega arith)
-              ∙ cut_front size (size * i) bytes (n - first) within
-              ∙ sym (ap (overlaid size first (take (size * (i + 1)) bytes) block) at ∙ overlaid_in size first (take (size * (i + 1)) bytes) block (n - first) (omega arith)
-              ∙ cut_front size (size * (i + 1)) bytes (n - first) (omega arith))
-        ]
-        | inr high ↦
-            let far : i + 1 ≤ n - first = omega arith in
-            let past : size * (i + 1) ≤ size * (n - first) = mul-le-mul_left size far in
-            overlaid_past size first (take (size * i) bytes) block n (omega arith) (omega arith)
-            ∙ sym (overlaid_past size first (take (size * (i + 1)) bytes) block n (omega arith) (omega arith))
-      ]
-    ]
+-- the same overlay at two places
+pub overlaid_like : (size a b x y : ℕ) (ys : List ℕ) (f g : ℕ → List ℕ) → nat_lt x a ≡ nat_lt y b → x - a ≡ y - b → f x ≡ g y
+    → overlaid size a ys f x ≡ overlaid size b ys g y
+unfolding overlaid
+overlaid_like size a b x y ys f g low far same = rw (low, far, same) refl
 
--- a disk with the front of some bytes written, and then the block behind that front
-pub written_next : (first i : ℕ) (bytes : List ℕ) (disk : Disk) → 512 * (i + 1) ≤ length bytes
-    → written (first + i) (cut 512 bytes i) (written first (take (512 * i) bytes) disk) ≡ written first (take (512 * (i + 1)) bytes) disk
-written_next first i bytes disk room = same_disk _ _ refl (fun_ext (λ n. overlaid_next_at 512 first i bytes disk.block n (omega arith) room))
+-- a part of what is behind a front
+cut_behind : (size i k : ℕ) (bytes : List ℕ) → cut size (drop (size * i) bytes) k ≡ cut size bytes (i + k)
+unfolding cut
+cut_behind size i k bytes =
+    ap (take size) (drop-drop (size * k) (size * i) bytes ∙ ap (λ m. drop m bytes) (let e : size * i + size * k ≡ size * (i + k) = omega arith in e))
+
+-- parts behind a front, written after the front
+module _ (size first i c : ℕ) (bytes : List ℕ) (block : ℕ → List ℕ) (room : size * (i + c) ≤ length bytes) where
+  abbrev part : List ℕ
+  part = take (size * c) (drop (size * i) bytes)
+
+  abbrev inner : ℕ → List ℕ
+  inner = overlaid size first (take (size * i) bytes) block
+
+  sum : size * (i + c) ≡ size * i + size * c
+  sum = omega arith
+
+  length_part : length part ≡ size * c
+  length_part = length-take-le (size * c) (drop (size * i) bytes) (let e = sum in omega (arith, length-drop (size * i) bytes))
+
+  length_front : length (take (size * i) bytes) ≡ size * i
+  length_front = length-take-le (size * i) bytes (let e = sum in omega arith)
+
+  length_all : length (take (size * (i + c)) bytes) ≡ size * (i + c)
+  length_all = length-take-le (size * (i + c)) bytes room
+
+  -- in the front
+  before : (m : ℕ) → 0 < size → m < i → overlaid size (first + i) part inner (first + m) ≡ overlaid size first (take (size * (i + c)) bytes) block (first + m)
+  before m some lt =
+      let e = sum in
+      let front = length_front in
+      let all = length_all in
+      let one : m + 1 ≤ i = omega arith in
+      let grown : size * (m + 1) ≡ size * m + size = omega arith in
+      let within : size * m + size ≤ size * i = omega (arith, mul-le-mul_left size one) in
+      overlaid_below size (first + i) part inner (first + m) (omega arith)
+      ∙ overlaid_in size first (take (size * i) bytes) block m (omega arith) ∙ cut_front size (size * i) bytes m within
+      ∙ sym (overlaid_in size first (take (size * (i + c)) bytes) block m (omega arith) ∙ cut_front size (size * (i + c)) bytes m (omega arith))
+
+  -- in the parts
+  within : (k : ℕ) → 0 < size → k < c → overlaid size (first + i) part inner (first + i + k) ≡ overlaid size first (take (size * (i + c)) bytes) block (first + i + k)
+  within k some lt =
+      let e = sum in
+      let parts = length_part in
+      let all = length_all in
+      let one : k + 1 ≤ c = omega arith in
+      let grown : size * (k + 1) ≡ size * k + size = omega arith in
+      let fits : size * k + size ≤ size * c = omega (arith, mul-le-mul_left size one) in
+      let both : size * (i + k) ≡ size * i + size * k = omega arith in
+      let at : first + i + k ≡ first + (i + k) = omega arith in
+      overlaid_in size (first + i) part inner k (omega arith) ∙ cut_front size (size * c) (drop (size * i) bytes) k fits ∙ cut_behind size i k bytes
+      ∙ sym (ap (overlaid size first (take (size * (i + c)) bytes) block) at ∙ overlaid_in size first (take (size * (i + c)) bytes) block (i + k) (omega arith)
+      ∙ cut_front size (size * (i + c)) bytes (i + k) (omega arith))
+
+  -- and behind them
+  behind : (n : ℕ) → first + i + c ≤ n → overlaid size (first + i) part inner n ≡ overlaid size first (take (size * (i + c)) bytes) block n
+  behind n past =
+      let e = sum in
+      let parts = length_part in
+      let front = length_front in
+      let all = length_all in
+      let far : i + c ≤ n - first = omega arith in
+      let near : c ≤ n - (first + i) = omega arith in
+      let long : size * (i + c) ≤ size * (n - first) = mul-le-mul_left size far in
+      let short : size * c ≤ size * (n - (first + i)) = mul-le-mul_left size near in
+      overlaid_past size (first + i) part inner n (omega arith) (omega arith)
+      ∙ overlaid_past size first (take (size * i) bytes) block n (omega arith) (omega arith)
+      ∙ sym (overlaid_past size first (take (size * (i + c)) bytes) block n (omega arith) (omega arith))
+
+  overlaid_more_at : 0 < size → (n : ℕ) → overlaid size (first + i) part inner n ≡ overlaid size first (take (size * (i + c)) bytes) block n
+  overlaid_more_at some n =
+      elim (cases_lt n first) [
+        | inl lt ↦
+            overlaid_below size (first + i) part inner n (omega arith) ∙ overlaid_below size first (take (size * i) bytes) block n lt
+            ∙ sym (overlaid_below size first (take (size * (i + c)) bytes) block n lt)
+        | inr ge ↦ elim (cases_lt n (first + i)) [
+          | inl lt ↦
+              let at : n ≡ first + (n - first) = omega arith in
+              ap (overlaid size (first + i) part inner) at ∙ before (n - first) some (omega arith)
+              ∙ sym (ap (overlaid size first (take (size * (i + c)) bytes) block) at)
+          | inr past ↦ elim (cases_lt n (first + i + c)) [
+            | inl lt ↦
+                let at : n ≡ first + i + (n - (first + i)) = omega arith in
+                ap (overlaid size (first + i) part inner) at ∙ within (n - (first + i)) some (omega arith)
+                ∙ sym (ap (overlaid size first (take (size * (i + c)) bytes) block) at)
+            | inr far ↦ behind n far
+          ]
+        ]
+      ]
+
+-- a disk with the front of some bytes written, and then the blocks behind that front
+pub written_next : (first i c : ℕ) (bytes : List ℕ) (disk : Disk) → 512 * (i + c) ≤ length bytes
+    → written (first + i) (take (512 * c) (drop (512 * i) bytes)) (written first (take (512 * i) bytes) disk) ≡ written first (take (512 * (i + c)) bytes) disk
+written_next first i c bytes disk room = same_disk _ _ refl (fun_ext (overlaid_more_at 512 first i c bytes disk.block room (omega arith)))
 
 overlaid_none : (size first : ℕ) (block : ℕ → List ℕ) (n : ℕ) → overlaid size first [] block n ≡ block n
 unfolding overlaid

@@ -1,5 +1,5 @@
 -- Blocks in extents.
-use Rattle.std.proofs.Common.{◌≡◌, ℕ, ◌+◌, ◌-◌, ◌*◌, ◌/◌, ◌%◌, ◌^◌, ◌<◌, ◌≤◌, Bool, true, false, cond, nat_lt, List, [], ◌∷◌, ◌++◌, length, take, drop, replicate, Option, Some, None, refl, sym, ◌∙◌, ap, ◌⊎◌, inl, inr, arith, rules, is_some, IsSome}
+use Rattle.std.proofs.Common.{◌≡◌, ℕ, zero, suc, ◌+◌, ◌-◌, ◌*◌, ◌/◌, ◌%◌, ◌^◌, ◌<◌, ◌≤◌, Bool, true, false, cond, nat_lt, List, [], ◌∷◌, ◌++◌, length, take, replicate, Option, Some, None, refl, sym, ◌∙◌, ap, ◌⊎◌, inl, inr, arith, rules, is_some, IsSome}
 use Rattle.std.proofs.lemmas.Bool.Decides.{nat_tests}
 use mathlib.Core.Path.{fun_ext}
 use Rattle.std.specs.Ordering.{nat_cmp}
@@ -7,16 +7,17 @@ use Rattle.std.specs.Cmp.{nat_cmp_total}
 use Rattle.std.specs.FinMap.{FinMap, get, find, from_entries, get-from_entries, empty, get-empty}
 use Rattle.std.specs.Map.{lookup}
 use Rattle.std.specs.BTreeMap.{is_at}
-use Rattle.std.proofs.lemmas.Bool.{cases_order}
-use Rattle.std.proofs.lemmas.List.{length-replicate, append-nil}
+use Rattle.std.proofs.lemmas.Bool.{cases_lt, cases_order}
+use Rattle.std.proofs.lemmas.List.{length-replicate, replicate-append-replicate}
 use borrow.Author.Tests.{lt-ltb, le-ltb}
 use Rattle.scsi_disk.specs.Disk.{IsDisk, cut, zeros, zero_blocks, overlaid, written}
 use Rattle.scsi_disk.specs.Sparse.{Extents, AreExtents, IsBlank, block_in, disk_in}
 use Rattle.std.proofs.lemmas.Slice.{take-put_mid}
+use Rattle.std.proofs.Math.Nat.{mul-le-mul_left}
 use borrow.Rule.Slice.PartMut.{put_mid}
 use Rattle.scsi_disk.specs.Disk.{joined}
 use Rattle.scsi_disk.proofs.Blocks.{length-cut, same_disk, cut-zeros_at}
-use Rattle.scsi_disk.proofs.Overlays.{overlaid_here, overlaid_apart}
+use Rattle.scsi_disk.proofs.Overlays.{overlaid_below, overlaid_past, overlaid_like}
 use Rattle.scsi_disk.proofs.Planned.{joined-add}
 
 find_at : (es : List (ℕ × List ℕ)) (q : ℕ) → find nat_cmp q es ≡ lookup (is_at (nat_cmp q)) es
@@ -66,23 +67,52 @@ pub block_in-none : (size m : ℕ) → block_in size None m ≡ replicate size 0
 unfolding block_in
 block_in-none size m = refl
 
-pub part_range : (bytes : List ℕ) (size m : ℕ) → take (size * m + size - size * m) (drop (size * m) bytes) ≡ cut size bytes m
-unfolding cut
-part_range bytes size m = ap (λ k. take k (drop (size * m) bytes)) (let e : size * m + size - size * m ≡ size = omega arith in e)
-
-joined-push : (block : ℕ → List ℕ) (first c : ℕ) → joined block first (c + 1) ≡ joined block first c ++ block (first + c)
-unfolding joined
-joined-push block first c = joined-add block first c 1 ∙ ap (λ t. joined block first c ++ t) (append-nil (block (first + c)))
-
 pub joined-none : (block : ℕ → List ℕ) (first : ℕ) → joined block first 0 ≡ []
 unfolding joined
 joined-none block first = refl
 
-pub one_more : (size : ℕ) (xs ys : List ℕ) (block : ℕ → List ℕ) (first i k : ℕ) → ys ≡ block (first + i) → length ys ≡ size → size * i ≤ length xs
-    → take (size * i) xs ≡ joined block first i → take (size * (i + 1)) (put_mid (size * i) k xs ys) ≡ joined block first (i + 1)
-one_more size xs ys block first i k is long room before =
-    let end : size * (i + 1) ≡ size * i + length ys = omega arith in
-    take-put_mid (size * i) k xs ys (size * (i + 1)) end room ∙ ap (λ t. t ++ ys) before ∙ ap (λ t. joined block first i ++ t) is ∙ sym (joined-push block first i)
+-- a front that was read, and the blocks behind it
+pub joined_next : (size : ℕ) (xs ys : List ℕ) (block : ℕ → List ℕ) (first i c k : ℕ) → ys ≡ joined block (first + i) c → length ys ≡ size * c → size * i ≤ length xs
+    → take (size * i) xs ≡ joined block first i → take (size * (i + c)) (put_mid (size * i) k xs ys) ≡ joined block first (i + c)
+joined_next size xs ys block first i c k is long room before =
+    let end : size * (i + c) ≡ size * i + length ys = omega arith in
+    take-put_mid (size * i) k xs ys (size * (i + c)) end room ∙ ap (λ t. t ++ ys) before ∙ ap (λ t. joined block first i ++ t) is ∙ sym (joined-add block first i c)
+
+joined-like : (f g : ℕ → List ℕ) (a b c : ℕ) → ((i : ℕ) → i < c → f (a + i) ≡ g (b + i)) → joined f a c ≡ joined g b c
+unfolding joined
+joined-like f g a b zero same = refl
+joined-like f g a b (suc c) same =
+    let here : f a ≡ g b = ap f (let e : a ≡ a + 0 = omega arith in e) ∙ same 0 (omega arith) ∙ ap g (let e : b + 0 ≡ b = omega arith in e) in
+    ap (λ t. t ++ joined f (a + 1) c) here
+    ∙ ap (λ t. g b ++ t) (joined-like f g (a + 1) (b + 1) c (λ i lt.
+    ap f (let e : a + 1 + i ≡ a + (i + 1) = omega arith in e) ∙ same (i + 1) (omega arith) ∙ ap g (let e : b + (i + 1) ≡ b + 1 + i = omega arith in e)))
+
+joined-blank : (size b c : ℕ) → joined (λ _. replicate size 0) b c ≡ replicate (size * c) 0
+unfolding joined
+joined-blank size b zero = ap (λ k. replicate k 0) (let e : 0 ≡ size * zero = omega arith in e)
+joined-blank size b (suc c) =
+    ap (λ t. replicate size 0 ++ t) (joined-blank size (b + 1) c) ∙ replicate-append-replicate size (size * c) 0
+    ∙ ap (λ k. replicate k 0) (let e : size + size * c ≡ size * suc c = omega arith in e)
+
+-- so many blocks from n on lie in one extent, which is this
+module _ (count : ℕ) (es : List (ℕ × List ℕ)) (n c : ℕ) (o : Option (List ℕ)) (is : o ≡ lookup (is_at (nat_cmp (n / 64))) es)
+    (one : n % 64 + c ≤ 64) (inside : n + c ≤ count) where
+  in_run : (i : ℕ) → i < c → (disk_in (record { count = count; extents = from_entries es })).block (n + i) ≡ block_in 512 o (n % 64 + i)
+  in_run i lt =
+      let extent : (n + i) / 64 ≡ n / 64 = omega arith in
+      let at : (n + i) % 64 ≡ n % 64 + i = omega arith in
+      found count es (n + i) o (is ∙ sym (ap (λ k. lookup (is_at (nat_cmp k)) es) extent)) (omega arith) ∙ ap (block_in 512 o) at
+
+  pub run_there : (bytes : List ℕ) → o ≡ Some bytes → joined (cut 512 bytes) (n % 64) c ≡ joined (disk_in (record { count = count; extents = from_entries es })).block n c
+  run_there bytes e =
+      sym (joined-like (disk_in (record { count = count; extents = from_entries es })).block (cut 512 bytes) n (n % 64) c (λ i lt.
+      in_run i lt ∙ ap (λ p. block_in 512 p (n % 64 + i)) e ∙ block_in-some bytes (n % 64 + i)))
+
+  pub run_missing : o ≡ None → replicate (512 * c) 0 ≡ joined (disk_in (record { count = count; extents = from_entries es })).block n c
+  run_missing e =
+      sym (joined-like (disk_in (record { count = count; extents = from_entries es })).block (λ _. replicate 512 0) n 0 c (λ i lt.
+      in_run i lt ∙ ap (λ p. block_in 512 p (n % 64 + i)) e ∙ block_in-none 512 (n % 64 + i))
+      ∙ joined-blank 512 0 c)
 
 blank_at : (size blocks : ℕ) (bytes : List ℕ) (n : ℕ) → bytes ≡ replicate (size * blocks) 0 → n < blocks → block_in size (Some bytes) n ≡ block_in size None n
 unfolding block_in zero_blocks
@@ -146,40 +176,57 @@ is_inserted m n k v h = is_there (get n k) v (h k ∙ ap (λ b. cond b (Some v) 
 pub is_kept : (es : List (ℕ × List ℕ)) (k : ℕ) → is_some (lookup (is_at (nat_cmp k)) es) ≡ true → IsSome (get (from_entries {R = nat_cmp} es) k)
 is_kept es k e = rw (get_at es k) (let h = e in search rules)
 
--- the extents where the one of block p has been written in that block
-module _ (count p : ℕ) (m n : FinMap nat_cmp (List ℕ)) (old new ys : List ℕ)
+not_at : (k q : ℕ) → (q < k) ⊎ (k < q) → is_at (nat_cmp k) q ≡ false
+not_at k q (inl low) = grind (arith, nat_tests)
+not_at k q (inr high) = grind (arith, nat_tests)
+
+-- the extents where the one of block p has been written from that block on
+module _ (count p c : ℕ) (m n : FinMap nat_cmp (List ℕ)) (old new ys : List ℕ)
     (h : (q : ℕ) → get n q ≡ cond (is_at (nat_cmp (p / 64)) q) (Some new) (get m q)) (before : get m (p / 64) ≡ Some old)
-    (parts : cut 512 new ≡ overlaid 512 (p % 64) ys (cut 512 old)) (long : length ys ≡ 512) where
-  there : (j : ℕ) → j < count → j ≡ p → block_in 512 (get n (j / 64)) (j % 64) ≡ ys
-  there j lt same =
-      ap (λ k. block_in 512 (get n (k / 64)) (k % 64)) same
-      ∙ ap (λ o. block_in 512 o (p % 64)) (h (p / 64) ∙ ap (λ b. cond b (Some new) (get m (p / 64))) (at_itself (p / 64)))
-      ∙ block_in-some new (p % 64) ∙ ap (λ f. f (p % 64)) parts ∙ overlaid_here 512 (p % 64) ys (cut 512 old) (omega arith) long
+    (parts : cut 512 new ≡ overlaid 512 (p % 64) ys (cut 512 old)) (long : length ys ≡ 512 * c) (one : p % 64 + c ≤ 64) (inside : p + c ≤ count) where
+  abbrev block : ℕ → List ℕ
+  block = (disk_in (record { count = count; extents = m })).block
 
-  kept_by : (b : Bool) (j : ℕ) → is_at (nat_cmp (p / 64)) (j / 64) ≡ b → (j < p) ⊎ (p < j) → block_in 512 (cond b (Some new) (get m (j / 64))) (j % 64) ≡ block_in 512 (get m (j / 64)) (j % 64)
-  kept_by true j e differ =
-      let at : p / 64 ≡ j / 64 = at_key (p / 64) (j / 64) e in
-      let apart : (j % 64 < p % 64) ⊎ (p % 64 < j % 64) = elim differ [ inl low ↦ inl (omega arith) | inr high ↦ inr (omega arith) ] in
-      block_in-some new (j % 64) ∙ ap (λ f. f (j % 64)) parts ∙ overlaid_apart 512 (p % 64) ys (cut 512 old) (j % 64) long apart
-      ∙ sym (ap (λ o. block_in 512 o (j % 64)) (ap (λ k. get m k) (sym at) ∙ before) ∙ block_in-some old (j % 64))
-  kept_by false j e differ = refl
+  past : (j : ℕ) → p + c ≤ j → overlaid 512 p ys block j ≡ block j
+  past j far =
+      let behind : c ≤ j - p = omega arith in
+      overlaid_past 512 p ys block j (omega arith) (omega (arith, mul-le-mul_left 512 behind))
 
-  elsewhere : (j : ℕ) → (j < p) ⊎ (p < j) → block_in 512 (get n (j / 64)) (j % 64) ≡ block_in 512 (get m (j / 64)) (j % 64)
-  elsewhere j differ = ap (λ o. block_in 512 o (j % 64)) (h (j / 64)) ∙ kept_by (is_at (nat_cmp (p / 64)) (j / 64)) j refl differ
+  -- in that extent
+  here : (j : ℕ) → j < count → p / 64 ≡ j / 64 → block_in 512 (get n (j / 64)) (j % 64) ≡ overlaid 512 p ys block j
+  here j lt at =
+      let extent : get n (j / 64) ≡ Some new = h (j / 64) ∙ ap (λ b. cond b (Some new) (get m (j / 64))) (ap (is_at (nat_cmp (p / 64))) (sym at) ∙ at_itself (p / 64)) in
+      let was : cut 512 old (j % 64) ≡ block j =
+      sym (ap (λ b. cond b (block_in 512 (get m (j / 64)) (j % 64)) []) (lt-ltb j count lt)
+      ∙ ap (λ o. block_in 512 o (j % 64)) (ap (λ k. get m k) (sym at) ∙ before) ∙ block_in-some old (j % 64)) in
+      let low : nat_lt (j % 64) (p % 64) ≡ nat_lt j p = grind (arith, nat_tests) in
+      ap (λ o. block_in 512 o (j % 64)) extent ∙ block_in-some new (j % 64) ∙ ap (λ f. f (j % 64)) parts
+      ∙ overlaid_like 512 (p % 64) p (j % 64) j ys (cut 512 old) block low (omega arith) was
 
-  one_written_at : p < count → (j : ℕ) → (disk_in (record { count = count; extents = n })).block j ≡ overlaid 512 p ys (disk_in (record { count = count; extents = m })).block j
-  one_written_at inside j =
-      let block = (disk_in (record { count = count; extents = m })).block in
-      elim (cases_order j p) [
-        | inl same ↦
-            let low : j < count = omega arith in
-            ap (λ b. cond b (block_in 512 (get n (j / 64)) (j % 64)) []) (lt-ltb j count low) ∙ there j low same
-            ∙ sym (ap (overlaid 512 p ys block) same ∙ overlaid_here 512 p ys block (omega arith) long)
-        | inr differ ↦ ap (λ t. cond (nat_lt j count) t []) (elsewhere j differ) ∙ sym (overlaid_apart 512 p ys block j long differ)
+  -- in another
+  elsewhere : (j : ℕ) → (j / 64 < p / 64) ⊎ (p / 64 < j / 64) → block_in 512 (get n (j / 64)) (j % 64) ≡ block_in 512 (get m (j / 64)) (j % 64)
+  elsewhere j differ = ap (λ o. block_in 512 o (j % 64)) (h (j / 64) ∙ ap (λ b. cond b (Some new) (get m (j / 64))) (not_at (p / 64) (j / 64) differ))
+
+  outside : (j : ℕ) → (j / 64 < p / 64) ⊎ (p / 64 < j / 64) → overlaid 512 p ys block j ≡ block j
+  outside j (inl low) = overlaid_below 512 p ys block j (omega arith)
+  outside j (inr high) = past j (omega arith)
+
+  run_written_at : (j : ℕ) → (disk_in (record { count = count; extents = n })).block j ≡ overlaid 512 p ys block j
+  run_written_at j =
+      elim (cases_lt j count) [
+        | inl lt ↦ elim (cases_order (p / 64) (j / 64)) [
+          | inl same ↦ ap (λ b. cond b (block_in 512 (get n (j / 64)) (j % 64)) []) (lt-ltb j count lt) ∙ here j lt same
+          | inr differ ↦
+              let away : (j / 64 < p / 64) ⊎ (p / 64 < j / 64) = elim differ [ inl low ↦ inr low | inr high ↦ inl high ] in
+              ap (λ t. cond (nat_lt j count) t []) (elsewhere j away) ∙ sym (outside j away)
+        ]
+        | inr ge ↦
+            ap (λ b. cond b (block_in 512 (get n (j / 64)) (j % 64)) []) (le-ltb j count ge)
+            ∙ sym (past j (omega arith) ∙ ap (λ b. cond b (block_in 512 (get m (j / 64)) (j % 64)) []) (le-ltb j count ge))
       ]
 
-  pub one_written : p < count → disk_in (record { count = count; extents = n }) ≡ written p ys (disk_in (record { count = count; extents = m }))
-  one_written inside = same_disk _ _ refl (fun_ext (one_written_at inside))
+  pub run_written : disk_in (record { count = count; extents = n }) ≡ written p ys (disk_in (record { count = count; extents = m }))
+  run_written = same_disk _ _ refl (fun_ext run_written_at)
 
 -- an extent that is there is found
 pub some_at : (es : List (ℕ × List ℕ)) (k : ℕ) → IsSome (get (from_entries {R = nat_cmp} es) k) → IsSome (lookup (is_at (nat_cmp k)) es)

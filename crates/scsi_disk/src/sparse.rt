@@ -5,7 +5,7 @@ ghost use Rattle.std.specs.FinMap.{get};
 ghost use Rattle.scsi_disk.specs.Disk.{Disk, zeros, blocks_from, written, cut, overlaid};
 ghost use Rattle.scsi_disk.specs.Sparse.{disk_in, IsBlank, HasBlocks};
 
-use crate::memory::write_blocks;
+use crate::memory::{read_blocks, write_blocks};
 use crate::store::{BlockStore, StoreFault};
 use std::alloc::{AllocError, Global};
 use std::collections::BTreeMap;
@@ -41,10 +41,10 @@ impl Extent {
         Ok(Extent { bytes })
     }
 
-    /// Writes one block.
+    /// Writes whole blocks.
     fn put(&mut self, n: usize, bytes: &[u8])
-        requires one { length bytes.now ≡ 512 }
-        requires inside { n < 64 }
+        requires whole { length bytes.now % 512 ≡ 0 }
+        requires inside { n + length bytes.now / 512 ≤ 64 }
         ensures blocks { cut 512 self.new ≡ overlaid 512 n bytes.now (cut 512 self.old) }
         ensures size { length self.new ≡ length self.old }
     {
@@ -54,9 +54,9 @@ impl Extent {
 
 /// A store of 1 to 2^40 blocks. A block that was never written is 00.
 ///
-/// It keeps extents of 64 blocks in an ordered map. A read takes no memory. A write takes memory
-/// for all its extents, of 00, before it changes a byte, so after `NoMemory` no block has changed.
-/// The device does not fail.
+/// It keeps extents of 64 blocks in an ordered map. A read looks up each extent that it reaches into
+/// once, and takes no memory. A write does so twice: it takes memory for all its extents, of 00,
+/// before it changes a byte, so after `NoMemory` no block has changed. The device does not fail.
 #[derive(Drop)]
 pub struct SparseStore {
     blocks: u64,
@@ -92,15 +92,15 @@ impl SparseStore {
         }
     }
 
-    /// Reads one block.
-    fn read_block(&self, n: u64, out: &mut [u8])
-        requires one { length out.old ≡ 512 }
-        requires inside { n < self.now.count }
-        ensures { out.new ≡ (disk_in self.now).block n }
+    /// Reads blocks that lie in one extent.
+    fn read_run(&self, n: u64, out: &mut [u8])
+        requires whole { length out.old % 512 ≡ 0 }
+        requires one { n % 64 + length out.old / 512 ≤ 64 }
+        requires inside { n + length out.old / 512 ≤ self.now.count }
+        ensures { out.new ≡ blocks_from (disk_in self.now) n (length out.old / 512) }
     {
-        let at = 512 * (n % EXTENT_BLOCKS) as usize;
         match self.extents.get(&(n / EXTENT_BLOCKS)) {
-            Some(extent) => out.copy_from_slice(&extent.bytes[at..at + 512]),
+            Some(extent) => read_blocks(&extent.bytes, (n % EXTENT_BLOCKS) as usize, out),
             None => out.fill(0),
         }
     }
@@ -119,10 +119,11 @@ impl SparseStore {
         Ok(())
     }
 
-    /// Writes one block, whose extent is there.
-    fn write_block(&mut self, n: u64, bytes: &[u8])
-        requires one { length bytes.now ≡ 512 }
-        requires inside { n < self.old.count }
+    /// Writes blocks that lie in one extent, which is there.
+    fn write_run(&mut self, n: u64, bytes: &[u8])
+        requires whole { length bytes.now % 512 ≡ 0 }
+        requires one { n % 64 + length bytes.now / 512 ≤ 64 }
+        requires inside { n + length bytes.now / 512 ≤ self.old.count }
         requires there { IsSome (get self.old.extents (n / 64)) }
         ensures disk { disk_in self.new ≡ written n bytes.now (disk_in self.old) }
         ensures kept { (k : ℕ) → IsSome (get self.old.extents k)
@@ -140,8 +141,11 @@ impl SparseStore {
         ensures there { OnOk result (HasBlocks self.new.extents first count) }
     {
         prove!(first <= self.blocks);
-        for n in first..first + count {
-            self.reserve(n / EXTENT_BLOCKS)?;
+        if count == 0 {
+            return Ok(());
+        }
+        for extent in first / EXTENT_BLOCKS..(first + count - 1) / EXTENT_BLOCKS + 1 {
+            self.reserve(extent)?;
         }
         Ok(())
     }
@@ -154,8 +158,13 @@ impl SparseStore {
         ensures { disk_in self.new ≡ written first bytes.now (disk_in self.old) }
     {
         prove!(first <= self.blocks);
-        for i in 0..bytes.len() / 512 {
-            self.write_block(first + i as u64, &bytes[512 * i..512 * i + 512]);
+        let blocks = bytes.len() / 512;
+        let mut done = 0;
+        while done < blocks {
+            let n = first + done as u64;
+            let end = done + run_length(n, blocks - done);
+            self.write_run(n, &bytes[512 * done..512 * end]);
+            done = end;
         }
     }
 }
@@ -181,8 +190,13 @@ impl BlockStore for SparseStore {
         ensures disk { disk_in self.new ≡ disk_in self.old }
     {
         prove!(lba <= self.blocks);
-        for i in 0..out.len() / 512 {
-            self.read_block(lba + i as u64, &mut out[512 * i..512 * i + 512]);
+        let blocks = out.len() / 512;
+        let mut done = 0;
+        while done < blocks {
+            let n = lba + done as u64;
+            let end = done + run_length(n, blocks - done);
+            self.read_run(n, &mut out[512 * done..512 * end]);
+            done = end;
         }
         Ok(())
     }
@@ -193,4 +207,14 @@ impl BlockStore for SparseStore {
         self.write_all(lba, bytes);
         Ok(())
     }
+}
+
+/// How many of so many blocks, from block `n` on, lie in the extent of the first.
+fn run_length(n: u64, blocks: usize) -> usize
+    requires { 0 < blocks }
+    ensures some { 0 < result }
+    ensures few { result ≤ blocks }
+    ensures one { n % 64 + result ≤ 64 }
+{
+    ((EXTENT_BLOCKS - n % EXTENT_BLOCKS) as usize).min(blocks)
 }

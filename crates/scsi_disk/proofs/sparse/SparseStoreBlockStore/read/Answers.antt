@@ -1,12 +1,27 @@
-use Rattle.std.proofs.Common.{◌≡◌, length, sym, arith, rules}
+use Rattle.std.proofs.Common.{◌≡◌, ◌+◌, ◌-◌, ◌*◌, ◌/◌, ◌≤◌, length, take, drop, sym, ap, ◌∙◌, arith}
+use Rattle.std.proofs.lemmas.List.{length-take-le, length-drop}
+use Rattle.scsi_disk.specs.Disk.{blocks_from}
 use Rattle.scsi_disk.specs.Sparse.{disk_in}
-use Rattle.scsi_disk.proofs.SparseBlocks.{joined-none, one_more}
+use Rattle.scsi_disk.proofs.SparseBlocks.{joined-none, joined_next}
 use Rattle.scsi_disk.proofs.sparse.SparseStoreBlockStore.read.Goals as goal
 
-pub loop-i-init : goal.loop-i-init
-loop-i-init c = sym (joined-none (disk_in c.args.self.now).block c.args.lba)
+pub loop-done-init : goal.loop-done-init
+loop-done-init c = record { inside = omega arith; read = sym (joined-none (disk_in c.args.self.now).block c.args.lba) }
 
-pub loop-i-preserved : goal.loop-i-preserved
-loop-i-preserved c =
-    let long : length c.read_block.new.out ≡ 512 = search rules in
-    one_more 512 c.loop-i.out c.read_block.new.out (disk_in c.args.self.now).block c.args.lba c.loop-i.i _ c.read_block.ensures long (omega arith) c.loop-i.invariant
+pub loop-done-preserved : goal.loop-done-preserved
+loop-done-preserved c =
+    let disk = disk_in c.args.self.now in
+    let i = c.loop-done.done in
+    let run = c.run_length.result in
+    let few = c.run_length.ensures.few in
+    let behind = drop (512 * i) c.loop-done.out in
+    let room : 512 * (i + run) ≤ length c.loop-done.out = (let same = c.loop-done.auto.out in omega arith) in
+    let part : length (take (512 * (i + run) - 512 * i) behind) ≡ 512 * (i + run) - 512 * i =
+    length-take-le (512 * (i + run) - 512 * i) behind (omega (arith, length-drop (512 * i) c.loop-done.out)) in
+    let count : length (take (512 * (i + run) - 512 * i) behind) / 512 ≡ run = omega arith in
+    let is = c.read_run.ensures ∙ ap (blocks_from disk (c.args.lba + i)) count in
+    let long : length c.read_run.new.out ≡ 512 * run = (let kept = c.read_run.auto.out in omega arith) in
+    record {
+      inside = omega arith;
+      read = joined_next 512 c.loop-done.out c.read_run.new.out disk.block c.args.lba i run _ is long (omega arith) c.loop-done.invariant.read;
+    }

@@ -1,11 +1,11 @@
-use Rattle.std.proofs.Common.{◌/◌, ap, sym, ◌∙◌}
+use Rattle.std.proofs.Common.{◌≡◌, ◌*◌, ◌/◌, length, ap, sym, ◌∙◌, arith}
 use Rattle.std.specs.Ordering.{nat_cmp}
 use Rattle.std.specs.FinMap.{get, from_entries}
 use Rattle.scsi_disk.specs.Disk.{written}
 use Rattle.scsi_disk.specs.Sparse.{disk_in}
-use Rattle.scsi_disk.proofs.SparseBlocks.{get_at, get_inserted, inserted, stays, one_written, some_at, never_none}
-use Rattle.scsi_disk.proofs.sparse.SparseStore.write_block.Goals as goal
-use Rattle.scsi_disk.proofs.sparse.SparseStore.write_block.Goals.{in-Some, in_default}
+use Rattle.scsi_disk.proofs.SparseBlocks.{get_at, get_inserted, inserted, stays, run_written, some_at, never_none}
+use Rattle.scsi_disk.proofs.sparse.SparseStore.write_run.Goals as goal
+use Rattle.scsi_disk.proofs.sparse.SparseStore.write_run.Goals.{in-Some, in_default}
 
 pub invariant_of-self : goal.invariant_of-self
 invariant_of-self c =
@@ -38,9 +38,11 @@ returns-clause-disk c =
           let before = get_at es k ∙ sym w.in-Some.ensures.value in
           let fs = (c.get_mut.follows.lender v).entries in
           let h = get_inserted es fs k v ((c.get_mut.follows.holds v).3 there).0 in
+          let bytes = c.args.bytes.now in
           let inside = rw (← c.self.view_is) at c.requires.inside in
+          let long : length bytes ≡ 512 * (length bytes / 512) = (let whole = c.requires.whole in omega arith) in
           rw w.self-inside-is
-          (one_written c.self.inside.blocks c.args.n (from_entries es) (from_entries fs) old v c.args.bytes.now h before w.put.ensures.blocks c.requires.one inside
+          (run_written c.self.inside.blocks c.args.n (length bytes / 512) (from_entries es) (from_entries fs) old v bytes h before w.put.ensures.blocks long c.requires.one inside
           ∙ ap (λ s. written c.args.n c.args.bytes.now (disk_in s)) c.self.view_is))
       | in_default w ↦ absurd (never_none _ w.in_default.ensures.value there)
     ]
