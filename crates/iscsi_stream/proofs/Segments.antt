@@ -1,13 +1,10 @@
 -- What a segment means, by the reading of its text.
-use Rattle.std.proofs.Common.{◌≡◌, ℕ, Bool, true, false, List, Option, Some, None, Result, Ok, Err, refl, sym}
-use Rattle.std.specs.Prelude.{not, ◌&&◌, IfOk, OnOk}
-use Rattle.iscsi_text.specs.declared.fault.TextFault.{TextFault}
-use Rattle.iscsi_text.specs.declared.fault.TextFault.TheVariants.{NoMemory}
-use Rattle.iscsi_text.specs.Text.{Pairs, TextMeans}
+use Rattle.std.proofs.Common.{◌≡◌, ℕ, Bool, true, false, List, Option, Result, Ok, Err, refl, sym}
+use Rattle.std.specs.Prelude.{not, ◌&&◌, IfOk}
+use Rattle.iscsi_text.specs.Text.{Pairs}
 use Rattle.iscsi_text.specs.Reading.{text_in}
-use Rattle.iscsi_text.proofs.TextLaws.{reading_some, reading_none}
 use Rattle.iscsi_pdu.specs.declared.head.Head.{Head}
-use Rattle.iscsi_stream.specs.Segment.{Bytes, Text, is_last, text_or_bytes, segment_of}
+use Rattle.iscsi_stream.specs.Segment.{Bytes, is_last, text_or_bytes, segment_of}
 
 -- a PDU without a whole text
 pub segment_plain : (c : Bool) (h : Head) (d : List ℕ) → (not c && is_last h) ≡ false → Bytes d ≡ segment_of c h d

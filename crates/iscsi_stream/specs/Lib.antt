@@ -8,5 +8,6 @@ pub mod Passing
 pub mod Pieces
 pub mod Runs
 pub mod Segment
+pub mod Shown
 pub mod Stream
 pub mod Texts

@@ -1,4 +1,4 @@
--- What normalising a stream writes.
+-- What is written for a stream that is read: its canonical stream, or a line for each PDU.
 use Rattle.std.specs.Prelude.{◌≡◌, ◌≤◌, ◌<◌, ℕ, List, length, take, Option, Result, Some, Ok, Err}
 use Rattle.std.specs.Io.KnownBytes.{Appends}
 use Rattle.iscsi_pdu.specs.Meaning.{fault_of}
@@ -9,6 +9,7 @@ use Rattle.iscsi_stream.specs.declared.fault.ToolFault.TheVariants as tool
 use Rattle.iscsi_stream.specs.declared.counts.Counts.{Counts}
 use Rattle.iscsi_stream.specs.Stream.{Message, StreamMeans, longest_segment, Reaches, Splits}
 use Rattle.iscsi_stream.specs.Canonical.{canon}
+use Rattle.iscsi_stream.specs.Shown.{AreLines}
 use Rattle.iscsi_stream.specs.Framing.{IsBegun}
 
 -- The rest begins with a header that is refused, or it is begun and not whole; the fault names its place. No segment
@@ -26,42 +27,60 @@ pub record AreCounts (counts : Counts) (ms : List Message) (read written : List 
   pub bytes_in : counts.bytes_in ≡ length read
   pub bytes_out : counts.bytes_out ≡ length written
 
--- The PDUs of what was read are these, and their canonical form was written.
-pub record Wrote (read : List ℕ) (ms : List Message) (given rest written : List ℕ) : Type 0 where
+-- The PDUs of what was read are these, and what is due for them was written.
+pub record Wrote (Due : List Message → List ℕ → Type 0) (read : List ℕ) (ms : List Message) (given rest written : List ℕ) : Type 0 where
   pub splits : Splits longest_segment read ms given rest
-  pub canonical : written ≡ canon ms
+  pub due : Due ms written
 
--- The canonical form of the first PDUs of what was read was written.
-pub record WroteSome (read : List ℕ) (ms : List Message) (given rest written : List ℕ) : Type 0 where
+-- What is due for the first PDUs of what was read was written.
+pub record WroteSome (Due : List Message → List ℕ → Type 0) (read : List ℕ) (ms : List Message) (given rest written : List ℕ) : Type 0 where
   pub reaches : Reaches longest_segment read ms given rest
-  pub canonical : written ≡ canon ms
+  pub due : Due ms written
 
--- A part of the canonical form of the first PDUs of what was read was written.
-pub record WrotePart (read : List ℕ) (ms : List Message) (given rest written : List ℕ) : Type 0 where
+-- A part of what is due for the first PDUs of what was read was written.
+pub record WrotePart (Due : List Message → List ℕ → Type 0) (read : List ℕ) (ms : List Message) (given rest written : List ℕ) : Type 0 where
   pub reaches : Reaches longest_segment read ms given rest
-  pub part : (n : ℕ) × (written ≡ take n (canon ms))
+  pub bytes : List ℕ
+  pub due : Due ms bytes
+  pub part : (n : ℕ) × (written ≡ take n bytes)
 
 -- some PDUs of what was read, and the bytes before and after their end
 abbrev pub Parts : (List Message → List ℕ → List ℕ → Type 0) → Type 0
 Parts P = (ms : List Message) × (given : List ℕ) × (rest : List ℕ) × P ms given rest
 
+-- what was read and written where a fault is answered
+abbrev pub WritesUntil : (List Message → List ℕ → Type 0) → ToolFault → List ℕ → List ℕ → Type 0
+WritesUntil Due tool.NoMemory read written = Parts (λ ms given rest. WroteSome Due read ms given rest written)
+WritesUntil Due (tool.Stream fault) read written = Parts (λ ms given rest. Wrote Due read ms given rest written × RestFails fault given rest)
+WritesUntil Due tool.Read read written = Parts (λ ms given rest. Wrote Due read ms given rest written)
+WritesUntil Due tool.Write read written = Parts (λ ms given rest. WrotePart Due read ms given rest written)
+WritesUntil Due (tool.Text fault) read written = ⊥
+WritesUntil Due tool.TextTooLong read written = ⊥
+WritesUntil Due tool.NotHex read written = ⊥
+WritesUntil Due (tool.Protocol rule) read written = ⊥
+
+-- What was read and written where a call answers that writes what is due for each PDU.
+abbrev pub Writes : (List Message → List ℕ → Type 0) → Result Counts ToolFault → List ℕ → List ℕ → Type 0
+Writes Due (Ok counts) read written = (ms : List Message) × StreamMeans read ms × Due ms written × AreCounts counts ms read written
+Writes Due (Err fault) read written = WritesUntil Due fault read written
+
+-- Normalising writes the canonical stream of the PDUs.
+abbrev pub IsCanonical : List Message → List ℕ → Type 0
+IsCanonical ms written = written ≡ canon ms
+
 -- what normalise has read and written where it answers a fault
 abbrev pub NormaliseFails : ToolFault → List ℕ → List ℕ → Type 0
-NormaliseFails tool.NoMemory read written = Parts (λ ms given rest. WroteSome read ms given rest written)
-NormaliseFails (tool.Stream fault) read written = Parts (λ ms given rest. Wrote read ms given rest written × RestFails fault given rest)
-NormaliseFails tool.Read read written = Parts (λ ms given rest. Wrote read ms given rest written)
-NormaliseFails tool.Write read written = Parts (λ ms given rest. WrotePart read ms given rest written)
-NormaliseFails (tool.Text fault) read written = ⊥
-NormaliseFails tool.TextTooLong read written = ⊥
-NormaliseFails tool.NotHex read written = ⊥
-NormaliseFails (tool.Protocol rule) read written = ⊥
+NormaliseFails fault read written = WritesUntil IsCanonical fault read written
 
 -- What normalise has read and written where it answers.
 abbrev pub Normalises : Result Counts ToolFault → List ℕ → List ℕ → Type 0
-Normalises (Ok counts) read written = (ms : List Message) × StreamMeans read ms × (written ≡ canon ms) × AreCounts counts ms read written
-Normalises (Err fault) read written = NormaliseFails fault read written
+Normalises result read written = Writes IsCanonical result read written
 
--- Where normalise answers Ok or Truncated, it has read to the end.
+-- What show has read and written where it answers.
+abbrev pub Shows : Result Counts ToolFault → List ℕ → List ℕ → Type 0
+Shows result read written = Writes AreLines result read written
+
+-- Where normalise or show answers Ok or Truncated, it has read to the end.
 abbrev pub AtEnd : Result Counts ToolFault → Type 0 → Type 0
 AtEnd (Ok counts) Ended = Ended
 AtEnd (Err (tool.Stream (stream.Truncated place))) Ended = Ended

@@ -1,5 +1,5 @@
 -- Streams of PDUs, and what they mean (RFC 7143, section 11: PDUs follow one another without a gap).
-use Rattle.std.specs.Prelude.{◌≡◌, ◌≤◌, ◌<◌, ℕ, ◌+◌, Bool, List, [], ◌∷◌, ◌++◌, length, slice_index}
+use Rattle.std.specs.Prelude.{◌≡◌, ◌≤◌, ℕ, ◌+◌, Bool, List, [], ◌∷◌, ◌++◌, length}
 use Rattle.iscsi_pdu.specs.declared.head.Head.{Head}
 use Rattle.iscsi_pdu.specs.Meaning.{Means, padding}
 use Rattle.iscsi_stream.specs.declared.logins.Logins.{Logins}

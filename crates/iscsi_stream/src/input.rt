@@ -6,7 +6,7 @@ ghost use Rattle.iscsi_stream.specs.declared.fault.ToolFault.TheVariants as tool
 ghost use Rattle.iscsi_stream.specs.Input.{ReadWithin};
 
 use crate::fault::ToolFault;
-use crate::normal::{PIECE, READS};
+use crate::output::{PIECE, READS};
 use std::alloc::Global;
 use std::io::Read;
 

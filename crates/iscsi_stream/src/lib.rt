@@ -10,7 +10,7 @@ mod input;
 pub mod laws;
 mod lines;
 mod logins;
-mod normal;
+mod output;
 mod texts;
 
 pub use counts::Counts;
@@ -18,7 +18,7 @@ pub use fault::{StreamFault, ToolFault};
 pub use forms::{canonical, canonical_head, text_of, write_pdu};
 pub use framer::Framer;
 pub use input::{drop_front, read_within};
-pub use lines::{show, show_line};
+pub use lines::show_line;
 pub use logins::Logins;
-pub use normal::{PIECE, READS, normalise, write_fully};
+pub use output::{PIECE, READS, normalise, show, write_fully};
 pub use texts::normalise_text;

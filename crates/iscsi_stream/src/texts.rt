@@ -6,7 +6,7 @@ ghost use Rattle.iscsi_stream.specs.Texts.{NormalisesText, TextAtEnd, CanonicalO
 
 use crate::fault::ToolFault;
 use crate::input::read_within;
-use crate::normal::write_fully;
+use crate::output::write_fully;
 use iscsi_text::{Text, TextFault};
 use std::alloc::Global;
 use std::io::{Read, Write};
