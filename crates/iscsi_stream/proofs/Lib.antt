@@ -9,6 +9,7 @@ pub mod Meaning
 pub mod Normals
 pub mod Padding
 pub mod PassOn
+pub mod Places
 pub mod Ready
 pub mod RunLaws
 pub mod Segments

@@ -154,10 +154,10 @@ long_rest v rest s ms now le = omega (arith, length-append v.held rest, length-a
 
 -- a framer's fault of a header, of the bytes that it took and the piece
 pub header_splits : (s p : List ℕ) (ms : List Message) (f : HeadFault) (place : ℕ) (v : Framing) → HasTaken s ms v → FeedFails v p (stream.Head f place)
-    → (given : List ℕ) × (rest : List ℕ) × Splits v.limit (s ++ p) ms given rest × (fault_of (take 48 rest) ≡ Some f) × (place ≡ min (length given) last_place)
+    → (given : List ℕ) × (rest : List ℕ) × Splits v.limit (s ++ p) ms given rest × (48 ≤ length rest) × (fault_of (take 48 rest) ≡ Some f) × (place ≡ min (length given) last_place)
 header_splits s p ms f place v t fails =
     let bad = ap fault_of (sym (refused v p s ms t fails.1.before)) ∙ fails.2 in
-    (t.given, t.rest ++ p, record { whole = ap (λ (x : List ℕ). x ++ p) t.whole ∙ append_assoc t.given t.rest p; reads = t.reads; no_more = no_pdu_bad v.limit (t.rest ++ p) f bad }, bad, fails.3 ∙ t.place)
+    (t.given, t.rest ++ p, record { whole = ap (λ (x : List ℕ). x ++ p) t.whole ∙ append_assoc t.given t.rest p; reads = t.reads; no_more = no_pdu_bad v.limit (t.rest ++ p) f bad }, long_rest v p s ms t fails.1.reached, bad, fails.3 ∙ t.place)
 
 -- the same of a segment that is over the limit
 pub limit_splits : (s p : List ℕ) (ms : List Message) (place : ℕ) (v : Framing) → HasTaken s ms v → FeedFails v p (stream.OverLimit place)

@@ -1,5 +1,5 @@
 -- A run moves the framer along its bytes and its PDUs.
-use Rattle.std.proofs.Common.{◌≡◌, ℕ, List, [], ◌∷◌, take, ap, subst}
+use Rattle.std.proofs.Common.{◌≡◌, ℕ, List, [], ◌∷◌, take, sym, ap, subst, ◌∙◌}
 use Rattle.iscsi_stream.specs.declared.logins.Logins.{Logins}
 use Rattle.iscsi_stream.specs.Segment.{no_login, after}
 use Rattle.iscsi_stream.specs.Framing.{Framing, opening, HasTaken, Moves, given_up, message_of}
@@ -19,3 +19,9 @@ runs_move old (Take head segment ∷ calls) new runs =
 
 pub from_opening : (limit : ℕ) (calls : List Call) (new : Framing) → Runs (opening limit) calls new → HasTaken (bytes_of calls) (messages_of no_login calls) new
 from_opening limit calls new runs = runs_move _ calls new runs [] [] (at_opening limit)
+
+pub limit_kept : (old : Framing) (calls : List Call) (new : Framing) → Runs old calls new → new.limit ≡ old.limit
+unfolding Runs
+limit_kept old [] new runs = ap (λ (v : Framing). v.limit) (sym runs)
+limit_kept old (Feed piece taken ∷ calls) new runs = limit_kept runs.0 calls new runs.2 ∙ ap (λ (v : Framing). v.limit) runs.1.gathered
+limit_kept old (Take head segment ∷ calls) new runs = limit_kept (given_up old head) calls new runs.2

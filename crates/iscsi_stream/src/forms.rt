@@ -1,6 +1,6 @@
 //! The canonical form of a PDU.
 
-ghost use Rattle.std.specs.Prelude.{◌≡◌, ◌≤◌, ◌<◌, ◌+◌, ◌^◌, ◌++◌, ℕ, List, Option, None, Some, not, ◌&&◌, length, IfOk, IfSome, IsOk, OnOk, OnErr, take, replicate, vec_len, vec_capacity};
+ghost use Rattle.std.specs.Prelude.{◌≡◌, ◌≤◌, ◌<◌, ◌+◌, ◌^◌, ◌++◌, ℕ, List, Option, None, Some, true, false, not, ◌&&◌, length, IfOk, IfSome, IsOk, OnOk, OnErr, take, replicate, vec_len, vec_capacity};
 ghost use Rattle.iscsi_text.specs.Canonical.{canonical_text};
 ghost use Rattle.iscsi_pdu.specs.Meaning.{Fits, header, padding, whole};
 ghost use Rattle.iscsi_stream.specs.Segment.{is_last, text_or_bytes, segment_of};
@@ -25,7 +25,8 @@ fn is_last(head: &Head) -> bool
 }
 
 /// The text of a login PDU that has a whole one: a PDU that neither continues another nor is continued, and whose
-/// segment is a text (RFC 7143, section 6.1). Answers `AllocError` where memory runs out.
+/// segment is a text (RFC 7143, section 6.1). Answers `AllocError` where memory runs out, which it needs to read the
+/// segment of a PDU that neither continues another nor is continued.
 pub fn text_of<'a>(
     alloc: Global,
     pdu: &Pdu<'a>,
@@ -35,6 +36,7 @@ pub fn text_of<'a>(
         ≡ segment_of continued pdu.now.head pdu.now.bytes.now) }
     ensures no_longer { IfOk result (λ text. IfSome text
         (λ pairs. length (canonical_text pairs) ≤ length pdu.now.bytes.now)) }
+    ensures memory { OnErr result ((continued ≡ false) × (is_last pdu.now.head ≡ true)) }
 {
     if continued || !is_last(&pdu.head) {
         return Ok(None);
@@ -43,12 +45,14 @@ pub fn text_of<'a>(
 }
 
 /// The header of a PDU's canonical form, with the length of its canonical segment. The PDU continues another login PDU
-/// or does not. Answers `AllocError` where memory runs out, which it needs to read a text.
+/// or does not. Answers `AllocError` where memory runs out, which it needs to read the segment of a PDU that neither
+/// continues another nor is continued.
 pub fn canonical_head(alloc: Global, pdu: &Pdu<'_>, continued: bool) -> Result<[u8; 48], AllocError>
     requires fits { Fits pdu.now.head }
     requires short { length pdu.now.bytes.now < 2 ^ 24 }
-    ensures { IfOk result (λ bytes. bytes
+    ensures ok { IfOk result (λ bytes. bytes
         ≡ canonical_header (message continued pdu.now.head pdu.now.bytes.now)) }
+    ensures memory { OnErr result ((continued ≡ false) × (is_last pdu.now.head ≡ true)) }
 {
     match text_of(alloc, pdu, continued)? {
         Some(text) => Ok(write_head(&pdu.head, text.canonical_len() as u32)),

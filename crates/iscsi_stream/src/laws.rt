@@ -1,15 +1,15 @@
 //! Laws of streams, canonical streams and framers: functions that do nothing, whose contracts are the theorems. They
 //! speak of the definitions in `specs`, which the contracts of the working functions cite too.
 
-ghost use Rattle.std.specs.Prelude.{◌≡◌, ◌≤◌, ◌<◌, ◌++◌, ◌∷◌, [], ◌↔◌, ℕ, List, length, take, min, false, Some};
+ghost use Rattle.std.specs.Prelude.{◌≡◌, ◌≤◌, ◌<◌, ◌+◌, ◌++◌, ◌∷◌, [], ◌↔◌, ℕ, List, length, take, drop, min, false, Some};
 ghost use Rattle.iscsi_pdu.specs.declared.head.Head.{Head};
 ghost use Rattle.iscsi_pdu.specs.declared.head.HeadFault.{HeadFault};
 ghost use Rattle.iscsi_pdu.specs.Meaning.{IsHeader, Means, fault_of, AreBytes};
 ghost use Rattle.iscsi_stream.specs.declared.fault.StreamFault.TheVariants as faults;
-ghost use Rattle.iscsi_stream.specs.Segment.{no_login};
-ghost use Rattle.iscsi_stream.specs.Stream.{StreamMeans, ReadsAs, Message, longest_segment, Splits};
+ghost use Rattle.iscsi_stream.specs.Segment.{no_login, continues};
+ghost use Rattle.iscsi_stream.specs.Stream.{StreamMeans, ReadsAs, Message, after_all, longest_segment, Splits};
 ghost use Rattle.iscsi_stream.specs.Canonical.{canon};
-ghost use Rattle.iscsi_stream.specs.Framing.{Framing, opening, HasTaken, Takes, FeedFails, given_up, message_of, is_ready, last_place};
+ghost use Rattle.iscsi_stream.specs.Framing.{Framing, opening, IsBegun, HasTaken, Takes, FeedFails, FinishFails, given_up, message_of, is_ready, last_place};
 ghost use Rattle.iscsi_stream.specs.Runs.{Call, Runs, bytes_of, messages_of};
 
 /// A stream has one meaning.
@@ -68,6 +68,18 @@ pub fn any_pieces()
         → HasTaken (stream ++ take n piece) ms new }
 {}
 
+/// The PDU that is ready stands in the stream at the framer's place, behind the PDUs that were given up: its header and
+/// its segment are the bytes there, and it continues another where these PDUs say so.
+pub fn ready_pdu()
+    ensures { (stream segment : List ℕ) (ms : List Message) (head : Head) (v : Framing)
+        → HasTaken stream ms v → Means v.held head segment
+        → (place : ℕ) × (v.place ≡ min place last_place)
+        × ReadsAs v.limit no_login (take place stream) ms
+        × IsHeader (take 48 (drop place stream)) head (length segment)
+        × (segment ≡ take (length segment) (drop (place + 48) stream))
+        × (continues v.logins head ≡ continues (after_all no_login ms) head) }
+{}
+
 /// A PDU that a framer gives up is the stream's next.
 pub fn next_given()
     ensures { (stream segment : List ℕ) (ms : List Message) (head : Head) (old : Framing)
@@ -76,21 +88,24 @@ pub fn next_given()
 {}
 
 /// Where no PDU is ready, the PDUs that a framer gave up are those of the longest prefix of what it took, and its place
-/// is the length of that prefix.
+/// is the length of that prefix. The rest begins with no header that is refused or says a segment over the limit: that
+/// would have been a fault.
 pub fn given_so_far()
     ensures { (stream : List ℕ) (ms : List Message) (v : Framing) → HasTaken stream ms v
         → is_ready v ≡ false → (given : List ℕ) × (rest : List ℕ)
-        × Splits v.limit stream ms given rest × (v.place ≡ min (length given) last_place) }
+        × Splits v.limit stream ms given rest × IsBegun v.limit rest
+        × (v.place ≡ min (length given) last_place) }
 {}
 
 /// Whichever pieces the bytes come in, and however they are fed and taken: a new framer gives up the PDUs of the longest
-/// prefix of the bytes that it took, but for the one that is ready.
+/// prefix of the bytes that it took, but for the one that is ready. Where no fault came, the rest begins with no header
+/// that is refused or says a segment over the limit.
 pub fn every_run()
     ensures { (limit : ℕ) (calls : List Call) (v : Framing) → Runs (opening limit) calls v
         → is_ready v ≡ false
         → (given : List ℕ) × (rest : List ℕ)
-        × Splits v.limit (bytes_of calls) (messages_of no_login calls) given rest
-        × (v.place ≡ min (length given) last_place) }
+        × Splits limit (bytes_of calls) (messages_of no_login calls) given rest
+        × IsBegun limit rest × (v.place ≡ min (length given) last_place) }
 {}
 
 /// A fault of a header comes where the rest begins with such a header, and names the place of the rest.
@@ -98,7 +113,8 @@ pub fn header_fault()
     ensures { (stream piece : List ℕ) (ms : List Message) (fault : HeadFault) (place : ℕ)
         (v : Framing) → HasTaken stream ms v → FeedFails v piece (faults.Head fault place)
         → (given : List ℕ) × (rest : List ℕ) × Splits v.limit (stream ++ piece) ms given rest
-        × (fault_of (take 48 rest) ≡ Some fault) × (place ≡ min (length given) last_place) }
+        × (48 ≤ length rest) × (fault_of (take 48 rest) ≡ Some fault)
+        × (place ≡ min (length given) last_place) }
 {}
 
 /// A segment is refused where the rest begins with a header that says one over the limit, and the fault names the place
@@ -109,4 +125,13 @@ pub fn limit_fault()
         → (given : List ℕ) × (rest : List ℕ) × Splits v.limit (stream ++ piece) ms given rest
         × ((head : Head) × (len : ℕ) × IsHeader (take 48 rest) head len × (v.limit < len))
         × (place ≡ min (length given) last_place) }
+{}
+
+/// Where no fault came before, the end of the stream is one exactly where the rest is begun and no PDU: `finish` then
+/// names the place of the rest.
+pub fn end_fault()
+    ensures { (stream : List ℕ) (ms : List Message) (place : ℕ) (v : Framing)
+        → HasTaken stream ms v → FinishFails v (faults.Truncated place)
+        ↔ ((given : List ℕ) × (rest : List ℕ) × Splits v.limit stream ms given rest
+        × (0 < length rest) × (place ≡ min (length given) last_place)) }
 {}

@@ -3,4 +3,4 @@ use Rattle.iscsi_stream.proofs.Ready.{unready_of}
 use Rattle.iscsi_stream.proofs.laws.given_so_far.Goals as goal
 
 pub returns : goal.returns
-returns c stream ms v t unready = (t.given, t.rest, splits_taken stream ms v t (unready_of v.failed v.held t.live unready), t.place)
+returns c stream ms v t unready = (t.given, t.rest, splits_taken stream ms v t (unready_of v.failed v.held t.live unready), t.begun, t.place)

@@ -1,0 +1,5 @@
+use Rattle.iscsi_stream.proofs.Places.{stands_at}
+use Rattle.iscsi_stream.proofs.laws.ready_pdu.Goals as goal
+
+pub returns : goal.returns
+returns c stream segment ms head v t m = stands_at stream segment ms head v t m
