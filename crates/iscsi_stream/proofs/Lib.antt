@@ -11,6 +11,7 @@ pub mod Padding
 pub mod PassOn
 pub mod Places
 pub mod Ready
+pub mod Refusals
 pub mod RunLaws
 pub mod Segments
 pub mod Settled

@@ -161,11 +161,11 @@ header_splits s p ms f place v t fails =
 
 -- the same of a segment that is over the limit
 pub limit_splits : (s p : List ℕ) (ms : List Message) (place : ℕ) (v : Framing) → HasTaken s ms v → FeedFails v p (stream.OverLimit place)
-    → (given : List ℕ) × (rest : List ℕ) × Splits v.limit (s ++ p) ms given rest × ((head : Head) × (len : ℕ) × IsHeader (take 48 rest) head len × (v.limit < len)) × (place ≡ min (length given) last_place)
+    → (given : List ℕ) × (rest : List ℕ) × Splits v.limit (s ++ p) ms given rest × (48 ≤ length rest) × ((head : Head) × (len : ℕ) × IsHeader (take 48 rest) head len × (v.limit < len)) × (place ≡ min (length given) last_place)
 limit_splits s p ms place v t fails =
     let over = fails.1 in
     let r : IsHeader (take 48 (t.rest ++ p)) over.0 over.1 = subst (λ (x : List ℕ). IsHeader x over.0 over.1) (refused v p s ms t over.2.reaches.before) over.2.header in
-    (t.given, t.rest ++ p, record { whole = ap (λ (x : List ℕ). x ++ p) t.whole ∙ append_assoc t.given t.rest p; reads = t.reads; no_more = no_pdu_over v.limit (t.rest ++ p) over.0 over.1 r over.3 }, (over.0, over.1, r, over.3), fails.2 ∙ t.place)
+    (t.given, t.rest ++ p, record { whole = ap (λ (x : List ℕ). x ++ p) t.whole ∙ append_assoc t.given t.rest p; reads = t.reads; no_more = no_pdu_over v.limit (t.rest ++ p) over.0 over.1 r over.3 }, long_rest v p s ms t over.2.reaches.reached, (over.0, over.1, r, over.3), fails.2 ∙ t.place)
 
 -- no segment is longer than a header can say
 never_over : (form : Form) (piece rest : List ℕ) (old v : Framing) (a b : List ℕ) (k m : Counts) (upto : PassedUpTo form piece rest old v a b k m) (s : List ℕ) (ms : List Message) (now : HasTaken (s ++ upto.before) ms v) (h : Head) (n : ℕ)

@@ -1,10 +1,11 @@
 //! Laws of streams, canonical streams and framers: functions that do nothing, whose contracts are the theorems. They
 //! speak of the definitions in `specs`, which the contracts of the working functions cite too.
 
-ghost use Rattle.std.specs.Prelude.{◌≡◌, ◌≤◌, ◌<◌, ◌+◌, ◌++◌, ◌∷◌, [], ◌↔◌, ℕ, List, length, take, drop, min, false, Some};
+ghost use Rattle.std.specs.Prelude.{◌≡◌, ◌≤◌, ◌<◌, ◌+◌, ◌++◌, ◌∷◌, [], ◌↔◌, ℕ, List, length, take, drop, min, false, Some, Result, Err, IfOk, IfErr};
 ghost use Rattle.iscsi_pdu.specs.declared.head.Head.{Head};
 ghost use Rattle.iscsi_pdu.specs.declared.head.HeadFault.{HeadFault};
 ghost use Rattle.iscsi_pdu.specs.Meaning.{IsHeader, Means, fault_of, AreBytes};
+ghost use Rattle.iscsi_stream.specs.declared.fault.StreamFault.{StreamFault};
 ghost use Rattle.iscsi_stream.specs.declared.fault.StreamFault.TheVariants as faults;
 ghost use Rattle.iscsi_stream.specs.Segment.{no_login, continues};
 ghost use Rattle.iscsi_stream.specs.Stream.{StreamMeans, ReadsAs, Message, after_all, longest_segment, Splits};
@@ -117,14 +118,34 @@ pub fn header_fault()
         × (place ≡ min (length given) last_place) }
 {}
 
+/// The other way: where the rest of what a framer took and of a piece begins with a header that is refused, `feed` of
+/// the piece answers that fault and nothing else.
+pub fn header_refused()
+    ensures { (stream piece given rest : List ℕ) (ms : List Message) (fault : HeadFault)
+        (v new : Framing) (result : Result ℕ StreamFault) → HasTaken stream ms v
+        → Splits v.limit (stream ++ piece) ms given rest → 48 ≤ length rest
+        → fault_of (take 48 rest) ≡ Some fault → IfOk result (λ n. Takes v piece n new)
+        → IfErr result (FeedFails v piece) → result ≡ Err (faults.Head fault v.place) }
+{}
+
 /// A segment is refused where the rest begins with a header that says one over the limit, and the fault names the place
 /// of the rest.
 pub fn limit_fault()
     ensures { (stream piece : List ℕ) (ms : List Message) (place : ℕ) (v : Framing)
         → HasTaken stream ms v → FeedFails v piece (faults.OverLimit place)
         → (given : List ℕ) × (rest : List ℕ) × Splits v.limit (stream ++ piece) ms given rest
+        × (48 ≤ length rest)
         × ((head : Head) × (len : ℕ) × IsHeader (take 48 rest) head len × (v.limit < len))
         × (place ≡ min (length given) last_place) }
+{}
+
+/// The other way: where the rest begins with such a header, `feed` of the piece answers that fault and nothing else.
+pub fn limit_refused()
+    ensures { (stream piece given rest : List ℕ) (ms : List Message) (head : Head) (len : ℕ)
+        (v new : Framing) (result : Result ℕ StreamFault) → HasTaken stream ms v
+        → Splits v.limit (stream ++ piece) ms given rest → 48 ≤ length rest
+        → IsHeader (take 48 rest) head len → v.limit < len → IfOk result (λ n. Takes v piece n new)
+        → IfErr result (FeedFails v piece) → result ≡ Err (faults.OverLimit v.place) }
 {}
 
 /// Where no fault came before, the end of the stream is one exactly where the rest is begun and no PDU: `finish` then
