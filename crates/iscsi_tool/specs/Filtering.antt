@@ -7,7 +7,7 @@ use Rattle.iscsi_stream.specs.declared.fault.ToolFault.{ToolFault}
 use Rattle.iscsi_stream.specs.declared.fault.ToolFault.TheVariants as tool
 use Rattle.iscsi_stream.specs.Stream.{Message, StreamMeans}
 use Rattle.iscsi_stream.specs.Canonical.{canon}
-use Rattle.iscsi_stream.specs.Normalising.{Parts, Wrote, RestFails, NormaliseFails}
+use Rattle.iscsi_stream.specs.Normalising.{Parts, IsCanonical, Wrote, RestFails, NormaliseFails}
 use Rattle.iscsi_stream.specs.Texts.{CanonicalOf, NormalisesText, longest_text}
 use Rattle.iscsi_service.specs.Session.{target_settings, EndsWell}
 use Rattle.iscsi_tool.specs.declared.filter.Filter.{Filter}
@@ -38,7 +38,7 @@ NormalisesBytes (Err fault) read written = NormaliseFails fault read written
 abbrev pub DueOfStream : List ℕ → Outcome → List ℕ → Type 0
 DueOfStream bytes (Ok done) due = (ms : List Message) × StreamMeans bytes ms × (due ≡ canon ms)
 DueOfStream bytes (Err (tool.Stream fault)) due =
-    Parts (λ ms given rest. Wrote bytes ms given rest due × RestFails fault given rest)
+    Parts (λ ms given rest. Wrote IsCanonical bytes ms given rest due × RestFails fault given rest)
 DueOfStream bytes (Err fault) due = ⊥
 
 -- What is due for the bytes of a text: its canonical text, or nothing where it is refused (own
