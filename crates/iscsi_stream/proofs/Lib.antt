@@ -1,4 +1,5 @@
 pub mod Chunks
+pub mod Closed
 pub mod Dues
 pub mod Endings
 pub mod Fronts

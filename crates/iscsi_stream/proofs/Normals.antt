@@ -26,7 +26,7 @@ use Rattle.iscsi_stream.proofs.Taking.{at_opening, splits_taken}
 use Rattle.iscsi_stream.proofs.Dues.{due_none, due_append, due_short}
 use Rattle.iscsi_stream.proofs.Loops.{WrittenUpTo}
 
-AreBytes-append : (xs ys : List ℕ) → AreBytes xs → AreBytes ys → AreBytes (xs ++ ys)
+pub AreBytes-append : (xs ys : List ℕ) → AreBytes xs → AreBytes ys → AreBytes (xs ++ ys)
 AreBytes-append xs ys p q i =
     elim (cases_lt i (length xs)) [
       | inl lt ↦ rw (get_or_append_left xs ys 0 i lt) (p i)

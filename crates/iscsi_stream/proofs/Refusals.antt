@@ -12,7 +12,7 @@ use Rattle.iscsi_stream.specs.declared.fault.StreamFault.TheVariants as faults
 use Rattle.iscsi_stream.specs.declared.logins.Logins.{Logins}
 use Rattle.iscsi_stream.specs.Segment.{no_login, after}
 use Rattle.iscsi_stream.specs.Stream.{Message, ReadsAs, Splits}
-use Rattle.iscsi_stream.specs.Framing.{Framing, settled, length_at, is_whole, IsBegun, Takes, FeedFails, HasTaken}
+use Rattle.iscsi_stream.specs.Framing.{Framing, settled, length_at, IsBegun, Takes, FeedFails, HasTaken}
 use Rattle.iscsi_stream.proofs.Heads.{bad_header}
 use Rattle.iscsi_stream.proofs.Settled.{length-settled, settled-short, IsBegun-from_settled}
 use Rattle.iscsi_stream.proofs.Ready.{apart, is_whole-is}
@@ -48,10 +48,10 @@ not_taken v piece rest is long none n new takes =
     let held : new.held ≡ settled here = ap (λ (x : Framing). x.held) takes.gathered in
     let size : length new.held ≡ length here = ap length held ∙ length-settled here in
     let le : 48 ≤ length here = (
-        elim (cases_lt n (length piece)) [
-          | inl lt ↦ omega (arith, (is_whole-is new.held (takes.stops lt)).0, size)
-          | inr all ↦ omega (arith, long, ap length is, length-append v.held piece, length-append v.held (take n piece), length-take n piece, all, takes.bound)
-        ]) in
+    elim (cases_lt n (length piece)) [
+      | inl lt ↦ omega (arith, (is_whole-is new.held (takes.stops lt)).0, size)
+      | inr all ↦ omega (arith, long, ap length is, length-append v.held piece, length-append v.held (take n piece), length-take n piece, all, takes.bound)
+    ]) in
     let begun_at : (u : Framing) → new ≡ u → IsBegun u.limit u.held = λ u e. subst (λ (x : Framing). IsBegun x.limit x.held) e takes.begun in
     let begun = IsBegun-from_settled v.limit here (begun_at _ takes.gathered) in
     let good = begun le in
@@ -65,13 +65,13 @@ meets stream piece given rest ms v t s long none =
     let same : given ≡ t.given = same_given v.limit no_login given ms rest t.given (t.rest ++ piece) s.reads t.reads (sym s.whole ∙ whole) in
     let behind : rest ≡ t.rest ++ piece = sym (drop_at given rest (length given) refl) ∙ ap (drop (length given)) (sym s.whole ∙ whole) ∙ drop_at t.given (t.rest ++ piece) (length given) (ap length (sym same)) in
     let short : length t.rest < 48 = (
-        elim (cases_lt (length t.rest) 48) [
-          | inl lt ↦ lt
-          | inr le ↦
-              let good = t.begun le in
-              let front : take 48 t.rest ≡ take 48 rest = sym (take-append-le 48 t.rest piece le) ∙ ap (take 48) (sym behind) in
-              absurd (none good.0 (length_at t.rest) (subst (λ (x : List ℕ). IsHeader x good.0 (length_at t.rest)) front good.1.header) good.1.within)
-        ]) in
+    elim (cases_lt (length t.rest) 48) [
+      | inl lt ↦ lt
+      | inr le ↦
+          let good = t.begun le in
+          let front : take 48 t.rest ≡ take 48 rest = sym (take-append-le 48 t.rest piece le) ∙ ap (take 48) (sym behind) in
+          absurd (none good.0 (length_at t.rest) (subst (λ (x : List ℕ). IsHeader x good.0 (length_at t.rest)) front good.1.header) good.1.within)
+    ]) in
     let held : v.held ≡ t.rest = t.held ∙ settled-short t.rest (omega (arith, short)) in
     let is : rest ≡ v.held ++ piece = behind ∙ ap (λ (x : List ℕ). x ++ piece) (sym held) in
     record { short = omega (arith, short, ap length held); front = ap (take 48) (sym is); not_taken = not_taken v piece rest is long none }

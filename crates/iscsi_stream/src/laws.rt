@@ -25,6 +25,12 @@ pub fn canonical_meaning()
         → StreamMeans (canon ms) ms }
 {}
 
+/// The canonical stream of a stream of bytes is of bytes, so that these laws hold of it too.
+pub fn canonical_is_bytes()
+    ensures { (stream : List ℕ) (ms : List Message) → AreBytes stream → StreamMeans stream ms
+        → AreBytes (canon ms) }
+{}
+
 /// The canonical stream is not longer than the stream.
 pub fn not_longer()
     ensures { (stream : List ℕ) (ms : List Message) → AreBytes stream → StreamMeans stream ms
