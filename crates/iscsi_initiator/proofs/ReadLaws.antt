@@ -33,9 +33,9 @@ pub record Got (a : List ℕ) (ps : Pieces) (n : Machine) : Type 0 where
   pub tiles : TilesFrom (length a) ps (length a + length (data_of ps))
   pub now : Stands n (a ++ data_of ps)
 
--- it did, or it closed the session
+-- it did, or it closed the session, and the read stands as it was
 pub data Gets (a : List ℕ) (ps : Pieces) (n : Machine) : Type 0 where
-  shut : n.phase ≡ phases.Closed → Gets a ps n
+  shut : n.phase ≡ phases.Closed → Stands n a → Gets a ps n
   got : Got a ps n → Gets a ps n
 
 gets_if : (a : List ℕ) (ps : Pieces) (b : Bool) (x y : Stepped) → Gets a ps x.machine → Gets a ps y.machine → Gets a ps (if b then x else y).machine
@@ -83,10 +83,10 @@ one_piece a bytes offset e = (e, ap (λ (x : List ℕ). length a + length x) (sy
 more_bytes : (a b bytes : List ℕ) → b ≡ a → b ++ bytes ≡ a ++ (bytes ++ [])
 more_bytes a b bytes e = ap (λ (x : List ℕ). x ++ bytes) e ∙ ap (λ (x : List ℕ). a ++ x) (sym (append-nil bytes))
 
-data_gets : (b c : Bool) (m : Machine) (a : List ℕ) (r : Reading) (h : DataIn) (bytes : List ℕ) → m.phase ≡ phases.Full → r.received ≡ a → fits_reading r h bytes ≡ b
+data_gets : (b c : Bool) (m : Machine) (a : List ℕ) (r : Reading) (h : DataIn) (bytes : List ℕ) → Stands m a → m.phase ≡ phases.Full → r.received ≡ a → fits_reading r h bytes ≡ b
     → Gets a ((h.buffer_offset, bytes) ∷ []) (if not b then breaks m 3 else (if c then completes m (read_outcome (r.received ++ bytes) h) else quiet (has_received m r bytes))).machine
-data_gets false c m a r h bytes p e f = shut refl
-data_gets true true m a r h bytes p e f =
+data_gets false c m a r h bytes s p e f = shut refl (stands_at m _ a refl refl s)
+data_gets true true m a r h bytes s p e f =
     let at : h.buffer_offset ≡ length a = eqb-true _ _ (and_parts _ _ (and_parts _ _ f).0).1 ∙ ap (λ (x : List ℕ). length x) e in
     got (record {
       full = p;
@@ -100,7 +100,7 @@ data_gets true true m a r h bytes p e f =
         outcome = ap (λ (x : List ℕ). Some (done.Command 0 (unwrap_or h.status 0) [] x (residual (unwrap_or h.overflow false) (unwrap_or h.underflow false) (unwrap_or h.residual 0)))) (more_bytes a r.received bytes e);
       });
     })
-data_gets true false m a r h bytes p e f =
+data_gets true false m a r h bytes s p e f =
     let at : h.buffer_offset ≡ length a = eqb-true _ _ (and_parts _ _ (and_parts _ _ f).0).1 ∙ ap (λ (x : List ℕ). length x) e in
     got (record {
       full = p;
@@ -108,9 +108,9 @@ data_gets true false m a r h bytes p e f =
       now = inl (record { reading = record r { received = r.received ++ bytes; next_data_sn = next_sn r.next_data_sn }; is = refl; received = more_bytes a r.received bytes e });
     })
 
-response_gets : (o : Option (List ℕ)) (m : Machine) (a : List ℕ) (r : Reading) (h : ScsiResponse) → m.phase ≡ phases.Full → r.received ≡ a → Gets a [] (outcome_with o m r.received h).machine
-response_gets None m a r h p e = shut refl
-response_gets (Some sense) m a r h p e =
+response_gets : (o : Option (List ℕ)) (m : Machine) (a : List ℕ) (r : Reading) (h : ScsiResponse) → Stands m a → m.phase ≡ phases.Full → r.received ≡ a → Gets a [] (outcome_with o m r.received h).machine
+response_gets None m a r h s p e = shut refl (stands_at m _ a refl refl s)
+response_gets (Some sense) m a r h s p e =
     got (record {
       full = p;
       tiles = omega arith;
@@ -124,21 +124,22 @@ response_gets (Some sense) m a r h p e =
       });
     })
 
-some_gets : (a : List ℕ) (ps : Pieces) (m : Machine) (d : Due) (bytes : List ℕ) → Gets a ps (on_due (passed m d) d bytes).machine → Gets a ps (takes (Some d) m bytes).machine
-some_gets a ps m d bytes g =
-    gets_if a ps (nat_lt m.held.initiator_max_recv (length bytes)) _ _ (shut refl) (gets_if a ps (not (is_in_turn m.exp_stat_sn (checked_stat_sn d))) _ _ (shut refl) g)
+some_gets : (a : List ℕ) (ps : Pieces) (m : Machine) (d : Due) (bytes : List ℕ) → Stands m a → Gets a ps (on_due (passed m d) d bytes).machine → Gets a ps (takes (Some d) m bytes).machine
+some_gets a ps m d bytes s g =
+    gets_if a ps (nat_lt m.held.initiator_max_recv (length bytes)) _ _ (shut refl (stands_at m _ a refl refl s))
+    (gets_if a ps (not (is_in_turn m.exp_stat_sn (checked_stat_sn d))) _ _ (shut refl (stands_at m _ a refl refl s)) g)
 
 due_gets : (q : Option Open) (head : Head) (m : Machine) (bytes a : List ℕ) → m.phase ≡ phases.Full → m.open_request ≡ q → Stands m a → Gets a (data_piece head bytes) (takes (due_to q head) m bytes).machine
-due_gets None head m bytes a p e s = shut refl
+due_gets None head m bytes a p e s = shut refl (stands_at m _ a refl refl s)
 due_gets (Some Ping) head m bytes a p e s = absurd (is_read m a _ e s)
 due_gets (Some Text) head m bytes a p e s = absurd (is_read m a _ e s)
 due_gets (Some Logout) head m bytes a p e s = absurd (is_read m a _ e s)
 due_gets (Some (Out w)) head m bytes a p e s = absurd (is_read m a _ e s)
 due_gets (Some (In r)) (heads.DataIn h) m bytes a p e s =
-    some_gets a _ m (Data r h) bytes (data_gets (fits_reading r h bytes) h.has_status (passed m (Data r h)) a r h bytes p (has m a r e s) refl)
+    some_gets a _ m (Data r h) bytes s (data_gets (fits_reading r h bytes) h.has_status (passed m (Data r h)) a r h bytes (stands_at m _ a refl refl s) p (has m a r e s) refl)
 due_gets (Some (In r)) (heads.ScsiResponse h) m bytes a p e s =
-    some_gets a _ m (Response r.received h) bytes (response_gets (sense_of bytes) (passed m (Response r.received h)) a r h p (has m a r e s))
-due_gets (Some (In r)) _ m bytes a p e s = shut refl
+    some_gets a _ m (Response r.received h) bytes s (response_gets (sense_of bytes) (passed m (Response r.received h)) a r h (stands_at m _ a refl refl s) p (has m a r e s))
+due_gets (Some (In r)) _ m bytes a p e s = shut refl (stands_at m _ a refl refl s)
 
 takes_gets : (a : List ℕ) (ps : Pieces) (b : Bool) (x y : Option Due) (m : Machine) (bytes : List ℕ) → Gets a ps (takes x m bytes).machine → Gets a ps (takes y m bytes).machine
     → Gets a ps (takes (if b then x else y) m bytes).machine
@@ -147,15 +148,15 @@ takes_gets a ps false x y m bytes p q = q
 
 answer_gets : (head : Head) (m : Machine) (bytes a : List ℕ) → m.phase ≡ phases.Full → Stands m a → Gets a (data_piece head bytes) (takes (answer_due m head) m bytes).machine
 answer_gets head m bytes a p s =
-    takes_gets a (data_piece head bytes) (tag_of head == m.initiator_task_tag) (due_to m.open_request head) None m bytes (due_gets m.open_request head m bytes a p refl s) (shut refl)
+    takes_gets a (data_piece head bytes) (tag_of head == m.initiator_task_tag) (due_to m.open_request head) None m bytes (due_gets m.open_request head m bytes a p refl s) (shut refl (stands_at m _ a refl refl s))
 
 full_gets : (head : Head) (m : Machine) (bytes a : List ℕ) → m.phase ≡ phases.Full → Stands m a → Gets a (data_piece head bytes) (takes (due m head) m bytes).machine
 full_gets (heads.NopIn h) m bytes a p s =
     takes_gets a [] (h.initiator_task_tag == reserved_tag) (Some (Asked h)) (answer_due m (heads.NopIn h)) m bytes
-    (some_gets a [] m (Asked h) bytes (gets_if a [] (is_tag h.target_transfer_tag) _ _ (nothing m _ a p refl refl s) (nothing m _ a p refl refl s)))
+    (some_gets a [] m (Asked h) bytes s (gets_if a [] (is_tag h.target_transfer_tag) _ _ (nothing m _ a p refl refl s) (nothing m _ a p refl refl s)))
     (answer_gets (heads.NopIn h) m bytes a p s)
-full_gets (heads.AsyncMessage h) m bytes a p s = some_gets a [] m (Notice h) bytes (nothing m _ a p refl refl s)
-full_gets (heads.Reject h) m bytes a p s = some_gets a [] m (Refusal h) bytes (shut refl)
+full_gets (heads.AsyncMessage h) m bytes a p s = some_gets a [] m (Notice h) bytes s (nothing m _ a p refl refl s)
+full_gets (heads.Reject h) m bytes a p s = some_gets a [] m (Refusal h) bytes s (shut refl (stands_at m _ a refl refl s))
 full_gets head m bytes a p s = answer_gets head m bytes a p s
 
 step_gets : (m : Machine) (message : Message) (a : List ℕ) → m.phase ≡ phases.Full → Stands m a → Gets a (data_piece message.head (segment_bytes message.segment)) (step m message).machine
@@ -165,13 +166,15 @@ step_gets m message a p s =
 
 -- ---- many messages
 
-closed_step : (m : Machine) (message : Message) → m.phase ≡ phases.Closed → (step m message).machine.phase ≡ phases.Closed
+closed_step : (m : Machine) (message : Message) → m.phase ≡ phases.Closed → (step m message).machine ≡ m
 unfolding step
-closed_step m message e = subst (λ (x : Phase). (step_in x m message).machine.phase ≡ phases.Closed) (sym e) e
+closed_step m message e = subst (λ (x : Phase). (step_in x m message).machine ≡ m) (sym e) refl
 
-closed_hears : (m : Machine) (messages : List Message) → m.phase ≡ phases.Closed → (hears m messages).phase ≡ phases.Closed
-closed_hears m [] e = e
-closed_hears m (message ∷ messages) e = closed_hears (step m message).machine messages (closed_step m message e)
+closed_hears : (m : Machine) (messages : List Message) → m.phase ≡ phases.Closed → hears m messages ≡ m
+closed_hears m [] e = refl
+closed_hears m (message ∷ messages) e =
+    let is : (step m message).machine ≡ m = closed_step m message e in
+    closed_hears (step m message).machine messages (ap (λ (x : Machine). x.phase) is ∙ e) ∙ is
 
 abbrev IsShut : Phase → Type 0
 IsShut phases.Closed = Unit {0}
@@ -186,35 +189,59 @@ bytes_then [] qs = refl
 bytes_then (p ∷ ps) qs = ap (λ (x : List ℕ). p.1 ++ x) (bytes_then ps qs) ∙ sym (append_assoc p.1 (data_of ps) (data_of qs))
 
 pub record Heard (m : Machine) (a : List ℕ) (messages : List Message) : Type 0 where
-  pub tiles : TilesFrom (length a) (data_pieces messages) (length a + length (data_of (data_pieces messages)))
-  pub now : Stands (hears m messages) (a ++ data_of (data_pieces messages))
+  pub heard : List Message
+  pub rest : List Message
+  pub parts : messages ≡ heard ++ rest
+  pub live : (hears m heard).phase ≡ phases.Full
+  pub all : (hears m messages).phase ≡ phases.Full → rest ≡ []
+  pub tiles : TilesFrom (length a) (data_pieces heard) (length a + length (data_of (data_pieces heard)))
+  pub now : Stands (hears m messages) (a ++ data_of (data_pieces heard))
 
 joins : (m : Machine) (a : List ℕ) (message : Message) (messages : List Message)
     → Got a (data_piece message.head (segment_bytes message.segment)) (step m message).machine
     → Heard (step m message).machine (a ++ data_of (data_piece message.head (segment_bytes message.segment))) messages → Heard m a (message ∷ messages)
 joins m a message messages g h =
     let ps : Pieces = data_piece message.head (segment_bytes message.segment) in
-    let qs : Pieces = data_pieces messages in
+    let qs : Pieces = data_pieces h.heard in
     let whole : a ++ data_of ps ++ data_of qs ≡ a ++ data_of (ps ++ qs) = append_assoc a (data_of ps) (data_of qs) ∙ ap (λ (x : List ℕ). a ++ x) (sym (bytes_then ps qs)) in
     let len : length (a ++ data_of ps) ≡ length a + length (data_of ps) = length-append a (data_of ps) in
     let end : length (a ++ data_of ps) + length (data_of qs) ≡ length a + length (data_of (ps ++ qs)) =
     sym (length-append (a ++ data_of ps) (data_of qs)) ∙ ap (λ (x : List ℕ). length x) whole ∙ length-append a (data_of (ps ++ qs)) in
     record {
+      heard = message ∷ h.heard;
+      rest = h.rest;
+      parts = ap (λ (xs : List Message). message ∷ xs) h.parts;
+      live = h.live;
+      all = h.all;
       tiles = tiles_then (length a) (length (a ++ data_of ps)) (length a + length (data_of (ps ++ qs))) ps qs
           (subst (λ (n : ℕ). TilesFrom (length a) ps n) (sym len) g.tiles)
           (subst (λ (n : ℕ). TilesFrom (length (a ++ data_of ps)) qs n) end h.tiles);
       now = subst (λ (x : List ℕ). Stands (hears (step m message).machine messages) x) whole h.now;
     }
 
-hears_all : (m : Machine) (a : List ℕ) (messages : List Message) → m.phase ≡ phases.Full → Stands m a → (hears m messages).phase ≡ phases.Full → Heard m a messages
-hears_all m a [] p s f = record { tiles = omega arith; now = subst (λ (x : List ℕ). Stands m x) (sym (append-nil a)) s }
-hears_all m a (message ∷ messages) p s f =
+-- the session hears nothing more
+hears_none : (m : Machine) (a : List ℕ) (messages : List Message) → m.phase ≡ phases.Full → ((hears m messages).phase ≡ phases.Full → messages ≡ []) → Stands (hears m messages) a → Heard m a messages
+hears_none m a messages p none s = record {
+  heard = [];
+  rest = messages;
+  parts = refl;
+  live = p;
+  all = none;
+  tiles = omega arith;
+  now = subst (λ (x : List ℕ). Stands (hears m messages) x) (sym (append-nil a)) s;
+}
+
+hears_all : (m : Machine) (a : List ℕ) (messages : List Message) → m.phase ≡ phases.Full → Stands m a → Heard m a messages
+hears_all m a [] p s = hears_none m a [] p (λ e. refl) s
+hears_all m a (message ∷ messages) p s =
     elim (step_gets m message a p s) [
-      | shut e ↦ absurd (subst (λ (x : Phase). IsShut x) (sym (closed_hears (step m message).machine messages e) ∙ f) tt)
-      | got g ↦ joins m a message messages g (hears_all (step m message).machine (a ++ data_of (data_piece message.head (segment_bytes message.segment))) messages g.full g.now f)
+      | shut e t ↦ (let is : hears (step m message).machine messages ≡ (step m message).machine = closed_hears (step m message).machine messages e in
+          hears_none m a (message ∷ messages) p (λ f. absurd (subst (λ (x : Phase). IsShut x) (sym (ap (λ (x : Machine). x.phase) is ∙ e) ∙ f) tt))
+          (subst (λ (x : Machine). Stands x a) (sym is) t))
+      | got g ↦ joins m a message messages g (hears_all (step m message).machine (a ++ data_of (data_piece message.head (segment_bytes message.segment))) messages g.full g.now)
     ]
 
 pub reads_tile : ReadsTile
-reads_tile m messages p i f =
-    let h : Heard m [] messages = hears_all m [] messages p (inl i) f in
-    record { tiles = subst (λ (n : ℕ). TilesFrom 0 (data_pieces messages) n) (omega arith) h.tiles; carries = h.now }
+reads_tile m messages p i =
+    let h : Heard m [] messages = hears_all m [] messages p (inl i) in
+    record { heard = h.heard; rest = h.rest; parts = h.parts; live = h.live; all = h.all; tiles = subst (λ (n : ℕ). TilesFrom 0 (data_pieces h.heard) n) (omega arith) h.tiles; carries = h.now }

@@ -184,8 +184,7 @@ FinishEnds _ old new = ⊥
 -- What a call of finish does: the stream ends between two PDUs, or within one (own rule).
 abbrev pub Finishes : Result (Unit {0}) InitiatorFault → Connection → Connection → Type 0
 Finishes (Ok _) old new =
-    (is_closed old.machine ≡ false)
-    × ((old.framing.held ≡ []) ⊎ (is_ready old.framing ≡ true)) × (new ≡ old)
+    (is_closed old.machine ≡ false) × (old.framing.held ≡ []) × (new ≡ old)
 Finishes (Err fault) old new = FinishEnds fault old new
 
 -- The outcome is taken (own rule).

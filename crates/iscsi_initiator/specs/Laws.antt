@@ -150,14 +150,20 @@ pub record HasReceived (m : Machine) (bytes : List ℕ) : Type 0 where
   pub none : m.open_request ≡ None
   pub outcome : m.done ≡ Some (done.Command response status sense bytes residual)
 
--- The Data-In that came for a read tile its data: each lies where the last one ended, and what is
--- received, or the outcome has, are their bytes (section 11.7.5).
+-- What came for an open read, until a fault closed the session if one did: its Data-In tile its
+-- data, each lies where the last one ended, and what is received, or the outcome has, are their
+-- bytes (section 11.7.5). A closed session hears nothing.
 pub record TilesRead (m : Machine) (messages : List Message) : Type 0 where
-  pub tiles : TilesFrom 0 (data_pieces messages) (length (data_of (data_pieces messages)))
-  pub carries : IsReceiving (hears m messages) (data_of (data_pieces messages))
-      ⊎ HasReceived (hears m messages) (data_of (data_pieces messages))
+  pub heard : List Message
+  pub rest : List Message
+  pub parts : messages ≡ heard ++ rest
+  pub live : (hears m heard).phase ≡ phases.Full
+  pub all : (hears m messages).phase ≡ phases.Full → rest ≡ []
+  pub tiles : TilesFrom 0 (data_pieces heard) (length (data_of (data_pieces heard)))
+  pub carries : IsReceiving (hears m messages) (data_of (data_pieces heard))
+      ⊎ HasReceived (hears m messages) (data_of (data_pieces heard))
 
--- So it is of every read, as long as no fault closes the session.
+-- So it is of every read.
 abbrev pub ReadsTile : Type 0
 ReadsTile = (m : Machine) (messages : List Message) → m.phase ≡ phases.Full →
-    IsReceiving m [] → (hears m messages).phase ≡ phases.Full → TilesRead m messages
+    IsReceiving m [] → TilesRead m messages

@@ -1,6 +1,7 @@
 //! Requests, and what becomes of them.
 
 use scsi_cdb::{Bytes, Residual};
+use thiserror::Error;
 
 /// What is asked of a target.
 #[derive(Drop)]
@@ -68,19 +69,25 @@ pub enum Done {
 }
 
 /// Why a request is refused. The refusals come in this order.
-#[derive(Clone, Copy, Debug, PartialEq, Eq)]
+#[derive(Clone, Copy, Debug, PartialEq, Eq, Error)]
 pub enum SubmitFault {
     /// The session is closed.
+    #[error("closed")]
     Closed,
     /// The session is not in full feature phase.
+    #[error("not ready")]
     NotReady,
     /// A request is open, or its outcome was not taken.
+    #[error("busy")]
     Busy,
     /// The target takes no further command now (RFC 7143, section 4.2.2.1).
+    #[error("shut")]
     Shut,
     /// The request has or asks for more bytes than may go.
+    #[error("too long")]
     TooLong,
     /// Memory ran out.
+    #[error("memory")]
     NoMemory,
 }
 

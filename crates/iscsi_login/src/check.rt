@@ -10,7 +10,7 @@ ghost use Rattle.iscsi_login.specs.Offers.{proposed, offers_at};
 ghost use Rattle.iscsi_login.specs.Check.{bad_key, is_bad, is_unanswered, key_or, may_answer, may_declare};
 
 use crate::key::NegKey;
-use crate::negotiation::legal_answer;
+use crate::negotiation::is_legal;
 use crate::offers::{Offers, said};
 use crate::params::is_segment_length;
 use crate::stage::Stage;
@@ -91,7 +91,7 @@ fn may_answer(key: NegKey, offer: Option<Value>, answer: &Value) -> bool
     ensures { result ≡ may_answer key (option_map typed offer.entry) (typed answer.now) }
 {
     match offer {
-        Some(offer) => legal_answer(key, &offer, answer),
+        Some(offer) => is_legal(key, &offer, answer),
         None => false,
     }
 }

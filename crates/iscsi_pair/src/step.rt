@@ -6,6 +6,7 @@ ghost use Rattle.iscsi_pair.specs.World.{feed_fault, submit_fault};
 
 use iscsi_initiator::{InitiatorFault, Refused, Request, SubmitFault};
 use iscsi_login::Phase;
+use thiserror::Error;
 
 /// A step of a pair.
 #[derive(Drop)]
@@ -19,11 +20,13 @@ pub enum Step {
 }
 
 /// Why the initiator of a pair failed.
-#[derive(Debug, Drop)]
+#[derive(Debug, Drop, Error)]
 pub enum EndFault {
     /// What it was fed closed its session.
+    #[error(transparent)]
     Feed(InitiatorFault),
     /// It refused a request.
+    #[error(transparent)]
     Submit(SubmitFault),
 }
 

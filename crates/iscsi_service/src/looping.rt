@@ -28,7 +28,7 @@ use std::alloc::{AllocError, Global};
 use std::io::{Read, Write};
 
 /// The most bytes of a piece, which one end writes before the other reads them (own rule).
-pub const LONGEST_PIECE: usize = 4096;
+pub const LONGEST_PIECE: u32 = 4096;
 
 /// The name of the initiator (own rule).
 const INITIATOR_NAME: &[u8] = b"iqn.2026-01.example:host";
@@ -57,7 +57,7 @@ const TURNS: u32 = 16_777_216;
 pub fn run_loop<R: Read, W: Write>(
     rt: &HostRuntime,
     blocks: u64,
-    piece: usize,
+    piece: u32,
     r: &mut R,
     w: &mut W,
 ) -> Result<(), ServeFault>
@@ -71,7 +71,7 @@ pub fn run_loop<R: Read, W: Write>(
         × Loops result script written }
 {
     let commands = read_script(rt.alloc(), r)?;
-    let mut ends = Ends::open(rt, blocks, piece)?;
+    let mut ends = Ends::open(rt, blocks, piece as usize)?;
     ends.log_in()?;
     write_line(w, b"login\n")?;
     run_commands(&mut ends, commands, w)?;
@@ -219,7 +219,7 @@ impl Ends {
         ensures err { IfErr result IsOfSession }
     {
         let mut answers = Vec::new(self.alloc);
-        let mut buffer = [0u8; LONGEST_PIECE];
+        let mut buffer = [0u8; LONGEST_PIECE as usize];
         let mut rest = requests;
         while !rest.is_empty() {
             let len = rest.len().min(self.piece);
@@ -238,7 +238,7 @@ impl Ends {
         ensures err { IfErr result IsOfSession }
     {
         let mut requests = Vec::new(self.alloc);
-        let mut buffer = [0u8; LONGEST_PIECE];
+        let mut buffer = [0u8; LONGEST_PIECE as usize];
         let mut rest = answers;
         while !rest.is_empty() {
             let len = rest.len().min(self.piece);

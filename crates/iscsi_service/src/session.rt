@@ -16,6 +16,7 @@ use iscsi_target::{Config, Target, TargetFault};
 use scsi_disk::BlockStore;
 use std::alloc::{AllocError, Global};
 use std::io::{Read, Write};
+use thiserror::Error;
 
 /// The name of the target (own rule).
 pub(crate) const TARGET_NAME: &[u8] = b"iqn.2026-01.example:disk";
@@ -38,13 +39,16 @@ pub fn configuration(alloc: Global) -> Result<Config, AllocError>
 }
 
 /// Why a session over a stream ends before its time (own rule).
-#[derive(Clone, Copy, Debug, PartialEq, Eq)]
+#[derive(Clone, Copy, Debug, PartialEq, Eq, Error)]
 pub enum SessionFault {
     /// The target refuses what its initiator sent, or memory ran out.
+    #[error(transparent)]
     Target(TargetFault),
     /// A read failed, or there were 16,777,216 of them.
+    #[error("read failed")]
     Read,
     /// A write failed, or took no byte.
+    #[error("write failed")]
     Write,
 }
 

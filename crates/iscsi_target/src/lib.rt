@@ -13,6 +13,8 @@ mod target;
 mod writing;
 
 pub use config::Config;
+// (`Due` and `Status` stand in definitions that proofs above take apart: an open write, and why a
+// login is refused)
 pub use due::Due;
 pub use fault::TargetFault;
 pub use status::Status;

@@ -17,8 +17,8 @@ pub struct Pair<'a> {
 }
 
 impl Pair<'_> {
-    /// How many bytes the canonical form has, the final 0 included.
-    pub fn text_len(&self) -> usize
+    // How many bytes the canonical form has, the final 0 included.
+    pub(crate) fn text_len(&self) -> usize
         requires { length (pair_text (shown self.now)) < 2 ^ 64 }
         ensures { result ≡ length (pair_text (shown self.now)) }
     {

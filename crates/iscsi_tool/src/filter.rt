@@ -21,11 +21,8 @@ pub enum Work {
     Normalise,
     /// Writes the canonical text of one text.
     Text,
-    /// Writes a target's answers.
-    Answer {
-        /// How many blocks of 512 bytes the target's disk has, 1 to 65536.
-        blocks: u64,
-    },
+    /// Writes the answers of a target whose disk has so many blocks of 512 bytes, 1 to 65536.
+    Answer(u64),
 }
 
 /// A filter, and whether its input is hex text and its bytes are written as a line of hex.
@@ -73,7 +70,7 @@ pub fn run_filter<R: Read, W: Write>(
                 text_bytes(alloc, r, w)
             }
         }
-        Work::Answer { blocks } => {
+        Work::Answer(blocks) => {
             if filter.hex {
                 answer_hex(alloc, blocks, r, w)
             } else {

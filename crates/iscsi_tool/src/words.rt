@@ -11,6 +11,7 @@ use clap::{Arg, ArgAction, ArgMatches, Command, Error};
 use iscsi_service::LONGEST_PIECE;
 use std::alloc::{AllocError, AllocFailed, Global};
 use std::convert::AsStr;
+use thiserror::Error;
 
 /// What the words ask for.
 #[derive(Clone, Copy, Debug, PartialEq, Eq)]
@@ -31,17 +32,19 @@ pub enum Job {
         /// How many blocks of 512 bytes the target's disk has, 1 to 65536.
         blocks: u64,
         /// The most bytes that are written before they are read, 1 to 4096.
-        piece: usize,
+        piece: u32,
     },
 }
 
 /// Why words are refused.
-#[derive(Debug, Drop)]
+#[derive(Debug, Drop, Error)]
 pub enum LineFault {
     /// Memory ran out.
+    #[error("memory")]
     NoMemory,
     /// The words are no job; the text says why and what would be one, or is the help that was asked
     /// for.
+    #[error("{0}")]
     Usage(String),
 }
 
@@ -130,6 +133,7 @@ fn answer_program<'a>(alloc: Global) -> Result<Command<'a>, AllocError> {
         "answer",
         "Writes a target's answers to the standard input",
     )?
+    .bin_name("lanthovur answer")?
     .arg(blocks(alloc))
 }
 
@@ -137,6 +141,7 @@ fn serve_program<'a>(alloc: Global) -> Result<Command<'a>, AllocError> {
     Command::new(alloc, "serve")
         .about("Serves a target's disk on 127.0.0.1, one connection after another")
         .disable_version_flag(true)
+        .bin_name("lanthovur serve")?
         .arg(number(
             alloc,
             "port",
@@ -156,6 +161,7 @@ fn loop_program<'a>(alloc: Global) -> Result<Command<'a>, AllocError> {
     Command::new(alloc, "loop")
         .about("Does what a script on the standard input says, with both ends over a socket")
         .disable_version_flag(true)
+        .bin_name("lanthovur loop")?
         .arg(blocks(alloc))?
         .arg(number(
             alloc,
@@ -175,6 +181,7 @@ fn command<'a>(alloc: Global) -> Result<Command<'a>, AllocError> {
         .disable_version_flag(true)
         .disable_help_subcommand(true)
         .subcommand_required(true)
+        .bin_name("lanthovur")?
         .subcommand(program(
             alloc,
             "show",
@@ -224,7 +231,7 @@ fn work_of(alloc: Global, name: &str, asked: &ArgMatches<'_>) -> Result<Work, Li
     }
     if name == "answer" {
         return match asked.get_str("blocks").and_then(blocks_of) {
-            Some(blocks) => Ok(Work::Answer { blocks }),
+            Some(blocks) => Ok(Work::Answer(blocks)),
             None => Err(bad_number(alloc, answer_program(alloc), BAD_BLOCKS)),
         };
     }
@@ -278,13 +285,13 @@ fn loop_of(alloc: Global, asked: &ArgMatches<'_>) -> Result<Job, LineFault>
 }
 
 // The number of bytes that digits say, from 1 to 4096.
-fn piece_of(digits: &str) -> Option<usize>
+fn piece_of(digits: &str) -> Option<u32>
     ensures range { IfSome result (λ n. (0 < n) × (n ≤ 4096)) }
 {
     if !digits.bytes().all(|c| c.is_ascii_digit()) {
         return None;
     }
-    match digits.parse::<usize>() {
+    match digits.parse::<u32>() {
         Ok(piece) if 0 < piece && piece <= LONGEST_PIECE => Some(piece),
         _ => None,
     }

@@ -80,7 +80,7 @@ fn diskless(filter: Filter) -> Filter
         Work::Show => Work::Show,
         Work::Normalise => Work::Normalise,
         Work::Text => Work::Text,
-        Work::Answer { .. } => Work::Answer { blocks: 1 },
+        Work::Answer(_) => Work::Answer(1),
     };
     let hex = filter.hex;
     Filter { work, hex }

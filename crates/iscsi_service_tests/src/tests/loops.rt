@@ -84,7 +84,7 @@ const REFUSED: &[&str] = &[
 
 // How a script ends with a disk of 2048 blocks, in pieces of at most so many bytes, and what it
 // writes.
-fn run(rt: &HostRuntime, script: &[u8], most: usize) -> (Result<(), ServeFault>, Vec<u8>) {
+fn run(rt: &HostRuntime, script: &[u8], most: u32) -> (Result<(), ServeFault>, Vec<u8>) {
     let piece = most.max(1).min(LONGEST_PIECE);
     let mut source = script;
     let mut out = Vec::new(rt.alloc());
@@ -93,7 +93,7 @@ fn run(rt: &HostRuntime, script: &[u8], most: usize) -> (Result<(), ServeFault>,
 }
 
 // The line at which a script is refused, and how many bytes it writes.
-fn refusal_of(rt: &HostRuntime, script: &[u8], most: usize) -> (Option<u64>, usize) {
+fn refusal_of(rt: &HostRuntime, script: &[u8], most: u32) -> (Option<u64>, usize) {
     match run(rt, script, most) {
         (Err(ServeFault::Script(line)), out) => (Some(line), out.len()),
         (_, out) => (None, out.len()),

@@ -74,7 +74,7 @@ const SESSIONS: &[(&str, &str, &str, Result<(), ToolFault>)] = &[
 
 // What a target with eight blocks answers, and what it writes.
 fn answer(alloc: Global, hex: bool, input: &[u8]) -> (Result<(), ToolFault>, Vec<u8>) {
-    let work = Work::Answer { blocks: 8 };
+    let work = Work::Answer(8);
     let mut source = input;
     let mut out = Vec::new(alloc);
     let result = run_filter(alloc, Filter { work, hex }, &mut source, &mut out);
@@ -125,7 +125,7 @@ fn answers_to_streams(rt: HostRuntime) -> Result<(), Fail> {
 #[test]
 fn a_reader_and_a_writer_that_fail(rt: HostRuntime) -> Result<(), Fail> {
     let filter = Filter {
-        work: Work::Answer { blocks: 8 },
+        work: Work::Answer(8),
         hex: false,
     };
     let requests = bytes_of(rt.alloc(), REQUESTS)?;

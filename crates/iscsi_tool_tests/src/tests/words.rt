@@ -32,15 +32,15 @@ const JOBS: &[(&str, &str)] = &[
     ),
     (
         "answer --blocks 1",
-        "Filter(Filter { work: Answer { blocks: 1 }, hex: false })",
+        "Filter(Filter { work: Answer(1), hex: false })",
     ),
     (
         "answer --hex --blocks=65536",
-        "Filter(Filter { work: Answer { blocks: 65536 }, hex: true })",
+        "Filter(Filter { work: Answer(65536), hex: true })",
     ),
     (
         "answer --blocks 0008",
-        "Filter(Filter { work: Answer { blocks: 8 }, hex: false })",
+        "Filter(Filter { work: Answer(8), hex: false })",
     ),
     (
         "serve --port 3260 --blocks 2048 --sessions 5",
@@ -65,13 +65,14 @@ const JOBS: &[(&str, &str)] = &[
     ),
 ];
 
-const BLOCKS: &str = "error: '--blocks <N>' is a number from 1 to 65536\n\nUsage: ";
+const BLOCKS: &str = "error: '--blocks <N>' is a number from 1 to 65536\n\nUsage: lanthovur ";
 
-const PORT: &str = "error: '--port <P>' is a number from 0 to 65535\n\nUsage: serve";
+const PORT: &str = "error: '--port <P>' is a number from 0 to 65535\n\nUsage: lanthovur serve";
 
-const SESSIONS: &str = "error: '--sessions <n>' is a number from 0 to 65535\n\nUsage: serve";
+const SESSIONS: &str =
+    "error: '--sessions <n>' is a number from 0 to 65535\n\nUsage: lanthovur serve";
 
-const PIECE: &str = "error: '--piece <k>' is a number from 1 to 4096\n\nUsage: loop";
+const PIECE: &str = "error: '--piece <k>' is a number from 1 to 4096\n\nUsage: lanthovur loop";
 
 /// Words that are none, in which `''` is an empty word, and what the text begins with.
 const REFUSED: &[(&str, &str)] = &[
@@ -100,7 +101,7 @@ const REFUSED: &[(&str, &str)] = &[
     ),
     (
         "show -h x",
-        "Writes a line for each PDU of the standard input\n\nUsage: show",
+        "Writes a line for each PDU of the standard input\n\nUsage: lanthovur show",
     ),
     (
         "normalise --text --text",
@@ -204,7 +205,7 @@ const REFUSED: &[(&str, &str)] = &[
     ("--port 0", "error: unexpected argument '--port' found\n"),
     (
         "show --help",
-        "Writes a line for each PDU of the standard input\n\nUsage: show",
+        "Writes a line for each PDU of the standard input\n\nUsage: lanthovur show",
     ),
     ("help", "error: unrecognized subcommand 'help'\n"),
     (
