@@ -1,6 +1,6 @@
 -- What happens to an initiator, from call to call.
 use Rattle.std.specs.Prelude.{if◌then◌else◌, codes}
-use Rattle.std.proofs.Common.{◌≡◌, ◌⊎◌, inl, inr, ℕ, Bool, true, false, List, [], ◌∷◌, ◌++◌, length, map, Option, Some, None, Result, Ok, Err, IfErr, refl, sym, ap, subst, ◌∙◌, append_assoc, append-nil, arith}
+use Rattle.std.proofs.Common.{◌≡◌, ◌⊎◌, inl, inr, ℕ, Bool, true, false, List, [], ◌∷◌, ◌++◌, ◌+◌, length, map, take, Option, Some, None, Result, Ok, Err, IfErr, refl, sym, ap, subst, ◌∙◌, append_assoc, append-nil, arith}
 use Rattle.iscsi_stream.specs.Stream.{Message}
 use Rattle.iscsi_login.specs.declared.phase.Phase.{Phase}
 use Rattle.iscsi_login.specs.declared.phase.Phase.TheVariants as phases
@@ -15,14 +15,16 @@ use Rattle.iscsi_initiator.specs.Calls.{Connection, Starts, Feeds, Submits, Hear
 use Rattle.iscsi_initiator.specs.Laws.{Event, Meets, Comes, Asks, Takes, after, run, accepted, accepted_in, accepted_if, given, given_in, listed, AreOutcomesOf, IsOutcomeOf}
 use Rattle.iscsi_initiator.specs.Laws as laws
 use Rattle.iscsi_initiator.proofs.OutcomeLaws.{outcomes_in_order}
-use Rattle.std.specs.Io.KnownBytes.{Appends}
+use Rattle.std.specs.Io.KnownBytes.{Appends, IsAtEnd}
+use Rattle.iscsi_stream.specs.Normalising.{WroteFront}
 use Rattle.std.proofs.KnownBytes.{Appends-trans, Appends-nil}
 use Rattle.std.proofs.lemmas.List.{length-map, length-append, map-append}
 use Rattle.std.proofs.lemmas.List.Concat.{flat_map-append}
+use Rattle.std.proofs.Math.Seq.{take-append-add}
 use Rattle.iscsi_service.specs.declared.command.Command.{Command}
 use Rattle.iscsi_service.specs.Commands.{request_of, is_logout}
-use Rattle.iscsi_service.specs.Looping.{HaveOutcomes, FirstHaveOutcomes, Loops, StopsWithin, transcript, initiator_settings, up_to_logout, reports}
-use Rattle.iscsi_service.specs.LoopSteps.{Continues, IsOfSession, WritesNothing, Stops, Runs}
+use Rattle.iscsi_service.specs.Looping.{HaveOutcomes, FirstHaveOutcomes, Loops, ReadsFirst, StopsWithin, transcript, initiator_settings, up_to_logout, reports}
+use Rattle.iscsi_service.specs.LoopSteps.{Continues, Fails, IsOfSession, Stops, Runs}
 use Rattle.iscsi_service.specs.Reports.{report}
 use Rattle.iscsi_service.specs.Script.{IsScript, ScriptFails}
 use Rattle.iscsi_service.specs.declared.serve_fault.ServeFault.{ServeFault}
@@ -202,16 +204,43 @@ stops_at : (fault : ServeFault) → IsOfSession fault → (all rest : List Comma
 stops_at fault is all rest m contents_old contents_now contents_new d w =
     (is, (d.outcomes, done_first all rest m contents_old contents_now d, subst (λ (x : List ℕ). Appends contents_old contents_new x) (append-nil (reports d.outcomes)) (Appends-trans contents_old contents_now contents_new (reports d.outcomes) [] d.written w)))
 
+-- a front of what follows some bytes
+front_then : (a b c : Option (List ℕ)) (xs ys : List ℕ) → Appends a b xs → WroteFront b c ys → WroteFront a c (xs ++ ys)
+front_then a b c xs ys first w = (length xs + w.0, subst (λ (x : List ℕ). Appends a c x) (sym (take-append-add xs ys w.0)) (Appends-trans a b c xs (take w.0 ys) first w.1))
+
+-- what a command leaves to be done
+abbrev left_by : Bool → List Command → List Command
+left_by true more = []
+left_by false more = more
+
+left_at : (b : Bool) (command : Command) (more : List Command) → is_logout command ≡ b → up_to_logout (command ∷ more) ≡ command ∷ up_to_logout (left_by b more)
+left_at true command more is = ends_at command more is
+left_at false command more is = goes_on command more is
+
+-- the line of a command's outcome was written in part
+write_stops : (all rest more : List Command) (command : Command) (m n : Machine) (contents_old contents_now contents_new : Option (List ℕ)) → DoneSoFar all rest m contents_old contents_now
+    → rest ≡ command ∷ more → Fails serve.Write m command n contents_now contents_new → Stops serve.Write all contents_old contents_new
+unfolding done_more
+write_stops all rest more command m n contents_old contents_now contents_new d is w =
+    let unseen : DoneSoFar all rest m None None = record { front = d.front; outcomes = d.outcomes; course = d.course; same = d.same; runs = d.runs; written = tt } in
+    let left : List Command = left_by (is_logout command) more in
+    let next : DoneSoFar all left n None None = done_more all rest more command m n w.0 None None None unseen is w.1 tt left (left_at (is_logout command) command more refl) in (
+      d.outcomes ++ w.0 ∷ [],
+      done_first all left n None None next,
+      subst (λ (x : List ℕ). WroteFront contents_old contents_new x) (sym (flat_map-append report d.outcomes (w.0 ∷ []) ∙ ap (λ (x : List ℕ). reports d.outcomes ++ x) (append-nil (report w.0))))
+          (front_then contents_old contents_now contents_new (reports d.outcomes) (report w.0) d.written w.2),
+    )
+
 -- a fault of the next command
-pub done_stops : (fault : ServeFault) (all rest : List Command) (m : Machine) (contents_old contents_now contents_new : Option (List ℕ)) → DoneSoFar all rest m contents_old contents_now → WritesNothing fault contents_now contents_new
-    → Stops fault all contents_old contents_new
-done_stops serve.Write all rest m contents_old contents_now contents_new d w = (reports d.outcomes ++ w.0, Appends-trans contents_old contents_now contents_new (reports d.outcomes) w.0 d.written w.1)
-done_stops (serve.Script n) all rest m contents_old contents_now contents_new d w = absurd w.0
-done_stops serve.Read all rest m contents_old contents_now contents_new d w = absurd w.0
-done_stops serve.NoMemory all rest m contents_old contents_now contents_new d w = stops_at serve.NoMemory tt all rest m contents_old contents_now contents_new d w.1
-done_stops serve.Network all rest m contents_old contents_now contents_new d w = stops_at serve.Network tt all rest m contents_old contents_now contents_new d w.1
-done_stops (serve.Target fault) all rest m contents_old contents_now contents_new d w = stops_at (serve.Target fault) tt all rest m contents_old contents_now contents_new d w.1
-done_stops (serve.Initiator fault) all rest m contents_old contents_now contents_new d w = stops_at (serve.Initiator fault) tt all rest m contents_old contents_now contents_new d w.1
+pub done_stops : (fault : ServeFault) (all rest more : List Command) (command : Command) (m n : Machine) (contents_old contents_now contents_new : Option (List ℕ)) → DoneSoFar all rest m contents_old contents_now
+    → rest ≡ command ∷ more → Fails fault m command n contents_now contents_new → Stops fault all contents_old contents_new
+done_stops serve.Write all rest more command m n contents_old contents_now contents_new d is w = write_stops all rest more command m n contents_old contents_now contents_new d is w
+done_stops (serve.Script line) all rest more command m n contents_old contents_now contents_new d is w = absurd w.0
+done_stops serve.Read all rest more command m n contents_old contents_now contents_new d is w = absurd w.0
+done_stops serve.NoMemory all rest more command m n contents_old contents_now contents_new d is w = stops_at serve.NoMemory tt all rest m contents_old contents_now contents_new d w.1
+done_stops serve.Network all rest more command m n contents_old contents_now contents_new d is w = stops_at serve.Network tt all rest m contents_old contents_now contents_new d w.1
+done_stops (serve.Target fault) all rest more command m n contents_old contents_now contents_new d is w = stops_at (serve.Target fault) tt all rest m contents_old contents_now contents_new d w.1
+done_stops (serve.Initiator fault) all rest more command m n contents_old contents_now contents_new d is w = stops_at (serve.Initiator fault) tt all rest m contents_old contents_now contents_new d w.1
 
 -- ---- faults of a session
 
@@ -235,7 +264,7 @@ pub script_stops : (fault : ServeFault) (script : List ℕ) → ScriptFails faul
 script_stops (serve.Script n) script f = (f, refl)
 script_stops serve.NoMemory script f = inl refl
 script_stops serve.Read script f = refl
-script_stops serve.Write script f = tt
+script_stops serve.Write script f = absurd f
 script_stops serve.Network script f = inl refl
 script_stops (serve.Target fault) script f = absurd f
 script_stops (serve.Initiator fault) script f = absurd f
@@ -249,48 +278,67 @@ session_stops serve.Network script written is s = s
 session_stops (serve.Target fault) script written is s = s
 session_stops (serve.Initiator fault) script written is s = s
 
--- what a loop has written, and how it ends
-abbrev pub Leaves : Result (Unit {0}) ServeFault → List ℕ → Option (List ℕ) → Option (List ℕ) → Type 0
-Leaves result script contents_old contents_new = (written : List ℕ) × Appends contents_old contents_new written × Loops result script written
+-- ---- what a loop has read
+
+pub script_read : (fault : ServeFault) (script : List ℕ) (left : Option (List ℕ)) → ScriptFails fault script → ReadsFirst (Err fault) [] left
+script_read (serve.Script n) script left f = tt
+script_read serve.Read script left f = tt
+script_read serve.NoMemory script left f = inl refl
+script_read serve.Write script left f = absurd f
+script_read serve.Network script left f = absurd f
+script_read (serve.Target fault) script left f = absurd f
+script_read (serve.Initiator fault) script left f = absurd f
+
+session_read : (fault : ServeFault) (written : List ℕ) (left : Option (List ℕ)) → IsOfSession fault → IsAtEnd left → ReadsFirst (Err fault) written left
+session_read (serve.Script n) written left is end = absurd is
+session_read serve.Read written left is end = absurd is
+session_read serve.Write written left is end = absurd is
+session_read serve.NoMemory written left is end = inr end
+session_read serve.Network written left is end = end
+session_read (serve.Target fault) written left is end = end
+session_read (serve.Initiator fault) written left is end = end
+
+-- a session failed, and nothing was written
+pub session_ends : (fault : ServeFault) (script : List ℕ) (left : Option (List ℕ)) → IsOfSession fault → IsAtEnd left → Loops (Err fault) script [] × ReadsFirst (Err fault) [] left
+session_ends fault script left is end = (session_stops fault script [] is (inl refl), session_read fault [] left is end)
+
+-- what a loop has written and read, and how it ends
+abbrev pub Leaves : Result (Unit {0}) ServeFault → List ℕ → Option (List ℕ) → Option (List ℕ) → Option (List ℕ) → Type 0
+Leaves result script contents_old contents_new left =
+    (written : List ℕ) × Appends contents_old contents_new written × Loops result script written × ReadsFirst result written left
 
 abbrev login_line : List ℕ
 login_line = codes "login" ++ 0x0a ∷ []
 
-session_leaves : (fault : ServeFault) (script : List ℕ) (contents_old contents_new : Option (List ℕ)) → IsOfSession fault × Appends contents_old contents_new [] → Leaves (Err fault) script contents_old contents_new
-session_leaves fault script contents_old contents_new w = ([], w.1, session_stops fault script [] w.0 (inl refl))
-
--- the line of the login was not written
-pub login_stops : (fault : ServeFault) (script : List ℕ) (contents_old contents_new : Option (List ℕ)) → WritesNothing fault contents_old contents_new → Leaves (Err fault) script contents_old contents_new
-login_stops serve.Write script contents_old contents_new w = (w.0, w.1, tt)
-login_stops (serve.Script n) script contents_old contents_new w = session_leaves (serve.Script n) script contents_old contents_new w
-login_stops serve.NoMemory script contents_old contents_new w = session_leaves serve.NoMemory script contents_old contents_new w
-login_stops serve.Read script contents_old contents_new w = session_leaves serve.Read script contents_old contents_new w
-login_stops serve.Network script contents_old contents_new w = session_leaves serve.Network script contents_old contents_new w
-login_stops (serve.Target fault) script contents_old contents_new w = session_leaves (serve.Target fault) script contents_old contents_new w
-login_stops (serve.Initiator fault) script contents_old contents_new w = session_leaves (serve.Initiator fault) script contents_old contents_new w
+-- the line of the login was written in part
+pub login_stops : (fault : ServeFault) (script : List ℕ) (commands : List Command) (contents_old contents_new left : Option (List ℕ)) → IsScript script commands → IsAtEnd left → (fault ≡ serve.Write) × WroteFront contents_old contents_new login_line → Leaves (Err fault) script contents_old contents_new left
+login_stops fault script commands contents_old contents_new left is end w =
+    subst (λ (f : ServeFault). Leaves (Err f) script contents_old contents_new left) (sym w.0) (take w.1.0 login_line, w.1.1, (commands, [], is, tt, (w.1.0, refl)), end)
 
 within : (script : List ℕ) (commands : List Command) (outcomes : List Done) → IsScript script commands → FirstHaveOutcomes (up_to_logout commands) outcomes → StopsWithin script (transcript outcomes)
 within script commands outcomes is first = inr (commands, outcomes, is, first, refl)
 
-after_some : (fault : ServeFault) (script : List ℕ) (commands : List Command) (contents_old contents_now contents_new : Option (List ℕ)) → IsScript script commands → Appends contents_old contents_now login_line → AfterFirst fault commands contents_now contents_new → Leaves (Err fault) script contents_old contents_new
-after_some fault script commands contents_old contents_now contents_new is line s =
-    (transcript s.1.0, Appends-trans contents_old contents_now contents_new login_line (reports s.1.0) line s.1.2, session_stops fault script (transcript s.1.0) s.0 (within script commands s.1.0 is s.1.1))
+after_some : (fault : ServeFault) (script : List ℕ) (commands : List Command) (contents_old contents_now contents_new left : Option (List ℕ)) → IsScript script commands → IsAtEnd left → Appends contents_old contents_now login_line → AfterFirst fault commands contents_now contents_new → Leaves (Err fault) script contents_old contents_new left
+after_some fault script commands contents_old contents_now contents_new left is end line s =
+    (transcript s.1.0, Appends-trans contents_old contents_now contents_new login_line (reports s.1.0) line s.1.2, session_stops fault script (transcript s.1.0) s.0 (within script commands s.1.0 is s.1.1), session_read fault (transcript s.1.0) left s.0 end)
 
 -- a command failed
-pub commands_stop : (fault : ServeFault) (script : List ℕ) (commands : List Command) (contents_old contents_now contents_new : Option (List ℕ)) → IsScript script commands → Appends contents_old contents_now login_line → Stops fault commands contents_now contents_new → Leaves (Err fault) script contents_old contents_new
-commands_stop serve.Write script commands contents_old contents_now contents_new is line s = (login_line ++ s.0, Appends-trans contents_old contents_now contents_new login_line s.0 line s.1, tt)
-commands_stop (serve.Script n) script commands contents_old contents_now contents_new is line s = after_some (serve.Script n) script commands contents_old contents_now contents_new is line s
-commands_stop serve.NoMemory script commands contents_old contents_now contents_new is line s = after_some serve.NoMemory script commands contents_old contents_now contents_new is line s
-commands_stop serve.Read script commands contents_old contents_now contents_new is line s = after_some serve.Read script commands contents_old contents_now contents_new is line s
-commands_stop serve.Network script commands contents_old contents_now contents_new is line s = after_some serve.Network script commands contents_old contents_now contents_new is line s
-commands_stop (serve.Target fault) script commands contents_old contents_now contents_new is line s = after_some (serve.Target fault) script commands contents_old contents_now contents_new is line s
-commands_stop (serve.Initiator fault) script commands contents_old contents_now contents_new is line s = after_some (serve.Initiator fault) script commands contents_old contents_now contents_new is line s
+pub commands_stop : (fault : ServeFault) (script : List ℕ) (commands : List Command) (contents_old contents_now contents_new left : Option (List ℕ)) → IsScript script commands → IsAtEnd left → Appends contents_old contents_now login_line → Stops fault commands contents_now contents_new → Leaves (Err fault) script contents_old contents_new left
+commands_stop serve.Write script commands contents_old contents_now contents_new left is end line s =
+    let w : WroteFront contents_old contents_new (transcript s.0) = front_then contents_old contents_now contents_new login_line (reports s.0) line s.2 in
+    (take w.0 (transcript s.0), w.1, (commands, s.0, is, s.1, (w.0, refl)), end)
+commands_stop (serve.Script n) script commands contents_old contents_now contents_new left is end line s = after_some (serve.Script n) script commands contents_old contents_now contents_new left is end line s
+commands_stop serve.NoMemory script commands contents_old contents_now contents_new left is end line s = after_some serve.NoMemory script commands contents_old contents_now contents_new left is end line s
+commands_stop serve.Read script commands contents_old contents_now contents_new left is end line s = after_some serve.Read script commands contents_old contents_now contents_new left is end line s
+commands_stop serve.Network script commands contents_old contents_now contents_new left is end line s = after_some serve.Network script commands contents_old contents_now contents_new left is end line s
+commands_stop (serve.Target fault) script commands contents_old contents_now contents_new left is end line s = after_some (serve.Target fault) script commands contents_old contents_now contents_new left is end line s
+commands_stop (serve.Initiator fault) script commands contents_old contents_now contents_new left is end line s = after_some (serve.Initiator fault) script commands contents_old contents_now contents_new left is end line s
 
 -- all commands are done, and the connection is closed
-pub commands_end : (result : Result (Unit {0}) ServeFault) (script : List ℕ) (commands : List Command) (contents_old contents_now contents_new : Option (List ℕ)) → IfErr result IsOfSession → IsScript script commands → Appends contents_old contents_now login_line → Runs commands contents_now contents_new
-    → Leaves result script contents_old contents_new
-commands_end (Ok done) script commands contents_old contents_now contents_new err is line r =
-    (transcript r.0, Appends-trans contents_old contents_now contents_new login_line (reports r.0) line r.2, (commands, r.0, is, r.1, refl))
-commands_end (Err fault) script commands contents_old contents_now contents_new err is line r =
+pub commands_end : (result : Result (Unit {0}) ServeFault) (script : List ℕ) (commands : List Command) (contents_old contents_now contents_new left : Option (List ℕ)) → IfErr result IsOfSession → IsScript script commands → IsAtEnd left → Appends contents_old contents_now login_line → Runs commands contents_now contents_new
+    → Leaves result script contents_old contents_new left
+commands_end (Ok done) script commands contents_old contents_now contents_new left err is end line r =
+    (transcript r.0, Appends-trans contents_old contents_now contents_new login_line (reports r.0) line r.2, (commands, r.0, is, r.1, refl), end)
+commands_end (Err fault) script commands contents_old contents_now contents_new left err is end line r =
     let first : FirstHaveOutcomes (up_to_logout commands) r.0 = subst (λ (cs : List Command). FirstHaveOutcomes cs r.0) (append-nil (up_to_logout commands)) (first_have (up_to_logout commands) [] r.0 r.1) in
-    after_some fault script commands contents_old contents_now contents_new is line (err, (r.0, first, r.2))
+    after_some fault script commands contents_old contents_now contents_new left is end line (err, (r.0, first, r.2))

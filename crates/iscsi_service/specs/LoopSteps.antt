@@ -1,5 +1,5 @@
 -- The steps of a loop: what they write, and what happens to the initiator (own rule).
-use Rattle.std.specs.Prelude.{◌≡◌, List, [], ℕ, Option}
+use Rattle.std.specs.Prelude.{◌≡◌, List, [], ◌∷◌, ℕ, Option}
 use Rattle.std.specs.Io.KnownBytes.{Appends}
 use Rattle.iscsi_initiator.specs.declared.fault.InitiatorFault.TheVariants as initiator
 use Rattle.iscsi_initiator.specs.declared.request.Done.{Done}
@@ -11,6 +11,9 @@ use Rattle.iscsi_initiator.specs.Laws.{Event, run, accepted, given}
 use Rattle.iscsi_service.specs.declared.command.Command.{Command}
 use Rattle.iscsi_service.specs.declared.serve_fault.ServeFault.{ServeFault}
 use Rattle.iscsi_service.specs.declared.serve_fault.ServeFault.TheVariants as serve
+use Rattle.iscsi_stream.specs.Normalising.{WroteFront}
+use Rattle.iscsi_service.specs.Commands.{request_of}
+use Rattle.iscsi_service.specs.Reports.{report}
 use Rattle.iscsi_service.specs.Looping.{HaveOutcomes, FirstHaveOutcomes, reports, up_to_logout}
 
 -- The faults of the session itself (own rule).
@@ -29,18 +32,12 @@ abbrev pub refusal_fault : SubmitFault → ServeFault
 refusal_fault refusals.NoMemory = serve.NoMemory
 refusal_fault _ = serve.Initiator initiator.Closed
 
--- A session's fault comes before anything is written, and a failed write may have written something
--- (own rule).
-abbrev pub WritesNothing : ServeFault → Option (List ℕ) → Option (List ℕ) → Type 0
-WritesNothing serve.Write contents_old contents_new =
-    (written : List ℕ) × Appends contents_old contents_new written
-WritesNothing fault contents_old contents_new =
-    IsOfSession fault × Appends contents_old contents_new []
-
--- A session's fault comes behind the lines of the first commands' outcomes (own rule).
+-- A session's fault comes behind the lines of the first commands' outcomes, and a failed write
+-- leaves a front of such lines (own rule).
 abbrev pub Stops : ServeFault → List Command → Option (List ℕ) → Option (List ℕ) → Type 0
 Stops serve.Write commands contents_old contents_new =
-    (written : List ℕ) × Appends contents_old contents_new written
+    (outcomes : List Done) × FirstHaveOutcomes (up_to_logout commands) outcomes
+    × WroteFront contents_old contents_new (reports outcomes)
 Stops fault commands contents_old contents_new = IsOfSession fault
     × ((outcomes : List Done) × FirstHaveOutcomes (up_to_logout commands) outcomes
     × Appends contents_old contents_new (reports outcomes))
@@ -62,3 +59,12 @@ pub record Continues (old : Machine) (asked : List Request) (taken : List Done) 
   pub reached : new ≡ run old events
   pub requests : accepted old events ≡ asked
   pub outcomes : given old events ≡ taken
+
+-- A command's fault: one of the session comes before its line is written, and a failed write leaves
+-- a front of the line of an outcome that the initiator gave (own rule).
+abbrev pub Fails : ServeFault → Machine → Command → Machine → Option (List ℕ) → Option (List ℕ) → Type 0
+Fails serve.Write old command new contents_old contents_new =
+    (done : Done) × Continues old (request_of command ∷ []) (done ∷ []) new
+    × WroteFront contents_old contents_new (report done)
+Fails fault old command new contents_old contents_new =
+    IsOfSession fault × Appends contents_old contents_new []

@@ -1,5 +1,6 @@
 -- A session of an initiator and a target, as a script says (own rule).
-use Rattle.std.specs.Prelude.{◌≡◌, ◌⊎◌, ℕ, List, [], ◌∷◌, ◌++◌, Result, Ok, Err, codes, if◌then◌else◌}
+use Rattle.std.specs.Prelude.{◌≡◌, ◌⊎◌, ℕ, List, [], ◌∷◌, ◌++◌, take, Option, Result, Ok, Err, codes, if◌then◌else◌}
+use Rattle.std.specs.Io.KnownBytes.{IsAtEnd}
 use Rattle.std.specs.List.{flat_map}
 use Rattle.iscsi_login.specs.declared.stage.Session.TheVariants.{Normal}
 use Rattle.iscsi_login.specs.declared.stage.Stage.TheVariants.{Security}
@@ -73,14 +74,28 @@ StopsWithin script written = (written ≡ [])
     ⊎ ((commands : List Command) × (outcomes : List Done) × IsScript script commands
     × FirstHaveOutcomes (up_to_logout commands) outcomes × (written ≡ transcript outcomes))
 
--- What is written where a loop ends; after a failed write nothing is said of it (own rule).
+-- A front of the lines of the login and of the first commands' outcomes (own rule).
+abbrev pub WritesFront : List ℕ → List ℕ → Type 0
+WritesFront script written =
+    (commands : List Command) × (outcomes : List Done) × IsScript script commands
+    × FirstHaveOutcomes (up_to_logout commands) outcomes
+    × ((n : ℕ) × (written ≡ take n (transcript outcomes)))
+
+-- What is written where a loop ends (own rule).
 abbrev pub Loops : Result (Unit {0}) ServeFault → List ℕ → List ℕ → Type 0
 Loops (Ok done) script written = DoesScript script written
 Loops (Err (serve.Script n)) script written =
     ScriptFails (serve.Script n) script × (written ≡ [])
-Loops (Err serve.Write) script written = Unit {0}
+Loops (Err serve.Write) script written = WritesFront script written
 Loops (Err serve.Read) script written = written ≡ []
 Loops (Err serve.NoMemory) script written = StopsWithin script written
 Loops (Err serve.Network) script written = StopsWithin script written
 Loops (Err (serve.Target fault)) script written = StopsWithin script written
 Loops (Err (serve.Initiator fault)) script written = StopsWithin script written
+
+-- The script is read to its end before anything is sent or written (own rule).
+abbrev pub ReadsFirst : Result (Unit {0}) ServeFault → List ℕ → Option (List ℕ) → Type 0
+ReadsFirst (Err (serve.Script n)) written left = Unit {0}
+ReadsFirst (Err serve.Read) written left = Unit {0}
+ReadsFirst (Err serve.NoMemory) written left = (written ≡ []) ⊎ IsAtEnd left
+ReadsFirst result written left = IsAtEnd left

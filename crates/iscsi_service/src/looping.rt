@@ -9,8 +9,9 @@ ghost use Rattle.iscsi_initiator.specs.declared.request.Done.{Done};
 ghost use Rattle.iscsi_service.specs.declared.serve_fault.ServeFault.TheVariants as serve;
 ghost use Rattle.iscsi_service.specs.Reports.{report};
 ghost use Rattle.iscsi_service.specs.Commands.{request_of};
-ghost use Rattle.iscsi_service.specs.Looping.{initiator_settings, Loops};
-ghost use Rattle.iscsi_service.specs.LoopSteps.{Continues, IsOfSession, Runs, Stops, WritesNothing, refusal_fault};
+ghost use Rattle.iscsi_stream.specs.Normalising.{WroteFront};
+ghost use Rattle.iscsi_service.specs.Looping.{initiator_settings, Loops, ReadsFirst};
+ghost use Rattle.iscsi_service.specs.LoopSteps.{Continues, Fails, IsOfSession, Runs, Stops, refusal_fault};
 
 use crate::command::Command;
 use crate::report::report;
@@ -68,7 +69,7 @@ pub fn run_loop<R: Read, W: Write>(
     ensures loops { (script : List ℕ) × (written : List ℕ)
         × Consumes (R.remaining r.old) (R.remaining r.new) script
         × Appends (W.contents w.old) (W.contents w.new) written
-        × Loops result script written }
+        × Loops result script written × ReadsFirst result written (R.remaining r.new) }
 {
     let commands = read_script(rt.alloc(), r)?;
     let mut ends = Ends::open(rt, blocks, piece as usize)?;
@@ -105,8 +106,8 @@ fn run_command<W: Write>(ends: &mut Ends, command: Command, w: &mut W) -> Result
         × Continues ends.old.initiator.machine (request_of command ∷ []) (done ∷ [])
         ends.new.initiator.machine
         × Appends (W.contents w.old) (W.contents w.new) (report done)) }
-    ensures err { IfErr result (λ fault.
-        WritesNothing fault (W.contents w.old) (W.contents w.new)) }
+    ensures err { IfErr result (λ fault. Fails fault ends.old.initiator.machine command
+        ends.new.initiator.machine (W.contents w.old) (W.contents w.new)) }
 {
     let alloc = ends.alloc;
     let done = ends.perform(command)?;
@@ -116,8 +117,8 @@ fn run_command<W: Write>(ends: &mut Ends, command: Command, w: &mut W) -> Result
 // Writes a line.
 fn write_line<W: Write>(w: &mut W, line: &[u8]) -> Result<(), ServeFault>
     ensures ok { OnOk result (Appends (W.contents w.old) (W.contents w.new) line.now) }
-    ensures err { IfErr result (λ fault.
-        WritesNothing fault (W.contents w.old) (W.contents w.new)) }
+    ensures err { IfErr result (λ fault. (fault ≡ serve.Write)
+        × WroteFront (W.contents w.old) (W.contents w.new) line.now) }
 {
     match write_fully(w, line) {
         Ok(()) => Ok(()),

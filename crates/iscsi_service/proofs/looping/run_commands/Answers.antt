@@ -22,7 +22,7 @@ pub returns-in_err-run_command-clause-err : goal.returns-in_err-run_command-clau
 returns-in_err-run_command-clause-err g c =
     let p = err_from_is_err_and c.from_residual.result c.from_residual.ensures.1 in
     let at = c.loop-command in
-    rw (p.1, p.2) (done_stops _ c.args.commands.items (into_iter_items at.command-iterator) at.ends.initiator.machine (g.W.Write.contents c.args.w.now) (g.W.Write.contents at.w) (g.W.Write.contents c.run_command.new.w) at.invariant.0 c.in_err-run_command.ensures.err)
+    rw (p.1, p.2) (done_stops _ c.args.commands.items (into_iter_items at.command-iterator) (into_iter_items c.next.new.self) c.in-Some.command at.ends.initiator.machine c.run_command.new.ends.initiator.machine (g.W.Write.contents c.args.w.now) (g.W.Write.contents at.w) (g.W.Write.contents c.run_command.new.w) at.invariant.0 c.in-Some.ensures.steps.0 c.in_err-run_command.ensures.err)
 
 pub returns-then-is_logout-clause-runs : goal.returns-then-is_logout-clause-runs
 returns-then-is_logout-clause-runs g c =
