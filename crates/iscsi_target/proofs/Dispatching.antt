@@ -30,10 +30,17 @@ use Rattle.iscsi_target.specs.Machine.{is_due_kind, handled, accepting, has_writ
 use Rattle.iscsi_target.specs.Inside.{GivesUp}
 
 -- a PDU with no text means its bytes
-plain : (c : Bool) (hd : Head) (bytes : List ℕ) → is_last hd ≡ false → segment_bytes (message c hd bytes).segment ≡ bytes
+plain_at : (c : Bool) (hd : Head) (bytes : List ℕ) → is_last hd ≡ false → segment_bytes (message c hd bytes).segment ≡ bytes
 unfolding segment_of segment_bytes
-plain true hd bytes e = refl
-plain false hd bytes e = rw e refl
+plain_at true hd bytes e = refl
+plain_at false hd bytes e = rw e refl
+
+plain : (c : Bool) (hd : Head) (bytes : List ℕ) (m : Message) (is : message c hd bytes ≡ m) → is_last hd ≡ false → segment_bytes m.segment ≡ bytes
+plain c hd bytes m is e = ap (λ (x : Message). segment_bytes x.segment) (sym is) ∙ plain_at c hd bytes e
+
+-- a message has the head of its PDU
+pub head_of : (c : Bool) (hd : Head) (bytes : List ℕ) (m : Message) (is : message c hd bytes ≡ m) → m.head ≡ hd
+head_of c hd bytes m is = ap (λ (x : Message). x.head) (sym is)
 
 pub gives_up_if : {A E : Type 0} (result : Result A E) (n : ℕ) (old new : Machine) (disk : Disk) (before after : List ℕ) → OnErr result (closed new ≡ closed old) → OnErr result (after ≡ before)
     → OnErr result (GivesUp n n old new disk disk before after)
@@ -46,33 +53,37 @@ closes_same (Err x) old new e = ap closed e
 
 -- ---- a request that is accepted
 
-pub handles_ping : (d : Device) (s : Machine) (disk : Disk) (c : Bool) (hd : Head) (bytes : List ℕ) (h : Ping) → hd ≡ NopOut h → handled d s disk (message c hd bytes) hd ≡ on disk (nop_out s h bytes)
-handles_ping d s disk c hd bytes h e = ap (handled d s disk (message c hd bytes)) e ∙ ap (λ (b : List ℕ). on disk (nop_out s h b)) (plain c hd bytes (ap is_last e))
+pub handles_ping : (d : Device) (s : Machine) (disk : Disk) (c : Bool) (hd : Head) (bytes : List ℕ) (m : Message) (is : message c hd bytes ≡ m) (h : Ping) → hd ≡ NopOut h → handled d s disk m m.head ≡ on disk (nop_out s h bytes)
+handles_ping d s disk c hd bytes m is h e = ap (handled d s disk m) (head_of c hd bytes m is ∙ e) ∙ ap (λ (b : List ℕ). on disk (nop_out s h b)) (plain c hd bytes m is (ap is_last e))
 
-pub handles_task : (d : Device) (s : Machine) (disk : Disk) (c : Bool) (hd : Head) (bytes : List ℕ) (h : Task) → hd ≡ TaskRequest h → handled d s disk (message c hd bytes) hd ≡ on disk (task_request s h)
-handles_task d s disk c hd bytes h e = ap (handled d s disk (message c hd bytes)) e
+pub handles_task : (d : Device) (s : Machine) (disk : Disk) (c : Bool) (hd : Head) (bytes : List ℕ) (m : Message) (is : message c hd bytes ≡ m) (h : Task) → hd ≡ TaskRequest h → handled d s disk m m.head ≡ on disk (task_request s h)
+handles_task d s disk c hd bytes m is h e = ap (handled d s disk m) (head_of c hd bytes m is ∙ e)
 
-pub handles_text : (d : Device) (s : Machine) (disk : Disk) (c : Bool) (hd : Head) (bytes : List ℕ) (h : TextPdu) → hd ≡ TextRequest h
-    → handled d s disk (message c hd bytes) hd ≡ on disk (text_request s (message c hd bytes) h bytes)
-handles_text d s disk c hd bytes h e = ap (handled d s disk (message c hd bytes)) e ∙ ap (λ (b : List ℕ). on disk (text_request s (message c hd bytes) h b)) (plain c hd bytes (ap is_last e))
+pub handles_text : (d : Device) (s : Machine) (disk : Disk) (c : Bool) (hd : Head) (bytes : List ℕ) (m : Message) (is : message c hd bytes ≡ m) (h : TextPdu) → hd ≡ TextRequest h
+    → handled d s disk m m.head ≡ on disk (text_request s m h bytes)
+handles_text d s disk c hd bytes m is h e = ap (handled d s disk m) (head_of c hd bytes m is ∙ e) ∙ ap (λ (b : List ℕ). on disk (text_request s m h b)) (plain c hd bytes m is (ap is_last e))
 
-pub handles_logout : (d : Device) (s : Machine) (disk : Disk) (c : Bool) (hd : Head) (bytes : List ℕ) (h : Logout) → hd ≡ LogoutRequest h
-    → handled d s disk (message c hd bytes) hd ≡ on disk (logout_request s (message c hd bytes) h)
-handles_logout d s disk c hd bytes h e = ap (handled d s disk (message c hd bytes)) e
+pub handles_logout : (d : Device) (s : Machine) (disk : Disk) (c : Bool) (hd : Head) (bytes : List ℕ) (m : Message) (is : message c hd bytes ≡ m) (h : Logout) → hd ≡ LogoutRequest h
+    → handled d s disk m m.head ≡ on disk (logout_request s m h)
+handles_logout d s disk c hd bytes m is h e = ap (handled d s disk m) (head_of c hd bytes m is ∙ e)
 
-pub handles_command : (d : Device) (s : Machine) (disk : Disk) (c : Bool) (hd : Head) (bytes : List ℕ) (h : Command) → hd ≡ ScsiCommand h
-    → scsi_command d s disk (message c hd bytes) h bytes ≡ handled d s disk (message c hd bytes) hd
-handles_command d s disk c hd bytes h e =
-    sym (ap (handled d s disk (message c hd bytes)) e ∙ ap (λ (b : List ℕ). scsi_command d s disk (message c hd bytes) h b) (plain c hd bytes (ap is_last e)))
+pub handles_command : (d : Device) (s : Machine) (disk : Disk) (c : Bool) (hd : Head) (bytes : List ℕ) (m : Message) (is : message c hd bytes ≡ m) (h : Command) → hd ≡ ScsiCommand h
+    → scsi_command d s disk m h bytes ≡ handled d s disk m m.head
+handles_command d s disk c hd bytes m is h e =
+    sym (ap (handled d s disk m) (head_of c hd bytes m is ∙ e) ∙ ap (λ (b : List ℕ). scsi_command d s disk m h b) (plain c hd bytes m is (ap is_last e)))
 
-pub handles_other : (d : Device) (s : Machine) (disk : Disk) (m : Message) (hd : Head) → ((h : Ping) → hd ≡ NopOut h → ⊥) → ((h : Command) → hd ≡ ScsiCommand h → ⊥) → ((h : Task) → hd ≡ TaskRequest h → ⊥)
+other_kind : (d : Device) (s : Machine) (disk : Disk) (m : Message) (hd : Head) → ((h : Ping) → hd ≡ NopOut h → ⊥) → ((h : Command) → hd ≡ ScsiCommand h → ⊥) → ((h : Task) → hd ≡ TaskRequest h → ⊥)
     → ((h : TextPdu) → hd ≡ TextRequest h → ⊥) → ((h : Logout) → hd ≡ LogoutRequest h → ⊥) → handled d s disk m hd ≡ on disk (breach s kind_not_due m)
-handles_other d s disk m (heads.NopOut h) a b e f g = absurd (a h refl)
-handles_other d s disk m (heads.ScsiCommand h) a b e f g = absurd (b h refl)
-handles_other d s disk m (heads.TaskRequest h) a b e f g = absurd (e h refl)
-handles_other d s disk m (heads.TextRequest h) a b e f g = absurd (f h refl)
-handles_other d s disk m (heads.LogoutRequest h) a b e f g = absurd (g h refl)
-handles_other d s disk m _ a b e f g = refl
+other_kind d s disk m (heads.NopOut h) a b e f g = absurd (a h refl)
+other_kind d s disk m (heads.ScsiCommand h) a b e f g = absurd (b h refl)
+other_kind d s disk m (heads.TaskRequest h) a b e f g = absurd (e h refl)
+other_kind d s disk m (heads.TextRequest h) a b e f g = absurd (f h refl)
+other_kind d s disk m (heads.LogoutRequest h) a b e f g = absurd (g h refl)
+other_kind d s disk m _ a b e f g = refl
+
+pub handles_other : (d : Device) (s : Machine) (disk : Disk) (c : Bool) (hd : Head) (bytes : List ℕ) (m : Message) (is : message c hd bytes ≡ m) → ((h : Ping) → hd ≡ NopOut h → ⊥) → ((h : Command) → hd ≡ ScsiCommand h → ⊥) → ((h : Task) → hd ≡ TaskRequest h → ⊥)
+    → ((h : TextPdu) → hd ≡ TextRequest h → ⊥) → ((h : Logout) → hd ≡ LogoutRequest h → ⊥) → handled d s disk m m.head ≡ on disk (breach s kind_not_due m)
+handles_other d s disk c hd bytes m is a b e f g = ap (handled d s disk m) (head_of c hd bytes m is) ∙ other_kind d s disk m hd a b e f g
 
 -- ---- the order of requests
 
@@ -95,10 +106,10 @@ inside d s disk m n b is e = sym (ap (λ (x : Bool). if x then accepting m (hand
 
 -- ---- any PDU
 
-pub data_is_due : (d : Device) (s : Machine) (disk : Disk) (c : Bool) (hd : Head) (bytes : List ℕ) (h : DataPdu) → hd ≡ DataOut h
-    → data_out d s disk (message c hd bytes) h bytes ≡ due_step d s disk (message c hd bytes) hd
-data_is_due d s disk c hd bytes h e =
-    sym (ap (due_step d s disk (message c hd bytes)) e ∙ ap (λ (b : List ℕ). data_out d s disk (message c hd bytes) h b) (plain c hd bytes (ap is_last e)))
+pub data_is_due : (d : Device) (s : Machine) (disk : Disk) (c : Bool) (hd : Head) (bytes : List ℕ) (m : Message) (is : message c hd bytes ≡ m) (h : DataPdu) → hd ≡ DataOut h
+    → data_out d s disk m h bytes ≡ due_step d s disk m m.head
+data_is_due d s disk c hd bytes m is h e =
+    sym (ap (due_step d s disk m) (head_of c hd bytes m is ∙ e) ∙ ap (λ (b : List ℕ). data_out d s disk m h b) (plain c hd bytes m is (ap is_last e)))
 
 due_plain : (session : Session) (hd : Head) → is_due_kind session hd ≡ true → is_last hd ≡ false
 due_plain session (heads.LoginRequest h) e = absurd cc
@@ -111,19 +122,22 @@ if_due d s disk m b = if not b then on disk (breach s kind_not_due m) else (if i
 abbrev if_long : Device → Machine → Disk → Message → Bool → Stepped
 if_long d s disk m b = if b then on disk (breach s segment_too_long m) else due_step d s disk m m.head
 
-pub not_due : (d : Device) (s : Machine) (disk : Disk) (c : Bool) (hd : Head) (bytes : List ℕ) → is_due_kind s.session hd ≡ false → full_step d s disk (message c hd bytes) ≡ on disk (breach s kind_not_due (message c hd bytes))
-not_due d s disk c hd bytes e = ap (if_due d s disk (message c hd bytes)) e
+due_of : (session : Session) (c : Bool) (hd : Head) (bytes : List ℕ) (m : Message) (is : message c hd bytes ≡ m) → is_due_kind session m.head ≡ is_due_kind session hd
+due_of session c hd bytes m is = ap (is_due_kind session) (head_of c hd bytes m is)
 
-too_long_is : (s : Machine) (c : Bool) (hd : Head) (bytes : List ℕ) → is_due_kind s.session hd ≡ true → is_too_long s (message c hd bytes) ≡ nat_lt s.held.target_max_recv (length bytes)
-too_long_is s c hd bytes e = ap (λ (b : List ℕ). nat_lt s.held.target_max_recv (length b)) (plain c hd bytes (due_plain s.session hd e))
+pub not_due : (d : Device) (s : Machine) (disk : Disk) (c : Bool) (hd : Head) (bytes : List ℕ) (m : Message) (is : message c hd bytes ≡ m) → is_due_kind s.session hd ≡ false → full_step d s disk m ≡ on disk (breach s kind_not_due m)
+not_due d s disk c hd bytes m is e = ap (if_due d s disk m) (due_of s.session c hd bytes m is ∙ e)
 
-pub due_too_long : (d : Device) (s : Machine) (disk : Disk) (c : Bool) (hd : Head) (bytes : List ℕ) → is_due_kind s.session hd ≡ true → nat_lt s.held.target_max_recv (length bytes) ≡ true
-    → full_step d s disk (message c hd bytes) ≡ on disk (breach s segment_too_long (message c hd bytes))
-due_too_long d s disk c hd bytes e f = ap (if_due d s disk (message c hd bytes)) e ∙ ap (if_long d s disk (message c hd bytes)) (too_long_is s c hd bytes e ∙ f)
+too_long_is : (s : Machine) (c : Bool) (hd : Head) (bytes : List ℕ) (m : Message) (is : message c hd bytes ≡ m) → is_due_kind s.session hd ≡ true → is_too_long s m ≡ nat_lt s.held.target_max_recv (length bytes)
+too_long_is s c hd bytes m is e = ap (λ (b : List ℕ). nat_lt s.held.target_max_recv (length b)) (plain c hd bytes m is (due_plain s.session hd e))
 
-pub due_served : (d : Device) (s : Machine) (disk : Disk) (c : Bool) (hd : Head) (bytes : List ℕ) → is_due_kind s.session hd ≡ true → nat_lt s.held.target_max_recv (length bytes) ≡ false
-    → due_step d s disk (message c hd bytes) hd ≡ full_step d s disk (message c hd bytes)
-due_served d s disk c hd bytes e f = sym (ap (if_due d s disk (message c hd bytes)) e ∙ ap (if_long d s disk (message c hd bytes)) (too_long_is s c hd bytes e ∙ f))
+pub due_too_long : (d : Device) (s : Machine) (disk : Disk) (c : Bool) (hd : Head) (bytes : List ℕ) (m : Message) (is : message c hd bytes ≡ m) → is_due_kind s.session hd ≡ true → nat_lt s.held.target_max_recv (length bytes) ≡ true
+    → full_step d s disk m ≡ on disk (breach s segment_too_long m)
+due_too_long d s disk c hd bytes m is e f = ap (if_due d s disk m) (due_of s.session c hd bytes m is ∙ e) ∙ ap (if_long d s disk m) (too_long_is s c hd bytes m is e ∙ f)
+
+pub due_served : (d : Device) (s : Machine) (disk : Disk) (c : Bool) (hd : Head) (bytes : List ℕ) (m : Message) (is : message c hd bytes ≡ m) → is_due_kind s.session hd ≡ true → nat_lt s.held.target_max_recv (length bytes) ≡ false
+    → due_step d s disk m m.head ≡ full_step d s disk m
+due_served d s disk c hd bytes m is e f = sym (ap (if_due d s disk m) (due_of s.session c hd bytes m is ∙ e) ∙ ap (if_long d s disk m) (too_long_is s c hd bytes m is e ∙ f))
 
 over_text : (s : Machine) (t : Option Pairs) (bytes : List ℕ) → length bytes ≤ limit s.settings → is_over_limit s (text_or_bytes t bytes) ≡ false
 over_text s None bytes le = le-ltb (limit s.settings) (length bytes) le
@@ -133,16 +147,15 @@ over_if : (s : Machine) (b : Bool) (bytes : List ℕ) → length bytes ≤ limit
 over_if s true bytes le = over_text s (text_in bytes) bytes le
 over_if s false bytes le = le-ltb (limit s.settings) (length bytes) le
 
-over_none : (s : Machine) (c : Bool) (hd : Head) (bytes : List ℕ) → length bytes ≤ limit s.settings → is_over_limit s (message c hd bytes).segment ≡ false
+pub over_none : (s : Machine) (c : Bool) (hd : Head) (bytes : List ℕ) → length bytes ≤ limit s.settings → is_over_limit s (message c hd bytes).segment ≡ false
 unfolding segment_of
 over_none s c hd bytes le = over_if s (not c && is_last hd) bytes le
 
 abbrev if_over : Device → Machine → Disk → Message → Bool → Stepped
 if_over d s disk m b = if b then on disk (shut s None) else phase_step d s.phase s disk m
 
-pub live_step : (d : Device) (s : Machine) (disk : Disk) (c : Bool) (hd : Head) (bytes : List ℕ) (phase : Phase) → is_closed s ≡ false → length bytes ≤ limit s.settings → s.phase ≡ phase
-    → step_on d s disk (message c hd bytes) ≡ phase_step d phase s disk (message c hd bytes)
-live_step d s disk c hd bytes phase live le is =
-    ap (λ (b : Bool). if b then on disk (nothing s) else (if is_over_limit s (message c hd bytes).segment then on disk (shut s None) else phase_step d s.phase s disk (message c hd bytes))) live
-    ∙ ap (if_over d s disk (message c hd bytes)) (over_none s c hd bytes le)
-    ∙ ap (λ (p : Phase). phase_step d p s disk (message c hd bytes)) is
+pub live_step : (d : Device) (s : Machine) (disk : Disk) (m : Message) (phase : Phase) → is_closed s ≡ false → is_over_limit s m.segment ≡ false → s.phase ≡ phase → step_on d s disk m ≡ phase_step d phase s disk m
+live_step d s disk m phase live within is =
+    ap (λ (b : Bool). if b then on disk (nothing s) else (if is_over_limit s m.segment then on disk (shut s None) else phase_step d s.phase s disk m)) live
+    ∙ ap (if_over d s disk m) within
+    ∙ ap (λ (p : Phase). phase_step d p s disk m) is

@@ -2,7 +2,6 @@
 
 ghost use Rattle.std.specs.Prelude.{◌≡◌, ◌<◌, ◌^◌, length, OnOk, OnErr, IfOk, None, Some};
 ghost use Rattle.iscsi_pdu.specs.Meaning.{Fits};
-ghost use Rattle.iscsi_stream.specs.Stream.{message};
 ghost use Rattle.iscsi_target.specs.State.{opening, max_cmd_sn, say, counted, closed};
 ghost use Rattle.iscsi_target.specs.Transfer.{joined};
 ghost use Rattle.iscsi_target.specs.Rejecting.{reject, breach};
@@ -18,10 +17,11 @@ mod requests;
 
 use crate::config::Config;
 use crate::open_write::OpenWrite;
+use crate::received::Received;
 use crate::response::Numbers;
 use iscsi_login::{Params, Phase, Session, Stage};
 use iscsi_pdu::rule::PROTOCOL_ERROR;
-use iscsi_pdu::{Head, Pdu, Reject};
+use iscsi_pdu::{Head, Reject};
 use iscsi_stream::{canonical_head, write_pdu};
 use std::alloc::{AllocError, Global};
 use std::marker::Model;
@@ -202,19 +202,15 @@ impl Course {
     fn reject(
         &mut self,
         reason: u8,
-        pdu: &Pdu<'_>,
-        continued: bool,
+        received: &Received<'_>,
         out: &mut Vec<u8>,
     ) -> Result<Option<u8>, AllocError>
-        requires fits { Fits pdu.now.head }
-        requires short { length pdu.now.bytes.now < 2 ^ 24 }
         ensures ok { IfOk result (λ rule. Replied
-            (reject self.old reason (message continued pdu.now.head pdu.now.bytes.now)) rule
-            self.new out.old.items out.new.items) }
+            (reject self.old reason received.now) rule self.new out.old.items out.new.items) }
         ensures err { OnErr result (self.new ≡ self.old) }
         ensures unwritten { OnErr result (out.new.items ≡ out.old.items) }
     {
-        let header = canonical_head(*out.allocator(), pdu, continued)?;
+        let header = canonical_head(*out.allocator(), &received.pdu, received.continued)?;
         let head = Head::Reject(Reject {
             reason,
             stat_sn: self.stat_sn,
@@ -228,19 +224,15 @@ impl Course {
     fn breach(
         &mut self,
         rule: u8,
-        pdu: &Pdu<'_>,
-        continued: bool,
+        received: &Received<'_>,
         out: &mut Vec<u8>,
     ) -> Result<Option<u8>, AllocError>
-        requires fits { Fits pdu.now.head }
-        requires short { length pdu.now.bytes.now < 2 ^ 24 }
         ensures ok { IfOk result (λ broken. Replied
-            (breach self.old rule (message continued pdu.now.head pdu.now.bytes.now)) broken
-            self.new out.old.items out.new.items) }
+            (breach self.old rule received.now) broken self.new out.old.items out.new.items) }
         ensures err { OnErr result (self.new ≡ self.old) }
         ensures unwritten { OnErr result (out.new.items ≡ out.old.items) }
     {
-        self.reject(PROTOCOL_ERROR, pdu, continued, out)?;
+        self.reject(PROTOCOL_ERROR, received, out)?;
         self.close();
         Ok(Some(rule))
     }

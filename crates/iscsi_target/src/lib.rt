@@ -7,6 +7,7 @@ mod due;
 mod fault;
 pub mod laws;
 mod open_write;
+mod received;
 mod response;
 mod status;
 mod target;

@@ -12,6 +12,7 @@ ghost use Rattle.iscsi_target.specs.Inside.{connection, store_of, target_fault, 
 use crate::config::Config;
 use crate::course::Course;
 use crate::fault::TargetFault;
+use crate::received::Received;
 use iscsi_login::{Params, Phase, Stage};
 use iscsi_pdu::LOGIN_SEGMENT;
 use iscsi_stream::{Framer, StreamFault};
@@ -285,7 +286,11 @@ fn answer_ready<S: BlockStore>(
     let Some(pdu) = framer.pdu() else {
         return Ok(None);
     };
-    match course.answer_pdu(&pdu, framer.continued(), store, out) {
+    let received = Received {
+        pdu,
+        continued: framer.continued(),
+    };
+    match course.answer_pdu(&received, store, out) {
         Ok(broken) => {
             framer.take();
             Ok(broken)

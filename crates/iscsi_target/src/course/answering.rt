@@ -1,18 +1,17 @@
 //! What a session makes of a PDU.
 
-ghost use Rattle.std.specs.Prelude.{◌≡◌, ◌↔◌, ◌<◌, ◌≤◌, ◌^◌, nat_lt, length, IsTrue, OnErr, IfOk, true, false};
+ghost use Rattle.std.specs.Prelude.{◌≡◌, ◌↔◌, ◌<◌, ◌≤◌, ◌^◌, nat_lt, IsTrue, OnErr, IfOk, true, false};
 ghost use Rattle.iscsi_pdu.specs.Serial.{distance};
-ghost use Rattle.iscsi_pdu.specs.Meaning.{Fits};
-ghost use Rattle.iscsi_stream.specs.Stream.{message};
-ghost use Rattle.iscsi_target.specs.State.{limit, max_cmd_sn, closed};
+ghost use Rattle.iscsi_target.specs.State.{max_cmd_sn, closed};
 ghost use Rattle.iscsi_target.specs.Login.{login_step};
-ghost use Rattle.iscsi_target.specs.Machine.{is_due_kind, has_write, advanced, handled, immediate, in_turn, due_step, full_step, is_closed, step_on};
+ghost use Rattle.iscsi_target.specs.Machine.{is_due_kind, has_write, advanced, handled, immediate, in_turn, due_step, full_step, is_closed, is_over_limit, step_on};
 ghost use Rattle.iscsi_target.specs.Inside.{Replied, Serves, GivesUp};
 
 use super::Course;
+use crate::received::Received;
 use iscsi_login::{Phase, Session};
 use iscsi_pdu::rule::{KIND_NOT_DUE, SEGMENT_TOO_LONG, TOO_MANY_IMMEDIATE};
-use iscsi_pdu::{Head, Pdu, Serial};
+use iscsi_pdu::{Head, Serial};
 use scsi_disk::BlockStore;
 use std::alloc::AllocError;
 
@@ -22,25 +21,21 @@ impl Course {
     /// session is to be closed.
     pub fn answer_pdu<S: BlockStore>(
         &mut self,
-        pdu: &Pdu<'_>,
-        continued: bool,
+        received: &Received<'_>,
         store: &mut S,
         out: &mut Vec<u8>,
     ) -> Result<Option<u8>, AllocError>
-        requires fits { Fits pdu.now.head }
-        requires short { length pdu.now.bytes.now < 2 ^ 24 }
-        requires within { length pdu.now.bytes.now ≤ limit self.old.settings }
+        requires within { is_over_limit self.old received.now.segment ≡ false }
         requires live { is_closed self.old ≡ false }
         ensures ok { IfOk result (λ rule. Serves (S.failures store.old) (S.failures store.new)
-            (λ device. step_on device self.old (S.disk store.old)
-            (message continued pdu.now.head pdu.now.bytes.now))
+            (λ device. step_on device self.old (S.disk store.old) received.now)
             rule self.new (S.disk store.new) out.old.items out.new.items) }
         ensures err { OnErr result (GivesUp (S.failures store.old) (S.failures store.new)
             self.old self.new (S.disk store.old) (S.disk store.new) out.old.items out.new.items) }
     {
         match self.phase() {
-            Phase::Login => self.log_in(pdu, continued, out),
-            Phase::Full => self.serve(pdu, continued, store, out),
+            Phase::Login => self.log_in(received, out),
+            Phase::Full => self.serve(received, store, out),
             Phase::Closed => Ok(None),
         }
     }
@@ -48,20 +43,16 @@ impl Course {
     // A PDU before full feature phase, where any but a Login Request closes the session.
     fn log_in(
         &mut self,
-        pdu: &Pdu<'_>,
-        continued: bool,
+        received: &Received<'_>,
         out: &mut Vec<u8>,
     ) -> Result<Option<u8>, AllocError>
-        requires fits { Fits pdu.now.head }
-        requires short { length pdu.now.bytes.now < 2 ^ 24 }
-        ensures ok { IfOk result (λ rule. Replied (login_step self.old
-            (message continued pdu.now.head pdu.now.bytes.now)) rule
+        ensures ok { IfOk result (λ rule. Replied (login_step self.old received.now) rule
             self.new out.old.items out.new.items) }
         ensures err { OnErr result (closed self.new ≡ closed self.old) }
         ensures unwritten { OnErr result (out.new.items ≡ out.old.items) }
     {
-        match &pdu.head {
-            Head::LoginRequest(request) => self.login_request(request, pdu.bytes, continued, out),
+        match &received.pdu.head {
+            Head::LoginRequest(request) => self.login_request(request, received, out),
             _ => {
                 self.close();
                 Ok(Some(KIND_NOT_DUE))
@@ -72,27 +63,23 @@ impl Course {
     // A PDU in full feature phase.
     fn serve<S: BlockStore>(
         &mut self,
-        pdu: &Pdu<'_>,
-        continued: bool,
+        received: &Received<'_>,
         store: &mut S,
         out: &mut Vec<u8>,
     ) -> Result<Option<u8>, AllocError>
-        requires fits { Fits pdu.now.head }
-        requires short { length pdu.now.bytes.now < 2 ^ 24 }
         ensures ok { IfOk result (λ rule. Serves (S.failures store.old) (S.failures store.new)
-            (λ device. full_step device self.old (S.disk store.old)
-            (message continued pdu.now.head pdu.now.bytes.now))
+            (λ device. full_step device self.old (S.disk store.old) received.now)
             rule self.new (S.disk store.new) out.old.items out.new.items) }
         ensures err { OnErr result (GivesUp (S.failures store.old) (S.failures store.new)
             self.old self.new (S.disk store.old) (S.disk store.new) out.old.items out.new.items) }
     {
-        if !self.is_due_kind(&pdu.head) {
-            return self.breach(KIND_NOT_DUE, pdu, continued, out);
+        if !self.is_due_kind(&received.pdu.head) {
+            return self.breach(KIND_NOT_DUE, received, out);
         }
-        if self.is_too_long(pdu.bytes.len()) {
-            return self.breach(SEGMENT_TOO_LONG, pdu, continued, out);
+        if self.is_too_long(received.pdu.bytes.len()) {
+            return self.breach(SEGMENT_TOO_LONG, received, out);
         }
-        self.serve_due(pdu, continued, store, out)
+        self.serve_due(received, store, out)
     }
 
     // Whether a kind may come in full feature phase.
@@ -121,74 +108,68 @@ impl Course {
     // A PDU of a kind that may come. A Data-Out has no CmdSN.
     fn serve_due<S: BlockStore>(
         &mut self,
-        pdu: &Pdu<'_>,
-        continued: bool,
+        received: &Received<'_>,
         store: &mut S,
         out: &mut Vec<u8>,
     ) -> Result<Option<u8>, AllocError>
-        requires fits { Fits pdu.now.head }
-        requires short { length pdu.now.bytes.now < 2 ^ 24 }
-        requires due { is_due_kind self.old.session pdu.now.head ≡ true }
+        requires due { is_due_kind self.old.session received.now.head ≡ true }
         ensures ok { IfOk result (λ rule. Serves (S.failures store.old) (S.failures store.new)
-            (λ device. due_step device self.old (S.disk store.old)
-            (message continued pdu.now.head pdu.now.bytes.now) pdu.now.head)
+            (λ device. due_step device self.old (S.disk store.old) received.now received.now.head)
             rule self.new (S.disk store.new) out.old.items out.new.items) }
         ensures err { OnErr result (GivesUp (S.failures store.old) (S.failures store.new)
             self.old self.new (S.disk store.old) (S.disk store.new) out.old.items out.new.items) }
     {
-        let (immediate, cmd_sn) = match &pdu.head {
-            Head::DataOut(head) => return self.data_out(head, pdu, continued, store, out),
+        let (immediate, cmd_sn) = match &received.pdu.head {
+            Head::DataOut(head) => return self.data_out(
+                head,
+                received.pdu.bytes,
+                received,
+                store,
+                out,
+            ),
             Head::NopOut(head) => (head.immediate, head.cmd_sn),
             Head::TaskRequest(head) => (head.immediate, head.cmd_sn),
             Head::TextRequest(head) => (head.immediate, head.cmd_sn),
             Head::LogoutRequest(head) => (head.immediate, head.cmd_sn),
             Head::ScsiCommand(head) => (head.immediate, head.cmd_sn),
-            _ => return self.breach(KIND_NOT_DUE, pdu, continued, out),
+            _ => return self.breach(KIND_NOT_DUE, received, out),
         };
         if immediate {
-            self.serve_at_once(pdu, continued, store, out)
+            self.serve_at_once(received, store, out)
         } else {
-            self.serve_in_turn(cmd_sn, pdu, continued, store, out)
+            self.serve_in_turn(cmd_sn, received, store, out)
         }
     }
 
     // An immediate request, for which there is no room while a write is open.
     fn serve_at_once<S: BlockStore>(
         &mut self,
-        pdu: &Pdu<'_>,
-        continued: bool,
+        received: &Received<'_>,
         store: &mut S,
         out: &mut Vec<u8>,
     ) -> Result<Option<u8>, AllocError>
-        requires fits { Fits pdu.now.head }
-        requires short { length pdu.now.bytes.now < 2 ^ 24 }
         ensures ok { IfOk result (λ rule. Serves (S.failures store.old) (S.failures store.new)
-            (λ device. immediate device self.old (S.disk store.old)
-            (message continued pdu.now.head pdu.now.bytes.now))
+            (λ device. immediate device self.old (S.disk store.old) received.now)
             rule self.new (S.disk store.new) out.old.items out.new.items) }
         ensures err { OnErr result (GivesUp (S.failures store.old) (S.failures store.new)
             self.old self.new (S.disk store.old) (S.disk store.new) out.old.items out.new.items) }
     {
         if self.has_write() {
-            return self.reject(TOO_MANY_IMMEDIATE, pdu, continued, out);
+            return self.reject(TOO_MANY_IMMEDIATE, received, out);
         }
-        self.handle(pdu, continued, store, out)
+        self.handle(received, store, out)
     }
 
     // A request with its place in the order of commands; outside the window it is dropped.
     fn serve_in_turn<S: BlockStore>(
         &mut self,
         cmd_sn: u32,
-        pdu: &Pdu<'_>,
-        continued: bool,
+        received: &Received<'_>,
         store: &mut S,
         out: &mut Vec<u8>,
     ) -> Result<Option<u8>, AllocError>
-        requires fits { Fits pdu.now.head }
-        requires short { length pdu.now.bytes.now < 2 ^ 24 }
         ensures ok { IfOk result (λ rule. Serves (S.failures store.old) (S.failures store.new)
-            (λ device. in_turn device self.old (S.disk store.old)
-            (message continued pdu.now.head pdu.now.bytes.now) cmd_sn)
+            (λ device. in_turn device self.old (S.disk store.old) received.now cmd_sn)
             rule self.new (S.disk store.new) out.old.items out.new.items) }
         ensures err { OnErr result (GivesUp (S.failures store.old) (S.failures store.new)
             self.old self.new (S.disk store.old) (S.disk store.new) out.old.items out.new.items) }
@@ -197,7 +178,7 @@ impl Course {
             return Ok(None);
         }
         let before = self.advance();
-        let result = self.handle(pdu, continued, store, out);
+        let result = self.handle(received, store, out);
         if result.is_err() {
             self.expect(before);
         }
@@ -247,27 +228,29 @@ impl Course {
     // A request that is accepted.
     fn handle<S: BlockStore>(
         &mut self,
-        pdu: &Pdu<'_>,
-        continued: bool,
+        received: &Received<'_>,
         store: &mut S,
         out: &mut Vec<u8>,
     ) -> Result<Option<u8>, AllocError>
-        requires fits { Fits pdu.now.head }
-        requires short { length pdu.now.bytes.now < 2 ^ 24 }
         ensures ok { IfOk result (λ rule. Serves (S.failures store.old) (S.failures store.new)
-            (λ device. handled device self.old (S.disk store.old)
-            (message continued pdu.now.head pdu.now.bytes.now) pdu.now.head)
+            (λ device. handled device self.old (S.disk store.old) received.now received.now.head)
             rule self.new (S.disk store.new) out.old.items out.new.items) }
         ensures err { OnErr result (GivesUp (S.failures store.old) (S.failures store.new)
             self.old self.new (S.disk store.old) (S.disk store.new) out.old.items out.new.items) }
     {
-        match &pdu.head {
-            Head::NopOut(head) => self.nop_out(head, pdu.bytes, out),
+        match &received.pdu.head {
+            Head::NopOut(head) => self.nop_out(head, received.pdu.bytes, out),
             Head::TaskRequest(head) => self.task_request(head, out),
-            Head::TextRequest(head) => self.text_request(head, pdu, continued, out),
-            Head::LogoutRequest(head) => self.logout_request(head, pdu, continued, out),
-            Head::ScsiCommand(head) => self.scsi_command(head, pdu, continued, store, out),
-            _ => self.breach(KIND_NOT_DUE, pdu, continued, out),
+            Head::TextRequest(head) => self.text_request(head, received.pdu.bytes, received, out),
+            Head::LogoutRequest(head) => self.logout_request(head, received, out),
+            Head::ScsiCommand(head) => self.scsi_command(
+                head,
+                received.pdu.bytes,
+                received,
+                store,
+                out,
+            ),
+            _ => self.breach(KIND_NOT_DUE, received, out),
         }
     }
 }

@@ -3,7 +3,6 @@
 ghost use Rattle.std.specs.Prelude.{◌≡◌, ◌≢◌, ◌<◌, ◌≤◌, ◌^◌, ◌+◌, ◌++◌, ℕ, None, Some, [], length, take, OnOk, OnErr, IfOk, true, false};
 ghost use Rattle.scsi_disk.specs.Plan.{plan_of};
 ghost use Rattle.iscsi_pdu.specs.Meaning.{Fits};
-ghost use Rattle.iscsi_stream.specs.Stream.{message};
 ghost use Rattle.iscsi_login.specs.Held.{first_burst, is_on, max_burst};
 ghost use Rattle.iscsi_stream.specs.Canonical.{canon};
 ghost use Rattle.iscsi_target.specs.State.{closed};
@@ -15,11 +14,12 @@ ghost use Rattle.iscsi_target.specs.Inside.{Replied, Serves, GivesUp};
 use super::Course;
 use crate::due::Due;
 use crate::open_write::OpenWrite;
+use crate::received::Received;
 use crate::response::response_head;
 use crate::writing::append_response;
 use iscsi_login::{Answered, NegKey};
 use iscsi_pdu::rule::DATA_OUT_OF_ORDER;
-use iscsi_pdu::{DataIn, DataOut, Head, Pdu, RESERVED_TAG, ReadyToTransfer, ScsiCommand};
+use iscsi_pdu::{DataIn, DataOut, Head, RESERVED_TAG, ReadyToTransfer, ScsiCommand};
 use iscsi_stream::write_pdu;
 use scsi_disk::{BlockStore, Order, Outcome, Plan, execute, plan};
 use std::alloc::{AllocError, Global};
@@ -32,26 +32,23 @@ impl Course {
     pub(super) fn scsi_command<S: BlockStore>(
         &mut self,
         command: &ScsiCommand,
-        pdu: &Pdu<'_>,
-        continued: bool,
+        bytes: &[u8],
+        received: &Received<'_>,
         store: &mut S,
         out: &mut Vec<u8>,
     ) -> Result<Option<u8>, AllocError>
-        requires fits { Fits pdu.now.head }
-        requires short { length pdu.now.bytes.now < 2 ^ 24 }
         ensures ok { IfOk result (λ rule. Serves (S.failures store.old) (S.failures store.new)
-            (λ device. scsi_command device self.old (S.disk store.old)
-            (message continued pdu.now.head pdu.now.bytes.now) command.now pdu.now.bytes.now)
+            (λ device. scsi_command device self.old (S.disk store.old) received.now command.now bytes.now)
             rule self.new (S.disk store.new) out.old.items out.new.items) }
         ensures err { OnErr result (GivesUp (S.failures store.old) (S.failures store.new)
             self.old self.new (S.disk store.old) (S.disk store.new) out.old.items out.new.items) }
     {
-        if self.breaks_burst_rules(command, pdu.bytes.len()) {
-            return self.breach(DATA_OUT_OF_ORDER, pdu, continued, out);
+        if self.breaks_burst_rules(command, bytes.len()) {
+            return self.breach(DATA_OUT_OF_ORDER, received, out);
         }
         let order = order_of(command);
         match plan(&order, store.blocks()) {
-            Plan::Take(total) => self.open(command, total, pdu.bytes, store, out),
+            Plan::Take(total) => self.open(command, total, bytes, store, out),
             Plan::Refuse(_) | Plan::Give(_) => {
                 self.execute_order(command.initiator_task_tag, order, store, out)
             }
@@ -352,16 +349,14 @@ impl Course {
     pub(super) fn data_out<S: BlockStore>(
         &mut self,
         head: &DataOut,
-        pdu: &Pdu<'_>,
-        continued: bool,
+        bytes: &[u8],
+        received: &Received<'_>,
         store: &mut S,
         out: &mut Vec<u8>,
     ) -> Result<Option<u8>, AllocError>
-        requires fits { Fits pdu.now.head }
-        requires short { length pdu.now.bytes.now < 2 ^ 24 }
+        requires { length bytes.now < 2 ^ 24 }
         ensures ok { IfOk result (λ rule. Serves (S.failures store.old) (S.failures store.new)
-            (λ device. data_out device self.old (S.disk store.old)
-            (message continued pdu.now.head pdu.now.bytes.now) head.now pdu.now.bytes.now)
+            (λ device. data_out device self.old (S.disk store.old) received.now head.now bytes.now)
             rule self.new (S.disk store.new) out.old.items out.new.items) }
         ensures err { OnErr result (GivesUp (S.failures store.old) (S.failures store.new)
             self.old self.new (S.disk store.old) (S.disk store.new) out.old.items out.new.items) }
@@ -374,9 +369,9 @@ impl Course {
             return Ok(None);
         }
         let mut write = write;
-        if !write.take(self.first_burst(), head, pdu.bytes)? {
+        if !write.take(self.first_burst(), head, bytes)? {
             self.keep_write(write);
-            return self.breach(DATA_OUT_OF_ORDER, pdu, continued, out);
+            return self.breach(DATA_OUT_OF_ORDER, received, out);
         }
         self.proceed(write, store, out)
     }

@@ -6,14 +6,13 @@ ghost use Rattle.iscsi_text.specs.Value.{Plain};
 ghost use Rattle.iscsi_text.specs.Text.{IsInOrder};
 ghost use Rattle.iscsi_text.specs.Inside.{all_shown};
 ghost use Rattle.iscsi_text.specs.Reading.{placed};
-ghost use Rattle.iscsi_pdu.specs.Meaning.{Fits};
-ghost use Rattle.iscsi_stream.specs.Stream.{message};
 ghost use Rattle.iscsi_target.specs.Discovery.{text_request, is_asked, word_for, replies, name_if, reply_pairs};
 ghost use Rattle.iscsi_target.specs.Inside.{Replied, has_first, has_reply, shown_option};
 
 use super::Course;
+use crate::received::Received;
 use iscsi_pdu::rule::TEXT_AT_FAULT;
-use iscsi_pdu::{Head, Pdu, RESERVED_TAG, TextRequest, TextResponse};
+use iscsi_pdu::{Head, RESERVED_TAG, TextRequest, TextResponse};
 use iscsi_text::{Pair, Text, Value, key_kind, read_text, write_pairs};
 use std::alloc::{AllocError, Global};
 
@@ -24,28 +23,25 @@ impl Course {
     pub(super) fn text_request(
         &mut self,
         request: &TextRequest,
-        pdu: &Pdu<'_>,
-        continued: bool,
+        bytes: &[u8],
+        received: &Received<'_>,
         out: &mut Vec<u8>,
     ) -> Result<Option<u8>, AllocError>
-        requires fits { Fits pdu.now.head }
-        requires short { length pdu.now.bytes.now < 2 ^ 24 }
-        ensures ok { IfOk result (λ rule. Replied (text_request self.old
-            (message continued pdu.now.head pdu.now.bytes.now) request.now pdu.now.bytes.now) rule
-            self.new out.old.items out.new.items) }
+        ensures ok { IfOk result (λ rule. Replied (text_request self.old received.now request.now bytes.now)
+            rule self.new out.old.items out.new.items) }
         ensures err { OnErr result (self.new ≡ self.old) }
         ensures unwritten { OnErr result (out.new.items ≡ out.old.items) }
     {
         if !request.is_final || request.continues || request.target_transfer_tag != RESERVED_TAG {
-            return self.breach(TEXT_AT_FAULT, pdu, continued, out);
+            return self.breach(TEXT_AT_FAULT, received, out);
         }
         let alloc = *out.allocator();
-        let Some(text) = read_text(alloc, pdu.bytes)? else {
-            return self.breach(TEXT_AT_FAULT, pdu, continued, out);
+        let Some(text) = read_text(alloc, bytes)? else {
+            return self.breach(TEXT_AT_FAULT, received, out);
         };
         let reply = reply_text(alloc, self.config.name(), &text)?;
         if reply.len() > self.held.initiator_max_recv as usize {
-            return self.breach(TEXT_AT_FAULT, pdu, continued, out);
+            return self.breach(TEXT_AT_FAULT, received, out);
         }
         let head = Head::TextResponse(TextResponse {
             is_final: true,

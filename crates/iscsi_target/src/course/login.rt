@@ -15,6 +15,7 @@ ghost use Rattle.iscsi_target.specs.Inside.{Replied, left_by, login_answer};
 
 use super::Course;
 use super::login_text::given_with;
+use crate::received::Received;
 use crate::status::Status;
 use iscsi_login::{Phase, Stage, answer_text};
 use iscsi_pdu::{Head, LoginRequest, LoginResponse};
@@ -26,23 +27,21 @@ use std::alloc::{AllocError, Global};
 const LONGEST_TEXT: usize = 16_384;
 
 impl Course {
-    // A Login Request, which continues another or does not.
+    // A Login Request.
     pub(super) fn login_request(
         &mut self,
         request: &LoginRequest,
-        bytes: &[u8],
-        continued: bool,
+        received: &Received<'_>,
         out: &mut Vec<u8>,
     ) -> Result<Option<u8>, AllocError>
-        requires fits { Fits (heads.LoginRequest request.now) }
+        requires { received.now.head ≡ heads.LoginRequest request.now }
         ensures ok { IfOk result (λ rule. Replied (login_request self.old request.now
-            (segment_of continued (heads.LoginRequest request.now) bytes.now)) rule
-            self.new out.old.items out.new.items) }
+            received.now.segment) rule self.new out.old.items out.new.items) }
         ensures err { OnErr result (closed self.new ≡ closed self.old) }
         ensures unwritten { OnErr result (out.new.items ≡ out.old.items) }
     {
         let (begun, exp_cmd_sn, stage) = (self.begun, self.exp_cmd_sn, self.stage);
-        let result = self.enter(request, bytes, continued, out);
+        let result = self.enter(request, received, out);
         if result.is_err() {
             self.begun = begun;
             self.exp_cmd_sn = exp_cmd_sn;
@@ -55,17 +54,16 @@ impl Course {
     fn enter(
         &mut self,
         request: &LoginRequest,
-        bytes: &[u8],
-        continued: bool,
+        received: &Received<'_>,
         out: &mut Vec<u8>,
     ) -> Result<Option<u8>, AllocError>
-        requires fits { Fits (heads.LoginRequest request.now) }
+        requires { received.now.head ≡ heads.LoginRequest request.now }
         ensures ok { IfOk result (λ rule. Replied (login_request self.old request.now
-            (segment_of continued (heads.LoginRequest request.now) bytes.now)) rule
-            self.new out.old.items out.new.items) }
+            received.now.segment) rule self.new out.old.items out.new.items) }
         ensures err { OnErr result (closed (left_by self.old self.new) ≡ closed self.old) }
         ensures unwritten { OnErr result (out.new.items ≡ out.old.items) }
     {
+        let _head = received.pdu.head;
         let refusal = self.request_refusal(request);
         if !self.begun {
             self.begun = true;
@@ -77,7 +75,7 @@ impl Course {
         if let Some(stage) = stage_named(request.current_stage) {
             self.stage = stage;
         }
-        self.take_segment(request, bytes, continued, out)
+        self.take_segment(request, received, out)
     }
 
     // Why a request is refused by its head, if it is.
@@ -117,18 +115,17 @@ impl Course {
     fn take_segment(
         &mut self,
         request: &LoginRequest,
-        bytes: &[u8],
-        continued: bool,
+        received: &Received<'_>,
         out: &mut Vec<u8>,
     ) -> Result<Option<u8>, AllocError>
-        requires fits { Fits (heads.LoginRequest request.now) }
+        requires { received.now.head ≡ heads.LoginRequest request.now }
         ensures ok { IfOk result (λ rule. Replied (segment_taken self.old request.now
-            (segment_of continued (heads.LoginRequest request.now) bytes.now)) rule
-            self.new out.old.items out.new.items) }
+            received.now.segment) rule self.new out.old.items out.new.items) }
         ensures err { OnErr result (closed self.new ≡ closed self.old) }
         ensures unwritten { OnErr result (out.new.items ≡ out.old.items) }
     {
-        match segment_text(*out.allocator(), request, bytes, continued)? {
+        let bytes = received.pdu.bytes;
+        match segment_text(*out.allocator(), request, bytes, received.continued)? {
             Some(text) => self.take_text(request, &text, out),
             None => self.take_bytes(request, bytes, out),
         }

@@ -1,16 +1,14 @@
 //! Requests with one answer: pings, task management, logouts.
 
 ghost use Rattle.std.specs.Prelude.{◌≡◌, ◌<◌, ◌^◌, length, OnOk, OnErr, IfOk};
-ghost use Rattle.iscsi_pdu.specs.Meaning.{Fits};
-ghost use Rattle.iscsi_stream.specs.Stream.{message};
 ghost use Rattle.iscsi_target.specs.Requests.{nop_out, task_request, logout_request};
 ghost use Rattle.iscsi_target.specs.Inside.{Replied};
 
 use super::Course;
+use crate::received::Received;
 use iscsi_pdu::rule::LOGOUT_REASON;
 use iscsi_pdu::{
-    Head, LogoutRequest, LogoutResponse, NopIn, NopOut, Pdu, RESERVED_TAG, TaskRequest,
-    TaskResponse,
+    Head, LogoutRequest, LogoutResponse, NopIn, NopOut, RESERVED_TAG, TaskRequest, TaskResponse,
 };
 use std::alloc::AllocError;
 
@@ -70,20 +68,16 @@ impl Course {
     pub(super) fn logout_request(
         &mut self,
         request: &LogoutRequest,
-        pdu: &Pdu<'_>,
-        continued: bool,
+        received: &Received<'_>,
         out: &mut Vec<u8>,
     ) -> Result<Option<u8>, AllocError>
-        requires fits { Fits pdu.now.head }
-        requires short { length pdu.now.bytes.now < 2 ^ 24 }
-        ensures ok { IfOk result (λ rule. Replied (logout_request self.old
-            (message continued pdu.now.head pdu.now.bytes.now) request.now) rule
-            self.new out.old.items out.new.items) }
+        ensures ok { IfOk result (λ rule. Replied (logout_request self.old received.now request.now)
+            rule self.new out.old.items out.new.items) }
         ensures err { OnErr result (self.new ≡ self.old) }
         ensures unwritten { OnErr result (out.new.items ≡ out.old.items) }
     {
         if request.reason > 1 {
-            return self.breach(LOGOUT_REASON, pdu, continued, out);
+            return self.breach(LOGOUT_REASON, received, out);
         }
         let head = Head::LogoutResponse(LogoutResponse {
             response: 0,

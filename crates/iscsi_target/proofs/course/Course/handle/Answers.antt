@@ -1,4 +1,3 @@
-use Rattle.iscsi_stream.specs.Stream.{message}
 use Rattle.iscsi_target.specs.Execution.{Device}
 use Rattle.iscsi_target.specs.Machine.{handled}
 use Rattle.iscsi_target.specs.Command.{scsi_command}
@@ -12,33 +11,33 @@ use Rattle.iscsi_target.proofs.course.Course.handle.Goals as goal
 
 pub returns-in-NopOut-clause-ok : goal.returns-in-NopOut-clause-ok
 returns-in-NopOut-clause-ok g c =
-    reply_if c.nop_out.result (g.S.BlockStore.failures c.args.store.now) (nop_out c.args.self.now c.in-NopOut.head c.args.pdu.now.bytes.now) (λ (d : Device). handled d c.args.self.now (g.S.BlockStore.disk c.args.store.now) (message c.args.continued c.args.pdu.now.head c.args.pdu.now.bytes.now) c.args.pdu.now.head) (g.S.BlockStore.disk c.args.store.now) c.nop_out.new.self c.args.out.now.items c.nop_out.new.out.items
-    (λ (d : Device). handles_ping d c.args.self.now (g.S.BlockStore.disk c.args.store.now) c.args.continued c.args.pdu.now.head c.args.pdu.now.bytes.now c.in-NopOut.head c.in-NopOut.is) c.nop_out.ensures.ok
+    reply_if c.nop_out.result (g.S.BlockStore.failures c.args.store.now) (nop_out c.args.self.now c.in-NopOut.head c.received.inside.pdu.bytes.now) (λ (d : Device). handled d c.args.self.now (g.S.BlockStore.disk c.args.store.now) c.args.received.now c.args.received.now.head) (g.S.BlockStore.disk c.args.store.now) c.nop_out.new.self c.args.out.now.items c.nop_out.new.out.items
+    (λ (d : Device). handles_ping d c.args.self.now (g.S.BlockStore.disk c.args.store.now) c.received.inside.continued c.received.inside.pdu.head c.received.inside.pdu.bytes.now c.args.received.now c.received.view_is c.in-NopOut.head c.in-NopOut.is) c.nop_out.ensures.ok
 
 pub returns-in-TaskRequest-clause-ok : goal.returns-in-TaskRequest-clause-ok
 returns-in-TaskRequest-clause-ok g c =
-    reply_if c.task_request.result (g.S.BlockStore.failures c.args.store.now) (task_request c.args.self.now c.in-TaskRequest.head) (λ (d : Device). handled d c.args.self.now (g.S.BlockStore.disk c.args.store.now) (message c.args.continued c.args.pdu.now.head c.args.pdu.now.bytes.now) c.args.pdu.now.head) (g.S.BlockStore.disk c.args.store.now) c.task_request.new.self c.args.out.now.items c.task_request.new.out.items
-    (λ (d : Device). handles_task d c.args.self.now (g.S.BlockStore.disk c.args.store.now) c.args.continued c.args.pdu.now.head c.args.pdu.now.bytes.now c.in-TaskRequest.head c.in-TaskRequest.is) c.task_request.ensures.ok
+    reply_if c.task_request.result (g.S.BlockStore.failures c.args.store.now) (task_request c.args.self.now c.in-TaskRequest.head) (λ (d : Device). handled d c.args.self.now (g.S.BlockStore.disk c.args.store.now) c.args.received.now c.args.received.now.head) (g.S.BlockStore.disk c.args.store.now) c.task_request.new.self c.args.out.now.items c.task_request.new.out.items
+    (λ (d : Device). handles_task d c.args.self.now (g.S.BlockStore.disk c.args.store.now) c.received.inside.continued c.received.inside.pdu.head c.received.inside.pdu.bytes.now c.args.received.now c.received.view_is c.in-TaskRequest.head c.in-TaskRequest.is) c.task_request.ensures.ok
 
 pub returns-in-TextRequest-clause-ok : goal.returns-in-TextRequest-clause-ok
 returns-in-TextRequest-clause-ok g c =
-    reply_if c.text_request.result (g.S.BlockStore.failures c.args.store.now) (text_request c.args.self.now (message c.args.continued c.args.pdu.now.head c.args.pdu.now.bytes.now) c.in-TextRequest.head c.args.pdu.now.bytes.now) (λ (d : Device). handled d c.args.self.now (g.S.BlockStore.disk c.args.store.now) (message c.args.continued c.args.pdu.now.head c.args.pdu.now.bytes.now) c.args.pdu.now.head) (g.S.BlockStore.disk c.args.store.now) c.text_request.new.self c.args.out.now.items c.text_request.new.out.items
-    (λ (d : Device). handles_text d c.args.self.now (g.S.BlockStore.disk c.args.store.now) c.args.continued c.args.pdu.now.head c.args.pdu.now.bytes.now c.in-TextRequest.head c.in-TextRequest.is) c.text_request.ensures.ok
+    reply_if c.text_request.result (g.S.BlockStore.failures c.args.store.now) (text_request c.args.self.now c.args.received.now c.in-TextRequest.head c.received.inside.pdu.bytes.now) (λ (d : Device). handled d c.args.self.now (g.S.BlockStore.disk c.args.store.now) c.args.received.now c.args.received.now.head) (g.S.BlockStore.disk c.args.store.now) c.text_request.new.self c.args.out.now.items c.text_request.new.out.items
+    (λ (d : Device). handles_text d c.args.self.now (g.S.BlockStore.disk c.args.store.now) c.received.inside.continued c.received.inside.pdu.head c.received.inside.pdu.bytes.now c.args.received.now c.received.view_is c.in-TextRequest.head c.in-TextRequest.is) c.text_request.ensures.ok
 
 pub returns-in-LogoutRequest-clause-ok : goal.returns-in-LogoutRequest-clause-ok
 returns-in-LogoutRequest-clause-ok g c =
-    reply_if c.logout_request.result (g.S.BlockStore.failures c.args.store.now) (logout_request c.args.self.now (message c.args.continued c.args.pdu.now.head c.args.pdu.now.bytes.now) c.in-LogoutRequest.head) (λ (d : Device). handled d c.args.self.now (g.S.BlockStore.disk c.args.store.now) (message c.args.continued c.args.pdu.now.head c.args.pdu.now.bytes.now) c.args.pdu.now.head) (g.S.BlockStore.disk c.args.store.now) c.logout_request.new.self c.args.out.now.items c.logout_request.new.out.items
-    (λ (d : Device). handles_logout d c.args.self.now (g.S.BlockStore.disk c.args.store.now) c.args.continued c.args.pdu.now.head c.args.pdu.now.bytes.now c.in-LogoutRequest.head c.in-LogoutRequest.is) c.logout_request.ensures.ok
+    reply_if c.logout_request.result (g.S.BlockStore.failures c.args.store.now) (logout_request c.args.self.now c.args.received.now c.in-LogoutRequest.head) (λ (d : Device). handled d c.args.self.now (g.S.BlockStore.disk c.args.store.now) c.args.received.now c.args.received.now.head) (g.S.BlockStore.disk c.args.store.now) c.logout_request.new.self c.args.out.now.items c.logout_request.new.out.items
+    (λ (d : Device). handles_logout d c.args.self.now (g.S.BlockStore.disk c.args.store.now) c.received.inside.continued c.received.inside.pdu.head c.received.inside.pdu.bytes.now c.args.received.now c.received.view_is c.in-LogoutRequest.head c.in-LogoutRequest.is) c.logout_request.ensures.ok
 
 pub returns-in-ScsiCommand-clause-ok : goal.returns-in-ScsiCommand-clause-ok
 returns-in-ScsiCommand-clause-ok g c =
-    serves_if c.scsi_command.result (g.S.BlockStore.failures c.args.store.now) (g.S.BlockStore.failures c.scsi_command.new.store) (λ (d : Device). handled d c.args.self.now (g.S.BlockStore.disk c.args.store.now) (message c.args.continued c.args.pdu.now.head c.args.pdu.now.bytes.now) c.args.pdu.now.head) (λ (d : Device). scsi_command d c.args.self.now (g.S.BlockStore.disk c.args.store.now) (message c.args.continued c.args.pdu.now.head c.args.pdu.now.bytes.now) c.in-ScsiCommand.head c.args.pdu.now.bytes.now) c.scsi_command.new.self (g.S.BlockStore.disk c.scsi_command.new.store) c.args.out.now.items c.scsi_command.new.out.items
-    (λ (d : Device). handles_command d c.args.self.now (g.S.BlockStore.disk c.args.store.now) c.args.continued c.args.pdu.now.head c.args.pdu.now.bytes.now c.in-ScsiCommand.head c.in-ScsiCommand.is) c.scsi_command.ensures.ok
+    serves_if c.scsi_command.result (g.S.BlockStore.failures c.args.store.now) (g.S.BlockStore.failures c.scsi_command.new.store) (λ (d : Device). handled d c.args.self.now (g.S.BlockStore.disk c.args.store.now) c.args.received.now c.args.received.now.head) (λ (d : Device). scsi_command d c.args.self.now (g.S.BlockStore.disk c.args.store.now) c.args.received.now c.in-ScsiCommand.head c.received.inside.pdu.bytes.now) c.scsi_command.new.self (g.S.BlockStore.disk c.scsi_command.new.store) c.args.out.now.items c.scsi_command.new.out.items
+    (λ (d : Device). handles_command d c.args.self.now (g.S.BlockStore.disk c.args.store.now) c.received.inside.continued c.received.inside.pdu.head c.received.inside.pdu.bytes.now c.args.received.now c.received.view_is c.in-ScsiCommand.head c.in-ScsiCommand.is) c.scsi_command.ensures.ok
 
 pub returns-in_default : goal.returns-in_default
 returns-in_default g c = record {
-  ok = reply_if c.breach.result (g.S.BlockStore.failures c.args.store.now) (breach c.args.self.now kind_not_due (message c.args.continued c.args.pdu.now.head c.args.pdu.now.bytes.now)) (λ (d : Device). handled d c.args.self.now (g.S.BlockStore.disk c.args.store.now) (message c.args.continued c.args.pdu.now.head c.args.pdu.now.bytes.now) c.args.pdu.now.head) (g.S.BlockStore.disk c.args.store.now) c.breach.new.self c.args.out.now.items c.breach.new.out.items
-      (λ (d : Device). handles_other d c.args.self.now (g.S.BlockStore.disk c.args.store.now) (message c.args.continued c.args.pdu.now.head c.args.pdu.now.bytes.now) c.args.pdu.now.head c.in_default.not-NopOut c.in_default.not-ScsiCommand c.in_default.not-TaskRequest c.in_default.not-TextRequest c.in_default.not-LogoutRequest) c.breach.ensures.ok;
+  ok = reply_if c.breach.result (g.S.BlockStore.failures c.args.store.now) (breach c.args.self.now kind_not_due c.args.received.now) (λ (d : Device). handled d c.args.self.now (g.S.BlockStore.disk c.args.store.now) c.args.received.now c.args.received.now.head) (g.S.BlockStore.disk c.args.store.now) c.breach.new.self c.args.out.now.items c.breach.new.out.items
+      (λ (d : Device). handles_other d c.args.self.now (g.S.BlockStore.disk c.args.store.now) c.received.inside.continued c.received.inside.pdu.head c.received.inside.pdu.bytes.now c.args.received.now c.received.view_is c.in_default.not-NopOut c.in_default.not-ScsiCommand c.in_default.not-TaskRequest c.in_default.not-TextRequest c.in_default.not-LogoutRequest) c.breach.ensures.ok;
   err = gives_up_if c.breach.result (g.S.BlockStore.failures c.args.store.now) c.args.self.now c.breach.new.self (g.S.BlockStore.disk c.args.store.now) c.args.out.now.items c.breach.new.out.items
       (closes_same c.breach.result c.args.self.now c.breach.new.self c.breach.ensures.err) c.breach.ensures.unwritten;
 }

@@ -1,5 +1,4 @@
 use Rattle.std.proofs.Common.{sym, ◌∙◌}
-use Rattle.iscsi_stream.specs.Stream.{message}
 use Rattle.iscsi_target.specs.Execution.{Device}
 use Rattle.iscsi_target.specs.Machine.{immediate}
 use Rattle.iscsi_target.specs.Rejecting.{reject}
@@ -10,5 +9,5 @@ use Rattle.iscsi_target.proofs.course.Course.serve_at_once.Goals as goal
 
 pub returns-then-has_write-clause-ok : goal.returns-then-has_write-clause-ok
 returns-then-has_write-clause-ok g c =
-    reply_if c.reject.result (g.S.BlockStore.failures c.args.store.now) (reject c.args.self.now too_many_immediate (message c.args.continued c.args.pdu.now.head c.args.pdu.now.bytes.now)) (λ (d : Device). immediate d c.args.self.now (g.S.BlockStore.disk c.args.store.now) (message c.args.continued c.args.pdu.now.head c.args.pdu.now.bytes.now)) (g.S.BlockStore.disk c.args.store.now) c.reject.new.self c.args.out.now.items c.reject.new.out.items
-    (λ (d : Device). no_room d c.args.self.now (g.S.BlockStore.disk c.args.store.now) (message c.args.continued c.args.pdu.now.head c.args.pdu.now.bytes.now) (sym c.has_write.ensures ∙ c.if-has_write.true)) c.reject.ensures.ok
+    reply_if c.reject.result (g.S.BlockStore.failures c.args.store.now) (reject c.args.self.now too_many_immediate c.args.received.now) (λ (d : Device). immediate d c.args.self.now (g.S.BlockStore.disk c.args.store.now) c.args.received.now) (g.S.BlockStore.disk c.args.store.now) c.reject.new.self c.args.out.now.items c.reject.new.out.items
+    (λ (d : Device). no_room d c.args.self.now (g.S.BlockStore.disk c.args.store.now) c.args.received.now (sym c.has_write.ensures ∙ c.if-has_write.true)) c.reject.ensures.ok
