@@ -1,5 +1,5 @@
 -- What the parts of a session do. No reader of its contract needs these.
-use Rattle.std.specs.Prelude.{◌≡◌, ◌≢◌, ◌⊎◌, ℕ, ◌+◌, ◌*◌, ◌≤◌, Option, Some, None, Bool, true, false, not, ◌&&◌, List, [], ◌∷◌, ◌++◌, length, codes}
+use Rattle.std.specs.Prelude.{◌≡◌, ◌≢◌, ◌⊎◌, ℕ, ◌+◌, ◌*◌, ◌≤◌, Option, Some, None, Bool, true, false, not, ◌&&◌, List, [], ◌∷◌, ◌++◌, length, codes, Result, IfOk, OnErr}
 use Rattle.std.specs.Str.{bytes_eq}
 use Rattle.iscsi_stream.specs.Canonical.{canon}
 use Rattle.scsi_disk.specs.Disk.{Disk}
@@ -59,7 +59,23 @@ pub record Replied (r : Reply) (broken : Option ℕ) (new : Machine)
   pub output : after ≡ before ++ canon r.answers
   pub rule_is : broken ≡ r.rule
 
--- The same after any message, over a store whose failures were counted before and after, execution
+-- What was done with a message that leaves the disk: it was answered so, or memory ran out; then
+-- nothing was written, and the session is as it was (own rule).
+pub record Does {E : Type 0} (r : Reply) (result : Result (Option ℕ) E) (old new : Machine)
+    (before after : List ℕ) : Type 0 where
+  pub ok : IfOk result (λ rule. Replied r rule new before after)
+  pub err : OnErr result (new ≡ old)
+  pub unwritten : OnErr result (after ≡ before)
+
+-- The same where memory ran out with the session as it was but for what a closed one drops (own
+-- rule).
+pub record Attempts {E : Type 0} (r : Reply) (result : Result (Option ℕ) E) (old new : Machine)
+    (before after : List ℕ) : Type 0 where
+  pub ok : IfOk result (λ rule. Replied r rule new before after)
+  pub err : OnErr result (closed new ≡ closed old)
+  pub unwritten : OnErr result (after ≡ before)
+
+-- What any message leads to, over a store whose failures were counted before and after, execution
 -- by execution (own rule).
 pub record Serves (failures_before failures_after : ℕ) (step : Device → Stepped) (broken : Option ℕ)
     (new : Machine) (now : Disk) (before after : List ℕ) : Type 0 where
@@ -80,6 +96,15 @@ pub record GivesUp (failures_before failures_after : ℕ) (old new : Machine) (d
   pub rises : failures_before ≤ failures_after
   pub disk_is : now ≡ disk
   pub unwritten : after ≡ before
+
+-- What was done with any message, over a store: it was answered so, or memory ran out (own rule).
+pub record Handles {E : Type 0} (step : Device → Stepped) (result : Result (Option ℕ) E)
+    (old : Machine) (before : Store) (output : List ℕ)
+    (new : Machine) (after : Store) (written : List ℕ) : Type 0 where
+  pub ok : IfOk result (λ rule. Serves before.failures after.failures step rule
+      new after.disk output written)
+  pub err : OnErr result (GivesUp before.failures after.failures
+      old new before.disk after.disk output written)
 
 -- ---- the login
 

@@ -1,12 +1,12 @@
 //! A session between two PDUs.
 
-ghost use Rattle.std.specs.Prelude.{◌≡◌, ◌<◌, ◌^◌, length, OnOk, OnErr, IfOk, None, Some};
+ghost use Rattle.std.specs.Prelude.{◌≡◌, ◌<◌, ◌^◌, length, None, Some};
 ghost use Rattle.iscsi_pdu.specs.Meaning.{Fits};
 ghost use Rattle.iscsi_target.specs.State.{opening, max_cmd_sn, say, counted, closed};
 ghost use Rattle.iscsi_target.specs.Transfer.{joined};
 ghost use Rattle.iscsi_target.specs.Rejecting.{reject, breach};
 ghost use Rattle.iscsi_target.specs.Machine.{is_closed};
-ghost use Rattle.iscsi_target.specs.Inside.{Replied};
+ghost use Rattle.iscsi_target.specs.Inside.{Does};
 
 mod answering;
 mod command;
@@ -155,10 +155,8 @@ impl Course {
     ) -> Result<Option<u8>, AllocError>
         requires fits { Fits head.now }
         requires short { length bytes.now < 2 ^ 24 }
-        ensures ok { IfOk result (λ rule. Replied (say self.old head.now bytes.now) rule
-            self.new out.old.items out.new.items) }
-        ensures err { OnErr result (self.new ≡ self.old) }
-        ensures unwritten { OnErr result (out.new.items ≡ out.old.items) }
+        ensures { Does (say self.old head.now bytes.now) result
+            self.old self.new out.old.items out.new.items }
     {
         write_pdu(head, bytes, out)?;
         self.count();
@@ -205,10 +203,8 @@ impl Course {
         received: &Received<'_>,
         out: &mut Vec<u8>,
     ) -> Result<Option<u8>, AllocError>
-        ensures ok { IfOk result (λ rule. Replied
-            (reject self.old reason received.now) rule self.new out.old.items out.new.items) }
-        ensures err { OnErr result (self.new ≡ self.old) }
-        ensures unwritten { OnErr result (out.new.items ≡ out.old.items) }
+        ensures { Does (reject self.old reason received.now) result
+            self.old self.new out.old.items out.new.items }
     {
         let header = canonical_head(*out.allocator(), &received.pdu, received.continued)?;
         let head = Head::Reject(Reject {
@@ -227,10 +223,8 @@ impl Course {
         received: &Received<'_>,
         out: &mut Vec<u8>,
     ) -> Result<Option<u8>, AllocError>
-        ensures ok { IfOk result (λ broken. Replied
-            (breach self.old rule received.now) broken self.new out.old.items out.new.items) }
-        ensures err { OnErr result (self.new ≡ self.old) }
-        ensures unwritten { OnErr result (out.new.items ≡ out.old.items) }
+        ensures { Does (breach self.old rule received.now) result
+            self.old self.new out.old.items out.new.items }
     {
         self.reject(PROTOCOL_ERROR, received, out)?;
         self.close();

@@ -1,11 +1,11 @@
 //! What a session makes of a PDU.
 
-ghost use Rattle.std.specs.Prelude.{◌≡◌, ◌↔◌, ◌<◌, ◌≤◌, ◌^◌, nat_lt, IsTrue, OnErr, IfOk, true, false};
+ghost use Rattle.std.specs.Prelude.{◌≡◌, ◌↔◌, ◌<◌, ◌≤◌, ◌^◌, nat_lt, IsTrue, true, false};
 ghost use Rattle.iscsi_pdu.specs.Serial.{distance};
-ghost use Rattle.iscsi_target.specs.State.{max_cmd_sn, closed};
+ghost use Rattle.iscsi_target.specs.State.{max_cmd_sn};
 ghost use Rattle.iscsi_target.specs.Login.{login_step};
 ghost use Rattle.iscsi_target.specs.Machine.{is_due_kind, has_write, advanced, handled, immediate, in_turn, due_step, full_step, is_closed, is_over_limit, step_on};
-ghost use Rattle.iscsi_target.specs.Inside.{Replied, Serves, GivesUp};
+ghost use Rattle.iscsi_target.specs.Inside.{Attempts, Handles, store_of};
 
 use super::Course;
 use crate::received::Received;
@@ -16,9 +16,8 @@ use scsi_disk::BlockStore;
 use std::alloc::AllocError;
 
 impl Course {
-    /// Answers a PDU, which continues another login PDU or does not. Says which rule it broke, if
-    /// it broke one. Where memory runs out it has written nothing and changed no block, and the
-    /// session is to be closed.
+    /// Answers a PDU. Says which rule it broke, if it broke one. Where memory runs out it has
+    /// written nothing and changed no block, and the session is to be closed.
     pub fn answer_pdu<S: BlockStore>(
         &mut self,
         received: &Received<'_>,
@@ -27,11 +26,9 @@ impl Course {
     ) -> Result<Option<u8>, AllocError>
         requires within { is_over_limit self.old received.now.segment ≡ false }
         requires live { is_closed self.old ≡ false }
-        ensures ok { IfOk result (λ rule. Serves (S.failures store.old) (S.failures store.new)
-            (λ device. step_on device self.old (S.disk store.old) received.now)
-            rule self.new (S.disk store.new) out.old.items out.new.items) }
-        ensures err { OnErr result (GivesUp (S.failures store.old) (S.failures store.new)
-            self.old self.new (S.disk store.old) (S.disk store.new) out.old.items out.new.items) }
+        ensures { Handles (λ device. step_on device self.old (S.disk store.old) received.now)
+            result self.old (store_of (S.disk store.old) (S.failures store.old)) out.old.items
+            self.new (store_of (S.disk store.new) (S.failures store.new)) out.new.items }
     {
         match self.phase() {
             Phase::Login => self.log_in(received, out),
@@ -46,10 +43,8 @@ impl Course {
         received: &Received<'_>,
         out: &mut Vec<u8>,
     ) -> Result<Option<u8>, AllocError>
-        ensures ok { IfOk result (λ rule. Replied (login_step self.old received.now) rule
-            self.new out.old.items out.new.items) }
-        ensures err { OnErr result (closed self.new ≡ closed self.old) }
-        ensures unwritten { OnErr result (out.new.items ≡ out.old.items) }
+        ensures { Attempts (login_step self.old received.now) result
+            self.old self.new out.old.items out.new.items }
     {
         match &received.pdu.head {
             Head::LoginRequest(request) => self.login_request(request, received, out),
@@ -67,11 +62,9 @@ impl Course {
         store: &mut S,
         out: &mut Vec<u8>,
     ) -> Result<Option<u8>, AllocError>
-        ensures ok { IfOk result (λ rule. Serves (S.failures store.old) (S.failures store.new)
-            (λ device. full_step device self.old (S.disk store.old) received.now)
-            rule self.new (S.disk store.new) out.old.items out.new.items) }
-        ensures err { OnErr result (GivesUp (S.failures store.old) (S.failures store.new)
-            self.old self.new (S.disk store.old) (S.disk store.new) out.old.items out.new.items) }
+        ensures { Handles (λ device. full_step device self.old (S.disk store.old) received.now)
+            result self.old (store_of (S.disk store.old) (S.failures store.old)) out.old.items
+            self.new (store_of (S.disk store.new) (S.failures store.new)) out.new.items }
     {
         if !self.is_due_kind(&received.pdu.head) {
             return self.breach(KIND_NOT_DUE, received, out);
@@ -113,11 +106,10 @@ impl Course {
         out: &mut Vec<u8>,
     ) -> Result<Option<u8>, AllocError>
         requires due { is_due_kind self.old.session received.now.head ≡ true }
-        ensures ok { IfOk result (λ rule. Serves (S.failures store.old) (S.failures store.new)
-            (λ device. due_step device self.old (S.disk store.old) received.now received.now.head)
-            rule self.new (S.disk store.new) out.old.items out.new.items) }
-        ensures err { OnErr result (GivesUp (S.failures store.old) (S.failures store.new)
-            self.old self.new (S.disk store.old) (S.disk store.new) out.old.items out.new.items) }
+        ensures { Handles (λ device. due_step device self.old (S.disk store.old)
+            received.now received.now.head)
+            result self.old (store_of (S.disk store.old) (S.failures store.old)) out.old.items
+            self.new (store_of (S.disk store.new) (S.failures store.new)) out.new.items }
     {
         let (immediate, cmd_sn) = match &received.pdu.head {
             Head::DataOut(head) => return self.data_out(
@@ -148,11 +140,9 @@ impl Course {
         store: &mut S,
         out: &mut Vec<u8>,
     ) -> Result<Option<u8>, AllocError>
-        ensures ok { IfOk result (λ rule. Serves (S.failures store.old) (S.failures store.new)
-            (λ device. immediate device self.old (S.disk store.old) received.now)
-            rule self.new (S.disk store.new) out.old.items out.new.items) }
-        ensures err { OnErr result (GivesUp (S.failures store.old) (S.failures store.new)
-            self.old self.new (S.disk store.old) (S.disk store.new) out.old.items out.new.items) }
+        ensures { Handles (λ device. immediate device self.old (S.disk store.old) received.now)
+            result self.old (store_of (S.disk store.old) (S.failures store.old)) out.old.items
+            self.new (store_of (S.disk store.new) (S.failures store.new)) out.new.items }
     {
         if self.has_write() {
             return self.reject(TOO_MANY_IMMEDIATE, received, out);
@@ -168,11 +158,9 @@ impl Course {
         store: &mut S,
         out: &mut Vec<u8>,
     ) -> Result<Option<u8>, AllocError>
-        ensures ok { IfOk result (λ rule. Serves (S.failures store.old) (S.failures store.new)
-            (λ device. in_turn device self.old (S.disk store.old) received.now cmd_sn)
-            rule self.new (S.disk store.new) out.old.items out.new.items) }
-        ensures err { OnErr result (GivesUp (S.failures store.old) (S.failures store.new)
-            self.old self.new (S.disk store.old) (S.disk store.new) out.old.items out.new.items) }
+        ensures { Handles (λ device. in_turn device self.old (S.disk store.old) received.now cmd_sn)
+            result self.old (store_of (S.disk store.old) (S.failures store.old)) out.old.items
+            self.new (store_of (S.disk store.new) (S.failures store.new)) out.new.items }
     {
         if !self.is_within(cmd_sn) {
             return Ok(None);
@@ -232,11 +220,10 @@ impl Course {
         store: &mut S,
         out: &mut Vec<u8>,
     ) -> Result<Option<u8>, AllocError>
-        ensures ok { IfOk result (λ rule. Serves (S.failures store.old) (S.failures store.new)
-            (λ device. handled device self.old (S.disk store.old) received.now received.now.head)
-            rule self.new (S.disk store.new) out.old.items out.new.items) }
-        ensures err { OnErr result (GivesUp (S.failures store.old) (S.failures store.new)
-            self.old self.new (S.disk store.old) (S.disk store.new) out.old.items out.new.items) }
+        ensures { Handles (λ device. handled device self.old (S.disk store.old)
+            received.now received.now.head)
+            result self.old (store_of (S.disk store.old) (S.failures store.old)) out.old.items
+            self.new (store_of (S.disk store.new) (S.failures store.new)) out.new.items }
     {
         match &received.pdu.head {
             Head::NopOut(head) => self.nop_out(head, received.pdu.bytes, out),

@@ -9,7 +9,7 @@ ghost use Rattle.iscsi_target.specs.State.{closed};
 ghost use Rattle.iscsi_target.specs.Execution.{parts_given, run_given, data_in_head, data_ins, command_answers, execute};
 ghost use Rattle.iscsi_target.specs.Transfer.{is_whole, is_idle, desired};
 ghost use Rattle.iscsi_target.specs.Command.{order_of, breaks_burst_rules, r2t_head, ask, proceed, opened, scsi_command, data_out};
-ghost use Rattle.iscsi_target.specs.Inside.{Replied, Serves, GivesUp};
+ghost use Rattle.iscsi_target.specs.Inside.{Attempts, Handles, store_of};
 
 use super::Course;
 use crate::due::Due;
@@ -37,11 +37,10 @@ impl Course {
         store: &mut S,
         out: &mut Vec<u8>,
     ) -> Result<Option<u8>, AllocError>
-        ensures ok { IfOk result (λ rule. Serves (S.failures store.old) (S.failures store.new)
-            (λ device. scsi_command device self.old (S.disk store.old) received.now command.now bytes.now)
-            rule self.new (S.disk store.new) out.old.items out.new.items) }
-        ensures err { OnErr result (GivesUp (S.failures store.old) (S.failures store.new)
-            self.old self.new (S.disk store.old) (S.disk store.new) out.old.items out.new.items) }
+        ensures { Handles (λ device. scsi_command device self.old (S.disk store.old)
+            received.now command.now bytes.now)
+            result self.old (store_of (S.disk store.old) (S.failures store.old)) out.old.items
+            self.new (store_of (S.disk store.new) (S.failures store.new)) out.new.items }
     {
         if self.breaks_burst_rules(command, bytes.len()) {
             return self.breach(DATA_OUT_OF_ORDER, received, out);
@@ -113,12 +112,9 @@ impl Course {
         out: &mut Vec<u8>,
     ) -> Result<Option<u8>, AllocError>
         requires plan { (n : ℕ) → plan_of order (S.disk store.old).count ≢ Plan.Take n }
-        ensures ok { IfOk result (λ rule. Serves (S.failures store.old) (S.failures store.new)
-            (λ device. execute device self.old (S.disk store.old)
-            tag order [])
-            rule self.new (S.disk store.new) out.old.items out.new.items) }
-        ensures err { OnErr result (GivesUp (S.failures store.old) (S.failures store.new)
-            self.old self.new (S.disk store.old) (S.disk store.new) out.old.items out.new.items) }
+        ensures { Handles (λ device. execute device self.old (S.disk store.old) tag order [])
+            result self.old (store_of (S.disk store.old) (S.failures store.old)) out.old.items
+            self.new (store_of (S.disk store.new) (S.failures store.new)) out.new.items }
     {
         let outcome = execute(*out.allocator(), &order, &[], store)?;
         self.tell(tag, &outcome, out)?;
@@ -241,12 +237,10 @@ impl Course {
     ) -> Result<Option<u8>, AllocError>
         requires plan { plan_of (order_of command.now) (S.disk store.old).count ≡ Plan.Take total }
         requires fits { length bytes.now ≤ total }
-        ensures ok { IfOk result (λ rule. Serves (S.failures store.old) (S.failures store.new)
-            (λ device. proceed device self.old (S.disk store.old)
+        ensures { Handles (λ device. proceed device self.old (S.disk store.old)
             (opened command.now total bytes.now))
-            rule self.new (S.disk store.new) out.old.items out.new.items) }
-        ensures err { OnErr result (GivesUp (S.failures store.old) (S.failures store.new)
-            self.old self.new (S.disk store.old) (S.disk store.new) out.old.items out.new.items) }
+            result self.old (store_of (S.disk store.old) (S.failures store.old)) out.old.items
+            self.new (store_of (S.disk store.new) (S.failures store.new)) out.new.items }
     {
         let write = opened(*out.allocator(), command, total, bytes)?;
         self.write = None;
@@ -262,12 +256,9 @@ impl Course {
         out: &mut Vec<u8>,
     ) -> Result<Option<u8>, AllocError>
         requires { self.old.write ≡ None }
-        ensures ok { IfOk result (λ rule. Serves (S.failures store.old) (S.failures store.new)
-            (λ device. proceed device self.old (S.disk store.old)
-            write)
-            rule self.new (S.disk store.new) out.old.items out.new.items) }
-        ensures err { OnErr result (GivesUp (S.failures store.old) (S.failures store.new)
-            self.old self.new (S.disk store.old) (S.disk store.new) out.old.items out.new.items) }
+        ensures { Handles (λ device. proceed device self.old (S.disk store.old) write)
+            result self.old (store_of (S.disk store.old) (S.failures store.old)) out.old.items
+            self.new (store_of (S.disk store.new) (S.failures store.new)) out.new.items }
     {
         if write.is_whole() {
             return self.execute_write(&write, store, out);
@@ -288,12 +279,10 @@ impl Course {
         out: &mut Vec<u8>,
     ) -> Result<Option<u8>, AllocError>
         requires { is_whole write.now ≡ true }
-        ensures ok { IfOk result (λ rule. Serves (S.failures store.old) (S.failures store.new)
-            (λ device. execute device self.old (S.disk store.old)
+        ensures { Handles (λ device. execute device self.old (S.disk store.old)
             write.now.initiator_task_tag write.now.order write.now.pieces)
-            rule self.new (S.disk store.new) out.old.items out.new.items) }
-        ensures err { OnErr result (GivesUp (S.failures store.old) (S.failures store.new)
-            self.old self.new (S.disk store.old) (S.disk store.new) out.old.items out.new.items) }
+            result self.old (store_of (S.disk store.old) (S.failures store.old)) out.old.items
+            self.new (store_of (S.disk store.new) (S.failures store.new)) out.new.items }
     {
         out.reserve(RESPONSE_LEN)?;
         let outcome = execute(*out.allocator(), &write.order, &write.data, store)?;
@@ -310,10 +299,8 @@ impl Course {
         requires whole { is_whole write ≡ false }
         requires closed { self.old.write ≡ None }
         requires idle { is_idle write.due ≡ true }
-        ensures ok { IfOk result (λ rule. Replied
-            (ask (record self.old { write = Some write }) write) rule self.new out.old.items out.new.items) }
-        ensures err { OnErr result (closed self.new ≡ closed self.old) }
-        ensures unwritten { OnErr result (out.new.items ≡ out.old.items) }
+        ensures { Attempts (ask (record self.old { write = Some write }) write) result
+            self.old self.new out.old.items out.new.items }
     {
         let mut write = write;
         let desired = write.desired(self.max_burst());
@@ -355,11 +342,10 @@ impl Course {
         out: &mut Vec<u8>,
     ) -> Result<Option<u8>, AllocError>
         requires { length bytes.now < 2 ^ 24 }
-        ensures ok { IfOk result (λ rule. Serves (S.failures store.old) (S.failures store.new)
-            (λ device. data_out device self.old (S.disk store.old) received.now head.now bytes.now)
-            rule self.new (S.disk store.new) out.old.items out.new.items) }
-        ensures err { OnErr result (GivesUp (S.failures store.old) (S.failures store.new)
-            self.old self.new (S.disk store.old) (S.disk store.new) out.old.items out.new.items) }
+        ensures { Handles (λ device. data_out device self.old (S.disk store.old)
+            received.now head.now bytes.now)
+            result self.old (store_of (S.disk store.old) (S.failures store.old)) out.old.items
+            self.new (store_of (S.disk store.new) (S.failures store.new)) out.new.items }
     {
         let Some(write) = self.take_write() else {
             return Ok(None);

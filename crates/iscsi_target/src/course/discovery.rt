@@ -1,13 +1,13 @@
 //! The answer to a Text Request (RFC 7143, sections 11.10 and 11.11, and appendix C).
 
-ghost use Rattle.std.specs.Prelude.{◌≡◌, ◌<◌, ◌^◌, ◌+◌, ◌++◌, true, length, drop, codes, OnErr, OnOk, IfOk};
+ghost use Rattle.std.specs.Prelude.{◌≡◌, ◌<◌, ◌+◌, ◌++◌, true, length, drop, codes, OnOk, IfOk};
 ghost use Rattle.iscsi_text.specs.Canonical.{canonical_text};
 ghost use Rattle.iscsi_text.specs.Value.{Plain};
 ghost use Rattle.iscsi_text.specs.Text.{IsInOrder};
 ghost use Rattle.iscsi_text.specs.Inside.{all_shown};
 ghost use Rattle.iscsi_text.specs.Reading.{placed};
 ghost use Rattle.iscsi_target.specs.Discovery.{text_request, is_asked, word_for, replies, name_if, reply_pairs};
-ghost use Rattle.iscsi_target.specs.Inside.{Replied, has_first, has_reply, shown_option};
+ghost use Rattle.iscsi_target.specs.Inside.{Does, has_first, has_reply, shown_option};
 
 use super::Course;
 use crate::received::Received;
@@ -27,10 +27,8 @@ impl Course {
         received: &Received<'_>,
         out: &mut Vec<u8>,
     ) -> Result<Option<u8>, AllocError>
-        ensures ok { IfOk result (λ rule. Replied (text_request self.old received.now request.now bytes.now)
-            rule self.new out.old.items out.new.items) }
-        ensures err { OnErr result (self.new ≡ self.old) }
-        ensures unwritten { OnErr result (out.new.items ≡ out.old.items) }
+        ensures { Does (text_request self.old received.now request.now bytes.now) result
+            self.old self.new out.old.items out.new.items }
     {
         if !request.is_final || request.continues || request.target_transfer_tag != RESERVED_TAG {
             return self.breach(TEXT_AT_FAULT, received, out);

@@ -11,7 +11,7 @@ ghost use Rattle.iscsi_stream.specs.Segment.{Bytes, Text as Whole, segment_of, t
 ghost use Rattle.iscsi_target.specs.State.{closed};
 ghost use Rattle.scsi_disk.specs.Plan.{first_of};
 ghost use Rattle.iscsi_target.specs.Login.{stage_named, is_due_stage, is_move, stage_asked, stage_after, tsih_at, phase_at, response, refuse, after_text, whole_text, segment_taken, request_refusals, login_request};
-ghost use Rattle.iscsi_target.specs.Inside.{Replied, left_by, login_answer};
+ghost use Rattle.iscsi_target.specs.Inside.{Replied, Does, Attempts, left_by, login_answer};
 
 use super::Course;
 use super::login_text::given_with;
@@ -35,10 +35,8 @@ impl Course {
         out: &mut Vec<u8>,
     ) -> Result<Option<u8>, AllocError>
         requires { received.now.head ≡ heads.LoginRequest request.now }
-        ensures ok { IfOk result (λ rule. Replied (login_request self.old request.now
-            received.now.segment) rule self.new out.old.items out.new.items) }
-        ensures err { OnErr result (closed self.new ≡ closed self.old) }
-        ensures unwritten { OnErr result (out.new.items ≡ out.old.items) }
+        ensures { Attempts (login_request self.old request.now received.now.segment) result
+            self.old self.new out.old.items out.new.items }
     {
         let (begun, exp_cmd_sn, stage) = (self.begun, self.exp_cmd_sn, self.stage);
         let result = self.enter(request, received, out);
@@ -119,10 +117,8 @@ impl Course {
         out: &mut Vec<u8>,
     ) -> Result<Option<u8>, AllocError>
         requires { received.now.head ≡ heads.LoginRequest request.now }
-        ensures ok { IfOk result (λ rule. Replied (segment_taken self.old request.now
-            received.now.segment) rule self.new out.old.items out.new.items) }
-        ensures err { OnErr result (closed self.new ≡ closed self.old) }
-        ensures unwritten { OnErr result (out.new.items ≡ out.old.items) }
+        ensures { Attempts (segment_taken self.old request.now received.now.segment) result
+            self.old self.new out.old.items out.new.items }
     {
         let bytes = received.pdu.bytes;
         match segment_text(*out.allocator(), request, bytes, received.continued)? {
@@ -140,11 +136,8 @@ impl Course {
     ) -> Result<Option<u8>, AllocError>
         requires fits { Fits (heads.LoginRequest request.now) }
         requires whole { request.now.continues ≡ false }
-        ensures ok { IfOk result (λ rule. Replied
-            (segment_taken self.old request.now (Whole text.now)) rule
-            self.new out.old.items out.new.items) }
-        ensures err { OnErr result (closed self.new ≡ closed self.old) }
-        ensures unwritten { OnErr result (out.new.items ≡ out.old.items) }
+        ensures { Attempts (segment_taken self.old request.now (Whole text.now)) result
+            self.old self.new out.old.items out.new.items }
     {
         if self.is_past_limit(text.canonical_len()) {
             return self.refuse(request, Status::OUT_OF_RESOURCES, out);
@@ -161,11 +154,8 @@ impl Course {
         out: &mut Vec<u8>,
     ) -> Result<Option<u8>, AllocError>
         requires fits { Fits (heads.LoginRequest request.now) }
-        ensures ok { IfOk result (λ rule. Replied
-            (segment_taken self.old request.now (Bytes bytes.now)) rule
-            self.new out.old.items out.new.items) }
-        ensures err { OnErr result (closed self.new ≡ closed self.old) }
-        ensures unwritten { OnErr result (out.new.items ≡ out.old.items) }
+        ensures { Attempts (segment_taken self.old request.now (Bytes bytes.now)) result
+            self.old self.new out.old.items out.new.items }
     {
         if self.is_past_limit(bytes.len()) {
             return self.refuse(request, Status::OUT_OF_RESOURCES, out);
@@ -222,11 +212,8 @@ impl Course {
         out: &mut Vec<u8>,
     ) -> Result<Option<u8>, AllocError>
         requires fits { Fits (heads.LoginRequest request.now) }
-        ensures ok { IfOk result (λ rule. Replied
-            (whole_text self.old request.now (Some text.now)) rule
-            self.new out.old.items out.new.items) }
-        ensures err { OnErr result (closed self.new ≡ closed self.old) }
-        ensures unwritten { OnErr result (out.new.items ≡ out.old.items) }
+        ensures { Attempts (whole_text self.old request.now (Some text.now)) result
+            self.old self.new out.old.items out.new.items }
     {
         let answer = answer_text(
             *out.allocator(),
@@ -321,10 +308,8 @@ impl Course {
     ) -> Result<Option<u8>, AllocError>
         requires fits { Fits (heads.LoginRequest request.now) }
         requires class { 0 < why.class }
-        ensures ok { IfOk result (λ rule. Replied (refuse self.old request.now why) rule
-            self.new out.old.items out.new.items) }
-        ensures err { OnErr result (self.new ≡ self.old) }
-        ensures unwritten { OnErr result (out.new.items ≡ out.old.items) }
+        ensures { Does (refuse self.old request.now why) result
+            self.old self.new out.old.items out.new.items }
     {
         let head = Head::LoginResponse(LoginResponse {
             status_class: why.class,

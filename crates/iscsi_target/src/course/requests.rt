@@ -1,8 +1,8 @@
 //! Requests with one answer: pings, task management, logouts.
 
-ghost use Rattle.std.specs.Prelude.{◌≡◌, ◌<◌, ◌^◌, length, OnOk, OnErr, IfOk};
+ghost use Rattle.std.specs.Prelude.{◌<◌, ◌^◌, length};
 ghost use Rattle.iscsi_target.specs.Requests.{nop_out, task_request, logout_request};
-ghost use Rattle.iscsi_target.specs.Inside.{Replied};
+ghost use Rattle.iscsi_target.specs.Inside.{Does};
 
 use super::Course;
 use crate::received::Received;
@@ -22,10 +22,8 @@ impl Course {
         out: &mut Vec<u8>,
     ) -> Result<Option<u8>, AllocError>
         requires { length bytes.now < 2 ^ 24 }
-        ensures ok { IfOk result (λ rule. Replied (nop_out self.old request.now bytes.now) rule
-            self.new out.old.items out.new.items) }
-        ensures err { OnErr result (self.new ≡ self.old) }
-        ensures unwritten { OnErr result (out.new.items ≡ out.old.items) }
+        ensures { Does (nop_out self.old request.now bytes.now) result
+            self.old self.new out.old.items out.new.items }
     {
         if request.initiator_task_tag == RESERVED_TAG {
             return Ok(None);
@@ -48,10 +46,8 @@ impl Course {
         request: &TaskRequest,
         out: &mut Vec<u8>,
     ) -> Result<Option<u8>, AllocError>
-        ensures ok { IfOk result (λ rule. Replied (task_request self.old request.now) rule
-            self.new out.old.items out.new.items) }
-        ensures err { OnErr result (self.new ≡ self.old) }
-        ensures unwritten { OnErr result (out.new.items ≡ out.old.items) }
+        ensures { Does (task_request self.old request.now) result
+            self.old self.new out.old.items out.new.items }
     {
         let head = Head::TaskResponse(TaskResponse {
             response: 5,
@@ -71,10 +67,8 @@ impl Course {
         received: &Received<'_>,
         out: &mut Vec<u8>,
     ) -> Result<Option<u8>, AllocError>
-        ensures ok { IfOk result (λ rule. Replied (logout_request self.old received.now request.now)
-            rule self.new out.old.items out.new.items) }
-        ensures err { OnErr result (self.new ≡ self.old) }
-        ensures unwritten { OnErr result (out.new.items ≡ out.old.items) }
+        ensures { Does (logout_request self.old received.now request.now) result
+            self.old self.new out.old.items out.new.items }
     {
         if request.reason > 1 {
             return self.breach(LOGOUT_REASON, received, out);

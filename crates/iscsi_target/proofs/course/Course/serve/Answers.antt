@@ -1,4 +1,4 @@
-use Rattle.std.proofs.Common.{sym, ◌∙◌}
+use Rattle.std.proofs.Common.{sym, ◌∙◌, rules}
 use Rattle.iscsi_target.specs.Execution.{Device}
 use Rattle.iscsi_target.specs.Machine.{due_step, full_step}
 use Rattle.iscsi_target.specs.Rejecting.{breach}
@@ -7,17 +7,23 @@ use Rattle.iscsi_target.proofs.Serving.{reply_if, serves_if}
 use Rattle.iscsi_target.proofs.Dispatching.{not_due, due_too_long, due_served}
 use Rattle.iscsi_target.proofs.course.Course.serve.Goals as goal
 
-pub returns-then-not-is_due_kind-clause-ok : goal.returns-then-not-is_due_kind-clause-ok
-returns-then-not-is_due_kind-clause-ok g c =
-    reply_if c.breach.result (g.S.BlockStore.failures c.args.store.now) (breach c.args.self.now kind_not_due c.args.received.now) (λ (d : Device). full_step d c.args.self.now (g.S.BlockStore.disk c.args.store.now) c.args.received.now) (g.S.BlockStore.disk c.args.store.now) c.breach.new.self c.args.out.now.items c.breach.new.out.items
-    (λ (d : Device). not_due d c.args.self.now (g.S.BlockStore.disk c.args.store.now) c.received.inside.continued c.received.inside.pdu.head c.received.inside.pdu.bytes.now c.args.received.now c.received.view_is (sym c.is_due_kind.ensures ∙ c.if-not-is_due_kind.true)) c.breach.ensures.ok
+pub returns-then-not-is_due_kind : goal.returns-then-not-is_due_kind
+returns-then-not-is_due_kind g c = record {
+  ok = reply_if c.breach.result (g.S.BlockStore.failures c.args.store.now) (breach c.args.self.now kind_not_due c.args.received.now) (λ (d : Device). full_step d c.args.self.now (g.S.BlockStore.disk c.args.store.now) c.args.received.now) (g.S.BlockStore.disk c.args.store.now) c.breach.new.self c.args.out.now.items c.breach.new.out.items
+      (λ (d : Device). not_due d c.args.self.now (g.S.BlockStore.disk c.args.store.now) c.received.inside.continued c.received.inside.pdu.head c.received.inside.pdu.bytes.now c.args.received.now c.received.view_is (sym c.is_due_kind.ensures ∙ c.if-not-is_due_kind.true)) c.breach.ensures.ok;
+  err = search rules;
+}
 
-pub returns-then-is_too_long-clause-ok : goal.returns-then-is_too_long-clause-ok
-returns-then-is_too_long-clause-ok g c =
-    reply_if c.breach-then-is_too_long.result (g.S.BlockStore.failures c.args.store.now) (breach c.args.self.now segment_too_long c.args.received.now) (λ (d : Device). full_step d c.args.self.now (g.S.BlockStore.disk c.args.store.now) c.args.received.now) (g.S.BlockStore.disk c.args.store.now) c.breach-then-is_too_long.new.self c.args.out.now.items c.breach-then-is_too_long.new.out.items
-    (λ (d : Device). due_too_long d c.args.self.now (g.S.BlockStore.disk c.args.store.now) c.received.inside.continued c.received.inside.pdu.head c.received.inside.pdu.bytes.now c.args.received.now c.received.view_is (sym c.is_due_kind.ensures ∙ c.if-not-is_due_kind.false) (sym c.is_too_long.ensures ∙ c.if-is_too_long.true)) c.breach-then-is_too_long.ensures.ok
+pub returns-then-is_too_long : goal.returns-then-is_too_long
+returns-then-is_too_long g c = record {
+  ok = reply_if c.breach-then-is_too_long.result (g.S.BlockStore.failures c.args.store.now) (breach c.args.self.now segment_too_long c.args.received.now) (λ (d : Device). full_step d c.args.self.now (g.S.BlockStore.disk c.args.store.now) c.args.received.now) (g.S.BlockStore.disk c.args.store.now) c.breach-then-is_too_long.new.self c.args.out.now.items c.breach-then-is_too_long.new.out.items
+      (λ (d : Device). due_too_long d c.args.self.now (g.S.BlockStore.disk c.args.store.now) c.received.inside.continued c.received.inside.pdu.head c.received.inside.pdu.bytes.now c.args.received.now c.received.view_is (sym c.is_due_kind.ensures ∙ c.if-not-is_due_kind.false) (sym c.is_too_long.ensures ∙ c.if-is_too_long.true)) c.breach-then-is_too_long.ensures.ok;
+  err = search rules;
+}
 
-pub returns-clause-ok : goal.returns-clause-ok
-returns-clause-ok g c =
-    serves_if c.serve_due.result (g.S.BlockStore.failures c.args.store.now) (g.S.BlockStore.failures c.serve_due.new.store) (λ (d : Device). full_step d c.args.self.now (g.S.BlockStore.disk c.args.store.now) c.args.received.now) (λ (d : Device). due_step d c.args.self.now (g.S.BlockStore.disk c.args.store.now) c.args.received.now c.args.received.now.head) c.serve_due.new.self (g.S.BlockStore.disk c.serve_due.new.store) c.args.out.now.items c.serve_due.new.out.items
-    (λ (d : Device). due_served d c.args.self.now (g.S.BlockStore.disk c.args.store.now) c.received.inside.continued c.received.inside.pdu.head c.received.inside.pdu.bytes.now c.args.received.now c.received.view_is (sym c.is_due_kind.ensures ∙ c.if-not-is_due_kind.false) (sym c.is_too_long.ensures ∙ c.if-is_too_long.false)) c.serve_due.ensures.ok
+pub returns : goal.returns
+returns g c = record {
+  ok = serves_if c.serve_due.result (g.S.BlockStore.failures c.args.store.now) (g.S.BlockStore.failures c.serve_due.new.store) (λ (d : Device). full_step d c.args.self.now (g.S.BlockStore.disk c.args.store.now) c.args.received.now) (λ (d : Device). due_step d c.args.self.now (g.S.BlockStore.disk c.args.store.now) c.args.received.now c.args.received.now.head) c.serve_due.new.self (g.S.BlockStore.disk c.serve_due.new.store) c.args.out.now.items c.serve_due.new.out.items
+      (λ (d : Device). due_served d c.args.self.now (g.S.BlockStore.disk c.args.store.now) c.received.inside.continued c.received.inside.pdu.head c.received.inside.pdu.bytes.now c.args.received.now c.received.view_is (sym c.is_due_kind.ensures ∙ c.if-not-is_due_kind.false) (sym c.is_too_long.ensures ∙ c.if-is_too_long.false)) c.serve_due.ensures.ok;
+  err = search rules;
+}

@@ -1,4 +1,4 @@
-use Rattle.std.proofs.Common.{sym, ◌∙◌}
+use Rattle.std.proofs.Common.{sym, ◌∙◌, rules}
 use Rattle.iscsi_target.specs.Execution.{Device}
 use Rattle.iscsi_target.specs.Machine.{immediate}
 use Rattle.iscsi_target.specs.Rejecting.{reject}
@@ -7,7 +7,9 @@ use Rattle.iscsi_target.proofs.Serving.{reply_if}
 use Rattle.iscsi_target.proofs.Dispatching.{no_room}
 use Rattle.iscsi_target.proofs.course.Course.serve_at_once.Goals as goal
 
-pub returns-then-has_write-clause-ok : goal.returns-then-has_write-clause-ok
-returns-then-has_write-clause-ok g c =
-    reply_if c.reject.result (g.S.BlockStore.failures c.args.store.now) (reject c.args.self.now too_many_immediate c.args.received.now) (λ (d : Device). immediate d c.args.self.now (g.S.BlockStore.disk c.args.store.now) c.args.received.now) (g.S.BlockStore.disk c.args.store.now) c.reject.new.self c.args.out.now.items c.reject.new.out.items
-    (λ (d : Device). no_room d c.args.self.now (g.S.BlockStore.disk c.args.store.now) c.args.received.now (sym c.has_write.ensures ∙ c.if-has_write.true)) c.reject.ensures.ok
+pub returns-then-has_write : goal.returns-then-has_write
+returns-then-has_write g c = record {
+  ok = reply_if c.reject.result (g.S.BlockStore.failures c.args.store.now) (reject c.args.self.now too_many_immediate c.args.received.now) (λ (d : Device). immediate d c.args.self.now (g.S.BlockStore.disk c.args.store.now) c.args.received.now) (g.S.BlockStore.disk c.args.store.now) c.reject.new.self c.args.out.now.items c.reject.new.out.items
+      (λ (d : Device). no_room d c.args.self.now (g.S.BlockStore.disk c.args.store.now) c.args.received.now (sym c.has_write.ensures ∙ c.if-has_write.true)) c.reject.ensures.ok;
+  err = search rules;
+}
