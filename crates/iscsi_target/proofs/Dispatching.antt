@@ -1,6 +1,6 @@
 -- The steps of a session by the kind of PDU, case by case.
-use Rattle.std.proofs.Common.{◌≡◌, ◌<◌, ◌≤◌, ◌∙◌, ℕ, ◌^◌, List, Bool, true, false, not, length, Option, Some, None, refl, sym, ap, arith, rules}
-use Rattle.std.specs.Prelude.{◌&&◌, nat_lt, if◌then◌else◌, ◌↔◌, IsTrue, Result, Ok, Err, OnErr}
+use Rattle.std.proofs.Common.{◌≡◌, ◌<◌, ◌≤◌, ◌∙◌, ℕ, ◌^◌, List, Bool, true, false, not, length, Option, Some, None, refl, sym, ap, rules}
+use Rattle.std.specs.Prelude.{◌&&◌, nat_lt, if◌then◌else◌, ◌↔◌, IsTrue}
 use Rattle.std.proofs.lemmas.Bool.{le-ltb}
 use Rattle.scsi_disk.specs.Disk.{Disk}
 use Rattle.iscsi_text.specs.Text.{Pairs}
@@ -19,7 +19,7 @@ use Rattle.iscsi_stream.specs.Segment.{segment_if, segment_of, segment_bytes, te
 use Rattle.iscsi_stream.specs.Stream.{Message, message}
 use Rattle.iscsi_login.specs.declared.phase.Phase.{Phase}
 use Rattle.iscsi_login.specs.declared.stage.Session.{Session}
-use Rattle.iscsi_target.specs.State.{Machine, Stepped, limit, on, nothing, shut, max_cmd_sn, closed}
+use Rattle.iscsi_target.specs.State.{Machine, Stepped, limit, on, nothing, shut, max_cmd_sn}
 use Rattle.iscsi_target.specs.Rejecting.{reject, breach}
 use Rattle.iscsi_pdu.specs.Rules.{kind_not_due, segment_too_long, too_many_immediate}
 use Rattle.iscsi_target.specs.Discovery.{text_request}
@@ -27,7 +27,6 @@ use Rattle.iscsi_target.specs.Requests.{nop_out, task_request, logout_request}
 use Rattle.iscsi_target.specs.Command.{scsi_command, data_out}
 use Rattle.iscsi_target.specs.Execution.{Device}
 use Rattle.iscsi_target.specs.Machine.{is_due_kind, handled, accepting, has_write, immediate, advanced, in_turn, due_step, is_too_long, full_step, is_over_limit, phase_step, is_closed, step_on}
-use Rattle.iscsi_target.specs.Inside.{GivesUp}
 
 -- a PDU with no text means its bytes
 plain_at : (c : Bool) (hd : Head) (bytes : List ℕ) → is_last hd ≡ false → segment_bytes (message c hd bytes).segment ≡ bytes
@@ -41,15 +40,6 @@ plain c hd bytes m is e = ap (λ (x : Message). segment_bytes x.segment) (sym is
 -- a message has the head of its PDU
 pub head_of : (c : Bool) (hd : Head) (bytes : List ℕ) (m : Message) (is : message c hd bytes ≡ m) → m.head ≡ hd
 head_of c hd bytes m is = ap (λ (x : Message). x.head) (sym is)
-
-pub gives_up_if : {A E : Type 0} (result : Result A E) (n : ℕ) (old new : Machine) (disk : Disk) (before after : List ℕ) → OnErr result (closed new ≡ closed old) → OnErr result (after ≡ before)
-    → OnErr result (GivesUp n n old new disk disk before after)
-gives_up_if (Ok x) n old new disk before after e f = tt
-gives_up_if (Err x) n old new disk before after e f = record { machine = e; rises = omega arith; disk_is = refl; unwritten = f }
-
-pub closes_same : {A E : Type 0} (result : Result A E) (old new : Machine) → OnErr result (new ≡ old) → OnErr result (closed new ≡ closed old)
-closes_same (Ok x) old new e = tt
-closes_same (Err x) old new e = ap closed e
 
 -- ---- a request that is accepted
 
@@ -72,18 +62,25 @@ pub handles_command : (d : Device) (s : Machine) (disk : Disk) (c : Bool) (hd : 
 handles_command d s disk c hd bytes m is h e =
     sym (ap (handled d s disk m) (head_of c hd bytes m is ∙ e) ∙ ap (λ (b : List ℕ). scsi_command d s disk m h b) (plain c hd bytes m is (ap is_last e)))
 
-other_kind : (d : Device) (s : Machine) (disk : Disk) (m : Message) (hd : Head) → ((h : Ping) → hd ≡ NopOut h → ⊥) → ((h : Command) → hd ≡ ScsiCommand h → ⊥) → ((h : Task) → hd ≡ TaskRequest h → ⊥)
-    → ((h : TextPdu) → hd ≡ TextRequest h → ⊥) → ((h : Logout) → hd ≡ LogoutRequest h → ⊥) → handled d s disk m hd ≡ on disk (breach s kind_not_due m)
-other_kind d s disk m (heads.NopOut h) a b e f g = absurd (a h refl)
-other_kind d s disk m (heads.ScsiCommand h) a b e f g = absurd (b h refl)
-other_kind d s disk m (heads.TaskRequest h) a b e f g = absurd (e h refl)
-other_kind d s disk m (heads.TextRequest h) a b e f g = absurd (f h refl)
-other_kind d s disk m (heads.LogoutRequest h) a b e f g = absurd (g h refl)
-other_kind d s disk m _ a b e f g = refl
+-- a kind of request that is answered or executed
+abbrev pub is_request : Head → Bool
+is_request (heads.NopOut h) = true
+is_request (heads.ScsiCommand h) = true
+is_request (heads.TaskRequest h) = true
+is_request (heads.TextRequest h) = true
+is_request (heads.LogoutRequest h) = true
+is_request _ = false
 
-pub handles_other : (d : Device) (s : Machine) (disk : Disk) (c : Bool) (hd : Head) (bytes : List ℕ) (m : Message) (is : message c hd bytes ≡ m) → ((h : Ping) → hd ≡ NopOut h → ⊥) → ((h : Command) → hd ≡ ScsiCommand h → ⊥) → ((h : Task) → hd ≡ TaskRequest h → ⊥)
-    → ((h : TextPdu) → hd ≡ TextRequest h → ⊥) → ((h : Logout) → hd ≡ LogoutRequest h → ⊥) → handled d s disk m m.head ≡ on disk (breach s kind_not_due m)
-handles_other d s disk c hd bytes m is a b e f g = ap (handled d s disk m) (head_of c hd bytes m is) ∙ other_kind d s disk m hd a b e f g
+other_kind : (d : Device) (s : Machine) (disk : Disk) (m : Message) (hd : Head) → is_request hd ≡ false → handled d s disk m hd ≡ on disk (breach s kind_not_due m)
+other_kind d s disk m (heads.NopOut h) e = absurd cc
+other_kind d s disk m (heads.ScsiCommand h) e = absurd cc
+other_kind d s disk m (heads.TaskRequest h) e = absurd cc
+other_kind d s disk m (heads.TextRequest h) e = absurd cc
+other_kind d s disk m (heads.LogoutRequest h) e = absurd cc
+other_kind d s disk m _ e = refl
+
+pub handles_other : (d : Device) (s : Machine) (disk : Disk) (c : Bool) (hd : Head) (bytes : List ℕ) (m : Message) (is : message c hd bytes ≡ m) → is_request hd ≡ false → handled d s disk m m.head ≡ on disk (breach s kind_not_due m)
+handles_other d s disk c hd bytes m is e = ap (handled d s disk m) (head_of c hd bytes m is) ∙ other_kind d s disk m hd e
 
 -- ---- the order of requests
 

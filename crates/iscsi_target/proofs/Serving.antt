@@ -7,13 +7,13 @@ use Rattle.scsi_disk.specs.Effect.{Effect, Executes, effect}
 use Rattle.scsi_disk.specs.declared.order.Order.{Order}
 use Rattle.iscsi_stream.specs.Stream.{Message}
 use Rattle.iscsi_stream.specs.Canonical.{canon}
-use Rattle.iscsi_target.specs.State.{Machine, Reply, Stepped, Execution, on, counted}
+use Rattle.iscsi_target.specs.State.{Machine, Reply, Stepped, Execution, on, counted, closed}
 use Rattle.iscsi_stream.specs.Pieces.{Pieces, data_of}
 use Rattle.iscsi_target.specs.Transfer.{joined}
 use Rattle.iscsi_target.specs.Execution.{Device, reliable, device_next, execute, command_answers, parts_given}
 use Rattle.iscsi_target.specs.Machine.{RunsIn, accepting}
 use Rattle.iscsi_target.specs.Laws.{joined_execution, joined_stepped}
-use Rattle.iscsi_target.specs.Inside.{Replied, Serves}
+use Rattle.iscsi_target.specs.Inside.{Replied, Serves, GivesUp, Does, Handles, store_of}
 use Rattle.iscsi_target.proofs.OpenWrites.{data_of_one}
 
 pub by_ok : {E A : Type 0} (P Q : A → Type 0) (result : Result A E) → ((x : A) → P x → Q x) → IfOk result P → IfOk result Q
@@ -39,6 +39,18 @@ pub reply_if : {E : Type 0} (result : Result (Option ℕ) E) (n : ℕ) (r : Repl
     → ((d : Device) → f d ≡ on disk r) → IfOk result (λ b. Replied r b new before after) → IfOk result (λ b. Serves n n f b new disk before after)
 reply_if result n r f disk new before after is h =
     by_ok (λ b. Replied r b new before after) (λ b. Serves n n f b new disk before after) result (λ b. reply_serves n r f disk b new before after is) h
+
+gives_up : {A E : Type 0} (result : Result A E) (n : ℕ) (old new : Machine) (disk : Disk) (before after : List ℕ) → OnErr result (new ≡ old) → OnErr result (after ≡ before) → OnErr result (GivesUp n n old new disk disk before after)
+gives_up (Ok x) n old new disk before after e f = tt
+gives_up (Err x) n old new disk before after e f = record { machine = ap closed e; rises = omega arith; disk_is = refl; unwritten = f }
+
+-- what was done with a message that leaves the disk, over any store
+pub does_handles : {E : Type 0} (result : Result (Option ℕ) E) (n : ℕ) (r : Reply) (f : Device → Stepped) (disk : Disk) (old new : Machine) (before after : List ℕ)
+    → ((d : Device) → f d ≡ on disk r) → Does r result old new before after → Handles f result old (store_of disk n) before new (store_of disk n) after
+does_handles result n r f disk old new before after is h = record {
+  ok = reply_if result n r f disk new before after is h.ok;
+  err = gives_up result n old new disk before after h.err h.unwritten;
+}
 
 -- ---- the same step
 

@@ -48,7 +48,22 @@ impl Course {
     {
         match &received.pdu.head {
             Head::LoginRequest(request) => self.login_request(request, received, out),
-            _ => {
+            Head::NopOut(_)
+            | Head::ScsiCommand(_)
+            | Head::TaskRequest(_)
+            | Head::TextRequest(_)
+            | Head::DataOut(_)
+            | Head::LogoutRequest(_)
+            | Head::NopIn(_)
+            | Head::ScsiResponse(_)
+            | Head::TaskResponse(_)
+            | Head::LoginResponse(_)
+            | Head::TextResponse(_)
+            | Head::DataIn(_)
+            | Head::LogoutResponse(_)
+            | Head::ReadyToTransfer(_)
+            | Head::AsyncMessage(_)
+            | Head::Reject(_) => {
                 self.close();
                 Ok(Some(KIND_NOT_DUE))
             }
@@ -124,7 +139,17 @@ impl Course {
             Head::TextRequest(head) => (head.immediate, head.cmd_sn),
             Head::LogoutRequest(head) => (head.immediate, head.cmd_sn),
             Head::ScsiCommand(head) => (head.immediate, head.cmd_sn),
-            _ => return self.breach(KIND_NOT_DUE, received, out),
+            Head::LoginRequest(_)
+            | Head::NopIn(_)
+            | Head::ScsiResponse(_)
+            | Head::TaskResponse(_)
+            | Head::LoginResponse(_)
+            | Head::TextResponse(_)
+            | Head::DataIn(_)
+            | Head::LogoutResponse(_)
+            | Head::ReadyToTransfer(_)
+            | Head::AsyncMessage(_)
+            | Head::Reject(_) => return self.breach(KIND_NOT_DUE, received, out),
         };
         if immediate {
             self.serve_at_once(received, store, out)
@@ -237,7 +262,18 @@ impl Course {
                 store,
                 out,
             ),
-            _ => self.breach(KIND_NOT_DUE, received, out),
+            Head::LoginRequest(_)
+            | Head::DataOut(_)
+            | Head::NopIn(_)
+            | Head::ScsiResponse(_)
+            | Head::TaskResponse(_)
+            | Head::LoginResponse(_)
+            | Head::TextResponse(_)
+            | Head::DataIn(_)
+            | Head::LogoutResponse(_)
+            | Head::ReadyToTransfer(_)
+            | Head::AsyncMessage(_)
+            | Head::Reject(_) => self.breach(KIND_NOT_DUE, received, out),
         }
     }
 }

@@ -1,4 +1,4 @@
-use Rattle.std.proofs.Common.{rules}
+use Rattle.std.proofs.Common.{◌≡◌, false, rules}
 use Rattle.iscsi_target.specs.Execution.{Device}
 use Rattle.iscsi_target.specs.Machine.{handled}
 use Rattle.iscsi_target.specs.Command.{scsi_command}
@@ -6,37 +6,29 @@ use Rattle.iscsi_target.specs.Rejecting.{breach}
 use Rattle.iscsi_pdu.specs.Rules.{kind_not_due}
 use Rattle.iscsi_target.specs.Requests.{nop_out, task_request, logout_request}
 use Rattle.iscsi_target.specs.Discovery.{text_request}
-use Rattle.iscsi_target.proofs.Serving.{reply_if, serves_if}
-use Rattle.iscsi_target.proofs.Dispatching.{handles_ping, handles_task, handles_text, handles_logout, handles_command, handles_other, gives_up_if, closes_same}
+use Rattle.iscsi_target.proofs.Serving.{serves_if, does_handles}
+use Rattle.iscsi_target.proofs.Dispatching.{handles_ping, handles_task, handles_text, handles_logout, handles_command, handles_other, is_request}
 use Rattle.iscsi_target.proofs.course.Course.handle.Goals as goal
 
 pub returns-in-NopOut : goal.returns-in-NopOut
-returns-in-NopOut g c = record {
-  ok = reply_if c.nop_out.result (g.S.BlockStore.failures c.args.store.now) (nop_out c.args.self.now c.in-NopOut.head c.received.inside.pdu.bytes.now) (λ (d : Device). handled d c.args.self.now (g.S.BlockStore.disk c.args.store.now) c.args.received.now c.args.received.now.head) (g.S.BlockStore.disk c.args.store.now) c.nop_out.new.self c.args.out.now.items c.nop_out.new.out.items
-      (λ (d : Device). handles_ping d c.args.self.now (g.S.BlockStore.disk c.args.store.now) c.received.inside.continued c.received.inside.pdu.head c.received.inside.pdu.bytes.now c.args.received.now c.received.view_is c.in-NopOut.head c.in-NopOut.is) c.nop_out.ensures.ok;
-  err = search rules;
-}
+returns-in-NopOut g c =
+    does_handles c.nop_out.result (g.S.BlockStore.failures c.args.store.now) (nop_out c.args.self.now c.in-NopOut.head c.received.inside.pdu.bytes.now) (λ (d : Device). handled d c.args.self.now (g.S.BlockStore.disk c.args.store.now) c.args.received.now c.args.received.now.head) (g.S.BlockStore.disk c.args.store.now) c.args.self.now c.nop_out.new.self c.args.out.now.items c.nop_out.new.out.items
+    (λ (d : Device). handles_ping d c.args.self.now (g.S.BlockStore.disk c.args.store.now) c.received.inside.continued c.received.inside.pdu.head c.received.inside.pdu.bytes.now c.args.received.now c.received.view_is c.in-NopOut.head c.in-NopOut.is) c.nop_out.ensures
 
 pub returns-in-TaskRequest : goal.returns-in-TaskRequest
-returns-in-TaskRequest g c = record {
-  ok = reply_if c.task_request.result (g.S.BlockStore.failures c.args.store.now) (task_request c.args.self.now c.in-TaskRequest.head) (λ (d : Device). handled d c.args.self.now (g.S.BlockStore.disk c.args.store.now) c.args.received.now c.args.received.now.head) (g.S.BlockStore.disk c.args.store.now) c.task_request.new.self c.args.out.now.items c.task_request.new.out.items
-      (λ (d : Device). handles_task d c.args.self.now (g.S.BlockStore.disk c.args.store.now) c.received.inside.continued c.received.inside.pdu.head c.received.inside.pdu.bytes.now c.args.received.now c.received.view_is c.in-TaskRequest.head c.in-TaskRequest.is) c.task_request.ensures.ok;
-  err = search rules;
-}
+returns-in-TaskRequest g c =
+    does_handles c.task_request.result (g.S.BlockStore.failures c.args.store.now) (task_request c.args.self.now c.in-TaskRequest.head) (λ (d : Device). handled d c.args.self.now (g.S.BlockStore.disk c.args.store.now) c.args.received.now c.args.received.now.head) (g.S.BlockStore.disk c.args.store.now) c.args.self.now c.task_request.new.self c.args.out.now.items c.task_request.new.out.items
+    (λ (d : Device). handles_task d c.args.self.now (g.S.BlockStore.disk c.args.store.now) c.received.inside.continued c.received.inside.pdu.head c.received.inside.pdu.bytes.now c.args.received.now c.received.view_is c.in-TaskRequest.head c.in-TaskRequest.is) c.task_request.ensures
 
 pub returns-in-TextRequest : goal.returns-in-TextRequest
-returns-in-TextRequest g c = record {
-  ok = reply_if c.text_request.result (g.S.BlockStore.failures c.args.store.now) (text_request c.args.self.now c.args.received.now c.in-TextRequest.head c.received.inside.pdu.bytes.now) (λ (d : Device). handled d c.args.self.now (g.S.BlockStore.disk c.args.store.now) c.args.received.now c.args.received.now.head) (g.S.BlockStore.disk c.args.store.now) c.text_request.new.self c.args.out.now.items c.text_request.new.out.items
-      (λ (d : Device). handles_text d c.args.self.now (g.S.BlockStore.disk c.args.store.now) c.received.inside.continued c.received.inside.pdu.head c.received.inside.pdu.bytes.now c.args.received.now c.received.view_is c.in-TextRequest.head c.in-TextRequest.is) c.text_request.ensures.ok;
-  err = search rules;
-}
+returns-in-TextRequest g c =
+    does_handles c.text_request.result (g.S.BlockStore.failures c.args.store.now) (text_request c.args.self.now c.args.received.now c.in-TextRequest.head c.received.inside.pdu.bytes.now) (λ (d : Device). handled d c.args.self.now (g.S.BlockStore.disk c.args.store.now) c.args.received.now c.args.received.now.head) (g.S.BlockStore.disk c.args.store.now) c.args.self.now c.text_request.new.self c.args.out.now.items c.text_request.new.out.items
+    (λ (d : Device). handles_text d c.args.self.now (g.S.BlockStore.disk c.args.store.now) c.received.inside.continued c.received.inside.pdu.head c.received.inside.pdu.bytes.now c.args.received.now c.received.view_is c.in-TextRequest.head c.in-TextRequest.is) c.text_request.ensures
 
 pub returns-in-LogoutRequest : goal.returns-in-LogoutRequest
-returns-in-LogoutRequest g c = record {
-  ok = reply_if c.logout_request.result (g.S.BlockStore.failures c.args.store.now) (logout_request c.args.self.now c.args.received.now c.in-LogoutRequest.head) (λ (d : Device). handled d c.args.self.now (g.S.BlockStore.disk c.args.store.now) c.args.received.now c.args.received.now.head) (g.S.BlockStore.disk c.args.store.now) c.logout_request.new.self c.args.out.now.items c.logout_request.new.out.items
-      (λ (d : Device). handles_logout d c.args.self.now (g.S.BlockStore.disk c.args.store.now) c.received.inside.continued c.received.inside.pdu.head c.received.inside.pdu.bytes.now c.args.received.now c.received.view_is c.in-LogoutRequest.head c.in-LogoutRequest.is) c.logout_request.ensures.ok;
-  err = search rules;
-}
+returns-in-LogoutRequest g c =
+    does_handles c.logout_request.result (g.S.BlockStore.failures c.args.store.now) (logout_request c.args.self.now c.args.received.now c.in-LogoutRequest.head) (λ (d : Device). handled d c.args.self.now (g.S.BlockStore.disk c.args.store.now) c.args.received.now c.args.received.now.head) (g.S.BlockStore.disk c.args.store.now) c.args.self.now c.logout_request.new.self c.args.out.now.items c.logout_request.new.out.items
+    (λ (d : Device). handles_logout d c.args.self.now (g.S.BlockStore.disk c.args.store.now) c.received.inside.continued c.received.inside.pdu.head c.received.inside.pdu.bytes.now c.args.received.now c.received.view_is c.in-LogoutRequest.head c.in-LogoutRequest.is) c.logout_request.ensures
 
 pub returns-in-ScsiCommand : goal.returns-in-ScsiCommand
 returns-in-ScsiCommand g c = record {
@@ -45,10 +37,8 @@ returns-in-ScsiCommand g c = record {
   err = search rules;
 }
 
-pub returns-in_default : goal.returns-in_default
-returns-in_default g c = record {
-  ok = reply_if c.breach.result (g.S.BlockStore.failures c.args.store.now) (breach c.args.self.now kind_not_due c.args.received.now) (λ (d : Device). handled d c.args.self.now (g.S.BlockStore.disk c.args.store.now) c.args.received.now c.args.received.now.head) (g.S.BlockStore.disk c.args.store.now) c.breach.new.self c.args.out.now.items c.breach.new.out.items
-      (λ (d : Device). handles_other d c.args.self.now (g.S.BlockStore.disk c.args.store.now) c.received.inside.continued c.received.inside.pdu.head c.received.inside.pdu.bytes.now c.args.received.now c.received.view_is c.in_default.not-NopOut c.in_default.not-ScsiCommand c.in_default.not-TaskRequest c.in_default.not-TextRequest c.in_default.not-LogoutRequest) c.breach.ensures.ok;
-  err = gives_up_if c.breach.result (g.S.BlockStore.failures c.args.store.now) c.args.self.now c.breach.new.self (g.S.BlockStore.disk c.args.store.now) c.args.out.now.items c.breach.new.out.items
-      (closes_same c.breach.result c.args.self.now c.breach.new.self c.breach.ensures.err) c.breach.ensures.unwritten;
-}
+pub returns-in-LoginRequest : goal.returns-in-LoginRequest
+returns-in-LoginRequest g c =
+    let other : is_request c.received.inside.pdu.head ≡ false = search rules in
+    does_handles c.breach.result (g.S.BlockStore.failures c.args.store.now) (breach c.args.self.now kind_not_due c.args.received.now) (λ (d : Device). handled d c.args.self.now (g.S.BlockStore.disk c.args.store.now) c.args.received.now c.args.received.now.head) (g.S.BlockStore.disk c.args.store.now) c.args.self.now c.breach.new.self c.args.out.now.items c.breach.new.out.items
+    (λ (d : Device). handles_other d c.args.self.now (g.S.BlockStore.disk c.args.store.now) c.received.inside.continued c.received.inside.pdu.head c.received.inside.pdu.bytes.now c.args.received.now c.received.view_is other) c.breach.ensures

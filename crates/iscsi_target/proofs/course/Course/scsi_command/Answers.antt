@@ -1,15 +1,13 @@
-use Rattle.std.proofs.Common.{sym, ◌∙◌, rules}
+use Rattle.std.proofs.Common.{sym, ◌∙◌}
 use Rattle.iscsi_target.specs.Execution.{Device}
 use Rattle.iscsi_target.specs.Command.{scsi_command}
 use Rattle.iscsi_target.specs.Rejecting.{breach}
 use Rattle.iscsi_pdu.specs.Rules.{data_out_of_order}
-use Rattle.iscsi_target.proofs.Serving.{reply_if}
+use Rattle.iscsi_target.proofs.Serving.{does_handles}
 use Rattle.iscsi_target.proofs.Commanding.{command_broken}
 use Rattle.iscsi_target.proofs.course.Course.scsi_command.Goals as goal
 
 pub returns-then-breaks_burst_rules : goal.returns-then-breaks_burst_rules
-returns-then-breaks_burst_rules g c = record {
-  ok = reply_if c.breach.result (g.S.BlockStore.failures c.args.store.now) (breach c.args.self.now data_out_of_order c.args.received.now) (λ (d : Device). scsi_command d c.args.self.now (g.S.BlockStore.disk c.args.store.now) c.args.received.now c.args.command.now c.args.bytes.now) (g.S.BlockStore.disk c.args.store.now) c.breach.new.self c.args.out.now.items c.breach.new.out.items
-      (λ (d : Device). command_broken d c.args.self.now (g.S.BlockStore.disk c.args.store.now) c.args.received.now c.args.command.now c.args.bytes.now (sym c.breaks_burst_rules.ensures ∙ c.if-breaks_burst_rules.true)) c.breach.ensures.ok;
-  err = search rules;
-}
+returns-then-breaks_burst_rules g c =
+    does_handles c.breach.result (g.S.BlockStore.failures c.args.store.now) (breach c.args.self.now data_out_of_order c.args.received.now) (λ (d : Device). scsi_command d c.args.self.now (g.S.BlockStore.disk c.args.store.now) c.args.received.now c.args.command.now c.args.bytes.now) (g.S.BlockStore.disk c.args.store.now) c.args.self.now c.breach.new.self c.args.out.now.items c.breach.new.out.items
+    (λ (d : Device). command_broken d c.args.self.now (g.S.BlockStore.disk c.args.store.now) c.args.received.now c.args.command.now c.args.bytes.now (sym c.breaks_burst_rules.ensures ∙ c.if-breaks_burst_rules.true)) c.breach.ensures
