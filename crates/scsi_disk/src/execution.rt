@@ -3,7 +3,7 @@
 ghost use Rattle.std.specs.Prelude.{◌≡◌, ◌+◌, ◌*◌, ◌/◌, ◌<◌, ◌≤◌, length as size, take as front, OnOk, OnErr, IfOk, IsOk, IsErr, IsErrOf, IsTrue};
 ghost use Rattle.scsi_disk.specs.Disk.{Tells, IsOldOrNew, blocks_from, written};
 ghost use Rattle.scsi_disk.specs.Plan.{transfer, is_read, parameter_data, wanted_length, plan_of};
-ghost use Rattle.scsi_disk.specs.Effect.{Effect, IsSupplied, Executes, effect, residual_of, good, check, wanted_data, disk_by, outcome_by};
+ghost use Rattle.scsi_disk.specs.Effect.{Effect, IsSupplied, IsSuppliedBy, Executes, effect, residual_of, good, check, wanted_data, disk_by, outcome_by};
 
 use crate::order::{Order, Outcome, Plan};
 use crate::planning::{
@@ -175,7 +175,29 @@ pub fn execute<S: BlockStore>(
     ensures err { OnErr result (S.disk store.new ≡ S.disk store.old) }
     ensures err_failures { OnErr result (S.failures store.new ≡ S.failures store.old) }
 {
-    match plan(order, store.blocks()) {
+    let planned = plan(order, store.blocks());
+    execute_planned(alloc, order, planned, bytes, store)
+}
+
+/// Executes an order on a store by its plan, for a caller that made the plan. What it does, and
+/// what comes of a failure, is as with `execute`.
+pub fn execute_planned<S: BlockStore>(
+    alloc: Global,
+    order: &Order,
+    planned: Plan,
+    bytes: &[u8],
+    store: &mut S,
+) -> Result<Outcome, AllocError>
+    requires planned { planned ≡ plan_of order.now (S.disk store.old).count }
+    requires supplied { IsSuppliedBy planned bytes.now }
+    ensures ok { IfOk result (λ outcome. Executes (S.failures store.old) (S.failures store.new)
+        (S.disk store.old) order.now bytes.now
+        (record { disk = S.disk store.new; outcome = outcome })) }
+    ensures count { (S.disk store.new).count ≡ (S.disk store.old).count }
+    ensures err { OnErr result (S.disk store.new ≡ S.disk store.old) }
+    ensures err_failures { OnErr result (S.failures store.new ≡ S.failures store.old) }
+{
+    match planned {
         Plan::Refuse(sense) => Ok(check(alloc, order, sense)),
         Plan::Take(length) => {
             let answer = take(alloc, order, bytes, length, store);

@@ -12,7 +12,7 @@ mod running;
 mod sparse;
 mod store;
 
-pub use execution::execute;
+pub use execution::{execute, execute_planned};
 pub use fail_at::FailAt;
 pub use laws::run_without_failures;
 pub use memory::MemoryStore;

@@ -21,7 +21,7 @@ use iscsi_login::{Answered, NegKey};
 use iscsi_pdu::rule::DATA_OUT_OF_ORDER;
 use iscsi_pdu::{DataIn, DataOut, Head, RESERVED_TAG, ReadyToTransfer, ScsiCommand};
 use iscsi_stream::write_pdu;
-use scsi_disk::{BlockStore, Order, Outcome, Plan, execute, plan};
+use scsi_disk::{BlockStore, Order, Outcome, Plan, execute, execute_planned, plan};
 use std::alloc::{AllocError, Global};
 
 /// The most that a response takes: a header, the sense data behind their length, padding.
@@ -46,10 +46,11 @@ impl Course {
             return self.breach(DATA_OUT_OF_ORDER, received, out);
         }
         let order = order_of(command);
-        match plan(&order, store.blocks()) {
+        let planned = plan(&order, store.blocks());
+        match planned {
             Plan::Take(total) => self.open(command, total, bytes, store, out),
             Plan::Refuse(_) | Plan::Give(_) => {
-                self.execute_order(command.initiator_task_tag, order, store, out)
+                self.execute_order(command.initiator_task_tag, order, planned, store, out)
             }
         }
     }
@@ -103,20 +104,22 @@ impl Course {
         self.held.first_burst()
     }
 
-    // Executes an order that takes no data: its data go out, and its response.
+    // Executes an order that takes no data, by its plan: its data go out, and its response.
     fn execute_order<S: BlockStore>(
         &mut self,
         tag: u32,
         order: Order,
+        planned: Plan,
         store: &mut S,
         out: &mut Vec<u8>,
     ) -> Result<Option<u8>, AllocError>
-        requires plan { (n : ℕ) → plan_of order (S.disk store.old).count ≢ Plan.Take n }
+        requires planned { planned ≡ plan_of order (S.disk store.old).count }
+        requires gives { (n : ℕ) → plan_of order (S.disk store.old).count ≢ Plan.Take n }
         ensures { Handles (λ device. execute device self.old (S.disk store.old) tag order [])
             result self.old (store_of (S.disk store.old) (S.failures store.old)) out.old.items
             self.new (store_of (S.disk store.new) (S.failures store.new)) out.new.items }
     {
-        let outcome = execute(*out.allocator(), &order, &[], store)?;
+        let outcome = execute_planned(*out.allocator(), &order, planned, &[], store)?;
         self.tell(tag, &outcome, out)?;
         self.count();
         Ok(None)
