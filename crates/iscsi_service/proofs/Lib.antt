@@ -1,3 +1,4 @@
+pub mod SessionEnds
 pub mod SessionReads
 pub mod Scripts
 pub mod Reported

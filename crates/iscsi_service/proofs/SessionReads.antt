@@ -6,26 +6,25 @@ use Rattle.scsi_disk.specs.Disk.{Disk}
 use Rattle.iscsi_stream.specs.Stream.{Splits, longest_segment}
 use Rattle.iscsi_stream.specs.Canonical.{canon}
 use Rattle.iscsi_stream.specs.Normalising.{WroteFront}
-use Rattle.iscsi_stream.proofs.Taking.{at_opening, taken_more}
+use Rattle.iscsi_stream.proofs.Taking.{taken_more}
 use Rattle.iscsi_stream.proofs.Ready.{apart}
 use Rattle.iscsi_login.specs.declared.phase.Phase.{Phase}
 use Rattle.iscsi_login.specs.Negotiation.{IsInRange}
 use Rattle.iscsi_target.specs.declared.fault.TargetFault.{TargetFault}
 use Rattle.iscsi_target.specs.declared.fault.TargetFault.TheVariants as faults
 use Rattle.iscsi_target.specs.Configured.{Settings}
-use Rattle.iscsi_target.specs.State.{Execution, limit}
-use Rattle.iscsi_target.specs.Machine.{answers, is_closed}
+use Rattle.iscsi_target.specs.Machine.{is_closed}
 use Rattle.iscsi_login.specs.Stage.{is_closed_phase}
-use Rattle.iscsi_target.specs.Feed.{Connection, Store, Fed, FedIf, FedNext, FedNextIf, Feeds, Stays, HasAnswered, FedAll, GoesWell, opening_connection, stream_of}
+use Rattle.iscsi_target.specs.Feed.{Connection, Store, Fed, FedIf, FedNext, FedNextIf, Feeds, Stays, FedAll, GoesWell, Finishes, opening_connection, stream_of}
 use Rattle.iscsi_target.specs.Laws.{Leads}
-use Rattle.iscsi_target.proofs.Feeding.{Told, told, fed_any}
-use Rattle.iscsi_target.proofs.Streaming.{goes_on}
+use Rattle.iscsi_target.proofs.Feeding.{fed_any}
 use Rattle.iscsi_target.proofs.Leading.{may_leads, leads_append}
 use Rattle.iscsi_service.specs.declared.session.SessionFault.{SessionFault}
 use Rattle.iscsi_service.specs.declared.session.SessionFault.TheVariants as session
-use Rattle.iscsi_service.specs.Session.{HasExecuted, ServesAll, Serves, IsOver, EndsWell}
-use Rattle.iscsi_service.specs.SessionSteps.{ServedUpTo, Service, service, Goes, ClosesBy, Loses, Breaks}
+use Rattle.iscsi_service.specs.Session.{target_settings, HasExecuted, ServesAll, ServesFirst, Serves, IsOver, EndsBy, EndsWell}
+use Rattle.iscsi_service.specs.SessionSteps.{ServedUpTo, Service, service, Goes, ClosesBy, Tells, Loses, RunsOut, Breaks}
 use Rattle.iscsi_service.specs.Serving.{session_fault, ServesOne}
+use Rattle.iscsi_service.proofs.SessionEnds.{Stands, stands_first, stands_answered, read_told, end_told, finish_told, fault_told, first_told, over_told}
 
 -- what a call has read and written
 abbrev pub Leaves : Option (List ℕ) → Option (List ℕ) → Option (List ℕ) → Option (List ℕ) → (List ℕ → List ℕ → Type 0) → Type 0
@@ -161,7 +160,24 @@ rest_dropped steady settings first stream target store start contents waiting re
     (subst (λ (b : Bool). FedIf b target store waiting rest (Err faults.Closed) target store waiting) (sym over) stays)
     (λ h. record { memory = λ e. cc; device = refl })
 
+-- the target stands behind what was served
+stands_up : (steady : Type 0) (settings : Settings) (first : Store) (stream : List ℕ) (target : Connection) (store : Store) (start contents : Option (List ℕ)) (waiting : List ℕ)
+    → (up : ServedUpTo steady settings first stream target store start contents waiting) → steady → is_closed target.machine ≡ false → Stands settings first.disk stream target store.disk (up.sent ++ waiting)
+stands_up steady settings first stream target store start contents waiting up h live =
+    subst (λ (x : List ℕ). Stands settings first.disk x target store.disk (up.sent ++ waiting)) (sym up.whole)
+    (stands_answered settings first.disk [] up.pieces (opening_connection settings 1) target first store [] (up.sent ++ waiting) (stands_first settings first.disk) (up.fed h) live)
+
+-- a call in a session that is not closed, behind what was written
+feeds_live : (old new : Connection) (before after : Store) (front piece out written : List ℕ) (result : Result Phase TargetFault) → is_closed old.machine ≡ false → Fed old before out piece result new after written
+    → Feeds old before (front ++ out) piece result new after (front ++ written)
+feeds_live old new before after front piece out written result live f =
+    subst (λ (b : Bool). FedIf b old before (front ++ out) piece result new after (front ++ written)) live (fed_behind (is_closed old.machine) old new before after front piece out written result f)
+
 -- ---- one PDU
+
+either : (b : Bool) → (b ≡ true) ⊎ (b ≡ false)
+either true = inl refl
+either false = inr refl
 
 next_is : (b : Bool) (old new : Connection) (before after : Store) (out piece written : List ℕ) (done : ℕ × Phase)
     → FedNextIf b old before out piece (Ok done) new after written → FedIf b old before out (take done.0 piece) (Ok done.1) new after written
@@ -212,21 +228,44 @@ fault_served_to steady old new before after contents now out piece written fault
     written_out steady settings first (stream ++ piece) new after start contents now written
     (served_more steady settings first stream old new before after start contents out piece written (Err fault) up (next_fails (is_closed old.machine) old new before after out piece written fault f) well) wrote
 
+-- why a session ends by a fault that a call of feed_next answers
+fault_tells : (steady : Type 0) (old new : Connection) (before after : Store) (contents : Option (List ℕ)) (out piece written : List ℕ) (fault : TargetFault) → is_closed old.machine ≡ false
+    → FedNext old before out piece (Err fault) new after written → (steady → after.failures ≡ before.failures) → Tells steady (service old before contents out) piece (session.Target fault)
+fault_tells steady old new before after contents out piece written fault live f same = λ settings first stream start up h.
+    fault_told fault settings first.disk stream piece old new before after (up.sent ++ out) (up.sent ++ written)
+    (stands_up steady settings first stream old before start contents out up h live) live
+    (feeds_live old new before after up.sent piece out written (Err fault) live (next_fails (is_closed old.machine) old new before after out piece written fault f)) (same h)
+
+fault_goes : (steady : Type 0) (old new : Connection) (before after : Store) (contents now : Option (List ℕ)) (out piece written : List ℕ) (fault : TargetFault) → (fault ≡ faults.NoMemory → ⊥) → is_closed old.machine ≡ false
+    → FedNext old before out piece (Err fault) new after written → (steady → after.failures ≡ before.failures) → Appends contents now written
+    → Goes steady (service old before contents out) piece (service new after now []) × Tells steady (service old before contents out) piece (session.Target fault)
+fault_goes steady old new before after contents now out piece written fault some live f same wrote = (
+  fault_served_to steady old new before after contents now out piece written fault f (λ h. record { memory = λ e. some (err_is e); device = same h }) wrote,
+  fault_tells steady old new before after contents out piece written fault live f same,
+)
+  where
+    err_is : {T : Type 0} {a b : TargetFault} → (let x : Result T TargetFault = Err a in let y : Result T TargetFault = Err b in x ≡ y) → a ≡ b
+    err_is e = cc
+
 -- a fault that a call of feed_next answers, and then the answers were written
-pub fault_breaks : (steady : Type 0) (old new : Connection) (before after : Store) (contents now : Option (List ℕ)) (out piece written : List ℕ) (fault : TargetFault)
+pub fault_breaks : (steady : Type 0) (old new : Connection) (before after : Store) (contents now : Option (List ℕ)) (out piece written : List ℕ) (fault : TargetFault) → is_closed old.machine ≡ false
     → FedNext old before out piece (Err fault) new after written → (steady → after.failures ≡ before.failures) → Appends contents now written
     → Breaks steady (service old before contents out) piece (session.Target fault) (service new after now [])
-fault_breaks steady old new before after contents now out piece written faults.NoMemory f same wrote = λ settings first stream start up. (
+fault_breaks steady old new before after contents now out piece written faults.NoMemory live f same wrote = λ settings first stream start up. (
   up.sent ++ written,
   Appends-trans start contents now up.sent written up.appended wrote,
   executed_next first.disk old new before after out piece written (Err faults.NoMemory) up.executed f,
+  λ h.
+      first_told settings first.disk stream piece old new before after (up.sent ++ out) (up.sent ++ written)
+      (stands_up steady settings first stream old before start contents out up h live)
+      (feeds_live old new before after up.sent piece out written (Err faults.NoMemory) live (next_fails (is_closed old.machine) old new before after out piece written faults.NoMemory f)) (same h),
 )
-fault_breaks steady old new before after contents now out piece written (faults.Stream fault) f same wrote =
-    fault_served_to steady old new before after contents now out piece written (faults.Stream fault) f (λ h. record { memory = λ e. cc; device = same h }) wrote
-fault_breaks steady old new before after contents now out piece written (faults.Protocol rule) f same wrote =
-    fault_served_to steady old new before after contents now out piece written (faults.Protocol rule) f (λ h. record { memory = λ e. cc; device = same h }) wrote
-fault_breaks steady old new before after contents now out piece written faults.Closed f same wrote =
-    fault_served_to steady old new before after contents now out piece written faults.Closed f (λ h. record { memory = λ e. cc; device = same h }) wrote
+fault_breaks steady old new before after contents now out piece written (faults.Stream fault) live f same wrote =
+    fault_goes steady old new before after contents now out piece written (faults.Stream fault) (λ e. cc) live f same wrote
+fault_breaks steady old new before after contents now out piece written (faults.Protocol rule) live f same wrote =
+    fault_goes steady old new before after contents now out piece written (faults.Protocol rule) (λ e. cc) live f same wrote
+fault_breaks steady old new before after contents now out piece written faults.Closed live f same wrote =
+    (subst (λ (b : Bool). FedIf b old before out piece (Err faults.Closed) new after written) live (next_fails (is_closed old.machine) old new before after out piece written faults.Closed f)).ends
 
 -- ---- bytes after bytes
 
@@ -237,24 +276,37 @@ goes_then steady old mid new a b p q = λ settings first stream start up.
 loses_then : (steady : Type 0) (old mid new : Service) (a : List ℕ) → Goes steady old a mid → Loses steady mid new → Loses steady old new
 loses_then steady old mid new a p q = λ settings first stream start up. q settings first (stream ++ a) start (p settings first stream start up)
 
+tells_then : (steady : Type 0) (old mid : Service) (a b : List ℕ) (fault : SessionFault) → Goes steady old a mid → Tells steady mid b fault → Tells steady old (a ++ b) fault
+tells_then steady old mid a b fault p q = λ settings first stream start up h.
+    subst (λ (x : List ℕ). EndsBy settings first.disk (Err fault) x) (append_assoc stream a b) (q settings first (stream ++ a) start (p settings first stream start up) h)
+
+runs_out_then : (steady : Type 0) (old mid new : Service) (a b : List ℕ) → Goes steady old a mid → RunsOut steady mid b new → RunsOut steady old (a ++ b) new
+runs_out_then steady old mid new a b p q = λ settings first stream start up.
+    let l = q settings first (stream ++ a) start (p settings first stream start up) in
+    (l.0, l.1, l.2, λ h. subst (λ (x : List ℕ). ServesFirst settings first.disk x new.store.disk l.0) (append_assoc stream a b) (l.3 h))
+
 pub breaks_then : (steady : Type 0) (old mid new : Service) (a b : List ℕ) (fault : SessionFault) → Goes steady old a mid → Breaks steady mid b fault new → Breaks steady old (a ++ b) fault new
-breaks_then steady old mid new a b (session.Target faults.NoMemory) p q = loses_then steady old mid new a p q
-breaks_then steady old mid new a b (session.Target (faults.Stream fault)) p q = goes_then steady old mid new a b p q
-breaks_then steady old mid new a b (session.Target (faults.Protocol rule)) p q = goes_then steady old mid new a b p q
-breaks_then steady old mid new a b (session.Target faults.Closed) p q = goes_then steady old mid new a b p q
+breaks_then steady old mid new a b (session.Target faults.NoMemory) p q = runs_out_then steady old mid new a b p q
+breaks_then steady old mid new a b (session.Target (faults.Stream fault)) p q =
+    (goes_then steady old mid new a b p q.0, tells_then steady old mid a b (session.Target (faults.Stream fault)) p q.1)
+breaks_then steady old mid new a b (session.Target (faults.Protocol rule)) p q =
+    (goes_then steady old mid new a b p q.0, tells_then steady old mid a b (session.Target (faults.Protocol rule)) p q.1)
+breaks_then steady old mid new a b (session.Target faults.Closed) p q = q
 breaks_then steady old mid new a b session.Read p q = q
 breaks_then steady old mid new a b session.Write p q = loses_then steady old mid new a p q
 
 is_over_more : (settings : Settings) (disk : Disk) (read more : List ℕ) → IsOver settings disk read → IsOver settings disk (read ++ more)
-is_over_more settings disk read more o = record {
-  front = o.front;
-  rest = o.rest ++ more;
-  split = ap (λ (x : List ℕ). x ++ more) o.split ∙ append_assoc o.front o.rest more;
-  messages = o.messages;
-  framing = o.framing;
-  taken = o.taken;
-  closed = o.closed;
-}
+is_over_more settings disk read more o = (
+  record {
+    messages = o.0.messages;
+    given = o.0.given;
+    rest = o.0.rest ++ more;
+    whole = ap (λ (x : List ℕ). x ++ more) o.0.whole ∙ append_assoc o.0.given o.0.rest more;
+    reads = o.0.reads;
+  },
+  o.1,
+  o.2,
+)
 
 -- no bytes change nothing
 goes_none : (steady : Type 0) (s : Service) → Goes steady s [] s
@@ -345,128 +397,103 @@ all_served steady settings first stream now store w0 w1 up range h ms given rest
     (subst (λ (x : List ℕ). FedAll (opening_connection settings 1) first [] up.pieces now store x) (append-nil up.sent) (up.fed h))
     (subst (λ (x : List ℕ). Splits longest_segment x ms given rest) up.whole s)
 
-pub stops : (steady : Type 0) (settings : Settings) (first : Store) (now : Connection) (store : Store) (r0 r1 w0 w1 : Option (List ℕ)) → ReadUpTo steady settings first now store r0 r1 w0 w1
-    → Leaves r0 r1 w0 w1 (Given steady settings (λ read written. ServesAll settings first.disk read store.disk written))
-stops steady settings first now store r0 r1 w0 w1 up = (up.stream, up.served.sent, up.consumed, up.served.appended, all_served steady settings first up.stream now store w0 w1 up.served)
+-- what is said where a session ends so
+abbrev pub Ended : Type 0 → Settings → Store → Store → Result (Unit {0}) SessionFault → List ℕ → List ℕ → Type 0
+Ended steady settings first store result = Given steady settings (λ read written. Serves settings first.disk result read store.disk written × EndsBy settings first.disk result read)
+
+stops : (steady : Type 0) (settings : Settings) (result : Result (Unit {0}) SessionFault) (first : Store) (now : Connection) (store : Store) (r0 r1 w0 w1 : Option (List ℕ)) → (up : ReadUpTo steady settings first now store r0 r1 w0 w1)
+    → ((read written : List ℕ) → ServesAll settings first.disk read store.disk written → Serves settings first.disk result read store.disk written) → (steady → EndsBy settings first.disk result up.stream)
+    → Leaves r0 r1 w0 w1 (Ended steady settings first store result)
+stops steady settings result first now store r0 r1 w0 w1 up due why =
+    (up.stream, up.served.sent, up.consumed, up.served.appended, λ range h. (due up.stream up.served.sent (all_served steady settings first up.stream now store w0 w1 up.served range h), why h))
+
+-- a target that stands behind what was read
+read_stands : (steady : Type 0) (settings : Settings) (first : Store) (now : Connection) (store : Store) (r0 r1 w0 w1 : Option (List ℕ)) → (up : ReadUpTo steady settings first now store r0 r1 w0 w1) → steady → is_closed now.machine ≡ false
+    → Stands settings first.disk up.stream now store.disk (up.served.sent ++ [])
+read_stands steady settings first now store r0 r1 w0 w1 up h live = stands_up steady settings first up.stream now store w0 w1 [] up.served h live
 
 -- a read failed
-pub read_stops : (steady : Type 0) (settings : Settings) (first : Store) (now : Connection) (store : Store) (r0 r1 r2 w0 w1 : Option (List ℕ)) → ReadUpTo steady settings first now store r0 r1 w0 w1 → Keeps r1 r2
-    → Leaves r0 r2 w0 w1 (Given steady settings (λ read written. ServesAll settings first.disk read store.disk written))
-read_stops steady settings first now store r0 r1 r2 w0 w1 up kept =
-    stops steady settings first now store r0 r2 w0 w1 (record { stream = up.stream; consumed = Consumes-kept r0 r1 r2 up.stream up.consumed kept; served = up.served })
+pub read_stops : (steady : Type 0) (settings : Settings) (first : Store) (now : Connection) (store : Store) (r0 r1 r2 w0 w1 : Option (List ℕ)) → ReadUpTo steady settings first now store r0 r1 w0 w1 → is_closed now.machine ≡ false → Keeps r1 r2
+    → Leaves r0 r2 w0 w1 (Ended steady settings first store (Err session.Read))
+read_stops steady settings first now store r0 r1 r2 w0 w1 up live kept =
+    stops steady settings (Err session.Read) first now store r0 r2 w0 w1 (record { stream = up.stream; consumed = Consumes-kept r0 r1 r2 up.stream up.consumed kept; served = up.served }) (λ read written a. a)
+    (λ h. read_told settings first.disk up.stream now store.disk (up.served.sent ++ []) (read_stands steady settings first now store r0 r1 w0 w1 up h live) live)
 
--- the stream ended
-pub end_stops : (steady : Type 0) (settings : Settings) (first : Store) (now : Connection) (store : Store) (r0 r1 r2 w0 w1 : Option (List ℕ)) → ReadUpTo steady settings first now store r0 r1 w0 w1 → Consumes r1 r2 []
-    → Leaves r0 r2 w0 w1 (Given steady settings (λ read written. ServesAll settings first.disk read store.disk written))
-end_stops steady settings first now store r0 r1 r2 w0 w1 up read =
-    stops steady settings first now store r0 r2 w0 w1 (record {
-      stream = up.stream;
-      consumed = subst (λ (x : List ℕ). Consumes r0 r2 x) (append-nil up.stream) (Consumes-trans r0 r1 r2 up.stream [] up.consumed read);
-      served = up.served;
-    })
+-- there were too many reads
+pub reads_stop : (steady : Type 0) (settings : Settings) (first : Store) (now : Connection) (store : Store) (r0 r1 w0 w1 : Option (List ℕ)) → ReadUpTo steady settings first now store r0 r1 w0 w1 → is_closed now.machine ≡ false
+    → Leaves r0 r1 w0 w1 (Ended steady settings first store (Err session.Read))
+reads_stop steady settings first now store r0 r1 w0 w1 up live =
+    stops steady settings (Err session.Read) first now store r0 r1 w0 w1 up (λ read written a. a)
+    (λ h. read_told settings first.disk up.stream now store.disk (up.served.sent ++ []) (read_stands steady settings first now store r0 r1 w0 w1 up h live) live)
 
-any_fault : (settings : Settings) (disk : Disk) (fault : TargetFault) (read : List ℕ) (disk_now : Disk) (written : List ℕ) → ServesAll settings disk read disk_now written
+-- a session that was closed
+pub over_stops : (steady : Type 0) (settings : Settings) (first : Store) (now new : Connection) (store after : Store) (r0 r1 r2 w0 w1 w2 : Option (List ℕ)) (piece : List ℕ)
+    → ReadUpTo steady settings first now store r0 r1 w0 w1 → Consumes r1 r2 piece → Goes steady (service now store w1 []) piece (service new after w2 []) → ClosesBy steady (service now store w1 []) piece
+    → Leaves r0 r2 w0 w2 (Ended steady settings first after (Ok tt))
+over_stops steady settings first now new store after r0 r1 r2 w0 w1 w2 piece up read goes closes =
+    stops steady settings (Ok tt) first new after r0 r2 w0 w2
+    (record { stream = up.stream ++ piece; consumed = Consumes-trans r0 r1 r2 up.stream piece up.consumed read; served = goes settings first up.stream w0 up.served }) (λ read written a. a)
+    (λ h. inl (closes settings first up.stream w0 up.served h))
+
+-- nothing more came
+ended_up : (steady : Type 0) (settings : Settings) (first : Store) (now : Connection) (store : Store) (r0 r1 r2 w0 w1 : Option (List ℕ)) → (up : ReadUpTo steady settings first now store r0 r1 w0 w1) → Consumes r1 r2 [] → Consumes r0 r2 up.stream
+ended_up steady settings first now store r0 r1 r2 w0 w1 up read = subst (λ (x : List ℕ). Consumes r0 r2 x) (append-nil up.stream) (Consumes-trans r0 r1 r2 up.stream [] up.consumed read)
+
+-- the stream ended behind a PDU
+pub end_stops : (steady : Type 0) (settings : Settings) (first : Store) (now new : Connection) (store : Store) (r0 r1 r2 w0 w1 : Option (List ℕ)) → ReadUpTo steady settings first now store r0 r1 w0 w1 → is_closed now.machine ≡ false
+    → Finishes now (Ok tt) new → Consumes r1 r2 [] → Leaves r0 r2 w0 w1 (Ended steady settings first store (Ok tt))
+end_stops steady settings first now new store r0 r1 r2 w0 w1 up live done read =
+    stops steady settings (Ok tt) first now store r0 r2 w0 w1 (record { stream = up.stream; consumed = ended_up steady settings first now store r0 r1 r2 w0 w1 up read; served = up.served }) (λ read written a. a)
+    (λ h. inr (end_told settings first.disk up.stream now new store.disk (up.served.sent ++ []) (read_stands steady settings first now store r0 r1 w0 w1 up h live) live done))
+
+any_fault : (settings : Settings) (disk : Disk) (fault : TargetFault) (new now : Connection) (read : List ℕ) (disk_now : Disk) (written : List ℕ) → is_closed now.machine ≡ false → Finishes now (Err fault) new → ServesAll settings disk read disk_now written
     → Serves settings disk (Err (session.Target fault)) read disk_now written
-any_fault settings disk faults.NoMemory read disk_now written a = tt
-any_fault settings disk (faults.Stream fault) read disk_now written a = a
-any_fault settings disk (faults.Protocol rule) read disk_now written a = a
-any_fault settings disk faults.Closed read disk_now written a = a
+any_fault settings disk faults.NoMemory new now read disk_now written live f a = absurd f
+any_fault settings disk (faults.Stream fault) new now read disk_now written live f a = a
+any_fault settings disk (faults.Protocol rule) new now read disk_now written live f a = a
+any_fault settings disk faults.Closed new now read disk_now written live f a = absurd (apart f.0 live)
 
 -- the stream ended within a PDU
-pub finish_stops : (steady : Type 0) (settings : Settings) (fault : TargetFault) (first : Store) (now : Connection) (store : Store) (r0 r1 r2 w0 w1 : Option (List ℕ)) → ReadUpTo steady settings first now store r0 r1 w0 w1 → Consumes r1 r2 []
-    → Leaves r0 r2 w0 w1 (Given steady settings (λ read written. Serves settings first.disk (Err (session.Target fault)) read store.disk written))
-finish_stops steady settings fault first now store r0 r1 r2 w0 w1 up read =
-    let s = end_stops steady settings first now store r0 r1 r2 w0 w1 up read in (s.0, s.1, s.2, s.3, λ range h. any_fault settings first.disk fault s.0 store.disk s.1 (s.4 range h))
+pub finish_stops : (steady : Type 0) (settings : Settings) (fault : TargetFault) (first : Store) (now new : Connection) (store : Store) (r0 r1 r2 w0 w1 : Option (List ℕ)) → ReadUpTo steady settings first now store r0 r1 w0 w1
+    → is_closed now.machine ≡ false → Finishes now (Err fault) new → Consumes r1 r2 [] → Leaves r0 r2 w0 w1 (Ended steady settings first store (Err (session.Target fault)))
+finish_stops steady settings fault first now new store r0 r1 r2 w0 w1 up live fails read =
+    stops steady settings (Err (session.Target fault)) first now store r0 r2 w0 w1 (record { stream = up.stream; consumed = ended_up steady settings first now store r0 r1 r2 w0 w1 up read; served = up.served })
+    (λ read written a. any_fault settings first.disk fault new now read store.disk written live fails a)
+    (λ h. finish_told fault settings first.disk up.stream now new store.disk (up.served.sent ++ []) (read_stands steady settings first now store r0 r1 w0 w1 up h live) live fails)
 
--- a session that ends by a fault
-loses : (steady : Type 0) (settings : Settings) (first : Store) (now new : Connection) (store after : Store) (r0 r1 r2 w0 w1 w2 : Option (List ℕ)) (piece waiting : List ℕ) → ReadUpTo steady settings first now store r0 r1 w0 w1
-    → Consumes r1 r2 piece → Loses steady (service now store w1 []) (service new after w2 waiting) → Leaves r0 r2 w0 w2 (Given steady settings (λ read written. Unit {0}))
-loses steady settings first now new store after r0 r1 r2 w0 w1 w2 piece waiting up read lost =
-    let l = lost settings first up.stream w0 up.served in (up.stream ++ piece, l.0, Consumes-trans r0 r1 r2 up.stream piece up.consumed read, l.1, λ range h. tt)
+-- a session that ends by a fault of the target
+fault_ends : (steady : Type 0) (settings : Settings) (fault : SessionFault) (first : Store) (now new : Connection) (store after : Store) (r0 r1 r2 w0 w1 w2 : Option (List ℕ)) (piece : List ℕ) → ReadUpTo steady settings first now store r0 r1 w0 w1
+    → Consumes r1 r2 piece → ((read written : List ℕ) → ServesAll settings first.disk read after.disk written → Serves settings first.disk (Err fault) read after.disk written)
+    → Goes steady (service now store w1 []) piece (service new after w2 []) → Tells steady (service now store w1 []) piece fault → Leaves r0 r2 w0 w2 (Ended steady settings first after (Err fault))
+fault_ends steady settings fault first now new store after r0 r1 r2 w0 w1 w2 piece up read due goes tells =
+    stops steady settings (Err fault) first new after r0 r2 w0 w2
+    (record { stream = up.stream ++ piece; consumed = Consumes-trans r0 r1 r2 up.stream piece up.consumed read; served = goes settings first up.stream w0 up.served }) due (λ h. tells settings first up.stream w0 up.served h)
 
 pub fault_stops : (steady : Type 0) (settings : Settings) (fault : SessionFault) (first : Store) (now new : Connection) (store after : Store) (r0 r1 r2 w0 w1 w2 : Option (List ℕ)) (piece : List ℕ)
     → ReadUpTo steady settings first now store r0 r1 w0 w1 → Consumes r1 r2 piece → Breaks steady (service now store w1 []) piece fault (service new after w2 [])
-    → Leaves r0 r2 w0 w2 (Given steady settings (λ read written. Serves settings first.disk (Err fault) read after.disk written))
-fault_stops steady settings (session.Target faults.NoMemory) first now new store after r0 r1 r2 w0 w1 w2 piece up read lost = loses steady settings first now new store after r0 r1 r2 w0 w1 w2 piece [] up read lost
-fault_stops steady settings (session.Target (faults.Stream fault)) first now new store after r0 r1 r2 w0 w1 w2 piece up read goes =
-    stops steady settings first new after r0 r2 w0 w2 (read_more steady settings first now new store after r0 r1 r2 w0 w1 w2 piece up read goes)
-fault_stops steady settings (session.Target (faults.Protocol rule)) first now new store after r0 r1 r2 w0 w1 w2 piece up read goes =
-    stops steady settings first new after r0 r2 w0 w2 (read_more steady settings first now new store after r0 r1 r2 w0 w1 w2 piece up read goes)
-fault_stops steady settings (session.Target faults.Closed) first now new store after r0 r1 r2 w0 w1 w2 piece up read goes =
-    stops steady settings first new after r0 r2 w0 w2 (read_more steady settings first now new store after r0 r1 r2 w0 w1 w2 piece up read goes)
+    → Leaves r0 r2 w0 w2 (Ended steady settings first after (Err fault))
+fault_stops steady settings (session.Target faults.NoMemory) first now new store after r0 r1 r2 w0 w1 w2 piece up read lost =
+    let l = lost settings first up.stream w0 up.served in (up.stream ++ piece, l.0, Consumes-trans r0 r1 r2 up.stream piece up.consumed read, l.1, λ range h. (l.3 h, tt))
+fault_stops steady settings (session.Target (faults.Stream fault)) first now new store after r0 r1 r2 w0 w1 w2 piece up read broken =
+    fault_ends steady settings (session.Target (faults.Stream fault)) first now new store after r0 r1 r2 w0 w1 w2 piece up read (λ read written a. a) broken.0 broken.1
+fault_stops steady settings (session.Target (faults.Protocol rule)) first now new store after r0 r1 r2 w0 w1 w2 piece up read broken =
+    fault_ends steady settings (session.Target (faults.Protocol rule)) first now new store after r0 r1 r2 w0 w1 w2 piece up read (λ read written a. a) broken.0 broken.1
+fault_stops steady settings (session.Target faults.Closed) first now new store after r0 r1 r2 w0 w1 w2 piece up read broken = absurd broken
 fault_stops steady settings session.Read first now new store after r0 r1 r2 w0 w1 w2 piece up read broken = absurd broken
-fault_stops steady settings session.Write first now new store after r0 r1 r2 w0 w1 w2 piece up read lost = loses steady settings first now new store after r0 r1 r2 w0 w1 w2 piece [] up read lost
+fault_stops steady settings session.Write first now new store after r0 r1 r2 w0 w1 w2 piece up read lost =
+    let l = lost settings first up.stream w0 up.served in (up.stream ++ piece, l.0, Consumes-trans r0 r1 r2 up.stream piece up.consumed read, l.1, λ range h. (tt, tt))
 
 -- the blocks are those that commands left
 pub fault_executed : (steady : Type 0) (settings : Settings) (fault : SessionFault) (first : Store) (now new : Connection) (store after : Store) (r0 r1 w0 w1 w2 : Option (List ℕ)) (piece : List ℕ)
     → ReadUpTo steady settings first now store r0 r1 w0 w1 → Breaks steady (service now store w1 []) piece fault (service new after w2 []) → HasExecuted first.disk after.disk
 fault_executed steady settings (session.Target faults.NoMemory) first now new store after r0 r1 w0 w1 w2 piece up lost = (lost settings first up.stream w0 up.served).2
-fault_executed steady settings (session.Target (faults.Stream fault)) first now new store after r0 r1 w0 w1 w2 piece up goes = (goes settings first up.stream w0 up.served).executed
-fault_executed steady settings (session.Target (faults.Protocol rule)) first now new store after r0 r1 w0 w1 w2 piece up goes = (goes settings first up.stream w0 up.served).executed
-fault_executed steady settings (session.Target faults.Closed) first now new store after r0 r1 w0 w1 w2 piece up goes = (goes settings first up.stream w0 up.served).executed
+fault_executed steady settings (session.Target (faults.Stream fault)) first now new store after r0 r1 w0 w1 w2 piece up broken = (broken.0 settings first up.stream w0 up.served).executed
+fault_executed steady settings (session.Target (faults.Protocol rule)) first now new store after r0 r1 w0 w1 w2 piece up broken = (broken.0 settings first up.stream w0 up.served).executed
+fault_executed steady settings (session.Target faults.Closed) first now new store after r0 r1 w0 w1 w2 piece up broken = absurd broken
 fault_executed steady settings session.Read first now new store after r0 r1 w0 w1 w2 piece up broken = absurd broken
 fault_executed steady settings session.Write first now new store after r0 r1 w0 w1 w2 piece up lost = (lost settings first up.stream w0 up.served).2
 
 -- ---- a session that is closed
-
--- a target to which nothing came
-at_first : (settings : Settings) (disk : Disk) → HasAnswered settings 1 disk [] (opening_connection settings 1) disk []
-unfolding answers
-at_first settings disk = record { messages = []; taken = at_opening (limit settings); machine = refl; disk_is = refl; output_is = refl }
-
-either : (b : Bool) → (b ≡ true) ⊎ (b ≡ false)
-either true = inl refl
-either false = inr refl
-
--- a closed session stays closed
-stay_closed : (old new : Connection) (before after : Store) (out piece written : List ℕ) (result : Result Phase TargetFault)
-    → is_closed old.machine ≡ true → Fed old before out piece result new after written → is_closed new.machine ≡ true
-stay_closed old new before after out piece written result c f =
-    let s : Stays old before out result new after written = subst (λ (b : Bool). FedIf b old before out piece result new after written) c f in
-    ap (λ (x : Connection). is_closed x.machine) s.connection ∙ c
-
-all_closed : (pieces : List (List ℕ)) (old now : Connection) (before store : Store) (out written : List ℕ) → is_closed old.machine ≡ true → FedAll old before out pieces now store written → is_closed now.machine ≡ true
-unfolding FedAll
-all_closed [] old now before store out written c f = ap (λ (x : Connection). is_closed x.machine) f.0 ∙ c
-all_closed (p ∷ pieces) old now before store out written c f = all_closed pieces f.1 now f.2 store f.3 written (stay_closed old f.1 before f.2 out p f.3 f.0 c f.4) f.6
-
--- in a session that is not closed all PDUs are answered
-live_answered : (settings : Settings) (disk : Disk) (stream : List ℕ) (pieces : List (List ℕ)) (old now : Connection) (before store : Store) (out written : List ℕ)
-    → HasAnswered settings 1 disk stream old before.disk out → FedAll old before out pieces now store written → is_closed now.machine ≡ false
-    → HasAnswered settings 1 disk (stream ++ stream_of pieces) now store.disk written
-unfolding FedAll
-live_answered settings disk stream [] old now before store out written h f live =
-    subst (λ (x : List ℕ). HasAnswered settings 1 disk x now store.disk written) (sym (append-nil stream))
-    (subst (λ (x : List ℕ). HasAnswered settings 1 disk stream now store.disk x) (sym f.2)
-    (subst (λ (x : Store). HasAnswered settings 1 disk stream now x.disk out) (sym f.1)
-    (subst (λ (x : Connection). HasAnswered settings 1 disk stream x before.disk out) (sym f.0) h)))
-live_answered settings disk stream (p ∷ pieces) old now before store out written h f live =
-    elim (either (is_closed old.machine)) [
-      | inl c ↦ absurd (apart (all_closed pieces f.1 now f.2 store f.3 written (stay_closed old f.1 before f.2 out p f.3 f.0 c f.4) f.6) live)
-      | inr o ↦ elim (either (is_closed f.1.machine)) [
-        | inl c ↦ absurd (apart (all_closed pieces f.1 now f.2 store f.3 written c f.6) live)
-        | inr l ↦
-            let one : Feeds old before out p f.0 f.1 f.2 f.3 = subst (λ (b : Bool). FedIf b old before out p f.0 f.1 f.2 f.3) o f.4 in
-            subst (λ (x : List ℕ). HasAnswered settings 1 disk x now store.disk written) (append_assoc stream p (stream_of pieces))
-            (live_answered settings disk (stream ++ p) pieces f.1 now f.2 store f.3 written (goes_on settings 1 disk stream old before out p f.0 f.1 f.2 f.3 one f.5.device l h) f.6 live)
-      ]
-    ]
-
--- the PDUs of a piece close it
-over_by : (phase : Phase) (settings : Settings) (disk : Disk) (stream piece : List ℕ) (now new : Connection) (store after : Store) (written all : List ℕ) → HasAnswered settings 1 disk stream now store.disk written
-    → Feeds now store written piece (Ok phase) new after all → is_closed_phase phase ≡ true → after.failures ≡ store.failures → IsOver settings disk (stream ++ piece)
-over_by phase settings disk stream piece now new store after written all h f over works =
-    let t : Told settings 1 disk (h.messages ++ f.messages) f.stepped after.disk all =
-    told settings 1 disk stream now store written (take f.count piece) f.framing f.messages f.stepped after all h f.answered works in
-    record {
-      front = stream ++ take f.count piece;
-      rest = drop f.count piece;
-      split = ap (λ (x : List ℕ). stream ++ x) (sym (take-append-drop f.count piece)) ∙ sym (append_assoc stream (take f.count piece) (drop f.count piece));
-      messages = h.messages ++ f.messages;
-      framing = f.framing;
-      taken = f.answered.taken stream h.messages h.taken;
-      closed = sym (ap is_closed t.machine) ∙ sym (ap is_closed_phase f.ends.2) ∙ over;
-    }
 
 ok_is_no_fault : (done : ℕ × Phase) → (let r : Result (ℕ × Phase) TargetFault = Ok done in r ≡ Err faults.Closed) → ⊥
 ok_is_no_fault done e = absurd cc
@@ -480,13 +507,8 @@ next_closes steady old new before after contents out piece written done f same o
     elim (either (is_closed old.machine)) [
       | inl c ↦ absurd (ended_twice c f)
       | inr live ↦
-          let has : HasAnswered settings 1 first.disk (stream_of up.pieces) old before.disk (up.sent ++ out) =
-          live_answered settings first.disk [] up.pieces (opening_connection settings 1) old first before [] (up.sent ++ out) (at_first settings first.disk) (up.fed h) live in
-          let one : Feeds old before (up.sent ++ out) (take done.0 piece) (Ok done.1) new after (up.sent ++ written) =
-          subst (λ (b : Bool). FedIf b old before (up.sent ++ out) (take done.0 piece) (Ok done.1) new after (up.sent ++ written)) live
-          (fed_behind (is_closed old.machine) old new before after up.sent (take done.0 piece) out written (Ok done.1) fed) in
-          subst (λ (x : List ℕ). IsOver settings first.disk (x ++ take done.0 piece)) (sym up.whole)
-          (over_by done.1 settings first.disk (stream_of up.pieces) (take done.0 piece) old new before after (up.sent ++ out) (up.sent ++ written) has one over (same h))
+          over_told done.1 settings first.disk stream (take done.0 piece) old new before after (up.sent ++ out) (up.sent ++ written) (stands_up steady settings first stream old before start contents out up h live) live
+          (feeds_live old new before after up.sent (take done.0 piece) out written (Ok done.1) live fed) over (same h)
     ]
   where
     ended_twice : is_closed old.machine ≡ true → FedNext old before out piece (Ok done) new after written → ⊥
@@ -497,6 +519,11 @@ pub next_is_closed : (b : Bool) (old new : Connection) (before after : Store) (o
 next_is_closed true old new before after out piece written done f over = absurd cc
 next_is_closed false old new before after out piece written done f over = ap is_closed f.fed.ends.1 ∙ sym (ap is_closed_phase f.fed.ends.2) ∙ over
 
+pub next_is_open : (b : Bool) (old new : Connection) (before after : Store) (out piece written : List ℕ) (done : ℕ × Phase)
+    → FedNextIf b old before out piece (Ok done) new after written → is_closed_phase done.1 ≡ false → is_closed new.machine ≡ false
+next_is_open true old new before after out piece written done f open_ = absurd cc
+next_is_open false old new before after out piece written done f open_ = ap is_closed f.fed.ends.1 ∙ sym (ap is_closed_phase f.fed.ends.2) ∙ open_
+
 pub over_ends : (steady : Type 0) (settings : Settings) (first : Store) (now : Connection) (store : Store) (r0 r1 r2 w0 w1 : Option (List ℕ)) (piece : List ℕ)
     → ReadUpTo steady settings first now store r0 r1 w0 w1 → Consumes r1 r2 piece → ClosesBy steady (service now store w1 []) piece → steady → EndsWell settings first.disk r0 r2
 over_ends steady settings first now store r0 r1 r2 w0 w1 piece up read closes h =
@@ -505,13 +532,42 @@ over_ends steady settings first now store r0 r1 r2 w0 w1 piece up read closes h 
 pub ok_is : (b : Bool) → b ≡ true → (let r : Result Bool SessionFault = Ok b in let s : Result Bool SessionFault = Ok true in r ≡ s)
 ok_is b e = ap (λ (x : Bool). (let r : Result Bool SessionFault = Ok x in r)) e
 
+pub ok_open : (b : Bool) → b ≡ false → (let r : Result Bool SessionFault = Ok b in let s : Result Bool SessionFault = Ok false in r ≡ s)
+ok_open b e = ap (λ (x : Bool). (let r : Result Bool SessionFault = Ok x in r)) e
+
 -- ---- over a socket
 
-pub fault_served : (settings : Settings) (disk : Disk) (fault : SessionFault) (read : List ℕ) (disk_now : Disk) (written : List ℕ) → Serves settings disk (Err fault) read disk_now written
-    → ServesOne settings disk (Err (session_fault fault)) read disk_now written
-fault_served settings disk (session.Target faults.NoMemory) read disk_now written a = tt
+pub fault_served : (settings : Settings) (disk : Disk) (fault : SessionFault) (read : List ℕ) (disk_now : Disk) (written : List ℕ)
+    → Serves settings disk (Err fault) read disk_now written × EndsBy settings disk (Err fault) read → ServesOne settings disk (Err (session_fault fault)) read disk_now written
+fault_served settings disk (session.Target faults.NoMemory) read disk_now written a = a.0
 fault_served settings disk (session.Target (faults.Stream fault)) read disk_now written a = a
 fault_served settings disk (session.Target (faults.Protocol rule)) read disk_now written a = a
-fault_served settings disk (session.Target faults.Closed) read disk_now written a = a
+fault_served settings disk (session.Target faults.Closed) read disk_now written a = absurd a.0
 fault_served settings disk session.Read read disk_now written a = a
 fault_served settings disk session.Write read disk_now written a = tt
+
+-- ---- the target of the programs
+
+-- the preferences of the programs are in range
+standard_in_range : IsInRange target_settings.preferences
+standard_in_range = record {
+  max_burst = (omega arith, omega arith);
+  first_burst = (omega arith, omega arith);
+  time2wait = (omega arith, omega arith);
+  time2retain = (omega arith, omega arith);
+  max_recv = (omega arith, omega arith);
+}
+
+abbrev pub Told : Settings → Disk → Result (Unit {0}) SessionFault → List ℕ → Disk → List ℕ → Type 0
+Told settings disk result read disk_now written = Serves settings disk result read disk_now written × EndsBy settings disk result read
+
+-- what a session leaves, at the target of the programs
+pub told_here : {Steady : Type 0} (settings : Settings) (disk here : Disk) (result : Result (Unit {0}) SessionFault) (read : List ℕ) (disk_now : Disk) (written : List ℕ) → settings ≡ target_settings → disk ≡ here
+    → (IsInRange settings.preferences → Steady → Told settings disk result read disk_now written) → Steady → Told target_settings here result read disk_now written
+told_here settings disk here result read disk_now written is at told steady =
+    subst (λ (s : Settings). Told s here result read disk_now written) is
+    (subst (λ (d : Disk). Told settings d result read disk_now written) at (told (subst (λ (s : Settings). IsInRange s.preferences) (sym is) standard_in_range) steady))
+
+pub ends_here : (settings : Settings) (disk here : Disk) (before after : Option (List ℕ)) → settings ≡ target_settings → disk ≡ here → EndsWell settings disk before after → EndsWell target_settings here before after
+ends_here settings disk here before after is at ends =
+    subst (λ (s : Settings). EndsWell s here before after) is (subst (λ (d : Disk). EndsWell settings d before after) at ends)

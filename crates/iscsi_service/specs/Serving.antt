@@ -10,7 +10,7 @@ use Rattle.iscsi_service.specs.declared.session.SessionFault.{SessionFault}
 use Rattle.iscsi_service.specs.declared.session.SessionFault.TheVariants as session
 use Rattle.iscsi_service.specs.declared.serve_fault.ServeFault.{ServeFault}
 use Rattle.iscsi_service.specs.declared.serve_fault.ServeFault.TheVariants as serve
-use Rattle.iscsi_service.specs.Session.{ServesAll}
+use Rattle.iscsi_service.specs.Session.{ServesAll, ServesFirst, EndsBy}
 
 -- The exit status that says a fault: 1 where what came is refused, 3 for memory, 4 for reading,
 -- writing and the network (own rule).
@@ -46,18 +46,20 @@ session_fault (session.Target fault) = target_fault fault
 session_fault session.Read = serve.Read
 session_fault session.Write = serve.Write
 
--- What a session over a socket leaves where it ends: nothing is done where no connection was
--- accepted; after want of memory, or where a write failed, nothing is said of it (own rule).
+-- What a session over a socket leaves where it ends, and why it ends so: nothing is done where no
+-- connection was accepted; where a write failed, nothing is said of it (own rule).
 abbrev pub ServesOne : Settings → Disk → Result (Unit {0}) ServeFault → List ℕ → Disk → List ℕ
     → Type 0
 ServesOne settings disk (Ok done) read disk_now written =
-    ServesAll settings disk read disk_now written
+    ServesAll settings disk read disk_now written × EndsBy settings disk (Ok done) read
 ServesOne settings disk (Err (serve.Target fault)) read disk_now written =
     ServesAll settings disk read disk_now written
+    × EndsBy settings disk (Err (session.Target fault)) read
 ServesOne settings disk (Err serve.Read) read disk_now written =
-    ServesAll settings disk read disk_now written
+    ServesAll settings disk read disk_now written × EndsBy settings disk (Err session.Read) read
 ServesOne settings disk (Err serve.Network) read disk_now written = disk_now ≡ disk
-ServesOne settings disk (Err serve.NoMemory) read disk_now written = Unit {0}
+ServesOne settings disk (Err serve.NoMemory) read disk_now written =
+    ServesFirst settings disk read disk_now written
 ServesOne settings disk (Err serve.Write) read disk_now written = Unit {0}
 ServesOne settings disk (Err (serve.Initiator fault)) read disk_now written = ⊥
 ServesOne settings disk (Err (serve.Script line)) read disk_now written = ⊥

@@ -1,14 +1,19 @@
 -- A target's session over a stream: what it leaves, and where it ends (RFC 7143, sections 6 and
 -- 11).
-use Rattle.std.specs.Prelude.{◌≡◌, ◌⊎◌, ℕ, true, List, ◌++◌, Option, Result, Ok, Err, codes}
+use Rattle.std.specs.Prelude.{◌≡◌, ◌⊎◌, ◌≤◌, ◌<◌, ℕ, true, false, List, [], ◌++◌, length, take, min, Option, Some, None, Result, Ok, Err, codes}
 use Rattle.std.specs.Io.KnownBytes.{Consumes, IsAtEnd}
 use Rattle.scsi_disk.specs.Disk.{Disk}
-use Rattle.iscsi_stream.specs.Stream.{Message, Splits, longest_segment}
-use Rattle.iscsi_stream.specs.Framing.{Framing, HasTaken}
+use Rattle.iscsi_pdu.specs.declared.head.Head.{Head}
+use Rattle.iscsi_pdu.specs.Meaning.{IsHeader, fault_of}
+use Rattle.iscsi_stream.specs.declared.fault.StreamFault.{StreamFault}
+use Rattle.iscsi_stream.specs.declared.fault.StreamFault.TheVariants as stream
+use Rattle.iscsi_stream.specs.Segment.{no_login}
+use Rattle.iscsi_stream.specs.Stream.{Message, ReadsAs, NoPdu, Splits, longest_segment}
+use Rattle.iscsi_stream.specs.Framing.{IsBegun, last_place}
 use Rattle.iscsi_login.specs.Negotiation.{standard}
 use Rattle.iscsi_target.specs.declared.fault.TargetFault.TheVariants as faults
 use Rattle.iscsi_target.specs.Configured.{Settings}
-use Rattle.iscsi_target.specs.State.{Execution, opening}
+use Rattle.iscsi_target.specs.State.{Execution, Stepped, limit, opening}
 use Rattle.iscsi_target.specs.Machine.{answers, is_closed}
 use Rattle.iscsi_target.specs.Feed.{Writes}
 use Rattle.iscsi_target.specs.Laws.{Leads}
@@ -39,8 +44,26 @@ ServesAll settings disk read disk_now written =
     (ms : List Message) (given rest : List ℕ) → Splits longest_segment read ms given rest
     → Writes settings 1 disk ms disk_now written
 
--- What a session leaves where it ends; after want of memory, or where a write failed, nothing is
--- said of it (own rule).
+-- The first PDUs of what was read, within the limit of the target's framer, and what follows them
+-- (own rule).
+pub record Hears (settings : Settings) (read : List ℕ) : Type 0 where
+  pub messages : List Message
+  pub given : List ℕ
+  pub rest : List ℕ
+  pub whole : read ≡ given ++ rest
+  pub reads : ReadsAs (limit settings) no_login given messages
+
+-- What these PDUs lead to (own rule).
+abbrev pub led : (settings : Settings) → Disk → (read : List ℕ) → Hears settings read → Stepped
+led settings disk read hears = answers (opening settings 1) disk hears.messages
+
+-- The answers to some first PDUs of what was read are written, whole, and the blocks are those that
+-- these PDUs lead to (own rule).
+abbrev pub ServesFirst : Settings → Disk → List ℕ → Disk → List ℕ → Type 0
+ServesFirst settings disk read disk_now written =
+    (hears : Hears settings read) × Writes settings 1 disk hears.messages disk_now written
+
+-- What a session leaves where it ends; where a write failed, nothing is said of it (own rule).
 abbrev pub Serves : Settings → Disk → Result (Unit {0}) SessionFault → List ℕ → Disk → List ℕ
     → Type 0
 Serves settings disk (Ok done) read disk_now written = ServesAll settings disk read disk_now written
@@ -48,23 +71,59 @@ Serves settings disk (Err (session.Target (faults.Stream fault))) read disk_now 
     ServesAll settings disk read disk_now written
 Serves settings disk (Err (session.Target (faults.Protocol rule))) read disk_now written =
     ServesAll settings disk read disk_now written
-Serves settings disk (Err (session.Target faults.Closed)) read disk_now written =
-    ServesAll settings disk read disk_now written
 Serves settings disk (Err session.Read) read disk_now written =
     ServesAll settings disk read disk_now written
-Serves settings disk (Err (session.Target faults.NoMemory)) read disk_now written = Unit {0}
+Serves settings disk (Err (session.Target faults.NoMemory)) read disk_now written =
+    ServesFirst settings disk read disk_now written
+Serves settings disk (Err (session.Target faults.Closed)) read disk_now written = ⊥
 Serves settings disk (Err session.Write) read disk_now written = Unit {0}
 
--- The session was closed by the first PDUs of what was read: by a logout or a refused login (RFC
--- 7143, sections 11.13 and 11.14).
-pub record IsOver (settings : Settings) (disk : Disk) (read : List ℕ) : Type 0 where
-  pub front : List ℕ
-  pub rest : List ℕ
-  pub split : read ≡ front ++ rest
-  pub messages : List Message
-  pub framing : Framing
-  pub taken : HasTaken front messages framing
-  pub closed : is_closed (answers (opening settings 1) disk messages).machine ≡ true
+-- The session was closed by the first PDUs of what was read, and none of them broke a rule: by a
+-- logout or a refused login (RFC 7143, sections 11.13 and 11.14).
+abbrev pub IsOver : Settings → Disk → List ℕ → Type 0
+IsOver settings disk read = (hears : Hears settings read)
+    × ((led settings disk read hears).rule ≡ None)
+    × (is_closed (led settings disk read hears).machine ≡ true)
+
+-- The session goes on, and no rule was broken, behind the PDUs that what was read has (own rule).
+abbrev pub GoesOnBehind : (settings : Settings) → Disk → (read : List ℕ) → Hears settings read
+    → Type 0
+GoesOnBehind settings disk read hears = ((led settings disk read hears).rule ≡ None)
+    × (is_closed (led settings disk read hears).machine ≡ false)
+
+-- The bytes behind PDUs are what the framer refuses, or a PDU that is begun and not whole; the fault
+-- names their place (own rule).
+abbrev pub RestFails : ℕ → StreamFault → List ℕ → List ℕ → Type 0
+RestFails limit (stream.Head fault place) given rest = (48 ≤ length rest)
+    × (fault_of (take 48 rest) ≡ Some fault) × (place ≡ min (length given) last_place)
+RestFails limit (stream.OverLimit place) given rest = (48 ≤ length rest)
+    × ((head : Head) × (len : ℕ) × IsHeader (take 48 rest) head len × (limit < len))
+    × (place ≡ min (length given) last_place)
+RestFails limit (stream.Truncated place) given rest = (0 < length rest)
+    × IsBegun limit rest × NoPdu limit rest × (place ≡ min (length given) last_place)
+RestFails limit stream.NoMemory given rest = ⊥
+RestFails limit stream.Failed given rest = ⊥
+
+-- Why a session ends, told by the PDUs of what was read; where memory is wanting, or a write failed,
+-- nothing is said of it (own rule).
+abbrev pub EndsBy : Settings → Disk → Result (Unit {0}) SessionFault → List ℕ → Type 0
+-- it was closed, or what was read ends behind its last PDU
+EndsBy settings disk (Ok done) read = IsOver settings disk read
+    ⊎ ((hears : Hears settings read) × GoesOnBehind settings disk read hears × (hears.rest ≡ []))
+-- the last PDU broke this rule
+EndsBy settings disk (Err (session.Target (faults.Protocol rule))) read =
+    (hears : Hears settings read) × ((led settings disk read hears).rule ≡ Some rule)
+-- the bytes behind the PDUs are refused
+EndsBy settings disk (Err (session.Target (faults.Stream fault))) read =
+    (hears : Hears settings read) × GoesOnBehind settings disk read hears
+    × RestFails (limit settings) fault hears.given hears.rest
+-- no fault came before the read that failed
+EndsBy settings disk (Err session.Read) read =
+    (hears : Hears settings read) × GoesOnBehind settings disk read hears
+    × IsBegun (limit settings) hears.rest × NoPdu (limit settings) hears.rest
+EndsBy settings disk (Err (session.Target faults.NoMemory)) read = Unit {0}
+EndsBy settings disk (Err session.Write) read = Unit {0}
+EndsBy settings disk (Err (session.Target faults.Closed)) read = ⊥
 
 -- A session that ended well has read its reader to the end, or was closed (own rule).
 abbrev pub EndsWell : Settings → Disk → Option (List ℕ) → Option (List ℕ) → Type 0

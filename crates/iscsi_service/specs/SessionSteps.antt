@@ -1,12 +1,11 @@
 -- What the parts of a session do: bytes that came are fed, and their answers are written or wait. No
 -- reader of its contract needs these.
-use Rattle.std.specs.Prelude.{◌≡◌, ℕ, true, List, [], ◌++◌, Option}
+use Rattle.std.specs.Prelude.{◌≡◌, ℕ, List, [], ◌++◌, Option, Err}
 use Rattle.std.specs.Io.KnownBytes.{Appends}
 use Rattle.iscsi_target.specs.declared.fault.TargetFault.TheVariants as faults
 use Rattle.iscsi_target.specs.Configured.{Settings}
-use Rattle.iscsi_target.specs.Machine.{is_closed}
 use Rattle.iscsi_target.specs.Feed.{Connection, Store, FedAll, opening_connection, stream_of}
-use Rattle.iscsi_service.specs.Session.{HasExecuted, IsOver}
+use Rattle.iscsi_service.specs.Session.{HasExecuted, IsOver, EndsBy, ServesFirst}
 use Rattle.iscsi_service.specs.declared.session.SessionFault.{SessionFault}
 use Rattle.iscsi_service.specs.declared.session.SessionFault.TheVariants as session
 
@@ -60,11 +59,28 @@ Loses steady old new =
     → ServedUpTo steady settings first stream old.target old.store start old.contents old.waiting
     → (sent : List ℕ) × Appends start new.contents sent × HasExecuted first.disk new.store.disk
 
+-- These bytes are why the session ends so (own rule).
+abbrev pub Tells : Type 0 → Service → List ℕ → SessionFault → Type 0
+Tells steady old bytes fault =
+    (settings : Settings) (first : Store) (stream : List ℕ) (start : Option (List ℕ))
+    → ServedUpTo steady settings first stream old.target old.store start old.contents old.waiting
+    → steady → EndsBy settings first.disk (Err fault) (stream ++ bytes)
+
+-- The answers to some first PDUs were sent, and the blocks are those that commands left (own rule).
+abbrev pub RunsOut : Type 0 → Service → List ℕ → Service → Type 0
+RunsOut steady old bytes new =
+    (settings : Settings) (first : Store) (stream : List ℕ) (start : Option (List ℕ))
+    → ServedUpTo steady settings first stream old.target old.store start old.contents old.waiting
+    → (sent : List ℕ) × Appends start new.contents sent × HasExecuted first.disk new.store.disk
+    × (steady → ServesFirst settings first.disk (stream ++ bytes) new.store.disk sent)
+
 -- What is left where a session ends by a fault at these bytes (own rule).
 abbrev pub Breaks : Type 0 → Service → List ℕ → SessionFault → Service → Type 0
-Breaks steady old bytes (session.Target faults.NoMemory) new = Loses steady old new
-Breaks steady old bytes (session.Target (faults.Stream fault)) new = Goes steady old bytes new
-Breaks steady old bytes (session.Target (faults.Protocol rule)) new = Goes steady old bytes new
-Breaks steady old bytes (session.Target faults.Closed) new = Goes steady old bytes new
+Breaks steady old bytes (session.Target faults.NoMemory) new = RunsOut steady old bytes new
+Breaks steady old bytes (session.Target (faults.Stream fault)) new =
+    Goes steady old bytes new × Tells steady old bytes (session.Target (faults.Stream fault))
+Breaks steady old bytes (session.Target (faults.Protocol rule)) new =
+    Goes steady old bytes new × Tells steady old bytes (session.Target (faults.Protocol rule))
+Breaks steady old bytes (session.Target faults.Closed) new = ⊥
 Breaks steady old bytes session.Read new = ⊥
 Breaks steady old bytes session.Write new = Loses steady old new

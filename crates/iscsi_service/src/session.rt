@@ -1,13 +1,13 @@
 //! A target's session over a stream (RFC 7143, sections 6 and 11).
 
-ghost use Rattle.std.specs.Prelude.{◌≡◌, ◌≤◌, ◌<◌, ℕ, List, [], true, length, take, Ok, IfOk, IfErr, OnOk};
+ghost use Rattle.std.specs.Prelude.{◌≡◌, ◌≤◌, ◌<◌, ℕ, List, [], true, false, length, take, Ok, IfOk, IfErr, OnOk};
 ghost use Rattle.std.specs.Io.KnownBytes.{Appends, Consumes};
 ghost use Rattle.iscsi_login.specs.Negotiation.{IsInRange};
 ghost use Rattle.iscsi_login.specs.Stage.{is_closed_phase};
 ghost use Rattle.iscsi_stream.specs.Normalising.{WroteFront};
 ghost use Rattle.iscsi_target.specs.Machine.{is_closed};
 ghost use Rattle.iscsi_target.specs.Inside.{store_of};
-ghost use Rattle.iscsi_service.specs.Session.{target_settings, EndsWell, HasExecuted, NeverFails, Serves};
+ghost use Rattle.iscsi_service.specs.Session.{target_settings, EndsBy, EndsWell, HasExecuted, NeverFails, Serves};
 ghost use Rattle.iscsi_service.specs.SessionSteps.{Goes, ClosesBy, Breaks, service};
 
 use iscsi_login::{Phase, Preferences};
@@ -58,10 +58,12 @@ pub enum SessionFault {
 /// where the stream ends.
 ///
 /// What is written are the answers to all PDUs of what was read, and the store has the blocks that
-/// they leave, but after want of memory and a failed write. Answers `Target` where the stream ends
-/// within a PDU, where the target refuses the stream or where memory ran out, after the answers
-/// that were due; `Read` where a read fails or 16,777,216 of them did not reach the end; `Write`
-/// where a write fails or takes no byte.
+/// they leave; after want of memory those of some first PDUs, whole. Of a failed write nothing is
+/// said. Answers `Ok` where the stream ends behind a PDU or the session was closed and no rule
+/// broken; `Target` with the rule that the last PDU broke, or with the fault and the place of what
+/// follows the PDUs where that is refused, or begun and not whole at the end of the stream, after
+/// the answers that were due; `Read` where a read fails or 16,777,216 of them did not reach the
+/// end, and none of these faults came before; `Write` where a write fails or takes no byte.
 ///
 /// The session is that of RFC 7143, sections 6 and 11; how it is read and written is own rule.
 pub fn serve_stream<S: BlockStore, R: Read, W: Write>(
@@ -76,7 +78,8 @@ pub fn serve_stream<S: BlockStore, R: Read, W: Write>(
         × Consumes (R.remaining r.old) (R.remaining r.new) read
         × Appends (W.contents w.old) (W.contents w.new) written
         × (IsInRange config.preferences → NeverFails S.failures
-        → Serves config (S.disk store.old) result read (S.disk store.new) written) }
+        → Serves config (S.disk store.old) result read (S.disk store.new) written
+        × EndsBy config (S.disk store.old) result read) }
     // Whatever comes of it, the blocks are those that commands left.
     ensures blocks { HasExecuted (S.disk store.old) (S.disk store.new) }
     ensures end { NeverFails S.failures → OnOk result
@@ -111,6 +114,8 @@ fn serve_piece<S: BlockStore, W: Write>(
     out: &mut Vec<u8>,
     w: &mut W,
 ) -> Result<bool, SessionFault>
+    requires live { is_closed target.old.machine ≡ false }
+    ensures open { result ≡ Ok false → is_closed target.new.machine ≡ false }
     ensures goes { OnOk result (Goes (NeverFails S.failures)
         (service target.old (store_of (S.disk store.old) (S.failures store.old)) (W.contents w.old) [])
         piece.now
@@ -146,6 +151,9 @@ fn serve_next<S: BlockStore, W: Write>(
     out: &mut Vec<u8>,
     w: &mut W,
 ) -> Result<(usize, Phase), SessionFault>
+    requires live { is_closed target.old.machine ≡ false }
+    ensures open { IfOk result (λ done. is_closed_phase done.1 ≡ false
+        → is_closed target.new.machine ≡ false) }
     ensures bound { IfOk result (λ done. (done.0 ≤ length piece.now)
         × (0 < length piece.now → 0 < done.0)) }
     ensures goes { IfOk result (λ done. Goes (NeverFails S.failures)

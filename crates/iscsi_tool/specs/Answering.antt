@@ -10,7 +10,7 @@ use Rattle.iscsi_target.specs.State.{opening}
 use Rattle.iscsi_target.specs.Machine.{answers}
 use Rattle.iscsi_service.specs.declared.session.SessionFault.{SessionFault}
 use Rattle.iscsi_service.specs.declared.session.SessionFault.TheVariants as session
-use Rattle.iscsi_service.specs.Session.{target_settings}
+use Rattle.iscsi_service.specs.Session.{target_settings, Hears, EndsBy}
 
 -- The fault of a filter for that of its session (own rule).
 abbrev pub filter_fault : SessionFault → ToolFault
@@ -28,14 +28,23 @@ AnswersAll blocks read written =
     (ms : List Message) (given rest : List ℕ) → Splits longest_segment read ms given rest
     → written ≡ canon (answers (opening target_settings 1) (zeros blocks) ms).answers
 
--- What is written where answering ends; after want of memory, or where a write failed, nothing is
--- said of it (own rule).
+-- The answers of the target to some first PDUs of what was read are written, whole (own rule).
+abbrev pub AnswersFirst : ℕ → List ℕ → List ℕ → Type 0
+AnswersFirst blocks read written = (hears : Hears target_settings read)
+    × (written ≡ canon (answers (opening target_settings 1) (zeros blocks) hears.messages).answers)
+
+-- What is written where answering ends, and why it ends so; where a write failed, nothing is said of
+-- it (own rule).
 abbrev pub AnswersBytes : ℕ → Result (Unit {0}) ToolFault → List ℕ → List ℕ → Type 0
-AnswersBytes blocks (Ok done) read written = AnswersAll blocks read written
+AnswersBytes blocks (Ok done) read written =
+    AnswersAll blocks read written × EndsBy target_settings (zeros blocks) (Ok done) read
 AnswersBytes blocks (Err (tool.Stream fault)) read written = AnswersAll blocks read written
+    × EndsBy target_settings (zeros blocks) (Err (session.Target (faults.Stream fault))) read
 AnswersBytes blocks (Err (tool.Protocol rule)) read written = AnswersAll blocks read written
+    × EndsBy target_settings (zeros blocks) (Err (session.Target (faults.Protocol rule))) read
 AnswersBytes blocks (Err tool.Read) read written = AnswersAll blocks read written
-AnswersBytes blocks (Err tool.NoMemory) read written = Unit {0}
+    × EndsBy target_settings (zeros blocks) (Err session.Read) read
+AnswersBytes blocks (Err tool.NoMemory) read written = AnswersFirst blocks read written
 AnswersBytes blocks (Err tool.Write) read written = Unit {0}
 AnswersBytes blocks (Err (tool.Text fault)) read written = ⊥
 AnswersBytes blocks (Err tool.TextTooLong) read written = ⊥

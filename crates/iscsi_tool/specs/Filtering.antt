@@ -7,7 +7,8 @@ use Rattle.iscsi_stream.specs.declared.fault.ToolFault.{ToolFault}
 use Rattle.iscsi_stream.specs.declared.fault.ToolFault.TheVariants as tool
 use Rattle.iscsi_stream.specs.Stream.{Message, StreamMeans}
 use Rattle.iscsi_stream.specs.Canonical.{canon}
-use Rattle.iscsi_stream.specs.Normalising.{Parts, IsCanonical, Wrote, RestFails, NormaliseFails}
+use Rattle.iscsi_stream.specs.Normalising.{Parts, IsCanonical, Wrote, RestFails, NormaliseFails, WritesUntil}
+use Rattle.iscsi_stream.specs.Shown.{AreLines}
 use Rattle.iscsi_stream.specs.Texts.{CanonicalOf, NormalisesText, longest_text}
 use Rattle.iscsi_service.specs.Session.{target_settings, EndsWell}
 use Rattle.iscsi_tool.specs.declared.filter.Filter.{Filter}
@@ -30,6 +31,12 @@ abbrev pub NormalisesBytes : Outcome → List ℕ → List ℕ → Type 0
 NormalisesBytes (Ok done) read written =
     (ms : List Message) × StreamMeans read ms × (written ≡ canon ms)
 NormalisesBytes (Err fault) read written = NormaliseFails fault read written
+
+-- A line for each PDU of what was read is written, or what showing leaves at a fault (own rule).
+abbrev pub ShowsBytes : Outcome → List ℕ → List ℕ → Type 0
+ShowsBytes (Ok done) read written =
+    (ms : List Message) × StreamMeans read ms × AreLines ms written
+ShowsBytes (Err fault) read written = WritesUntil AreLines fault read written
 
 -- ---- hex text
 
@@ -107,9 +114,10 @@ Reads (Answer blocks) false before after =
     EndsWell target_settings (zeros blocks) before after
 Reads _ _ before after = IsAtEnd after
 
--- What a work writes; the lines that Show writes, and answers as hex, are not stated (own rule).
+-- What a work writes; of hex text the lines that Show writes, and answers, are not stated (own rule).
 abbrev pub Does : Work → Bool → Outcome → List ℕ → List ℕ → Type 0
-Does Show hex outcome read written = Unit {0}
+Does Show true outcome read written = Unit {0}
+Does Show false outcome read written = ShowsBytes outcome read written
 Does (Answer blocks) true outcome read written = Unit {0}
 Does (Answer blocks) false outcome read written = AnswersBytes blocks outcome read written
 Does Normalise true outcome read written = NormalisesHex false outcome read written

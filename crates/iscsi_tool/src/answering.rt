@@ -16,10 +16,12 @@ use std::io::{Read, Write};
 /// Writes the answers of a target, with a disk of so many blocks of 00, to the stream that a reader
 /// gives; what one read leads to goes out in one write. It stops where the session is closed.
 ///
-/// What is written are the answers to all PDUs of what was read, but after want of memory and a
-/// failed write. Answers `Stream` where the stream ends within a PDU or has what the target's
-/// framer refuses, `Protocol` where the initiator breaks a rule; a refused login is no fault.
-/// `Read`, `Write` and `NoMemory` are as in `normalise`.
+/// What is written are the answers to all PDUs of what was read, and after want of memory those to
+/// some first PDUs; of a failed write nothing is said. Answers `Stream` where the stream ends within
+/// a PDU or has what the target's framer refuses, with the place of that; `Protocol` with the rule
+/// that the last PDU broke; `Ok` where no rule was broken and the stream ends behind a PDU, or the
+/// session was closed: a refused login is no fault. `Read`, `Write` and `NoMemory` are as in
+/// `normalise`.
 pub fn answer<R: Read, W: Write>(
     alloc: Global,
     blocks: u64,

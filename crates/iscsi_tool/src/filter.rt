@@ -4,7 +4,7 @@ ghost use Rattle.std.specs.Prelude.{◌≡◌, ◌<◌, ◌≤◌, ◌⊎◌, �
 ghost use Rattle.std.specs.Io.KnownBytes.{Appends, Consumes, IsAtEnd};
 ghost use Rattle.iscsi_stream.specs.declared.fault.ToolFault.TheVariants as tool;
 ghost use Rattle.iscsi_stream.specs.Texts.{NormalisesText};
-ghost use Rattle.iscsi_tool.specs.Filtering.{exit_status, Filters, HasDisk, IsLine, NormalisesBytes, NormalisesHex, ReadsOn};
+ghost use Rattle.iscsi_tool.specs.Filtering.{exit_status, Filters, HasDisk, IsLine, NormalisesBytes, NormalisesHex, ReadsOn, ShowsBytes};
 
 use crate::answering::answer;
 use crate::hex_text::{line, read_bytes};
@@ -55,7 +55,13 @@ pub fn run_filter<R: Read, W: Write>(
     ensures end { OnOk result (ReadsOn filter (R.remaining r.old) (R.remaining r.new)) }
 {
     match filter.work {
-        Work::Show => show_as(alloc, filter.hex, r, w),
+        Work::Show => {
+            if filter.hex {
+                show_hex(alloc, r, w)
+            } else {
+                show_bytes(alloc, r, w)
+            }
+        }
         Work::Normalise => {
             if filter.hex {
                 normalise_hex(alloc, false, r, w)
@@ -121,25 +127,28 @@ fn answer_hex<R: Read, W: Write>(
     outcome
 }
 
-// The lines of a stream, which may come as hex text.
-fn show_as<R: Read, W: Write>(
-    alloc: Global,
-    hex: bool,
-    r: &mut R,
-    w: &mut W,
-) -> Result<(), ToolFault>
+// The lines of a stream of bytes.
+fn show_bytes<R: Read, W: Write>(alloc: Global, r: &mut R, w: &mut W) -> Result<(), ToolFault>
+    ensures shows { (read : List ℕ) × (written : List ℕ)
+        × Consumes (R.remaining r.old) (R.remaining r.new) read
+        × Appends (W.contents w.old) (W.contents w.new) written
+        × ShowsBytes result read written }
+    ensures end { OnOk result (IsAtEnd (R.remaining r.new)) }
+{
+    show(alloc, r, w)?;
+    Ok(())
+}
+
+// The lines of a stream that comes as hex text.
+fn show_hex<R: Read, W: Write>(alloc: Global, r: &mut R, w: &mut W) -> Result<(), ToolFault>
     ensures moves { (read : List ℕ) × (written : List ℕ)
         × Consumes (R.remaining r.old) (R.remaining r.new) read
         × Appends (W.contents w.old) (W.contents w.new) written }
     ensures end { OnOk result (IsAtEnd (R.remaining r.new)) }
 {
-    if hex {
-        let bytes = read_bytes(alloc, r)?;
-        let mut source = bytes.as_slice();
-        show(alloc, &mut source, w)?;
-    } else {
-        show(alloc, r, w)?;
-    }
+    let bytes = read_bytes(alloc, r)?;
+    let mut source = bytes.as_slice();
+    show(alloc, &mut source, w)?;
     Ok(())
 }
 

@@ -1,12 +1,11 @@
-use Rattle.std.proofs.Common.{List, ℕ, [], take, sym, ◌∙◌}
-use Rattle.std.specs.Prelude.{Result, Ok, Err}
+use Rattle.std.proofs.Common.{[], take, sym, ◌∙◌}
 use Rattle.std.proofs.lemmas.Result.{err_from_is_err_and}
 use Rattle.iscsi_target.specs.Machine.{is_closed}
 use Rattle.iscsi_target.specs.Feed.{Store}
 use Rattle.iscsi_target.specs.Inside.{store_of}
 use Rattle.iscsi_service.specs.Session.{NeverFails}
 use Rattle.iscsi_service.specs.SessionSteps.{service}
-use Rattle.iscsi_service.proofs.SessionReads.{next_goes, next_closes, next_is_closed, goes_written, write_loses, breaks_write, fault_breaks}
+use Rattle.iscsi_service.proofs.SessionReads.{next_goes, next_closes, next_is_closed, next_is_open, goes_written, write_loses, breaks_write, fault_breaks}
 use Rattle.iscsi_service.proofs.session.serve_next.Goals as goal
 
 pub returns-in_err-write_out-in-Ok-clause-err : goal.returns-in_err-write_out-in-Ok-clause-err
@@ -76,5 +75,17 @@ returns-in_ok-write_out-in-Err-clause-err g c =
     let before : Store = store_of (g.S.BlockStore.disk c.args.store.now) (g.S.BlockStore.failures c.args.store.now) in
     let after : Store = store_of (g.S.BlockStore.disk c.feed_next.new.store) (g.S.BlockStore.failures c.feed_next.new.store) in
     let contents = g.W.Write.contents c.args.w.now in
-    fault_breaks steady c.args.target.now c.feed_next.new.self before after contents (g.W.Write.contents c.write_out-in-Err.new.w) c.args.out.now.items c.args.piece.now c.feed_next.new.out.items c.in-Err.fault c.in-Err.ensures.fed
+    fault_breaks steady c.args.target.now c.feed_next.new.self before after contents (g.W.Write.contents c.write_out-in-Err.new.w) c.args.out.now.items c.args.piece.now c.feed_next.new.out.items c.in-Err.fault c.requires.live c.in-Err.ensures.fed
     (λ h. h c.feed_next.new.store ∙ sym (h c.args.store.now)) c.in_ok-write_out-in-Err.ensures.ok
+
+pub returns-in_ok-write_out-in-Ok-clause-open : goal.returns-in_ok-write_out-in-Ok-clause-open
+returns-in_ok-write_out-in-Ok-clause-open g c =
+    let before : Store = store_of (g.S.BlockStore.disk c.args.store.now) (g.S.BlockStore.failures c.args.store.now) in
+    let after : Store = store_of (g.S.BlockStore.disk c.feed_next.new.store) (g.S.BlockStore.failures c.feed_next.new.store) in
+    λ open_. next_is_open (is_closed c.args.target.now.machine) c.args.target.now c.feed_next.new.self before after c.args.out.now.items c.args.piece.now c.feed_next.new.out.items c.in-Ok.done c.in-Ok.ensures.fed open_
+
+pub returns-else-len-gt-MOST_WAITING-clause-open : goal.returns-else-len-gt-MOST_WAITING-clause-open
+returns-else-len-gt-MOST_WAITING-clause-open g c =
+    let before : Store = store_of (g.S.BlockStore.disk c.args.store.now) (g.S.BlockStore.failures c.args.store.now) in
+    let after : Store = store_of (g.S.BlockStore.disk c.feed_next.new.store) (g.S.BlockStore.failures c.feed_next.new.store) in
+    λ open_. next_is_open (is_closed c.args.target.now.machine) c.args.target.now c.feed_next.new.self before after c.args.out.now.items c.args.piece.now c.feed_next.new.out.items c.in-Ok.done c.in-Ok.ensures.fed open_
