@@ -2,7 +2,8 @@
 //! `docs/session`.
 
 use super::{NORMALISE_HEX, SHOW_HEX, run, same};
-use std::test::*;
+use std::alloc::{AllocError, Global};
+use std::test::Fail;
 
 // What the initiator sent, as hex text.
 const INITIATOR: &[u8] = b"\
@@ -109,20 +110,49 @@ fn show_names_each_pdu_of_a_session(rt: HostRuntime) {
     }
 }
 
-#[test]
-fn a_session_normalises_to_what_normalises_to_itself(rt: HostRuntime) {
-    let alloc = rt.alloc();
-    for (name, text) in [("initiator", INITIATOR), ("target", TARGET)] {
-        let (first, once) = run(alloc, NORMALISE_HEX, text);
-        let (second, twice) = run(alloc, NORMALISE_HEX, &once);
-        same(&rt, &(first, second), &(Ok(()), Ok(())), &name);
-        same(&rt, &once.as_slice(), &twice.as_slice(), &name);
-        // The keys of its login texts are not in byte order, and no numeral in them gets shorter.
-        same(&rt, &once.len().checked_sub(1), &Some(digits(text)), &name);
+// Its login texts, with the keys in the order of their bytes; `|` stands for a byte 00.
+const INITIATOR_KEYS: &str = "DataDigest=None|DataPDUInOrder=Yes|DataSequenceInOrder=Yes|\
+    DefaultTime2Retain=0|DefaultTime2Wait=2|ErrorRecoveryLevel=0|FirstBurstLength=262144|\
+    HeaderDigest=None,CRC32C|IFMarker=No|ImmediateData=Yes|InitialR2T=No|\
+    InitiatorName=iqn.2001-04.com.example:init|MaxBurstLength=262144|MaxConnections=1|\
+    MaxOutstandingR2T=1|MaxRecvDataSegmentLength=262144|OFMarker=No|SessionType=Normal|\
+    TargetName=iqn.2001-04.com.example:disk|";
+
+const TARGET_KEYS: &str = "DataDigest=None|DataPDUInOrder=Yes|DataSequenceInOrder=Yes|\
+    DefaultTime2Retain=0|DefaultTime2Wait=2|ErrorRecoveryLevel=0|FirstBurstLength=65536|\
+    HeaderDigest=None|IFMarker=No|ImmediateData=Yes|InitialR2T=Yes|MaxBurstLength=262144|\
+    MaxConnections=1|MaxOutstandingR2T=1|OFMarker=No|TargetPortalGroupTag=1|";
+
+// The digits of a text, as hex.
+fn login_digits(alloc: Global, keys: &str) -> Result<String, AllocError> {
+    let mut text = Vec::new(alloc);
+    for byte in keys.bytes() {
+        text.push(if byte == b'|' { 0 } else { byte })?;
     }
+    hex::encode(alloc, &text)
 }
 
-// How many digits the hex text has.
-fn digits(text: &[u8]) -> usize {
-    text.iter().filter(|b| **b != b'\n').count()
+// The canonical stream as hex text: each bit that is free is 0 already, and each pad byte, so that only the
+// keys of the login text, behind its header, are in another order.
+fn canonical_of(alloc: Global, text: &[u8], keys: &str) -> Result<Vec<u8>, Fail> {
+    let digits: Vec<u8> = text.iter().copied().filter(|b| *b != b'\n').collect(alloc)?;
+    let login = login_digits(alloc, keys)?;
+    let mut due = Vec::from_slice(alloc, digits.get(..96).ok_or("no header")?)?;
+    due.extend_from_slice(login.as_bytes())?;
+    due.extend_from_slice(digits.get(due.len()..).ok_or("no padding")?)?;
+    due.push(b'\n')?;
+    Ok(due)
+}
+
+#[test]
+fn canonical_streams_of_a_session(rt: HostRuntime) -> Result<(), Fail> {
+    for (text, keys) in [(INITIATOR, INITIATOR_KEYS), (TARGET, TARGET_KEYS)] {
+        let due = canonical_of(rt.alloc(), text, keys)?;
+        let (result, once) = run(rt.alloc(), NORMALISE_HEX, text);
+        same(&rt, &result, &Ok(()), &keys);
+        same(&rt, &once.as_slice(), &due.as_slice(), &keys);
+        let (_, twice) = run(rt.alloc(), NORMALISE_HEX, &once);
+        same(&rt, &twice.as_slice(), &due.as_slice(), &keys);
+    }
+    Ok(())
 }
