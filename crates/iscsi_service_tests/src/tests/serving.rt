@@ -2,7 +2,7 @@
 
 use super::{CUT, FIRST_ANSWER, NAMELESS, PING, REFUSAL, bytes_of, same};
 use iscsi_initiator::InitiatorFault;
-use iscsi_service::{ServeFault, configuration, serve_one};
+use iscsi_service::{ServeFault, configuration, serve, serve_one};
 use iscsi_stream::StreamFault;
 use iscsi_target::TargetFault;
 use scsi_disk::SparseStore;
@@ -108,6 +108,12 @@ fn a_session_reads_what_an_earlier_one_wrote(rt: HostRuntime) -> Result<(), Fail
         same(&rt, &out.as_slice(), &want.as_slice(), &requests);
     }
     Ok(())
+}
+
+/// A port that the system picks is announced, and with no connection to serve the service ends.
+#[test]
+fn no_connection_is_served(rt: HostRuntime) {
+    same(&rt, &serve(&rt, 0, 1, 0).is_ok(), &true, &"no connection");
 }
 
 /// Faults, with their lines and statuses.
