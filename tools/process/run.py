@@ -42,6 +42,17 @@ LONG_LOGIN = of_hex(HEADER.format("43810000 00002001"))
 # A SCSI Command of 16,777,215 bytes, of which none comes.
 LONG_COMMAND = of_hex(HEADER.format("01800000 00ffffff"))
 
+# A Login Request without the initiator's name, and the answer: status 0207, missing parameter.
+KEYS = b"AuthMethod=None\0SessionType=Normal\0TargetName=iqn.2026-01.example:disk\0"
+NAMELESS = of_hex(
+    "43810000 00000047 40000001 00000000 00000000 00000000 00000001 00000000",
+    "00000000 00000000 00000000 00000000",
+) + KEYS + bytes(-len(KEYS) % 4)
+REFUSAL = of_hex(
+    "23000000 00000000 40000001 00000000 00000000 00000000 00000000 00000001",
+    "00000001 02070000 00000000 00000000",
+)
+
 # The script of the README, and what comes of it over 2,048 blocks.
 SCRIPT = b"write 0 8 5a\nread 0 1\ncapacity\nread 2047 2\nlogout\n"
 REPORT = (
@@ -73,6 +84,8 @@ ROWS = [
     Row("a line of each PDU of hex text", ["show", "--hex"], PING.hex().encode(), LINE),
     Row("a canonical text", ["normalise", "--text"], b"B=0x10\0A=5\0\0\0", b"A=5\0B=0x10\0"),
     Row("no answers to nothing", ANSWER),
+    Row("a login that the target refuses", ANSWER, NAMELESS, REFUSAL),
+    Row("the same as hex text", [*ANSWER, "--hex"], NAMELESS.hex().encode(), REFUSAL.hex().encode() + b"\n"),
     Row("a script", LOOP, SCRIPT, REPORT),
     Row("no connection is served", ["serve", "--port", "0", "--blocks", "1", "--sessions", "0"], b"", b"listening\n"),
     # Input that is refused.
