@@ -6,6 +6,12 @@ pub const BREACHES: &str = "# standard, logged in: a reject\n\
     > 3f800400 00000030 00000000 00000000 ffffffff 00000000 00000003 00000001 00000001 00000000 00000000 00000000 00*48\n\
     = failed, protocol: rule 8\n\
     ? closed, full\n\
+    # standard, logged in: a reject without data, and a request behind it\n\
+    > 3f800400 00000000 00000000 00000000 ffffffff 00000000 00000003 00000001 00000001 00000000 00000000 00000000\n\
+    = failed, protocol: rule 8\n\
+    ! logout\n\
+    = was closed\n\
+    ? closed, full\n\
     # standard, logged in: a reject with a wrong status number\n\
     > 3f800400 00000030 00000000 00000000 ffffffff 00000000 00000004 00000001 00000001 00000000 00000000 00000000 00*48\n\
     = failed, protocol: rule 6\n\

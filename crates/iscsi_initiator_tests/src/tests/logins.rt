@@ -75,6 +75,14 @@ pub const LOGINS: &str = "# standard, nothing: from the security stage\n\
     ? closed, operational\n\
     ! logout\n\
     = was closed\n\
+    # standard, begun: a greater burst alone\n\
+    > 23870000 00000016 40000001 00000001 00000000 00000000 00000002 00000001 00000001 00000000 00000000 00000000 'MaxBurstLength=300000|\n\
+    = failed, bad answer: MaxBurstLength\n\
+    ? closed, operational\n\
+    # standard, begun: a smaller burst alone\n\
+    > 23870000 00000014 40000001 00000001 00000000 00000000 00000002 00000001 00000001 00000000 00000000 00000000 'MaxBurstLength=1024|\n\
+    = failed, bad answer: DataDigest\n\
+    ? closed, operational\n\
     # standard, begun: no data digest\n\
     > 23870000 0000010b 40000001 00000001 00000000 00000000 00000002 00000001 00000001 00000000 00000000 00000000 'DataPDUInOrder=Yes|DataSequenceInOrder=Yes|DefaultTime2Retain=20|DefaultTime2Wait=2|ErrorRecoveryLevel=0|FirstBurstLength=65536|HeaderDigest=None|ImmediateData=Yes|InitialR2T=No|MaxBurstLength=262144|MaxConnections=1|MaxOutstandingR2T=1|MaxRecvDataSegmentLength=8192|\n\
     = failed, bad answer: DataDigest\n\
