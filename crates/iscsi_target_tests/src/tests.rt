@@ -9,6 +9,7 @@ use std::fmt::Debug;
 use std::process::Abort;
 use std::test::Fail;
 
+mod changes;
 mod configs;
 mod dialogues;
 mod rows;
@@ -28,7 +29,12 @@ fn same<T: PartialEq + Debug>(rt: &impl Abort, value: &T, due: &T, row: &impl De
 
 // A target that has just begun. It stands in a box: a function that owns it is then proved much sooner.
 fn target_of(alloc: Global) -> Result<Box<Target>, Fail> {
-    let config = Config::new(alloc, NAME, 1, 1, Preferences::standard())?;
+    target_with(alloc, Preferences::standard())
+}
+
+// A target with these preferences that has just begun.
+fn target_with(alloc: Global, preferences: Preferences) -> Result<Box<Target>, Fail> {
+    let config = Config::new(alloc, NAME, 1, 1, preferences)?;
     Ok(Box::new(alloc, Target::new(alloc, config, 1))?)
 }
 
@@ -52,10 +58,20 @@ fn text_of(alloc: Global, text: &str) -> Result<Vec<u8>, AllocError> {
     Ok(bytes)
 }
 
+// The bytes of a text, behind which `+` may say how many more keys it has.
+fn longer_text_of(alloc: Global, text: &str) -> Result<Vec<u8>, Fail> {
+    let (text, more) = text.split_once('+').unwrap_or((text, "0"));
+    let mut bytes = text_of(alloc, text)?;
+    for number in 0..more.parse::<u16>()? {
+        bytes.extend_from_slice(format!(in alloc; "K{number:03}=1\0")?.as_bytes())?;
+    }
+    Ok(bytes)
+}
+
 // The bytes of a segment: a text behind an apostrophe, so many of a byte, or hex text.
 fn segment_of(alloc: Global, segment: &str) -> Result<Vec<u8>, Fail> {
     if let Some(text) = segment.strip_prefix('\'') {
-        return Ok(text_of(alloc, text)?);
+        return longer_text_of(alloc, text);
     }
     let Some((byte, count)) = segment.split_once('*') else {
         return Ok(bytes_of(alloc, segment)?);

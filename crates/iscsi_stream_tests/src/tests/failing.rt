@@ -106,7 +106,7 @@ fn check_each(rt: &impl Abort, alloc: Global, row: &str, fault: ToolFault) -> Re
     let (name, lines) = parts_of(row);
     let came = came_of(alloc, lines)?;
     let want = written_of(alloc, lines)?;
-    for before in 0..200usize {
+    for before in 0..400usize {
         let (reads, writes) = one_fails(fault, before);
         let met = run_with(alloc, false, &came, reads, writes);
         let is_met = met.failures > 0;

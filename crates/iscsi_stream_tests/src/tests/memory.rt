@@ -23,11 +23,12 @@ fn ample_written_of(alloc: Global, lines: &str) -> Result<Vec<u8>, FromHexError>
     }
 }
 
+const LINE: &[u8] =
+    b"0 NOP-Out i=1 itt=00000001 ttt=ffffffff cmdsn=00000005 expstatsn=00000002 data=3\n";
+
 #[test]
 fn refused_memory_changes_no_line(rt: HostRuntime) -> Result<(), Fail> {
     let stream = ample_came_of(rt.alloc(), lines_of(&rt, NOP_OUT))?;
-    let line =
-        b"0 NOP-Out i=1 itt=00000001 ttt=ffffffff cmdsn=00000005 expstatsn=00000002 data=3\n";
     let mut room = [0u8; 128];
     let mut source = stream.as_slice();
     let mut out = room.as_mut_slice();
@@ -39,12 +40,7 @@ fn refused_memory_changes_no_line(rt: HostRuntime) -> Result<(), Fail> {
         let mut source = stream.as_slice();
         assert!(rt; show(rt.alloc(), &mut source, &mut again).is_ok());
     }
-    same(
-        &rt,
-        &room.get(..line.len()),
-        &Some(line.as_slice()),
-        &"line",
-    );
+    same(&rt, &room.get(..LINE.len()), &Some(LINE), &"line");
     Ok(())
 }
 
@@ -100,7 +96,7 @@ fn refused_memory_leaves_what_was_there(rt: HostRuntime) -> Result<(), Fail> {
         );
         show_line(0, &pdu, &mut out)?;
     }
-    assert!(rt; out.len() > want.len());
+    same(&rt, &out.get(want.len()..), &Some(LINE), &"line");
     Ok(())
 }
 

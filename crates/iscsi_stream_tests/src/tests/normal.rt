@@ -1,6 +1,7 @@
 //! Canonical streams, and the faults of streams with their places.
 
 use super::rows::{LOGIN_REQUEST, NOP_OUT, WRITE_COMMAND, lines_of, parts_of, rows};
+use super::runs::{SURE, Steps, run_with};
 use super::{came_of, feed_piece, normal_of, same, written_of};
 use iscsi_stream::{Counts, Framer, StreamFault, ToolFault};
 use std::alloc::Global;
@@ -27,7 +28,7 @@ fn check_row(rt: &impl Abort, alloc: Global, row: &str) -> Result<(), Fail> {
 
 #[test]
 fn canonical_streams(rt: HostRuntime) -> Result<(), Fail> {
-    same(&rt, &rows().split("\n\n").count(), &24, &"rows");
+    same(&rt, &rows().split("\n\n").count(), &27, &"rows");
     for row in rows().split("\n\n") {
         check_row(&rt, rt.alloc(), row)?;
     }
@@ -55,35 +56,42 @@ fn feed_pieces(
 fn check_pieces(
     rt: &impl Abort,
     alloc: Global,
-    row: &str,
+    streams: (&[u8], &[u8]),
     first: usize,
     len: usize,
+    name: &str,
 ) -> Result<(), Fail> {
-    let (name, lines) = parts_of(row);
-    let came = came_of(alloc, lines)?;
+    let (came, want) = streams;
     let mut out = Vec::new(alloc);
-    let ended = feed_pieces(alloc, &came, first, len, &mut out)?;
+    let ended = feed_pieces(alloc, came, first, len, &mut out)?;
     same(
         rt,
         &ended,
         &(came.len() as u64, Ok(())),
         &(name, first, len),
     );
+    same(rt, &out.as_slice(), &want, &(name, first, len));
+    Ok(())
+}
+
+// In pieces of some lengths, and cut in two at every byte.
+fn check_cuts(rt: &impl Abort, alloc: Global, row: &str) -> Result<(), Fail> {
+    let (name, lines) = parts_of(row);
+    let came = came_of(alloc, lines)?;
     let want = written_of(alloc, lines)?;
-    same(rt, &out.as_slice(), &want.as_slice(), &(name, first, len));
+    for len in [1usize, 47, 48] {
+        check_pieces(rt, alloc, (&came, &want), 0, len, name)?;
+    }
+    for first in 0..=came.len() {
+        check_pieces(rt, alloc, (&came, &want), first, 100_000, name)?;
+    }
     Ok(())
 }
 
 #[test]
 fn cuts_make_no_difference(rt: HostRuntime) -> Result<(), Fail> {
     for row in rows().split("\n\n") {
-        for len in [1usize, 47, 48] {
-            check_pieces(&rt, rt.alloc(), row, 0, len)?;
-        }
-        let (_, lines) = parts_of(row);
-        for first in 0..=came_of(rt.alloc(), lines)?.len() {
-            check_pieces(&rt, rt.alloc(), row, first, 100_000)?;
-        }
+        check_cuts(&rt, rt.alloc(), row)?;
     }
     Ok(())
 }
@@ -133,18 +141,31 @@ const FAULTY: &str = "stream: additional header at = Additional\n\
     stream: login segment too long at = TooLong\n\
     > 23810000 00002001 00000000 00000000 00000000 00000000 00000000 00000000 00000000 00000000 00000000 00000000 00000000";
 
-// The fault of a row's header behind a stream that ends at a place, and what is written before it.
+// How a stream ends whose reads give so many bytes each, and what is written.
+fn normal_in_reads(
+    alloc: Global,
+    stream: &[u8],
+    step: usize,
+) -> (Result<Counts, ToolFault>, Vec<u8>) {
+    let before = None;
+    let run = run_with(alloc, false, stream, Steps { step, before }, SURE);
+    (run.result, run.written)
+}
+
+// The fault of a row's header behind a stream that ends at a place, and what is written before it, where
+// each read gives so many bytes.
 fn check_fault(
     rt: &impl Abort,
     alloc: Global,
     front: &str,
     place: u64,
     row: &str,
+    step: usize,
 ) -> Result<(), Fail> {
     let (words, header) = parts_of(row);
     let mut stream = came_of(alloc, front)?;
     stream.extend_from_slice(&came_of(alloc, header)?)?;
-    let (result, out) = normal_of(alloc, &stream);
+    let (result, out) = normal_in_reads(alloc, &stream, step);
     same(
         rt,
         &out.as_slice(),
@@ -162,12 +183,14 @@ fn check_fault(
     Ok(())
 }
 
-/// Alone, and behind a whole PDU.
+/// Alone, and behind a whole PDU, in reads of each length.
 #[test]
 fn faults_and_places(rt: HostRuntime) -> Result<(), Fail> {
     for row in FAULTY.split("\n\n") {
-        check_fault(&rt, rt.alloc(), "", 0, row)?;
-        check_fault(&rt, rt.alloc(), lines_of(&rt, NOP_OUT), 52, row)?;
+        for step in 1..102 {
+            check_fault(&rt, rt.alloc(), "", 0, row, step)?;
+            check_fault(&rt, rt.alloc(), lines_of(&rt, NOP_OUT), 52, row, step)?;
+        }
     }
     Ok(())
 }

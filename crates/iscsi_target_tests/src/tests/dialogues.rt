@@ -1,21 +1,23 @@
 //! Sessions by example, in pieces of any length.
 
-use super::rows::{DIALOGUES, Dialogue, FAILING, LOGIN};
-use super::{BY_PDU, feed_pieces, pdu_of, same, target_of};
-use iscsi_login::{Phase, Stage};
+use super::rows::{DIALOGUES, Dialogue, FAILING, LOGIN, SHORT};
+use super::{BY_PDU, feed_pieces, pdu_of, same, target_of, target_with};
+use iscsi_login::{Phase, Preferences, Stage};
 use iscsi_stream::StreamFault;
 use iscsi_target::{Target, TargetFault};
-use scsi_disk::{BlockStore, FailAt, MemoryStore};
+use scsi_disk::{BlockStore, FailAt, MemoryStore, SparseStore};
 use std::alloc::Global;
 use std::process::Abort;
 use std::test::Fail;
 
-/// What comes before an answer, what is sent, and what is answered.
+/// What comes before an answer, what is sent, what is answered, and how many blocks are written then,
+/// where it is said.
 #[derive(Drop)]
 struct Turn {
     came: Vec<u8>,
     want: Vec<u8>,
     answer: Result<Phase, TargetFault>,
+    written: Option<u16>,
 }
 
 // What a call answers, as a line of a dialogue says it.
@@ -36,15 +38,23 @@ fn answer_of(words: &str) -> Result<Result<Phase, TargetFault>, Fail> {
 fn turns_of(alloc: Global, lines: &str) -> Result<Vec<Turn>, Fail> {
     let mut turns = Vec::new(alloc);
     let (mut came, mut want) = (Vec::new(alloc), Vec::new(alloc));
+    let mut written = None;
     for line in lines.lines() {
         let (mark, rest) = line.split_once(' ').ok_or("no mark")?;
         match mark {
             ">" => pdu_of(alloc, rest, &mut came)?,
             "<" => pdu_of(alloc, rest, &mut want)?,
+            "#" => written = Some(rest.parse::<u16>()?),
             "=" => {
                 let answer = answer_of(rest)?;
-                turns.push(Turn { came, want, answer })?;
+                turns.push(Turn {
+                    came,
+                    want,
+                    answer,
+                    written,
+                })?;
                 (came, want) = (Vec::new(alloc), Vec::new(alloc));
+                written = None;
             }
             _ => return Err(Fail::from("no such line")),
         }
@@ -53,6 +63,23 @@ fn turns_of(alloc: Global, lines: &str) -> Result<Vec<Turn>, Fail> {
         return Err(Fail::from("no answer at the end"));
     }
     Ok(turns)
+}
+
+// A block is of one byte alone.
+fn check_block<S: BlockStore>(rt: &impl Abort, store: &mut S, lba: u64, want: u8) {
+    assert!(rt; lba < store.blocks());
+    let mut block = [0xff; 512];
+    let read = store.read(lba, &mut block);
+    assert!(rt; read.is_ok(), "block {lba}");
+    same(rt, &block, &[want; 512], &lba);
+}
+
+// The first blocks, so many, are of 5a, and the ones behind them of 00.
+fn check_disk<S: BlockStore>(rt: &impl Abort, store: &mut S, written: u16) {
+    for lba in 0..16u64 {
+        let want = if lba < written as u64 { 0x5a } else { 0x00 };
+        check_block(rt, store, lba, want);
+    }
 }
 
 // Goes through the turns of a session, whose stream comes in pieces of this length.
@@ -70,6 +97,9 @@ fn check<S: BlockStore>(
         let result = feed_pieces(target, &turn.came, len, store, &mut out);
         same(rt, &out.as_slice(), &turn.want.as_slice(), &(name, len, at));
         same(rt, &result, &turn.answer, &(name, len, at));
+        if let Some(written) = turn.written {
+            check_disk(rt, store, written);
+        }
     }
     Ok(())
 }
@@ -122,6 +152,46 @@ fn stores_that_fail(rt: HostRuntime) -> Result<(), Fail> {
     for row in FAILING {
         for len in [BY_PDU, 1, 47, 48, 100_000] {
             check_failing(&rt, rt.alloc(), row, len)?;
+        }
+    }
+    Ok(())
+}
+
+// The lines of the session with this name.
+fn lines_of(name: &str) -> Result<&'static str, Fail> {
+    for (other, _, lines) in DIALOGUES {
+        if *other == name {
+            return Ok(*lines);
+        }
+    }
+    Err(Fail::from("no such session"))
+}
+
+/// Over the store that keeps what was written alone.
+#[test]
+fn a_write_in_pieces_of_each_length(rt: HostRuntime) -> Result<(), Fail> {
+    let lines = lines_of("writes")?;
+    for len in 1..101 {
+        let mut store = SparseStore::new(rt.alloc(), 2048);
+        check_after_login(&rt, rt.alloc(), "writes", len, &mut store, lines)?;
+    }
+    Ok(())
+}
+
+// A target that takes segments of at most 512 bytes.
+fn short_target(alloc: Global) -> Result<Box<Target>, Fail> {
+    let mut preferences = Preferences::standard();
+    preferences.max_recv = 512;
+    target_with(alloc, preferences)
+}
+
+#[test]
+fn longer_segments_than_declared(rt: HostRuntime) -> Result<(), Fail> {
+    for (name, _, lines) in SHORT {
+        for len in [BY_PDU, 1, 47, 48, 100_000] {
+            let mut store = SparseStore::new(rt.alloc(), 2048);
+            let mut target = short_target(rt.alloc())?;
+            check(&rt, rt.alloc(), name, len, &mut target, &mut store, lines)?;
         }
     }
     Ok(())

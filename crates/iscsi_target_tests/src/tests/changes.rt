@@ -1,0 +1,144 @@
+//! A PDU and its canonical form are answered alike, also where a byte of its header is another one.
+
+use super::{pdu_of, same, target_of};
+use iscsi_login::Phase;
+use iscsi_stream::normalise;
+use iscsi_target::TargetFault;
+use scsi_disk::SparseStore;
+use std::alloc::Global;
+use std::process::Abort;
+use std::test::Fail;
+
+/// A login in one request, as a line of a dialogue.
+const LOGIN: &str =
+    "43870000 0000008b 40000001 00000000 00000000 00000000 00000001 00000000 00000000 00000000 00000000 00000000 'InitialR2T=No|InitiatorName=iqn.2026-01.example:host|MaxBurstLength=1024|MaxRecvDataSegmentLength=4096|TargetName=iqn.2026-01.example:disk|";
+
+// PDUs behind the login. If each byte of the header in turn has each value, so many have a canonical form:
+// any value of a byte is taken but for bytes 0 and 4 to 7: 43 * 256 PDUs. Byte 0 has one of the 17 opcodes
+// below two bits that refuse nothing: 17 * 4. Byte 4 has to be 00. Bytes 5 to 7 have to say the length of
+// the segment: a longer one is not whole, and what a shorter one leaves over is no PDU. So each of the
+// four has one value, but byte 7 of the ping four: segments of 1 to 4 bytes fill the same word with their
+// padding.
+
+const PING: &str =
+    "c0800000 00000003 11111111 11111111 00000001 ffffffff 00000005 00000002 00000000 00000000 00000000 00000000 616263ff";
+
+const PINGS: u64 = 11_083;
+
+const LOGIN_AGAIN: &str =
+    "03030000 00000000 40000001 00000000 00000000 0000ffff 00000001 00000000 00000000 00000000 00000000 00000000";
+
+const WRITE: &str =
+    "01a10000 00000200 00000000 00000000 00000001 00001000 00000001 00000003 2a000000 00000000 08000000 00000000 5a*512";
+
+const OTHERS: u64 = 11_080;
+
+// What a target answers to a PDU behind the login, and all that it writes.
+fn answers_to(
+    alloc: Global,
+    login: &[u8],
+    pdu: &[u8],
+) -> Result<(Result<Phase, TargetFault>, Vec<u8>), Fail> {
+    let mut store = SparseStore::new(alloc, 2048);
+    let mut target = target_of(alloc)?;
+    let mut out = Vec::new(alloc);
+    if target.feed(login, &mut store, &mut out)? != Phase::Full {
+        return Err(Fail::from("no login"));
+    }
+    let result = target.feed(pdu, &mut store, &mut out);
+    Ok((result, out))
+}
+
+// A PDU and its canonical form are answered alike.
+fn check_alike(
+    rt: &impl Abort,
+    alloc: Global,
+    login: &[u8],
+    pdu: &[u8],
+    canonical: &[u8],
+    row: (usize, u8),
+) -> Result<(), Fail> {
+    let (result, out) = answers_to(alloc, login, pdu)?;
+    let (again, twice) = answers_to(alloc, login, canonical)?;
+    same(rt, &again, &result, &row);
+    same(rt, &twice.as_slice(), &out.as_slice(), &row);
+    Ok(())
+}
+
+// Compares the answers where a PDU has a canonical form that is another one. Says whether it has one.
+fn has_form(
+    rt: &impl Abort,
+    alloc: Global,
+    login: &[u8],
+    pdu: &[u8],
+    row: (usize, u8),
+) -> Result<bool, Fail> {
+    let mut source = pdu;
+    let mut canonical = Vec::new(alloc);
+    if normalise(alloc, &mut source, &mut canonical).is_err() {
+        return Ok(false);
+    }
+    if canonical.as_slice() != pdu {
+        check_alike(rt, alloc, login, pdu, &canonical, row)?;
+    }
+    Ok(true)
+}
+
+// How many PDUs have a canonical form if the byte at a place has each value in turn.
+fn count_at(
+    rt: &impl Abort,
+    alloc: Global,
+    login: &[u8],
+    pdu: &mut [u8],
+    place: usize,
+) -> Result<u64, Fail> {
+    let kept = pdu.get(place).copied().unwrap_or(0);
+    let mut count = 0u64;
+    for value in 0..=255u8 {
+        if let Some(byte) = pdu.get_mut(place) {
+            *byte = value;
+        }
+        if has_form(rt, alloc, login, pdu, (place, value))? {
+            count = count.saturating_add(1);
+        }
+    }
+    if let Some(byte) = pdu.get_mut(place) {
+        *byte = kept;
+    }
+    Ok(count)
+}
+
+// The bytes of a PDU.
+fn bytes_of(alloc: Global, line: &str) -> Result<Vec<u8>, Fail> {
+    let mut bytes = Vec::new(alloc);
+    pdu_of(alloc, line, &mut bytes)?;
+    Ok(bytes)
+}
+
+// A PDU whose header is changed so is answered as its canonical form, wherever it has one.
+fn check_changes(rt: &impl Abort, alloc: Global, line: &str, want: u64) -> Result<(), Fail> {
+    let login = bytes_of(alloc, LOGIN)?;
+    let mut pdu = bytes_of(alloc, line)?;
+    let mut count = 0u64;
+    for place in 0..48usize {
+        let forms = count_at(rt, alloc, &login, &mut pdu, place)?;
+        count = count.saturating_add(forms);
+    }
+    same(rt, &count, &want, &line);
+    Ok(())
+}
+
+#[test]
+fn changed_pings_are_answered_alike(rt: HostRuntime) -> Result<(), Fail> {
+    check_changes(&rt, rt.alloc(), PING, PINGS)
+}
+
+#[test]
+fn changed_logins_are_answered_alike(rt: HostRuntime) -> Result<(), Fail> {
+    check_changes(&rt, rt.alloc(), LOGIN_AGAIN, OTHERS)
+}
+
+#[test]
+fn changed_writes_are_answered_alike(rt: HostRuntime) -> Result<(), Fail> {
+    check_changes(&rt, rt.alloc(), WRITE, OTHERS)
+}
