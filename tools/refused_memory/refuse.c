@@ -1,4 +1,5 @@
-/* Refuses the allocation number FAIL_AT, and tells in FAIL_LOG how many there were and whether one was refused. */
+/* Refuses the allocation number FAIL_AT, or each one from number FAIL_FROM on, and tells in FAIL_LOG how many there
+   were and whether one was refused. */
 #include <errno.h>
 #include <fcntl.h>
 #include <stdio.h>
@@ -10,15 +11,20 @@ extern void *__libc_calloc(size_t, size_t);
 extern void *__libc_realloc(void *, size_t);
 extern void *__libc_memalign(size_t, size_t);
 
-static long count, fail_at = -1, was_refused;
+static long count, fail_at, fail_from, was_refused;
+
+static long number(const char *name) {
+  const char *text = getenv(name);
+  return text ? atol(text) : 0;
+}
 
 static int is_refused(void) {
   if (count == 0) {
-    const char *at = getenv("FAIL_AT");
-    fail_at = at ? atol(at) : 0;
+    fail_at = number("FAIL_AT");
+    fail_from = number("FAIL_FROM");
   }
   count++;
-  if (count != fail_at) return 0;
+  if (count != fail_at && (fail_from == 0 || count < fail_from)) return 0;
   was_refused = 1;
   errno = ENOMEM;
   return 1;

@@ -1,10 +1,12 @@
 #!/usr/bin/env python3
 """Refuses each allocation of the built program in turn, and looks at what it answers and has written then.
 
-Each run ends as with ample memory, or with status 3, the line `memory`, and a part of the output that is due: whole
-PDUs or lines, of `answer` all answers to some first PDUs, and nothing of a line of hex or a text. Two runs are of `loop`,
-with a script of each command and one that is refused. It also counts the allocations for 1, 2 and 1000 PDUs of 4,096
-bytes, which are the same where the segment buffer is kept.
+Each run ends as with ample memory, or with status 3, the line `memory`, and less than the output that is due: whole
+PDUs or lines, of `answer` all answers to some first PDUs, and nothing of a line of hex or a text. The whole output is
+there with that line only where nothing is due to the last PDUs, or where none is due at all. A run that met no refusal
+ends as with ample memory, and that not for want of it. Two runs are of `loop`, with a script of each command and one
+that is refused. The segment buffer is kept from PDU to PDU: a run over 1,000 PDUs of 4,096 bytes ends well where each
+allocation is refused that a run over one does not ask for.
 
 The sessions of `answer` are the dialogues of iscsi_target_tests, with the answers that stand there, and one that reads
 back the eight blocks of its write. Two of them also go over a socket to `serve`, whose service ends where memory is
@@ -25,6 +27,8 @@ PROGRAM = f"{TOP}/crates/lanthovur/out/lanthovur"
 ROOM = tempfile.mkdtemp()
 # A process that takes longer hangs.
 SECONDS = 60
+# No run asks for memory so often.
+MOST = 10000
 
 # A read of the eight blocks that the session "writes" has written, in sequences of MaxBurstLength bytes.
 READ_BACK = """\
@@ -51,8 +55,9 @@ logout
 """
 
 
-def refusing(fail_at):
-    return {**os.environ, "LD_PRELOAD": f"{ROOM}/refuse.so", "FAIL_LOG": f"{ROOM}/log", "FAIL_AT": str(fail_at)}
+def refusing(fail_at, fail_from=0):
+    log = {"LD_PRELOAD": f"{ROOM}/refuse.so", "FAIL_LOG": f"{ROOM}/log"}
+    return {**os.environ, **log, "FAIL_AT": str(fail_at), "FAIL_FROM": str(fail_from)}
 
 
 def told():
@@ -60,9 +65,9 @@ def told():
     return int(count), refused == "1"
 
 
-def run(words, data, fail_at=0):
+def run(words, data, fail_at=0, fail_from=0):
     """From a file, so that reads are cut in the same way each time."""
-    env = refusing(fail_at)
+    env = refusing(fail_at, fail_from)
     with open(f"{ROOM}/input", "wb") as file:
         file.write(data)
     with open(f"{ROOM}/input", "rb") as file:
@@ -105,10 +110,12 @@ def ends(stream):
 
 
 def places(words, whole):
-    """The lengths at which this output may stop."""
+    """The lengths at which this output may stop where memory runs out: before its last PDU or line."""
     if "show" in words or "loop" in words:
-        return {0} | {at + 1 for at, byte in enumerate(whole) if byte == 10}
-    return ends(whole) if words == ["normalise"] else {0}
+        found = {0} | {at + 1 for at, byte in enumerate(whole) if byte == 10}
+    else:
+        found = ends(whole) if words == ["normalise"] else {0}
+    return found - {len(whole)} | {0}
 
 
 def of_hex(path):
@@ -123,7 +130,9 @@ def pdu(line):
     """The PDU of a line of a dialogue, as crates/iscsi_target_tests/src/tests/rows.rt says it."""
     header, segment = bytes.fromhex(line[:107]), line[107:].strip()
     if segment.startswith("'"):
-        data = segment[1:].replace("|", "\0").encode()
+        text, _, more = segment[1:].partition("+")
+        keys = "".join(f"K{number:03}=1|" for number in range(int(more or 0)))
+        data = (text + keys).replace("|", "\0").encode()
     elif "*" in segment:
         byte, count = segment.split("*")
         data = bytes.fromhex(byte) * int(count)
@@ -154,28 +163,53 @@ def dialogues():
         yield name, came, stops, due, status
 
 
+def is_well(ended, ample, was_refused, stops):
+    """Whether a run may end so: its status, output and fault line, and the same with ample memory."""
+    if ended == ample:
+        return True
+    status, out, err = ended
+    return was_refused and status == 3 and err == b"memory\n" and ample[1].startswith(out) and len(out) in stops
+
+
 def sweep(name, words, data, stops=None, run=run):
     """Refuses each allocation of a run in turn, and answers how many runs ended wrongly."""
     ample, count, _ = run(words, data)
-    stops = (places(words, ample[1]) if stops is None else stops) | {len(ample[1])}
-    refused, at, failed, met = 0, 0, 0, set()
-    while True:
-        at += 1
-        (status, out, err), _, was_refused = run(words, data, at)
+    stops = places(words, ample[1]) if stops is None else stops
+    refused, failed, met = 0, 0, set()
+    if ample[0] == 3:
+        failed += 1
+        print(f"{name}: want of memory where none was refused")
+    for at in range(1, MOST):
+        ended, _, was_refused = run(words, data, at)
+        if not is_well(ended, ample, was_refused, stops):
+            failed += 1
+            print(f"{name} at {at}: status {ended[0]}, {ended[1][:40]!r}, {ended[2][:60]!r}")
         if not was_refused:
             break
         refused += 1
-        met.add(len(out))
-        is_part = ample[1].startswith(out) and len(out) in stops
-        if (status, out, err) != ample and not (status == 3 and err == b"memory\n" and is_part):
-            failed += 1
-            print(f"{name} at {at}: status {status}, {out[:40]!r}, {err[:60]!r}")
-    print(f"{name}: {refused} of {count} allocations refused in turn; output of {len(met)} lengths")
+        met.add(len(ended[1]))
+    if refused == 0 or was_refused:
+        failed += 1
+        print(f"{name}: not each of its allocations was refused")
+    print(f"{name}: {refused} of {count} allocations refused in turn; output of {len(met)} lengths", flush=True)
     return failed
 
 
+def kept_buffer(ping):
+    """How many runs ended wrongly in which each allocation is refused that one PDU of 4,096 bytes does not ask for."""
+    long_pdu = ping[:5] + (4048).to_bytes(3, "big") + ping[8:48] + bytes(4048)
+    ample, count, _ = run(["normalise"], long_pdu)
+    many, _, was_refused = run(["normalise"], long_pdu * 1000, 0, count + 1)
+    is_kept = many == (0, ample[1] * 1000, b"") and not was_refused
+    print(f"normalise, 1000 PDUs: the segment buffer is {'kept' if is_kept else 'not kept'}")
+    return int(not is_kept)
+
+
 def main():
-    subprocess.run(["gcc", "-shared", "-fPIC", "-O1", "-o", f"{ROOM}/refuse.so", os.path.join(os.path.dirname(os.path.abspath(__file__)), "refuse.c")], check=True)
+    if not os.path.isfile(PROGRAM):
+        sys.exit(f"there is no program {PROGRAM}: `./lanthovur </dev/null` builds it")
+    source = f"{TOP}/tools/refused_memory/refuse.c"
+    subprocess.run(["gcc", "-shared", "-fPIC", "-O1", "-o", f"{ROOM}/refuse.so", source], check=True)
     ping = of_hex("crates/lanthovur/stdin")
     session = of_hex("docs/session/initiator.hex") + of_hex("docs/session/target.hex")
     text = b"MaxBurstLength=0X0040000\0\0InitialR2T=Yes\0TargetAddress=b\0TargetAddress=a\0"
@@ -196,12 +230,10 @@ def main():
         if name in ("login", "reads back a write"):
             failed += sweep(f"answer --hex, {name}", [*answer, "--hex"], came.hex().encode())
             failed += sweep(f"serve, {name}", ["serve", "--blocks", "2048", "--sessions", "1"], came, stops, run_service)
-    long_pdu = ping[:5] + (4048).to_bytes(3, "big") + ping[8:48] + bytes(4048)
-    counts = [run(["normalise"], long_pdu * n)[1] for n in (1, 2, 1000)]
-    print(f"allocations for 1, 2 and 1000 PDUs: {counts}")
-    failed += len(set(counts)) != 1
-    sys.exit(failed != 0)
+    failed += kept_buffer(ping)
+    print(f"{failed} runs of the program ended wrongly")
+    return failed
 
 
 if __name__ == "__main__":
-    main()
+    sys.exit(main() != 0)
