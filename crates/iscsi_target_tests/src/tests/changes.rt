@@ -11,7 +11,7 @@ use std::test::Fail;
 
 /// A login in one request, as a line of a dialogue.
 const LOGIN: &str =
-    "43870000 0000008b 40000001 00000000 00000000 00000000 00000001 00000000 00000000 00000000 00000000 00000000 'InitialR2T=No|InitiatorName=iqn.2026-01.example:host|MaxBurstLength=1024|MaxRecvDataSegmentLength=4096|TargetName=iqn.2026-01.example:disk|";
+    "43870000 0000004b 40000001 00000000 00000000 00000000 00000001 00000000 00000000 00000000 00000000 00000000 'InitiatorName=iqn.2026-01.example:host|TargetName=iqn.2026-01.example:disk|";
 
 // PDUs behind the login. If each byte of the header in turn has each value, so many have a canonical form:
 // any value of a byte is taken but for bytes 0 and 4 to 7: 43 * 256 PDUs. Byte 0 has one of the 17 opcodes
