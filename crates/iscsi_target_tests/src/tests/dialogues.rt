@@ -1,6 +1,6 @@
 //! Sessions by example, in pieces of any length.
 
-use super::rows::{DIALOGUES, Dialogue, FAILING, LOGIN, SHORT};
+use super::rows::{DIALOGUES, Dialogue, FAILING, LOGIN, LONG, SHORT};
 use super::{BY_PDU, feed_pieces, pdu_of, same, target_of, target_with};
 use iscsi_login::{Phase, Preferences, Stage};
 use iscsi_stream::StreamFault;
@@ -140,6 +140,16 @@ fn check_failing(rt: &impl Abort, alloc: Global, row: &Dialogue, len: usize) -> 
 fn dialogues(rt: HostRuntime) -> Result<(), Fail> {
     for row in DIALOGUES {
         for len in [BY_PDU, 1, 47, 48, 100_000] {
+            check_dialogue(&rt, rt.alloc(), row, len)?;
+        }
+    }
+    Ok(())
+}
+
+#[test]
+fn long_texts(rt: HostRuntime) -> Result<(), Fail> {
+    for row in LONG {
+        for len in [BY_PDU, 47] {
             check_dialogue(&rt, rt.alloc(), row, len)?;
         }
     }
