@@ -118,15 +118,20 @@ fn check_after_login<S: BlockStore>(
     check(rt, alloc, name, len, &mut target, store, lines)
 }
 
-// A session over a disk of 2048 blocks, whose stream comes in pieces of this length.
-fn check_dialogue(rt: &impl Abort, alloc: Global, row: &Dialogue, len: usize) -> Result<(), Fail> {
+// A session over a store of 2048 blocks, whose stream comes in pieces of this length.
+fn check_dialogue<S: BlockStore>(
+    rt: &impl Abort,
+    alloc: Global,
+    row: &Dialogue,
+    len: usize,
+    store: &mut S,
+) -> Result<(), Fail> {
     let (name, is_fresh, lines) = *row;
-    let mut store = MemoryStore::new(alloc, 2048)?;
     if !is_fresh {
-        return check_after_login(rt, alloc, name, len, &mut store, lines);
+        return check_after_login(rt, alloc, name, len, store, lines);
     }
     let mut target = target_of(alloc)?;
-    check(rt, alloc, name, len, &mut target, &mut store, lines)
+    check(rt, alloc, name, len, &mut target, store, lines)
 }
 
 // A session over a disk whose first read or write fails.
@@ -136,12 +141,16 @@ fn check_failing(rt: &impl Abort, alloc: Global, row: &Dialogue, len: usize) -> 
     check_after_login(rt, alloc, name, len, &mut store, lines)
 }
 
+/// Over the store that keeps what was written alone, and once over the other.
 #[test]
 fn dialogues(rt: HostRuntime) -> Result<(), Fail> {
     for row in DIALOGUES {
         for len in [BY_PDU, 1, 47, 48, 100_000] {
-            check_dialogue(&rt, rt.alloc(), row, len)?;
+            let mut store = SparseStore::new(rt.alloc(), 2048);
+            check_dialogue(&rt, rt.alloc(), row, len, &mut store)?;
         }
+        let mut store = MemoryStore::new(rt.alloc(), 2048)?;
+        check_dialogue(&rt, rt.alloc(), row, 48, &mut store)?;
     }
     Ok(())
 }
@@ -150,7 +159,8 @@ fn dialogues(rt: HostRuntime) -> Result<(), Fail> {
 fn long_texts(rt: HostRuntime) -> Result<(), Fail> {
     for row in LONG {
         for len in [BY_PDU, 47] {
-            check_dialogue(&rt, rt.alloc(), row, len)?;
+            let mut store = SparseStore::new(rt.alloc(), 2048);
+            check_dialogue(&rt, rt.alloc(), row, len, &mut store)?;
         }
     }
     Ok(())
