@@ -1,6 +1,6 @@
 //! Sessions by example, in pieces of any length.
 
-use super::rows::{DIALOGUES, Dialogue, FAILING, LOGIN, LONG, SHORT};
+use super::rows::{Dialogue, FAILING, LOGIN, LOGINS, LONG, REQUESTS, SHORT, WRITES};
 use super::{BY_PDU, feed_pieces, pdu_of, same, target_of, target_with};
 use iscsi_login::{Phase, Preferences, Stage};
 use iscsi_stream::StreamFault;
@@ -141,18 +141,27 @@ fn check_failing(rt: &impl Abort, alloc: Global, row: &Dialogue, len: usize) -> 
     check_after_login(rt, alloc, name, len, &mut store, lines)
 }
 
-/// Over the store that keeps what was written alone, and once over the other.
-#[test]
-fn dialogues(rt: HostRuntime) -> Result<(), Fail> {
-    for row in DIALOGUES {
+// Sessions over the store that keeps what was written alone, and once over the other.
+fn check_rows(rt: &impl Abort, alloc: Global, rows: &[Dialogue]) -> Result<(), Fail> {
+    for row in rows {
         for len in [BY_PDU, 1, 47, 48, 100_000] {
-            let mut store = SparseStore::new(rt.alloc(), 2048);
-            check_dialogue(&rt, rt.alloc(), row, len, &mut store)?;
+            let mut store = SparseStore::new(alloc, 2048);
+            check_dialogue(rt, alloc, row, len, &mut store)?;
         }
-        let mut store = MemoryStore::new(rt.alloc(), 2048)?;
-        check_dialogue(&rt, rt.alloc(), row, 48, &mut store)?;
+        let mut store = MemoryStore::new(alloc, 2048)?;
+        check_dialogue(rt, alloc, row, 48, &mut store)?;
     }
     Ok(())
+}
+
+#[test]
+fn logins(rt: HostRuntime) -> Result<(), Fail> {
+    check_rows(&rt, rt.alloc(), LOGINS)
+}
+
+#[test]
+fn requests(rt: HostRuntime) -> Result<(), Fail> {
+    check_rows(&rt, rt.alloc(), REQUESTS)
 }
 
 #[test]
@@ -177,23 +186,12 @@ fn stores_that_fail(rt: HostRuntime) -> Result<(), Fail> {
     Ok(())
 }
 
-// The lines of the session with this name.
-fn lines_of(name: &str) -> Result<&'static str, Fail> {
-    for (other, _, lines) in DIALOGUES {
-        if *other == name {
-            return Ok(*lines);
-        }
-    }
-    Err(Fail::from("no such session"))
-}
-
 /// Over the store that keeps what was written alone.
 #[test]
 fn a_write_in_pieces_of_each_length(rt: HostRuntime) -> Result<(), Fail> {
-    let lines = lines_of("writes")?;
     for len in 1..101 {
         let mut store = SparseStore::new(rt.alloc(), 2048);
-        check_after_login(&rt, rt.alloc(), "writes", len, &mut store, lines)?;
+        check_after_login(&rt, rt.alloc(), "writes", len, &mut store, WRITES)?;
     }
     Ok(())
 }
