@@ -93,8 +93,14 @@ const INITIATOR_HEADERS: &[([u32; 12], [u32; 12])] = &[
         ],
     ),
     (
+        [0x01000000, 0, 0, 0, 1, 2, 3, 4, 0x34ffffff, X, X, X],
+        [0x01000000, 0, 0, 0, 1, 2, 3, 4, 0x34ffffff, X, X, X],
+    ),
+    (
         [0x01000000, 0, 0, 0, 1, 2, 3, 4, 0x35ffffff, X, X, X],
-        [0x01000000, 0, 0, 0, 1, 2, 3, 4, 0x35ffffff, X, X, X],
+        [
+            0x01000000, 0, 0, 0, 1, 2, 3, 4, 0x3506ffff, 0xffff1fff, 0xffff0000, 0,
+        ],
     ),
     // Task Management Function Request.
     (

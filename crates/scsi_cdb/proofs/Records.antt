@@ -4,11 +4,12 @@ use Rattle.std.specs.Prelude.{◌↔◌}
 use Rattle.std.proofs.lemmas.Bool.{both_ways}
 use Rattle.std.proofs.lemmas.List.{take_all}
 use Rattle.scsi_cdb.specs.declared.block.Cdb.{Cdb}
-use Rattle.scsi_cdb.specs.declared.block.Cdb.TheVariants.{TestUnitReady, Inquiry, Capacity10, Read10, Write10, Read16, Write16, Capacity16, ReportLuns, Unknown}
+use Rattle.scsi_cdb.specs.declared.block.Cdb.TheVariants.{TestUnitReady, Inquiry, Capacity10, Read10, Write10, SyncCache10, Read16, Write16, Capacity16, ReportLuns, Unknown}
 use Rattle.scsi_cdb.specs.declared.block.Transfer10.{Transfer10}
 use Rattle.scsi_cdb.specs.declared.block.Transfer16.{Transfer16}
+use Rattle.scsi_cdb.specs.declared.block.Synchronize10.{Synchronize10}
 use Rattle.scsi_cdb.specs.Layout.{Hold, HaveRoom, part, number_at, bits_at}
-use Rattle.scsi_cdb.specs.Blocks.{IsRecord, IsUnlisted, Fits, canonical, rows, is_listed, transfer10, transfer16}
+use Rattle.scsi_cdb.specs.Blocks.{IsRecord, IsUnlisted, Fits, canonical, rows, is_listed, transfer10, transfer16, synchronize10}
 use Rattle.scsi_cdb.proofs.Laws.{is_table, put_all-holds, length-put_all, Hold-room, HaveRoom-filled}
 
 pub part-whole : (b : List ℕ) → length b ≡ 16 → part 0 15 b ≡ b
@@ -26,6 +27,9 @@ transfer10-unique b x y p q = let e : ◌≡◌ {A = Transfer10} (record x { log
 transfer16-unique : (b : List ℕ) (x y : Transfer16) → Hold b (transfer16 x) → Hold b (transfer16 y) → x ≡ y
 transfer16-unique b x y p q = let e : ◌≡◌ {A = Transfer16} (record x { logical_block_address = x.logical_block_address }) (record y { logical_block_address = y.logical_block_address }) = cc in e
 
+synchronize10-unique : (b : List ℕ) (x y : Synchronize10) → Hold b (synchronize10 x) → Hold b (synchronize10 y) → x ≡ y
+synchronize10-unique b x y p q = let e : ◌≡◌ {A = Synchronize10} (record x { logical_block_address = x.logical_block_address }) (record y { logical_block_address = y.logical_block_address }) = cc in e
+
 -- a record other than Unknown
 abbrev IsNamed : Cdb → Type 0
 IsNamed (Unknown x) = ⊥
@@ -37,6 +41,7 @@ code_of (Inquiry _ _ _ _) = 0x12
 code_of (Capacity10 _) = 0x25
 code_of (Read10 _) = 0x28
 code_of (Write10 _) = 0x2a
+code_of (SyncCache10 _) = 0x35
 code_of (Read16 _) = 0x88
 code_of (Write16 _) = 0x8a
 code_of (Capacity16 _ _) = 0x9e
@@ -53,6 +58,7 @@ rows-same b (Inquiry x1 x2 x3 x4) (Inquiry y1 y2 y3 y4) m n e p q = cc
 rows-same b (Capacity10 x) (Capacity10 y) m n e p q = cc
 rows-same b (Read10 x) (Read10 y) m n e p q = ap Read10 (transfer10-unique b x y p.1 q.1)
 rows-same b (Write10 x) (Write10 y) m n e p q = ap Write10 (transfer10-unique b x y p.1 q.1)
+rows-same b (SyncCache10 x) (SyncCache10 y) m n e p q = ap SyncCache10 (synchronize10-unique b x y p.1 q.1)
 rows-same b (Read16 x) (Read16 y) m n e p q = ap Read16 (transfer16-unique b x y p.1 q.1)
 rows-same b (Write16 x) (Write16 y) m n e p q = ap Write16 (transfer16-unique b x y p.1 q.1)
 rows-same b (Capacity16 x1 x2) (Capacity16 y1 y2) m n e p q = cc
@@ -78,6 +84,7 @@ listed b (Inquiry _ _ _ _) r = let e : number_at 0 0 b ≡ 0x12 = cc (r.rows.0) 
 listed b (Capacity10 _) r = let e : number_at 0 0 b ≡ 0x25 = cc (r.rows.0) in inl (rw e refl, tt)
 listed b (Read10 _) r = let e : number_at 0 0 b ≡ 0x28 = cc (r.rows.0) in inl (rw e refl, tt)
 listed b (Write10 _) r = let e : number_at 0 0 b ≡ 0x2a = cc (r.rows.0) in inl (rw e refl, tt)
+listed b (SyncCache10 _) r = let e : number_at 0 0 b ≡ 0x35 = cc (r.rows.0) in inl (rw e refl, tt)
 listed b (Read16 _) r = let e : number_at 0 0 b ≡ 0x88 = cc (r.rows.0) in inl (rw e refl, tt)
 listed b (Write16 _) r = let e : number_at 0 0 b ≡ 0x8a = cc (r.rows.0) in inl (rw e refl, tt)
 listed b (ReportLuns _ _ _) r = let e : number_at 0 0 b ≡ 0xa0 = cc (r.rows.0) in inl (rw e refl, tt)
@@ -104,6 +111,7 @@ rows-table (Inquiry _ _ _ _) = refl
 rows-table (Capacity10 _) = refl
 rows-table (Read10 _) = refl
 rows-table (Write10 _) = refl
+rows-table (SyncCache10 _) = refl
 rows-table (Read16 _) = refl
 rows-table (Write16 _) = refl
 rows-table (Capacity16 _ _) = refl

@@ -1,12 +1,13 @@
 -- The table of descriptor blocks (SPC-4, sections 6.6 and 6.33; SBC-3, sections 5.15 and 5.16 and
--- the READ and WRITE commands).
+-- the READ, WRITE and SYNCHRONIZE CACHE commands).
 -- Each record is a list of rows over the 16 bytes; bits of no row are free, and are written 0.
 use Rattle.std.specs.Prelude.{◌≡◌, ℕ, Bool, false, ◌==◌, ◌&&◌, ◌||◌, List, [], ◌∷◌, length, replicate}
 use Rattle.std.specs.List.{list_any}
 use Rattle.scsi_cdb.specs.declared.block.Cdb.{Cdb}
-use Rattle.scsi_cdb.specs.declared.block.Cdb.TheVariants.{TestUnitReady, Inquiry, Capacity10, Read10, Write10, Read16, Write16, Capacity16, ReportLuns, Unknown}
+use Rattle.scsi_cdb.specs.declared.block.Cdb.TheVariants.{TestUnitReady, Inquiry, Capacity10, Read10, Write10, SyncCache10, Read16, Write16, Capacity16, ReportLuns, Unknown}
 use Rattle.scsi_cdb.specs.declared.block.Transfer10.{Transfer10}
 use Rattle.scsi_cdb.specs.declared.block.Transfer16.{Transfer16}
+use Rattle.scsi_cdb.specs.declared.block.Synchronize10.{Synchronize10}
 use Rattle.scsi_cdb.specs.Layout.{Row, always, Hold, AreFilled, put_all, bits_at, number_at}
 use Rattle.scsi_cdb.specs.Layout.Row.{bit, bits, bytes, raw}
 
@@ -34,6 +35,16 @@ transfer16 t =
     ∷ bytes 15 15 (always t.control)
     ∷ []
 
+-- SYNCHRONIZE CACHE(10) (SBC-3), past its code
+abbrev pub synchronize10 : Synchronize10 → List Row
+synchronize10 s =
+    bits 1 0x06 (always s.options)
+    ∷ bytes 2 5 (always s.logical_block_address)
+    ∷ bits 6 0x1f (always s.group_number)
+    ∷ bytes 7 8 (always s.blocks)
+    ∷ bytes 9 9 (always s.control)
+    ∷ []
+
 -- The rows of a record. TEST UNIT READY, INQUIRY and REPORT LUNS are SPC-4's, the others SBC-3's;
 -- Unknown is own profile.
 abbrev pub rows : Cdb → List Row
@@ -54,6 +65,7 @@ rows (Capacity10 control) =
     ∷ []
 rows (Read10 t) = code 0x28 ∷ transfer10 t
 rows (Write10 t) = code 0x2a ∷ transfer10 t
+rows (SyncCache10 s) = code 0x35 ∷ synchronize10 s
 rows (Read16 t) = code 0x88 ∷ transfer16 t
 rows (Write16 t) = code 0x8a ∷ transfer16 t
 rows (Capacity16 allocation_length control) =
@@ -75,7 +87,7 @@ rows (Unknown block) = raw 0 15 (always block) ∷ []
 abbrev pub is_listed : List ℕ → Bool
 is_listed b =
     list_any (λ n. n == number_at 0 0 b)
-    (0x00 ∷ 0x12 ∷ 0x25 ∷ 0x28 ∷ 0x2a ∷ 0x88 ∷ 0x8a ∷ 0xa0 ∷ [])
+    (0x00 ∷ 0x12 ∷ 0x25 ∷ 0x28 ∷ 0x2a ∷ 0x35 ∷ 0x88 ∷ 0x8a ∷ 0xa0 ∷ [])
     || (number_at 0 0 b == 0x9e && bits_at 1 0x1f b == 0x10)
 
 -- Unknown is for blocks that have no record of their own

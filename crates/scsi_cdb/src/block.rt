@@ -5,7 +5,7 @@ ghost use Rattle.scsi_cdb.specs.declared.block.Cdb.{Cdb};
 ghost use Rattle.scsi_cdb.specs.declared.block.Cdb.TheVariants as records;
 ghost use Rattle.scsi_cdb.specs.Layout.{always, Hold, AreFilled, HaveRoom, put_all, number_at};
 ghost use Rattle.scsi_cdb.specs.Layout.Row.{bytes};
-ghost use Rattle.scsi_cdb.specs.Blocks.{Fits, IsRecord, canonical, code, transfer10, transfer16, rows};
+ghost use Rattle.scsi_cdb.specs.Blocks.{Fits, IsRecord, canonical, code, transfer10, transfer16, synchronize10, rows};
 
 use crate::layout::{
     bit, bits, put_bit, put_number, put_raw, put_u8, put_u16, put_u32, put_u64, u8_at, u16_at,
@@ -42,6 +42,21 @@ pub struct Transfer16 {
     pub control: u8,
 }
 
+/// What a SYNCHRONIZE CACHE(10) asks for (SBC-3, SYNCHRONIZE CACHE (10) command).
+#[derive(Clone, Copy, Debug, PartialEq, Eq)]
+pub struct Synchronize10 {
+    /// The bits SYNC_NV and IMMED of byte 1, 0 to 3. They are not acted on.
+    pub options: u8,
+    /// The first block.
+    pub logical_block_address: u32,
+    /// 0 to 31. It is not acted on.
+    pub group_number: u8,
+    /// NUMBER OF LOGICAL BLOCKS. 0 is all blocks up to the last one.
+    pub blocks: u16,
+    /// It is kept and not acted on.
+    pub control: u8,
+}
+
 /// A command to a logical unit, as its command descriptor block (CDB) has it.
 ///
 /// Reserved bits are not checked, and are written 0 (own profile). The control byte is kept and not
@@ -70,6 +85,8 @@ pub enum Cdb {
     Read10(Transfer10),
     /// WRITE(10), code 2a (SBC-3).
     Write10(Transfer10),
+    /// SYNCHRONIZE CACHE(10), code 35 (SBC-3).
+    SyncCache10(Synchronize10),
     /// READ(16), code 88 (SBC-3).
     Read16(Transfer16),
     /// WRITE(16), code 8a (SBC-3).
@@ -154,6 +171,37 @@ impl Transfer16 {
     }
 }
 
+impl Synchronize10 {
+    fn read(block: &[u8; 16]) -> Synchronize10
+        ensures { Hold block.now (synchronize10 result) }
+    {
+        Synchronize10 {
+            options: bits(block, 1, 0x06),
+            logical_block_address: u32_at(block, 2),
+            group_number: bits(block, 6, 0x1f),
+            blocks: u16_at(block, 7),
+            control: u8_at(block, 9),
+        }
+    }
+
+    /// The block of that operation code, with each free bit 0.
+    fn block(&self, operation_code: u8) -> [u8; 16]
+        requires { AreFilled (synchronize10 self.now) }
+        ensures room { HaveRoom (code operation_code ∷ synchronize10 self.now) }
+        ensures written { result
+            ≡ put_all (code operation_code ∷ synchronize10 self.now) (replicate 16 0) }
+    {
+        let mut out = [0; 16];
+        put_u8(&mut out, 0, operation_code);
+        put_number(&mut out, 1, 0x06, self.options);
+        put_u32(&mut out, 2, self.logical_block_address);
+        put_number(&mut out, 6, 0x1f, self.group_number);
+        put_u16(&mut out, 7, self.blocks);
+        put_u8(&mut out, 9, self.control);
+        out
+    }
+}
+
 impl Cdb {
     /// The one record of a block.
     pub fn read(block: &[u8; 16]) -> Cdb
@@ -184,6 +232,7 @@ impl Cdb {
             },
             0x28 => Cdb::Read10(Transfer10::read(block)),
             0x2a => Cdb::Write10(Transfer10::read(block)),
+            0x35 => Cdb::SyncCache10(Synchronize10::read(block)),
             0x88 => Cdb::Read16(Transfer16::read(block)),
             0x8a => Cdb::Write16(Transfer16::read(block)),
             0x9e => Cdb::read_service(block),
@@ -214,8 +263,8 @@ impl Cdb {
 
     /// The one block of a record in which each free bit is 0.
     ///
-    /// The record has to fit the table: a group number of at most 31, and in `Unknown` a block of
-    /// no other record.
+    /// The record has to fit the table: a group number of at most 31, options of a SYNCHRONIZE CACHE
+    /// of at most 3, and in `Unknown` a block of no other record.
     pub fn write(&self) -> [u8; 16]
         requires { Fits self.now }
         ensures canonical { result ≡ canonical self.now }
@@ -241,6 +290,7 @@ impl Cdb {
             Cdb::Capacity10 { control } => control_block(0x25, 9, *control),
             Cdb::Read10(transfer) => transfer.block(0x28),
             Cdb::Write10(transfer) => transfer.block(0x2a),
+            Cdb::SyncCache10(synchronize) => synchronize.block(0x35),
             Cdb::Read16(transfer) => transfer.block(0x88),
             Cdb::Write16(transfer) => transfer.block(0x8a),
             Cdb::Capacity16 {

@@ -10,7 +10,7 @@ mod numbers;
 mod residual;
 mod sense;
 
-pub use block::{Cdb, Transfer10, Transfer16};
+pub use block::{Cdb, Synchronize10, Transfer10, Transfer16};
 pub use bytes::Bytes;
 pub use inquiry::{inquiry_bytes, vpd_bytes};
 pub use numbers::{capacity10, capacity16, report_luns};

@@ -1,7 +1,7 @@
 //! Blocks and data whose bytes were worked out by hand from the tables of SPC-4 and SBC-3.
 
 use scsi_cdb::{
-    Bytes, Cdb, Sense, Transfer10, Transfer16, capacity10, capacity16, inquiry_bytes, report_luns,
+    Bytes, Cdb, Sense, Synchronize10, Transfer10, Transfer16, capacity10, capacity16, inquiry_bytes, report_luns,
     vpd_bytes,
 };
 use std::fmt::Debug;
@@ -123,9 +123,31 @@ fn descriptor_blocks(rt: HostRuntime) {
             [0x9ef10102, 0x03040506, 0x0708090a, 0x0b0c0d0e],
         ),
         (
-            [0x35ffffff, 0xffffffff, 0xffffffff, 0xffffffff],
-            Cdb::Unknown(block([0x35ffffff, 0xffffffff, 0xffffffff, 0xffffffff])),
-            [0x35ffffff, 0xffffffff, 0xffffffff, 0xffffffff],
+            [0x35ff0000, 0, 0x08001122, 0x33445566],
+            Cdb::SyncCache10(Synchronize10 {
+                options: 3,
+                logical_block_address: 0,
+                group_number: 0,
+                blocks: 8,
+                control: 0,
+            }),
+            [0x35060000, 0, 0x08000000, 0],
+        ),
+        (
+            [0x35fb0102, 0x0304e506, 0x0708ffff, 0xffffffff],
+            Cdb::SyncCache10(Synchronize10 {
+                options: 1,
+                logical_block_address: 0x01020304,
+                group_number: 5,
+                blocks: 0x0607,
+                control: 8,
+            }),
+            [0x35020102, 0x03040506, 0x07080000, 0],
+        ),
+        (
+            [0x34ffffff, 0xffffffff, 0xffffffff, 0xffffffff],
+            Cdb::Unknown(block([0x34ffffff, 0xffffffff, 0xffffffff, 0xffffffff])),
+            [0x34ffffff, 0xffffffff, 0xffffffff, 0xffffffff],
         ),
     ];
     for (i, (came, record, written)) in rows.iter().enumerate() {

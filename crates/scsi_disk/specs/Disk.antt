@@ -1,5 +1,5 @@
 -- What a store of blocks is seen as, and what a read gives and a write leaves.
-use Rattle.std.specs.Prelude.{◌≡◌, ℕ, zero, suc, ◌+◌, ◌-◌, ◌*◌, ◌/◌, ◌%◌, ◌<◌, ◌≤◌, ◌⊎◌, if◌then◌else◌, nat_lt, List, [], ◌++◌, length, take, drop, replicate, Result, IsErrOf}
+use Rattle.std.specs.Prelude.{◌^◌, ◌≡◌, ℕ, zero, suc, ◌+◌, ◌-◌, ◌*◌, ◌/◌, ◌%◌, ◌<◌, ◌≤◌, ◌⊎◌, if◌then◌else◌, nat_lt, List, [], ◌++◌, length, take, drop, replicate, Result, IsErrOf}
 use Rattle.scsi_disk.specs.declared.store.StoreFault.{StoreFault}
 use Rattle.scsi_disk.specs.declared.store.StoreFault.TheVariants.{Device}
 
@@ -48,6 +48,10 @@ pub record IsOldOrNew (old new disk : Disk) : Type 0 where
 -- so many blocks of a size, of 00, and nothing past them
 unfoldable pub zero_blocks : ℕ → ℕ → ℕ → List ℕ
 zero_blocks size count n = if nat_lt n count then replicate size 0 else []
+
+-- the most blocks that a disk may have (own rule)
+abbrev pub most_blocks : ℕ
+most_blocks = 2 ^ 40
 
 -- a disk of so many blocks of 00
 abbrev pub zeros : ℕ → Disk

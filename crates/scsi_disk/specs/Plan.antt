@@ -4,7 +4,7 @@
 use Rattle.std.specs.Prelude.{ℕ, ◌+◌, ◌-◌, ◌*◌, Bool, true, false, not, ◌==◌, ◌&&◌, ◌||◌, nat_lt, bit_and, min, if◌then◌else◌, List, [], ◌∷◌, length, take, Option, Some, None, option_map, is_none, unwrap_or}
 use Rattle.scsi_cdb.specs.ParameterData.{inquiry, vpd, capacity10_of, capacity16_of, luns}
 use Rattle.scsi_cdb.specs.declared.block.Cdb.{Cdb}
-use Rattle.scsi_cdb.specs.declared.block.Cdb.TheVariants.{Inquiry, Capacity10, Read10, Write10, Read16, Write16, Capacity16, ReportLuns, Unknown}
+use Rattle.scsi_cdb.specs.declared.block.Cdb.TheVariants.{Inquiry, Capacity10, Read10, Write10, SyncCache10, Read16, Write16, Capacity16, ReportLuns, Unknown}
 use Rattle.scsi_cdb.specs.declared.sense.Sense.{Sense}
 use Rattle.scsi_cdb.specs.declared.sense.Sense.TheVariants.{InvalidCode, OutOfRange, InvalidField, NoUnit}
 use Rattle.scsi_disk.specs.declared.order.Order.{Order}
@@ -60,6 +60,16 @@ transfer (Write16 t) = record {
 }
 transfer _ = record { first = 0; count = 0; options = 0 }
 
+-- the blocks that a SYNCHRONIZE CACHE names, and none of another command; no blocks are those up to
+-- the last one
+abbrev pub synchronized : Cdb → Transfer
+synchronized (SyncCache10 s) = record {
+  first = s.logical_block_address;
+  count = s.blocks;
+  options = s.options;
+}
+synchronized _ = record { first = 0; count = 0; options = 0 }
+
 -- The data that a command other than a READ gives, cut at its allocation length, where the unit is
 -- there or not and this is the last block. None for a page or a report that there is not.
 abbrev pub data_of : Bool → ℕ → Cdb → Option (List ℕ)
@@ -83,10 +93,12 @@ parameter_data order blocks = data_of (order.lun == 0) (blocks - 1) order.cdb
 -- The reasons to refuse an order on a disk of so many blocks, in their order: an unknown command; a
 -- unit other than 0, but for the standard INQUIRY data; data both ways; data for a command that
 -- takes none; protection (RDPROTECT or WRPROTECT); a page or a report that there is not; over 8,192
--- blocks; blocks past the end; a WRITE that expects other than its blocks, or sends none of them.
+-- blocks; blocks past the end; a WRITE that expects other than its blocks, or sends none of them; a
+-- SYNCHRONIZE CACHE of blocks past the end.
 abbrev pub refusals : Order → ℕ → List (Bool × Sense)
 refusals order blocks =
     let named = transfer order.cdb in
+    let flushed = synchronized order.cdb in
     (is_unknown order.cdb, InvalidCode)
     ∷ (not (order.lun == 0) && not (is_standard_inquiry order.cdb), NoUnit)
     ∷ (order.read && order.write, InvalidField)
@@ -97,6 +109,7 @@ refusals order blocks =
     ∷ (nat_lt blocks (named.first + named.count), OutOfRange)
     ∷ (is_write order.cdb && not (order.expected == 512 * named.count), InvalidField)
     ∷ (is_write order.cdb && not order.write && nat_lt 0 named.count, InvalidField)
+    ∷ (nat_lt blocks (flushed.first + flushed.count), OutOfRange)
     ∷ []
 
 -- the first reason that holds

@@ -19,5 +19,5 @@ pub use memory::MemoryStore;
 pub use order::{Order, Outcome, Plan};
 pub use planning::plan;
 pub use running::run_orders;
-pub use sparse::SparseStore;
+pub use sparse::{MOST_BLOCKS, SparseStore};
 pub use store::{BlockStore, StoreFault};

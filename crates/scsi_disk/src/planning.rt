@@ -1,7 +1,7 @@
 //! What an order leads to, before a block is touched (SPC-4 and SBC-3).
 
 ghost use Rattle.std.specs.Prelude.{◌≡◌, ◌+◌, ◌*◌, ◌-◌, ◌<◌, ◌≤◌, ◌||◌, ◌&&◌, ◌==◌, not, nat_lt, is_none, option_map, IfNone, length, take};
-ghost use Rattle.scsi_disk.specs.Plan.{transfer, is_write, is_read, is_unknown, is_standard_inquiry, parameter_data, first_refusal, expected_length, wanted_length, plan_of};
+ghost use Rattle.scsi_disk.specs.Plan.{transfer, synchronized, is_write, is_read, is_unknown, is_standard_inquiry, parameter_data, first_refusal, expected_length, wanted_length, plan_of};
 
 use crate::order::{Order, Plan};
 use arrayvec::ArrayVec;
@@ -42,6 +42,34 @@ pub(crate) fn transfer_of(cdb: &Cdb) -> Transfer
         Cdb::TestUnitReady { .. }
         | Cdb::Inquiry { .. }
         | Cdb::Capacity10 { .. }
+        | Cdb::SyncCache10(_)
+        | Cdb::Capacity16 { .. }
+        | Cdb::ReportLuns { .. }
+        | Cdb::Unknown(_) => Transfer {
+            first: 0,
+            count: 0,
+            options: 0,
+        },
+    }
+}
+
+/// The blocks that a SYNCHRONIZE CACHE names, and none of another command.
+fn synchronized_by(cdb: &Cdb) -> Transfer
+    ensures { result ≡ synchronized cdb.now }
+{
+    match cdb {
+        Cdb::SyncCache10(s) => Transfer {
+            first: u64::from(s.logical_block_address),
+            count: u32::from(s.blocks),
+            options: s.options,
+        },
+        Cdb::TestUnitReady { .. }
+        | Cdb::Inquiry { .. }
+        | Cdb::Capacity10 { .. }
+        | Cdb::Read10(_)
+        | Cdb::Write10(_)
+        | Cdb::Read16(_)
+        | Cdb::Write16(_)
         | Cdb::Capacity16 { .. }
         | Cdb::ReportLuns { .. }
         | Cdb::Unknown(_) => Transfer {
@@ -146,6 +174,7 @@ pub(crate) fn parameter_data(order: &Order, blocks: u64) -> Option<ArrayVec<u8, 
         Cdb::TestUnitReady { .. }
         | Cdb::Read10(_)
         | Cdb::Write10(_)
+        | Cdb::SyncCache10(_)
         | Cdb::Read16(_)
         | Cdb::Write16(_)
         | Cdb::Unknown(_) => Some(ArrayVec::new()),
@@ -180,6 +209,9 @@ fn refusal(order: &Order, blocks: u64) -> Option<Sense>
         && (order.expected != 512 * transfer.count || !order.write && transfer.count > 0)
     {
         return Some(Sense::InvalidField);
+    }
+    if synchronized_by(cdb).ends_past(blocks) {
+        return Some(Sense::OutOfRange);
     }
     None
 }
@@ -219,7 +251,8 @@ pub(crate) fn wanted_length(order: &Order, blocks: u64) -> u32
 /// 3. `InvalidField`: it has data both ways, or sends data to a command that is no WRITE.
 /// 4. `InvalidField`: it asks for protection, or for a page or a report that there is not.
 /// 5. `InvalidField`: it is over 8,192 blocks.
-/// 6. `OutOfRange`: its blocks end past the last one. No blocks at the end are in range.
+/// 6. `OutOfRange`: its blocks end past the last one, also those of a SYNCHRONIZE CACHE, to which the
+///    limit of 8,192 blocks does not apply. No blocks at the end are in range.
 /// 7. `InvalidField`: it is a WRITE whose expected length is not that of its blocks, or that has
 ///    blocks and sends no data.
 ///

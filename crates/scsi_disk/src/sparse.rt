@@ -2,7 +2,7 @@
 
 ghost use Rattle.std.specs.Prelude.{◌≡◌, ◌+◌, ◌*◌, ◌/◌, ◌%◌, ◌^◌, ◌<◌, ◌≤◌, length, ℕ, IsOk, IfOk, IsSome, OnOk, IsErrOf};
 ghost use Rattle.std.specs.FinMap.{get};
-ghost use Rattle.scsi_disk.specs.Disk.{Disk, zeros, blocks_from, written, cut, overlaid};
+ghost use Rattle.scsi_disk.specs.Disk.{Disk, most_blocks, zeros, blocks_from, written, cut, overlaid};
 ghost use Rattle.scsi_disk.specs.Sparse.{disk_in, IsBlank, HasBlocks};
 
 use crate::memory::{read_blocks, write_blocks};
@@ -52,6 +52,9 @@ impl Extent {
     }
 }
 
+/// The most blocks that a disk may have (own rule).
+pub const MOST_BLOCKS: u64 = 1_099_511_627_776;
+
 /// A store of 1 to 2^40 blocks. A block that was never written is 00.
 ///
 /// It keeps extents of 64 blocks in an ordered map. A read looks up each extent that it reaches into
@@ -82,7 +85,7 @@ impl SparseStore {
     /// A store of so many blocks of 00, from 1 to 2^40. It takes no memory.
     pub fn new(alloc: Global, blocks: u64) -> SparseStore
         requires some { 0 < blocks }
-        requires few { blocks ≤ 2 ^ 40 }
+        requires few { blocks ≤ most_blocks }
         ensures { disk_in result ≡ zeros blocks }
     {
         SparseStore {

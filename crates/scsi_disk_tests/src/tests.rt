@@ -107,7 +107,7 @@ const WRITE_8: [u32; 4] = [0x2a000000, 0, 0x08000000, 0];
 const PLANS: &[(&str, [u32; 4], Data, Plan)] = &[
     (
         "unknown code",
-        [0x35000000, 0, 0, 0],
+        [0x34000000, 0, 0, 0],
         Data::Silent,
         Plan::Refuse(Sense::InvalidCode),
     ),
@@ -250,13 +250,67 @@ const PLANS: &[(&str, [u32; 4], Data, Plan)] = &[
         Data::Writes(512),
         Plan::Refuse(Sense::InvalidField),
     ),
+    (
+        "SYNCHRONIZE CACHE of all blocks",
+        [0x35060000, 0, 0, 0],
+        Data::Silent,
+        Plan::Give(0),
+    ),
+    (
+        "SYNCHRONIZE CACHE of each block",
+        [0x35000000, 0x00000008, 0, 0],
+        Data::Reads(512),
+        Plan::Give(0),
+    ),
+    (
+        "SYNCHRONIZE CACHE at the end",
+        [0x35000000, 0x08000000, 0, 0],
+        Data::Silent,
+        Plan::Give(0),
+    ),
+    (
+        "SYNCHRONIZE CACHE behind the end",
+        [0x35000000, 0x08010000, 0, 0],
+        Data::Silent,
+        Plan::Refuse(Sense::OutOfRange),
+    ),
+    (
+        "SYNCHRONIZE CACHE over the end",
+        [0x35000000, 0x07ff0000, 0x02000000, 0],
+        Data::Silent,
+        Plan::Refuse(Sense::OutOfRange),
+    ),
+    (
+        "SYNCHRONIZE CACHE of 8,193 blocks",
+        [0x35000000, 0x00000020, 0x01000000, 0],
+        Data::Silent,
+        Plan::Refuse(Sense::OutOfRange),
+    ),
+    (
+        "data for SYNCHRONIZE CACHE",
+        [0x35000000, 0, 0, 0],
+        Data::Writes(512),
+        Plan::Refuse(Sense::InvalidField),
+    ),
+    (
+        "data both ways for SYNCHRONIZE CACHE behind the end",
+        [0x35000000, 0x08010000, 0, 0],
+        Data::Both(512),
+        Plan::Refuse(Sense::InvalidField),
+    ),
 ];
 
 /// Commands to unit 1.
 const PLANS_ELSEWHERE: &[(&str, [u32; 4], Data, Plan)] = &[
     (
+        "SYNCHRONIZE CACHE of unit 1",
+        [0x35000000, 0x08010000, 0, 0],
+        Data::Silent,
+        Plan::Refuse(Sense::NoUnit),
+    ),
+    (
         "unknown code at unit 1",
-        [0x35000000, 0, 0, 0],
+        [0x34000000, 0, 0, 0],
         Data::Silent,
         Plan::Refuse(Sense::InvalidCode),
     ),
@@ -375,7 +429,7 @@ const OUTCOMES: &[(&str, [u32; 4], Data, Option<Sense>, &[u8], Residual)] = &[
     ),
     (
         "data for an unknown code",
-        [0x35000000, 0, 0, 0],
+        [0x34000000, 0, 0, 0],
         Data::Writes(512),
         Some(Sense::InvalidCode),
         b"",
