@@ -31,6 +31,7 @@ by_code b code len e =
     by_test b (code == 0x25) _ _ (λ t. record { size = len; rows = (coded b code 0x25 e t, (refl, tt)); unlisted = tt }) (λ f2.
     by_test b (code == 0x28) _ _ (λ t. record { size = len; rows = (coded b code 0x28 e t, (refl, (refl, (refl, (refl, (refl, tt)))))); unlisted = tt }) (λ f3.
     by_test b (code == 0x2a) _ _ (λ t. record { size = len; rows = (coded b code 0x2a e t, (refl, (refl, (refl, (refl, (refl, tt)))))); unlisted = tt }) (λ f4.
+    by_test b (code == 0x35) _ _ (λ t. record { size = len; rows = (coded b code 0x35 e t, (refl, (refl, (refl, (refl, (refl, tt)))))); unlisted = tt }) (λ f9.
     by_test b (code == 0x88) _ _ (λ t. record { size = len; rows = (coded b code 0x88 e t, (refl, (refl, (refl, (refl, (refl, tt)))))); unlisted = tt }) (λ f5.
     by_test b (code == 0x8a) _ _ (λ t. record { size = len; rows = (coded b code 0x8a e t, (refl, (refl, (refl, (refl, (refl, tt)))))); unlisted = tt }) (λ f6.
     by_test b (code == 0x9e && bits_at 1 0x1f b == 0x10) _ _
@@ -43,9 +44,9 @@ by_code b code len e =
           subst (λ (x : List ℕ). is_listed x ≡ false) (sym (part-whole b len))
           (or_false _ _
           (or_false _ _ (other b code 0x00 e f0) (or_false _ _ (other b code 0x12 e f1) (or_false _ _ (other b code 0x25 e f2) (or_false _ _ (other b code 0x28 e f3)
-          (or_false _ _ (other b code 0x2a e f4) (or_false _ _ (other b code 0x88 e f5) (or_false _ _ (other b code 0x8a e f6) (or_false _ _ (other b code 0xa0 e f8) refl))))))))
+          (or_false _ _ (other b code 0x2a e f4) (or_false _ _ (other b code 0x35 e f9) (or_false _ _ (other b code 0x88 e f5) (or_false _ _ (other b code 0x8a e f6) (or_false _ _ (other b code 0xa0 e f8) refl)))))))))
           (subst (λ (n : ℕ). (n == 0x9e && bits_at 1 0x1f b == 0x10) ≡ false) (sym e) f7));
-    })))))))))
+    }))))))))))
 
 -- 16 bytes mean this record
 pub record_is : (b : List ℕ) → length b ≡ 16 → IsRecord b (record_of b)

@@ -1,5 +1,5 @@
 -- An initiator that has completed its login holds what the target holds.
-use Rattle.std.proofs.Common.{◌≡◌, inl, inr, ℕ, true, false, List, [], ◌∷◌, ◌++◌, map, Option, Some, refl, sym, ap, ◌∙◌, subst, append_assoc}
+use Rattle.std.proofs.Common.{◌≡◌, inl, inr, ℕ, false, List, [], ◌∷◌, ◌++◌, map, Option, Some, refl, sym, ap, ◌∙◌, subst, append_assoc}
 use Rattle.scsi_disk.specs.Disk.{Disk, disk_of}
 use Rattle.iscsi_stream.specs.declared.logins.Logins.{Logins}
 use Rattle.iscsi_stream.specs.Segment.{no_login, after as logins_after}
@@ -8,7 +8,6 @@ use Rattle.iscsi_stream.specs.Canonical.{canon, canonical_bytes}
 use Rattle.iscsi_stream.proofs.Meaning.{no_pdu_none}
 use Rattle.iscsi_login.specs.declared.phase.Phase.{Phase}
 use Rattle.iscsi_login.specs.declared.phase.Phase.TheVariants as phases
-use Rattle.iscsi_login.specs.declared.stage.Stage.{Stage}
 use Rattle.iscsi_login.specs.declared.stage.Stage.TheVariants as stages
 use Rattle.iscsi_target.specs.State as target
 use Rattle.iscsi_target.specs.Machine as target_machine
@@ -17,7 +16,6 @@ use Rattle.iscsi_initiator.specs.declared.request.Request.{Request}
 use Rattle.iscsi_initiator.specs.declared.request.Done.{Done}
 use Rattle.iscsi_initiator.specs.declared.request.SubmitFault.{SubmitFault}
 use Rattle.iscsi_initiator.specs.declared.request.SubmitFault.TheVariants as refusals
-use Rattle.iscsi_initiator.specs.Configured.{IsStart}
 use Rattle.iscsi_initiator.specs.State as initiator
 use Rattle.iscsi_initiator.specs.State.{is_closed}
 use Rattle.iscsi_login.specs.Stage.{is_closed_phase}
@@ -27,7 +25,7 @@ use Rattle.iscsi_initiator.specs.Machine.{step, taken}
 use Rattle.iscsi_initiator.specs.Submitted.{Submitted, submitted, or_accepted, refusal_in}
 use Rattle.iscsi_initiator.specs.Laws as history
 use Rattle.iscsi_initiator.proofs.HeldLaws.{held_stays, start_not_full}
-use Rattle.iscsi_initiator.proofs.OneOutcome.{closed_step, closed_phase}
+use Rattle.iscsi_initiator.proofs.OneOutcome.{closed_step}
 use Rattle.iscsi_pair.specs.World.{World, Opening, IsOpening}
 use Rattle.iscsi_pair.specs.Traffic.{Traffic, after_all, sent, coming}
 use Rattle.iscsi_initiator.specs.Laws.{Input, Comes, Asks, Takes, met}
@@ -96,8 +94,8 @@ full_stays c m inputs o r full =
 
 -- the target has completed its login too, and holds the same
 pub record Same (t : target.Stepped) (i : initiator.Machine) : Type 0 where
-  pub stage : t.machine.stage ≡ stages.Full
-  pub held : t.machine.held ≡ i.held
+  pub stage : t.machine.session.stage ≡ stages.Full
+  pub held : t.machine.session.held ≡ i.held
 
 -- no bytes are read as no messages
 pub nothing_read : (limit : ℕ) (logins : Logins) (given : List ℕ) → ReadsAs limit logins given [] → given ≡ []
@@ -164,7 +162,7 @@ first_reached c = record { events = history.Starts ∷ []; is = refl }
 
 -- in every world that a pair comes to, an initiator that has completed its login holds what the target holds
 pub world_agrees : (c : Opening) (u : Traffic) (w : World) → IsOpening c → Sides c u w → w.initiator.machine.stage ≡ stages.Full
-    → (w.target.machine.stage ≡ stages.Full) × (w.target.machine.held ≡ w.initiator.machine.held)
+    → (w.target.machine.session.stage ≡ stages.Full) × (w.target.machine.session.held ≡ w.initiator.machine.held)
 world_agrees c u w o s full =
     let a : Asks_on c (start_step (initiator.opening c.initiator)) (target.opening c.target c.first_stat_sn) no_login = first_asks c o in
     let t = s.target.front in

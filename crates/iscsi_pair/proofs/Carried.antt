@@ -14,6 +14,7 @@ use Rattle.iscsi_stream.specs.Framing.{Framing, HasTaken, FeedFails, is_ready}
 use Rattle.iscsi_stream.proofs.Taking.{at_opening}
 use Rattle.iscsi_stream.proofs.Ready.{apart, not_whole-nil}
 use Rattle.iscsi_login.specs.declared.phase.Phase.{Phase}
+use Rattle.iscsi_target.specs.Session as target_session
 use Rattle.iscsi_target.specs.State as target
 use Rattle.iscsi_target.specs.Machine as target_machine
 use Rattle.iscsi_target.specs.Machine.{answers, then_stepped, first_rule}
@@ -55,14 +56,14 @@ record InitiatorTurn (c : Opening) (P : Relation) (h : History) (old : World) (s
   unread : is_ready v ≡ false → Unread (calls.limit c.initiator) v (unheard ++ more) left s.here
   none : is_closed r.machine ≡ true → (left ≡ []) × (unheard ++ more ≡ [])
   refuses : (f : StreamFault) → f ≢ stream.NoMemory → FeedFails v unheard f → ⊥
-  to_target : Way (target_machine.is_closed s.session) (target.limit c.target) old.target.framing (old.to_target ++ canon r.output) (s.out ++ r.output) (after_all s.there r.output)
+  to_target : Way (target_machine.is_closed s.session) (target_session.limit c.target) old.target.framing (old.to_target ++ canon r.output) (s.out ++ r.output) (after_all s.there r.output)
 
 -- what the target's side has on its way where more is sent
 target_way : (c : Opening) (P : Relation) (h : History) (old : World) (s : Stands c P h old) (most : ℕ) (i : initiator.Machine) (more back : List Message) (there here : Logins) (g : History)
-    → Talks most P i s.session s.disk (s.out ++ more) back there here g → AreWritten (target.limit c.target) s.there more
-    → Way (target_machine.is_closed s.session) (target.limit c.target) old.target.framing (old.to_target ++ canon more) (s.out ++ more) (after_all s.there more)
+    → Talks most P i s.session s.disk (s.out ++ more) back there here g → AreWritten (target_session.limit c.target) s.there more
+    → Way (target_machine.is_closed s.session) (target_session.limit c.target) old.target.framing (old.to_target ++ canon more) (s.out ++ more) (after_all s.there more)
 target_way c P h old s most i more back there here g talks written =
-    way_sends (target_machine.is_closed s.session) (target.limit c.target) old.target.framing old.to_target s.out s.there more s.to_target written
+    way_sends (target_machine.is_closed s.session) (target_session.limit c.target) old.target.framing old.to_target s.out s.there more s.to_target written
     (λ over. (both_none s.out more (open_none s.session s.disk (s.out ++ more) talks.heard.open_ over)).1)
 
 -- a call of the initiator is such a turn
@@ -80,15 +81,15 @@ initiator_turn c P h old k moved kept s u m f =
     moves_on (calls.limit c.initiator) old.initiator.framing old.to_initiator s.back s.here piece more f.messages f.framing u q t bound in
     let talks : Talks (calls.limit c.initiator) P old.initiator.machine s.session s.disk s.out (f.messages ++ on.left) s.there s.here h =
     subst (λ (x : List Message). Talks (calls.limit c.initiator) P old.initiator.machine s.session s.disk s.out x s.there s.here h) on.whole (talks_of c P h old s) in
-    let has : HearsOn (target.limit c.target) (calls.limit c.initiator) P r s.session s.disk s.out on.left s.there s.here h =
-    initiator_heard (target.limit c.target) (calls.limit c.initiator) P kept old.initiator.machine s.session s.disk s.out f.messages on.left s.there s.here h talks in
+    let has : HearsOn (target_session.limit c.target) (calls.limit c.initiator) P r s.session s.disk s.out on.left s.there s.here h =
+    initiator_heard (target_session.limit c.target) (calls.limit c.initiator) P kept old.initiator.machine s.session s.disk s.out f.messages on.left s.there s.here h talks in
     record {
       fault = has.fault;
       left = on.left;
       talks = has.talks;
       unread = λ ready. still_unread (calls.limit c.initiator) old.initiator.framing old.to_initiator s.back s.here piece more f.messages on.left f.framing u q t bound ready on.whole;
       none = λ over.
-          let left = over_none (target.limit c.target) (calls.limit c.initiator) P kept r.machine s.session s.disk (s.out ++ r.output) on.left (after_all s.there r.output) s.here h has.talks over in
+          let left = over_none (target_session.limit c.target) (calls.limit c.initiator) P kept r.machine s.session s.disk (s.out ++ r.output) on.left (after_all s.there r.output) s.here h has.talks over in
           (left, none_more (calls.limit c.initiator) u.heard s.back f.messages t.rest more on left);
       refuses = λ fault some fails. refuses_nothing fault f.framing (u.stream ++ piece) (u.heard ++ f.messages) (drop f.count moved) (t.rest ++ more) (drop (length moved) old.to_initiator)
           (after_all no_login (u.heard ++ f.messages)) on.left t some fails refl
@@ -108,7 +109,7 @@ record Changes (old new : World) (machine : initiator.Machine) (output : List Me
 -- the initiator is where a step has led that sent more
 initiator_stands : (c : Opening) (P : Relation) (h g : History) (old new : World) (s : Stands c P h old) (i : initiator.Machine) (output left : List Message) → Changes old new i output
     → Talks (calls.limit c.initiator) P i s.session s.disk (s.out ++ output) left (after_all s.there output) s.here g
-    → Way (target_machine.is_closed s.session) (target.limit c.target) old.target.framing (old.to_target ++ canon output) (s.out ++ output) (after_all s.there output)
+    → Way (target_machine.is_closed s.session) (target_session.limit c.target) old.target.framing (old.to_target ++ canon output) (s.out ++ output) (after_all s.there output)
     → Way (is_closed new.initiator.machine) (calls.limit c.initiator) new.initiator.framing new.to_initiator left s.here → Stands c P g new
 initiator_stands c P h g old new s i output left e talks there back = record {
   target_well = e.target_well;
@@ -121,8 +122,8 @@ initiator_stands c P h g old new s i output left e talks there back = record {
   here = s.here;
   machine = ap (λ (x : target_calls.Connection). x.machine) e.target ∙ s.machine;
   disk_is = ap disk_of e.blocks ∙ s.disk_is;
-  to_target = subst (λ (x : target_calls.Connection). Way (target_machine.is_closed s.session) (target.limit c.target) x.framing new.to_target (s.out ++ output) (after_all s.there output)) (sym e.target)
-      (subst (λ (x : List ℕ). Way (target_machine.is_closed s.session) (target.limit c.target) old.target.framing x (s.out ++ output) (after_all s.there output)) (sym e.queue) there);
+  to_target = subst (λ (x : target_calls.Connection). Way (target_machine.is_closed s.session) (target_session.limit c.target) x.framing new.to_target (s.out ++ output) (after_all s.there output)) (sym e.target)
+      (subst (λ (x : List ℕ). Way (target_machine.is_closed s.session) (target_session.limit c.target) old.target.framing x (s.out ++ output) (after_all s.there output)) (sym e.queue) there);
   to_initiator = back;
   heard = talks.heard;
   kept = subst (λ (x : initiator.Machine). P x (answers s.session s.disk (s.out ++ output)).machine (answers s.session s.disk (s.out ++ output)).disk
@@ -243,10 +244,10 @@ accepts c P h old new request kept s served e there well target_ blocks queue =
     let i : initiator.Machine = old.initiator.machine in
     let out : List Message = (submitted i request).output in
     let a : target.Stepped = answers s.session s.disk s.out in
-    let sends : Sends (target.limit c.target) (calls.limit c.initiator) P (submitted i request).machine out a.machine a.disk (s.back ++ a.answers) s.there (after_all s.here a.answers) (requested h request) =
+    let sends : Sends (target_session.limit c.target) (calls.limit c.initiator) P (submitted i request).machine out a.machine a.disk (s.back ++ a.answers) s.there (after_all s.here a.answers) (requested h request) =
     kept.asks i a.machine a.disk (s.back ++ a.answers) s.there (after_all s.here a.answers) h request s.kept served e.none in
     let talks : Talks (calls.limit c.initiator) P (submitted i request).machine s.session s.disk (s.out ++ out) s.back (after_all s.there out) s.here (requested h request) =
-    talk_on (target.limit c.target) (calls.limit c.initiator) P (submitted i request).machine s.session s.disk s.out out s.back s.there s.here (requested h request) s.heard sends in
+    talk_on (target_session.limit c.target) (calls.limit c.initiator) P (submitted i request).machine s.session s.disk s.out out s.back s.there s.here (requested h request) s.heard sends in
     initiator_stands c P h (requested h request) old new s (submitted i request).machine out s.back
     (record { target_well = there; initiator_well = well; target = target_; blocks = blocks; initiator = ap (λ (x : calls.Connection). x.machine) e.connection; queue = e.output }) talks
     (target_way c P h old s (calls.limit c.initiator) (submitted i request).machine out s.back (after_all s.there out) s.here (requested h request) talks sends.written)
@@ -343,7 +344,7 @@ happens c P h old Takes new k s e accepted_ memory =
     (subst (Stands c P (given_out h old.initiator.machine.done)) (sym e) (takes c P h old k s))
 
 -- and any number of them
-pub more : (c : Opening) (P : Relation) (h : History) (old : World) (events : List Event) (new : World) (later : List Done) → IsKept (target.limit c.target) (calls.limit c.initiator) P → Stands c P h old
+pub more : (c : Opening) (P : Relation) (h : History) (old : World) (events : List Event) (new : World) (later : List Done) → IsKept (target_session.limit c.target) (calls.limit c.initiator) P → Stands c P h old
     → RunsServed old events new later → Stands c P (record { requests = h.requests ++ asked events; outcomes = h.outcomes ++ later }) new
 unfolding RunsServed
 more c P h old [] new later k s r =
@@ -355,7 +356,7 @@ more c P h old (event ∷ events) new later k s r =
     (more c P g r.0 events new r.1 k (happens c P h old event r.0 k s r.2 r.3 r.4) r.6)
 
 -- a new pair stands so
-opening_stands : (c : Opening) (P : Relation) → Sends (target.limit c.target) (calls.limit c.initiator) P (begun c) (start_step (initiator.opening c.initiator)).output
+opening_stands : (c : Opening) (P : Relation) → Sends (target_session.limit c.target) (calls.limit c.initiator) P (begun c) (start_step (initiator.opening c.initiator)).output
     (target.opening c.target c.first_stat_sn) (disk_of c.blocks) [] no_login no_login (record { requests = []; outcomes = [] })
     → Stands c P (record { requests = []; outcomes = [] }) (new_pair c)
 unfolding ReadsAs
@@ -377,10 +378,10 @@ opening_stands c P s =
         record {
           stream = [];
           heard = [];
-          taken = at_opening (target.limit c.target);
+          taken = at_opening (target_session.limit c.target);
           limit_is = refl;
           unready = not_whole-nil;
-          reads = written_reads (target.limit c.target) no_login out s.written;
+          reads = written_reads (target_session.limit c.target) no_login out s.written;
           logins_is = refl;
         },
       );
@@ -393,8 +394,8 @@ opening_stands c P s =
     }
 
 -- where the relation is kept, and holds once the first text is sent, it holds in every world of a served run
-pub carried : (c : Opening) (P : Relation) → IsKept (target.limit c.target) (calls.limit c.initiator) P
-    → Sends (target.limit c.target) (calls.limit c.initiator) P (begun c) (start_step (initiator.opening c.initiator)).output
+pub carried : (c : Opening) (P : Relation) → IsKept (target_session.limit c.target) (calls.limit c.initiator) P
+    → Sends (target_session.limit c.target) (calls.limit c.initiator) P (begun c) (start_step (initiator.opening c.initiator)).output
     (target.opening c.target c.first_stat_sn) (disk_of c.blocks) [] no_login no_login (record { requests = []; outcomes = [] })
     → (events : List Event) (w : World) (outcomes : List Done) → RunsServed (new_pair c) events w outcomes → Stands c P (record { requests = asked events; outcomes = outcomes }) w
 carried c P k s events w outcomes r = more c P (record { requests = []; outcomes = [] }) (new_pair c) events w outcomes k (opening_stands c P s) r
@@ -402,6 +403,6 @@ carried c P k s events w outcomes r = more c P (record { requests = []; outcomes
 -- where nothing is queued nothing waits, in parts or whole
 pub none_waits : (c : Opening) (P : Relation) (h : History) (w : World) (s : Stands c P h w) → w.to_target ≡ [] → w.to_initiator ≡ [] → (s.out ≡ []) × (s.back ≡ [])
 none_waits c P h w s p q = (
-  way_none (target_machine.is_closed s.session) (target.limit c.target) w.target.framing w.to_target s.out s.there s.to_target p,
+  way_none (target_machine.is_closed s.session) (target_session.limit c.target) w.target.framing w.to_target s.out s.there s.to_target p,
   way_none (is_closed w.initiator.machine) (calls.limit c.initiator) w.initiator.framing w.to_initiator s.back s.here s.to_initiator q,
 )

@@ -15,6 +15,7 @@ use Rattle.iscsi_stream.proofs.Ready.{apart}
 use Rattle.iscsi_login.specs.declared.phase.Phase.{Phase}
 use Rattle.iscsi_target.specs.declared.fault.TargetFault.{TargetFault}
 use Rattle.iscsi_target.specs.declared.fault.TargetFault.TheVariants as target_faults
+use Rattle.iscsi_target.specs.Session as target_session
 use Rattle.iscsi_target.specs.State as target
 use Rattle.iscsi_target.specs.Transfer.{joined}
 use Rattle.iscsi_target.specs.Machine as target_machine
@@ -187,14 +188,14 @@ pub record Stands (c : Opening) (P : Relation) (h : History) (w : World) : Type 
   pub here : Logins
   pub machine : w.target.machine ≡ joined session
   pub disk_is : disk_of w.blocks ≡ disk
-  pub to_target : Way (target_machine.is_closed session) (target.limit c.target) w.target.framing w.to_target out there
+  pub to_target : Way (target_machine.is_closed session) (target_session.limit c.target) w.target.framing w.to_target out there
   pub to_initiator : Way (is_closed w.initiator.machine) (calls.limit c.initiator) w.initiator.framing w.to_initiator back here
   pub heard : HearsWell (calls.limit c.initiator) session disk here out
   pub kept : P w.initiator.machine (answers session disk out).machine (answers session disk out).disk (back ++ (answers session disk out).answers) there (after_all here (answers session disk out).answers) h
 
 -- the relation is kept between such ends
 abbrev pub Keeps : Opening → Relation → Type 1
-Keeps c P = IsKept (target.limit c.target) (calls.limit c.initiator) P
+Keeps c P = IsKept (target_session.limit c.target) (calls.limit c.initiator) P
 
 -- what both ends keep in such a world
 pub talks_of : (c : Opening) (P : Relation) (h : History) (w : World) → (s : Stands c P h w) → Talks (calls.limit c.initiator) P w.initiator.machine s.session s.disk s.out s.back s.there s.here h
@@ -228,14 +229,14 @@ record TargetTurn (c : Opening) (P : Relation) (h : History) (old : World) (v : 
   there : Logins
   here : Logins
   talks : Talks (calls.limit c.initiator) P old.initiator.machine now.machine now.disk left back there here h
-  unread : Unread (target.limit c.target) v (unheard ++ more) left there
+  unread : Unread (target_session.limit c.target) v (unheard ++ more) left there
   none : left ≡ [] → unheard ++ more ≡ []
   refuses : (fault : StreamFault) → fault ≢ stream.NoMemory → FeedFails v unheard fault → ⊥
   to_initiator : Way (is_closed old.initiator.machine) (calls.limit c.initiator) old.initiator.framing (old.to_initiator ++ canon now.answers) back here
 
 -- a call of the target is such a turn
 target_turn : (c : Opening) (P : Relation) (h : History) (old new : World) (k : ℕ) (moved : List ℕ) (result : Result Phase TargetFault) → Keeps c P → (s : Stands c P h old)
-    → Unread (target.limit c.target) old.target.framing old.to_target s.out s.there → moved ≡ take k old.to_target
+    → Unread (target_session.limit c.target) old.target.framing old.to_target s.out s.there → moved ≡ take k old.to_target
     → (f : target_calls.Feeds old.target (store_of old.blocks) old.to_initiator moved result new.target (store_of new.blocks) new.to_initiator)
     → TargetTurn c P h old f.framing (drop f.count moved) (drop (length moved) old.to_target) f.stepped
 target_turn c P h old new k moved result kept s u m f =
@@ -244,8 +245,8 @@ target_turn c P h old new k moved result kept s u m f =
     let more : List ℕ = drop f.count moved ++ drop (length moved) old.to_target in
     let q : old.to_target ≡ piece ++ more = front_moves k f.count old.to_target moved m in
     let t : HasTaken (u.stream ++ piece) (u.heard ++ f.messages) f.framing = f.answered.taken u.stream u.heard u.taken in
-    let bound : f.framing.limit ≡ target.limit c.target = f.answered.limit ∙ u.limit_is in
-    let on : MovesOn (target.limit c.target) u.heard s.out f.messages t.rest more = moves_on (target.limit c.target) old.target.framing old.to_target s.out s.there piece more f.messages f.framing u q t bound in
+    let bound : f.framing.limit ≡ target_session.limit c.target = f.answered.limit ∙ u.limit_is in
+    let on : MovesOn (target_session.limit c.target) u.heard s.out f.messages t.rest more = moves_on (target_session.limit c.target) old.target.framing old.to_target s.out s.there piece more f.messages f.framing u q t bound in
     let talks : Talks (calls.limit c.initiator) P old.initiator.machine s.session s.disk (f.messages ++ on.left) s.back s.there s.here h =
     subst (λ (x : List Message). Talks (calls.limit c.initiator) P old.initiator.machine s.session s.disk x s.back s.there s.here h) on.whole (talks_of c P h old s) in
     let has : HasHeard (calls.limit c.initiator) P old.initiator.machine a on.left s.back s.there s.here h =
@@ -260,20 +261,20 @@ target_turn c P h old new k moved result kept s u m f =
       there = s.there;
       here = after_all s.here a.answers;
       talks = has.talks;
-      unread = still_unread (target.limit c.target) old.target.framing old.to_target s.out s.there piece more f.messages on.left f.framing u q t bound f.answered.ready on.whole;
-      none = none_more (target.limit c.target) u.heard s.out f.messages t.rest more on;
+      unread = still_unread (target_session.limit c.target) old.target.framing old.to_target s.out s.there piece more f.messages on.left f.framing u q t bound f.answered.ready on.whole;
+      none = none_more (target_session.limit c.target) u.heard s.out f.messages t.rest more on;
       refuses = λ fault some fails. refuses_nothing fault f.framing (u.stream ++ piece) (u.heard ++ f.messages) (drop f.count moved) (t.rest ++ more) (drop (length moved) old.to_target)
           (after_all no_login (u.heard ++ f.messages)) on.left t some fails refl
           (subst (λ (n : ℕ). ReadsAs n (after_all no_login (u.heard ++ f.messages)) (t.rest ++ more) on.left) (sym bound) on.reads);
       to_initiator = way_sends (is_closed old.initiator.machine) (calls.limit c.initiator) old.initiator.framing old.to_initiator s.back s.here a.answers s.to_initiator has.written
-          (λ over. (both_none s.back a.answers (over_none (target.limit c.target) (calls.limit c.initiator) P kept old.initiator.machine a.machine a.disk on.left (s.back ++ a.answers) s.there (after_all s.here a.answers) h
+          (λ over. (both_none s.back a.answers (over_none (target_session.limit c.target) (calls.limit c.initiator) P kept old.initiator.machine a.machine a.disk on.left (s.back ++ a.answers) s.there (after_all s.here a.answers) h
           has.talks over)).1);
     }
 
 -- the target's session is where its turn has led
 target_stands : (c : Opening) (P : Relation) (h : History) (old new : World) (v : Framing) (unheard more : List ℕ) (r : target.Stepped) → (t : TargetTurn c P h old v unheard more r)
     → new.target_fault ≡ None → new.initiator_fault ≡ None → new.target.machine ≡ joined r.machine → disk_of new.blocks ≡ r.disk → new.initiator ≡ old.initiator → new.to_initiator ≡ old.to_initiator ++ canon r.answers
-    → Way (target_machine.is_closed t.now.machine) (target.limit c.target) new.target.framing new.to_target t.left t.there → Stands c P h new
+    → Way (target_machine.is_closed t.now.machine) (target_session.limit c.target) new.target.framing new.to_target t.left t.there → Stands c P h new
 target_stands c P h old new v unheard more r t well other machine disk initiator_ output way = record {
   target_well = well;
   initiator_well = other;
@@ -309,8 +310,8 @@ target_ends (Ok phase) c P h old new v n moved more r t e fault memory other dis
       | inr on ↦
           inl (
             sym (ap (λ (x : target.Stepped). target_machine.is_closed x.machine) t.same) ∙ on.live,
-            subst (λ (x : Framing). Unread (target.limit c.target) x new.to_target t.left t.there) (sym on.framing_is)
-                (subst (λ (x : List ℕ). Unread (target.limit c.target) v x t.left t.there) (no_bytes n moved more on.all ∙ sym dropped) t.unread),
+            subst (λ (x : Framing). Unread (target_session.limit c.target) x new.to_target t.left t.there) (sym on.framing_is)
+                (subst (λ (x : List ℕ). Unread (target_session.limit c.target) v x t.left t.there) (no_bytes n moved more on.all ∙ sym dropped) t.unread),
           )
     ])
 target_ends (Err target_faults.NoMemory) c P h old new v n moved more r t e fault memory other disk initiator_ output dropped = absurd (apart (ap target_ran_out fault) memory)

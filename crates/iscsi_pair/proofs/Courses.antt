@@ -10,8 +10,8 @@ use Rattle.iscsi_stream.specs.Stream.{Message}
 use Rattle.iscsi_stream.proofs.Ready.{apart}
 use Rattle.iscsi_login.specs.declared.phase.Phase.TheVariants as phases
 use Rattle.iscsi_login.specs.Held.{Held}
+use Rattle.iscsi_target.specs.Session as target_session
 use Rattle.iscsi_target.specs.State as target
-use Rattle.iscsi_target.specs.State.{on, nothing}
 use Rattle.iscsi_target.specs.Machine as target_machine
 use Rattle.iscsi_target.specs.Machine.{answers}
 use Rattle.iscsi_target.proofs.Numbers.{closed_answers}
@@ -38,7 +38,7 @@ pub plain_more : (most : ℕ) (m : Message) (ms : List Message) → ((logins : L
 plain_more most m ms readable short more = λ logins. (record { readable = readable logins; short = short }, more (after logins m.head))
 
 -- the segment of a message with bytes
-pub short_message : (head : Head) (bytes : List ℕ) (most : ℕ) → length bytes ≤ most → length (segment_bytes (target.message head bytes).segment) ≤ most
+pub short_message : (head : Head) (bytes : List ℕ) (most : ℕ) → length bytes ≤ most → length (segment_bytes (target_session.message head bytes).segment) ≤ most
 unfolding segment_bytes
 short_message head bytes most le = le
 

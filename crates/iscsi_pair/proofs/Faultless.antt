@@ -44,7 +44,7 @@ Waits bytes = (bytes ≡ []) ⊎ Stands bytes
 
 -- each end has completed its login, or is open and waits for what is good
 pub record AreWell (i : initiator.Machine) (t : target.Stepped) (x y : List ℕ) : Type 0 where
-  pub target : (t.machine.stage ≡ stages.Full) ⊎ ((target_machine.is_closed t.machine ≡ false) × Waits x)
+  pub target : (t.machine.session.stage ≡ stages.Full) ⊎ ((target_machine.is_closed t.machine ≡ false) × Waits x)
   pub initiator : (i.stage ≡ stages.Full) ⊎ ((is_closed i ≡ false) × Waits y)
 
 -- two lists of which nothing is there are both empty

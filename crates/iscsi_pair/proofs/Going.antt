@@ -36,6 +36,7 @@ use Rattle.iscsi_initiator.specs.Login.{offered, asked, asked_from, login_reques
 use Rattle.iscsi_initiator.specs.Machine.{step}
 use Rattle.iscsi_target.specs.declared.status.Status.{Status}
 use Rattle.iscsi_target.specs.Configured as target_settings
+use Rattle.iscsi_target.specs.Session as target_session
 use Rattle.iscsi_target.specs.State as target
 use Rattle.scsi_disk.specs.Plan.{first_of}
 use Rattle.iscsi_target.specs.LoginText.{known_keys, gives_again, given_with, text_refusals, answer_pairs, session_for, declared_tag, declared_length}
@@ -55,21 +56,21 @@ use Rattle.iscsi_pdu.specs.Serial.{next_sn}
 
 -- the target has no text yet
 pub record HasNone (c : Opening) (i : initiator.Machine) (t : target.Machine) : Type 0 where
-  pub none : t.has_text ≡ false
-  pub given : t.given ≡ replicate 27 false
+  pub none : t.session.has_text ≡ false
+  pub given : t.session.given ≡ replicate 27 false
   pub stage : i.stage ≡ c.initiator.start
 
 -- it has the text of the security stage
 pub record HasFirst (c : Opening) (i : initiator.Machine) (t : target.Machine) : Type 0 where
-  pub one : t.has_text ≡ true
-  pub given : t.given ≡ given_with known_keys (replicate 27 false) (in_order (security_offers c.initiator.proposal))
+  pub one : t.session.has_text ≡ true
+  pub given : t.session.given ≡ given_with known_keys (replicate 27 false) (in_order (security_offers c.initiator.proposal))
   pub start : c.initiator.start ≡ stages.Security
   pub stage : i.stage ≡ stages.Operational
 
 -- both ends expect of each other what will come
 pub record Suited (c : Opening) (i : initiator.Machine) (t : target.Machine) : Type 0 where
-  pub expected : is_expected i.exp_stat_sn t.stat_sn ≡ true
-  pub due : (if t.begun then is_same_stage t.stage (stage_named (stage_number i.stage)) else nat_le (stage_number i.stage) 1) ≡ true
+  pub expected : is_expected i.exp_stat_sn t.session.stat_sn ≡ true
+  pub due : (if t.session.begun then is_same_stage t.session.stage (stage_named (stage_number i.stage)) else nat_le (stage_number i.stage) 1) ≡ true
   pub texts : HasNone c i t ⊎ HasFirst c i t
 
 -- ---- no reason to refuse a request
@@ -85,33 +86,33 @@ moves true stages.Operational is = refl
 moves true stages.Full is = absurd is
 moves false stage is = refl
 
-not_refused : (c : Opening) (i : initiator.Machine) (t : target.Machine) (last : Bool) → IsStart i.stage → Suited c i t → first_of (request_refusals t (login_request i last)) ≡ None
-not_refused c i t last is s = none_of (request_refusals t (login_request i last)) (refl, (refl, (ap not s.due, (last_or_not last, (moves last i.stage is, tt)))))
+not_refused : (c : Opening) (i : initiator.Machine) (t : target.Machine) (last : Bool) → IsStart i.stage → Suited c i t → first_of (request_refusals t.session (login_request i last)) ≡ None
+not_refused c i t last is s = none_of (request_refusals t.session (login_request i last)) (refl, (refl, (ap not s.due, (last_or_not last, (moves last i.stage is, tt)))))
 
 -- ---- no reason to refuse its text
 
 -- what taking a request's stage and number keeps
-record SameText (s e : target.Machine) : Type 0 where
+record SameText (s e : target_session.Session) : Type 0 where
   has_text : e.has_text ≡ s.has_text
   given : e.given ≡ s.given
   settings : e.settings ≡ s.settings
 
 -- the same, with the numbers and the text so far
-pub record SameState (s e : target.Machine) : Type 0 where
+pub record SameState (s e : target_session.Session) : Type 0 where
   pub has_text : e.has_text ≡ s.has_text
   pub given : e.given ≡ s.given
   pub settings : e.settings ≡ s.settings
   pub stat_sn : e.stat_sn ≡ s.stat_sn
   pub gathered : e.gathered ≡ s.gathered
 
-pub entered_same : (s : target.Machine) (h : LoginRequest) → SameState s (entered s h)
+pub entered_same : (s : target_session.Session) (h : LoginRequest) → SameState s (entered s h)
 entered_same s h =
     let k : SameState s (numbered s h) = cond_both s.begun s (record s { begun = true; exp_cmd_sn = h.cmd_sn }) (SameState s)
     (λ is. record { has_text = refl; given = refl; settings = refl; stat_sn = refl; gathered = refl }) (λ is. record { has_text = refl; given = refl; settings = refl; stat_sn = refl; gathered = refl }) in
     record { has_text = k.has_text; given = k.given; settings = k.settings; stat_sn = k.stat_sn; gathered = k.gathered }
 
 -- the answer to an offer fits its segment
-answer_fits : (c : Opening) (e : target.Machine) (pairs : Pairs) → IsOpening c → e.settings ≡ c.target → IsFew pairs → nat_lt 8192 (length (canonical_text (answer_pairs e pairs))) ≡ false
+answer_fits : (c : Opening) (e : target_session.Session) (pairs : Pairs) → IsOpening c → e.settings ≡ c.target → IsFew pairs → nat_lt 8192 (length (canonical_text (answer_pairs e pairs))) ≡ false
 answer_fits c e pairs o same few =
     let range : IsInRange e.settings.preferences = subst (λ (x : target_settings.Settings). IsInRange x.preferences) (sym same) o.preferences in
     let group : e.settings.group < 2 ^ 16 = subst (λ (x : target_settings.Settings). x.group < 2 ^ 16) (sym same) o.group in
@@ -120,7 +121,7 @@ answer_fits c e pairs o same few =
     (some_if _ e.settings.group (2 ^ 64) (omega (arith, group))) (some_if _ e.settings.preferences.max_recv (2 ^ 64) (omega (arith, range.max_recv.1))) few.short few.few)
 
 -- the target's name, as the target has it
-suited_name : (c : Opening) (e : target.Machine) → Suits c → e.settings ≡ c.target → (c.initiator.proposal.session ≡ sessions.Discovery) ⊎ (c.initiator.proposal.target ≡ e.settings.name)
+suited_name : (c : Opening) (e : target_session.Session) → Suits c → e.settings ≡ c.target → (c.initiator.proposal.session ≡ sessions.Discovery) ⊎ (c.initiator.proposal.target ≡ e.settings.name)
 suited_name c e suits same = elim suits.name [
   | inl d ↦ inl d
   | inr n ↦ inr (n ∙ ap (λ (x : target_settings.Settings). x.name) (sym same))
@@ -133,7 +134,7 @@ demands_chap c suits started = elim suits.auth [
 ]
 
 -- the text that a stage has, by where the login started
-text_at : (start stage : Stage) (c : Opening) (i : initiator.Machine) (t e : target.Machine) → IsOpening c → Suits c → c.initiator.start ≡ start → i.stage ≡ stage → SameText t e → t.settings ≡ c.target
+text_at : (start stage : Stage) (c : Opening) (i : initiator.Machine) (t : target.Machine) (e : target_session.Session) → IsOpening c → Suits c → c.initiator.start ≡ start → i.stage ≡ stage → SameText t.session e → t.session.settings ≡ c.target
     → HasNone c i t ⊎ HasFirst c i t → IsStart stage
     → first_of (text_refusals e (in_order (offers_at c.initiator.proposal start stage))) ≡ None
 text_at stages.Security stages.Security c i t e o suits started is same settings (inl f) ok =
@@ -167,22 +168,22 @@ text_at stages.Operational stages.Full c i t e o suits started is same settings 
 -- ---- what the target does
 
 -- a part of the text is gathered
-gathers_well : (t : target.Machine) (h : LoginRequest) (bytes : List ℕ) → first_of (request_refusals t h) ≡ None → length (entered t h).gathered + length bytes ≤ 16384 → h.continues ≡ true
+gathers_well : (t : target_session.Session) (h : LoginRequest) (bytes : List ℕ) → first_of (request_refusals t h) ≡ None → length (entered t h).gathered + length bytes ≤ 16384 → h.continues ≡ true
     → login.login_request t h (Bytes bytes) ≡ gather (entered t h) h bytes
 unfolding segment_bytes
 gathers_well t h bytes none short more =
-    let e : target.Machine = entered t h in
+    let e : target_session.Session = entered t h in
     ap (λ (o : Option Status). login.refuse_or o (numbered t h) h (login.segment_taken e h (Bytes bytes))) none
     ∙ cond-false (nat_lt 16384 (length e.gathered + length bytes)) _ _ (le-ltb 16384 (length e.gathered + length bytes) short)
     ∙ cond-true h.continues _ _ more
 
 -- a whole text is answered
-answers_well : (t : target.Machine) (h : LoginRequest) (segment : Segment) (pairs : Pairs) → first_of (request_refusals t h) ≡ None → length (entered t h).gathered + length (segment_bytes segment) ≤ 16384 → h.continues ≡ false
+answers_well : (t : target_session.Session) (h : LoginRequest) (segment : Segment) (pairs : Pairs) → first_of (request_refusals t h) ≡ None → length (entered t h).gathered + length (segment_bytes segment) ≤ 16384 → h.continues ≡ false
     → text_ending (entered t h).gathered segment ≡ Some pairs → first_of (text_refusals (record (entered t h) { gathered = [] }) pairs) ≡ None
     → login.login_request t h segment ≡ text_answered (record (entered t h) { gathered = [] }) h pairs
 answers_well t h segment pairs none short last read good =
-    let e : target.Machine = entered t h in
-    let f : target.Machine = record e { gathered = [] } in
+    let e : target_session.Session = entered t h in
+    let f : target_session.Session = record e { gathered = [] } in
     ap (λ (o : Option Status). login.refuse_or o (numbered t h) h (login.segment_taken e h segment)) none
     ∙ cond-false (nat_lt 16384 (length e.gathered + length (segment_bytes segment))) _ _ (le-ltb 16384 (length e.gathered + length (segment_bytes segment)) short)
     ∙ cond-false h.continues _ _ last
@@ -245,19 +246,19 @@ text_keeps m =
     cond_both (fits_segment m (canonical_text (offered m))) (sends (record m { left = [] }) (login_message m true (Text (offered m)) ∷ [])) (sends_cut m (canonical_text (offered m)) false) (TextKeeps m)
     (λ is. record { stage = refl; number = refl }) (λ is. record { stage = refl; number = refl })
 
-entered_phase : (t : target.Machine) (h : LoginRequest) → (entered t h).phase ≡ t.phase
+entered_phase : (t : target_session.Session) (h : LoginRequest) → (entered t h).phase ≡ t.phase
 entered_phase t h = phase_if t.begun t h.cmd_sn
   where
-    phase_if : (b : Bool) (s : target.Machine) (n : ℕ) → (if b then s else record s { begun = true; exp_cmd_sn = n }).phase ≡ s.phase
+    phase_if : (b : Bool) (s : target_session.Session) (n : ℕ) → (if b then s else record s { begun = true; exp_cmd_sn = n }).phase ≡ s.phase
     phase_if true s n = refl
     phase_if false s n = refl
 
-begun_if : (b : Bool) (s : target.Machine) (n : ℕ) → s.begun ≡ b → (if b then s else record s { begun = true; exp_cmd_sn = n }).begun ≡ true
+begun_if : (b : Bool) (s : target_session.Session) (n : ℕ) → s.begun ≡ b → (if b then s else record s { begun = true; exp_cmd_sn = n }).begun ≡ true
 begun_if true s n e = e
 begun_if false s n e = refl
 
 -- a request that was taken has begun the login, in its stage
-entered_begun : (t : target.Machine) (h : LoginRequest) → (entered t h).begun ≡ true
+entered_begun : (t : target_session.Session) (h : LoginRequest) → (entered t h).begun ≡ true
 entered_begun t h = begun_if t.begun t h.cmd_sn refl
 
 in_stage : (stage other : Stage) → unwrap_or (stage_named (stage_number stage)) other ≡ stage
@@ -292,7 +293,7 @@ within_if true p r = r.max_recv
 within_if false p r = tt
 
 -- the initiator finds no fault in the answer
-takes : (c : Opening) (i : initiator.Machine) (e : target.Machine) → IsOpening c → i.settings ≡ c.initiator → IsStart i.stage → e.settings ≡ c.target → bad_key (offered i) (answer_pairs e (offered i)) ≡ None
+takes : (c : Opening) (i : initiator.Machine) (e : target_session.Session) → IsOpening c → i.settings ≡ c.initiator → IsStart i.stage → e.settings ≡ c.target → bad_key (offered i) (answer_pairs e (offered i)) ≡ None
 takes c i e o there is here =
     let range : IsInRange e.settings.preferences = subst (λ (x : target_settings.Settings). IsInRange x.preferences) (sym here) o.preferences in
     good_is_taken (offered i) (answer_pairs e (offered i))
@@ -316,46 +317,46 @@ one_answer a b e = cc e
 -- ---- one round
 
 -- the target without what it gathered
-abbrev pub emptied : target.Machine → LoginRequest → target.Machine
+abbrev pub emptied : target_session.Session → LoginRequest → target_session.Session
 emptied t h = record (entered t h) { gathered = [] }
 
 -- the head of the answer to a text
-abbrev pub text_head : target.Machine → LoginRequest → LoginResponse
+abbrev pub text_head : target_session.Session → LoginRequest → LoginResponse
 text_head e h = record (login.text_response e h) { stat_sn = Some e.stat_sn }
 
 -- the head of the answer to a part of a text
-abbrev pub part_head : target.Machine → LoginRequest → LoginResponse
+abbrev pub part_head : target_session.Session → LoginRequest → LoginResponse
 part_head e h = record (login.response e h) { stat_sn = Some e.stat_sn }
 
 -- both ends behind a request that ends its text
 pub record LastTurn (i : initiator.Machine) (t : target.Machine) (disk : Disk) (r answer : Message) : Type 0 where
-  pub there : target_machine.step t disk r ≡ target.on disk (text_answered (emptied t (login_request i true)) (login_request i true) (offered i))
-  pub now : step i answer ≡ enters (asked i) (with_answer i (text_head (emptied t (login_request i true)) (login_request i true)) (answer_pairs (emptied t (login_request i true)) (offered i)))
+  pub there : target_machine.step t disk r ≡ target.on disk t.write (text_answered (emptied t.session (login_request i true)) (login_request i true) (offered i))
+  pub now : step i answer ≡ enters (asked i) (with_answer i (text_head (emptied t.session (login_request i true)) (login_request i true)) (answer_pairs (emptied t.session (login_request i true)) (offered i)))
 
 -- both ends behind a request whose text goes on
 pub record PartTurn (i : initiator.Machine) (t : target.Machine) (disk : Disk) (r answer : Message) : Type 0 where
   pub bytes : List ℕ
-  pub there : target_machine.step t disk r ≡ target.on disk (gather (entered t (login_request i false)) (login_request i false) bytes)
-  pub now : step i answer ≡ sends_more (counted i (part_head (entered t (login_request i false)) (login_request i false)))
+  pub there : target_machine.step t disk r ≡ target.on disk t.write (gather (entered t.session (login_request i false)) (login_request i false) bytes)
+  pub now : step i answer ≡ sends_more (counted i (part_head (entered t.session (login_request i false)) (login_request i false)))
 
 -- a request that ends its text is answered, and the answer is taken
 last_turn : (c : Opening) (i : initiator.Machine) (t : target.Machine) (logins next : Logins) (r : Message) (disk : Disk) (segment : Segment) → IsOpening c → Suits c → Asking c i t logins r → Suited c i t
-    → i.left ≡ [] → is_over_limit t segment ≡ false → text_ending t.gathered segment ≡ Some (offered i) → length t.gathered + length (segment_bytes segment) ≤ 16384
+    → i.left ≡ [] → is_over_limit t segment ≡ false → text_ending t.session.gathered segment ≡ Some (offered i) → length t.session.gathered + length (segment_bytes segment) ≤ 16384
     → (turn : Round c i (target_machine.step t disk (login_message i true segment)) next) → LastTurn i t disk (login_message i true segment) turn.answer
 last_turn c i t logins next r disk segment o suits a s left fits read size turn =
     let h : LoginRequest = login_request i true in
-    let e : target.Machine = emptied t h in
-    let same : SameState t (entered t h) = entered_same t h in
+    let e : target_session.Session = emptied t.session h in
+    let same : SameState t.session (entered t.session h) = entered_same t.session h in
     let given : Pairs = offered i in
     let pairs_are : in_order (offers_at c.initiator.proposal c.initiator.start i.stage) ≡ given = ap (λ (x : initiator.Settings). in_order (offers_at x.proposal x.start i.stage)) (sym a.settings) in
     let good : first_of (text_refusals e given) ≡ None =
     subst (λ (x : Pairs). first_of (text_refusals e x) ≡ None) pairs_are
     (text_at c.initiator.start i.stage c i t e o suits refl refl (record { has_text = same.has_text; given = same.given; settings = same.settings }) a.target_settings s.texts a.stage) in
-    let q : login.login_request t h segment ≡ text_answered e h given =
-    answers_well t h segment given (not_refused c i t true a.stage s) (subst (λ (x : List ℕ). length x + length (segment_bytes segment) ≤ 16384) (sym same.gathered) size) refl
+    let q : login.login_request t.session h segment ≡ text_answered e h given =
+    answers_well t.session h segment given (not_refused c i t true a.stage s) (subst (λ (x : List ℕ). length x + length (segment_bytes segment) ≤ 16384) (sym same.gathered) size) refl
     (ap (λ (x : List ℕ). text_ending x segment) same.gathered ∙ read) good in
-    let there : target_machine.step t disk (login_message i true segment) ≡ target.on disk (text_answered e h given) =
-    login_step_is t disk h segment a.logs_in.phase fits ∙ ap (target.on disk) q in
+    let there : target_machine.step t disk (login_message i true segment) ≡ target.on disk t.write (text_answered e h given) =
+    login_step_is t disk h segment a.logs_in.phase fits ∙ ap (target.on disk t.write) q in
     let is : turn.answer ≡ answering (text_head e h) (answer_pairs e given) =
     one_answer turn.answer (answering (text_head e h) (answer_pairs e given)) (sym turn.is ∙ ap (λ (x : target.Stepped). x.answers) there) in
     record {
@@ -366,16 +367,16 @@ last_turn c i t logins next r disk segment o suits a s left fits read size turn 
 
 -- a request whose text goes on is answered, and the next part goes
 part_turn : (c : Opening) (i : initiator.Machine) (t : target.Machine) (logins next : Logins) (r : Message) (disk : Disk) (segment : Segment) (bytes : List ℕ) (byte : ℕ) (more : List ℕ) → Asking c i t logins r → Suited c i t
-    → i.left ≡ byte ∷ more → segment ≡ Bytes bytes → is_over_limit t segment ≡ false → length t.gathered + length bytes ≤ 16384
+    → i.left ≡ byte ∷ more → segment ≡ Bytes bytes → is_over_limit t segment ≡ false → length t.session.gathered + length bytes ≤ 16384
     → (turn : Round c i (target_machine.step t disk (login_message i false segment)) next) → PartTurn i t disk (login_message i false segment) turn.answer
 part_turn c i t logins next r disk segment bytes byte more a s left part fits size turn =
     let h : LoginRequest = login_request i false in
-    let e : target.Machine = entered t h in
-    let same : SameState t e = entered_same t h in
-    let q : login.login_request t h segment ≡ gather e h bytes =
-    ap (login.login_request t h) part ∙ gathers_well t h bytes (not_refused c i t false a.stage s) (subst (λ (x : List ℕ). length x + length bytes ≤ 16384) (sym same.gathered) size) refl in
-    let there : target_machine.step t disk (login_message i false segment) ≡ target.on disk (gather e h bytes) =
-    login_step_is t disk h segment a.logs_in.phase fits ∙ ap (target.on disk) q in
+    let e : target_session.Session = entered t.session h in
+    let same : SameState t.session e = entered_same t.session h in
+    let q : login.login_request t.session h segment ≡ gather e h bytes =
+    ap (login.login_request t.session h) part ∙ gathers_well t.session h bytes (not_refused c i t false a.stage s) (subst (λ (x : List ℕ). length x + length bytes ≤ 16384) (sym same.gathered) size) refl in
+    let there : target_machine.step t disk (login_message i false segment) ≡ target.on disk t.write (gather e h bytes) =
+    login_step_is t disk h segment a.logs_in.phase fits ∙ ap (target.on disk t.write) q in
     let is : turn.answer ≡ answering (part_head e h) [] = one_answer turn.answer (answering (part_head e h) []) (sym turn.is ∙ ap (λ (x : target.Stepped). x.answers) there) in
     record {
       bytes = bytes;
@@ -404,16 +405,16 @@ turns_at : (left : List ℕ) (c : Opening) (i : initiator.Machine) (t : target.M
     → LastTurn i t disk (login_message i (is_sent left) segment) turn.answer ⊎ PartTurn i t disk (login_message i (is_sent left) segment) turn.answer
 unfolding segment_bytes
 turns_at [] c i t logins next r disk o suits a s left segment (inl w) turn =
-    inl (last_turn c i t logins next r disk segment o suits a s left (ap (is_over_limit t) w.is) (ap (text_ending t.gathered) w.is)
-    (subst (λ (x : Segment). length t.gathered + length (segment_bytes x) ≤ 16384) (sym w.is) (let g = ap length w.gathered in let le = w.short in omega (arith, g, le))) turn)
+    inl (last_turn c i t logins next r disk segment o suits a s left (ap (is_over_limit t) w.is) (ap (text_ending t.session.gathered) w.is)
+    (subst (λ (x : Segment). length t.session.gathered + length (segment_bytes x) ≤ 16384) (sym w.is) (let g = ap length w.gathered in let le = w.short in omega (arith, g, le))) turn)
 turns_at [] c i t logins next r disk o suits a s left segment (inr p) turn =
     inl (last_turn c i t logins next r disk segment o suits a s left (ap (is_over_limit t) p.is ∙ fits_limit t p.bytes p.short)
-    (ap (text_ending t.gathered) p.is ∙ ap text_in (ap (λ (x : List ℕ). t.gathered ++ x) (sym (append-nil p.bytes) ∙ ap (λ (x : List ℕ). p.bytes ++ x) (sym left)) ∙ p.text) ∙ offered_read c i o a.settings a.stage)
-    (subst (λ (x : Segment). length t.gathered + length (segment_bytes x) ≤ 16384) (sym p.is) (part_fits t.gathered p.bytes i.left (canonical_text (offered i)) p.text (text_fits c i o a.settings a.stage))) turn)
+    (ap (text_ending t.session.gathered) p.is ∙ ap text_in (ap (λ (x : List ℕ). t.session.gathered ++ x) (sym (append-nil p.bytes) ∙ ap (λ (x : List ℕ). p.bytes ++ x) (sym left)) ∙ p.text) ∙ offered_read c i o a.settings a.stage)
+    (subst (λ (x : Segment). length t.session.gathered + length (segment_bytes x) ≤ 16384) (sym p.is) (part_fits t.session.gathered p.bytes i.left (canonical_text (offered i)) p.text (text_fits c i o a.settings a.stage))) turn)
 turns_at (byte ∷ more) c i t logins next r disk o suits a s left segment (inl w) turn = absurd (let bad : [] ≡ byte ∷ more = sym w.left ∙ left in cc)
 turns_at (byte ∷ more) c i t logins next r disk o suits a s left segment (inr p) turn =
     inr (part_turn c i t logins next r disk segment p.bytes byte more a s left p.is (ap (is_over_limit t) p.is ∙ fits_limit t p.bytes p.short)
-    (part_fits t.gathered p.bytes i.left (canonical_text (offered i)) p.text (text_fits c i o a.settings a.stage)) turn)
+    (part_fits t.session.gathered p.bytes i.left (canonical_text (offered i)) p.text (text_fits c i o a.settings a.stage)) turn)
 
 -- a round ends a text, or its text goes on
 pub turns : (c : Opening) (i : initiator.Machine) (t : target.Machine) (logins next : Logins) (r : Message) (disk : Disk) → IsOpening c → Suits c → Asking c i t logins r → Suited c i t
@@ -425,18 +426,18 @@ turns c i t logins next r disk o suits a s =
 -- ---- behind it both suit
 
 -- the next text goes out, behind the one of the security stage
-next_suited : (c : Opening) (i : initiator.Machine) (t : target.Machine) (h : LoginRequest) → (g : LoginResponse) (answer : Pairs) → i.settings ≡ c.initiator → Suited c i t → i.stage ≡ stages.Security
-    → h ≡ login_request i true → let e : target.Machine = emptied t h in g.stat_sn ≡ Some e.stat_sn
-    → Suited c (enters stages.Operational (with_answer i g answer)).machine (text_answered e h (offered i)).machine
-next_suited c i t h g answer there s is hs number =
-    let e : target.Machine = emptied t h in
+next_suited : (c : Opening) (i : initiator.Machine) (t : target.Machine) (disk : Disk) (h : LoginRequest) → (g : LoginResponse) (answer : Pairs) → i.settings ≡ c.initiator → Suited c i t → i.stage ≡ stages.Security
+    → h ≡ login_request i true → let e : target_session.Session = emptied t.session h in g.stat_sn ≡ Some e.stat_sn
+    → Suited c (enters stages.Operational (with_answer i g answer)).machine (target.on disk t.write (text_answered e h (offered i))).machine
+next_suited c i t disk h g answer there s is hs number =
+    let e : target_session.Session = emptied t.session h in
     let m : initiator.Machine = record (with_answer i g answer) { stage = stages.Operational } in
     let k : TextKeeps m (sends_text m) = text_keeps m in
-    let same : SameState t (entered t h) = entered_same t h in
+    let same : SameState t.session (entered t.session h) = entered_same t.session h in
     let asked_is : stage_asked h ≡ Some stages.Operational = ap stage_asked hs ∙ ap (λ (x : Stage). stage_named (stage_number (asked_from x))) is in
     record {
       expected = ap (λ (n : Option ℕ). is_expected n (next_sn e.stat_sn)) (k.number ∙ ap (λ (o : Option ℕ). Some (next_sn (unwrap_or o 0))) number) ∙ eq-eqb (next_sn e.stat_sn) (next_sn e.stat_sn) refl;
-      due = due_at (entered t h).begun (sends_text m).machine.stage _ _ (entered_begun t h) (ap (λ (o : Option Stage). unwrap_or o e.stage) asked_is ∙ sym k.stage);
+      due = due_at (entered t.session h).begun (sends_text m).machine.stage _ _ (entered_begun t.session h) (ap (λ (o : Option Stage). unwrap_or o e.stage) asked_is ∙ sym k.stage);
       texts = elim s.texts [
         | inl f ↦ inr (record {
           one = refl;
@@ -455,13 +456,13 @@ suited_by : (c : Opening) (i : initiator.Machine) (t : target.Machine) (logins n
     → (stage : Stage) → i.stage ≡ stage → Asks_on c (step i answer) (target_machine.step t disk r).machine next → Suited c (step i answer).machine (target_machine.step t disk r).machine
 suited_by c i t logins next r answer disk a s q stages.Security is asks =
     let h : LoginRequest = login_request i true in
-    let e : target.Machine = emptied t h in
+    let e : target_session.Session = emptied t.session h in
     let w : initiator.Machine = with_answer i (text_head e h) (answer_pairs e (offered i)) in
     subst (λ (x : Stepped). Suited c x.machine (target_machine.step t disk r).machine) (sym (q.now ∙ ap (λ (x : Stage). enters (asked_from x) w) is))
     (subst (λ (x : target.Stepped). Suited c (enters stages.Operational w).machine x.machine) (sym q.there)
-    (next_suited c i t h (text_head e h) (answer_pairs e (offered i)) a.settings s is refl refl))
+    (next_suited c i t disk h (text_head e h) (answer_pairs e (offered i)) a.settings s is refl refl))
 suited_by c i t logins next r answer disk a s q stages.Operational is asks =
-    absurd (subst IsStart (ap (λ (x : Stepped). x.machine.stage) q.now ∙ ap (λ (x : Stage). (enters (asked_from x) (with_answer i (text_head (emptied t (login_request i true)) (login_request i true)) (answer_pairs (emptied t (login_request i true)) (offered i)))).machine.stage) is) asks.asking.stage)
+    absurd (subst IsStart (ap (λ (x : Stepped). x.machine.stage) q.now ∙ ap (λ (x : Stage). (enters (asked_from x) (with_answer i (text_head (emptied t.session (login_request i true)) (login_request i true)) (answer_pairs (emptied t.session (login_request i true)) (offered i)))).machine.stage) is) asks.asking.stage)
 suited_by c i t logins next r answer disk a s q stages.Full is asks = absurd (subst IsStart is a.stage)
 
 -- behind a request that ends its text
@@ -469,7 +470,7 @@ last_well : (c : Opening) (i : initiator.Machine) (t : target.Machine) (logins n
     → (turn : Round c i (target_machine.step t disk r) next) → LastTurn i t disk r turn.answer → Well c i (target_machine.step t disk r) (step i turn.answer) next
 last_well c i t logins next r disk a s turn q =
     let h : LoginRequest = login_request i true in
-    let e : target.Machine = emptied t h in
+    let e : target_session.Session = emptied t.session h in
     let w : initiator.Machine = with_answer i (text_head e h) (answer_pairs e (offered i)) in
     let on_ : GoesOn (enters (asked i) w) = enters_on (asked i) w a.phase in
     let live : is_closed (step i turn.answer).machine ≡ false = ap (λ (x : Stepped). is_closed x.machine) q.now ∙ on_.live in
@@ -486,13 +487,13 @@ part_well : (c : Opening) (i : initiator.Machine) (t : target.Machine) (logins n
     → (turn : Round c i (target_machine.step t disk r) next) → PartTurn i t disk r turn.answer → Well c i (target_machine.step t disk r) (step i turn.answer) next
 part_well c i t logins next r disk a s turn q =
     let h : LoginRequest = login_request i false in
-    let e : target.Machine = entered t h in
-    let same : SameState t e = entered_same t h in
+    let e : target_session.Session = entered t.session h in
+    let same : SameState t.session e = entered_same t.session h in
     let n : Stepped = sends_more (counted i (part_head e h)) in
     let live : is_closed (step i turn.answer).machine ≡ false = ap (λ (x : Stepped). is_closed x.machine) q.now ∙ ap is_closed_phase a.phase in
-    let begun : Suited c n.machine (gather e h q.bytes).machine = record {
+    let begun : Suited c n.machine (target.on disk t.write (gather e h q.bytes)).machine = record {
       expected = eq-eqb (next_sn e.stat_sn) (next_sn e.stat_sn) refl;
-      due = due_at e.begun i.stage _ _ (entered_begun t h) (in_stage i.stage t.stage);
+      due = due_at e.begun i.stage _ _ (entered_begun t.session h) (in_stage i.stage t.session.stage);
       texts = elim s.texts [
         | inl f ↦ inl (record { none = same.has_text ∙ f.none; given = same.given ∙ f.given; stage = f.stage })
         | inr f ↦ inr (record { one = same.has_text ∙ f.one; given = same.given ∙ f.given; start = f.start; stage = f.stage })
@@ -503,7 +504,7 @@ part_well c i t logins next r disk a s turn q =
     (subst (λ (x : target.Stepped). Suited c n.machine x.machine) (sym q.there) begun) in
     record {
       on = leads_on c i (step i turn.answer) (target_machine.step t disk r).machine next turn.leads live (λ asks. suited);
-      open_ = ap (λ (x : target.Stepped). target_machine.is_closed x.machine) q.there ∙ ap is_closed_phase (entered_phase t h ∙ a.logs_in.phase);
+      open_ = ap (λ (x : target.Stepped). target_machine.is_closed x.machine) q.there ∙ ap is_closed_phase (entered_phase t.session h ∙ a.logs_in.phase);
       rule = ap (λ (x : target.Stepped). x.rule) q.there;
       live = live;
       fault = ap (λ (x : Stepped). x.fault) q.now;

@@ -109,7 +109,7 @@ both_well c u w inputs ms l k given rest taken_ more lost o suits s p m e q n f 
     (read_first u.moved_to_target w.to_target u.queued_for_target given rest lost (canon (all_sent c inputs)) m s.to_target e) q
     (read_first u.moved_to_initiator w.to_initiator u.queued_for_initiator taken_ more [] (canon (said c ms).answers) n s.to_initiator (append-nil u.queued_for_initiator ∙ f))
 
-target_ended : (c : Opening) (u : Traffic) (w : World) → IsOpening c → Suits c → Sides c u w → TargetEnded c u.moved_to_target u.queued_for_initiator w.target → w.target.machine.stage ≡ stages.Full
+target_ended : (c : Opening) (u : Traffic) (w : World) → IsOpening c → Suits c → Sides c u w → TargetEnded c u.moved_to_target u.queued_for_initiator w.target → w.target.machine.session.stage ≡ stages.Full
 target_ended c u w o suits s e =
     let i : InitiatorFront c u.moved_to_initiator u.queued_for_target w.initiator = s.initiator.front in
     let well = both_well c u w i.inputs e.messages e.limit i.limit e.given e.rest i.given i.rest i.lost o suits s e.reads e.whole i.output i.reads i.whole e.output in
@@ -118,7 +118,7 @@ target_ended c u w o suits s e =
       | inr on ↦ absurd (apart e.closed on.0)
     ]
 
-target_broken : (fault : StreamFault) (c : Opening) (u : Traffic) (w : World) → IsOpening c → Suits c → Sides c u w → TargetBroken fault c u.moved_to_target u.queued_for_initiator w.target → w.target.machine.stage ≡ stages.Full
+target_broken : (fault : StreamFault) (c : Opening) (u : Traffic) (w : World) → IsOpening c → Suits c → Sides c u w → TargetBroken fault c u.moved_to_target u.queued_for_initiator w.target → w.target.machine.session.stage ≡ stages.Full
 target_broken fault c u w o suits s e =
     let i : InitiatorFront c u.moved_to_initiator u.queued_for_target w.initiator = s.initiator.front in
     let rest : List ℕ = e.taken.rest ++ (e.piece ++ e.more) in
@@ -155,7 +155,7 @@ initiator_broken fault c u w o suits s e =
 
 -- an end that has failed had completed its login, unless memory ran out
 target_by : (fault : Option TargetFault) (c : Opening) (u : Traffic) (w : World) → IsOpening c → Suits c → Sides c u w → TargetFailed fault c u.moved_to_target u.queued_for_initiator w.target → target_ran_out fault ≡ false
-    → (fault ≡ None) ⊎ (w.target.machine.stage ≡ stages.Full)
+    → (fault ≡ None) ⊎ (w.target.machine.session.stage ≡ stages.Full)
 target_by None c u w o suits s f well = inl refl
 target_by (Some target_faults.NoMemory) c u w o suits s f well = absurd (cc well)
 target_by (Some (target_faults.Stream fault)) c u w o suits s f well = inr (target_broken fault c u w o suits s f)
@@ -223,7 +223,7 @@ in_time old [] new r = r
 in_time old (event ∷ events) new r = (r.0, r.1, in_time r.0 events new r.3)
 
 pub none_fails : (c : Opening) (events : List Event) (u : Traffic) (w : World) → IsOpening c → Suits c → RunsInTime (new_pair c) events w → Sides c u w → keeps_no_memory w ≡ false
-    → ((w.target_fault ≡ None) ⊎ (w.target.machine.stage ≡ stages.Full)) × ((w.initiator_fault ≡ None) ⊎ (w.initiator.machine.stage ≡ stages.Full))
+    → ((w.target_fault ≡ None) ⊎ (w.target.machine.session.stage ≡ stages.Full)) × ((w.initiator_fault ≡ None) ⊎ (w.initiator.machine.stage ≡ stages.Full))
 none_fails c events u w o suits r s well =
     let m = or_parts (target_ran_out w.target_fault) (initiator_ran_out w.initiator_fault) well in (
       target_by w.target_fault c u w o suits s s.target.failed m.0,

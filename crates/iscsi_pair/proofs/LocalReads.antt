@@ -28,8 +28,10 @@ use Rattle.iscsi_login.specs.declared.phase.Phase.{Phase}
 use Rattle.iscsi_login.specs.declared.phase.Phase.TheVariants as phases
 use Rattle.iscsi_login.specs.declared.stage.Session.TheVariants as sessions
 use Rattle.iscsi_login.specs.Held.{Held, IsHeld, max_burst}
+use Rattle.iscsi_target.specs.Session as target_session
 use Rattle.iscsi_target.specs.State as target
-use Rattle.iscsi_target.specs.State.{max_cmd_sn, message}
+use Rattle.iscsi_target.specs.State.{max_cmd_sn}
+use Rattle.iscsi_target.specs.Session.{message}
 use Rattle.iscsi_target.specs.Command.{order_of, planned}
 use Rattle.iscsi_target.specs.Machine.{accepting, answers, step_on}
 use Rattle.iscsi_target.specs.Execution.{command_answers, execute, data_ins, data_in_head, marked, parts_given, response_head, run_given, sense_segment, reliable}
@@ -44,7 +46,6 @@ use Rattle.iscsi_initiator.specs.declared.open.Open.TheVariants as opens
 use Rattle.iscsi_initiator.specs.Full.{Response, due_to}
 use Rattle.iscsi_initiator.specs.State as initiator
 use Rattle.iscsi_initiator.specs.State.{is_closed, next_tag, sent_exp_stat_sn, serial}
-use Rattle.iscsi_login.specs.Stage.{is_closed_phase}
 use Rattle.iscsi_initiator.specs.declared.request.Request.{Request}
 use Rattle.iscsi_initiator.specs.declared.request.Request.TheVariants as requests
 use Rattle.iscsi_initiator.specs.declared.request.SubmitFault.{SubmitFault}
@@ -67,7 +68,7 @@ reading m r window = record m { phase = phases.Full; open_request = Some (opens.
 
 -- the window that the target tells
 abbrev pub told_window : Window → target.Machine → Window
-told_window window t = moved window (serial t.exp_cmd_sn) (serial (max_cmd_sn t))
+told_window window t = moved window (serial t.session.exp_cmd_sn) (serial (max_cmd_sn t))
 
 -- one part that is due
 part_heard : (m : initiator.Machine) (t : target.Machine) (r : Reading) (window : Window) (part : List ℕ × Bool)
@@ -190,7 +191,7 @@ given_few held bytes burst most =
 abbrev pub finished : initiator.Machine → target.Machine → Window → Outcome → List ℕ → initiator.Machine
 finished m t window outcome received = record m {
   phase = phases.Full;
-  exp_stat_sn = Some (next_sn t.stat_sn);
+  exp_stat_sn = Some (next_sn t.session.stat_sn);
   window = told_window window t;
   open_request = None;
   done = Some (done.Command 0 outcome.status (told_sense outcome.sense) received outcome.residual);
@@ -205,29 +206,29 @@ abbrev pub Awaits : Open → List ℕ → Type 0
 Awaits open_ received = (h : ScsiResponse) → due_to (Some open_) (heads.ScsiResponse h) ≡ Some (Response received h)
 
 pub outcome_heard : (m : initiator.Machine) (t : target.Machine) (open_ : Open) (received : List ℕ) (window : Window) (status : ℕ) (sense : Option Sense) (bytes : List ℕ) (residual : Residual) (count : ℕ)
-    → Awaits open_ received → m.exp_stat_sn ≡ Some t.stat_sn → 20 ≤ m.held.initiator_max_recv
+    → Awaits open_ received → m.exp_stat_sn ≡ Some t.session.stat_sn → 20 ≤ m.held.initiator_max_recv
     → (let outcome : Outcome = record { status = status; sense = sense; bytes = bytes; residual = residual } in
     step (waiting m open_ window) (message (response_head t m.initiator_task_tag outcome count) (sense_segment sense)) ≡ quiet (finished m t window outcome received))
 unfolding step segment_bytes
 outcome_heard m t open_ received window status None bytes Exact count d e le =
-    rw (eq-eqb m.initiator_task_tag m.initiator_task_tag refl, d _, le-ltb m.held.initiator_max_recv 0 (omega arith), e, eq-eqb t.stat_sn t.stat_sn refl) refl
+    rw (eq-eqb m.initiator_task_tag m.initiator_task_tag refl, d _, le-ltb m.held.initiator_max_recv 0 (omega arith), e, eq-eqb t.session.stat_sn t.session.stat_sn refl) refl
 outcome_heard m t open_ received window status None bytes (Under n) count d e le =
-    rw (eq-eqb m.initiator_task_tag m.initiator_task_tag refl, d _, le-ltb m.held.initiator_max_recv 0 (omega arith), e, eq-eqb t.stat_sn t.stat_sn refl) refl
+    rw (eq-eqb m.initiator_task_tag m.initiator_task_tag refl, d _, le-ltb m.held.initiator_max_recv 0 (omega arith), e, eq-eqb t.session.stat_sn t.session.stat_sn refl) refl
 outcome_heard m t open_ received window status None bytes (Over n) count d e le =
-    rw (eq-eqb m.initiator_task_tag m.initiator_task_tag refl, d _, le-ltb m.held.initiator_max_recv 0 (omega arith), e, eq-eqb t.stat_sn t.stat_sn refl) refl
+    rw (eq-eqb m.initiator_task_tag m.initiator_task_tag refl, d _, le-ltb m.held.initiator_max_recv 0 (omega arith), e, eq-eqb t.session.stat_sn t.session.stat_sn refl) refl
 outcome_heard m t open_ received window status (Some sense) bytes Exact count d e le =
-    rw (eq-eqb m.initiator_task_tag m.initiator_task_tag refl, d _, le-ltb m.held.initiator_max_recv 20 le, e, eq-eqb t.stat_sn t.stat_sn refl) refl
+    rw (eq-eqb m.initiator_task_tag m.initiator_task_tag refl, d _, le-ltb m.held.initiator_max_recv 20 le, e, eq-eqb t.session.stat_sn t.session.stat_sn refl) refl
 outcome_heard m t open_ received window status (Some sense) bytes (Under n) count d e le =
-    rw (eq-eqb m.initiator_task_tag m.initiator_task_tag refl, d _, le-ltb m.held.initiator_max_recv 20 le, e, eq-eqb t.stat_sn t.stat_sn refl) refl
+    rw (eq-eqb m.initiator_task_tag m.initiator_task_tag refl, d _, le-ltb m.held.initiator_max_recv 20 le, e, eq-eqb t.session.stat_sn t.session.stat_sn refl) refl
 outcome_heard m t open_ received window status (Some sense) bytes (Over n) count d e le =
-    rw (eq-eqb m.initiator_task_tag m.initiator_task_tag refl, d _, le-ltb m.held.initiator_max_recv 20 le, e, eq-eqb t.stat_sn t.stat_sn refl) refl
+    rw (eq-eqb m.initiator_task_tag m.initiator_task_tag refl, d _, le-ltb m.held.initiator_max_recv 20 le, e, eq-eqb t.session.stat_sn t.session.stat_sn refl) refl
 
 -- what the target answers to a read
 record ReadHeard (m : initiator.Machine) (t : target.Machine) (r : Reading) (window : Window) (outcome : Outcome) : Type 0 where
   told : Window
   kept : (n : ℕ) → ((w : Window) → IsNear n w → IsNear n (told_window w t)) → IsNear n window → IsNear n told
   leads : (held : Held) (s : target.Machine) (disk : Disk) (x : Stand) → LeadsTo held (finished m t told outcome outcome.bytes) s disk [] x
-      → LeadsTo held (reading m r window) s disk (command_answers t m.initiator_task_tag outcome (parts_given t.held outcome.bytes)) x
+      → LeadsTo held (reading m r window) s disk (command_answers t m.initiator_task_tag outcome (parts_given t.session.held outcome.bytes)) x
 
 -- the parts of what is given
 record AreGiven (held : Held) (bytes : List ℕ) : Type 0 where
@@ -244,12 +245,12 @@ are_given held bytes is =
       few = given_few held bytes (can_give held is).burst most;
     }
 
-read_heard : (m : initiator.Machine) (t : target.Machine) (window : Window) (outcome : Outcome) (expected : ℕ) → t.held ≡ m.held → IsHeld m.held → m.exp_stat_sn ≡ Some t.stat_sn → m.done ≡ None
+read_heard : (m : initiator.Machine) (t : target.Machine) (window : Window) (outcome : Outcome) (expected : ℕ) → t.session.held ≡ m.held → IsHeld m.held → m.exp_stat_sn ≡ Some t.session.stat_sn → m.done ≡ None
     → length outcome.bytes ≤ expected → expected < 2 ^ 32 → ReadHeard m t (record { expected = expected; received = []; next_data_sn = 0 }) window outcome
 read_heard m t window outcome expected held is_held stat_sn none room small =
     let r : Reading = record { expected = expected; received = []; next_data_sn = 0 } in
-    let g : AreGiven t.held outcome.bytes = are_given t.held outcome.bytes (subst IsHeld (sym held) is_held) in
-    let given : Parts = parts_given t.held outcome.bytes in
+    let g : AreGiven t.session.held outcome.bytes = are_given t.session.held outcome.bytes (subst IsHeld (sym held) is_held) in
+    let given : Parts = parts_given t.session.held outcome.bytes in
     let last : Message = message (response_head t m.initiator_task_tag outcome (length given)) (sense_segment outcome.sense) in
     let h : PartsHeard m t r window given (last ∷ []) =
     parts_heard m t r window given (last ∷ []) none (subst (λ (k : Held). AreShort k.initiator_max_recv given) held g.short)
@@ -266,7 +267,7 @@ read_heard m t window outcome expected held is_held stat_sn none room small =
 
 -- ---- what the target answers is read as it was written
 
-data_ins_written : (most : ℕ) (t : target.Machine) (tag data_sn offset : ℕ) (given : Parts) (more : List Message) → tag < 2 ^ 32 → t.exp_cmd_sn < 2 ^ 32 → most < 2 ^ 24 → AreShort most given
+data_ins_written : (most : ℕ) (t : target.Machine) (tag data_sn offset : ℕ) (given : Parts) (more : List Message) → tag < 2 ^ 32 → t.session.exp_cmd_sn < 2 ^ 32 → most < 2 ^ 24 → AreShort most given
     → data_sn + length given < 2 ^ 32 → offset + length (bytes_of given) < 2 ^ 32 → ArePlain most more → ArePlain most (data_ins t tag data_sn offset given ++ more)
 data_ins_written most t tag data_sn offset [] more tag_fits cmd_sn size short few room plain = plain
 data_ins_written most t tag data_sn offset (part ∷ given) more tag_fits cmd_sn size short few room plain =
@@ -280,12 +281,12 @@ sense_most : (sense : Option Sense) → length (sense_segment sense) ≤ 20
 sense_most None = omega arith
 sense_most (Some sense) = omega arith
 
-pub command_written : (t : target.Machine) (tag : ℕ) (outcome : Outcome) → IsHeld t.held → tag < 2 ^ 32 → t.exp_cmd_sn < 2 ^ 32 → t.stat_sn < 2 ^ 32 → length outcome.bytes ≤ 4194304 → HasRoom outcome
-    → ArePlain t.held.initiator_max_recv (command_answers t tag outcome (parts_given t.held outcome.bytes))
+pub command_written : (t : target.Machine) (tag : ℕ) (outcome : Outcome) → IsHeld t.session.held → tag < 2 ^ 32 → t.session.exp_cmd_sn < 2 ^ 32 → t.session.stat_sn < 2 ^ 32 → length outcome.bytes ≤ 4194304 → HasRoom outcome
+    → ArePlain t.session.held.initiator_max_recv (command_answers t tag outcome (parts_given t.session.held outcome.bytes))
 command_written t tag outcome is tag_fits cmd_sn stat_sn room fits =
-    let most : ℕ = t.held.initiator_max_recv in
-    let g : AreGiven t.held outcome.bytes = are_given t.held outcome.bytes is in
-    let given : Parts = parts_given t.held outcome.bytes in
+    let most : ℕ = t.session.held.initiator_max_recv in
+    let g : AreGiven t.session.held outcome.bytes = are_given t.session.held outcome.bytes is in
+    let given : Parts = parts_given t.session.held outcome.bytes in
     let size : most < 2 ^ 24 = omega (arith, is.initiator_max_recv.1) in
     let count : length given < 2 ^ 32 = omega (arith, g.few, room) in
     data_ins_written most t tag 0 0 given (message (response_head t tag outcome (length given)) (sense_segment outcome.sense) ∷ []) tag_fits cmd_sn size g.short (omega (arith, count))
@@ -298,7 +299,14 @@ command_written t tag outcome is tag_fits cmd_sn stat_sn room fits =
 
 -- a target in full feature phase with nothing open, to which this CmdSN is due
 abbrev pub ready : target.Machine → ℕ → target.Machine
-ready t cmd_sn = record t { phase = phases.Full; session = sessions.Normal; write = None; exp_cmd_sn = cmd_sn }
+ready t cmd_sn = record {
+  session = record t.session { phase = phases.Full; session_type = sessions.Normal; exp_cmd_sn = cmd_sn };
+  write = None;
+}
+
+-- the target once an answer went out that carries StatSN
+abbrev pub counted_on : target.Machine → target.Machine
+counted_on t = record t { session = target_session.counted t.session }
 
 -- what goes out for a read
 abbrev read_command : initiator.Machine → ℕ → List ℕ → ℕ → Message
@@ -364,7 +372,7 @@ unfolding segment_bytes
 read_taken m t disk lun cdb expected lt =
     let order : Order = reading_order lun cdb expected in
     let h : ScsiCommand = command m true lun cdb (record { read = not (expected == 0); write = false; expected = expected }) in
-    rw (le-ltb (target.limit t.settings) 0 (omega arith), le-ltb t.held.target_max_recv 0 (omega arith), window_now m.cmd_sn lt)
+    rw (le-ltb (target_session.limit t.session.settings) 0 (omega arith), le-ltb t.session.held.target_max_recv 0 (omega arith), window_now m.cmd_sn lt)
     (ap (accepting (read_command m lun cdb expected))
     (planned_now (plan_of order disk.count) t (next_sn m.cmd_sn) disk h (λ total. takes_none (first_refusal order disk.count) lun cdb expected disk.count total refl)))
 
@@ -398,9 +406,9 @@ few_expected m lun cdb expected full e =
     (not_long (is_some m.open_request || is_some m.done) (not (is_within m.cmd_sn m.window.exp.0 m.window.max.0)) (nat_lt 4194304 expected) when)
 
 -- A command or a ping was answered: both ends are in step again.
-pub in_step_again : (m : initiator.Machine) (t : target.Machine) (window : Window) → t.held ≡ m.held → IsHeld m.held → m.held.target_max_recv ≤ target.limit t.settings → m.initiator_task_tag ≤ 0xffff_fffe → m.cmd_sn < 2 ^ 32
+pub in_step_again : (m : initiator.Machine) (t : target.Machine) (window : Window) → t.session.held ≡ m.held → IsHeld m.held → m.held.target_max_recv ≤ target_session.limit t.session.settings → m.initiator_task_tag ≤ 0xffff_fffe → m.cmd_sn < 2 ^ 32
     → told_window window (ready t m.cmd_sn) ≡ window_of_one m.cmd_sn
-    → AreInStep (record m { phase = phases.Full; exp_stat_sn = Some (next_sn t.stat_sn); window = told_window window (ready t m.cmd_sn); open_request = None; done = None }) (target.counted (ready t m.cmd_sn))
+    → AreInStep (record m { phase = phases.Full; exp_stat_sn = Some (next_sn t.session.stat_sn); window = told_window window (ready t m.cmd_sn); open_request = None; done = None }) (counted_on (ready t m.cmd_sn))
 in_step_again m t window held is_held segment tag cmd_sn told_ = record {
   initiator_phase = refl;
   target_phase = refl;
@@ -416,7 +424,7 @@ in_step_again m t window held is_held segment tag cmd_sn told_ = record {
   cmd_sn_fits = cmd_sn;
   window = told_;
   stat_sn = refl;
-  stat_sn_fits = mod-lt (t.stat_sn + 1) (omega arith);
+  stat_sn_fits = mod-lt (t.session.stat_sn + 1) (omega arith);
 }
 
 -- the number of what was received goes out
@@ -437,7 +445,7 @@ local_read m t disk lun cdb expected on_ size are a e =
     let begun_ : initiator.Machine = record m { initiator_task_tag = next_tag m.initiator_task_tag; cmd_sn = next_sn m.cmd_sn } in
     let t' : target.Machine = ready t n in
     let r0 : Reading = record { expected = expected; received = []; next_data_sn = 0 } in
-    let is_t : t ≡ ready t m.cmd_sn = λ i. record t { phase = a.target_phase i; session = a.session i; write = a.none_written i; exp_cmd_sn = a.cmd_sn i } in
+    let is_t : t ≡ ready t m.cmd_sn = λ i. record { session = record t.session { phase = a.target_phase i; session_type = a.session i; exp_cmd_sn = a.cmd_sn i }; write = a.none_written i } in
     let is_m : (accepted m request).machine ≡ reading begun_ r0 m.window = λ i. record begun_ { phase = a.initiator_phase i; open_request = Some (opens.In r0) } in
     let executed : target.Stepped = accepting (read_command m lun cdb expected) (execute reliable t' disk (next_tag m.initiator_task_tag) order []) in
     let r : answers t disk (submitted m request).output ≡ executed =
@@ -448,12 +456,12 @@ local_read m t disk lun cdb expected on_ size are a e =
     let tag : next_tag m.initiator_task_tag ≤ 0xffff_fffe = tag_after m.initiator_task_tag a.tag_fits in
     let room : length after.outcome.bytes ≤ expected = outcome_few (plan_of order disk.count) disk order expected (λ n. gives_few (first_refusal order disk.count) order disk.count n) in
     let h : ReadHeard begun_ t' r0 m.window after.outcome = read_heard begun_ t' m.window after.outcome expected a.held a.is_held a.stat_sn a.none_done room (omega (arith, few)) in
-    let last : Stand = record { initiator = finished begun_ t' h.told after.outcome after.outcome.bytes; target = target.counted t'; disk = after.disk; answers = [] } in
+    let last : Stand = record { initiator = finished begun_ t' h.told after.outcome after.outcome.bytes; target = counted_on t'; disk = after.disk; answers = [] } in
     let told_ : told_window h.told t' ≡ window_of_one n =
     tells_one n h.told fits (h.kept n (λ w near. subst (IsNear n) (sym (tells_one n w fits near)) (record { exp = inr refl; max = inr refl })) (near_one n m.cmd_sn m.window a.cmd_sn_fits refl a.window)) in
     let ends_ : Ends m.held (reading begun_ r0 m.window) executed (told after.outcome) after.disk = record {
       last = last;
-      leads = h.leads m.held (target.counted t') after.disk last (0, refl);
+      leads = h.leads m.held (counted_on t') after.disk last (0, refl);
       ended = record {
         done_is = refl;
         silent = refl;

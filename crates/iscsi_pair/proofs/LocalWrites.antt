@@ -27,14 +27,14 @@ use Rattle.iscsi_stream.specs.Stream.{Message}
 use Rattle.iscsi_login.specs.declared.phase.Phase.{Phase}
 use Rattle.iscsi_login.specs.declared.phase.Phase.TheVariants as phases
 use Rattle.iscsi_login.specs.declared.stage.Session.TheVariants as sessions
-use Rattle.iscsi_login.specs.Held.{Held, IsHeld, first_burst, held_value, flag_of, is_on, max_burst, unasked}
+use Rattle.iscsi_login.specs.Held.{Held, IsHeld, first_burst, is_on, max_burst, unasked}
 use Rattle.iscsi_login.specs.declared.key.NegKey.TheVariants as keys
-use Rattle.iscsi_login.specs.declared.preferences.Answered.{Answered}
-use Rattle.iscsi_login.specs.declared.preferences.Answered.TheVariants.{Flag, Number, NoneItem, Reject}
 use Rattle.iscsi_target.specs.declared.due.Due.{Due}
 use Rattle.iscsi_target.specs.declared.due.Due.TheVariants.{Nothing, Unsolicited, Solicited}
+use Rattle.iscsi_target.specs.Session as target_session
 use Rattle.iscsi_target.specs.State as target
-use Rattle.iscsi_target.specs.State.{Stepped, Write, message, nothing, on}
+use Rattle.iscsi_target.specs.Session.{message}
+use Rattle.iscsi_target.specs.State.{Stepped, Write, unchanged}
 use Rattle.iscsi_stream.specs.Pieces.{Pieces, data_of, chunks_within, chunks}
 use Rattle.iscsi_pdu.specs.Serial.{next_sn, is_within}
 use Rattle.iscsi_target.specs.Transfer.{asking, continued, desired, is_idle, is_in_sequence, is_whole, received, with_data, with_piece}
@@ -64,24 +64,27 @@ use Rattle.iscsi_pair.proofs.Talk.{some_then}
 use Rattle.iscsi_pair.proofs.Written.{command_readable, data_out_readable, ready_readable}
 use Rattle.iscsi_pair.proofs.Outcomes.{outcome_fits}
 use Rattle.iscsi_pair.proofs.Courses.{AreHeard, ArePlain, Begins, Ends, LeadsTo, heard_by, hears_quiet, hears_sends, plain_more, plain_one, short_message}
-use Rattle.iscsi_pair.proofs.LocalReads.{Awaits, command_written, finished, in_step_again, next_small, not_long, outcome_heard, ready, stat_sn_sent, submitted_is, told_window, unrefused, waiting, window_now}
+use Rattle.iscsi_pair.proofs.LocalReads.{counted_on, Awaits, command_written, finished, in_step_again, next_small, not_long, outcome_heard, ready, stat_sn_sent, submitted_is, told_window, unrefused, waiting, window_now}
 use Rattle.std.proofs.Math.Bool.{and-false}
 
 -- ---- a Data-Out
 
 -- a target in full feature phase with this write open
 abbrev writer : target.Machine → ℕ → Write → target.Machine
-writer t cmd_sn w = record t { phase = phases.Full; session = sessions.Normal; write = Some w; exp_cmd_sn = cmd_sn }
+writer t cmd_sn w = record {
+  session = record t.session { phase = phases.Full; session_type = sessions.Normal; exp_cmd_sn = cmd_sn };
+  write = Some w;
+}
 
 abbrev data_message : DataOut → List ℕ → Message
 data_message h piece = record { head = heads.DataOut h; segment = Bytes piece }
 
-data_taken : (t : target.Machine) (cmd_sn : ℕ) (w : Write) (disk : Disk) (h : DataOut) (piece : List ℕ) → length piece ≤ t.held.target_max_recv → t.held.target_max_recv ≤ target.limit t.settings
-    → h.initiator_task_tag ≡ w.initiator_task_tag → is_in_sequence (first_burst t.held) w h (received w + length piece) w.due ≡ true
+data_taken : (t : target.Machine) (cmd_sn : ℕ) (w : Write) (disk : Disk) (h : DataOut) (piece : List ℕ) → length piece ≤ t.session.held.target_max_recv → t.session.held.target_max_recv ≤ target_session.limit t.session.settings
+    → h.initiator_task_tag ≡ w.initiator_task_tag → is_in_sequence (first_burst t.session.held) w h (received w + length piece) w.due ≡ true
     → step_on reliable (writer t cmd_sn w) disk (data_message h piece) ≡ proceed reliable (ready t cmd_sn) disk (with_data w h piece)
 unfolding segment_bytes
 data_taken t cmd_sn w disk h piece short limit tag due =
-    rw (le-ltb (target.limit t.settings) (length piece) (omega (arith, short, limit)), le-ltb t.held.target_max_recv (length piece) short, eq-eqb h.initiator_task_tag w.initiator_task_tag tag, due) refl
+    rw (le-ltb (target_session.limit t.session.settings) (length piece) (omega (arith, short, limit)), le-ltb t.session.held.target_max_recv (length piece) short, eq-eqb h.initiator_task_tag w.initiator_task_tag tag, due) refl
 
 -- ---- a sequence
 
@@ -133,15 +136,15 @@ received_more w offset (b ∷ bytes) some =
     flat_map-append (λ piece. piece.1) w.pieces ((offset, b ∷ bytes) ∷ []) ∙ ap (λ (x : List ℕ). data_of w.pieces ++ x) (append-nil (b ∷ bytes))
 
 -- a Data-Out that isn't the last of its sequence
-piece_taken : (t : target.Machine) (cmd_sn : ℕ) (w : Write) (disk : Disk) (h : DataOut) (piece : List ℕ) (end : ℕ) (due : ℕ → Due) → IsSequence (first_burst t.held) w.total h.target_transfer_tag end due
-    → w.due ≡ due h.data_sn → h.is_final ≡ false → h.buffer_offset ≡ received w → h.initiator_task_tag ≡ w.initiator_task_tag → 0 < length piece → length piece ≤ t.held.target_max_recv
-    → t.held.target_max_recv ≤ target.limit t.settings → received w + length piece < end → end ≤ w.total
+piece_taken : (t : target.Machine) (cmd_sn : ℕ) (w : Write) (disk : Disk) (h : DataOut) (piece : List ℕ) (end : ℕ) (due : ℕ → Due) → IsSequence (first_burst t.session.held) w.total h.target_transfer_tag end due
+    → w.due ≡ due h.data_sn → h.is_final ≡ false → h.buffer_offset ≡ received w → h.initiator_task_tag ≡ w.initiator_task_tag → 0 < length piece → length piece ≤ t.session.held.target_max_recv
+    → t.session.held.target_max_recv ≤ target_session.limit t.session.settings → received w + length piece < end → end ≤ w.total
     → step_on reliable (writer t cmd_sn w) disk (data_message h piece)
-    ≡ on disk (nothing (writer t cmd_sn (record w { pieces = with_piece w.pieces (received w) piece; due = due (next_sn h.data_sn) })))
+    ≡ unchanged (writer t cmd_sn (record w { pieces = with_piece w.pieces (received w) piece; due = due (next_sn h.data_sn) })) disk
 piece_taken t cmd_sn w disk h piece end due s is_due final at tag some short limit before_ room =
     let v : Write = record w { pieces = with_piece w.pieces (received w) piece; due = due (next_sn h.data_sn) } in
-    let here : is_in_sequence (first_burst t.held) w h (received w + length piece) w.due ≡ true =
-    ap (is_in_sequence (first_burst t.held) w h (received w + length piece)) is_due ∙ s.takes w h (received w + length piece) refl at refl (inl (final, before_)) in
+    let here : is_in_sequence (first_burst t.session.held) w h (received w + length piece) w.due ≡ true =
+    ap (is_in_sequence (first_burst t.session.held) w h (received w + length piece)) is_due ∙ s.takes w h (received w + length piece) refl at refl (inl (final, before_)) in
     let is : with_data w h piece ≡ v =
     ap (λ (b : Bool). record w { pieces = with_piece w.pieces (received w) piece; due = if b then Nothing else continued w.due }) final
     ∙ ap (λ (d : Due). record w { pieces = with_piece w.pieces (received w) piece; due = d }) (ap continued is_due ∙ s.goes_on h.data_sn) in
@@ -157,15 +160,15 @@ record SequenceTaken (t : target.Machine) (cmd_sn : ℕ) (w : Write) (disk : Dis
   whole : data_of came ≡ data_of w.pieces ++ bytes
   is : answers (writer t cmd_sn w) disk ms ≡ proceed reliable (ready t cmd_sn) disk (record w { pieces = came; due = Nothing })
 
-sequence_taken : (t : target.Machine) (cmd_sn : ℕ) (w : Write) (disk : Disk) (h : DataOut) (piece : List ℕ) (more : List (List ℕ)) (end : ℕ) (due : ℕ → Due) → IsSequence (first_burst t.held) w.total h.target_transfer_tag end due
-    → w.due ≡ due h.data_sn → h.buffer_offset ≡ received w → h.initiator_task_tag ≡ w.initiator_task_tag → ArePieces t.held.target_max_recv (piece ∷ more)
-    → t.held.target_max_recv ≤ target.limit t.settings → received w + length (joined (piece ∷ more)) ≡ end → end ≤ w.total
+sequence_taken : (t : target.Machine) (cmd_sn : ℕ) (w : Write) (disk : Disk) (h : DataOut) (piece : List ℕ) (more : List (List ℕ)) (end : ℕ) (due : ℕ → Due) → IsSequence (first_burst t.session.held) w.total h.target_transfer_tag end due
+    → w.due ≡ due h.data_sn → h.buffer_offset ≡ received w → h.initiator_task_tag ≡ w.initiator_task_tag → ArePieces t.session.held.target_max_recv (piece ∷ more)
+    → t.session.held.target_max_recv ≤ target_session.limit t.session.settings → received w + length (joined (piece ∷ more)) ≡ end → end ≤ w.total
     → SequenceTaken t cmd_sn w disk (data_outs h (piece ∷ more)) (joined (piece ∷ more))
 unfolding answers
 sequence_taken t cmd_sn w disk h piece [] end due s is_due at tag all limit up room =
     let h' : DataOut = record h { is_final = true } in
-    let here : is_in_sequence (first_burst t.held) w h' (received w + length piece) w.due ≡ true =
-    ap (is_in_sequence (first_burst t.held) w h' (received w + length piece)) is_due
+    let here : is_in_sequence (first_burst t.session.held) w h' (received w + length piece) w.due ≡ true =
+    ap (is_in_sequence (first_burst t.session.held) w h' (received w + length piece)) is_due
     ∙ s.takes w h' (received w + length piece) refl at refl (inr (refl, (let e = length-append piece [] in omega (arith, e, up)))) in
     record {
       came = with_piece w.pieces (received w) piece;
@@ -179,7 +182,7 @@ sequence_taken t cmd_sn w disk h piece (second ∷ more) end due s is_due at tag
     let len = length-append piece (joined (second ∷ more)) in
     let len2 = length-append second (joined more) in
     let now = ap (λ (x : List ℕ). length x) (received_more w (received w) piece all.0.0) ∙ length-append (data_of w.pieces) piece in
-    let one : step_on reliable (writer t cmd_sn w) disk (data_message h' piece) ≡ on disk (nothing (writer t cmd_sn v)) =
+    let one : step_on reliable (writer t cmd_sn w) disk (data_message h' piece) ≡ unchanged (writer t cmd_sn v) disk =
     piece_taken t cmd_sn w disk h' piece end due s is_due refl at tag all.0.0 all.0.1 limit (omega (arith, up, len, len2, all.1.0.0)) room in
     let r : SequenceTaken t cmd_sn v disk (data_outs h2 (second ∷ more)) (joined (second ∷ more)) =
     sequence_taken t cmd_sn v disk h2 second more end due s refl (omega (arith, at, now)) tag all.1 limit (omega (arith, up, len, now)) room in
@@ -261,13 +264,13 @@ lun_fits false lun lt = tt
 -- ---- a sequence is taken
 
 -- a sequence with these bytes, if it has any
-batch_taken : (t : target.Machine) (cmd_sn : ℕ) (w : Write) (disk : Disk) (h : DataOut) (bytes : List ℕ) (end : ℕ) (due : ℕ → Due) → IsSequence (first_burst t.held) w.total h.target_transfer_tag end due
-    → w.due ≡ due h.data_sn → h.buffer_offset ≡ received w → h.initiator_task_tag ≡ w.initiator_task_tag → 0 < t.held.target_max_recv → t.held.target_max_recv ≤ target.limit t.settings
+batch_taken : (t : target.Machine) (cmd_sn : ℕ) (w : Write) (disk : Disk) (h : DataOut) (bytes : List ℕ) (end : ℕ) (due : ℕ → Due) → IsSequence (first_burst t.session.held) w.total h.target_transfer_tag end due
+    → w.due ≡ due h.data_sn → h.buffer_offset ≡ received w → h.initiator_task_tag ≡ w.initiator_task_tag → 0 < t.session.held.target_max_recv → t.session.held.target_max_recv ≤ target_session.limit t.session.settings
     → 0 < length bytes → received w + length bytes ≡ end → end ≤ w.total
-    → SequenceTaken t cmd_sn w disk (data_outs h (chunks t.held.target_max_recv bytes)) bytes
+    → SequenceTaken t cmd_sn w disk (data_outs h (chunks t.session.held.target_max_recv bytes)) bytes
 batch_taken t cmd_sn w disk h [] end due s is_due at tag lt limit some up room = absurd (omega (arith, some))
 batch_taken t cmd_sn w disk h (b ∷ bytes) end due s is_due at tag lt limit some up room =
-    let most : ℕ = t.held.target_max_recv in
+    let most : ℕ = t.session.held.target_max_recv in
     let whole : joined (chunks most (b ∷ bytes)) ≡ b ∷ bytes = joined_chunks most (b ∷ bytes) lt in
     subst (SequenceTaken t cmd_sn w disk (data_outs h (chunks most (b ∷ bytes)))) whole
     (sequence_taken t cmd_sn w disk h (take most (b ∷ bytes)) (chunks_within (length bytes) most (drop most (b ∷ bytes))) end due s is_due at tag (pieces_are (length (b ∷ bytes)) most (b ∷ bytes) lt) limit
@@ -283,9 +286,9 @@ abbrev asked_for : initiator.Machine → Writing → Write → ℕ → List Mess
 asked_for m v w n = sequence m (then_some (is_tag w.asked) w.order.lun) w.asked v.sent (take n (drop v.sent v.bytes))
 
 ready_heard : (m : initiator.Machine) (t : target.Machine) (v : Writing) (w : Write) (window : Window) → w.initiator_task_tag ≡ m.initiator_task_tag → w.asked ≡ v.next_r2t_sn → received w ≡ v.sent
-    → 1 ≤ desired t.held w → desired t.held w ≤ max_burst m.held → v.sent + desired t.held w ≤ length v.bytes
+    → 1 ≤ desired t.session.held w → desired t.session.held w ≤ max_burst m.held → v.sent + desired t.session.held w ≤ length v.bytes
     → step (writing m v window) (message (r2t_head t w) [])
-    ≡ sends (writing m (record v { sent = v.sent + desired t.held w; next_r2t_sn = next_sn v.next_r2t_sn }) (told_window window t)) (asked_for m v w (desired t.held w))
+    ≡ sends (writing m (record v { sent = v.sent + desired t.session.held w; next_r2t_sn = next_sn v.next_r2t_sn }) (told_window window t)) (asked_for m v w (desired t.session.held w))
 unfolding step segment_bytes
 ready_heard m t v w window tag asked at some most room =
     rw (
@@ -293,25 +296,25 @@ ready_heard m t v w window tag asked at some most room =
       le-ltb m.held.initiator_max_recv 0 (omega arith),
       eq-eqb w.asked v.next_r2t_sn asked,
       eq-eqb (received w) v.sent at,
-      le-leb 1 (desired t.held w) some,
-      le-leb (desired t.held w) (max_burst m.held) most,
-      le-leb (v.sent + desired t.held w) (length v.bytes) room,
+      le-leb 1 (desired t.session.held w) some,
+      le-leb (desired t.session.held w) (max_burst m.held) most,
+      le-leb (v.sent + desired t.session.held w) (length v.bytes) room,
     ) refl
 
 -- ---- a write, from turn to turn
 
 -- what holds throughout a write
 record Throughout (m : initiator.Machine) (t : target.Machine) (cmd_sn : ℕ) (bytes : List ℕ) (order : Order) (disk : Disk) : Type 0 where
-  held : t.held ≡ m.held
+  held : t.session.held ≡ m.held
   is_held : IsHeld m.held
-  segment : t.held.target_max_recv ≤ target.limit t.settings
-  stat_sn : m.exp_stat_sn ≡ Some t.stat_sn
+  segment : t.session.held.target_max_recv ≤ target_session.limit t.session.settings
+  stat_sn : m.exp_stat_sn ≡ Some t.session.stat_sn
   tag_fits : m.initiator_task_tag ≤ 0xffff_fffe
   cmd_sn_is : cmd_sn ≡ m.cmd_sn
   cmd_sn_fits : m.cmd_sn < 2 ^ 32
   few : length bytes ≤ 4194304
   none_given : (effect disk order bytes).outcome.bytes ≡ []
-  stat_sn_fits : t.stat_sn < 2 ^ 32
+  stat_sn_fits : t.session.stat_sn < 2 ^ 32
   stat_sn_sends : sent_exp_stat_sn m < 2 ^ 32
   lun : order.lun < 2 ^ 64
   expected : order.expected ≤ 4194304
@@ -357,27 +360,27 @@ response_ends m t cmd_sn open_ window bytes order disk tag pieces_ a near d same
     let s : target.Machine = ready t cmd_sn in
     let response : Message = message (response_head s m.initiator_task_tag after.outcome 0) (sense_segment after.outcome.sense) in
     let ended_ : initiator.Machine = finished m s window after.outcome [] in
-    let last : Stand = record { initiator = ended_; target = target.counted s; disk = after.disk; answers = [] } in
+    let last : Stand = record { initiator = ended_; target = counted_on s; disk = after.disk; answers = [] } in
     let one : step (waiting m open_ window) response ≡ quiet ended_ =
     outcome_heard m s open_ [] window after.outcome.status after.outcome.sense after.outcome.bytes after.outcome.residual 0 d a.stat_sn (omega (arith, a.is_held.initiator_max_recv.0)) in
     let is : (execute reliable s disk tag order pieces_).answers ≡ response ∷ [] =
-    ap (λ (x : Effect). command_answers s tag x.outcome (parts_given s.held x.outcome.bytes)) data_
-    ∙ ap (λ (x : List ℕ). command_answers s tag after.outcome (parts_given s.held x)) a.none_given
+    ap (λ (x : Effect). command_answers s tag x.outcome (parts_given s.session.held x.outcome.bytes)) data_
+    ∙ ap (λ (x : List ℕ). command_answers s tag after.outcome (parts_given s.session.held x)) a.none_given
     ∙ ap (λ (x : ℕ). command_answers s x after.outcome []) same in
     let disk_is : (execute reliable s disk tag order pieces_).disk ≡ after.disk = ap (λ (x : Effect). x.disk) data_ in
-    let again : AreInStep (taken (finished m (ready t m.cmd_sn) window after.outcome [])) (target.counted (ready t m.cmd_sn)) =
-    in_step_again m t window a.held a.is_held (subst (λ (h : Held). h.target_max_recv ≤ target.limit t.settings) a.held a.segment) a.tag_fits a.cmd_sn_fits
+    let again : AreInStep (taken (finished m (ready t m.cmd_sn) window after.outcome [])) (counted_on (ready t m.cmd_sn)) =
+    in_step_again m t window a.held a.is_held (subst (λ (h : Held). h.target_max_recv ≤ target_session.limit t.session.settings) a.held a.segment) a.tag_fits a.cmd_sn_fits
     (tells_one m.cmd_sn window a.cmd_sn_fits (subst (λ (x : ℕ). IsNear x window) a.cmd_sn_is near)) in
     record {
       last = last;
-      leads = subst (λ (ms : List Message). LeadsTo m.held (waiting m open_ window) (target.counted s) (execute reliable s disk tag order pieces_).disk ms last) (sym is)
-          (subst (λ (x : Disk). LeadsTo m.held (waiting m open_ window) (target.counted s) x (response ∷ []) last) (sym disk_is)
-          (hears_quiet m.held (waiting m open_ window) ended_ (target.counted s) after.disk response [] last one refl refl a.none_done (0, refl)));
+      leads = subst (λ (ms : List Message). LeadsTo m.held (waiting m open_ window) (counted_on s) (execute reliable s disk tag order pieces_).disk ms last) (sym is)
+          (subst (λ (x : Disk). LeadsTo m.held (waiting m open_ window) (counted_on s) x (response ∷ []) last) (sym disk_is)
+          (hears_quiet m.held (waiting m open_ window) ended_ (counted_on s) after.disk response [] last one refl refl a.none_done (0, refl)));
       ended = record {
         done_is = ap (λ (x : List ℕ). Some (done.Command 0 after.outcome.status (told_sense after.outcome.sense) x after.outcome.residual)) (sym a.none_given);
         silent = refl;
         disk_is = refl;
-        at_rest = inl (subst (λ (x : ℕ). AreInStep (taken (finished m (ready t x) window after.outcome [])) (target.counted (ready t x))) (sym a.cmd_sn_is) again, refl);
+        at_rest = inl (subst (λ (x : ℕ). AreInStep (taken (finished m (ready t x) window after.outcome [])) (counted_on (ready t x))) (sym a.cmd_sn_is) again, refl);
       };
     }
 
@@ -393,7 +396,7 @@ whole_is m t cmd_sn v w order disk i whole = rw whole (ap (λ (x : Order). execu
 
 -- else the target asks for more
 part_is : (m : initiator.Machine) (t : target.Machine) (cmd_sn : ℕ) (v : Writing) (w : Write) (order : Order) (disk : Disk) → InHand m v w order → is_whole w ≡ false
-    → proceed reliable (ready t cmd_sn) disk w ≡ on disk (ask (writer t cmd_sn w) w)
+    → proceed reliable (ready t cmd_sn) disk w ≡ ask (writer t cmd_sn w) disk w
 part_is m t cmd_sn v w order disk i part = rw (part, i.due) refl
 
 -- what the target answers then is read as it was written
@@ -435,7 +438,7 @@ more_sent v n = record v { sent = v.sent + n; next_r2t_sn = next_sn v.next_r2t_s
 
 -- the write of the target once they came
 abbrev more_came : target.Machine → Write → Pieces → Write
-more_came t w came = record (asking t.held w) { pieces = came; due = Nothing }
+more_came t w came = record (asking t.session.held w) { pieces = came; due = Nothing }
 
 -- where one turn leads
 record Turned (m : initiator.Machine) (t : target.Machine) (cmd_sn : ℕ) (v : Writing) (w : Write) (window : Window) (order : Order) (disk : Disk) : Type 0 where
@@ -453,8 +456,8 @@ turn : (m : initiator.Machine) (t : target.Machine) (cmd_sn : ℕ) (v : Writing)
 turn m t cmd_sn v w window order disk a i part =
     let at : received w ≡ v.sent = received_is m v w order i in
     let left : v.sent < length v.bytes = (let lt = below (received w) w.total part (omega (arith, at, i.total, i.sent)) in omega (arith, lt, at, i.total)) in
-    let burst : 0 < max_burst t.held = subst (λ (h : Held). 0 < max_burst h) (sym a.held) (can_give m.held a.is_held).burst in
-    let n : ℕ = desired t.held w in
+    let burst : 0 < max_burst t.session.held = subst (λ (h : Held). 0 < max_burst h) (sym a.held) (can_give m.held a.is_held).burst in
+    let n : ℕ = desired t.session.held w in
     let some : 0 < n = omega (arith, burst, left, at, i.total) in
     let room : v.sent + n ≤ length v.bytes = omega (arith, left, at, i.total) in
     let most : n ≤ max_burst m.held = subst (λ (h : Held). n ≤ max_burst h) a.held (omega arith) in
@@ -472,12 +475,12 @@ turn m t cmd_sn v w window order disk a i part =
       data_sn = 0;
       buffer_offset = v.sent;
     } in
-    let lt : 0 < t.held.target_max_recv = subst (λ (x : Held). 0 < x.target_max_recv) (sym a.held) (omega (arith, a.is_held.target_max_recv.0)) in
-    let r : SequenceTaken t cmd_sn (asking t.held w) disk (data_outs h (chunks t.held.target_max_recv batch)) batch =
-    batch_taken t cmd_sn (asking t.held w) disk h batch (received w + n) (λ data_sn. Solicited w.asked data_sn (received w + n)) (solicited (first_burst t.held) w.total w.asked (received w + n)) refl (sym at) (sym i.tag) lt a.segment
+    let lt : 0 < t.session.held.target_max_recv = subst (λ (x : Held). 0 < x.target_max_recv) (sym a.held) (omega (arith, a.is_held.target_max_recv.0)) in
+    let r : SequenceTaken t cmd_sn (asking t.session.held w) disk (data_outs h (chunks t.session.held.target_max_recv batch)) batch =
+    batch_taken t cmd_sn (asking t.session.held w) disk h batch (received w + n) (λ data_sn. Solicited w.asked data_sn (received w + n)) (solicited (first_burst t.session.held) w.total w.asked (received w + n)) refl (sym at) (sym i.tag) lt a.segment
     (omega (arith, size, some)) (omega (arith, size)) (omega (arith, at, i.total, room)) in
-    let sent_ : answers (writer t cmd_sn (asking t.held w)) disk out ≡ proceed reliable (ready t cmd_sn) disk (more_came t w r.came) =
-    ap (λ (k : Held). answers (writer t cmd_sn (asking t.held w)) disk (data_outs h (chunks k.target_max_recv batch))) (sym a.held) ∙ r.is in
+    let sent_ : answers (writer t cmd_sn (asking t.session.held w)) disk out ≡ proceed reliable (ready t cmd_sn) disk (more_came t w r.came) =
+    ap (λ (k : Held). answers (writer t cmd_sn (asking t.session.held w)) disk (data_outs h (chunks k.target_max_recv batch))) (sym a.held) ∙ r.is in
     let hand_ : InHand m (more_sent v n) (more_came t w r.came) order = record {
       tag = i.tag;
       order_is = i.order_is;
@@ -494,8 +497,8 @@ turn m t cmd_sn v w window order disk a i part =
     (lun_fits (is_tag w.asked) w.order.lun on_) (omega (arith, i.few, i.sent, a.few)) (omega (arith, size, room, a.few)) in
     let now : Stepped = proceed reliable (ready t cmd_sn) disk (more_came t w r.came) in
     let then_ : IsAnswered m.held now = proceed_written m t cmd_sn (more_sent v n) (more_came t w r.came) order disk a hand_ (is_whole (more_came t w r.came)) refl in
-    let heard : AreHeard m.held (writer t cmd_sn (asking t.held w)) disk out =
-    heard_by m.held (writer t cmd_sn (asking t.held w)) disk out now sent_ written then_.live then_.rule then_.answered in
+    let heard : AreHeard m.held (writer t cmd_sn (asking t.session.held w)) disk out =
+    heard_by m.held (writer t cmd_sn (asking t.session.held w)) disk out now sent_ written then_.live then_.rule then_.answered in
     record {
       window_now = told_window window s;
       near = tells_none cmd_sn window (subst (λ (x : ℕ). x < 2 ^ 32) (sym a.cmd_sn_is) a.cmd_sn_fits);
@@ -504,7 +507,7 @@ turn m t cmd_sn v w window order disk a i part =
       some = some;
       hand = hand_;
       leads = λ x l. subst (λ (y : Stepped). LeadsTo m.held (writing m v window) y.machine y.disk y.answers x) (sym (part_is m t cmd_sn v w order disk i part))
-          (hears_sends m.held (writing m v window) (writing m (more_sent v n) (told_window window s)) (writer t cmd_sn (asking t.held w)) disk (message (r2t_head s w) []) out now x one refl refl a.none_done heard sent_ l);
+          (hears_sends m.held (writing m v window) (writing m (more_sent v n) (told_window window s)) (writer t cmd_sn (asking t.session.held w)) disk (message (r2t_head s w) []) out now x one refl refl a.none_done heard sent_ l);
     }
 
 -- from turn to turn until all came
@@ -593,15 +596,15 @@ outcome_none (Give n) disk order none = ap (λ (x : ℕ). take x (wanted_data di
 
 -- ---- data for which no write is open
 
-dropped : (t : target.Machine) (cmd_sn : ℕ) (disk : Disk) (h : DataOut) (ps : List (List ℕ)) → t.held.target_max_recv ≤ target.limit t.settings → ArePieces t.held.target_max_recv ps
-    → answers (ready t cmd_sn) disk (data_outs h ps) ≡ on disk (nothing (ready t cmd_sn))
+dropped : (t : target.Machine) (cmd_sn : ℕ) (disk : Disk) (h : DataOut) (ps : List (List ℕ)) → t.session.held.target_max_recv ≤ target_session.limit t.session.settings → ArePieces t.session.held.target_max_recv ps
+    → answers (ready t cmd_sn) disk (data_outs h ps) ≡ unchanged (ready t cmd_sn) disk
 unfolding answers segment_bytes
 dropped t cmd_sn disk h [] limit all = refl
 dropped t cmd_sn disk h (piece ∷ more) limit all =
     let h' : DataOut = record h { is_final = is_last more } in
     let h2 : DataOut = record h { data_sn = next_sn h.data_sn; buffer_offset = h.buffer_offset + length piece } in
-    let one : step_on reliable (ready t cmd_sn) disk (data_message h' piece) ≡ on disk (nothing (ready t cmd_sn)) =
-    rw (le-ltb (target.limit t.settings) (length piece) (omega (arith, all.0.1, limit)), le-ltb t.held.target_max_recv (length piece) all.0.1) refl in
+    let one : step_on reliable (ready t cmd_sn) disk (data_message h' piece) ≡ unchanged (ready t cmd_sn) disk =
+    rw (le-ltb (target_session.limit t.session.settings) (length piece) (omega (arith, all.0.1, limit)), le-ltb t.session.held.target_max_recv (length piece) all.0.1) refl in
     ap (λ (x : Stepped). then_stepped x (answers x.machine x.disk (data_outs h2 more))) one ∙ dropped t cmd_sn disk h2 more limit all.1
 
 -- ---- the command, and the data that follow it unasked
@@ -619,15 +622,15 @@ write_message m lun cdb bytes = record { head = heads.ScsiCommand (write_head m 
 abbrev unasked_data : initiator.Machine → List ℕ → List Message
 unasked_data m bytes = sequence (begun_write m) None reserved_tag (length (immediate m bytes)) (initiator_writes.unsolicited m bytes)
 
-command_taken : (m : initiator.Machine) (t : target.Machine) (disk : Disk) (lun : ℕ) (cdb bytes : List ℕ) → m.cmd_sn < 2 ^ 32 → t.held ≡ m.held → t.held.target_max_recv ≤ target.limit t.settings
-    → length (immediate m bytes) ≤ t.held.target_max_recv
+command_taken : (m : initiator.Machine) (t : target.Machine) (disk : Disk) (lun : ℕ) (cdb bytes : List ℕ) → m.cmd_sn < 2 ^ 32 → t.session.held ≡ m.held → t.session.held.target_max_recv ≤ target_session.limit t.session.settings
+    → length (immediate m bytes) ≤ t.session.held.target_max_recv
     → step_on reliable (ready t m.cmd_sn) disk (write_message m lun cdb bytes)
     ≡ accepting (write_message m lun cdb bytes) (planned reliable (ready t (next_sn m.cmd_sn)) disk (write_head m lun cdb bytes) (immediate m bytes) (plan_of (writing_order lun cdb bytes) disk.count))
 unfolding segment_bytes
 command_taken m t disk lun cdb bytes lt held limit short =
-    let kept : breaks_burst_rules t.held (write_head m lun cdb bytes) (length (immediate m bytes)) ≡ false =
+    let kept : breaks_burst_rules t.session.held (write_head m lun cdb bytes) (length (immediate m bytes)) ≡ false =
     ap (λ (k : Held). breaks_burst_rules k (write_head m lun cdb bytes) (length (immediate m bytes))) held ∙ burst_kept m lun cdb bytes in
-    rw (le-ltb (target.limit t.settings) (length (immediate m bytes)) (omega (arith, short, limit)), le-ltb t.held.target_max_recv (length (immediate m bytes)) short, window_now m.cmd_sn lt, kept) refl
+    rw (le-ltb (target_session.limit t.session.settings) (length (immediate m bytes)) (omega (arith, short, limit)), le-ltb t.session.held.target_max_recv (length (immediate m bytes)) short, window_now m.cmd_sn lt, kept) refl
 
 -- the answers to the command and the data behind it
 abbrev first_answers : initiator.Machine → target.Machine → Disk → ℕ → List ℕ → List ℕ → Plan → Stepped
@@ -665,10 +668,10 @@ executed_alone m t disk lun cdb bytes window a near none =
       data_sn = 0;
       buffer_offset = length (immediate m bytes);
     } in
-    let lt : 0 < t.held.target_max_recv = subst (λ (x : Held). 0 < x.target_max_recv) (sym a.held) (omega (arith, a.is_held.target_max_recv.0)) in
-    let gone : answers r.machine r.disk (unasked_data m bytes) ≡ on r.disk (nothing r.machine) =
+    let lt : 0 < t.session.held.target_max_recv = subst (λ (x : Held). 0 < x.target_max_recv) (sym a.held) (omega (arith, a.is_held.target_max_recv.0)) in
+    let gone : answers r.machine r.disk (unasked_data m bytes) ≡ unchanged r.machine r.disk =
     ap (λ (k : Held). answers r.machine r.disk (data_outs h (chunks k.target_max_recv uns))) (sym a.held)
-    ∙ dropped (target.counted t) n r.disk h (chunks t.held.target_max_recv uns) a.segment (pieces_are (length uns) t.held.target_max_recv uns lt) in
+    ∙ dropped (counted_on t) n r.disk h (chunks t.session.held.target_max_recv uns) a.segment (pieces_are (length uns) t.session.held.target_max_recv uns lt) in
     let same : effect disk order [] ≡ after = λ i_. record { disk = same_effect (plan_of order disk.count) disk order bytes none i_; outcome = after.outcome } in
     let well : IsAnswered m.held r = executed_written (begun_write m) t n bytes order disk (next_tag m.initiator_task_tag) [] a refl in
     let ends_ : Ends m.held i r (told after.outcome) after.disk =
@@ -737,7 +740,7 @@ some_unasked m t disk lun cdb bytes window total a near all more =
     let due : w.due ≡ Unsolicited 0 = rw more refl in
     let here : received w ≡ length imm = ap (λ (x : List ℕ). length x) (data_of_one imm) in
     let part : is_whole w ≡ false = ne_eqb total (received w) (λ e. omega (arith, e, here, all, short)) in
-    let first : proceed reliable (ready t n) disk w ≡ on disk (nothing (writer t n w)) = rw (part, due) refl in
+    let first : proceed reliable (ready t n) disk w ≡ unchanged (writer t n w) disk = rw (part, due) refl in
     let h : DataOut = record {
       is_final = false;
       lun = None;
@@ -747,12 +750,12 @@ some_unasked m t disk lun cdb bytes window total a near all more =
       data_sn = 0;
       buffer_offset = length imm;
     } in
-    let most : first_burst t.held ≡ first_burst m.held = ap first_burst a.held in
-    let lt : 0 < t.held.target_max_recv = subst (λ (x : Held). 0 < x.target_max_recv) (sym a.held) (omega (arith, a.is_held.target_max_recv.0)) in
-    let r : SequenceTaken t n w disk (data_outs h (chunks t.held.target_max_recv uns)) uns =
-    batch_taken t n w disk h uns (min w.total (first_burst t.held)) Unsolicited (unsolicited (first_burst t.held) w.total) due (sym here) refl lt a.segment
+    let most : first_burst t.session.held ≡ first_burst m.held = ap first_burst a.held in
+    let lt : 0 < t.session.held.target_max_recv = subst (λ (x : Held). 0 < x.target_max_recv) (sym a.held) (omega (arith, a.is_held.target_max_recv.0)) in
+    let r : SequenceTaken t n w disk (data_outs h (chunks t.session.held.target_max_recv uns)) uns =
+    batch_taken t n w disk h uns (min w.total (first_burst t.session.held)) Unsolicited (unsolicited (first_burst t.session.held) w.total) due (sym here) refl lt a.segment
     (omega (arith, size, short)) (omega (arith, here, size, all, most)) (omega arith) in
-    let data_ : unasked_data m bytes ≡ data_outs h (chunks t.held.target_max_recv uns) =
+    let data_ : unasked_data m bytes ≡ data_outs h (chunks t.session.held.target_max_recv uns) =
     ap (λ (x : List ℕ). sequence (begun_write m) None reserved_tag (length imm) x) uns_is ∙ ap (λ (k : Held). data_outs h (chunks k.target_max_recv uns)) (sym a.held) in
     let w' : Write = record w { pieces = r.came; due = Nothing } in
     let all_came_ : data_of w'.pieces ≡ take v.sent bytes =
@@ -824,10 +827,10 @@ local_write m t disk lun cdb bytes on_ size are a e =
     let few : length bytes ≤ 4194304 = few_bytes m lun cdb bytes a.initiator_phase e in
     let sent : submitted m request ≡ accepted m request = submitted_is m request e in
     let i : initiator.Machine = writing (begun_write m) (first_sent m bytes) m.window in
-    let is_t : t ≡ ready t m.cmd_sn = λ k. record t { phase = a.target_phase k; session = a.session k; write = a.none_written k; exp_cmd_sn = a.cmd_sn k } in
+    let is_t : t ≡ ready t m.cmd_sn = λ k. record { session = record t.session { phase = a.target_phase k; session_type = a.session k; exp_cmd_sn = a.cmd_sn k }; write = a.none_written k } in
     let is_m : (accepted m request).machine ≡ i = λ k. record (begun_write m) { phase = a.initiator_phase k; open_request = Some (opens.Out (first_sent m bytes)) } in
-    let limit : t.held.target_max_recv ≤ target.limit t.settings = subst (λ (h : Held). h.target_max_recv ≤ target.limit t.settings) (sym a.held) a.segment in
-    let short : length (immediate m bytes) ≤ t.held.target_max_recv =
+    let limit : t.session.held.target_max_recv ≤ target_session.limit t.session.settings = subst (λ (h : Held). h.target_max_recv ≤ target_session.limit t.session.settings) (sym a.held) a.segment in
+    let short : length (immediate m bytes) ≤ t.session.held.target_max_recv =
     subst (λ (h : Held). length (immediate m bytes) ≤ h.target_max_recv) (sym a.held)
     (omega (arith, immediate_short (is_on m.held keys.ImmediateData) (min (unasked m.held (length bytes)) m.held.target_max_recv) bytes)) in
     let all : Throughout (begun_write m) t (next_sn m.cmd_sn) bytes order disk = record {

@@ -22,9 +22,10 @@ use Rattle.iscsi_login.specs.Negotiation.{IsInRange}
 use Rattle.iscsi_text.specs.Reading.{in_order}
 use Rattle.iscsi_login.specs.Offers.{Proposal, offers_at}
 use Rattle.iscsi_target.specs.Configured as target_settings
+use Rattle.iscsi_target.specs.Session as target_session
 use Rattle.iscsi_target.specs.State as target
-use Rattle.iscsi_target.specs.State.{Write, max_cmd_sn, waiting}
-use Rattle.scsi_disk.specs.Plan.{first_of}
+use Rattle.iscsi_target.specs.State.{Write}
+use Rattle.iscsi_login.specs.Stage.{is_closed_phase}
 use Rattle.iscsi_target.specs.LoginText.{answer_pairs, session_for, session_in}
 use Rattle.iscsi_target.specs.Login.{entered, numbered, gather, text_answered}
 use Rattle.iscsi_target.specs.Machine as target_machine
@@ -43,7 +44,6 @@ use Rattle.iscsi_pair.proofs.InitiatorLogin.{with_answer}
 use Rattle.iscsi_pair.proofs.Talk.{Agreed, Asking, Asks_on, Round}
 use Rattle.iscsi_pair.proofs.Suiting.{says_security, says_single, session_is}
 use Rattle.iscsi_pair.proofs.Windows.{IsNear, tells_one}
-use Rattle.iscsi_pair.proofs.LocalReads.{told_window}
 use Rattle.iscsi_pair.proofs.Going.{HasNone, HasFirst, Suited, SameState, TextKeeps, LastTurn, PartTurn, emptied, entered_same, part_head, text_head, text_keeps, turns}
 
 -- ---- what is counted
@@ -55,19 +55,19 @@ pub record Numbered (c : Opening) (i : initiator.Machine) (t : target.Machine) :
   pub none_open : i.open_request ≡ None
   pub none_written : t.write ≡ None
   -- the first request settled the number that is due
-  pub due : t.begun ≡ true → t.exp_cmd_sn ≡ c.initiator.first_cmd_sn
+  pub due : t.session.begun ≡ true → t.session.exp_cmd_sn ≡ c.initiator.first_cmd_sn
   -- before the first answer no command is let in, and then one
   pub window : IsNear c.initiator.first_cmd_sn i.window
   -- what the target holds may be held, and its framer takes what it declared
   pub fit : IsFit t
   -- the first text settled the session
-  pub session : t.has_text ≡ true → t.session ≡ sessions.Normal
+  pub session : t.session.has_text ≡ true → t.session.session_type ≡ sessions.Normal
 
 -- both ends are in full feature phase of the session that was asked for
 pub record HasMet (c : Opening) (i : initiator.Machine) (t : target.Machine) : Type 0 where
   pub in_step : AreInStep i t
   pub initiator_settings : i.settings ≡ c.initiator
-  pub target_settings : t.settings ≡ c.target
+  pub target_settings : t.session.settings ≡ c.target
   pub most : i.held.initiator_max_recv ≡ c.initiator.proposal.prefs.max_recv
 
 -- one round
@@ -116,36 +116,42 @@ enters_full stages.Full m full = refl
 -- ---- what a request that is taken leaves of the target
 
 -- the number that is due is settled
-record Begun (t e : target.Machine) (n : ℕ) : Type 0 where
+record Begun (t e : target_session.Session) (n : ℕ) : Type 0 where
   cmd_sn : e.exp_cmd_sn ≡ n
-  write : e.write ≡ t.write
-  session : e.session ≡ t.session
+  session_type : e.session_type ≡ t.session_type
 
-begun_if : (b : Bool) (t : target.Machine) (k n : ℕ) → t.begun ≡ b → k ≡ n → (t.begun ≡ true → t.exp_cmd_sn ≡ n) → Begun t (if b then t else record t { begun = true; exp_cmd_sn = k }) n
-begun_if true t k n is same due = record { cmd_sn = due is; write = refl; session = refl }
-begun_if false t k n is same due = record { cmd_sn = same; write = refl; session = refl }
+begun_if : (b : Bool) (t : target_session.Session) (k n : ℕ) → t.begun ≡ b → k ≡ n → (t.begun ≡ true → t.exp_cmd_sn ≡ n) → Begun t (if b then t else record t { begun = true; exp_cmd_sn = k }) n
+begun_if true t k n is same due = record { cmd_sn = due is; session_type = refl }
+begun_if false t k n is same due = record { cmd_sn = same; session_type = refl }
 
-begins : (t : target.Machine) (h : LoginRequest) (n : ℕ) → h.cmd_sn ≡ n → (t.begun ≡ true → t.exp_cmd_sn ≡ n) → Begun t (entered t h) n
+begins : (t : target_session.Session) (h : LoginRequest) (n : ℕ) → h.cmd_sn ≡ n → (t.begun ≡ true → t.exp_cmd_sn ≡ n) → Begun t (entered t h) n
 begins t h n same due =
     let k : Begun t (numbered t h) n = begun_if t.begun t h.cmd_sn n refl same due in
-    record { cmd_sn = k.cmd_sn; write = k.write; session = k.session }
+    record { cmd_sn = k.cmd_sn; session_type = k.session_type }
 
 -- what it tells of its numbers, and has counted then
-record Tells (c : Opening) (e u : target.Machine) (g : LoginResponse) : Type 0 where
+record Tells (c : Opening) (e u : target_session.Session) (g : LoginResponse) : Type 0 where
   settings : u.settings ≡ c.target
   stat_sn : u.stat_sn ≡ next_sn e.stat_sn
   exp_cmd_sn : u.exp_cmd_sn ≡ e.exp_cmd_sn
-  write : u.write ≡ e.write
   told_sn : g.stat_sn ≡ Some e.stat_sn
   told_exp : g.exp_cmd_sn ≡ e.exp_cmd_sn
-  told_max : g.max_cmd_sn ≡ max_cmd_sn e
+  told_max : g.max_cmd_sn ≡ target_session.max_cmd_sn_with e 0
 
 -- the window that it tells lets in one command
-tells_window : (w : Window) (e : target.Machine) (n : ℕ) → n < 2 ^ 32 → IsNear n w → e.exp_cmd_sn ≡ n → e.write ≡ None → told_window w e ≡ window_of_one n
-tells_window w e n lt near exp none =
-    ap (λ (x : Option Write). moved w (serial e.exp_cmd_sn) (serial ((e.exp_cmd_sn + (2 ^ 32 - waiting x)) % 2 ^ 32))) none
-    ∙ ap (λ (x : ℕ). moved w (serial x) (serial ((x + (2 ^ 32 - 0)) % 2 ^ 32))) exp
+tells_window : (w : Window) (e : target_session.Session) (n : ℕ) → n < 2 ^ 32 → IsNear n w → e.exp_cmd_sn ≡ n
+    → moved w (serial e.exp_cmd_sn) (serial (target_session.max_cmd_sn_with e 0)) ≡ window_of_one n
+tells_window w e n lt near exp =
+    ap (λ (x : ℕ). moved w (serial x) (serial ((x + (2 ^ 32 - 0)) % 2 ^ 32))) exp
     ∙ tells_one n w lt near
+
+-- with a session that goes on or not no write is left where none was open
+none_left : (session : target_session.Session) (write : Option Write) → write ≡ None → target.left session write ≡ None
+none_left session write none = by (is_closed_phase session.phase)
+  where
+    by : (b : Bool) → (if b then None else write) ≡ None
+    by true = refl
+    by false = none
 
 -- ---- the session
 
@@ -156,8 +162,8 @@ says_session stages.Operational o is = (says_single o.session o refl).session
 says_session stages.Full o is = absurd is
 
 -- the session is a normal one once a text is whole
-normal_for : (c : Opening) (i : initiator.Machine) (t e : target.Machine) → IsOpening c → c.initiator.proposal.session ≡ sessions.Normal → i.settings ≡ c.initiator
-    → e.has_text ≡ t.has_text → e.session ≡ t.session → (t.has_text ≡ true → t.session ≡ sessions.Normal) → HasNone c i t ⊎ HasFirst c i t → session_for e (offered i) ≡ sessions.Normal
+normal_for : (c : Opening) (i : initiator.Machine) (t : target.Machine) (e : target_session.Session) → IsOpening c → c.initiator.proposal.session ≡ sessions.Normal → i.settings ≡ c.initiator
+    → e.has_text ≡ t.session.has_text → e.session_type ≡ t.session.session_type → (t.session.has_text ≡ true → t.session.session_type ≡ sessions.Normal) → HasNone c i t ⊎ HasFirst c i t → session_for e (offered i) ≡ sessions.Normal
 normal_for c i t e o normal there text session before (inl f) =
     session_is e (offered i) sessions.Normal (text ∙ f.none)
     (ap (λ (x : Stage). session_in (in_order (offers_at i.settings.proposal i.settings.start x))) f.stage
@@ -178,19 +184,19 @@ record Steady (c : Opening) (m : initiator.Machine) (t : target.Machine) : Type 
   most : m.held.initiator_max_recv ≡ c.initiator.proposal.prefs.max_recv
   cmd_sn : m.cmd_sn ≡ c.initiator.first_cmd_sn
   window : m.window ≡ window_of_one c.initiator.first_cmd_sn
-  stat_sn : m.exp_stat_sn ≡ Some t.stat_sn
-  stat_sn_fits : t.stat_sn < 2 ^ 32
-  target_settings : t.settings ≡ c.target
-  exp_cmd_sn : t.exp_cmd_sn ≡ c.initiator.first_cmd_sn
+  stat_sn : m.exp_stat_sn ≡ Some t.session.stat_sn
+  stat_sn_fits : t.session.stat_sn < 2 ^ 32
+  target_settings : t.session.settings ≡ c.target
+  exp_cmd_sn : t.session.exp_cmd_sn ≡ c.initiator.first_cmd_sn
   none_written : t.write ≡ None
   fit : IsFit t
-  session : t.has_text ≡ true → t.session ≡ sessions.Normal
+  session : t.session.has_text ≡ true → t.session.session_type ≡ sessions.Normal
 
 -- the target counted what it told, and the initiator what it heard
-steady : (c : Opening) (i : initiator.Machine) (t e u : target.Machine) (g : LoginResponse) (held : Held) (n : initiator.Machine) {logins : Logins} {r : Message} → IsOpening c → Asking c i t logins r → Numbered c i t
-    → Begun t e c.initiator.first_cmd_sn → Tells c e u g → Kept (record (counted i g) { held = held }) n → held.initiator_max_recv ≡ i.held.initiator_max_recv
-    → IsFit u → (u.has_text ≡ true → u.session ≡ sessions.Normal) → Steady c n u
-steady c i t e u g held n o a b begun tells k most fit session = record {
+steady : (c : Opening) (i : initiator.Machine) (t : target.Machine) (e : target_session.Session) (u : target.Machine) (g : LoginResponse) (held : Held) (n : initiator.Machine) {logins : Logins} {r : Message} → IsOpening c → Asking c i t logins r → Numbered c i t
+    → Begun t.session e c.initiator.first_cmd_sn → Tells c e u.session g → u.write ≡ None → Kept (record (counted i g) { held = held }) n → held.initiator_max_recv ≡ i.held.initiator_max_recv
+    → IsFit u → (u.session.has_text ≡ true → u.session.session_type ≡ sessions.Normal) → Steady c n u
+steady c i t e u g held n o a b begun tells none k most fit session = record {
   settings = k.settings ∙ a.settings;
   tag = k.tag ∙ b.tag;
   none_open = k.open_request ∙ b.none_open;
@@ -198,19 +204,19 @@ steady c i t e u g held n o a b begun tells k most fit session = record {
   most = ap (λ (x : Held). x.initiator_max_recv) k.held ∙ most ∙ a.own;
   cmd_sn = k.cmd_sn ∙ b.cmd_sn;
   window = k.window ∙ ap (λ (x : ℕ). moved i.window (serial x) (serial g.max_cmd_sn)) tells.told_exp ∙ ap (λ (x : ℕ). moved i.window (serial e.exp_cmd_sn) (serial x)) tells.told_max
-      ∙ tells_window i.window e c.initiator.first_cmd_sn o.cmd_sn b.window begun.cmd_sn (begun.write ∙ b.none_written);
+      ∙ tells_window i.window e c.initiator.first_cmd_sn o.cmd_sn b.window begun.cmd_sn;
   stat_sn = k.exp_stat_sn ∙ ap (λ (x : Option ℕ). Some (next_sn (unwrap_or x 0))) tells.told_sn ∙ ap (λ (x : ℕ). Some x) (sym tells.stat_sn);
   stat_sn_fits = subst (λ (x : ℕ). x < 2 ^ 32) (sym tells.stat_sn) (mod-lt (e.stat_sn + 1) (omega arith));
   target_settings = tells.settings;
   exp_cmd_sn = tells.exp_cmd_sn ∙ begun.cmd_sn;
-  none_written = tells.write ∙ begun.write ∙ b.none_written;
+  none_written = none;
   fit = fit;
   session = session;
 }
 
 -- where both are in full feature phase then, they are in step
 meets_by : (c : Opening) (i : initiator.Machine) (t : target.Stepped) (s : Stepped) (disk : Disk) (next : Logins) → IsOpening c → Steady c s.machine t.machine
-    → (s.machine.stage ≡ stages.Full → (s.machine.phase ≡ phases.Full) × (t.machine.has_text ≡ true)) → t.disk ≡ disk → Meets c i t s disk next
+    → (s.machine.stage ≡ stages.Full → (s.machine.phase ≡ phases.Full) × (t.machine.session.has_text ≡ true)) → t.disk ≡ disk → Meets c i t s disk next
 meets_by c i t s disk next o y full same = record {
   met = λ agreed. record {
     in_step = record {
@@ -222,7 +228,7 @@ meets_by c i t s disk next o y full same = record {
       none_written = y.none_written;
       held = agreed.held;
       is_held = subst IsHeld agreed.held (y.fit.held (subst (λ (x : target_settings.Settings). IsInRange x.preferences) (sym y.target_settings) o.preferences));
-      segment = subst (λ (x : Held). x.target_max_recv ≤ target.limit t.machine.settings) agreed.held y.fit.limit;
+      segment = subst (λ (x : Held). x.target_max_recv ≤ target_session.limit t.machine.session.settings) agreed.held y.fit.limit;
       tag_fits = (let z = y.tag in omega (arith, z));
       cmd_sn = y.exp_cmd_sn ∙ sym y.cmd_sn;
       cmd_sn_fits = subst (λ (x : ℕ). x < 2 ^ 32) (sym y.cmd_sn) o.cmd_sn;
@@ -253,18 +259,18 @@ last_meets : (c : Opening) (i : initiator.Machine) (t : target.Machine) (logins 
     → Asking c i t logins r → Suited c i t → Numbered c i t → (turn : Round c i (target_machine.step t disk r) next) → LastTurn i t disk r turn.answer → Meets c i (target_machine.step t disk r) (step i turn.answer) disk next
 last_meets c i t logins next r disk o normal a s b turn q =
     let h : LoginRequest = login_request i true in
-    let e : target.Machine = emptied t h in
+    let e : target_session.Session = emptied t.session h in
     let g : LoginResponse = text_head e h in
-    let same : SameState t (entered t h) = entered_same t h in
-    let k : Begun t (entered t h) c.initiator.first_cmd_sn = begins t h c.initiator.first_cmd_sn (ap (λ (x : initiator.Settings). x.first_cmd_sn) a.settings) b.due in
+    let same : SameState t.session (entered t.session h) = entered_same t.session h in
+    let k : Begun t.session (entered t.session h) c.initiator.first_cmd_sn = begins t.session h c.initiator.first_cmd_sn (ap (λ (x : initiator.Settings). x.first_cmd_sn) a.settings) b.due in
     let w : initiator.Machine = with_answer i g (answer_pairs e (offered i)) in
-    let u : target.Stepped = target.on disk (text_answered e h (offered i)) in
+    let u : target.Stepped = target.on disk t.write (text_answered e h (offered i)) in
     let y : Steady c (enters (asked i) w).machine u.machine =
-    steady c i t e u.machine g w.held (enters (asked i) w).machine o a b (record { cmd_sn = k.cmd_sn; write = k.write; session = k.session })
-    (record { settings = same.settings ∙ a.target_settings; stat_sn = refl; exp_cmd_sn = refl; write = refl; told_sn = refl; told_exp = refl; told_max = refl })
+    steady c i t e u.machine g w.held (enters (asked i) w).machine o a b (record { cmd_sn = k.cmd_sn; session_type = k.session_type })
+    (record { settings = same.settings ∙ a.target_settings; stat_sn = refl; exp_cmd_sn = refl; told_sn = refl; told_exp = refl; told_max = refl }) (none_left u.machine.session t.write b.none_written)
     (enters_kept (asked i) w) refl
     (subst (λ (x : target.Stepped). IsFit x.machine) q.there (step_fit t disk r b.fit))
-    (λ is. normal_for c i t e o normal a.settings same.has_text k.session b.session s.texts) in
+    (λ is. normal_for c i t e o normal a.settings same.has_text k.session_type b.session s.texts) in
     subst (λ (x : target.Stepped). Meets c i x (step i turn.answer) disk next) (sym q.there)
     (subst (λ (x : Stepped). Meets c i u x disk next) (sym q.now)
     (meets_by c i u (enters (asked i) w) disk next o y (λ full. (enters_full (asked i) w full, refl)) refl))
@@ -275,18 +281,18 @@ part_meets : (c : Opening) (i : initiator.Machine) (t : target.Machine) (logins 
     → Asking c i t logins r → Numbered c i t → (turn : Round c i (target_machine.step t disk r) next) → PartTurn i t disk r turn.answer → Meets c i (target_machine.step t disk r) (step i turn.answer) disk next
 part_meets c i t logins next r disk o a b turn q =
     let h : LoginRequest = login_request i false in
-    let e : target.Machine = entered t h in
+    let e : target_session.Session = entered t.session h in
     let g : LoginResponse = part_head e h in
-    let same : SameState t e = entered_same t h in
-    let k : Begun t e c.initiator.first_cmd_sn = begins t h c.initiator.first_cmd_sn (ap (λ (x : initiator.Settings). x.first_cmd_sn) a.settings) b.due in
+    let same : SameState t.session e = entered_same t.session h in
+    let k : Begun t.session e c.initiator.first_cmd_sn = begins t.session h c.initiator.first_cmd_sn (ap (λ (x : initiator.Settings). x.first_cmd_sn) a.settings) b.due in
     let n : Stepped = sends_more (counted i g) in
-    let u : target.Stepped = target.on disk (gather e h q.bytes) in
+    let u : target.Stepped = target.on disk t.write (gather e h q.bytes) in
     let y : Steady c n.machine u.machine =
     steady c i t e u.machine g i.held n.machine o a b k
-    (record { settings = same.settings ∙ a.target_settings; stat_sn = refl; exp_cmd_sn = refl; write = refl; told_sn = refl; told_exp = refl; told_max = refl })
+    (record { settings = same.settings ∙ a.target_settings; stat_sn = refl; exp_cmd_sn = refl; told_sn = refl; told_exp = refl; told_max = refl }) (none_left u.machine.session t.write b.none_written)
     (record { settings = refl; exp_stat_sn = refl; held = refl; window = refl; cmd_sn = refl; tag = refl; open_request = refl; none_done = refl }) refl
     (subst (λ (x : target.Stepped). IsFit x.machine) q.there (step_fit t disk r b.fit))
-    (λ is. k.session ∙ b.session (sym same.has_text ∙ is)) in
+    (λ is. k.session_type ∙ b.session (sym same.has_text ∙ is)) in
     subst (λ (x : target.Stepped). Meets c i x (step i turn.answer) disk next) (sym q.there)
     (subst (λ (x : Stepped). Meets c i u x disk next) (sym q.now)
     (meets_by c i u n disk next o y (λ full. absurd (subst IsStart full a.stage)) refl))

@@ -6,7 +6,7 @@ use Rattle.std.proofs.lemmas.Bool.{cond_both}
 use Rattle.std.proofs.lemmas.List.{length-take}
 use Rattle.scsi_cdb.specs.ParameterData.{inquiry, vpd, capacity16_of, luns}
 use Rattle.scsi_cdb.specs.declared.block.Cdb.{Cdb}
-use Rattle.scsi_cdb.specs.declared.block.Cdb.TheVariants.{TestUnitReady, Inquiry, Capacity10, Read10, Write10, Read16, Write16, Capacity16, ReportLuns, Unknown}
+use Rattle.scsi_cdb.specs.declared.block.Cdb.TheVariants.{TestUnitReady, Inquiry, Capacity10, Read10, Write10, SyncCache10, Read16, Write16, Capacity16, ReportLuns, Unknown}
 use Rattle.scsi_cdb.specs.declared.residual.Residual.{Residual}
 use Rattle.scsi_cdb.specs.declared.residual.Residual.TheVariants.{Exact, Under, Over}
 use Rattle.scsi_disk.specs.declared.order.Order.{Order}
@@ -57,6 +57,7 @@ few_data present last (Inquiry false page n control) = cond_both (page == 0) (So
 few_data present last (Capacity10 control) = omega arith
 few_data present last (Read10 t) = omega arith
 few_data present last (Write10 t) = omega arith
+few_data present last (SyncCache10 s) = omega arith
 few_data present last (Read16 t) = omega arith
 few_data present last (Write16 t) = omega arith
 few_data present last (Capacity16 n control) = (let all : length (capacity16_of last) ≡ 32 = refl in omega (arith, all, length-take n (capacity16_of last)))

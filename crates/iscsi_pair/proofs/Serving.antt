@@ -9,8 +9,8 @@ use Rattle.iscsi_stream.specs.Stream.{Message, after_all}
 use Rattle.iscsi_login.specs.declared.phase.Phase.TheVariants as phases
 use Rattle.iscsi_login.specs.Held.{Held}
 use Rattle.iscsi_target.specs.Configured as target_settings
+use Rattle.iscsi_target.specs.Session as target_session
 use Rattle.iscsi_target.specs.State as target
-use Rattle.iscsi_target.specs.State.{on, nothing}
 use Rattle.iscsi_target.specs.Machine as target_machine
 use Rattle.iscsi_target.specs.Machine.{answers}
 use Rattle.iscsi_target.proofs.Continuing.{then_nothing}
@@ -40,7 +40,7 @@ use Rattle.iscsi_pair.proofs.LocalDisks.{begins, disk_more, is_free, outcomes_mo
 
 -- the most bytes of a segment that each end takes
 abbrev pub most_out : Opening → ℕ
-most_out c = target.limit c.target
+most_out c = target_session.limit c.target
 
 abbrev pub most_back : Opening → ℕ
 most_back c = initiator_calls.limit c.initiator
@@ -181,7 +181,7 @@ full_sends c i out t there here o is met =
         held = i.held;
         agreed = record {
           most = met.most;
-          out = subst (λ (x : target_settings.Settings). i.held.target_max_recv ≤ target.limit x) met.target_settings met.in_step.segment;
+          out = subst (λ (x : target_settings.Settings). i.held.target_max_recv ≤ target_session.limit x) met.target_settings met.in_step.segment;
           back_ = (let most = met.most in omega (arith, most));
         };
         at_rest = inl (met.in_step, refl);

@@ -25,7 +25,7 @@ use Rattle.iscsi_text.proofs.Keys.{bytes_eq_same}
 use Rattle.iscsi_text.proofs.Order.{all_in_order}
 use Rattle.iscsi_pair.proofs.Sizes.{IsShort, text_short, length-in_order, security_short, operational_short, single_short}
 use Rattle.iscsi_target.specs.declared.status.Status.{Status}
-use Rattle.iscsi_target.specs.State.{Machine}
+use Rattle.iscsi_target.specs.Session.{Session as TargetSession}
 use Rattle.scsi_disk.specs.Plan.{first_of}
 use Rattle.iscsi_target.specs.LoginText.{answer_pairs, is_normal, session_for, text_refusals, known_keys, gives_again, given_with, value_for, is_name, session_in, names_target, demands_authentication, is_bad_length}
 
@@ -156,15 +156,15 @@ not_empty [] n = absurd (let z = n.some in omega (arith, z))
 not_empty (byte ∷ bytes) n = refl
 
 -- the session that the first text is for
-pub session_is : (e : Machine) (pairs : Pairs) (session : Session) → e.has_text ≡ false → session_in pairs ≡ Some session → session_for e pairs ≡ session
+pub session_is : (e : TargetSession) (pairs : Pairs) (session : Session) → e.has_text ≡ false → session_in pairs ≡ Some session → session_for e pairs ≡ session
 session_is e pairs session t s = by e.has_text t
   where
-    by : (b : Bool) → b ≡ false → (if b then e.session else unwrap_or (session_in pairs) sessions.Normal) ≡ session
+    by : (b : Bool) → b ≡ false → (if b then e.session_type else unwrap_or (session_in pairs) sessions.Normal) ≡ session
     by true t = absurd (cc t)
     by false t = ap (λ (x : Option Session). unwrap_or x sessions.Normal) s
 
 -- a session that asks for a target asks for this one
-asks_for : (session : Session) (e : Machine) (o : Proposal) (pairs : Pairs) → o.session ≡ session → e.has_text ≡ false → SaysWho o pairs → (o.session ≡ sessions.Discovery) ⊎ (o.target ≡ e.settings.name)
+asks_for : (session : Session) (e : TargetSession) (o : Proposal) (pairs : Pairs) → o.session ≡ session → e.has_text ≡ false → SaysWho o pairs → (o.session ≡ sessions.Discovery) ⊎ (o.target ≡ e.settings.name)
     → ((is_normal (session_for e pairs) ≡ false) ⊎ (is_none (value_for (codes "TargetName") pairs) ≡ false))
     × ((is_normal (session_for e pairs) ≡ false) ⊎ (not (names_target e.settings.name (value_for (codes "TargetName") pairs)) ≡ false))
 asks_for sessions.Normal e o pairs is t s name =
@@ -179,7 +179,7 @@ asks_for sessions.Discovery e o pairs is t s name =
     let n : is_normal (session_for e pairs) ≡ false = ap is_normal (session_is e pairs o.session t s.session ∙ is) in
     (inl n, inl n)
 
-pub first_text : (e : Machine) (o : Proposal) (pairs : Pairs) → e.has_text ≡ false → e.given ≡ replicate 27 false → IsName o.initiator → SaysWho o pairs
+pub first_text : (e : TargetSession) (o : Proposal) (pairs : Pairs) → e.has_text ≡ false → e.given ≡ replicate 27 false → IsName o.initiator → SaysWho o pairs
     → (o.session ≡ sessions.Discovery) ⊎ (o.target ≡ e.settings.name) → demands_authentication e.settings.preferences (value_for (codes "AuthMethod") pairs) ≡ false
     → is_bad_length (value_for max_recv_key pairs) ≡ false → nat_lt 8192 (length (canonical_text (answer_pairs e pairs))) ≡ false → first_of (text_refusals e pairs) ≡ None
 first_text e o pairs t g i s name auth len size =
@@ -201,7 +201,7 @@ first_text e o pairs t g i s name auth len size =
       ),
     )
 
-pub second_text : (e : Machine) (pairs : Pairs) → e.has_text ≡ true → gives_again known_keys e.given pairs ≡ false → demands_authentication e.settings.preferences (value_for (codes "AuthMethod") pairs) ≡ false
+pub second_text : (e : TargetSession) (pairs : Pairs) → e.has_text ≡ true → gives_again known_keys e.given pairs ≡ false → demands_authentication e.settings.preferences (value_for (codes "AuthMethod") pairs) ≡ false
     → is_bad_length (value_for max_recv_key pairs) ≡ false → nat_lt 8192 (length (canonical_text (answer_pairs e pairs))) ≡ false → first_of (text_refusals e pairs) ≡ None
 second_text e pairs t g auth len size =
     none_of (text_refusals e pairs)

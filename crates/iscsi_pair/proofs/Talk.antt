@@ -35,6 +35,7 @@ use Rattle.iscsi_initiator.specs.Steps.{Stepped, sends}
 use Rattle.iscsi_initiator.specs.Login.{offered, asked, asked_from, login_request, login_message, counted, sends_cut, sends_more, sends_text, enters, fits_segment, start_step}
 use Rattle.iscsi_initiator.specs.Machine.{step}
 use Rattle.iscsi_target.specs.Configured as target_settings
+use Rattle.iscsi_target.specs.Session as target_session
 use Rattle.iscsi_target.specs.State as target
 use Rattle.iscsi_target.specs.Machine.{is_over_limit}
 use Rattle.iscsi_target.specs.Machine as target_machine
@@ -56,7 +57,7 @@ is_sent (byte ∷ bytes) = false
 pub record IsWhole (i : initiator.Machine) (t : target.Machine) (logins : Logins) (segment : Segment) : Type 0 where
   pub is : segment ≡ Text (offered i)
   pub left : i.left ≡ []
-  pub gathered : t.gathered ≡ []
+  pub gathered : t.session.gathered ≡ []
   pub first : logins.request ≡ false
   pub short : length (canonical_text (offered i)) ≤ 8192
 
@@ -64,7 +65,7 @@ pub record IsWhole (i : initiator.Machine) (t : target.Machine) (logins : Logins
 pub record IsPart (i : initiator.Machine) (t : target.Machine) (logins : Logins) (segment : Segment) : Type 0 where
   pub bytes : List ℕ
   pub is : segment ≡ Bytes bytes
-  pub text : t.gathered ++ (bytes ++ i.left) ≡ canonical_text (offered i)
+  pub text : t.session.gathered ++ (bytes ++ i.left) ≡ canonical_text (offered i)
   pub short : length bytes ≤ 8192
   pub part : (not logins.request && is_sent i.left) ≡ false
 
@@ -78,10 +79,10 @@ pub record Asking (c : Opening) (i : initiator.Machine) (t : target.Machine) (lo
   pub stage : IsStart i.stage
   pub number : sent_exp_stat_sn i < 2 ^ 32
   pub own : i.held.initiator_max_recv ≡ c.initiator.proposal.prefs.max_recv
-  pub target_settings : t.settings ≡ c.target
-  pub logs_in : LogsIn t
-  pub values : t.held.values ≡ i.held.values
-  pub most : t.held.target_max_recv ≡ i.held.target_max_recv
+  pub target_settings : t.session.settings ≡ c.target
+  pub logs_in : LogsIn t.session
+  pub values : t.session.held.values ≡ i.held.values
+  pub most : t.session.held.target_max_recv ≡ i.held.target_max_recv
   pub segment : Segment
   pub request : r ≡ login_message i (is_sent i.left) segment
   pub how : IsWhole i t logins segment ⊎ IsPart i t logins segment
@@ -136,9 +137,9 @@ asking_readable c i t logins r o a =
 pub record Agreed (i : Stepped) (t : target.Machine) : Type 0 where
   pub stage : i.machine.stage ≡ stages.Full
   pub silent : i.output ≡ []
-  pub target_stage : t.stage ≡ stages.Full
-  pub target_phase : t.phase ≡ phases.Full
-  pub held : t.held ≡ i.machine.held
+  pub target_stage : t.session.stage ≡ stages.Full
+  pub target_phase : t.session.phase ≡ phases.Full
+  pub held : t.session.held ≡ i.machine.held
 
 -- the next request is on its way
 pub record Asks_on (c : Opening) (i : Stepped) (t : target.Machine) (logins : Logins) : Type 0 where
@@ -178,14 +179,14 @@ record Goes (c : Opening) (m : initiator.Machine) (t : target.Machine) : Type 0 
   stage : IsStart m.stage
   number : sent_exp_stat_sn m < 2 ^ 32
   own : m.held.initiator_max_recv ≡ c.initiator.proposal.prefs.max_recv
-  target_settings : t.settings ≡ c.target
-  logs_in : LogsIn t
-  values : t.held.values ≡ m.held.values
-  most : t.held.target_max_recv ≡ m.held.target_max_recv
+  target_settings : t.session.settings ≡ c.target
+  logs_in : LogsIn t.session
+  values : t.session.held.values ≡ m.held.values
+  most : t.session.held.target_max_recv ≡ m.held.target_max_recv
 
 -- a segment of the text goes out, and the rest waits
 sends_part : (c : Opening) (m : initiator.Machine) (t : target.Machine) (logins : Logins) (text : List ℕ) (last : Bool) → IsOpening c → Goes c m t
-    → t.gathered ++ text ≡ canonical_text (offered m) → last ≡ is_sent (drop m.settings.login_segment text) → (not logins.request && last) ≡ false
+    → t.session.gathered ++ text ≡ canonical_text (offered m) → last ≡ is_sent (drop m.settings.login_segment text) → (not logins.request && last) ≡ false
     → Asks_on c (sends_cut m text last) t logins
 sends_part c m t logins text last o g whole is part =
     let n : ℕ = m.settings.login_segment in
@@ -210,7 +211,7 @@ sends_part c m t logins text last o g whole is part =
         how = inr (record {
           bytes = take n text;
           is = refl;
-          text = ap (λ (x : List ℕ). t.gathered ++ x) (take-append-drop n text) ∙ whole;
+          text = ap (λ (x : List ℕ). t.session.gathered ++ x) (take-append-drop n text) ∙ whole;
           short = omega (arith, length-take n text, short);
           part = ap (λ (b : Bool). not logins.request && b) (sym is) ∙ part;
         });
@@ -218,7 +219,7 @@ sends_part c m t logins text last o g whole is part =
     }
 
 -- the text of the next stage goes out, whole or a part of it
-sends_next : (c : Opening) (m : initiator.Machine) (t : target.Machine) (logins : Logins) → IsOpening c → Goes c m t → t.gathered ≡ [] → logins.request ≡ false
+sends_next : (c : Opening) (m : initiator.Machine) (t : target.Machine) (logins : Logins) → IsOpening c → Goes c m t → t.session.gathered ≡ [] → logins.request ≡ false
     → Asks_on c (sends_text m) t logins
 sends_next c m t logins o g none first =
     let text : List ℕ = canonical_text (offered m) in
@@ -277,8 +278,12 @@ asking_short c i t logins r a =
       | inr p ↦ subst (λ (x : Segment). length (segment_bytes x) ≤ 8192) (sym p.is) (short_bytes p.bytes p.short)
     ])
 
-refused_round : (c : Opening) (i : initiator.Machine) (t : target.Machine) (logins next : Logins) (r : Message) (disk : Disk) (last : Bool) (reply : target.Reply) → Asking c i t logins r
-    → Refuses (login_request i last) reply → Round c i (target.on disk reply) next
+-- the target behind what its session replied
+abbrev behind : target.Machine → target_session.Reply → target.Machine
+behind t reply = record { session = reply.session; write = target.left reply.session t.write }
+
+refused_round : (c : Opening) (i : initiator.Machine) (t : target.Machine) (logins next : Logins) (r : Message) (disk : Disk) (last : Bool) (reply : target_session.Reply) → Asking c i t logins r
+    → Refuses (login_request i last) reply → Round c i (target.on disk t.write reply) next
 refused_round c i t logins next r disk last reply a q = record {
   answer = answering q.answer [];
   is = q.is;
@@ -289,9 +294,9 @@ refused_round c i t logins next r disk last reply a q = record {
 }
 
 -- the login goes on with the next part of the text
-gathered_round : (c : Opening) (i : initiator.Machine) (t : target.Machine) (logins next : Logins) (r : Message) (disk : Disk) (bytes : List ℕ) (byte : ℕ) (more : List ℕ) (reply : target.Reply) → IsOpening c → Asking c i t logins r
-    → i.left ≡ byte ∷ more → t.gathered ++ (bytes ++ i.left) ≡ canonical_text (offered i) → next.request ≡ true
-    → Gathers t (login_request i false) bytes reply → Round c i (target.on disk reply) next
+gathered_round : (c : Opening) (i : initiator.Machine) (t : target.Machine) (logins next : Logins) (r : Message) (disk : Disk) (bytes : List ℕ) (byte : ℕ) (more : List ℕ) (reply : target_session.Reply) → IsOpening c → Asking c i t logins r
+    → i.left ≡ byte ∷ more → t.session.gathered ++ (bytes ++ i.left) ≡ canonical_text (offered i) → next.request ≡ true
+    → Gathers t.session (login_request i false) bytes reply → Round c i (target.on disk t.write reply) next
 gathered_round c i t logins next r disk bytes byte more reply o a left text request q = record {
   answer = answering q.answer [];
   is = q.is;
@@ -300,15 +305,15 @@ gathered_round c i t logins next r disk bytes byte more reply o a left text requ
   short = short_text [] (omega arith);
   leads = elim (hears_more i q.answer [] byte more a.phase a.started q.tag q.class left) [
     | inl closes ↦ inl closes
-    | inr e ↦ inr (inr (subst (λ (s : Stepped). Asks_on c s reply.machine next) (sym e) goes))
+    | inr e ↦ inr (inr (subst (λ (s : Stepped). Asks_on c s (behind t reply) next) (sym e) goes))
   ];
 }
   where
     m : initiator.Machine
     m = counted i q.answer
 
-    goes : Asks_on c (sends_more m) reply.machine next
-    goes = sends_part c m reply.machine next m.left (fits_segment m m.left) o
+    goes : Asks_on c (sends_more m) (behind t reply) next
+    goes = sends_part c m (behind t reply) next m.left (fits_segment m m.left) o
         (record {
           settings = a.settings;
           phase = a.phase;
@@ -322,7 +327,7 @@ gathered_round c i t logins next r disk bytes byte more reply o a left text requ
           values = ap (λ (x : Held). x.values) q.held ∙ a.values;
           most = ap (λ (x : Held). x.target_max_recv) q.held ∙ a.most;
         })
-        (ap (λ (x : List ℕ). x ++ i.left) q.gathered ∙ append_assoc t.gathered bytes i.left ∙ text)
+        (ap (λ (x : List ℕ). x ++ i.left) q.gathered ∙ append_assoc t.session.gathered bytes i.left ∙ text)
         (fits_drop m.settings.login_segment m.left)
         (ap (λ (b : Bool). not b && fits_segment m m.left) request)
 
@@ -341,20 +346,20 @@ held_same declared answer i t v m = record {
 }
 
 -- the answer leads on: to the next stage, or to full feature phase
-told_to : (stage : Stage) (c : Opening) (i : initiator.Machine) (t : target.Machine) (logins next : Logins) (r : Message) (reply : target.Reply) → IsOpening c → Asking c i t logins r → i.stage ≡ stage
-    → next.request ≡ false → (q : Tells t (login_request i true) (offered i) reply)
-    → let answer : Pairs = login.answer q.session t.settings.preferences q.group q.most (offered i) in
-    Leads c i (enters (asked_from stage) (with_answer i q.answer answer)) reply.machine next
+told_to : (stage : Stage) (c : Opening) (i : initiator.Machine) (t : target.Machine) (logins next : Logins) (r : Message) (reply : target_session.Reply) → IsOpening c → Asking c i t logins r → i.stage ≡ stage
+    → next.request ≡ false → (q : Tells t.session (login_request i true) (offered i) reply)
+    → let answer : Pairs = login.answer q.session t.session.settings.preferences q.group q.most (offered i) in
+    Leads c i (enters (asked_from stage) (with_answer i q.answer answer)) (behind t reply) next
 told_to stages.Security c i t logins next r reply o a is first q =
-    let answer : Pairs = login.answer q.session t.settings.preferences q.group q.most (offered i) in
+    let answer : Pairs = login.answer q.session t.session.settings.preferences q.group q.most (offered i) in
     let m : initiator.Machine = record (with_answer i q.answer answer) { stage = stages.Operational } in
-    let range : IsInRange t.settings.preferences = subst (λ (x : target_settings.Settings). IsInRange x.preferences) (sym a.target_settings) o.preferences in
-    let h : reply.machine.held ≡ initiator_holds (declared_max_recv (offered i)) answer t.held =
-    q.held ∙ sym (texts_agree q.session t.settings.preferences range q.group q.most (offered i) t.held) in
-    let s : SameHeld (initiator_holds None answer i.held) (initiator_holds (declared_max_recv (offered i)) answer t.held) =
-    held_same (declared_max_recv (offered i)) answer i.held t.held a.values a.most in
+    let range : IsInRange t.session.settings.preferences = subst (λ (x : target_settings.Settings). IsInRange x.preferences) (sym a.target_settings) o.preferences in
+    let h : reply.session.held ≡ initiator_holds (declared_max_recv (offered i)) answer t.session.held =
+    q.held ∙ sym (texts_agree q.session t.session.settings.preferences range q.group q.most (offered i) t.session.held) in
+    let s : SameHeld (initiator_holds None answer i.held) (initiator_holds (declared_max_recv (offered i)) answer t.session.held) =
+    held_same (declared_max_recv (offered i)) answer i.held t.session.held a.values a.most in
     let asked_is : target_login.stage_asked (login_request i true) ≡ Some stages.Operational = ap (λ (x : Stage). target_login.stage_named (stage_number (asked_from x))) is in
-    inr (inr (sends_next c m reply.machine next o
+    inr (inr (sends_next c m (behind t reply) next o
     (record {
       settings = a.settings;
       phase = a.phase;
@@ -370,19 +375,19 @@ told_to stages.Security c i t logins next r reply o a is first q =
     })
     q.gathered first))
 told_to stages.Operational c i t logins next r reply o a is first q =
-    let answer : Pairs = login.answer q.session t.settings.preferences q.group q.most (offered i) in
-    let range : IsInRange t.settings.preferences = subst (λ (x : target_settings.Settings). IsInRange x.preferences) (sym a.target_settings) o.preferences in
-    let h : reply.machine.held ≡ initiator_holds (declared_max_recv (offered i)) answer t.held =
-    q.held ∙ sym (texts_agree q.session t.settings.preferences range q.group q.most (offered i) t.held) in
-    let s : SameHeld (initiator_holds None answer i.held) (initiator_holds (declared_max_recv (offered i)) answer t.held) =
-    held_same (declared_max_recv (offered i)) answer i.held t.held a.values a.most in
+    let answer : Pairs = login.answer q.session t.session.settings.preferences q.group q.most (offered i) in
+    let range : IsInRange t.session.settings.preferences = subst (λ (x : target_settings.Settings). IsInRange x.preferences) (sym a.target_settings) o.preferences in
+    let h : reply.session.held ≡ initiator_holds (declared_max_recv (offered i)) answer t.session.held =
+    q.held ∙ sym (texts_agree q.session t.session.settings.preferences range q.group q.most (offered i) t.session.held) in
+    let s : SameHeld (initiator_holds None answer i.held) (initiator_holds (declared_max_recv (offered i)) answer t.session.held) =
+    held_same (declared_max_recv (offered i)) answer i.held t.session.held a.values a.most in
     let valid : AreValid i.settings = subst AreValid (sym a.settings) o.initiator in
     let d : declared_max_recv (offered i) ≡ Some c.initiator.proposal.prefs.max_recv =
     ap (λ (x : Stage). declared_max_recv (in_order (offers_at i.settings.proposal i.settings.start x))) is
     ∙ declares i.settings.proposal i.settings.start valid.in_range.start ∙ ap (λ (x : initiator.Settings). Some x.proposal.prefs.max_recv) a.settings in
-    let own : unwrap_or (declared_max_recv (offered i)) t.held.initiator_max_recv ≡ i.held.initiator_max_recv =
-    ap (λ (x : Option ℕ). unwrap_or x t.held.initiator_max_recv) d ∙ sym a.own in
-    let same : initiator_holds (declared_max_recv (offered i)) answer t.held ≡ initiator_holds None answer i.held =
+    let own : unwrap_or (declared_max_recv (offered i)) t.session.held.initiator_max_recv ≡ i.held.initiator_max_recv =
+    ap (λ (x : Option ℕ). unwrap_or x t.session.held.initiator_max_recv) d ∙ sym a.own in
+    let same : initiator_holds (declared_max_recv (offered i)) answer t.session.held ≡ initiator_holds None answer i.held =
     λ j. record { values = s.values j; initiator_max_recv = own j; target_max_recv = s.most j } in
     let asked_is : target_login.stage_asked (login_request i true) ≡ Some stages.Full = ap (λ (x : Stage). target_login.stage_named (stage_number (asked_from x))) is in
     inr (inl (record {
@@ -394,8 +399,8 @@ told_to stages.Operational c i t logins next r reply o a is first q =
     }))
 told_to stages.Full c i t logins next r reply o a is first q = absurd (subst IsStart is a.stage)
 
-told_round : (c : Opening) (i : initiator.Machine) (t : target.Machine) (logins next : Logins) (r : Message) (disk : Disk) (reply : target.Reply) → IsOpening c → Asking c i t logins r
-    → i.left ≡ [] → next.request ≡ false → Tells t (login_request i true) (offered i) reply → Round c i (target.on disk reply) next
+told_round : (c : Opening) (i : initiator.Machine) (t : target.Machine) (logins next : Logins) (r : Message) (disk : Disk) (reply : target_session.Reply) → IsOpening c → Asking c i t logins r
+    → i.left ≡ [] → next.request ≡ false → Tells t.session (login_request i true) (offered i) reply → Round c i (target.on disk t.write reply) next
 told_round c i t logins next r disk reply o a left first q = record {
   answer = answering q.answer answer;
   is = q.is;
@@ -404,16 +409,16 @@ told_round c i t logins next r disk reply o a left first q = record {
   short = short_text answer q.short;
   leads = elim (hears_answer i q.answer answer a.phase a.started q.tag q.class left) [
     | inl closes ↦ inl closes
-    | inr e ↦ subst (λ (s : Stepped). Leads c i s reply.machine next) (sym e) (told_to i.stage c i t logins next r reply o a refl first q)
+    | inr e ↦ subst (λ (s : Stepped). Leads c i s (behind t reply) next) (sym e) (told_to i.stage c i t logins next r reply o a refl first q)
   ];
 }
   where
     answer : Pairs
-    answer = login.answer q.session t.settings.preferences q.group q.most (offered i)
+    answer = login.answer q.session t.session.settings.preferences q.group q.most (offered i)
 
     read : text_in (canonical_text answer) ≡ Some answer
     read = (texts.reading_some (canonical_text answer) answer).1 (texts.canonical_means answer
-        (answer_meaning q.session t.settings.preferences (subst (λ (x : target_settings.Settings). IsInRange x.preferences) (sym a.target_settings) o.preferences) q.group q.most q.group_fits q.most_fits (offered i)
+        (answer_meaning q.session t.session.settings.preferences (subst (λ (x : target_settings.Settings). IsInRange x.preferences) (sym a.target_settings) o.preferences) q.group q.most q.group_fits q.most_fits (offered i)
         (offers_mean i.settings.start i.stage i.settings.proposal valid.names.initiator valid.names.target valid.in_range.preferences a.stage)))
       where
         valid : AreValid i.settings
@@ -425,39 +430,39 @@ next_request : (logins : Logins) (i : initiator.Machine) (last : Bool) (segment 
 unfolding after
 next_request logins i last segment = refl
 
-target_fits : (c : Opening) (t : target.Machine) → IsOpening c → t.settings ≡ c.target → SettingsFit t.settings
+target_fits : (c : Opening) (t : target.Machine) → IsOpening c → t.session.settings ≡ c.target → SettingsFit t.session.settings
 target_fits c t o e = subst SettingsFit (sym e) (record { preferences = o.preferences; group = o.group; tsih = o.tsih })
 
 -- a request that ends its text
 last_round : (c : Opening) (i : initiator.Machine) (t : target.Machine) (logins : Logins) (r : Message) (disk : Disk) (segment : Segment) → IsOpening c → Asking c i t logins r
-    → i.left ≡ [] → is_over_limit t segment ≡ false → target_login.text_ending t.gathered segment ≡ Some (offered i)
+    → i.left ≡ [] → is_over_limit t segment ≡ false → target_login.text_ending t.session.gathered segment ≡ Some (offered i)
     → Round c i (target_machine.step t disk (login_message i true segment)) (after logins (login_message i true segment).head)
 last_round c i t logins r disk segment o a left short read =
     let h : LoginRequest = login_request i true in
     let next : Logins = after logins (login_message i true segment).head in
     let f : RequestFits h = request_fits c i true o a.settings a.number in
     subst (λ (x : target.Stepped). Round c i x next) (sym (login_step_is t disk h segment a.logs_in.phase short))
-    (elim (tells_text t h segment (offered i) (target_fits c t o a.target_settings) a.logs_in f refl read) [
-      | inl q ↦ refused_round c i t logins next r disk true (target_login.login_request t h segment) a q
-      | inr q ↦ told_round c i t logins next r disk (target_login.login_request t h segment) o a left (next_request logins i true segment) q
+    (elim (tells_text t.session h segment (offered i) (target_fits c t o a.target_settings) a.logs_in f refl read) [
+      | inl q ↦ refused_round c i t logins next r disk true (target_login.login_request t.session h segment) a q
+      | inr q ↦ told_round c i t logins next r disk (target_login.login_request t.session h segment) o a left (next_request logins i true segment) q
     ])
 
 -- a request whose text goes on
 part_round : (c : Opening) (i : initiator.Machine) (t : target.Machine) (logins : Logins) (r : Message) (disk : Disk) (bytes : List ℕ) (byte : ℕ) (more : List ℕ) → IsOpening c → Asking c i t logins r
-    → i.left ≡ byte ∷ more → is_over_limit t (Bytes bytes) ≡ false → t.gathered ++ (bytes ++ i.left) ≡ canonical_text (offered i)
+    → i.left ≡ byte ∷ more → is_over_limit t (Bytes bytes) ≡ false → t.session.gathered ++ (bytes ++ i.left) ≡ canonical_text (offered i)
     → Round c i (target_machine.step t disk (login_message i false (Bytes bytes))) (after logins (login_message i false (Bytes bytes)).head)
 part_round c i t logins r disk bytes byte more o a left short text =
     let h : LoginRequest = login_request i false in
     let next : Logins = after logins (login_message i false (Bytes bytes)).head in
     let f : RequestFits h = request_fits c i false o a.settings a.number in
     subst (λ (x : target.Stepped). Round c i x next) (sym (login_step_is t disk h (Bytes bytes) a.logs_in.phase short))
-    (elim (gathers_more t h bytes a.logs_in f refl) [
-      | inl q ↦ refused_round c i t logins next r disk false (target_login.login_request t h (Bytes bytes)) a q
-      | inr q ↦ gathered_round c i t logins next r disk bytes byte more (target_login.login_request t h (Bytes bytes)) o a left text (next_request logins i false (Bytes bytes)) q
+    (elim (gathers_more t.session h bytes a.logs_in f refl) [
+      | inl q ↦ refused_round c i t logins next r disk false (target_login.login_request t.session h (Bytes bytes)) a q
+      | inr q ↦ gathered_round c i t logins next r disk bytes byte more (target_login.login_request t.session h (Bytes bytes)) o a left text (next_request logins i false (Bytes bytes)) q
     ])
 
 pub fits_limit : (t : target.Machine) (bytes : List ℕ) → length bytes ≤ 8192 → is_over_limit t (Bytes bytes) ≡ false
-fits_limit t bytes le = le-ltb (target.limit t.settings) (length bytes) (omega (arith, le))
+fits_limit t bytes le = le-ltb (target_session.limit t.session.settings) (length bytes) (omega (arith, le))
 
 -- the message that is on its way, by what is left behind it
 round_at : (left : List ℕ) (c : Opening) (i : initiator.Machine) (t : target.Machine) (logins : Logins) (r : Message) (disk : Disk) → IsOpening c → (a : Asking c i t logins r) → i.left ≡ left
@@ -468,7 +473,7 @@ round_at [] c i t logins r disk o a left =
           (last_round c i t logins r disk (Text (offered i)) o a left refl refl)
       | inr p ↦ subst (λ (x : Segment). Round c i (target_machine.step t disk (login_message i true x)) (after logins (login_message i true x).head)) (sym p.is)
           (last_round c i t logins r disk (Bytes p.bytes) o a left (fits_limit t p.bytes p.short)
-          (ap text_in (ap (λ (x : List ℕ). t.gathered ++ x) (sym (append-nil p.bytes) ∙ ap (λ (x : List ℕ). p.bytes ++ x) (sym left)) ∙ p.text) ∙ offered_read c i o a.settings a.stage))
+          (ap text_in (ap (λ (x : List ℕ). t.session.gathered ++ x) (sym (append-nil p.bytes) ∙ ap (λ (x : List ℕ). p.bytes ++ x) (sym left)) ∙ p.text) ∙ offered_read c i o a.settings a.stage))
     ]
 round_at (byte ∷ more) c i t logins r disk o a left =
     elim a.how [

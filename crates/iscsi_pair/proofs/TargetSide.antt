@@ -14,7 +14,8 @@ use Rattle.iscsi_stream.proofs.Ready.{not_whole-nil, apart}
 use Rattle.iscsi_login.specs.declared.phase.Phase.{Phase}
 use Rattle.iscsi_target.specs.declared.fault.TargetFault.{TargetFault}
 use Rattle.iscsi_target.specs.declared.fault.TargetFault.TheVariants as faults
-use Rattle.iscsi_target.specs.State.{Machine, Stepped, limit}
+use Rattle.iscsi_target.specs.Session.{limit}
+use Rattle.iscsi_target.specs.State.{Machine, Stepped}
 use Rattle.iscsi_target.specs.Transfer.{joined}
 use Rattle.iscsi_target.specs.Machine.{answers, is_closed}
 use Rattle.iscsi_target.specs.Feed.{Connection, Store, Feeds, Fed, FedIf, Ends, HasAnswered, opening_connection}
@@ -32,8 +33,8 @@ pub record TargetFront (c : Opening) (moved out : List ℕ) (t : Connection) : T
   pub whole : moved ≡ given ++ rest
   pub reads : ReadsAs limit no_login given messages
   pub output : out ≡ canon (said c messages).answers
-  pub stage : t.machine.stage ≡ (said c messages).machine.stage
-  pub held : t.machine.held ≡ (said c messages).machine.held
+  pub stage : t.machine.session.stage ≡ (said c messages).machine.session.stage
+  pub held : t.machine.session.held ≡ (said c messages).machine.session.held
 
 -- an end that hasn't failed has taken all bytes moved
 pub record TargetLives (c : Opening) (moved out : List ℕ) (t : Connection) (blocks : List ℕ) : Type 0 where
@@ -63,7 +64,7 @@ pub record TargetEnded (c : Opening) (moved out : List ℕ) (t : Connection) : T
   pub whole : moved ≡ given ++ rest
   pub reads : ReadsAs limit no_login given messages
   pub output : out ≡ canon (said c messages).answers
-  pub stage : t.machine.stage ≡ (said c messages).machine.stage
+  pub stage : t.machine.session.stage ≡ (said c messages).machine.session.stage
   pub closed : is_closed (said c messages).machine ≡ true
 
 -- the framer refused what came behind these messages
@@ -79,7 +80,7 @@ pub record TargetBroken (fault : StreamFault) (c : Opening) (moved out : List �
   pub refused : FeedFails framing piece fault
   pub some : fault ≢ stream.NoMemory
   pub output : out ≡ canon (said c messages).answers
-  pub stage : t.machine.stage ≡ (said c messages).machine.stage
+  pub stage : t.machine.session.stage ≡ (said c messages).machine.session.stage
 
 -- what a fault says that is kept
 abbrev pub TargetFailed : Option TargetFault → Opening → List ℕ → List ℕ → Connection → Type 0
@@ -96,7 +97,7 @@ pub record TargetSide (c : Opening) (moved out : List ℕ) (t : Connection) (blo
   pub failed : TargetFailed fault c moved out t
 
 front_taken : (c : Opening) (moved more out : List ℕ) (messages : List Message) (v : Framing) (t : Connection) → HasTaken moved messages v → out ≡ canon (said c messages).answers
-    → t.machine.stage ≡ (said c messages).machine.stage → t.machine.held ≡ (said c messages).machine.held → TargetFront c (moved ++ more) out t
+    → t.machine.session.stage ≡ (said c messages).machine.session.stage → t.machine.session.held ≡ (said c messages).machine.session.held → TargetFront c (moved ++ more) out t
 front_taken c moved more out messages v t h o s e = record {
   limit = v.limit;
   messages = messages;
@@ -198,14 +199,14 @@ feeds_behind prior old before output piece result new after written f = record {
 }
 
 record Kept (new : Machine) (r : Machine) : Type 0 where
-  stage : new.stage ≡ r.stage
-  held : new.held ≡ r.held
+  stage : new.session.stage ≡ r.session.stage
+  held : new.session.held ≡ r.session.held
 
 ends_keep : (piece : List ℕ) (result : Result Phase TargetFault) (v : Framing) (n : ℕ) (r : Stepped) (new : Connection) → Ends piece result v n r new → Kept new.machine r.machine
-ends_keep piece (Ok phase) v n r new e = record { stage = ap (λ (m : Machine). m.stage) e.1; held = ap (λ (m : Machine). m.held) e.1 }
-ends_keep piece (Err faults.NoMemory) v n r new e = record { stage = ap (λ (m : Machine). m.stage) e.1; held = ap (λ (m : Machine). m.held) e.1 }
-ends_keep piece (Err (faults.Stream fault)) v n r new e = record { stage = ap (λ (m : Machine). m.stage) e.3; held = ap (λ (m : Machine). m.held) e.3 }
-ends_keep piece (Err (faults.Protocol rule)) v n r new e = record { stage = ap (λ (m : Machine). m.stage) e.1; held = ap (λ (m : Machine). m.held) e.1 }
+ends_keep piece (Ok phase) v n r new e = record { stage = ap (λ (m : Machine). m.session.stage) e.1; held = ap (λ (m : Machine). m.session.held) e.1 }
+ends_keep piece (Err faults.NoMemory) v n r new e = record { stage = ap (λ (m : Machine). m.session.stage) e.1; held = ap (λ (m : Machine). m.session.held) e.1 }
+ends_keep piece (Err (faults.Stream fault)) v n r new e = record { stage = ap (λ (m : Machine). m.session.stage) e.3; held = ap (λ (m : Machine). m.session.held) e.3 }
+ends_keep piece (Err (faults.Protocol rule)) v n r new e = record { stage = ap (λ (m : Machine). m.session.stage) e.1; held = ap (λ (m : Machine). m.session.held) e.1 }
 ends_keep piece (Err faults.Closed) v n r new e = absurd e
 
 ends_limit : (piece : List ℕ) (result : Result Phase TargetFault) (v : Framing) (n : ℕ) (r : Stepped) (new : Connection) → Ends piece result v n r new
@@ -235,7 +236,7 @@ ends_unready piece (Err fault) v n r new e u none live = absurd (cc none)
 feeds_failed : (result : Result Phase TargetFault) (c : Opening) (moved out bytes : List ℕ) (old : Connection) (blocks : List ℕ) (new : Connection) (after written : List ℕ)
     → (l : TargetLives c moved out old blocks) → (f : Feeds old (store_of blocks) out bytes result new (store_of after) written)
     → Told c.target c.first_stat_sn (disk_of c.blocks) (l.has.messages ++ f.messages) f.stepped (disk_of after) written → HasTaken (moved ++ take f.count bytes) (l.has.messages ++ f.messages) f.framing
-    → new.machine.stage ≡ (said c (l.has.messages ++ f.messages)).machine.stage → Ends bytes result f.framing f.count f.stepped new → TargetFailed (result_err result) c (moved ++ bytes) written new
+    → new.machine.session.stage ≡ (said c (l.has.messages ++ f.messages)).machine.session.stage → Ends bytes result f.framing f.count f.stepped new → TargetFailed (result_err result) c (moved ++ bytes) written new
 feeds_failed (Ok phase) c moved out bytes old blocks new after written l f t h s e = tt
 feeds_failed (Err faults.NoMemory) c moved out bytes old blocks new after written l f t h s e = tt
 feeds_failed (Err (faults.Stream fault)) c moved out bytes old blocks new after written l f t h s e = record {
@@ -283,8 +284,8 @@ feeds_side c moved out bytes old blocks result new after written l f =
     record {
       front = subst (λ (x : List ℕ). TargetFront c x written new) all
           (front_taken c (moved ++ take f.count bytes) (drop f.count bytes) written (l.has.messages ++ f.messages) f.framing new h t.output_is
-          (k.stage ∙ ap (λ (m : Machine). m.stage) t.machine) (k.held ∙ ap (λ (m : Machine). m.held) t.machine));
-      failed = feeds_failed result c moved out bytes old blocks new after written l f t h (k.stage ∙ ap (λ (m : Machine). m.stage) t.machine) f.ends;
+          (k.stage ∙ ap (λ (m : Machine). m.session.stage) t.machine) (k.held ∙ ap (λ (m : Machine). m.session.held) t.machine));
+      failed = feeds_failed result c moved out bytes old blocks new after written l f t h (k.stage ∙ ap (λ (m : Machine). m.session.stage) t.machine) f.ends;
       over = λ none over. record {
         limit = f.framing.limit;
         messages = l.has.messages ++ f.messages;
@@ -320,7 +321,7 @@ fed_if true c moved prior before bytes old blocks result new after written is s 
         whole = l.whole;
         reads = l.reads;
         output = l.output;
-        stage = ap (λ (m : Machine). m.stage) l.machine;
+        stage = ap (λ (m : Machine). m.session.stage) l.machine;
         closed = l.closed;
       } in
       subst (λ (x : List ℕ). TargetEnded c (moved ++ bytes) (prior ++ x) new) (sym f.output_is)

@@ -1,7 +1,6 @@
 -- What a target holds after its login stays.
 use Rattle.std.proofs.Common.{◌∙◌, List, [], ◌∷◌, refl}
 use Rattle.scsi_disk.specs.Disk.{Disk}
-use Rattle.scsi_disk.specs.Effect.{effect}
 use Rattle.iscsi_stream.specs.Stream.{Message}
 use Rattle.iscsi_target.specs.State.{Machine}
 use Rattle.iscsi_target.specs.Machine.{step, answers}
@@ -9,7 +8,7 @@ use Rattle.iscsi_target.proofs.Keeping.{IsLater, Stays, step_stays}
 use Rattle.iscsi_target.specs.Execution.{reliable}
 
 -- what is held after the login stays, whatever comes
-pub held_stays : (s : Machine) (disk : Disk) (ms : List Message) → IsLater s.phase → Stays s (answers s disk ms).machine
+pub held_stays : (s : Machine) (disk : Disk) (ms : List Message) → IsLater s.session.phase → Stays s (answers s disk ms).machine
 unfolding answers
 held_stays s disk [] l = record { stage = refl; held = refl; later = λ l. l }
 held_stays s disk (m ∷ ms) l =

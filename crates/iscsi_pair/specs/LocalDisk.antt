@@ -12,6 +12,7 @@ use Rattle.iscsi_stream.specs.Stream.{Message}
 use Rattle.iscsi_login.specs.declared.phase.Phase.TheVariants as phases
 use Rattle.iscsi_login.specs.declared.stage.Session.TheVariants as sessions
 use Rattle.iscsi_login.specs.Held.{Held, IsHeld}
+use Rattle.iscsi_target.specs.Session as target_session
 use Rattle.iscsi_target.specs.State as target
 use Rattle.iscsi_target.specs.Machine.{answers}
 use Rattle.iscsi_initiator.specs.declared.request.Done.{Done}
@@ -95,27 +96,27 @@ window_of_one cmd_sn = record { exp = initiator.serial cmd_sn; max = initiator.s
 -- and have nothing open (sections 4.2 and 6.3).
 pub record AreInStep (m : initiator.Machine) (t : target.Machine) : Type 0 where
   pub initiator_phase : m.phase ≡ phases.Full
-  pub target_phase : t.phase ≡ phases.Full
-  pub session : t.session ≡ sessions.Normal
+  pub target_phase : t.session.phase ≡ phases.Full
+  pub session : t.session.session_type ≡ sessions.Normal
   pub none_open : m.open_request ≡ None
   pub none_done : m.done ≡ None
   pub none_written : t.write ≡ None
-  pub held : t.held ≡ m.held
+  pub held : t.session.held ≡ m.held
   pub is_held : IsHeld m.held
-  pub segment : m.held.target_max_recv ≤ target.limit t.settings
+  pub segment : m.held.target_max_recv ≤ target_session.limit t.session.settings
   -- the tag of the last request, and the numbers that are due
   pub tag_fits : m.initiator_task_tag ≤ 0xffff_fffe
-  pub cmd_sn : t.exp_cmd_sn ≡ m.cmd_sn
+  pub cmd_sn : t.session.exp_cmd_sn ≡ m.cmd_sn
   pub cmd_sn_fits : m.cmd_sn < 2 ^ 32
   -- the target takes one command, of that number
   pub window : m.window ≡ window_of_one m.cmd_sn
-  pub stat_sn : m.exp_stat_sn ≡ Some t.stat_sn
-  pub stat_sn_fits : t.stat_sn < 2 ^ 32
+  pub stat_sn : m.exp_stat_sn ≡ Some t.session.stat_sn
+  pub stat_sn_fits : t.session.stat_sn < 2 ^ 32
 
 -- Both sessions are over, and no request is open (section 11.14).
 pub record HaveParted (m : initiator.Machine) (t : target.Machine) : Type 0 where
   pub initiator_phase : m.phase ≡ phases.Closed
-  pub target_phase : t.phase ≡ phases.Closed
+  pub target_phase : t.session.phase ≡ phases.Closed
   pub none_open : m.open_request ≡ None
 
 -- Both ends are in step and hold this, or have parted after this outcome, that of a logout (own

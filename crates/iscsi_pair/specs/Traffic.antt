@@ -5,13 +5,12 @@ use Rattle.iscsi_stream.specs.Segment.{no_login}
 use Rattle.iscsi_stream.specs.Stream.{Message, ReadsAs}
 use Rattle.iscsi_stream.specs.Canonical.{canon}
 use Rattle.iscsi_stream.specs.Framing.{HasTaken, is_ready}
-use Rattle.iscsi_initiator.specs.declared.request.Request.{Request}
 use Rattle.iscsi_target.specs.State.{Stepped, opening}
 use Rattle.iscsi_target.specs.Transfer.{joined}
 use Rattle.iscsi_target.specs.Machine as target_machine
 use Rattle.iscsi_target.specs.Machine.{answers}
 use Rattle.iscsi_initiator.specs.State.{Machine, is_closed}
-use Rattle.iscsi_initiator.specs.Machine.{step, taken}
+use Rattle.iscsi_initiator.specs.Machine.{step}
 use Rattle.iscsi_initiator.specs.Submitted.{submitted}
 use Rattle.iscsi_pair.specs.World as world
 use Rattle.iscsi_pair.specs.World.{World, Opening, Event, started, new_pair, Happens}

@@ -62,10 +62,10 @@ pub fn one_world()
 pub fn login_agreement()
     ensures both { (c : Opening) (events : List Event) (w : World) → IsOpening c
         → Reached c events w → w.initiator.machine.stage ≡ stages.Full
-        → w.target.machine.stage ≡ stages.Full }
+        → w.target.machine.session.stage ≡ stages.Full }
     ensures equal { (c : Opening) (events : List Event) (w : World) → IsOpening c
         → Reached c events w → w.initiator.machine.stage ≡ stages.Full
-        → w.target.machine.held ≡ w.initiator.machine.held }
+        → w.target.machine.session.held ≡ w.initiator.machine.held }
 {}
 
 /// An idle pair has completed its login: where nothing is on its way and neither end has failed, both
@@ -78,7 +78,7 @@ pub fn idle_pair()
     ensures target { (c : Opening) (events : List Event) (w : World) → IsOpening c
         → Reached c events w → w.to_target ≡ [] → w.to_initiator ≡ []
         → w.target_fault ≡ None → w.initiator_fault ≡ None
-        → w.target.machine.stage ≡ stages.Full }
+        → w.target.machine.session.stage ≡ stages.Full }
 {}
 
 /// No failure before login: where the names suit each other and authentication isn't demanded, no
@@ -87,7 +87,7 @@ pub fn idle_pair()
 pub fn no_early_failure()
     ensures target { (c : Opening) (events : List Event) (w : World) → IsOpening c → Suits c
         → RunsInTime (new_pair c) events w → keeps_no_memory w ≡ false
-        → (w.target_fault ≡ None) ⊎ (w.target.machine.stage ≡ stages.Full) }
+        → (w.target_fault ≡ None) ⊎ (w.target.machine.session.stage ≡ stages.Full) }
     ensures initiator { (c : Opening) (events : List Event) (w : World) → IsOpening c → Suits c
         → RunsInTime (new_pair c) events w → keeps_no_memory w ≡ false
         → (w.initiator_fault ≡ None) ⊎ (w.initiator.machine.stage ≡ stages.Full) }

@@ -6,7 +6,7 @@ use Rattle.std.proofs.lemmas.List.{append-nil, map-append}
 use Rattle.std.proofs.lemmas.Grind.{flat_map-append}
 use Rattle.scsi_disk.specs.Disk.{Disk}
 use Rattle.iscsi_pdu.specs.declared.head.Head.{Head}
-use Rattle.iscsi_pdu.specs.declared.head.Head.TheVariants.{NopOut, ScsiCommand, TaskRequest, TextRequest, LogoutRequest}
+use Rattle.iscsi_pdu.specs.declared.head.Head.TheVariants.{ScsiCommand}
 use Rattle.iscsi_pdu.specs.declared.head.scsi_command.ScsiCommand.{ScsiCommand as Command}
 use Rattle.iscsi_pdu.specs.declared.head.data_out.DataOut.{DataOut as DataPdu}
 use Rattle.iscsi_stream.specs.Segment.{segment_bytes}
@@ -14,9 +14,10 @@ use Rattle.iscsi_stream.specs.Stream.{Message}
 use Rattle.iscsi_stream.proofs.Ready.{apart}
 use Rattle.iscsi_login.specs.Held.{first_burst}
 use Rattle.iscsi_target.specs.Configured.{Settings}
-use Rattle.iscsi_target.specs.State.{Machine, Write, Execution, Stepped, Reply, on, nothing, opening, max_cmd_sn}
+use Rattle.iscsi_target.specs.Session.{Reply}
+use Rattle.iscsi_target.specs.State.{Machine, Write, Execution, Stepped, on, unchanged, shut_down, opening, max_cmd_sn}
 use Rattle.iscsi_pdu.specs.Serial.{is_within}
-use Rattle.iscsi_target.specs.Rejecting.{breach}
+use Rattle.iscsi_target.specs.Rejecting.{breaks}
 use Rattle.iscsi_target.specs.Login.{login_step}
 use Rattle.iscsi_target.specs.Transfer.{is_whole, is_idle, taken, with_data, is_in_sequence, received}
 use Rattle.iscsi_target.specs.Execution.{Device, execute, reliable}
@@ -24,7 +25,7 @@ use Rattle.iscsi_target.specs.Command.{proceed, order_of, opened}
 use Rattle.iscsi_target.specs.Machine.{step, step_on, answers, then_stepped, is_closed, accepting}
 use Rattle.iscsi_target.specs.Laws.{Task, task_in, tasks_in, task_of, tasks_done, task_open, cmd_sn_of, FitsNumber, HasCmdSn, AreInOrder}
 use Rattle.iscsi_target.proofs.StepParts.{by_cases, Parts, step_parts}
-use Rattle.iscsi_target.proofs.Replies.{IsReply, IsOver, Logs, login_logs, nothing_reply, shut_reply, reject_reply, breach_reply, nop_reply, task_reply, text_reply_is, logout_reply}
+use Rattle.iscsi_target.proofs.Replies.{IsOver, on_ends}
 use Rattle.iscsi_target.proofs.Telling.{step_tells, proceed_accepts}
 use Rattle.iscsi_target.proofs.Window.{in_window}
 use Rattle.iscsi_target.proofs.Numbers.{closed_answers}
@@ -50,16 +51,19 @@ over_open old s (inr same) e = ap task_open (sym same)
 
 -- ---- replies
 
-reply_queues : (s : Machine) (disk : Disk) (r : Reply) → IsReply s r → Queues s.write (on disk r)
-reply_queues s disk r c = record {
+reply_queues : (s : Machine) (disk : Disk) (r : Reply) → Queues s.write (on disk s.write r)
+reply_queues s disk r = record {
   more = task_open s.write;
   order = append-nil (task_open s.write);
   few = open_few s.write;
-  open_write = over_open s.write r.machine c.ends;
+  open_write = over_open s.write (on disk s.write r).machine (on_ends disk s.write r);
 }
 
-login_queues : (s : Machine) (m : Message) (disk : Disk) (r : Reply) → Logs s m r → Queues s.write (on disk r)
-login_queues s m disk r l = subst (λ (w : Option Write). Queues w (on disk r)) l.write (reply_queues l.from disk r l.is)
+unchanged_queues : (s : Machine) (disk : Disk) → Queues s.write (unchanged s disk)
+unchanged_queues s disk = record { more = task_open s.write; order = append-nil (task_open s.write); few = open_few s.write; open_write = λ e. refl }
+
+shut_queues : (s : Machine) (disk : Disk) → Queues s.write (shut_down s disk)
+shut_queues s disk = record { more = task_open s.write; order = append-nil (task_open s.write); few = open_few s.write; open_write = λ e. absurd cc }
 
 -- ---- requests that were accepted while no write was open
 
@@ -69,15 +73,15 @@ Handles s m r = s.write ≡ None → Queues None (accepting m r)
 no_task : (m : Message) (head : Head) → m.head ≡ head → task_in head ≡ [] → tasks_in (m ∷ []) ≡ []
 no_task m head k e = ap (λ (h : Head). task_in h ++ []) k ∙ ap (λ (ts : List Task). ts ++ []) e
 
-reply_handles : (s : Machine) (m : Message) (disk : Disk) (head : Head) (r : Reply) → m.head ≡ head → task_in head ≡ [] → IsReply s r → Handles s m (on disk r)
-reply_handles s m disk head r k e c none = record {
+reply_handles : (s : Machine) (m : Message) (disk : Disk) (head : Head) (r : Reply) → m.head ≡ head → task_in head ≡ [] → Handles s m (on disk s.write r)
+reply_handles s m disk head r k e none = record {
   more = [];
   order = no_task m head k e;
   few = omega arith;
-  open_write = λ f. over_open None r.machine (subst (λ (w : Option Write). IsOver r.machine ⊎ (r.machine.write ≡ w)) none c.ends) f;
+  open_write = λ f. over_open None (on disk s.write r).machine (subst (λ (w : Option Write). IsOver (on disk s.write r).machine ⊎ ((on disk s.write r).machine.write ≡ w)) none (on_ends disk s.write r)) f;
 }
 
-refused_handles : (s : Machine) (m : Message) (disk : Disk) (rule : ℕ) → Handles s m (on disk (breach s rule m))
+refused_handles : (s : Machine) (m : Message) (disk : Disk) (rule : ℕ) → Handles s m (breaks s disk rule m)
 refused_handles s m disk rule none = record {
   more = task_in m.head;
   order = append-nil (task_in m.head);
@@ -119,12 +123,12 @@ taken_by : (w v more : Write) (b : Bool) → task_open (Some v) ≡ task_open (S
 taken_by w v more true e f = ap task_open (sym f) ∙ e
 taken_by w v more false e f = absurd cc
 
-taken_queues : (device : Device) (s : Machine) (disk : Disk) (h : DataPdu) (bytes : List ℕ) (w more : Write) → s.write ≡ Some w → taken (first_burst s.held) w h bytes ≡ Some more
+taken_queues : (device : Device) (s : Machine) (disk : Disk) (h : DataPdu) (bytes : List ℕ) (w more : Write) → s.write ≡ Some w → taken (first_burst s.session.held) w h bytes ≡ Some more
     → Queues s.write (proceed device s disk more)
 taken_queues device s disk h bytes w more e f =
     let p : Proceeds more (proceed device s disk more) = proceed_goes_on device s disk more in
     let same : task_open (Some more) ≡ task_open (Some w) =
-    taken_by w (with_data w h bytes) more (is_in_sequence (first_burst s.held) w h (received w + length bytes) w.due) refl f in
+    taken_by w (with_data w h bytes) more (is_in_sequence (first_burst s.session.held) w h (received w + length bytes) w.due) refl f in
     record {
       more = p.more;
       order = ap (λ (ms : List Message). task_open s.write ++ tasks_in ms) (proceed_accepts device s disk more) ∙ append-nil (task_open s.write)
@@ -136,33 +140,30 @@ taken_queues device s disk h bytes w more e f =
 -- ---- all parts
 
 abbrev Orders : Machine → Message → Stepped → Type 0
-Orders s m r = s.exp_cmd_sn < 2 ^ 32 → HasCmdSn m → Queues s.write r
+Orders s m r = s.session.exp_cmd_sn < 2 ^ 32 → HasCmdSn m → Queues s.write r
 
 accepted_orders : (s : Machine) (m : Message) (r : Stepped) → s.write ≡ None → Queues None (accepting m r) → Queues s.write (accepting m r)
 accepted_orders s m r none q = subst (λ (w : Option Write). Queues w (accepting m r)) (sym none) q
 
-in_turn_orders : (s : Machine) (m : Message) (n : ℕ) (r : Stepped) → cmd_sn_of m.head ≡ Some n → is_within n s.exp_cmd_sn (max_cmd_sn s) ≡ true
+in_turn_orders : (s : Machine) (m : Message) (n : ℕ) (r : Stepped) → cmd_sn_of m.head ≡ Some n → is_within n s.session.exp_cmd_sn (max_cmd_sn s) ≡ true
     → (s.write ≡ None → Queues None (accepting m r)) → Orders s m (accepting m r)
 in_turn_orders s m n r c w q lt fits =
     let k : n < 2 ^ 32 = subst FitsNumber c fits.request in
-    let none : s.write ≡ None = (in_window s.write s.exp_cmd_sn n lt k w).0 in
+    let none : s.write ≡ None = (in_window s.write s.session.exp_cmd_sn n lt k w).0 in
     accepted_orders s m r none (q none)
 
 parts_order : (device : Device) (disk : Disk) → Parts device disk Orders Handles
 parts_order device disk = record {
-  nothing_ = λ s m c lt fits. reply_queues s disk _ (nothing_reply s);
-  shut_ = λ s m rule lt fits. reply_queues s disk _ (shut_reply s rule);
-  reject_ = λ s reason m a lt fits. reply_queues s disk _ (reject_reply s reason m);
-  breach_ = λ s rule m lt fits. reply_queues s disk _ (breach_reply s rule m);
-  login_ = λ s m k lt fits. login_queues s m disk (login_step s m) (login_logs s m);
+  nothing_ = λ s m c lt fits. unchanged_queues s disk;
+  shut_ = λ s m lt fits. shut_queues s disk;
+  reject_ = λ s reason m a lt fits. reply_queues s disk _;
+  breach_ = λ s rule m lt fits. reply_queues s disk _;
+  login_ = λ s m k lt fits. reply_queues s disk (login_step s.session m);
   taken_ = λ s m h w more k e g f lt fits. taken_queues device s disk h (segment_bytes m.segment) w more e f;
   immediate_ = λ s m r a w c h lt fits. accepted_orders s m r w (h w);
   in_turn_ = λ s m n r a c w h. in_turn_orders s m n r c w h;
   refused_ = λ s m rule. refused_handles s m disk rule;
-  nop_ = λ s m h k. reply_handles s m disk (NopOut h) _ k refl (nop_reply s h (segment_bytes m.segment));
-  task_ = λ s m h k. reply_handles s m disk (TaskRequest h) _ k refl (task_reply s h);
-  text_ = λ s m h k. reply_handles s m disk (TextRequest h) _ k refl (text_reply_is s m h (segment_bytes m.segment));
-  logout_ = λ s m h k. reply_handles s m disk (LogoutRequest h) _ k refl (logout_reply s m h);
+  request_ = λ s m head k none. reply_handles s m disk head _ k none;
   execute_ = λ s m h k none. execute_handles device s m disk h k;
   opened_ = λ s m h total k e f. opened_handles device s m disk h total (segment_bytes m.segment) k;
 }
@@ -175,7 +176,7 @@ step_order device disk s m = step_parts device disk Orders Handles (parts_order 
 tasks_append : (a b : List Message) → tasks_in (a ++ b) ≡ tasks_in a ++ tasks_in b
 tasks_append a b = flat_map-append (λ (m : Message). task_in m.head) a b
 
-closed_queues : (write : Option Write) (first : Stepped) (disk : Disk) → Queues write first → is_closed first.machine ≡ true → Queues write (then_stepped first (on disk (nothing first.machine)))
+closed_queues : (write : Option Write) (first : Stepped) (disk : Disk) → Queues write first → is_closed first.machine ≡ true → Queues write (then_stepped first (unchanged first.machine disk))
 closed_queues write first disk q e = record {
   more = q.more;
   order = ap (λ (ms : List Message). task_open write ++ tasks_in ms) (append-nil first.accepted) ∙ q.order ∙ ap (λ (es : List Execution). tasks_done es ++ q.more) (sym (append-nil first.executed));
@@ -199,7 +200,7 @@ open_queues write first later q e p = record {
   open_write = p.open_write;
 }
 
-pub answers_queue : (s : Machine) (disk : Disk) (ms : List Message) → s.exp_cmd_sn < 2 ^ 32 → AllByRecursion HasCmdSn ms → Queues s.write (answers s disk ms)
+pub answers_queue : (s : Machine) (disk : Disk) (ms : List Message) → s.session.exp_cmd_sn < 2 ^ 32 → AllByRecursion HasCmdSn ms → Queues s.write (answers s disk ms)
 unfolding answers
 answers_queue s disk [] lt all = record { more = task_open s.write; order = append-nil (task_open s.write); few = open_few s.write; open_write = λ f. refl }
 answers_queue s disk (m ∷ ms) lt all =

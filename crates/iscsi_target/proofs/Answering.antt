@@ -5,7 +5,7 @@ use Rattle.iscsi_pdu.specs.Meaning.{whole}
 use Rattle.iscsi_pdu.specs.declared.head.Head.{Head}
 use Rattle.iscsi_stream.specs.Segment.{segment_bytes}
 use Rattle.iscsi_stream.specs.Canonical.{canon}
-use Rattle.iscsi_target.specs.State.{message}
+use Rattle.iscsi_target.specs.Session.{message}
 
 -- one answer as bytes
 pub one_answer : (head : Head) (bytes : List ℕ) → whole head bytes ≡ canon (message head bytes ∷ [])

@@ -14,10 +14,10 @@ use Rattle.iscsi_stream.specs.Stream.{Message}
 use Rattle.iscsi_stream.proofs.Ready.{apart}
 use Rattle.iscsi_login.specs.Held.{first_burst}
 use Rattle.iscsi_target.specs.Configured.{Settings}
-use Rattle.iscsi_target.specs.State.{Machine, Write, Stepped, Reply, on, nothing, shut, opening, max_cmd_sn}
+use Rattle.iscsi_target.specs.Session.{Reply}
+use Rattle.iscsi_target.specs.State.{Machine, Write, Stepped, on, unchanged, shut_down, opening, waiting, max_cmd_sn}
 use Rattle.iscsi_pdu.specs.Serial.{is_within}
-use Rattle.iscsi_target.specs.Rejecting.{breach}
-use Rattle.iscsi_pdu.specs.Rules.{kind_not_due}
+use Rattle.iscsi_target.specs.Rejecting.{breaks}
 use Rattle.iscsi_target.specs.Login.{login_step, login_in}
 use Rattle.iscsi_target.specs.declared.due.Due.{Due}
 use Rattle.iscsi_target.specs.declared.due.Due.TheVariants.{Nothing, Unsolicited, Solicited}
@@ -28,7 +28,7 @@ use Rattle.iscsi_target.specs.Machine.{step, step_on, answers, then_stepped, is_
 use Rattle.iscsi_target.specs.Tiles.{r2t_ranges, r2t_range, ends_r2t, data_answers, pdu_answers, r2ts_answered}
 use Rattle.iscsi_target.specs.Laws.{cmd_sn_of, FitsNumber, HasCmdSn}
 use Rattle.iscsi_target.proofs.StepParts.{by_cases, Parts, step_parts}
-use Rattle.iscsi_target.proofs.Replies.{IsReply, IsOver, Logs, login_logs, nothing_reply, reject_reply, nop_reply, task_reply, text_reply_is, logout_reply}
+use Rattle.iscsi_target.proofs.Replies.{IsOver, on_ends, Logs, login_logs, request_answered_reply}
 use Rattle.iscsi_target.proofs.Telling.{step_tells}
 use Rattle.iscsi_target.proofs.Window.{in_window}
 use Rattle.iscsi_target.proofs.Numbers.{closed_answers}
@@ -71,8 +71,8 @@ over_asks old r e (inr same) = record {
   closed_ = λ f. omega (arith, none_sent r e, unanswered_few old);
 }
 
-reply_asks : (s : Machine) (disk : Disk) (r : Reply) → IsReply s r → Asks (unanswered s.write) 0 (on disk r)
-reply_asks s disk r c = over_asks s.write (on disk r) c.ranges c.ends
+reply_asks : (s : Machine) (disk : Disk) (r : Reply) → r2t_ranges r.answers ≡ [] → Asks (unanswered s.write) 0 (on disk s.write r)
+reply_asks s disk r e = over_asks s.write (on disk s.write r) e (on_ends disk s.write r)
 
 answering : (before a : ℕ) (r : Stepped) → Asks before 0 r → a ≡ 0 → Asks before a r
 answering before a r h e = subst (λ (n : ℕ). Asks before n r) (sym e) h
@@ -82,12 +82,11 @@ closing write a r e f = record { open_ = λ g. absurd (apart e g); closed_ = λ 
 
 -- ---- the login
 
-login_asks_in : (s : Machine) (m : Message) (disk : Disk) (head : Head) → m.head ≡ head → Asks (unanswered s.write) (pdu_answers s m head) (on disk (login_in s head m.segment))
+login_asks_in : (s : Machine) (m : Message) (disk : Disk) (head : Head) → m.head ≡ head → Asks (unanswered s.write) (pdu_answers s m head) (on disk s.write (login_in s.session head m.segment))
 login_asks_in s m disk (LoginRequest h) k =
-    let l : Logs s m (login_step s m) = login_logs s m in
-    let c : Asks (unanswered l.from.write) 0 (on disk (login_step s m)) = reply_asks l.from disk (login_step s m) l.is in
-    subst (λ (x : Head). Asks (unanswered s.write) 0 (on disk (login_in s x m.segment))) k (subst (λ (w : Option Write). Asks (unanswered w) 0 (on disk (login_step s m))) l.write c)
-login_asks_in s m disk head k = closing s.write (pdu_answers s m head) (on disk (shut s (Some kind_not_due))) refl refl
+    let l : Logs s.session m (login_step s.session m) = login_logs s.session m in
+    subst (λ (x : Head). Asks (unanswered s.write) 0 (on disk s.write (login_in s.session x m.segment))) k (reply_asks s disk (login_step s.session m) l.is.ranges)
+login_asks_in s m disk head k = closing s.write (pdu_answers s m head) (on disk s.write (login_in s.session head m.segment)) refl refl
 
 -- ---- writes
 
@@ -149,22 +148,22 @@ data_answers_is : (first : ℕ) (h : DataPdu) (bytes : List ℕ) (w more : Write
 data_answers_is first h bytes w more g f = rw g (some_if w more (taken first w h bytes) (ends_r2t w.due h.is_final) f)
 
 taken_asks : (device : Device) (s : Machine) (m : Message) (disk : Disk) (h : DataPdu) (w more : Write) → IsSound disk.count s → m.head ≡ DataOut h → s.write ≡ Some w
-    → (h.initiator_task_tag == w.initiator_task_tag) ≡ true → taken (first_burst s.held) w h (segment_bytes m.segment) ≡ Some more
+    → (h.initiator_task_tag == w.initiator_task_tag) ≡ true → taken (first_burst s.session.held) w h (segment_bytes m.segment) ≡ Some more
     → Asks (unanswered s.write) (pdu_answers s m m.head) (proceed device s disk more)
 taken_asks device s m disk h w more o k e g f =
     let bytes : List ℕ = segment_bytes m.segment in
     let v : Write = with_data w h bytes in
-    let t = taken_if v more (is_in_sequence (first_burst s.held) w h (received w + length bytes) w.due) f in
+    let t = taken_if v more (is_in_sequence (first_burst s.session.held) w h (received w + length bytes) w.due) f in
     let sound : IsOpen disk.count w = subst (λ (x : Option Write). OnWrite x (IsOpen disk.count)) e o in
     let size : received v ≡ received w + length bytes = size_with w.pieces (received w) bytes in
     let c : Asks (due_open w.due) (ends_r2t w.due h.is_final) (proceed device s disk v) =
     proceed_asks device s disk v (due_open w.due) (ends_r2t w.due h.is_final)
-    (λ x. last_taken (first_burst s.held) w h bytes w.due sound.due t.0 (eqb-true w.total (received v) x ∙ size))
-    (λ x. idle_taken (first_burst s.held) w h (received w + length bytes) w.due h.is_final t.0 x)
+    (λ x. last_taken (first_burst s.session.held) w h bytes w.due sound.due t.0 (eqb-true w.total (received v) x ∙ size))
+    (λ x. idle_taken (first_burst s.session.held) w h (received w + length bytes) w.due h.is_final t.0 x)
     (λ x. waits_taken w.due h.is_final x) in
     let a : pdu_answers s m m.head ≡ ends_r2t w.due h.is_final =
-    ap (λ (x : Head). pdu_answers s m x) k ∙ ap (λ (x : Option Write). data_answers (first_burst s.held) h bytes x) e
-    ∙ data_answers_is (first_burst s.held) h bytes w more g f in
+    ap (λ (x : Head). pdu_answers s m x) k ∙ ap (λ (x : Option Write). data_answers (first_burst s.session.held) h bytes x) e
+    ∙ data_answers_is (first_burst s.session.held) h bytes w more g f in
     subst (λ (n : ℕ). Asks (unanswered s.write) n (proceed device s disk more)) (sym a)
     (subst (λ (n : ℕ). Asks n (ends_r2t w.due h.is_final) (proceed device s disk more)) (sym (ap unanswered e))
     (subst (λ (x : Write). Asks (due_open w.due) (ends_r2t w.due h.is_final) (proceed device s disk x)) t.1 c))
@@ -172,7 +171,7 @@ taken_asks device s m disk h w more o k e g f =
 -- ---- all parts
 
 abbrev Whole : Device → Disk → Machine → Message → Stepped → Type 0
-Whole device disk s m r = s.exp_cmd_sn < 2 ^ 32 → HasCmdSn m → IsSound disk.count s → Asks (unanswered s.write) (pdu_answers s m m.head) r
+Whole device disk s m r = s.session.exp_cmd_sn < 2 ^ 32 → HasCmdSn m → IsSound disk.count s → Asks (unanswered s.write) (pdu_answers s m m.head) r
 
 abbrev Handled : Machine → Message → Stepped → Type 0
 Handled s m r = s.write ≡ None → Asks 0 0 r
@@ -183,15 +182,15 @@ accepted_asks s m r none a h =
     subst (λ (n : ℕ). Asks n (pdu_answers s m m.head) (accepting m r)) (sym (ap unanswered none))
     (subst (λ (n : ℕ). Asks 0 n (accepting m r)) (sym a) now)
 
-in_turn_asks : (s : Machine) (m : Message) (n : ℕ) (r : Stepped) → pdu_answers s m m.head ≡ 0 → cmd_sn_of m.head ≡ Some n → is_within n s.exp_cmd_sn (max_cmd_sn s) ≡ true
-    → (s.write ≡ None → Asks 0 0 r) → s.exp_cmd_sn < 2 ^ 32 → HasCmdSn m → Asks (unanswered s.write) (pdu_answers s m m.head) (accepting m r)
+in_turn_asks : (s : Machine) (m : Message) (n : ℕ) (r : Stepped) → pdu_answers s m m.head ≡ 0 → cmd_sn_of m.head ≡ Some n → is_within n s.session.exp_cmd_sn (max_cmd_sn s) ≡ true
+    → (s.write ≡ None → Asks 0 0 r) → s.session.exp_cmd_sn < 2 ^ 32 → HasCmdSn m → Asks (unanswered s.write) (pdu_answers s m m.head) (accepting m r)
 in_turn_asks s m n r a c w h lt fits =
     let k : n < 2 ^ 32 = subst FitsNumber c fits.request in
-    let none : s.write ≡ None = (in_window s.write s.exp_cmd_sn n lt k w).0 in
+    let none : s.write ≡ None = (in_window s.write s.session.exp_cmd_sn n lt k w).0 in
     accepted_asks s m r none a (h none)
 
-reply_handled : (s : Machine) (disk : Disk) (r : Reply) → IsReply s r → s.write ≡ None → Asks 0 0 (on disk r)
-reply_handled s disk r c none = subst (λ (n : ℕ). Asks n 0 (on disk r)) (ap unanswered none) (reply_asks s disk r c)
+reply_handled : (s : Machine) (disk : Disk) (r : Reply) → r2t_ranges r.answers ≡ [] → s.write ≡ None → Asks 0 0 (on disk s.write r)
+reply_handled s disk r e none = subst (λ (n : ℕ). Asks n 0 (on disk s.write r)) (ap unanswered none) (reply_asks s disk r e)
 
 opened_waits : (last : Bool) → is_idle (if last then Nothing else Unsolicited 0) ≡ false → 0 ≡ due_open (if last then Nothing else Unsolicited 0) + 0
 opened_waits true e = absurd cc
@@ -200,21 +199,18 @@ opened_waits false e = refl
 parts_ask : (device : Device) (disk : Disk) → Parts device disk (Whole device disk) Handled
 parts_ask device disk = record {
   nothing_ = λ s m c lt fits o. elim c [
-    | inl e ↦ closing s.write (pdu_answers s m m.head) (on disk (nothing s)) e refl
-    | inr a ↦ answering (unanswered s.write) (pdu_answers s m m.head) (on disk (nothing s)) (reply_asks s disk _ (nothing_reply s)) a
+    | inl e ↦ closing s.write (pdu_answers s m m.head) (unchanged s disk) e refl
+    | inr a ↦ answering (unanswered s.write) (pdu_answers s m m.head) (unchanged s disk) (over_asks s.write (unchanged s disk) refl (inr refl)) a
   ];
-  shut_ = λ s m rule lt fits o. closing s.write (pdu_answers s m m.head) (on disk (shut s rule)) refl refl;
-  reject_ = λ s reason m a lt fits o. answering (unanswered s.write) (pdu_answers s m m.head) _ (reply_asks s disk _ (reject_reply s reason m)) a;
-  breach_ = λ s rule m lt fits o. closing s.write (pdu_answers s m m.head) (on disk (breach s rule m)) refl refl;
+  shut_ = λ s m lt fits o. closing s.write (pdu_answers s m m.head) (shut_down s disk) refl refl;
+  reject_ = λ s reason m a lt fits o. answering (unanswered s.write) (pdu_answers s m m.head) _ (reply_asks s disk _ refl) a;
+  breach_ = λ s rule m lt fits o. closing s.write (pdu_answers s m m.head) (breaks s disk rule m) refl refl;
   login_ = λ s m k lt fits o. login_asks_in s m disk m.head refl;
   taken_ = λ s m h w more k e g f lt fits o. taken_asks device s m disk h w more o k e g f;
   immediate_ = λ s m r a w c h lt fits o. accepted_asks s m r w a (h w);
   in_turn_ = λ s m n r a c w h lt fits o. in_turn_asks s m n r a c w h lt fits;
-  refused_ = λ s m rule none. closing None 0 (on disk (breach s rule m)) refl refl;
-  nop_ = λ s m h k. reply_handled s disk _ (nop_reply s h (segment_bytes m.segment));
-  task_ = λ s m h k. reply_handled s disk _ (task_reply s h);
-  text_ = λ s m h k. reply_handled s disk _ (text_reply_is s m h (segment_bytes m.segment));
-  logout_ = λ s m h k. reply_handled s disk _ (logout_reply s m h);
+  refused_ = λ s m rule none. closing None 0 (breaks s disk rule m) refl refl;
+  request_ = λ s m head k none. reply_handled s disk _ (request_answered_reply s.session (waiting s.write) m head).ranges;
   execute_ = λ s m h k no none. over_asks None (execute device s disk h.initiator_task_tag (order_of h) []) (execute_ranges device s disk h.initiator_task_tag (order_of h) []) (inr none);
   opened_ = λ s m h total k e f none. proceed_asks device s disk (opened h total (segment_bytes m.segment)) 0 0 (λ x. refl) (λ x. refl) (opened_waits h.is_final);
 }
@@ -227,7 +223,7 @@ sent_append first later =
     ap (λ (rs : List (ℕ × ℕ)). length rs) (flat_map-append (λ (m : Message). r2t_range m.head) first.answers later.answers)
     ∙ length-append (r2t_ranges first.answers) (r2t_ranges later.answers)
 
-pub answers_asks : (s : Machine) (disk : Disk) (ms : List Message) → s.exp_cmd_sn < 2 ^ 32 → AllByRecursion HasCmdSn ms → IsSound disk.count s
+pub answers_asks : (s : Machine) (disk : Disk) (ms : List Message) → s.session.exp_cmd_sn < 2 ^ 32 → AllByRecursion HasCmdSn ms → IsSound disk.count s
     → sent (answers s disk ms) + unanswered s.write ≤ r2ts_answered s disk ms + 1
 unfolding answers r2ts_answered
 answers_asks s disk [] lt all o = omega (arith, unanswered_few s.write)

@@ -3,7 +3,7 @@ use Rattle.std.proofs.Common.{◌≡◌, ℕ, List, [], ◌∷◌, ◌++◌, Opt
 use Rattle.std.proofs.lemmas.List.{append-nil}
 use Rattle.scsi_disk.specs.Disk.{Disk}
 use Rattle.iscsi_stream.specs.Stream.{Message}
-use Rattle.iscsi_target.specs.State.{Machine, Stepped, on, nothing}
+use Rattle.iscsi_target.specs.State.{Machine, Stepped, unchanged}
 use Rattle.iscsi_target.specs.Transfer.{joined}
 use Rattle.iscsi_target.specs.Machine.{step, step_on, answers, then_stepped, first_rule, MayStep, MayAnswer}
 use Rattle.iscsi_target.specs.Laws.{joined_stepped}
@@ -15,7 +15,7 @@ rule_nothing : (rule : Option ℕ) → first_rule rule None ≡ rule
 rule_nothing None = refl
 rule_nothing (Some k) = refl
 
-pub then_nothing : (r : Stepped) → then_stepped r (on r.disk (nothing r.machine)) ≡ r
+pub then_nothing : (r : Stepped) → then_stepped r (unchanged r.machine r.disk) ≡ r
 then_nothing r = λ i. record {
   machine = r.machine;
   disk = r.disk;
@@ -38,7 +38,7 @@ pub may_more : (s : Machine) (disk : Disk) (before now after : ℕ) (ms : List M
     → MayStep r.machine r.disk now m b after → MayAnswer s disk before (ms ++ m ∷ []) (then_stepped r b) after
 unfolding MayAnswer
 may_more s disk before now after ms r m b e f =
-    may_append s disk before now after ms (m ∷ []) r b e (b, on b.disk (nothing b.machine), after, f, (refl, refl), sym (then_nothing b))
+    may_append s disk before now after ms (m ∷ []) r b e (b, unchanged b.machine b.disk, after, f, (refl, refl), sym (then_nothing b))
 
 -- a step from a session whose pieces are joined is one from the session itself
 pub may_apart : (s : Machine) (disk : Disk) (before after : ℕ) (m : Message) (a : Stepped) → (p : MayStep (joined s) disk before m a after) → MayStep s disk before m (step_on p.device s disk m) after

@@ -8,7 +8,8 @@ use Rattle.scsi_disk.specs.declared.order.Order.{Order}
 use Rattle.iscsi_stream.specs.Segment.{segment_bytes}
 use Rattle.iscsi_stream.specs.Stream.{Message}
 use Rattle.iscsi_login.specs.Held.{Held, max_burst}
-use Rattle.iscsi_target.specs.State.{Machine, message}
+use Rattle.iscsi_target.specs.Session.{message}
+use Rattle.iscsi_target.specs.State.{Machine}
 use Rattle.iscsi_stream.specs.Pieces.{Pieces, data_of, chunks, TilesFrom, data_pieces}
 use Rattle.iscsi_target.specs.Execution.{Device, execute, marked, run_given, parts_given, data_ins, response_head, sense_segment}
 use Rattle.iscsi_target.specs.Tiles.{Tiles, TileBytes}
@@ -56,13 +57,13 @@ data_ins_bytes s tag data_sn at [] last e = ap data_of e
 data_ins_bytes s tag data_sn at (part ∷ given) last e = ap (λ (z : List ℕ). part.0 ++ z) (data_ins_bytes s tag (data_sn + 1) (at + length part.0) given last e)
 
 -- the Data-In of a command tile what it gives
-pub execute_tiled : (device : Device) (s : Machine) (disk : Disk) (tag : ℕ) (order : Order) (pieces : Pieces) → 0 < max_burst s.held → 0 < s.held.initiator_max_recv
+pub execute_tiled : (device : Device) (s : Machine) (disk : Disk) (tag : ℕ) (order : Order) (pieces : Pieces) → 0 < max_burst s.session.held → 0 < s.session.held.initiator_max_recv
     → TileBytes (data_pieces (execute device s disk tag order pieces).answers) (device 0 disk order (data_of pieces)).outcome.bytes
 execute_tiled device s disk tag order pieces burst most =
     let e : Effect = device 0 disk order (data_of pieces) in
-    let given : Parts = parts_given s.held e.outcome.bytes in
+    let given : Parts = parts_given s.session.held e.outcome.bytes in
     let last : Message = message (response_head s tag e.outcome (length given)) (sense_segment e.outcome.sense) in
-    let all : bytes_of given ≡ e.outcome.bytes = all_given s.held e.outcome.bytes burst most in (
+    let all : bytes_of given ≡ e.outcome.bytes = all_given s.session.held e.outcome.bytes burst most in (
       subst (λ (n : ℕ). Tiles (data_pieces (data_ins s tag 0 0 given ++ last ∷ [])) n) (let f = ap (λ (z : List ℕ). length z) all in omega (arith, f)) (tiles_ins s tag 0 0 given last refl),
       data_ins_bytes s tag 0 0 given last refl ∙ all,
     )

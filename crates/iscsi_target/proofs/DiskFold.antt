@@ -25,7 +25,7 @@ parts_fold : (disk : Disk) → Parts reliable disk (λ s m r. Folds disk r) (λ 
 unfolding disk_after
 parts_fold disk = record {
   nothing_ = λ s m c. record { is = refl };
-  shut_ = λ s m rule. record { is = refl };
+  shut_ = λ s m. record { is = refl };
   reject_ = λ s reason m a. record { is = refl };
   breach_ = λ s rule m. record { is = refl };
   login_ = λ s m k. record { is = refl };
@@ -33,10 +33,7 @@ parts_fold disk = record {
   immediate_ = λ s m r a w c f. record { is = f.is };
   in_turn_ = λ s m n r a c w f. record { is = f.is };
   refused_ = λ s m rule. record { is = refl };
-  nop_ = λ s m h k. record { is = refl };
-  task_ = λ s m h k. record { is = refl };
-  text_ = λ s m h k. record { is = refl };
-  logout_ = λ s m h k. record { is = refl };
+  request_ = λ s m head k none. record { is = refl };
   execute_ = λ s m h k none. record { is = refl };
   opened_ = λ s m h total k e f. proceed_folds s disk (opened h total _);
 }

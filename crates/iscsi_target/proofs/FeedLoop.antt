@@ -12,7 +12,8 @@ use Rattle.iscsi_stream.proofs.PassOn.{unready_after, takes_some}
 use Rattle.iscsi_login.specs.declared.phase.Phase.{Phase}
 use Rattle.iscsi_target.specs.declared.fault.TargetFault.{TargetFault}
 use Rattle.iscsi_target.specs.declared.fault.TargetFault.TheVariants as faults
-use Rattle.iscsi_target.specs.State.{Machine, Stepped, on, nothing, closed, limit}
+use Rattle.iscsi_target.specs.Session.{limit}
+use Rattle.iscsi_target.specs.State.{Machine, Stepped, unchanged, closed}
 use Rattle.iscsi_target.specs.Transfer.{joined}
 use Rattle.iscsi_target.specs.Execution.{Device, reliable}
 use Rattle.iscsi_target.specs.Machine.{step_on, answers, then_stepped, first_rule, MayAnswer, RunsIn, is_closed}
@@ -34,7 +35,7 @@ pub record FedUpTo (old : Connection) (before : Store) (output piece rest : List
   pub counted : after.failures ≡ answered.failures
   pub rises : before.failures ≤ after.failures
   pub machine_is : joined now.machine ≡ joined stepped.machine
-  pub settings_is : now.machine.settings ≡ old.machine.settings
+  pub settings_is : now.machine.session.settings ≡ old.machine.session.settings
 
 -- and the session goes on
 pub record GoesUpTo (old : Connection) (before : Store) (output piece rest : List ℕ) (now : Connection) (after : Store) (written : List ℕ) : Type 0 where
@@ -55,7 +56,7 @@ fed_none old before output piece unready live = record {
     front = [];
     parts = refl;
     messages = [];
-    stepped = on before.disk (nothing old.machine);
+    stepped = unchanged old.machine before.disk;
     answered = record { taken = moves_none old.framing; ready = unready; failures = before.failures; may = (refl, refl); works = λ _. refl; disk = refl; output_is = sym (append-nil output); limit = refl };
     counted = refl;
     rises = omega arith;
@@ -102,13 +103,13 @@ same_step : (d : Device) (a b : Machine) (disk : Disk) (m : Message) → joined 
 same_step d a b disk m e = sym (step_joined d a disk m) ∙ ap (λ (s : Machine). joined_stepped (step_on d s disk m)) e ∙ step_joined d b disk m
 
 abbrev last_of : Device → Machine → Disk → Message → Stepped
-last_of d s disk m = then_stepped (step_on d s disk m) (on (step_on d s disk m).disk (nothing (step_on d s disk m).machine))
+last_of d s disk m = then_stepped (step_on d s disk m) (unchanged (step_on d s disk m).machine (step_on d s disk m).disk)
 
 may_last : (d : Device) (s : Machine) (disk : Disk) (m : Message) (before after : ℕ) → RunsIn d before (step_on d s disk m).executed after
     → MayAnswer s disk before (m ∷ []) (last_of d s disk m) after
 unfolding MayAnswer
 may_last d s disk m before after runs =
-    (step_on d s disk m, on (step_on d s disk m).disk (nothing (step_on d s disk m).machine), after, record { device = d; is = refl; runs = runs }, (refl, refl), refl)
+    (step_on d s disk m, unchanged (step_on d s disk m).machine (step_on d s disk m).disk, after, record { device = d; is = refl; runs = runs }, (refl, refl), refl)
 
 answers_last : (s : Machine) (disk : Disk) (m : Message) → answers s disk (m ∷ []) ≡ last_of reliable s disk m
 unfolding answers
@@ -118,8 +119,8 @@ rule_last : (a b : Option ℕ) → a ≡ None → first_rule a (first_rule b Non
 rule_last a None e = rw e refl
 rule_last a (Some rule) e = rw e refl
 
-settings_as : (a b : Machine) → joined a ≡ joined b → a.settings ≡ b.settings
-settings_as a b e = ap (λ (s : Machine). s.settings) e
+settings_as : (a b : Machine) → joined a ≡ joined b → a.session.settings ≡ b.session.settings
+settings_as a b e = ap (λ (s : Machine). s.session.settings) e
 
 pub fed_pdu : (old : Connection) (before : Store) (output piece rest after_rest : List ℕ) (now : Connection) (mid : Store) (written : List ℕ) (n : ℕ) (framing : Framing) (broken : Option ℕ) (new : Connection) (after : Store) (more : List ℕ)
     → (g : GoesUpTo old before output piece rest now mid written) → Takes now.framing rest n framing → IsAnswered (connection now.machine framing) mid written broken new after more → after_rest ≡ drop n rest
@@ -199,7 +200,7 @@ fed_one old before output piece rest after_rest now mid written n broken new aft
     fed_ready old before output piece rest after_rest now mid written n t.framing broken new after more g t.takes t.answers is
 
 pub stays_within : (old : Connection) (before : Store) (output piece rest : List ℕ) (now : Connection) (after : Store) (written : List ℕ) → FedUpTo old before output piece rest now after written
-    → old.framing.limit ≡ limit old.machine.settings → now.framing.limit ≡ limit now.machine.settings
+    → old.framing.limit ≡ limit old.machine.session.settings → now.framing.limit ≡ limit now.machine.session.settings
 stays_within old before output piece rest now after written f e = f.answered.limit ∙ e ∙ ap limit (sym f.settings_is)
 
 -- ---- where a call ends
@@ -299,20 +300,20 @@ ends_broken old before output piece rest now after written rule f broken whole =
     feeds_to old before output piece rest now after written (Err (faults.Protocol rule)) now f (broken, sym whole ∙ f.machine_is)
 
 pub ends_closed : (old : Connection) (before : Store) (output piece rest : List ℕ) (now : Connection) (after : Store) (written : List ℕ) (phase : Phase)
-    → (f : FedUpTo old before output piece rest now after written) → f.stepped.rule ≡ None → joined now.machine ≡ now.machine → phase ≡ now.machine.phase → is_closed now.machine ≡ true
+    → (f : FedUpTo old before output piece rest now after written) → f.stepped.rule ≡ None → joined now.machine ≡ now.machine → phase ≡ now.machine.session.phase → is_closed now.machine ≡ true
     → Feeds old before output piece (Ok phase) now after written
 ends_closed old before output piece rest now after written phase f rule whole is over =
     feeds_to old before output piece rest now after written (Ok phase) now f
-    (rule, sym whole ∙ f.machine_is, is ∙ ap (λ (s : Machine). s.phase) f.machine_is, inl (sym (closed_as now.machine f.stepped.machine f.machine_is) ∙ over))
+    (rule, sym whole ∙ f.machine_is, is ∙ ap (λ (s : Machine). s.session.phase) f.machine_is, inl (sym (closed_as now.machine f.stepped.machine f.machine_is) ∙ over))
 
 pub ends_live : (old : Connection) (before : Store) (output piece rest : List ℕ) (now : Connection) (after : Store) (written : List ℕ) (phase : Phase)
-    → GoesUpTo old before output piece rest now after written → joined now.machine ≡ now.machine → phase ≡ now.machine.phase → length rest ≡ 0 → Feeds old before output piece (Ok phase) now after written
+    → GoesUpTo old before output piece rest now after written → joined now.machine ≡ now.machine → phase ≡ now.machine.session.phase → length rest ≡ 0 → Feeds old before output piece (Ok phase) now after written
 ends_live old before output piece rest now after written phase g whole is none =
     let f = g.fed in
     feeds_to old before output piece rest now after written (Ok phase) now f (
       g.rule,
       sym whole ∙ f.machine_is,
-      is ∙ ap (λ (s : Machine). s.phase) f.machine_is,
+      is ∙ ap (λ (s : Machine). s.session.phase) f.machine_is,
       inr (record { live = (live_stepped old before output piece rest now after written g).live; all = omega (arith, none); framing_is = refl }),
     )
 
@@ -342,12 +343,12 @@ front_taken v w piece n t =
 
 feeds_one : (old : Connection) (before : Store) (output piece : List ℕ) (n : ℕ) (phase : Phase) (new : Connection) (after : Store) (written : List ℕ)
     → n ≤ length piece → (0 < length piece → 0 < n) → (f : FedUpTo old before output (take n piece) [] new after written) → f.stepped.rule ≡ None → length f.messages ≤ 1
-    → joined new.machine ≡ new.machine → phase ≡ new.machine.phase → (over : Bool) → is_closed new.machine ≡ over → FeedsOne old before output piece n phase new after written
+    → joined new.machine ≡ new.machine → phase ≡ new.machine.session.phase → (over : Bool) → is_closed new.machine ≡ over → FeedsOne old before output piece n phase new after written
 feeds_one old before output piece n phase new after written bound some f rule few whole is true over = record {
   bound = bound;
   some = some;
   fed = feeds_to old before output (take n piece) [] new after written (Ok phase) new f
-      (rule, sym whole ∙ f.machine_is, is ∙ ap (λ (s : Machine). s.phase) f.machine_is, inl (sym (closed_as new.machine f.stepped.machine f.machine_is) ∙ over));
+      (rule, sym whole ∙ f.machine_is, is ∙ ap (λ (s : Machine). s.session.phase) f.machine_is, inl (sym (closed_as new.machine f.stepped.machine f.machine_is) ∙ over));
   one = few;
 }
 feeds_one old before output piece n phase new after written bound some f rule few whole is false live = record {
@@ -356,7 +357,7 @@ feeds_one old before output piece n phase new after written bound some f rule fe
   fed = feeds_to old before output (take n piece) [] new after written (Ok phase) new f (
     rule,
     sym whole ∙ f.machine_is,
-    is ∙ ap (λ (s : Machine). s.phase) f.machine_is,
+    is ∙ ap (λ (s : Machine). s.session.phase) f.machine_is,
     inr (record { live = sym (closed_as new.machine f.stepped.machine f.machine_is) ∙ live; all = omega arith; framing_is = refl }),
   );
   one = few;
@@ -364,7 +365,7 @@ feeds_one old before output piece n phase new after written bound some f rule fe
 
 pub next_fed : (old : Connection) (before : Store) (output piece : List ℕ) (n : ℕ) (phase : Phase) (new : Connection) (after : Store) (written : List ℕ)
     → is_ready old.framing ≡ false → is_closed old.machine ≡ false → TakesOne old before output piece n None new after written
-    → joined new.machine ≡ new.machine → phase ≡ new.machine.phase → FeedsOne old before output piece n phase new after written
+    → joined new.machine ≡ new.machine → phase ≡ new.machine.session.phase → FeedsOne old before output piece n phase new after written
 unfolding fed_none
 next_fed old before output piece n phase new after written unready live t whole is =
     let front : TakesOne old before output (take n piece) n None new after written =

@@ -23,7 +23,8 @@ use Rattle.iscsi_login.specs.declared.phase.Phase.TheVariants as phases
 use Rattle.iscsi_target.specs.declared.fault.TargetFault.{TargetFault}
 use Rattle.iscsi_target.specs.declared.fault.TargetFault.TheVariants as faults
 use Rattle.iscsi_target.specs.Configured.{Settings}
-use Rattle.iscsi_target.specs.State.{Machine, Write, Stepped, Reply, closed, limit, opening, on, nothing, shut}
+use Rattle.iscsi_target.specs.Session.{Reply, limit}
+use Rattle.iscsi_target.specs.State.{Machine, Write, Stepped, closed, opening, on, unchanged, shut_down, waiting}
 use Rattle.iscsi_target.specs.Transfer.{joined, is_whole as write_is_whole, is_idle}
 use Rattle.iscsi_target.specs.Login.{login_step}
 use Rattle.iscsi_target.specs.Execution.{Device, reliable}
@@ -32,7 +33,8 @@ use Rattle.iscsi_target.specs.Machine.{is_closed, is_over_limit, step, answers, 
 use Rattle.iscsi_target.specs.Laws.{joined_stepped}
 use Rattle.iscsi_target.specs.Feed.{Connection, Store, Answers, Ends, Feeds, Fed, HasAnswered, GoesWell, FedAll, FedIf, Stays, Meets, opening_connection, Writes, Holds, Refuses, SameSession}
 use Rattle.iscsi_target.proofs.StepParts.{by_cases, Parts, step_parts}
-use Rattle.iscsi_target.proofs.Replies.{IsReply, login_logs, nothing_reply, shut_reply, reject_reply, breach_reply, nop_reply, task_reply, text_reply_is, logout_reply}
+use Rattle.iscsi_target.proofs.Replies.{login_logs, reject_reply, breach_reply, request_answered_reply}
+use Rattle.iscsi_login.specs.Stage.{is_closed_phase}
 use Rattle.iscsi_target.proofs.Numbers.{closed_answers, answers_settings}
 use Rattle.iscsi_target.proofs.Appending.{answers_append}
 use Rattle.iscsi_target.proofs.Joining.{answers_joined}
@@ -46,8 +48,8 @@ use Rattle.iscsi_login.specs.Stage.{is_closed_phase}
 record Closes (r : Stepped) : Type 0 where
   is : (k : ℕ) → r.rule ≡ Some k → is_closed r.machine ≡ true
 
-reply_closes : (s : Machine) (disk : Disk) (r : Reply) → IsReply s r → Closes (on disk r)
-reply_closes s disk r c = record { is = c.rule }
+reply_closes : (s : Machine) (disk : Disk) (r : Reply) → ((k : ℕ) → r.rule ≡ Some k → is_closed_phase r.session.phase ≡ true) → Closes (on disk s.write r)
+reply_closes s disk r c = record { is = c }
 
 proceed_closes : (device : Device) (s : Machine) (disk : Disk) (w : Write) → Closes (proceed device s disk w)
 proceed_closes device s disk w =
@@ -56,19 +58,16 @@ proceed_closes device s disk w =
 
 parts_close : (device : Device) (disk : Disk) → Parts device disk (λ s m r. Closes r) (λ s m r. Closes r)
 parts_close device disk = record {
-  nothing_ = λ s m c. reply_closes s disk _ (nothing_reply s);
-  shut_ = λ s m rule. reply_closes s disk _ (shut_reply s rule);
-  reject_ = λ s reason m a. reply_closes s disk _ (reject_reply s reason m);
-  breach_ = λ s rule m. reply_closes s disk _ (breach_reply s rule m);
-  login_ = λ s m k. reply_closes (login_logs s m).from disk (login_step s m) (login_logs s m).is;
+  nothing_ = λ s m c. record { is = λ k e. absurd cc };
+  shut_ = λ s m. record { is = λ k e. refl };
+  reject_ = λ s reason m a. reply_closes s disk _ (reject_reply s.session (waiting s.write) reason m).rule;
+  breach_ = λ s rule m. reply_closes s disk _ (breach_reply s.session (waiting s.write) rule m).rule;
+  login_ = λ s m k. reply_closes s disk (login_step s.session m) (login_logs s.session m).is.rule;
   taken_ = λ s m h w more k e g f. proceed_closes device s disk more;
   immediate_ = λ s m r a w c h. record { is = h.is };
   in_turn_ = λ s m n r a c w h. record { is = h.is };
-  refused_ = λ s m rule. reply_closes s disk _ (breach_reply s rule m);
-  nop_ = λ s m h k. reply_closes s disk _ (nop_reply s h (segment_bytes m.segment));
-  task_ = λ s m h k. reply_closes s disk _ (task_reply s h);
-  text_ = λ s m h k. reply_closes s disk _ (text_reply_is s m h (segment_bytes m.segment));
-  logout_ = λ s m h k. reply_closes s disk _ (logout_reply s m h);
+  refused_ = λ s m rule. reply_closes s disk _ (breach_reply s.session (waiting s.write) rule m).rule;
+  request_ = λ s m head k none. reply_closes s disk _ (request_answered_reply s.session (waiting s.write) m head).rule;
   execute_ = λ s m h k none. record { is = λ n e. absurd cc };
   opened_ = λ s m h total k e f. proceed_closes device s disk (opened h total (segment_bytes m.segment));
 }
@@ -134,7 +133,7 @@ pub closed_meets : (settings : Settings) (n : ℕ) (disk : Disk) (first more : L
     → is_closed (answers (opening settings n) disk first).machine ≡ true → Meets settings n disk first now disk_now written → Meets settings n disk (first ++ more) now disk_now written
 closed_meets settings n disk first more now disk_now written c m =
     let a : Stepped = answers (opening settings n) disk first in
-    let e : answers (opening settings n) disk (first ++ more) ≡ then_stepped a (on a.disk (nothing a.machine)) =
+    let e : answers (opening settings n) disk (first ++ more) ≡ then_stepped a (unchanged a.machine a.disk) =
     answers_append (opening settings n) disk first more ∙ ap (λ (r : Stepped). then_stepped a r) (closed_answers a.machine a.disk more c) in
     record {
       machine = m.machine ∙ ap (λ (r : Stepped). joined r.machine) (sym e);
@@ -150,11 +149,11 @@ over_meets : (settings : Settings) (n : ℕ) (disk : Disk) (first : List Message
 unfolding answers
 over_meets settings n disk first m more now disk_now written live long is_now is_disk is_written =
     let a : Stepped = answers (opening settings n) disk first in
-    let one : step a.machine a.disk m ≡ on a.disk (shut a.machine None) = rw (live, long) refl in
-    let e : answers (opening settings n) disk (first ++ m ∷ more) ≡ then_stepped a (then_stepped (on a.disk (shut a.machine None)) (on a.disk (nothing (closed a.machine)))) =
+    let one : step a.machine a.disk m ≡ shut_down a.machine a.disk = rw (live, long) refl in
+    let e : answers (opening settings n) disk (first ++ m ∷ more) ≡ then_stepped a (then_stepped (shut_down a.machine a.disk) (unchanged (closed a.machine) a.disk)) =
     answers_append (opening settings n) disk first (m ∷ more)
     ∙ ap (λ (r : Stepped). then_stepped a (then_stepped r (answers r.machine r.disk more))) one
-    ∙ ap (λ (r : Stepped). then_stepped a (then_stepped (on a.disk (shut a.machine None)) r)) (closed_answers (closed a.machine) a.disk more refl) in
+    ∙ ap (λ (r : Stepped). then_stepped a (then_stepped (shut_down a.machine a.disk) r)) (closed_answers (closed a.machine) a.disk more refl) in
     record {
       machine = is_now ∙ ap (λ (r : Stepped). joined r.machine) (sym e);
       disk_is = is_disk ∙ ap (λ (r : Stepped). r.disk) (sym e);
@@ -200,7 +199,7 @@ fault_meets settings n disk taken piece count first v now disk_now written (stre
     let size : length h.segment ≡ f.1.1 = (IsHeader-unique (take 48 (t.rest ++ drop count piece)) h.m.head f.1.0 (length h.segment) f.1.1 h.says header).1 in
     let past : limit settings < length h.segment = omega (arith, f.1.3, size, bound) in
     let bytes : h.m.segment ≡ Bytes h.segment = h.meaning ∙ long_bytes (continues (after_all no_login first) h.m.head) h.m.head h.segment h.says.login (omega (arith, past)) in
-    let same : a.machine.settings ≡ settings = answers_settings (opening settings n) disk first in
+    let same : a.machine.session.settings ≡ settings = answers_settings (opening settings n) disk first in
     let over : is_over_limit a.machine h.m.segment ≡ true =
     ap (λ (x : Segment). is_over_limit a.machine x) bytes ∙ ap (λ (x : Settings). nat_lt (limit x) (length h.segment)) same ∙ lt-ltb (limit settings) (length h.segment) past in
     subst (λ (x : List Message). Meets settings n disk x now disk_now written) (sym (r.whole ∙ ap (λ (x : List Message). first ++ x) h.is))
@@ -471,7 +470,7 @@ fault_writes settings n disk taken piece count first v now disk_now written (str
           let size : length h.segment ≡ f.1.1 = (IsHeader-unique (take 48 (t.rest ++ drop count piece)) h.m.head f.1.0 (length h.segment) f.1.1 h.says header).1 in
           let past : limit settings < length h.segment = omega (arith, f.1.3, size, bound) in
           let bytes : h.m.segment ≡ Bytes h.segment = h.meaning ∙ long_bytes (continues (after_all no_login first) h.m.head) h.m.head h.segment h.says.login (omega (arith, past)) in
-          let same : a.machine.settings ≡ settings = answers_settings (opening settings n) disk first in
+          let same : a.machine.session.settings ≡ settings = answers_settings (opening settings n) disk first in
           let over : is_over_limit a.machine h.m.segment ≡ true =
           ap (λ (y : Segment). is_over_limit a.machine y) bytes ∙ ap (λ (y : Settings). nat_lt (limit y) (length h.segment)) same ∙ lt-ltb (limit settings) (length h.segment) past in
           subst (λ (y : List Message). Leads settings n disk y rest now disk_now written) (sym (x.whole ∙ ap (λ (y : List Message). first ++ y) h.is))
@@ -618,10 +617,10 @@ same_session settings n disk ms rest a b x y =
     let same : closed b ≡ closed a = y.machine ∙ sym x.machine in
     let goes_on : is_closed a ≡ false → b ≡ a = λ live. y.goes_on (both_live settings n disk ms rest a b x y live) ∙ sym (x.goes_on live) in
     record {
-      held = ap (λ (s : Machine). s.held) same;
-      stage = ap (λ (s : Machine). s.stage) same;
+      held = ap (λ (s : Machine). s.session.held) same;
+      stage = ap (λ (s : Machine). s.session.stage) same;
       phase = by_cases (is_closed a)
-          (λ over. by_cases (is_closed b) (λ e. closed_in b.phase e ∙ sym (closed_in a.phase over)) (λ live. absurd (apart over (both_live settings n disk ms rest b a y x live))))
-          (λ live. ap (λ (s : Machine). s.phase) (goes_on live));
+          (λ over. by_cases (is_closed b) (λ e. closed_in b.session.phase e ∙ sym (closed_in a.session.phase over)) (λ live. absurd (apart over (both_live settings n disk ms rest b a y x live))))
+          (λ live. ap (λ (s : Machine). s.session.phase) (goes_on live));
       goes_on = goes_on;
     }

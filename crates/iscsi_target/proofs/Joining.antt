@@ -1,44 +1,35 @@
 -- Steps of a session with the pieces of its open write joined.
-use Rattle.std.proofs.Common.{◌≡◌, not, ℕ, ◌+◌, ◌-◌, min, List, [], ◌∷◌, ◌++◌, Bool, true, false, length, Option, Some, None, refl, sym, ap, ◌∙◌, subst}
-use Rattle.std.specs.Prelude.{◌==◌, nat_lt, nat_le, ◌&&◌, ◌||◌, if◌then◌else◌}
+use Rattle.std.proofs.Common.{◌≡◌, ℕ, ◌+◌, ◌-◌, min, List, [], ◌∷◌, ◌++◌, Bool, true, false, length, Option, Some, None, refl, sym, ap, ◌∙◌}
+use Rattle.std.specs.Prelude.{◌==◌, ◌&&◌, if◌then◌else◌}
 use Rattle.std.proofs.lemmas.List.{map-append}
 use Rattle.scsi_disk.specs.Disk.{Disk}
 use Rattle.scsi_disk.specs.declared.order.Plan.{Plan}
 use Rattle.scsi_disk.specs.declared.order.Plan.TheVariants.{Refuse, Take, Give}
-use Rattle.scsi_disk.specs.Plan.{plan_of, first_of}
-use Rattle.iscsi_text.specs.Text.{Pairs}
-use Rattle.iscsi_text.specs.Canonical.{canonical_text}
-use Rattle.iscsi_text.specs.Reading.{text_in}
+use Rattle.scsi_disk.specs.Plan.{plan_of}
 use Rattle.iscsi_pdu.specs.declared.head.Head.{Head}
-use Rattle.iscsi_pdu.specs.declared.head.Head.TheVariants.{NopOut, ScsiCommand, TaskRequest, LoginRequest, TextRequest, DataOut, LogoutRequest, ReadyToTransfer}
+use Rattle.iscsi_pdu.specs.declared.head.Head.TheVariants.{NopOut, ScsiCommand, TaskRequest, TextRequest, DataOut, LogoutRequest, ReadyToTransfer}
 use Rattle.iscsi_pdu.specs.declared.head.scsi_command.ScsiCommand.{ScsiCommand as Command}
 use Rattle.iscsi_pdu.specs.declared.head.data_out.DataOut.{DataOut as DataPdu}
-use Rattle.iscsi_pdu.specs.declared.head.login_request.LoginRequest.{LoginRequest as LoginPdu}
-use Rattle.iscsi_pdu.specs.declared.head.nop_out.NopOut.{NopOut as Ping}
-use Rattle.iscsi_pdu.specs.declared.head.text_request.TextRequest.{TextRequest as TextPdu}
-use Rattle.iscsi_pdu.specs.declared.head.logout_request.LogoutRequest.{LogoutRequest as Logout}
-use Rattle.iscsi_stream.specs.Segment.{Segment, segment_bytes}
+use Rattle.iscsi_stream.specs.Segment.{segment_bytes}
 use Rattle.iscsi_stream.specs.Stream.{Message}
 use Rattle.iscsi_login.specs.declared.phase.Phase.{Phase}
 use Rattle.iscsi_login.specs.declared.phase.Phase.TheVariants.{Login, Full, Closed}
 use Rattle.iscsi_login.specs.Held.{first_burst, max_burst}
-use Rattle.iscsi_target.specs.State.{Machine, Write, Execution, Stepped, Reply, on, nothing, message, counted, max_cmd_sn}
+use Rattle.iscsi_target.specs.Session.{Reply, message, counted}
+use Rattle.iscsi_target.specs.State.{Machine, Write, Execution, Stepped, on, unchanged, max_cmd_sn}
+use Rattle.iscsi_login.specs.Stage.{is_closed_phase}
 use Rattle.iscsi_stream.specs.Pieces.{Pieces, data_of}
 use Rattle.iscsi_pdu.specs.Serial.{is_within}
 use Rattle.iscsi_pdu.specs.Fields.{reserved_tag}
 use Rattle.iscsi_target.specs.Rejecting.{reject}
 use Rattle.iscsi_pdu.specs.Rules.{too_many_immediate}
-use Rattle.iscsi_target.specs.declared.status.Status.{Status}
-use Rattle.iscsi_target.specs.LoginText.{text_refusals}
-use Rattle.iscsi_target.specs.Login.{login_step, login_in, login_request, refuse_or, numbered, entered, segment_taken, whole_text, text_answered, text_ending, request_refusals, gather}
-use Rattle.iscsi_target.specs.Discovery.{text_request, text_reply_to, reply_pairs}
-use Rattle.iscsi_target.specs.Requests.{nop_out, task_request, logout_request}
+use Rattle.iscsi_target.specs.Login.{login_step}
 use Rattle.iscsi_target.specs.Transfer.{with_piece, with_data, is_in_sequence, received, is_idle, joined_write, joined, is_unsolicited_piece, is_solicited_piece, unsolicited_end}
 use Rattle.iscsi_target.specs.declared.due.Due.{Due}
 use Rattle.iscsi_target.specs.declared.due.Due.TheVariants.{Nothing, Unsolicited, Solicited}
 use Rattle.iscsi_target.specs.Execution.{Device, execute, reliable}
 use Rattle.iscsi_target.specs.Command.{scsi_command, data_for, data_taken, planned, proceed, order_of, breaks_burst_rules, ask}
-use Rattle.iscsi_target.specs.Machine.{step, answers, then_stepped, step_on, phase_step, full_step, due_step, request, handled, advanced, accepting, is_due_kind, is_too_long, is_over_limit, is_closed}
+use Rattle.iscsi_target.specs.Machine.{request_answered, step, answers, then_stepped, step_on, phase_step, full_step, due_step, request, handled, advanced, accepting, is_due_kind, is_too_long, is_over_limit, is_closed}
 use Rattle.iscsi_target.specs.Laws.{joined_execution, joined_stepped}
 use Rattle.iscsi_target.proofs.StepParts.{by_cases}
 use Rattle.iscsi_target.proofs.OpenWrites.{data_of_one, data_with}
@@ -54,95 +45,25 @@ one s w = record s { write = Some (joined_write w) }
 pub idem : (w : Write) → joined_write (joined_write w) ≡ joined_write w
 idem w = ap (λ (bytes : List ℕ). record w { pieces = with_piece [] 0 bytes }) (data_of_one (data_of w.pieces))
 
--- the replies are the same, with pieces joined
-record SameReply (a b : Reply) : Type 0 where
-  machine : joined a.machine ≡ joined b.machine
-  answers : a.answers ≡ b.answers
-  rule : a.rule ≡ b.rule
-
 pub record Same (a b : Stepped) : Type 0 where
   pub is : joined_stepped a ≡ joined_stepped b
-
-on_same : (disk : Disk) (a b : Reply) → SameReply a b → Same (on disk a) (on disk b)
-on_same disk a b h = record {
-  is = λ i. record {
-    machine = h.machine i;
-    disk = disk;
-    answers = h.answers i;
-    rule = h.rule i;
-    accepted = [];
-    executed = [];
-  };
-}
 
 -- the write is kept
 kept : (s : Machine) (w : Write) → joined (one s w) ≡ joined (apart s w)
 kept s w = ap (λ (x : Write). record s { write = Some x }) (idem w)
 
--- ---- the login
+-- the session replied, and nothing else
+on_same_by : (disk : Disk) (r : Reply) (w : Write) (over : Bool)
+    → joined_stepped (record (on disk None r) { machine = record { session = r.session; write = if over then None else Some (joined_write w) } })
+    ≡ joined_stepped (record (on disk None r) { machine = record { session = r.session; write = if over then None else Some w } })
+on_same_by disk r w true = refl
+on_same_by disk r w false = ap (λ (x : Write). record (on disk None r) { machine = record { session = r.session; write = Some x } }) (idem w)
 
-refused_same : (s : Machine) (w : Write) (r : LoginPdu) (why : Option Status) (a b : Reply) → SameReply a b
-    → SameReply (refuse_or why (one s w) r a) (refuse_or why (apart s w) r b)
-refused_same s w r None a b h = h
-refused_same s w r (Some why) a b h = record { machine = refl; answers = refl; rule = refl }
+on_same : (disk : Disk) (r : Reply) (w : Write) → Same (on disk (Some (joined_write w)) r) (on disk (Some w) r)
+on_same disk r w = record { is = on_same_by disk r w (is_closed_phase r.session.phase) }
 
-whole_same : (s : Machine) (w : Write) (r : LoginPdu) (pairs : Option Pairs) → SameReply (whole_text (one s w) r pairs) (whole_text (apart s w) r pairs)
-whole_same s w r None = record { machine = refl; answers = refl; rule = refl }
-whole_same s w r (Some pairs) =
-    refused_same s w r (first_of (text_refusals s pairs)) (text_answered (one s w) r pairs) (text_answered (apart s w) r pairs)
-    (record { machine = kept (text_answered s r pairs).machine w; answers = refl; rule = refl })
-
-segment_same_by : (s : Machine) (w : Write) (r : LoginPdu) (segment : Segment) (more : Bool)
-    → SameReply (if more then gather (one s w) r (segment_bytes segment) else whole_text (record (one s w) { gathered = [] }) r (text_ending s.gathered segment))
-    (if more then gather (apart s w) r (segment_bytes segment) else whole_text (record (apart s w) { gathered = [] }) r (text_ending s.gathered segment))
-segment_same_by s w r segment true = record { machine = kept (gather s r (segment_bytes segment)).machine w; answers = refl; rule = refl }
-segment_same_by s w r segment false = whole_same (record s { gathered = [] }) w r (text_ending s.gathered segment)
-
-segment_same : (s : Machine) (w : Write) (r : LoginPdu) (segment : Segment) → SameReply (segment_taken (one s w) r segment) (segment_taken (apart s w) r segment)
-segment_same s w r segment =
-    by_cases (nat_lt 16384 (length s.gathered + length (segment_bytes segment))) (λ e. rw e (record { machine = refl; answers = refl; rule = refl }))
-    (λ e. rw e (segment_same_by s w r segment r.continues))
-
-numbered_at : (s : Machine) (w : Write) (r : LoginPdu) → numbered (record s { write = Some w }) r ≡ record (numbered s r) { write = Some w }
-numbered_at s w r = by_cases s.begun (λ e. rw e refl) (λ e. rw e refl)
-
-request_same : (s : Machine) (w : Write) (r : LoginPdu) (segment : Segment) → SameReply (login_request (one s w) r segment) (login_request (apart s w) r segment)
-request_same s w r segment =
-    let n : Machine = numbered s r in
-    let F : Machine → Reply = λ (x : Machine). refuse_or (first_of (request_refusals s r)) x r (segment_taken (record x { stage = (entered s r).stage }) r segment) in
-    let start : SameReply (F (one n w)) (F (apart n w)) =
-    refused_same n w r (first_of (request_refusals s r)) (segment_taken (record (one n w) { stage = (entered s r).stage }) r segment)
-    (segment_taken (record (apart n w) { stage = (entered s r).stage }) r segment) (segment_same (record n { stage = (entered s r).stage }) w r segment) in
-    subst (λ (x : Machine). SameReply (F x) (F (numbered (apart s w) r))) (sym (numbered_at s (joined_write w) r))
-    (subst (λ (x : Machine). SameReply (F (one n w)) (F x)) (sym (numbered_at s w r)) start)
-
-login_same : (s : Machine) (w : Write) (head : Head) (segment : Segment) → SameReply (login_in (one s w) head segment) (login_in (apart s w) head segment)
-login_same s w (LoginRequest r) segment = request_same s w r segment
-login_same s w _ segment = record { machine = refl; answers = refl; rule = refl }
-
--- ---- requests
-
-text_reply_same : (s : Machine) (w : Write) (m : Message) (h : TextPdu) (pairs : Option Pairs)
-    → SameReply (text_reply_to (one s w) m h pairs) (text_reply_to (apart s w) m h pairs)
-text_reply_same s w m h None = record { machine = refl; answers = refl; rule = refl }
-text_reply_same s w m h (Some pairs) =
-    by_cases (nat_lt s.held.initiator_max_recv (length (canonical_text (reply_pairs s.settings.name pairs))))
-    (λ e. rw e (record { machine = refl; answers = refl; rule = refl })) (λ e. rw e (record { machine = kept (counted s) w; answers = refl; rule = refl }))
-
-text_same : (s : Machine) (w : Write) (m : Message) (h : TextPdu) (bytes : List ℕ)
-    → SameReply (text_request (one s w) m h bytes) (text_request (apart s w) m h bytes)
-text_same s w m h bytes =
-    by_cases (not h.is_final || (h.continues || not (h.target_transfer_tag == reserved_tag)))
-    (λ e. rw e (record { machine = refl; answers = refl; rule = refl })) (λ e. rw e (text_reply_same s w m h (text_in bytes)))
-
-nop_same : (s : Machine) (w : Write) (m : Message) (h : Ping) (bytes : List ℕ) → SameReply (nop_out (one s w) h bytes) (nop_out (apart s w) h bytes)
-nop_same s w m h bytes =
-    by_cases (h.initiator_task_tag == reserved_tag)
-    (λ e. rw e (record { machine = kept s w; answers = refl; rule = refl })) (λ e. rw e (record { machine = kept (counted s) w; answers = refl; rule = refl }))
-
-logout_same : (s : Machine) (w : Write) (m : Message) (h : Logout) → SameReply (logout_request (one s w) m h) (logout_request (apart s w) m h)
-logout_same s w m h =
-    by_cases (nat_le h.reason 1) (λ e. rw e (record { machine = refl; answers = refl; rule = refl })) (λ e. rw e (record { machine = refl; answers = refl; rule = refl }))
+nothing_same : (s : Machine) (w : Write) (disk : Disk) → Same (unchanged (one s w) disk) (unchanged (apart s w) disk)
+nothing_same s w disk = record { is = ap (λ (x : Machine). unchanged x disk) (kept s w) }
 
 -- ---- commands
 
@@ -153,34 +74,30 @@ with_machine r s w = record { is = ap (λ (x : Machine). record (joined_stepped 
 planned_same : (device : Device) (s : Machine) (w : Write) (disk : Disk) (h : Command) (bytes : List ℕ) (plan : Plan)
     → Same (planned device (one s w) disk h bytes plan) (planned device (apart s w) disk h bytes plan)
 planned_same device s w disk h bytes (Take total) = record { is = refl }
-planned_same device s w disk h bytes (Refuse sense) = with_machine (execute device (apart s w) disk h.initiator_task_tag (order_of h) []) (counted s) w
-planned_same device s w disk h bytes (Give given) = with_machine (execute device (apart s w) disk h.initiator_task_tag (order_of h) []) (counted s) w
+planned_same device s w disk h bytes (Refuse sense) = with_machine (execute device (apart s w) disk h.initiator_task_tag (order_of h) []) (record s { session = counted s.session }) w
+planned_same device s w disk h bytes (Give given) = with_machine (execute device (apart s w) disk h.initiator_task_tag (order_of h) []) (record s { session = counted s.session }) w
 
 command_same : (device : Device) (s : Machine) (w : Write) (disk : Disk) (m : Message) (h : Command) (bytes : List ℕ)
     → Same (scsi_command device (one s w) disk m h bytes) (scsi_command device (apart s w) disk m h bytes)
 command_same device s w disk m h bytes =
-    by_cases (breaks_burst_rules s.held h (length bytes)) (λ e. rw e (record { is = refl }))
+    by_cases (breaks_burst_rules s.session.held h (length bytes)) (λ e. rw e (record { is = refl }))
     (λ e. rw e (planned_same device s w disk h bytes (plan_of (order_of h) disk.count)))
 
 handled_same : (device : Device) (s : Machine) (w : Write) (disk : Disk) (m : Message) (head : Head)
     → Same (handled device (one s w) disk m head) (handled device (apart s w) disk m head)
 handled_same device s w disk m (ScsiCommand h) = command_same device s w disk m h (segment_bytes m.segment)
-handled_same device s w disk m (NopOut h) = on_same disk _ _ (nop_same s w m h (segment_bytes m.segment))
-handled_same device s w disk m (TaskRequest h) = on_same disk (task_request (one s w) h) (task_request (apart s w) h) (record { machine = kept (counted s) w; answers = refl; rule = refl })
-handled_same device s w disk m (TextRequest h) = on_same disk _ _ (text_same s w m h (segment_bytes m.segment))
-handled_same device s w disk m (LogoutRequest h) = on_same disk _ _ (logout_same s w m h)
-handled_same device s w disk m _ = record { is = refl }
+handled_same device s w disk m head = on_same disk (request_answered s.session 1 m head) w
 
 accepting_same : (m : Message) (a b : Stepped) → Same a b → Same (accepting m a) (accepting m b)
 accepting_same m a b h = record { is = ap (λ (r : Stepped). record r { accepted = m ∷ [] }) h.is }
 
 request_same_in : (device : Device) (s : Machine) (w : Write) (disk : Disk) (m : Message) (i : Bool) (n : ℕ)
     → Same (request device (one s w) disk m i n) (request device (apart s w) disk m i n)
-request_same_in device s w disk m true n = on_same disk (reject (one s w) too_many_immediate m) (reject (apart s w) too_many_immediate m) (record { machine = kept (counted s) w; answers = refl; rule = refl })
+request_same_in device s w disk m true n = on_same disk (reject s.session 1 too_many_immediate m) w
 request_same_in device s w disk m false n =
-    by_cases (is_within n s.exp_cmd_sn (max_cmd_sn (apart s w)))
+    by_cases (is_within n s.session.exp_cmd_sn (max_cmd_sn (apart s w)))
     (λ e. rw e (accepting_same m _ _ (handled_same device (advanced s) w disk m m.head)))
-    (λ e. rw e (on_same disk (nothing (one s w)) (nothing (apart s w)) (record { machine = kept s w; answers = refl; rule = refl })))
+    (λ e. rw e (nothing_same s w disk))
 
 -- ---- data
 
@@ -196,43 +113,41 @@ execute_same device s disk v x y e = record { is = ap (executed_with device s di
 
 -- what an R2T for a write with these bytes leaves, with its pieces joined
 abbrev asked_with : Machine → Disk → Write → List ℕ → Stepped
-asked_with s disk v bytes = on disk (record {
-  machine = record s {
-    write = Some (record v {
-      pieces = with_piece [] 0 bytes;
-      due = Solicited v.asked 0 (length bytes + min (v.total - length bytes) (max_burst s.held));
-      asked = v.asked + 1;
-    });
-  };
+asked_with s disk v bytes = record (unchanged (record s {
+  write = Some (record v {
+    pieces = with_piece [] 0 bytes;
+    due = Solicited v.asked 0 (length bytes + min (v.total - length bytes) (max_burst s.session.held));
+    asked = v.asked + 1;
+  });
+}) disk) {
   answers = message (ReadyToTransfer (record {
     lun = v.order.lun;
     initiator_task_tag = v.initiator_task_tag;
     target_transfer_tag = v.asked;
-    stat_sn = s.stat_sn;
-    exp_cmd_sn = s.exp_cmd_sn;
+    stat_sn = s.session.stat_sn;
+    exp_cmd_sn = s.session.exp_cmd_sn;
     max_cmd_sn = max_cmd_sn (record s { write = Some v });
     r2t_sn = v.asked;
     buffer_offset = length bytes;
-    desired_data_transfer_length = min (v.total - length bytes) (max_burst s.held);
+    desired_data_transfer_length = min (v.total - length bytes) (max_burst s.session.held);
   })) [] ∷ [];
-  rule = None;
-})
+}
 
 asked_as : (s : Machine) (disk : Disk) (v : Write) (x : Pieces)
-    → joined_stepped (on disk (ask (record s { write = Some (record v { pieces = x }) }) (record v { pieces = x }))) ≡ asked_with s disk v (data_of x)
+    → joined_stepped (ask (record s { write = Some (record v { pieces = x }) }) disk (record v { pieces = x })) ≡ asked_with s disk v (data_of x)
 asked_as s disk v x = refl
 
 proceed_by : (device : Device) (s : Machine) (disk : Disk) (v : Write) (x y : Pieces) (a b idle : Bool) → data_of x ≡ data_of y → a ≡ b
     → Same (if a then execute device (record s { write = None }) disk v.initiator_task_tag v.order x
-    else if idle then on disk (ask (record s { write = Some (record v { pieces = x }) }) (record v { pieces = x })) else on disk (nothing (record s { write = Some (record v { pieces = x }) })))
+    else if idle then ask (record s { write = Some (record v { pieces = x }) }) disk (record v { pieces = x }) else unchanged (record s { write = Some (record v { pieces = x }) }) disk)
     (if b then execute device (record s { write = None }) disk v.initiator_task_tag v.order y
-    else if idle then on disk (ask (record s { write = Some (record v { pieces = y }) }) (record v { pieces = y })) else on disk (nothing (record s { write = Some (record v { pieces = y }) })))
+    else if idle then ask (record s { write = Some (record v { pieces = y }) }) disk (record v { pieces = y }) else unchanged (record s { write = Some (record v { pieces = y }) }) disk)
 proceed_by device s disk v x y true true idle e t = execute_same device (record s { write = None }) disk v x y e
 proceed_by device s disk v x y true false idle e t = absurd cc
 proceed_by device s disk v x y false true idle e t = absurd cc
 proceed_by device s disk v x y false false true e t = record { is = asked_as s disk v x ∙ ap (asked_with s disk v) e ∙ sym (asked_as s disk v y) }
 proceed_by device s disk v x y false false false e t =
-    record { is = ap (λ (bytes : List ℕ). on disk (nothing (record s { write = Some (record v { pieces = with_piece [] 0 bytes }) }))) e }
+    record { is = ap (λ (bytes : List ℕ). unchanged (record s { write = Some (record v { pieces = with_piece [] 0 bytes }) }) disk) e }
 
 pub proceed_same : (device : Device) (s : Machine) (disk : Disk) (v : Write) (x y : Pieces) → data_of x ≡ data_of y
     → Same (proceed device s disk (record v { pieces = x })) (proceed device s disk (record v { pieces = y }))
@@ -240,9 +155,6 @@ proceed_same device s disk v x y e = proceed_by device s disk v x y (v.total == 
 
 received_one : (w : Write) → received (joined_write w) ≡ received w
 received_one w = ap (λ (bytes : List ℕ). length bytes) (data_of_one (data_of w.pieces))
-
-nothing_same : (s : Machine) (w : Write) (disk : Disk) → Same (on disk (nothing (one s w))) (on disk (nothing (apart s w)))
-nothing_same s w disk = on_same disk (nothing (one s w)) (nothing (apart s w)) (record { machine = kept s w; answers = refl; rule = refl })
 
 in_sequence_same : (first : ℕ) (w : Write) (h : DataPdu) (n : ℕ) (due : Due) → is_in_sequence first (joined_write w) h n due ≡ is_in_sequence first w h n due
 in_sequence_same first w h n Nothing = refl
@@ -274,8 +186,8 @@ data_same : (device : Device) (s : Machine) (w : Write) (disk : Disk) (m : Messa
     → Same (data_for device (one s w) disk m h bytes (Some (joined_write w))) (data_for device (apart s w) disk m h bytes (Some w))
 data_same device s w disk m h bytes =
     by_cases (h.initiator_task_tag == w.initiator_task_tag)
-    (λ e. rw e (taken_same_by device s w disk m h bytes (is_in_sequence (first_burst s.held) (joined_write w) h (received (joined_write w) + length bytes) w.due)
-    (is_in_sequence (first_burst s.held) w h (received w + length bytes) w.due) (is_taken_same (first_burst s.held) w h bytes)))
+    (λ e. rw e (taken_same_by device s w disk m h bytes (is_in_sequence (first_burst s.session.held) (joined_write w) h (received (joined_write w) + length bytes) w.due)
+    (is_in_sequence (first_burst s.session.held) w h (received w + length bytes) w.due) (is_taken_same (first_burst s.session.held) w h bytes)))
     (λ e. rw e (nothing_same s w disk))
 
 -- ---- a step
@@ -292,20 +204,20 @@ due_same device s w disk m _ = record { is = refl }
 
 full_same : (device : Device) (s : Machine) (w : Write) (disk : Disk) (m : Message) → Same (full_step device (one s w) disk m) (full_step device (apart s w) disk m)
 full_same device s w disk m =
-    by_cases (is_due_kind s.session m.head)
+    by_cases (is_due_kind s.session.session_type m.head)
     (λ e. by_cases (is_too_long s m) (λ f. rw (e, f) (record { is = refl })) (λ f. rw (e, f) (due_same device s w disk m m.head)))
     (λ e. rw e (record { is = refl }))
 
 phase_same : (device : Device) (phase : Phase) (s : Machine) (w : Write) (disk : Disk) (m : Message)
     → Same (phase_step device phase (one s w) disk m) (phase_step device phase (apart s w) disk m)
-phase_same device Login s w disk m = on_same disk (login_step (one s w) m) (login_step (apart s w) m) (login_same s w m.head m.segment)
+phase_same device Login s w disk m = on_same disk (login_step s.session m) w
 phase_same device Full s w disk m = full_same device s w disk m
 phase_same device Closed s w disk m = nothing_same s w disk
 
 step_same : (device : Device) (s : Machine) (w : Write) (disk : Disk) (m : Message) → Same (step_on device (one s w) disk m) (step_on device (apart s w) disk m)
 step_same device s w disk m =
     by_cases (is_closed s) (λ e. rw e (nothing_same s w disk))
-    (λ e. by_cases (is_over_limit s m.segment) (λ f. rw (e, f) (record { is = refl })) (λ f. rw (e, f) (phase_same device s.phase s w disk m)))
+    (λ e. by_cases (is_over_limit s m.segment) (λ f. rw (e, f) (record { is = refl })) (λ f. rw (e, f) (phase_same device s.session.phase s w disk m)))
 
 step_joined_by : (device : Device) (s : Machine) (write : Option Write) (disk : Disk) (m : Message)
     → joined_stepped (step_on device (joined (record s { write = write })) disk m) ≡ joined_stepped (step_on device (record s { write = write }) disk m)
@@ -319,13 +231,13 @@ step_joined device s disk m = step_joined_by device s s.write disk m
 
 -- ---- messages one after another
 
-nothing_joined : (s : Machine) (write : Option Write) (disk : Disk)
-    → joined_stepped (on disk (nothing (joined (record s { write = write })))) ≡ joined_stepped (on disk (nothing (record s { write = write })))
-nothing_joined s None disk = refl
-nothing_joined s (Some w) disk = (nothing_same s w disk).is
+step_joined_nothing_by : (s : Machine) (write : Option Write) (disk : Disk)
+    → joined_stepped (unchanged (joined (record s { write = write })) disk) ≡ joined_stepped (unchanged (record s { write = write }) disk)
+step_joined_nothing_by s None disk = refl
+step_joined_nothing_by s (Some w) disk = (nothing_same s w disk).is
 
-step_joined_nothing : (s : Machine) (disk : Disk) → joined_stepped (on disk (nothing (joined s))) ≡ joined_stepped (on disk (nothing s))
-step_joined_nothing s disk = nothing_joined s s.write disk
+step_joined_nothing : (s : Machine) (disk : Disk) → joined_stepped (unchanged (joined s) disk) ≡ joined_stepped (unchanged s disk)
+step_joined_nothing s disk = step_joined_nothing_by s s.write disk
 
 joined_then : (a b : Stepped) → joined_stepped (then_stepped a b) ≡ then_stepped (joined_stepped a) (joined_stepped b)
 joined_then a b = ap (λ (es : List Execution). record (then_stepped (joined_stepped a) (joined_stepped b)) { executed = es }) (map-append joined_execution a.executed b.executed)

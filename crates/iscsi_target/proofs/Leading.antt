@@ -30,7 +30,7 @@ proceed_does device s disk w =
 parts_do : (device : Device) (disk : Disk) → Parts device disk (λ s m r. Goes device disk r) (λ s m r. Goes device disk r)
 parts_do device disk = record {
   nothing_ = λ s m c. record { is = refl };
-  shut_ = λ s m rule. record { is = refl };
+  shut_ = λ s m. record { is = refl };
   reject_ = λ s reason m a. record { is = refl };
   breach_ = λ s rule m. record { is = refl };
   login_ = λ s m k. record { is = refl };
@@ -38,10 +38,7 @@ parts_do device disk = record {
   immediate_ = λ s m r a w c f. record { is = f.is };
   in_turn_ = λ s m n r a c w f. record { is = f.is };
   refused_ = λ s m rule. record { is = refl };
-  nop_ = λ s m h k. record { is = refl };
-  task_ = λ s m h k. record { is = refl };
-  text_ = λ s m h k. record { is = refl };
-  logout_ = λ s m h k. record { is = refl };
+  request_ = λ s m head k none. record { is = refl };
   execute_ = λ s m h k none. record { is = (refl, refl) };
   opened_ = λ s m h total k e f. proceed_does device s disk (opened h total (segment_bytes m.segment));
 }

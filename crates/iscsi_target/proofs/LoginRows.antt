@@ -266,7 +266,7 @@ unfolding answers digits header whole put_bit put_number put_bytes put_raw kind_
 login_leads = refl
 
 -- A text has at most 16,384 bytes; the answers before are empty.
-pub text_at_the_limit : Row (record fresh { begun = true; exp_cmd_sn = 1; gathered = replicate 16383 0x41 })
+pub text_at_the_limit : Row (record fresh { session = record fresh.session { begun = true; exp_cmd_sn = 1; gathered = replicate 16383 0x41 } })
     (segment true (login false true 0 None 0) (codes "A") ∷ [])
     (hex (codes "43400000 00000001 40000001 00000000 00000000 00000000 00000001 00000000 00000000 00000000 00000000 00000000")
     ++ 0x41 ∷ 0 ∷ 0 ∷ 0 ∷ [])
@@ -276,7 +276,7 @@ unfolding answers digits header whole put_bit put_number put_bytes put_raw kind_
 text_at_the_limit = (refl, refl, refl)
 
 -- One byte more is refused.
-pub text_past_the_limit : Row (record fresh { begun = true; exp_cmd_sn = 1; gathered = replicate 16384 0x41 })
+pub text_past_the_limit : Row (record fresh { session = record fresh.session { begun = true; exp_cmd_sn = 1; gathered = replicate 16384 0x41 } })
     (segment true (login false false 0 None 0) (codes "A") ∷ [])
     (hex (codes "43000000 00000001 40000001 00000000 00000000 00000000 00000001 00000000 00000000 00000000 00000000 00000000")
     ++ 0x41 ∷ 0 ∷ 0 ∷ 0 ∷ [])
@@ -359,6 +359,6 @@ no_move_back = refl
 
 -- An unknown key may be given again; a request that does not move holds the stage.
 pub unknown_key_again : (answers fresh blank
-    (says (login false false 0 None 0) (first_text ++ entry (codes "X=1")) ∷ says first (entry (codes "X=2")) ∷ says second [] ∷ [])).machine.phase ≡ phases.Full
+    (says (login false false 0 None 0) (first_text ++ entry (codes "X=1")) ∷ says first (entry (codes "X=2")) ∷ says second [] ∷ [])).machine.session.phase ≡ phases.Full
 unfolding answers digits header whole put_bit put_number put_bytes put_raw kind_of segment_of segment_bytes
 unknown_key_again = refl

@@ -39,13 +39,13 @@ outcome_of None phase = Ok phase
 outcome_of (Some rule) phase = Err (faults.Protocol rule)
 
 abbrev outcome : Stepped → Result Phase TargetFault
-outcome r = outcome_of r.rule r.machine.phase
+outcome r = outcome_of r.rule r.machine.session.phase
 
-answered_ok : (r : Stepped) (phase : Phase) → r.rule ≡ None → phase ≡ r.machine.phase → Ok phase ≡ outcome r
-answered_ok r phase rule e = ap Ok e ∙ ap (λ (x : Option ℕ). outcome_of x r.machine.phase) (sym rule)
+answered_ok : (r : Stepped) (phase : Phase) → r.rule ≡ None → phase ≡ r.machine.session.phase → Ok phase ≡ outcome r
+answered_ok r phase rule e = ap Ok e ∙ ap (λ (x : Option ℕ). outcome_of x r.machine.session.phase) (sym rule)
 
 answered_rule : (r : Stepped) (rule : ℕ) → r.rule ≡ Some rule → Err (faults.Protocol rule) ≡ outcome r
-answered_rule r rule e = ap (λ (x : Option ℕ). outcome_of x r.machine.phase) (sym e)
+answered_rule r rule e = ap (λ (x : Option ℕ). outcome_of x r.machine.session.phase) (sym e)
 
 -- what a call leaves behind messages that lead to this
 abbrev leaves : Stepped → Outcome Machine (Result Phase TargetFault)

@@ -17,7 +17,8 @@ use Rattle.iscsi_login.specs.Negotiation.{Allows, IsInRange}
 use Rattle.iscsi_login.specs.Held.{Held, IsHeld, defaults, held_value, number_of}
 use Rattle.iscsi_login.proofs.Agreement.{default_allowed}
 use Rattle.iscsi_target.specs.Configured.{Settings}
-use Rattle.iscsi_target.specs.State.{Machine, Stepped, opening, on, nothing, limit, max_cmd_sn}
+use Rattle.iscsi_target.specs.Session.{limit}
+use Rattle.iscsi_target.specs.State.{Machine, Stepped, opening, unchanged, max_cmd_sn}
 use Rattle.iscsi_pdu.specs.Serial.{is_within}
 use Rattle.iscsi_target.specs.Machine.{step, answers, is_closed, is_over_limit, full_step, phase_step, due_step, request}
 use Rattle.iscsi_login.specs.Stage.{is_closed_phase}
@@ -55,7 +56,7 @@ opening_fit settings n = record {
 pub reached_fit : (settings : Settings) (n : ℕ) (disk : Disk) (ms : List Message) → IsFit (answers (opening settings n) disk ms).machine
 reached_fit settings n disk ms = answers_fit (opening settings n) disk ms (opening_fit settings n)
 
-pub reached_held : (settings : Settings) (n : ℕ) (disk : Disk) (ms : List Message) → IsInRange settings.preferences → IsHeld (answers (opening settings n) disk ms).machine.held
+pub reached_held : (settings : Settings) (n : ℕ) (disk : Disk) (ms : List Message) → IsInRange settings.preferences → IsHeld (answers (opening settings n) disk ms).machine.session.held
 reached_held settings n disk ms p =
     (reached_fit settings n disk ms).held (subst (λ (x : Settings). IsInRange x.preferences) (sym (answers_settings (opening settings n) disk ms)) p)
 
@@ -75,19 +76,19 @@ pub reached_data_in : (settings : Settings) (n : ℕ) (disk : Disk) (ms : List M
 reached_data_in settings n disk ms m p =
     let r : Stepped = answers (opening settings n) disk ms in
     let t : StepTells reliable r.machine m (step r.machine r.disk m) = step_tells reliable r.disk r.machine m in
-    record { tags = t.gives_tags; tiled = t.gives (can_give r.machine.held (reached_held settings n disk ms p)); none = t.gives_none }
+    record { tags = t.gives_tags; tiled = t.gives (can_give r.machine.session.held (reached_held settings n disk ms p)); none = t.gives_none }
 
 -- ---- outside the window
 
 outside_if : (s : Machine) (disk : Disk) (m : Message) (i : Bool) (cmd_sn n : ℕ) → cmd_sn_if i cmd_sn ≡ Some n
-    → is_within n s.exp_cmd_sn (max_cmd_sn s) ≡ false → request reliable s disk m i cmd_sn ≡ on disk (nothing s)
+    → is_within n s.session.exp_cmd_sn (max_cmd_sn s) ≡ false → request reliable s disk m i cmd_sn ≡ unchanged s disk
 outside_if s disk m true cmd_sn n e o = absurd cc
 outside_if s disk m false cmd_sn n e o =
     let f : cmd_sn ≡ n = cc in
     rw f (rw o refl)
 
 outside_due : (s : Machine) (disk : Disk) (m : Message) (head : Head) (n : ℕ) → cmd_sn_of head ≡ Some n
-    → is_within n s.exp_cmd_sn (max_cmd_sn s) ≡ false → due_step reliable s disk m head ≡ on disk (nothing s)
+    → is_within n s.session.exp_cmd_sn (max_cmd_sn s) ≡ false → due_step reliable s disk m head ≡ unchanged s disk
 outside_due s disk m (NopOut h) n e o = outside_if s disk m h.immediate h.cmd_sn n e o
 outside_due s disk m (ScsiCommand h) n e o = outside_if s disk m h.immediate h.cmd_sn n e o
 outside_due s disk m (TaskRequest h) n e o = outside_if s disk m h.immediate h.cmd_sn n e o
@@ -95,18 +96,18 @@ outside_due s disk m (TextRequest h) n e o = outside_if s disk m h.immediate h.c
 outside_due s disk m (LogoutRequest h) n e o = outside_if s disk m h.immediate h.cmd_sn n e o
 outside_due s disk m _ n e o = absurd cc
 
-outside_full : (s : Machine) (disk : Disk) (m : Message) → IsOutside s m → full_step reliable s disk m ≡ on disk (nothing s)
+outside_full : (s : Machine) (disk : Disk) (m : Message) → IsOutside s m → full_step reliable s disk m ≡ unchanged s disk
 outside_full s disk m o = rw (o.kind, o.size) (outside_due s disk m m.head o.number o.is_number o.outside)
 
-within_limit : (s : Machine) (segment : Segment) → nat_lt s.held.target_max_recv (length (segment_bytes segment)) ≡ false
-    → s.held.target_max_recv ≤ limit s.settings → is_over_limit s segment ≡ false
+within_limit : (s : Machine) (segment : Segment) → nat_lt s.session.held.target_max_recv (length (segment_bytes segment)) ≡ false
+    → s.session.held.target_max_recv ≤ limit s.session.settings → is_over_limit s segment ≡ false
 unfolding segment_bytes
 within_limit s (Bytes bytes) e le =
-    by_cases (nat_lt (limit s.settings) (length bytes))
-    (λ f. absurd (omega (arith, le, ltb-false s.held.target_max_recv (length bytes) e, ltb-true (limit s.settings) (length bytes) f))) (λ f. f)
+    by_cases (nat_lt (limit s.session.settings) (length bytes))
+    (λ f. absurd (omega (arith, le, ltb-false s.session.held.target_max_recv (length bytes) e, ltb-true (limit s.session.settings) (length bytes) f))) (λ f. f)
 within_limit s (Text pairs) e le = refl
 
-pub outside_step : (s : Machine) (disk : Disk) (m : Message) → s.held.target_max_recv ≤ limit s.settings → IsOutside s m → step s disk m ≡ on disk (nothing s)
+pub outside_step : (s : Machine) (disk : Disk) (m : Message) → s.session.held.target_max_recv ≤ limit s.session.settings → IsOutside s m → step s disk m ≡ unchanged s disk
 outside_step s disk m le o =
     let open_ : is_closed s ≡ false = ap is_closed_phase o.phase in
     let short : is_over_limit s m.segment ≡ false = within_limit s m.segment o.size le in
@@ -114,11 +115,11 @@ outside_step s disk m le o =
 
 pub reached_outside : (settings : Settings) (n : ℕ) (disk : Disk) (ms : List Message) (m : Message) → IsOutside (answers (opening settings n) disk ms).machine m
     → step (answers (opening settings n) disk ms).machine (answers (opening settings n) disk ms).disk m
-    ≡ on (answers (opening settings n) disk ms).disk (nothing (answers (opening settings n) disk ms).machine)
+    ≡ unchanged (answers (opening settings n) disk ms).machine (answers (opening settings n) disk ms).disk
 reached_outside settings n disk ms m o =
     let r : Stepped = answers (opening settings n) disk ms in
     outside_step r.machine r.disk m (reached_fit settings n disk ms).limit o
 
-pub reached_limit : (settings : Settings) (n : ℕ) (disk : Disk) (ms : List Message) → (answers (opening settings n) disk ms).machine.held.target_max_recv ≤ limit settings
+pub reached_limit : (settings : Settings) (n : ℕ) (disk : Disk) (ms : List Message) → (answers (opening settings n) disk ms).machine.session.held.target_max_recv ≤ limit settings
 reached_limit settings n disk ms =
-    subst (λ (x : Settings). (answers (opening settings n) disk ms).machine.held.target_max_recv ≤ limit x) (answers_settings (opening settings n) disk ms) (reached_fit settings n disk ms).limit
+    subst (λ (x : Settings). (answers (opening settings n) disk ms).machine.session.held.target_max_recv ≤ limit x) (answers_settings (opening settings n) disk ms) (reached_fit settings n disk ms).limit

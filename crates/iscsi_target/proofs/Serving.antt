@@ -2,54 +2,71 @@
 use Rattle.std.proofs.Common.{◌≡◌, inl, inr, ◌∙◌, ℕ, List, [], ◌∷◌, ◌++◌, map, Option, None, refl, sym, ap, subst, arith}
 use Rattle.std.specs.Prelude.{Result, Ok, Err, IfOk, OnErr}
 use Rattle.std.proofs.lemmas.Bool.{cases_lt}
+use Rattle.std.proofs.lemmas.List.{append-nil}
 use Rattle.scsi_disk.specs.Disk.{Disk}
 use Rattle.scsi_disk.specs.Effect.{Effect, Executes, effect}
 use Rattle.scsi_disk.specs.declared.order.Order.{Order}
 use Rattle.iscsi_stream.specs.Stream.{Message}
 use Rattle.iscsi_stream.specs.Canonical.{canon}
-use Rattle.iscsi_target.specs.State.{Machine, Reply, Stepped, Execution, on, counted, closed}
+use Rattle.iscsi_target.specs.Session.{Session, Reply, counted, ended}
+use Rattle.iscsi_target.specs.State.{Machine, Stepped, Execution, on, unchanged, left, closed}
 use Rattle.iscsi_stream.specs.Pieces.{Pieces, data_of}
 use Rattle.iscsi_target.specs.Transfer.{joined}
 use Rattle.iscsi_target.specs.Execution.{Device, reliable, device_next, execute, command_answers, parts_given}
 use Rattle.iscsi_target.specs.Machine.{RunsIn, accepting}
 use Rattle.iscsi_target.specs.Laws.{joined_execution, joined_stepped}
-use Rattle.iscsi_target.specs.Inside.{Replied, Serves, GivesUp, Does, Handles, store_of}
+use Rattle.iscsi_target.specs.Inside.{Serves, Does, Attempts, Leaves, Handles, store_of}
 use Rattle.iscsi_target.proofs.OpenWrites.{data_of_one}
 
 pub by_ok : {E A : Type 0} (P Q : A → Type 0) (result : Result A E) → ((x : A) → P x → Q x) → IfOk result P → IfOk result Q
 by_ok P Q (Ok x) step h = step x h
 by_ok P Q (Err e) step h = tt
 
--- ---- replies
+-- ---- what leaves the disk
 
-pub reply_serves : (n : ℕ) (r : Reply) (f : Device → Stepped) (disk : Disk) (broken : Option ℕ) (new : Machine) (before after : List ℕ)
-    → ((d : Device) → f d ≡ on disk r) → Replied r broken new before after → Serves n n f broken new disk before after
-reply_serves n r f disk broken new before after is h = record {
+leaves_serves : (n : ℕ) (r : Stepped) (f : Device → Stepped) (disk : Disk) (broken : Option ℕ) (new : Machine) (before after : List ℕ)
+    → ((d : Device) → f d ≡ r) → r.executed ≡ [] → r.disk ≡ disk → new ≡ r.machine → after ≡ before ++ canon r.answers → broken ≡ r.rule → Serves n n f broken new disk before after
+leaves_serves n r f disk broken new before after is none same is_new is_after is_rule = record {
   device = reliable;
   rises = omega arith;
   works = λ _. refl;
-  runs = subst (λ (x : Stepped). RunsIn reliable n x.executed n) (sym (is reliable)) refl;
-  machine = ap joined h.machine ∙ ap (λ (x : Stepped). joined x.machine) (sym (is reliable));
-  disk_is = ap (λ (x : Stepped). x.disk) (sym (is reliable));
-  output = h.output ∙ ap (λ (x : Stepped). before ++ canon x.answers) (sym (is reliable));
-  rule_is = h.rule_is ∙ ap (λ (x : Stepped). x.rule) (sym (is reliable));
+  runs = subst (λ (xs : List Execution). RunsIn reliable n xs n) (sym (ap (λ (x : Stepped). x.executed) (is reliable) ∙ none)) refl;
+  machine = ap joined is_new ∙ ap (λ (x : Stepped). joined x.machine) (sym (is reliable));
+  disk_is = sym same ∙ ap (λ (x : Stepped). x.disk) (sym (is reliable));
+  output = is_after ∙ ap (λ (x : Stepped). before ++ canon x.answers) (sym (is reliable));
+  rule_is = is_rule ∙ ap (λ (x : Stepped). x.rule) (sym (is reliable));
 }
 
-pub reply_if : {E : Type 0} (result : Result (Option ℕ) E) (n : ℕ) (r : Reply) (f : Device → Stepped) (disk : Disk) (new : Machine) (before after : List ℕ)
-    → ((d : Device) → f d ≡ on disk r) → IfOk result (λ b. Replied r b new before after) → IfOk result (λ b. Serves n n f b new disk before after)
-reply_if result n r f disk new before after is h =
-    by_ok (λ b. Replied r b new before after) (λ b. Serves n n f b new disk before after) result (λ b. reply_serves n r f disk b new before after is) h
-
-gives_up : {A E : Type 0} (result : Result A E) (n : ℕ) (old new : Machine) (disk : Disk) (before after : List ℕ) → OnErr result (new ≡ old) → OnErr result (after ≡ before) → OnErr result (GivesUp n n old new disk disk before after)
-gives_up (Ok x) n old new disk before after e f = tt
-gives_up (Err x) n old new disk before after e f = record { machine = ap closed e; rises = omega arith; disk_is = refl; unwritten = f }
-
 -- what was done with a message that leaves the disk, over any store
-pub does_handles : {E : Type 0} (result : Result (Option ℕ) E) (n : ℕ) (r : Reply) (f : Device → Stepped) (disk : Disk) (old new : Machine) (before after : List ℕ)
-    → ((d : Device) → f d ≡ on disk r) → Does r result old new before after → Handles f result old (store_of disk n) before new (store_of disk n) after
-does_handles result n r f disk old new before after is h = record {
-  ok = reply_if result n r f disk new before after is h.ok;
-  err = gives_up result n old new disk before after h.err h.unwritten;
+pub leaves_handles : {E : Type 0} (result : Result (Option ℕ) E) (n : ℕ) (r : Stepped) (f : Device → Stepped) (disk : Disk) (old new : Machine) (before after : List ℕ)
+    → ((d : Device) → f d ≡ r) → r.executed ≡ [] → r.disk ≡ disk → Leaves r result old new before after → Handles f result old (store_of disk n) before new (store_of disk n) after
+leaves_handles (Ok rule) n r f disk old new before after is none same h = record { ok = leaves_serves n r f disk rule new before after is none same h.machine h.output h.rule_is; err = tt }
+leaves_handles (Err e) n r f disk old new before after is none same h = record { ok = tt; err = record { machine = h.err; rises = omega arith; disk_is = refl; unwritten = h.unwritten } }
+
+-- a message that changes nothing, over any store
+pub unchanged_serves : (n : ℕ) (s : Machine) (f : Device → Stepped) (disk : Disk) (new : Machine) (out : List ℕ) → ((d : Device) → f d ≡ unchanged s disk) → new ≡ s → Serves n n f None new disk out out
+unchanged_serves n s f disk new out is e = leaves_serves n (unchanged s disk) f disk None new out out is refl refl e (sym (append-nil out)) refl
+
+pub attempts : {E : Type 0} (r : Reply) (result : Result (Option ℕ) E) (old new : Session) (before after : List ℕ) → Does r result old new before after → Attempts r result old new before after
+attempts r (Ok rule) old new before after h = record { ok = h.ok; err = tt; unwritten = tt }
+attempts r (Err e) old new before after h = record { ok = tt; err = ap ended h.err; unwritten = h.unwritten }
+
+-- what a session replied is what the target did, whose open write goes with the session
+pub relays : {E : Type 0} (r : Reply) (result : Result (Option ℕ) E) (old new : Machine) (session : Session) (disk : Disk) (before after : List ℕ)
+    → Attempts r result old.session session before after → new ≡ record { session = session; write = left session old.write } → Leaves (on disk old.write r) result old new before after
+relays r (Ok rule) old new session disk before after h e = record {
+  machine = e ∙ ap (λ (s : Session). record { session = s; write = left s old.write }) h.ok.session;
+  output = h.ok.output;
+  rule_is = h.ok.rule_is;
+  err = tt;
+  unwritten = tt;
+}
+relays r (Err x) old new session disk before after h e = record {
+  machine = tt;
+  output = tt;
+  rule_is = tt;
+  err = ap closed e ∙ ap (λ (s : Session). record { session = s; write = None }) h.err;
+  unwritten = h.unwritten;
 }
 
 -- ---- the same step
@@ -123,8 +140,8 @@ accepts_if result fb fa m f g new now before after is h =
 -- ---- an order
 
 pub order_serves : (fb fa tag : ℕ) (s : Machine) (disk : Disk) (order : Order) (pieces : Pieces) (e : Effect) (new : Machine) (now : Disk) (before after : List ℕ)
-    → Executes fb fa disk order (data_of pieces) e → new ≡ counted s → now ≡ e.disk
-    → after ≡ before ++ canon (command_answers s tag e.outcome (parts_given s.held e.outcome.bytes))
+    → Executes fb fa disk order (data_of pieces) e → new ≡ record s { session = counted s.session } → now ≡ e.disk
+    → after ≡ before ++ canon (command_answers s tag e.outcome (parts_given s.session.held e.outcome.bytes))
     → Serves fb fa (λ d. execute d s disk tag order pieces) None new now before after
 order_serves fb fa tag s disk order pieces e new now before after x is_new is_now is_after =
     elim (cases_lt fb fa) [
@@ -147,7 +164,7 @@ order_serves fb fa tag s disk order pieces e new now before after x is_new is_no
             runs = (fa, subst (λ (y : Effect). Executes fb fa disk order (data_of pieces) y) same x, refl);
             machine = ap joined is_new;
             disk_is = is_now ∙ ap (λ (y : Effect). y.disk) same;
-            output = is_after ∙ ap (λ (y : Effect). before ++ canon (command_answers s tag y.outcome (parts_given s.held y.outcome.bytes))) same;
+            output = is_after ∙ ap (λ (y : Effect). before ++ canon (command_answers s tag y.outcome (parts_given s.session.held y.outcome.bytes))) same;
             rule_is = refl;
           }
     ]

@@ -178,11 +178,11 @@ pub report_of_well_known_units : Row logged_in
 unfolding answers digits header whole put_bit put_number put_bytes put_raw kind_of cut joined overlaid zero_blocks segment_of segment_bytes
 report_of_well_known_units = (refl, refl, refl)
 
--- Code 35 is unknown.
+-- Code 34 is unknown.
 pub unknown_command : Row logged_in
-    (orders (record (command true false false 0 (cdbs.Unknown (0x35 ∷ replicate 15 0))) { lun = 0 }) []
+    (orders (record (command true false false 0 (cdbs.Unknown (0x34 ∷ replicate 15 0))) { lun = 0 }) []
     ∷ [])
-    (hex (codes "01810000 00000000 00000000 00000000 00000001 00000000 00000001 00000003 35000000 00000000 00000000 00000000"))
+    (hex (codes "01810000 00000000 00000000 00000000 00000001 00000000 00000001 00000003 34000000 00000000 00000000 00000000"))
     ((hex (codes "21800002 00000014 00000000 00000000 00000001 00000000 00000003 00000002 00000002 00000000 00000000 00000000"))
     ++ (hex (codes "0012 70000500 0000000a 00000000 20000000 0000")))
     None
@@ -191,9 +191,9 @@ unknown_command = (refl, refl, refl)
 
 -- So it is at a unit that isn't there.
 pub unknown_command_at_another_unit : Row logged_in
-    (orders (record (command true false false 0 (cdbs.Unknown (0x35 ∷ replicate 15 0))) { lun = 0x0001_0000_0000_0000 }) []
+    (orders (record (command true false false 0 (cdbs.Unknown (0x34 ∷ replicate 15 0))) { lun = 0x0001_0000_0000_0000 }) []
     ∷ [])
-    (hex (codes "01810000 00000000 00010000 00000000 00000001 00000000 00000001 00000003 35000000 00000000 00000000 00000000"))
+    (hex (codes "01810000 00000000 00010000 00000000 00000001 00000000 00000001 00000003 34000000 00000000 00000000 00000000"))
     ((hex (codes "21800002 00000014 00000000 00000000 00000001 00000000 00000003 00000002 00000002 00000000 00000000 00000000"))
     ++ (hex (codes "0012 70000500 0000000a 00000000 20000000 0000")))
     None
@@ -399,7 +399,7 @@ unfolding answers digits header whole put_bit put_number put_bytes put_raw kind_
 ping_before_login = (refl, refl, refl)
 
 -- A segment longer than the target declared is rejected.
-pub segment_past_what_was_declared : Row (record logged_in { held = record agreed { target_max_recv = 2 } }) (ping 1 ∷ [])
+pub segment_past_what_was_declared : Row (record logged_in { session = record logged_in.session { held = record agreed { target_max_recv = 2 } } }) (ping 1 ∷ [])
     (hex (codes "40800000 00000003 00000000 00000000 00000001 ffffffff 00000001 00000003 00000000 00000000 00000000 00000000 61626300"))
     (hex (codes "3f800400 00000030 00000000 00000000 ffffffff 00000000 00000003 00000001 00000001 00000000 00000000 00000000")
     ++ hex (codes "40800000 00000003 00000000 00000000 00000001 ffffffff 00000001 00000003 00000000 00000000 00000000 00000000"))

@@ -17,7 +17,8 @@ use Rattle.iscsi_stream.specs.Stream.{Message}
 use Rattle.iscsi_login.specs.declared.key.NegKey.TheVariants as keys
 use Rattle.iscsi_login.specs.Held.{Held, first_burst, is_on, unasked}
 use Rattle.iscsi_target.specs.Configured.{Settings}
-use Rattle.iscsi_target.specs.State.{Machine, Write, Execution, Stepped, Reply, on, message, opening}
+use Rattle.iscsi_target.specs.Session.{Reply, message}
+use Rattle.iscsi_target.specs.State.{Machine, Write, Execution, Stepped, on, opening, waiting}
 use Rattle.iscsi_stream.specs.Pieces.{Pieces, data_of}
 use Rattle.iscsi_target.specs.Login.{login_step}
 use Rattle.iscsi_target.specs.declared.due.Due.TheVariants.{Nothing, Unsolicited}
@@ -28,7 +29,7 @@ use Rattle.iscsi_target.specs.Machine.{step, step_on, answers}
 use Rattle.iscsi_target.specs.Tiles.{r2t_ranges, IsModest, total_of, Tiles, TilesPlan, IsTiled}
 use Rattle.iscsi_target.specs.Laws.{supplied}
 use Rattle.iscsi_target.proofs.StepParts.{by_cases, Parts, step_parts}
-use Rattle.iscsi_target.proofs.Replies.{IsReply, IsOver, Logs, login_logs, nothing_reply, shut_reply, reject_reply, breach_reply, nop_reply, task_reply, text_reply_is, logout_reply}
+use Rattle.iscsi_target.proofs.Replies.{IsReply, IsOver, on_ends, Logs, login_logs, reject_reply, breach_reply, request_answered_reply}
 use Rattle.iscsi_target.proofs.OpenWrites.{DueFits, IsOpen, size_with, tiles_with, taken_open, asking_modest, asking_open}
 use Rattle.iscsi_target.proofs.DiskFold.{step_folds}
 use Rattle.scsi_disk.proofs.Planned.{all_false}
@@ -47,7 +48,7 @@ IsSound count s = OnWrite s.write (IsOpen count)
 pub record KeepsWrites (count : ℕ) (r : Stepped) : Type 0 where
   pub sound : IsSound count r.machine
   pub tiled : AllByRecursion IsTiled r.executed
-  pub modest : AllByRecursion (IsModest r.machine.held (total_of r.machine.write)) (r2t_ranges r.answers)
+  pub modest : AllByRecursion (IsModest r.machine.session.held (total_of r.machine.write)) (r2t_ranges r.answers)
 
 abbrev Goes : Disk → Machine → Stepped → Type 0
 Goes disk s r = IsSound disk.count s → KeepsWrites disk.count r
@@ -62,15 +63,19 @@ after_reply count old s (inr e) o = subst (λ (w : Option Write). OnWrite w (IsO
 no_ranges : (held : Held) (total : ℕ) (ranges : List (ℕ × ℕ)) → ranges ≡ [] → AllByRecursion (IsModest held total) ranges
 no_ranges held total ranges e = subst (λ (rs : List (ℕ × ℕ)). AllByRecursion (IsModest held total) rs) (sym e) tt
 
-reply_goes : (s : Machine) (disk : Disk) (r : Reply) → IsReply s r → Goes disk s (on disk r)
+reply_goes : (s : Machine) (disk : Disk) (r : Reply) → IsReply s.session r → Goes disk s (on disk s.write r)
 reply_goes s disk r c o = record {
-  sound = after_reply disk.count s.write r.machine c.ends o;
+  sound = after_reply disk.count s.write (on disk s.write r).machine (on_ends disk s.write r) o;
   tiled = tt;
-  modest = no_ranges r.machine.held (total_of r.machine.write) (r2t_ranges r.answers) c.ranges;
+  modest = no_ranges r.session.held (total_of (on disk s.write r).machine.write) (r2t_ranges r.answers) c.ranges;
 }
 
-login_goes : (s : Machine) (m : Message) (disk : Disk) (r : Reply) → Logs s m r → Goes disk s (on disk r)
-login_goes s m disk r l o = reply_goes l.from disk r l.is (subst (λ (w : Option Write). OnWrite w (IsOpen disk.count)) (sym l.write) o)
+login_goes : (s : Machine) (m : Message) (disk : Disk) (r : Reply) → Logs s.session m r → Goes disk s (on disk s.write r)
+login_goes s m disk r l o = record {
+  sound = after_reply disk.count s.write (on disk s.write r).machine (on_ends disk s.write r) o;
+  tiled = tt;
+  modest = no_ranges r.session.held (total_of (on disk s.write r).machine.write) (r2t_ranges r.answers) l.is.ranges;
+}
 
 pub ins_ranges : (s : Machine) (tag data_sn at : ℕ) (given : List (List ℕ × Bool)) (more : List Message) → r2t_ranges (data_ins s tag data_sn at given ++ more) ≡ r2t_ranges more
 ins_ranges s tag data_sn at [] more = refl
@@ -79,7 +84,7 @@ ins_ranges s tag data_sn at (part ∷ given) more = ins_ranges s tag (data_sn + 
 pub execute_ranges : (device : Device) (s : Machine) (disk : Disk) (tag : ℕ) (order : Order) (pieces : Pieces) → r2t_ranges (execute device s disk tag order pieces).answers ≡ []
 execute_ranges device s disk tag order pieces =
     let e : Effect = device 0 disk order (data_of pieces) in
-    let given : List (List ℕ × Bool) = parts_given s.held e.outcome.bytes in
+    let given : List (List ℕ × Bool) = parts_given s.session.held e.outcome.bytes in
     ins_ranges s tag 0 0 given (message (response_head s tag e.outcome (length given)) (sense_segment e.outcome.sense) ∷ [])
 
 execute_goes : (device : Device) (s : Machine) (disk : Disk) (tag : ℕ) (order : Order) (pieces : Pieces) → TilesPlan (plan_of order disk.count) pieces
@@ -87,7 +92,7 @@ execute_goes : (device : Device) (s : Machine) (disk : Disk) (tag : ℕ) (order 
 execute_goes device s disk tag order pieces t o = record {
   sound = o;
   tiled = (t, tt);
-  modest = no_ranges s.held (total_of s.write) (r2t_ranges (execute device s disk tag order pieces).answers) (execute_ranges device s disk tag order pieces);
+  modest = no_ranges s.session.held (total_of s.write) (r2t_ranges (execute device s disk tag order pieces).answers) (execute_ranges device s disk tag order pieces);
 }
 
 whole_tiles : (count : ℕ) (w : Write) → IsOpen count w → is_whole w ≡ true → TilesPlan (plan_of w.order count) w.pieces
@@ -100,7 +105,7 @@ proceed_goes device s disk w o =
     by_cases (is_whole w)
     (λ h. rw h (execute_goes device (record s { write = None }) disk w.initiator_task_tag w.order w.pieces (whole_tiles disk.count w o h) tt))
     (λ h. by_cases (is_idle w.due)
-    (λ g. rw (h, g) (record { sound = asking_open disk.count s.held w o; tiled = tt; modest = (asking_modest disk.count s.held w o, tt) }))
+    (λ g. rw (h, g) (record { sound = asking_open disk.count s.session.held w o; tiled = tt; modest = (asking_modest disk.count s.session.held w o, tt) }))
     (λ g. rw (h, g) (record { sound = o; tiled = tt; modest = tt })))
 
 no_plan_tiles : (plan : Plan) → ((n : ℕ) → plan ≡ Take n → ⊥) → TilesPlan plan []
@@ -171,23 +176,20 @@ immediate_fits count h held total bytes e f =
 
 parts_go : (device : Device) (disk : Disk) → Parts device disk (λ s m r. Goes disk s r) (λ s m r. Goes disk s r)
 parts_go device disk = record {
-  nothing_ = λ s m c. reply_goes s disk _ (nothing_reply s);
-  shut_ = λ s m rule. reply_goes s disk _ (shut_reply s rule);
-  reject_ = λ s reason m a. reply_goes s disk _ (reject_reply s reason m);
-  breach_ = λ s rule m. reply_goes s disk _ (breach_reply s rule m);
-  login_ = λ s m k. login_goes s m disk (login_step s m) (login_logs s m);
+  nothing_ = λ s m c o. record { sound = o; tiled = tt; modest = tt };
+  shut_ = λ s m o. record { sound = tt; tiled = tt; modest = tt };
+  reject_ = λ s reason m a. reply_goes s disk _ (reject_reply s.session (waiting s.write) reason m);
+  breach_ = λ s rule m. reply_goes s disk _ (breach_reply s.session (waiting s.write) rule m);
+  login_ = λ s m k. login_goes s m disk (login_step s.session m) (login_logs s.session m);
   taken_ = λ s m h w more k e g f o. proceed_goes device s disk more
-      (taken_open disk.count (first_burst s.held) w more h (segment_bytes m.segment) (subst (λ (x : Option Write). OnWrite x (IsOpen disk.count)) e o) f);
+      (taken_open disk.count (first_burst s.session.held) w more h (segment_bytes m.segment) (subst (λ (x : Option Write). OnWrite x (IsOpen disk.count)) e o) f);
   immediate_ = λ s m r a w c f o. record { sound = (f o).sound; tiled = (f o).tiled; modest = (f o).modest };
   in_turn_ = λ s m n r a c w f o. record { sound = (f o).sound; tiled = (f o).tiled; modest = (f o).modest };
-  refused_ = λ s m rule. reply_goes s disk _ (breach_reply s rule m);
-  nop_ = λ s m h k. reply_goes s disk _ (nop_reply s h (segment_bytes m.segment));
-  task_ = λ s m h k. reply_goes s disk _ (task_reply s h);
-  text_ = λ s m h k. reply_goes s disk _ (text_reply_is s m h (segment_bytes m.segment));
-  logout_ = λ s m h k. reply_goes s disk _ (logout_reply s m h);
+  refused_ = λ s m rule. reply_goes s disk _ (breach_reply s.session (waiting s.write) rule m);
+  request_ = λ s m head k none. reply_goes s disk _ (request_answered_reply s.session (waiting s.write) m head);
   execute_ = λ s m h k none. execute_goes device s disk h.initiator_task_tag (order_of h) [] (no_plan_tiles (plan_of (order_of h) disk.count) none);
   opened_ = λ s m h total k e f o. proceed_goes device s disk (opened h total (segment_bytes m.segment))
-      (opened_open disk.count s.held h total (segment_bytes m.segment) f (immediate_fits disk.count h s.held total (segment_bytes m.segment) e f));
+      (opened_open disk.count s.session.held h total (segment_bytes m.segment) f (immediate_fits disk.count h s.session.held total (segment_bytes m.segment) e f));
 }
 
 -- one step over any store

@@ -12,8 +12,9 @@ use Rattle.iscsi_pdu.specs.declared.head.Head.TheVariants as heads
 use Rattle.iscsi_stream.specs.Stream.{Message}
 use Rattle.iscsi_login.specs.declared.key.NegKey.TheVariants as keys
 use Rattle.iscsi_login.specs.Held.{Held, first_burst, is_on, unasked}
-use Rattle.iscsi_target.specs.State.{Machine, Write, Stepped, Reply, on, message, nothing, max_cmd_sn}
-use Rattle.iscsi_target.specs.Rejecting.{breach}
+use Rattle.iscsi_target.specs.Session.{message}
+use Rattle.iscsi_target.specs.State.{Machine, Write, Stepped, unchanged, max_cmd_sn}
+use Rattle.iscsi_target.specs.Rejecting.{breaks}
 use Rattle.iscsi_pdu.specs.Rules.{data_out_of_order}
 use Rattle.iscsi_target.specs.declared.due.Due.TheVariants.{Nothing, Unsolicited}
 use Rattle.iscsi_target.specs.Transfer.{received, with_piece, is_whole, taken, asking, desired, is_idle}
@@ -55,20 +56,18 @@ r2t_head s w = heads.ReadyToTransfer (record {
   lun = w.order.lun;
   initiator_task_tag = w.initiator_task_tag;
   target_transfer_tag = w.asked;
-  stat_sn = s.stat_sn;
-  exp_cmd_sn = s.exp_cmd_sn;
+  stat_sn = s.session.stat_sn;
+  exp_cmd_sn = s.session.exp_cmd_sn;
   max_cmd_sn = max_cmd_sn s;
   r2t_sn = w.asked;
   buffer_offset = received w;
-  desired_data_transfer_length = desired s.held w;
+  desired_data_transfer_length = desired s.session.held w;
 })
 
 -- An R2T goes out, which advances no StatSN (section 11.8).
-abbrev pub ask : Machine → Write → Reply
-ask s w = record {
-  machine = record s { write = Some (asking s.held w) };
+abbrev pub ask : Machine → Disk → Write → Stepped
+ask s disk w = record (unchanged (record s { write = Some (asking s.session.held w) }) disk) {
   answers = message (r2t_head s w) [] ∷ [];
-  rule = None;
 }
 
 -- A write that is open: it is executed when all bytes are there; else an R2T goes out where no
@@ -77,8 +76,8 @@ abbrev pub proceed : Device → Machine → Disk → Write → Stepped
 proceed device s disk w =
     if is_whole w
     then execute device (record s { write = None }) disk w.initiator_task_tag w.order w.pieces
-    else if is_idle w.due then on disk (ask (record s { write = Some w }) w)
-    else on disk (nothing (record s { write = Some w }))
+    else if is_idle w.due then ask (record s { write = Some w }) disk w
+    else unchanged (record s { write = Some w }) disk
 
 -- The write of so many bytes that a command with these immediate bytes opens (section 11.3).
 abbrev pub opened : ScsiCommand → ℕ → List ℕ → Write
@@ -100,24 +99,24 @@ planned device s disk h bytes _ = execute device s disk h.initiator_task_tag (or
 -- A SCSI Command (section 11.3).
 abbrev pub scsi_command : Device → Machine → Disk → Message → ScsiCommand → List ℕ → Stepped
 scsi_command device s disk m h bytes =
-    if breaks_burst_rules s.held h (length bytes) then on disk (breach s data_out_of_order m)
+    if breaks_burst_rules s.session.held h (length bytes) then breaks s disk data_out_of_order m
     else planned device s disk h bytes (plan_of (order_of h) disk.count)
 
 -- ---- a Data-Out
 
 -- The open write with the Data-Out, or none where that wasn't due (section 11.7).
 abbrev pub data_taken : Device → Machine → Disk → Message → Option Write → Stepped
-data_taken device s disk m None = on disk (breach s data_out_of_order m)
+data_taken device s disk m None = breaks s disk data_out_of_order m
 data_taken device s disk m (Some w) = proceed device s disk w
 
 -- The open write with its tag takes a Data-Out; where there is none it is dropped (section 11.7;
 -- own rule).
 abbrev pub data_for : Device → Machine → Disk → Message → DataOut → List ℕ → Option Write → Stepped
-data_for device s disk m h bytes None = on disk (nothing s)
+data_for device s disk m h bytes None = unchanged s disk
 data_for device s disk m h bytes (Some w) =
     if h.initiator_task_tag == w.initiator_task_tag
-    then data_taken device s disk m (taken (first_burst s.held) w h bytes)
-    else on disk (nothing s)
+    then data_taken device s disk m (taken (first_burst s.session.held) w h bytes)
+    else unchanged s disk
 
 -- A Data-Out (section 11.7).
 abbrev pub data_out : Device → Machine → Disk → Message → DataOut → List ℕ → Stepped

@@ -11,7 +11,7 @@ use Rattle.iscsi_pdu.specs.declared.head.text_request.TextRequest.{TextRequest}
 use Rattle.iscsi_pdu.specs.declared.head.Head.{Head}
 use Rattle.iscsi_pdu.specs.declared.head.Head.TheVariants as heads
 use Rattle.iscsi_stream.specs.Stream.{Message}
-use Rattle.iscsi_target.specs.State.{Machine, Reply, say, max_cmd_sn}
+use Rattle.iscsi_target.specs.Session.{Session, Reply, say, max_cmd_sn_with}
 use Rattle.iscsi_pdu.specs.Fields.{reserved_tag}
 use Rattle.iscsi_target.specs.Rejecting.{breach}
 use Rattle.iscsi_pdu.specs.Rules.{text_at_fault}
@@ -60,8 +60,8 @@ reply_pairs name pairs =
 -- ---- the request
 
 -- The head of the answer, which is whole (section 11.11).
-abbrev pub text_head : Machine → TextRequest → Head
-text_head s h = heads.TextResponse (record {
+abbrev pub text_head : Session → ℕ → TextRequest → Head
+text_head s waiting h = heads.TextResponse (record {
   is_final = true;
   continues = false;
   lun = None;
@@ -69,25 +69,25 @@ text_head s h = heads.TextResponse (record {
   target_transfer_tag = reserved_tag;
   stat_sn = s.stat_sn;
   exp_cmd_sn = s.exp_cmd_sn;
-  max_cmd_sn = max_cmd_sn s;
+  max_cmd_sn = max_cmd_sn_with s waiting;
 })
 
 -- The answer has at most as many bytes as the initiator takes in one segment (section 13.12; that a
 -- longer one closes the session is own rule).
-abbrev pub text_reply : Machine → Message → TextRequest → List ℕ → Reply
-text_reply s m h text =
-    if nat_lt s.held.initiator_max_recv (length text) then breach s text_at_fault m
-    else say s (text_head s h) text
+abbrev pub text_reply : Session → ℕ → Message → TextRequest → List ℕ → Reply
+text_reply s waiting m h text =
+    if nat_lt s.held.initiator_max_recv (length text) then breach s waiting text_at_fault m
+    else say s (text_head s waiting h) text
 
 -- The segment is a text, or not (section 6.1).
-abbrev pub text_reply_to : Machine → Message → TextRequest → Option Pairs → Reply
-text_reply_to s m h None = breach s text_at_fault m
-text_reply_to s m h (Some pairs) =
-    text_reply s m h (canonical_text (reply_pairs s.settings.name pairs))
+abbrev pub text_reply_to : Session → ℕ → Message → TextRequest → Option Pairs → Reply
+text_reply_to s waiting m h None = breach s waiting text_at_fault m
+text_reply_to s waiting m h (Some pairs) =
+    text_reply s waiting m h (canonical_text (reply_pairs s.settings.name pairs))
 
 -- A Text Request, which has to be whole (section 11.10; own rule).
-abbrev pub text_request : Machine → Message → TextRequest → List ℕ → Reply
-text_request s m h bytes =
+abbrev pub text_request : Session → ℕ → Message → TextRequest → List ℕ → Reply
+text_request s waiting m h bytes =
     if not h.is_final || (h.continues || not (h.target_transfer_tag == reserved_tag))
-    then breach s text_at_fault m
-    else text_reply_to s m h (text_in bytes)
+    then breach s waiting text_at_fault m
+    else text_reply_to s waiting m h (text_in bytes)

@@ -14,7 +14,8 @@ use Rattle.iscsi_pdu.specs.declared.head.Head.{Head}
 use Rattle.iscsi_pdu.specs.declared.head.Head.TheVariants as heads
 use Rattle.iscsi_stream.specs.Stream.{Message}
 use Rattle.iscsi_login.specs.Held.{Held, max_burst}
-use Rattle.iscsi_target.specs.State.{Machine, Execution, Stepped, message, counted, max_cmd_sn}
+use Rattle.iscsi_target.specs.Session.{message, counted}
+use Rattle.iscsi_target.specs.State.{Machine, Execution, Stepped, max_cmd_sn}
 use Rattle.iscsi_stream.specs.Pieces.{Pieces, data_of, chunks}
 use Rattle.iscsi_pdu.specs.Fields.{reserved_tag}
 
@@ -59,7 +60,7 @@ data_in_head s tag data_sn offset is_final = heads.DataIn (record {
   initiator_task_tag = tag;
   target_transfer_tag = reserved_tag;
   stat_sn = None;
-  exp_cmd_sn = s.exp_cmd_sn;
+  exp_cmd_sn = s.session.exp_cmd_sn;
   max_cmd_sn = max_cmd_sn s;
   data_sn = data_sn;
   buffer_offset = offset;
@@ -101,8 +102,8 @@ response_head s tag outcome count = heads.ScsiResponse (record {
   response = 0;
   status = Some outcome.status;
   initiator_task_tag = tag;
-  stat_sn = s.stat_sn;
-  exp_cmd_sn = s.exp_cmd_sn;
+  stat_sn = s.session.stat_sn;
+  exp_cmd_sn = s.session.exp_cmd_sn;
   max_cmd_sn = max_cmd_sn s;
   exp_data_sn = Some count;
   bidirectional_residual = None;
@@ -123,11 +124,11 @@ command_answers s tag outcome given =
 -- An order was executed with this effect: its data go out, and its response (section 11.4).
 abbrev pub told : Machine → Execution → Effect → Stepped
 told s e effect = record {
-  machine = counted s;
+  machine = record s { session = counted s.session };
   disk = effect.disk;
   answers =
       command_answers s e.initiator_task_tag effect.outcome
-      (parts_given s.held effect.outcome.bytes);
+      (parts_given s.session.held effect.outcome.bytes);
   rule = None;
   accepted = [];
   executed = e ∷ [];

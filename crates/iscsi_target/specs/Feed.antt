@@ -14,7 +14,8 @@ use Rattle.iscsi_login.specs.declared.phase.Phase.{Phase}
 use Rattle.iscsi_target.specs.declared.fault.TargetFault.{TargetFault}
 use Rattle.iscsi_target.specs.declared.fault.TargetFault.TheVariants as faults
 use Rattle.iscsi_target.specs.Configured.{Settings}
-use Rattle.iscsi_target.specs.State.{Machine, Stepped, closed, limit, opening}
+use Rattle.iscsi_target.specs.Session.{limit}
+use Rattle.iscsi_target.specs.State.{Machine, Stepped, closed, opening}
 use Rattle.iscsi_target.specs.Transfer.{joined}
 use Rattle.iscsi_target.specs.Machine.{is_closed, answers, MayAnswer}
 
@@ -72,7 +73,7 @@ pub record IsLive (r : Stepped) : Type 0 where
 abbrev pub Ends : List ℕ → Result Phase TargetFault → Framing → ℕ → Stepped → Connection → Type 0
 -- it goes on; or it was closed, and the rest of the piece is dropped
 Ends piece (Ok phase) framing n r new =
-    (r.rule ≡ None) × (new.machine ≡ joined r.machine) × (phase ≡ r.machine.phase)
+    (r.rule ≡ None) × (new.machine ≡ joined r.machine) × (phase ≡ r.machine.session.phase)
     × ((is_closed r.machine ≡ true) ⊎ GoesOn piece framing n r new)
 -- memory was refused at the next PDU: it changes nothing but that the session is closed
 Ends piece (Err faults.NoMemory) framing n r new = IsLive r × IsShut r.machine new.machine
@@ -242,9 +243,9 @@ pub record Holds (settings : Settings) (first_stat_sn : ℕ) (disk : Disk) (mess
 -- Two sessions hold the same values, are in the same stage and phase, and are equal while they go on
 -- (own rule).
 pub record SameSession (a b : Machine) : Type 0 where
-  pub held : b.held ≡ a.held
-  pub stage : b.stage ≡ a.stage
-  pub phase : b.phase ≡ a.phase
+  pub held : b.session.held ≡ a.session.held
+  pub stage : b.session.stage ≡ a.session.stage
+  pub phase : b.session.phase ≡ a.session.phase
   pub goes_on : is_closed a ≡ false → b ≡ a
 
 -- ---- one outcome

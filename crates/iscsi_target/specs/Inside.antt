@@ -1,5 +1,5 @@
 -- What the parts of a session do. No reader of its contract needs these.
-use Rattle.std.specs.Prelude.{◌≡◌, ◌≢◌, ◌⊎◌, ℕ, ◌+◌, ◌*◌, ◌≤◌, Option, Some, None, Bool, true, false, not, ◌&&◌, List, [], ◌∷◌, ◌++◌, length, codes, Result, IfOk, OnErr}
+use Rattle.std.specs.Prelude.{◌≡◌, ◌≢◌, ◌⊎◌, ℕ, ◌+◌, ◌*◌, ◌≤◌, Option, Some, None, Bool, true, false, not, ◌&&◌, List, [], ◌∷◌, ◌++◌, length, codes, Result, IfOk, OnOk, OnErr}
 use Rattle.std.specs.Str.{bytes_eq}
 use Rattle.iscsi_stream.specs.Canonical.{canon}
 use Rattle.scsi_disk.specs.Disk.{Disk}
@@ -9,7 +9,8 @@ use Rattle.iscsi_text.specs.Text.{Pairs}
 use Rattle.iscsi_text.specs.declared.pair.Pair.{Pair}
 use Rattle.iscsi_text.specs.Inside.{shown}
 use Rattle.iscsi_pdu.specs.declared.head.login_response.LoginResponse.{LoginResponse}
-use Rattle.iscsi_target.specs.State.{Machine, Write, Reply, Stepped, closed, counted}
+use Rattle.iscsi_target.specs.Session.{Session, Reply, ended, counted}
+use Rattle.iscsi_target.specs.State.{Machine, Write, Stepped, closed}
 use Rattle.iscsi_target.specs.Login.{answered}
 use Rattle.iscsi_target.specs.Transfer.{received, joined}
 use Rattle.iscsi_target.specs.Execution.{Device, reliable}
@@ -51,17 +52,16 @@ asking_for desired w = record w {
 
 -- ---- a step
 
--- The session, the output and the rule that was broken, after a message that leaves the disk (own
--- rule).
-pub record Replied (r : Reply) (broken : Option ℕ) (new : Machine)
+-- The session, the output and the rule that was broken, after a reply (own rule).
+pub record Replied (r : Reply) (broken : Option ℕ) (new : Session)
     (before after : List ℕ) : Type 0 where
-  pub machine : new ≡ r.machine
+  pub session : new ≡ r.session
   pub output : after ≡ before ++ canon r.answers
   pub rule_is : broken ≡ r.rule
 
--- What was done with a message that leaves the disk: it was answered so, or memory ran out; then
--- nothing was written, and the session is as it was (own rule).
-pub record Does {E : Type 0} (r : Reply) (result : Result (Option ℕ) E) (old new : Machine)
+-- What a session did with a message: it was answered so, or memory ran out; then nothing was
+-- written, and the session is as it was (own rule).
+pub record Does {E : Type 0} (r : Reply) (result : Result (Option ℕ) E) (old new : Session)
     (before after : List ℕ) : Type 0 where
   pub ok : IfOk result (λ rule. Replied r rule new before after)
   pub err : OnErr result (new ≡ old)
@@ -69,9 +69,19 @@ pub record Does {E : Type 0} (r : Reply) (result : Result (Option ℕ) E) (old n
 
 -- The same where memory ran out with the session as it was but for what a closed one drops (own
 -- rule).
-pub record Attempts {E : Type 0} (r : Reply) (result : Result (Option ℕ) E) (old new : Machine)
+pub record Attempts {E : Type 0} (r : Reply) (result : Result (Option ℕ) E) (old new : Session)
     (before after : List ℕ) : Type 0 where
   pub ok : IfOk result (λ rule. Replied r rule new before after)
+  pub err : OnErr result (ended new ≡ ended old)
+  pub unwritten : OnErr result (after ≡ before)
+
+-- What was done with a message that leaves the disk: it was answered so, or memory ran out, with
+-- the target as it was but for what a closed one drops (own rule).
+pub record Leaves {E : Type 0} (r : Stepped) (result : Result (Option ℕ) E) (old new : Machine)
+    (before after : List ℕ) : Type 0 where
+  pub machine : OnOk result (new ≡ r.machine)
+  pub output : OnOk result (after ≡ before ++ canon r.answers)
+  pub rule_is : IfOk result (λ rule. rule ≡ r.rule)
   pub err : OnErr result (closed new ≡ closed old)
   pub unwritten : OnErr result (after ≡ before)
 
@@ -109,14 +119,14 @@ pub record Handles {E : Type 0} (step : Device → Stepped) (result : Result (Op
 -- ---- the login
 
 -- What a request says of the session before it is answered is taken back (own rule).
-abbrev pub left_by : Machine → Machine → Machine
+abbrev pub left_by : Session → Session → Session
 left_by old new =
     record new { begun = old.begun; exp_cmd_sn = old.exp_cmd_sn; stage = old.stage }
 
 -- An answer of class 0 with this text (own rule).
-abbrev pub login_answer : Machine → LoginResponse → Pairs → Reply
+abbrev pub login_answer : Session → LoginResponse → Pairs → Reply
 login_answer s h pairs =
-    record { machine = counted s; answers = answered s h pairs; rule = None }
+    record { session = counted s; answers = answered s h pairs; rule = None }
 
 -- ---- text requests
 

@@ -145,12 +145,12 @@ pub record AreInOrder (r : Stepped) : Type 0 where
 -- A request that isn't immediate came outside the window, and may come in its phase and length
 -- (section 4.2.2.1).
 pub record IsOutside (s : Machine) (m : Message) : Type 0 where
-  pub phase : s.phase ≡ phases.Full
-  pub kind : is_due_kind s.session m.head ≡ true
+  pub phase : s.session.phase ≡ phases.Full
+  pub kind : is_due_kind s.session.session_type m.head ≡ true
   pub size : is_too_long s m ≡ false
   pub number : ℕ
   pub is_number : cmd_sn_of m.head ≡ Some number
-  pub outside : is_within number s.exp_cmd_sn (max_cmd_sn s) ≡ false
+  pub outside : is_within number s.session.exp_cmd_sn (max_cmd_sn s) ≡ false
 
 -- ---- pieces joined
 

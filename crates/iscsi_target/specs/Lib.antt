@@ -1,4 +1,5 @@
 pub mod Configured
+pub mod Session
 pub mod State
 pub mod Rejecting
 pub mod LoginText

@@ -8,7 +8,7 @@ use Rattle.iscsi_text.specs.Value as values
 use Rattle.iscsi_text.specs.Text.{Pairs, values_of}
 use Rattle.iscsi_text.specs.Canonical.{canonical_text}
 use Rattle.iscsi_text.specs.Reading.{has_key, is_empty}
-use Rattle.iscsi_login.specs.declared.stage.Session.{Session}
+use Rattle.iscsi_login.specs.declared.stage.Session.{Session as SessionType}
 use Rattle.iscsi_login.specs.declared.stage.Session.TheVariants as sessions
 use Rattle.iscsi_login.specs.declared.stage.Stage.{Stage}
 use Rattle.iscsi_login.specs.declared.stage.Stage.TheVariants as stages
@@ -19,7 +19,7 @@ use Rattle.iscsi_login.specs.declared.preferences.Preferences.{Preferences}
 use Rattle.iscsi_login.specs.Negotiation.{result_of, in_range, max_recv_range}
 use Rattle.iscsi_login.specs.Held.{Held}
 use Rattle.iscsi_login.specs.Answer.{answer, target_holds, max_recv_key}
-use Rattle.iscsi_target.specs.State.{Machine}
+use Rattle.iscsi_target.specs.Session.{Session}
 use Rattle.iscsi_target.specs.declared.status.Status.{Status}
 
 -- ---- statuses (section 11.13.5)
@@ -96,7 +96,7 @@ is_name (Some (values.Plain name)) = not (is_empty name)
 is_name _ = false
 
 -- The type of session; one that isn't named is normal (section 13.21).
-abbrev pub session_named : Option Typed → Option Session
+abbrev pub session_named : Option Typed → Option SessionType
 session_named None = Some sessions.Normal
 session_named (Some (values.Plain name)) =
     if bytes_eq name (codes "Normal") then Some sessions.Normal
@@ -105,15 +105,15 @@ session_named (Some (values.Plain name)) =
 session_named (Some _) = None
 
 -- The type of session that a text names (section 13.21).
-abbrev pub session_in : Pairs → Option Session
+abbrev pub session_in : Pairs → Option SessionType
 session_in pairs = session_named (value_for (codes "SessionType") pairs)
 
 -- The type of session once this text is whole: the first text settles it (section 13.21).
-abbrev pub session_for : Machine → Pairs → Session
-session_for s pairs = if s.has_text then s.session else unwrap_or (session_in pairs) sessions.Normal
+abbrev pub session_for : Session → Pairs → SessionType
+session_for s pairs = if s.has_text then s.session_type else unwrap_or (session_in pairs) sessions.Normal
 
 -- The session is for all that an initiator asks of a target (section 13.21).
-abbrev pub is_normal : Session → Bool
+abbrev pub is_normal : SessionType → Bool
 is_normal sessions.Normal = true
 is_normal sessions.Discovery = false
 
@@ -149,26 +149,26 @@ is_operational stages.Operational = true
 is_operational _ = false
 
 -- The tag of the portal group goes with the first text of a normal session (section 13.9).
-abbrev pub declared_tag : Machine → Pairs → Option ℕ
+abbrev pub declared_tag : Session → Pairs → Option ℕ
 declared_tag s pairs =
     if not s.has_text && is_normal (session_for s pairs) then Some s.settings.group else None
 
 -- What the target takes in one segment goes with the first text of the operational stage (section
 -- 13.12; own rule).
-abbrev pub declared_length : Machine → Option ℕ
+abbrev pub declared_length : Session → Option ℕ
 declared_length s =
     if is_operational s.stage && not s.has_operational_text
     then Some s.settings.preferences.max_recv
     else None
 
 -- The answer to a text (section 6.2).
-abbrev pub answer_pairs : Machine → Pairs → Pairs
+abbrev pub answer_pairs : Session → Pairs → Pairs
 answer_pairs s pairs =
     answer (session_for s pairs) s.settings.preferences (declared_tag s pairs) (declared_length s)
     pairs
 
 -- What the target holds after a text and its answer (section 6.2).
-abbrev pub held_after : Machine → Pairs → Held
+abbrev pub held_after : Session → Pairs → Held
 held_after s pairs =
     target_holds (session_for s pairs) s.settings.preferences (declared_length s) pairs s.held
 
@@ -176,7 +176,7 @@ held_after s pairs =
 -- given again; the first text has no initiator's name, another type of session, in a normal session
 -- no target's name or another's; authentication is demanded; the declared length may not be; the
 -- answer is too long.
-abbrev pub text_refusals : Machine → Pairs → List (Bool × Status)
+abbrev pub text_refusals : Session → Pairs → List (Bool × Status)
 text_refusals s pairs =
     let is_first = not s.has_text in
     let wants_target = is_first && is_normal (session_for s pairs) in

@@ -1,37 +1,43 @@
--- Rejected PDUs (RFC 7143, section 11.17).
+-- Rejected PDUs (RFC 7143, section 11.17). The first number is how many commands wait.
 use Rattle.std.specs.Prelude.{ℕ, List, Some}
 use Rattle.iscsi_pdu.specs.declared.head.Head.{Head}
 use Rattle.iscsi_pdu.specs.declared.head.Head.TheVariants as heads
 use Rattle.iscsi_stream.specs.Stream.{Message}
 use Rattle.iscsi_stream.specs.Canonical.{canonical_header}
-use Rattle.iscsi_target.specs.State.{Machine, Reply, say, counted, closed, max_cmd_sn}
+use Rattle.scsi_disk.specs.Disk.{Disk}
+use Rattle.iscsi_target.specs.Session.{Session, Reply, say, counted, ended, max_cmd_sn_with}
+use Rattle.iscsi_target.specs.State.{Machine, Stepped, on, waiting}
 use Rattle.iscsi_pdu.specs.Rules.{protocol_error}
 
 -- The head of a Reject (section 11.17).
-abbrev pub reject_head : Machine → ℕ → Head
-reject_head s reason = heads.Reject (record {
+abbrev pub reject_head : Session → ℕ → ℕ → Head
+reject_head s waiting reason = heads.Reject (record {
   reason = reason;
   stat_sn = s.stat_sn;
   exp_cmd_sn = s.exp_cmd_sn;
-  max_cmd_sn = max_cmd_sn s;
+  max_cmd_sn = max_cmd_sn_with s waiting;
 })
 
 -- A Reject of a PDU with this header; the session goes on (section 11.17).
-abbrev pub rejected : Machine → ℕ → List ℕ → Reply
-rejected s reason header = say s (reject_head s reason) header
+abbrev pub rejected : Session → ℕ → ℕ → List ℕ → Reply
+rejected s waiting reason header = say s (reject_head s waiting reason) header
 
 -- A Reject carries the header of the PDU's canonical form (section 11.17; that form is own rule).
-abbrev pub reject : Machine → ℕ → Message → Reply
-reject s reason m = rejected s reason (canonical_header m)
+abbrev pub reject : Session → ℕ → ℕ → Message → Reply
+reject s waiting reason m = rejected s waiting reason (canonical_header m)
 
 -- A PDU with this header broke the rule: it is rejected, and the session is closed (own rule).
-abbrev pub breached : Machine → ℕ → List ℕ → Reply
-breached s rule header = record {
-  machine = closed (counted s);
-  answers = (rejected s protocol_error header).answers;
+abbrev pub breached : Session → ℕ → ℕ → List ℕ → Reply
+breached s waiting rule header = record {
+  session = ended (counted s);
+  answers = (rejected s waiting protocol_error header).answers;
   rule = Some rule;
 }
 
 -- A PDU broke the rule (own rule).
-abbrev pub breach : Machine → ℕ → Message → Reply
-breach s rule m = breached s rule (canonical_header m)
+abbrev pub breach : Session → ℕ → ℕ → Message → Reply
+breach s waiting rule m = breached s waiting rule (canonical_header m)
+
+-- The same of a target (own rule).
+abbrev pub breaks : Machine → Disk → ℕ → Message → Stepped
+breaks s disk rule m = on disk s.write (breach s.session (waiting s.write) rule m)

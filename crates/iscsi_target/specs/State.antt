@@ -1,22 +1,14 @@
--- The session of a target between two PDUs, and the words that all of its steps use (RFC 7143,
+-- A target between two PDUs: its session and its open write, and what any message does (RFC 7143,
 -- section 4.2).
-use Rattle.std.specs.Prelude.{ℕ, ◌+◌, ◌-◌, ◌^◌, ◌%◌, Bool, false, max, List, [], ◌∷◌, Option, Some, None, replicate}
+use Rattle.std.specs.Prelude.{ℕ, List, [], Option, Some, None, if◌then◌else◌}
 use Rattle.scsi_disk.specs.Disk.{Disk}
 use Rattle.scsi_disk.specs.declared.order.Order.{Order}
-use Rattle.iscsi_pdu.specs.Serial.{next_sn}
-use Rattle.iscsi_pdu.specs.declared.head.Head.{Head}
-use Rattle.iscsi_stream.specs.Segment.{Bytes}
-use Rattle.iscsi_stream.specs.Stream.{Message}
-use Rattle.iscsi_login.specs.declared.phase.Phase.{Phase}
-use Rattle.iscsi_login.specs.declared.phase.Phase.TheVariants as phases
-use Rattle.iscsi_login.specs.declared.stage.Session.{Session}
-use Rattle.iscsi_login.specs.declared.stage.Session.TheVariants as sessions
-use Rattle.iscsi_login.specs.declared.stage.Stage.{Stage}
-use Rattle.iscsi_login.specs.declared.stage.Stage.TheVariants as stages
-use Rattle.iscsi_login.specs.Held.{Held, defaults}
-use Rattle.iscsi_target.specs.Configured.{Settings}
-use Rattle.iscsi_target.specs.declared.due.Due.{Due}
 use Rattle.iscsi_stream.specs.Pieces.{Pieces}
+use Rattle.iscsi_stream.specs.Stream.{Message}
+use Rattle.iscsi_login.specs.Stage.{is_closed_phase}
+use Rattle.iscsi_target.specs.Configured.{Settings}
+use Rattle.iscsi_target.specs.Session.{Session, Reply, opening_session, ended, max_cmd_sn_with}
+use Rattle.iscsi_target.specs.declared.due.Due.{Due}
 
 -- ---- the open write
 
@@ -32,80 +24,32 @@ pub record Write : Type 0 where
   -- how many R2Ts went out, which is the next one's tag and R2TSN
   pub asked : ℕ
 
--- ---- the session
+-- ---- the machine
 
--- A session (sections 4.2 and 6.3).
+-- A session and its open write (sections 4.2 and 11.3).
 pub record Machine : Type 0 where
-  pub settings : Settings
-  pub phase : Phase
-  -- of the login: where it is, and whether a request came
-  pub stage : Stage
-  pub begun : Bool
-  -- the bytes of a login text that is not whole
-  pub gathered : List ℕ
-  -- of each known key, whether a text of the login gave it
-  pub given : List Bool
-  -- whether a whole text came, and whether one came in the operational stage
-  pub has_text : Bool
-  pub has_operational_text : Bool
   pub session : Session
-  pub held : Held
-  -- the CmdSN that is due, and the StatSN of the next answer that carries and advances it
-  pub exp_cmd_sn : ℕ
-  pub stat_sn : ℕ
   pub write : Option Write
 
--- A session in which nothing came: none of the 27 known keys was given (section 6.3).
+-- Nothing came (section 6.3).
 abbrev pub opening : Settings → ℕ → Machine
-opening settings first_stat_sn = record {
-  settings = settings;
-  phase = phases.Login;
-  stage = stages.Security;
-  begun = false;
-  gathered = [];
-  given = replicate 27 false;
-  has_text = false;
-  has_operational_text = false;
-  session = sessions.Normal;
-  held = defaults;
-  exp_cmd_sn = 0;
-  stat_sn = first_stat_sn;
-  write = None;
-}
+opening settings first_stat_sn =
+    record { session = opening_session settings first_stat_sn; write = None }
 
--- The longest segment that the target's framer takes: any of a login fits (section 13.12; own
--- rule).
-abbrev pub limit : Settings → ℕ
-limit settings = max 8192 settings.preferences.max_recv
-
--- A closed session; what was gathered is dropped (own rule).
+-- The session is over; what was gathered is dropped, and so is the open write (own rule).
 abbrev pub closed : Machine → Machine
-closed s = record s { phase = phases.Closed; gathered = []; write = None }
-
--- ---- numbers
+closed s = record { session = ended s.session; write = None }
 
 -- How many commands wait (own rule).
 abbrev pub waiting : Option Write → ℕ
 waiting None = 0
 waiting (Some w) = 1
 
--- MaxCmdSN: the window is as wide as one command, less those that wait (section 4.2.2.1; the width
--- is own rule).
+-- MaxCmdSN: the window, less the commands that wait (section 4.2.2.1).
 abbrev pub max_cmd_sn : Machine → ℕ
-max_cmd_sn s = (s.exp_cmd_sn + (2 ^ 32 - waiting s.write)) % 2 ^ 32
+max_cmd_sn s = max_cmd_sn_with s.session (waiting s.write)
 
--- An answer went out that carries StatSN and advances it (section 4.2.2.2).
-abbrev pub counted : Machine → Machine
-counted s = record s { stat_sn = next_sn s.stat_sn }
-
--- ---- answers
-
--- What a message does that leaves the disk as it is: the session after it, the answers, and the
--- rule that it broke (own rule).
-pub record Reply : Type 0 where
-  pub machine : Machine
-  pub answers : List Message
-  pub rule : Option ℕ
+-- ---- what a message does
 
 -- An order that was executed: its tag, the disk before it, and the pieces of its data (own rule).
 pub record Execution : Type 0 where
@@ -124,10 +68,14 @@ pub record Stepped : Type 0 where
   pub accepted : List Message
   pub executed : List Execution
 
--- A reply, beside the disk (own rule).
-abbrev pub on : Disk → Reply → Stepped
-on disk r = record {
-  machine = r.machine;
+-- The open write that is left with a session: none where that is over (own rule).
+abbrev pub left : Session → Option Write → Option Write
+left session write = if is_closed_phase session.phase then None else write
+
+-- What a session replied, beside the disk and the open write (own rule).
+abbrev pub on : Disk → Option Write → Reply → Stepped
+on disk write r = record {
+  machine = record { session = r.session; write = left r.session write };
   disk = disk;
   answers = r.answers;
   rule = r.rule;
@@ -136,20 +84,16 @@ on disk r = record {
 }
 
 -- Nothing is answered, and nothing changes (own rule).
-abbrev pub nothing : Machine → Reply
-nothing s = record { machine = s; answers = []; rule = None }
+abbrev pub unchanged : Machine → Disk → Stepped
+unchanged s disk = record {
+  machine = s;
+  disk = disk;
+  answers = [];
+  rule = None;
+  accepted = [];
+  executed = [];
+}
 
 -- The session is closed without an answer (own rule).
-abbrev pub shut : Machine → Option ℕ → Reply
-shut s rule = record { machine = closed s; answers = []; rule = rule }
-
--- An answer whose segment means its bytes (section 11).
-abbrev pub message : Head → List ℕ → Message
-message head bytes = record { head = head; segment = Bytes bytes }
-
--- One answer that carries StatSN and advances it (section 4.2.2.2).
-abbrev pub say : Machine → Head → List ℕ → Reply
-say s head bytes =
-    record { machine = counted s; answers = message head bytes ∷ []; rule = None }
-
--- ---- reasons
+abbrev pub shut_down : Machine → Disk → Stepped
+shut_down s disk = unchanged (closed s) disk

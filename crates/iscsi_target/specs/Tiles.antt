@@ -100,7 +100,7 @@ data_answers first_burst h bytes (Some w) =
 -- How many R2Ts a PDU answers (section 11.8).
 abbrev pub pdu_answers : Machine → Message → Head → ℕ
 pdu_answers s m (heads.DataOut h) =
-    data_answers (first_burst s.held) h (segment_bytes m.segment) s.write
+    data_answers (first_burst s.session.held) h (segment_bytes m.segment) s.write
 pdu_answers s m _ = 0
 
 -- How many R2Ts are answered by messages (section 11.8).

@@ -10,7 +10,7 @@ use Rattle.iscsi_stream.specs.Segment.{Bytes, segment_of}
 use Rattle.iscsi_stream.specs.Stream.{Message}
 use Rattle.iscsi_stream.specs.Canonical.{canon}
 use Rattle.iscsi_login.specs.declared.phase.Phase.TheVariants as phases
-use Rattle.iscsi_login.specs.declared.stage.Session.TheVariants as sessions
+use Rattle.iscsi_login.specs.declared.stage.Session.TheVariants as session_types
 use Rattle.iscsi_login.specs.declared.stage.Stage.TheVariants as stages
 use Rattle.iscsi_login.specs.declared.preferences.Answered.TheVariants as answered
 use Rattle.iscsi_login.specs.Held.{Held}
@@ -210,18 +210,20 @@ agreed = record {
 -- after the two requests
 abbrev pub logged_in : Machine
 logged_in = record {
-  settings = settings;
-  phase = phases.Full;
-  stage = stages.Full;
-  begun = true;
-  gathered = [];
-  given = keys_given;
-  has_text = true;
-  has_operational_text = true;
-  session = sessions.Normal;
-  held = agreed;
-  exp_cmd_sn = 1;
-  stat_sn = 3;
+  session = record {
+    settings = settings;
+    phase = phases.Full;
+    stage = stages.Full;
+    begun = true;
+    gathered = [];
+    given = keys_given;
+    has_text = true;
+    has_operational_text = true;
+    session_type = session_types.Normal;
+    held = agreed;
+    exp_cmd_sn = 1;
+    stat_sn = 3;
+  };
   write = None;
 }
 

@@ -16,7 +16,8 @@ ghost use Rattle.iscsi_login.specs.Negotiation.{IsInRange};
 ghost use Rattle.iscsi_login.specs.Held.{IsHeld};
 ghost use Rattle.iscsi_target.specs.declared.fault.TargetFault.{TargetFault};
 ghost use Rattle.iscsi_target.specs.Configured.{Settings};
-ghost use Rattle.iscsi_target.specs.State.{Machine, Stepped, opening, on, nothing, limit};
+ghost use Rattle.iscsi_target.specs.Session.{limit};
+ghost use Rattle.iscsi_target.specs.State.{Machine, Stepped, opening, unchanged};
 ghost use Rattle.iscsi_target.specs.Transfer.{joined};
 ghost use Rattle.iscsi_target.specs.Execution.{Device};
 ghost use Rattle.iscsi_target.specs.Machine.{is_closed, step, step_on, answers, then_stepped, MayStep, MayAnswer};
@@ -65,11 +66,11 @@ pub fn command_numbers()
 /// Status numbers: the answers that carry StatSN and advance it have numbers one after another,
 /// round the circle of 2^32.
 pub fn status_numbers()
-    ensures count_on { (s : Machine) (disk : Disk) (ms : List Message) → s.stat_sn < 2 ^ 32
-        → CountOn s.stat_sn (stat_sns (answers s disk ms).answers) }
-    ensures next { (s : Machine) (disk : Disk) (ms : List Message) → s.stat_sn < 2 ^ 32
-        → (answers s disk ms).machine.stat_sn
-        ≡ (s.stat_sn + length (stat_sns (answers s disk ms).answers)) % 2 ^ 32 }
+    ensures count_on { (s : Machine) (disk : Disk) (ms : List Message) → s.session.stat_sn < 2 ^ 32
+        → CountOn s.session.stat_sn (stat_sns (answers s disk ms).answers) }
+    ensures next { (s : Machine) (disk : Disk) (ms : List Message) → s.session.stat_sn < 2 ^ 32
+        → (answers s disk ms).machine.session.stat_sn
+        ≡ (s.session.stat_sn + length (stat_sns (answers s disk ms).answers)) % 2 ^ 32 }
 {}
 
 /// Tiling: whatever came before, the Data-In that a message leads to tile what the command gives,
@@ -88,7 +89,7 @@ pub fn tiling()
 pub fn ready_to_transfer_bounds()
     ensures modest { (settings : Settings) (n : ℕ) (disk : Disk) (ms : List Message) (m : Message)
         → let r = answers (opening settings n) disk ms in let t = step r.machine r.disk m in
-        AllByRecursion (IsModest t.machine.held (total_of t.machine.write)) (r2t_ranges t.answers) }
+        AllByRecursion (IsModest t.machine.session.held (total_of t.machine.write)) (r2t_ranges t.answers) }
     ensures one { (settings : Settings) (n : ℕ) (disk : Disk) (ms : List Message)
         → AllByRecursion HasCmdSn ms
         → length (r2t_ranges (answers (opening settings n) disk ms).answers)
@@ -100,7 +101,7 @@ pub fn ready_to_transfer_bounds()
 pub fn silence_outside_the_window()
     ensures silent { (settings : Settings) (n : ℕ) (disk : Disk) (ms : List Message) (m : Message)
         → let r = answers (opening settings n) disk ms in IsOutside r.machine m
-        → step r.machine r.disk m ≡ on r.disk (nothing r.machine) }
+        → step r.machine r.disk m ≡ unchanged r.machine r.disk }
 {}
 
 /// What is held stays in range, and a segment of the length that the target declared is one that
@@ -108,9 +109,9 @@ pub fn silence_outside_the_window()
 pub fn held_in_range()
     ensures held { (settings : Settings) (n : ℕ) (disk : Disk) (ms : List Message)
         → IsInRange settings.preferences
-        → IsHeld (answers (opening settings n) disk ms).machine.held }
+        → IsHeld (answers (opening settings n) disk ms).machine.session.held }
     ensures limit { (settings : Settings) (n : ℕ) (disk : Disk) (ms : List Message)
-        → (answers (opening settings n) disk ms).machine.held.target_max_recv ≤ limit settings }
+        → (answers (opening settings n) disk ms).machine.session.held.target_max_recv ≤ limit settings }
 {}
 
 /// Messages in two parts are answered as at once, also over a store that may fail.

@@ -2,13 +2,14 @@
 #![tactic(auto)]
 
 mod config;
-mod course;
 mod due;
 mod fault;
 pub mod laws;
+mod machine;
 mod open_write;
 mod received;
 mod response;
+mod session;
 mod status;
 mod target;
 mod writing;

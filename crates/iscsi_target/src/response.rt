@@ -22,8 +22,8 @@ pub struct Numbers {
 
 /// The head of the response to a command whose data went out in so many PDUs.
 pub fn response_head(numbers: Numbers, tag: u32, outcome: &Outcome, count: u32) -> Head
-    ensures head { (s : Machine) → s.stat_sn ≡ numbers.stat_sn
-        → s.exp_cmd_sn ≡ numbers.exp_cmd_sn → max_cmd_sn s ≡ numbers.max_cmd_sn
+    ensures head { (s : Machine) → s.session.stat_sn ≡ numbers.stat_sn
+        → s.session.exp_cmd_sn ≡ numbers.exp_cmd_sn → max_cmd_sn s ≡ numbers.max_cmd_sn
         → result ≡ response_head s tag outcome.now count }
     ensures fits { Fits result }
 {

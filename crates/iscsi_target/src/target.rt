@@ -2,7 +2,8 @@
 
 ghost use Rattle.std.specs.Prelude.{◌≡◌, ◌++◌, ℕ, List, false, IfOk, IfErr, OnOk, OnErr};
 ghost use Rattle.iscsi_stream.specs.Framing.{Takes, is_ready, stopped};
-ghost use Rattle.iscsi_target.specs.State.{limit, closed};
+ghost use Rattle.iscsi_target.specs.Session.{limit};
+ghost use Rattle.iscsi_target.specs.State.{closed};
 ghost use Rattle.iscsi_target.specs.Machine.{is_closed};
 ghost use Rattle.iscsi_target.specs.Feed.{opening_connection, Feeds, FeedsNext, Fed, FedNext, Finishes, HasAnswered};
 ghost use Rattle.iscsi_target.specs.Configured.{Settings};
@@ -10,7 +11,7 @@ ghost use Rattle.scsi_disk.specs.Disk.{Disk};
 ghost use Rattle.iscsi_target.specs.Inside.{connection, store_of, target_fault, AnswersReady, ShutsReady, RestFails, TakesOne, FailsOne};
 
 use crate::config::Config;
-use crate::course::Course;
+use crate::machine::Machine;
 use crate::fault::TargetFault;
 use crate::received::Received;
 use iscsi_login::{Params, Phase, Stage};
@@ -29,21 +30,21 @@ use std::marker::Model;
 /// | `Closed` | each call answers `Closed` |
 #[derive(Drop)]
 pub struct Target {
-    course: Course,
+    machine: Machine,
     framer: Framer,
 }
 
 impl Model for Target {
     ghost use Rattle.std.specs.Prelude.{◌≡◌, false};
     ghost use Rattle.iscsi_stream.specs.Framing.{is_ready};
-    ghost use Rattle.iscsi_target.specs.State.{limit};
+    ghost use Rattle.iscsi_target.specs.Session.{limit};
     ghost use Rattle.iscsi_target.specs.Feed.{Connection};
 
     ghost Value = { Connection };
 
-    ghost view = { λ t. record { machine = t.course; framing = t.framer } };
+    ghost view = { λ t. record { machine = t.machine; framing = t.framer } };
 
-    ghost invariant = { λ t. (t.framer.limit ≡ limit t.course.settings)
+    ghost invariant = { λ t. (t.framer.limit ≡ limit t.machine.session.settings)
         × (is_ready t.framer ≡ false) };
 }
 
@@ -54,7 +55,7 @@ impl Target {
     {
         let limit = config.preferences().max_recv.max(LOGIN_SEGMENT);
         Target {
-            course: Course::new(alloc, config, first_statsn),
+            machine: Machine::new(alloc, config, first_statsn),
             framer: Framer::new(alloc, limit),
         }
     }
@@ -83,10 +84,10 @@ impl Target {
             → HasAnswered settings n disk (stream ++ piece.now) self.new (S.disk store.new)
             out.new.items }
     {
-        if self.course.is_closed() {
+        if self.machine.is_closed() {
             return Err(TargetFault::Closed);
         }
-        feed_all(&mut self.course, &mut self.framer, piece, store, out)
+        feed_all(&mut self.machine, &mut self.framer, piece, store, out)
     }
 
     /// Takes bytes of a piece up to the end of one PDU, answers it, and says how many bytes it took and
@@ -103,33 +104,33 @@ impl Target {
             out.old.items piece.now result self.new
             (store_of (S.disk store.new) (S.failures store.new)) out.new.items }
     {
-        if self.course.is_closed() {
+        if self.machine.is_closed() {
             return Err(TargetFault::Closed);
         }
-        feed_once(&mut self.course, &mut self.framer, piece, store, out)
+        feed_once(&mut self.machine, &mut self.framer, piece, store, out)
     }
 
     /// What the session holds of its login (RFC 7143, section 13).
     pub fn params(&self) -> &Params
-        ensures held { result.now ≡ self.now.machine.held }
+        ensures held { result.now ≡ self.now.machine.session.held }
     {
-        self.course.params()
+        self.machine.params()
     }
 
     /// What the session is doing.
     pub fn phase(&self) -> Phase
-        ensures phase { result ≡ self.now.machine.phase }
+        ensures phase { result ≡ self.now.machine.session.phase }
     {
-        self.course.phase()
+        self.machine.phase()
     }
 
     /// Where the login is: security at first, then the stage of the first request that isn't
     /// refused by its head, then as answers move it. A closed session keeps it (RFC 7143, section
     /// 6.3).
     pub fn stage(&self) -> Stage
-        ensures stage { result ≡ self.now.machine.stage }
+        ensures stage { result ≡ self.now.machine.session.stage }
     {
-        self.course.stage()
+        self.machine.stage()
     }
 
     /// Ends the stream. Answers `Stream` with `Truncated` where it ends within a PDU, which closes
@@ -137,13 +138,13 @@ impl Target {
     pub fn finish(&mut self) -> Result<(), TargetFault>
         ensures finishes { Finishes self.old result self.new }
     {
-        if self.course.is_closed() {
+        if self.machine.is_closed() {
             return Err(TargetFault::Closed);
         }
         match self.framer.finish() {
             Ok(()) => Ok(()),
             Err(fault) => {
-                self.course.close();
+                self.machine.close();
                 Err(TargetFault::Stream(fault))
             }
         }
@@ -152,57 +153,57 @@ impl Target {
 
 // Takes a piece of the stream in a session that isn't closed.
 fn feed_all<S: BlockStore>(
-    course: &mut Course,
+    machine: &mut Machine,
     framer: &mut Framer,
     piece: &[u8],
     store: &mut S,
     out: &mut Vec<u8>,
 ) -> Result<Phase, TargetFault>
-    requires limit { framer.old.limit ≡ limit course.old.settings }
+    requires limit { framer.old.limit ≡ limit machine.old.session.settings }
     requires unready { is_ready framer.old ≡ false }
-    requires live { is_closed course.old ≡ false }
-    ensures fed { Feeds (connection course.old framer.old)
+    requires live { is_closed machine.old ≡ false }
+    ensures fed { Feeds (connection machine.old framer.old)
         (store_of (S.disk store.old) (S.failures store.old)) out.old.items piece.now result
-        (connection course.new framer.new)
+        (connection machine.new framer.new)
         (store_of (S.disk store.new) (S.failures store.new)) out.new.items }
-    ensures limit { framer.new.limit ≡ limit course.new.settings }
+    ensures limit { framer.new.limit ≡ limit machine.new.session.settings }
     ensures unready { is_ready framer.new ≡ false }
 {
     let mut rest = piece;
     while !rest.is_empty() {
-        let (taken, broken) = feed_one(course, framer, rest, store, out)?;
+        let (taken, broken) = feed_one(machine, framer, rest, store, out)?;
         rest = &rest[taken..];
-        let phase = course.phase();
+        let phase = machine.phase();
         if let Some(rule) = broken {
             return Err(TargetFault::Protocol(rule));
         }
-        if course.is_closed() {
+        if machine.is_closed() {
             return Ok(phase);
         }
     }
-    Ok(course.phase())
+    Ok(machine.phase())
 }
 
 // Takes bytes of a piece up to the end of one PDU in a session that isn't closed, and answers it.
 fn feed_once<S: BlockStore>(
-    course: &mut Course,
+    machine: &mut Machine,
     framer: &mut Framer,
     piece: &[u8],
     store: &mut S,
     out: &mut Vec<u8>,
 ) -> Result<(usize, Phase), TargetFault>
-    requires limit { framer.old.limit ≡ limit course.old.settings }
+    requires limit { framer.old.limit ≡ limit machine.old.session.settings }
     requires unready { is_ready framer.old ≡ false }
-    requires live { is_closed course.old ≡ false }
-    ensures fed { FeedsNext (connection course.old framer.old)
+    requires live { is_closed machine.old ≡ false }
+    ensures fed { FeedsNext (connection machine.old framer.old)
         (store_of (S.disk store.old) (S.failures store.old)) out.old.items piece.now result
-        (connection course.new framer.new)
+        (connection machine.new framer.new)
         (store_of (S.disk store.new) (S.failures store.new)) out.new.items }
-    ensures limit { framer.new.limit ≡ limit course.new.settings }
+    ensures limit { framer.new.limit ≡ limit machine.new.session.settings }
     ensures unready { is_ready framer.new ≡ false }
 {
-    let (taken, broken) = feed_one(course, framer, piece, store, out)?;
-    let phase = course.phase();
+    let (taken, broken) = feed_one(machine, framer, piece, store, out)?;
+    let phase = machine.phase();
     match broken {
         Some(rule) => Err(TargetFault::Protocol(rule)),
         None => Ok((taken, phase)),
@@ -212,43 +213,43 @@ fn feed_once<S: BlockStore>(
 // Takes bytes up to the end of a PDU, and answers it if it is whole. Says how many bytes, and which
 // rule was broken. A fault closes the session.
 fn feed_one<S: BlockStore>(
-    course: &mut Course,
+    machine: &mut Machine,
     framer: &mut Framer,
     piece: &[u8],
     store: &mut S,
     out: &mut Vec<u8>,
 ) -> Result<(usize, Option<u8>), TargetFault>
-    requires limit { framer.old.limit ≡ limit course.old.settings }
+    requires limit { framer.old.limit ≡ limit machine.old.session.settings }
     requires unready { is_ready framer.old ≡ false }
-    requires live { is_closed course.old ≡ false }
-    ensures ok { IfOk result (λ done. TakesOne (connection course.old framer.old)
+    requires live { is_closed machine.old ≡ false }
+    ensures ok { IfOk result (λ done. TakesOne (connection machine.old framer.old)
         (store_of (S.disk store.old) (S.failures store.old)) out.old.items piece.now done.0 done.1
-        (connection course.new framer.new)
+        (connection machine.new framer.new)
         (store_of (S.disk store.new) (S.failures store.new)) out.new.items) }
-    ensures err { IfErr result (λ fault. FailsOne (connection course.old framer.old)
+    ensures err { IfErr result (λ fault. FailsOne (connection machine.old framer.old)
         (store_of (S.disk store.old) (S.failures store.old)) out.old.items piece.now fault
-        (connection course.new framer.new)
+        (connection machine.new framer.new)
         (store_of (S.disk store.new) (S.failures store.new)) out.new.items) }
-    ensures limit { framer.new.limit ≡ limit course.new.settings }
+    ensures limit { framer.new.limit ≡ limit machine.new.session.settings }
     ensures unready { is_ready framer.new ≡ false }
 {
-    let taken = take_bytes(course, framer, piece)?;
-    let broken = answer_ready(course, framer, store, out)?;
+    let taken = take_bytes(machine, framer, piece)?;
+    let broken = answer_ready(machine, framer, store, out)?;
     Ok((taken, broken))
 }
 
 // Takes bytes up to the end of a PDU. A fault closes the session.
-fn take_bytes(course: &mut Course, framer: &mut Framer, piece: &[u8]) -> Result<usize, TargetFault>
+fn take_bytes(machine: &mut Machine, framer: &mut Framer, piece: &[u8]) -> Result<usize, TargetFault>
     ensures ok { IfOk result (λ n. Takes framer.old piece.now n framer.new) }
-    ensures kept { OnOk result (course.new ≡ course.old) }
+    ensures kept { OnOk result (machine.new ≡ machine.old) }
     ensures err { IfErr result (RestFails framer.old piece.now) }
-    ensures shut { OnErr result (course.new ≡ closed course.old) }
+    ensures shut { OnErr result (machine.new ≡ closed machine.old) }
     ensures stopped { OnErr result (framer.new ≡ stopped framer.old) }
 {
     match framer.feed(piece) {
         Ok(taken) => Ok(taken),
         Err(fault) => {
-            course.close();
+            machine.close();
             Err(stream_fault(fault))
         }
     }
@@ -267,20 +268,20 @@ fn stream_fault(fault: StreamFault) -> TargetFault
 // Answers the PDU that is ready, if one is, and gives it up. Says which rule it broke, if it broke
 // one. Want of memory closes the session.
 fn answer_ready<S: BlockStore>(
-    course: &mut Course,
+    machine: &mut Machine,
     framer: &mut Framer,
     store: &mut S,
     out: &mut Vec<u8>,
 ) -> Result<Option<u8>, AllocError>
-    requires limit { framer.old.limit ≡ limit course.old.settings }
-    requires live { is_closed course.old ≡ false }
-    ensures ok { IfOk result (λ rule. AnswersReady (connection course.old framer.old)
+    requires limit { framer.old.limit ≡ limit machine.old.session.settings }
+    requires live { is_closed machine.old ≡ false }
+    ensures ok { IfOk result (λ rule. AnswersReady (connection machine.old framer.old)
         (store_of (S.disk store.old) (S.failures store.old)) out.old.items rule
-        (connection course.new framer.new)
+        (connection machine.new framer.new)
         (store_of (S.disk store.new) (S.failures store.new)) out.new.items) }
-    ensures err { OnErr result (ShutsReady (connection course.old framer.old)
+    ensures err { OnErr result (ShutsReady (connection machine.old framer.old)
         (store_of (S.disk store.old) (S.failures store.old)) out.old.items
-        (connection course.new framer.new)
+        (connection machine.new framer.new)
         (store_of (S.disk store.new) (S.failures store.new)) out.new.items) }
 {
     let Some(pdu) = framer.pdu() else {
@@ -290,13 +291,13 @@ fn answer_ready<S: BlockStore>(
         pdu,
         continued: framer.continued(),
     };
-    match course.answer_pdu(&received, store, out) {
+    match machine.answer_pdu(&received, store, out) {
         Ok(broken) => {
             framer.take();
             Ok(broken)
         }
         Err(error) => {
-            course.close();
+            machine.close();
             framer.take();
             Err(error)
         }

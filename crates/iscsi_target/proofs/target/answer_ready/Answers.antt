@@ -6,7 +6,7 @@ use Rattle.iscsi_target.proofs.target.answer_ready.Goals as goal
 
 pub answer_pdu-requires-clause-within : goal.answer_pdu-requires-clause-within
 answer_pdu-requires-clause-within g c =
-    over_none c.args.course.now c.continued.result c.in-Some.pdu.head c.in-Some.pdu.bytes.now
+    over_none c.args.machine.now c.continued.result c.in-Some.pdu.head c.in-Some.pdu.bytes.now
     (subst (λ (n : ℕ). length c.in-Some.pdu.bytes.now ≤ n) c.requires.limit c.in-Some.ensures.within)
 
 pub returns-in-Err-clause-err : goal.returns-in-Err-clause-err

@@ -11,15 +11,15 @@ use Rattle.iscsi_target.proofs.target.feed_all.Goals as goal
 
 pub loop-rest-init : goal.loop-rest-init
 loop-rest-init g c =
-    fed_none (connection c.args.course.now c.args.framer.now) (store_of (g.S.BlockStore.disk c.args.store.now) (g.S.BlockStore.failures c.args.store.now)) c.args.out.now.items c.args.piece.now c.requires.unready c.requires.live
+    fed_none (connection c.args.machine.now c.args.framer.now) (store_of (g.S.BlockStore.disk c.args.store.now) (g.S.BlockStore.failures c.args.store.now)) c.args.out.now.items c.args.piece.now c.requires.unready c.requires.live
 
 pub returns-in_err-taken-clause-fed : goal.returns-in_err-taken-clause-fed
 returns-in_err-taken-clause-fed g c =
-    let old : Connection = connection c.args.course.now c.args.framer.now in
+    let old : Connection = connection c.args.machine.now c.args.framer.now in
     let before : Store = store_of (g.S.BlockStore.disk c.args.store.now) (g.S.BlockStore.failures c.args.store.now) in
-    let now : Connection = connection c.loop-rest.course c.loop-rest.framer in
+    let now : Connection = connection c.loop-rest.machine c.loop-rest.framer in
     let mid : Store = store_of (g.S.BlockStore.disk c.loop-rest.store) (g.S.BlockStore.failures c.loop-rest.store) in
-    let new : Connection = connection c.feed_one.new.course c.feed_one.new.framer in
+    let new : Connection = connection c.feed_one.new.machine c.feed_one.new.framer in
     let after : Store = store_of (g.S.BlockStore.disk c.feed_one.new.store) (g.S.BlockStore.failures c.feed_one.new.store) in
     let out : List ℕ = c.args.out.now.items in
     let piece : List ℕ = c.args.piece.now in
@@ -28,11 +28,11 @@ returns-in_err-taken-clause-fed g c =
 
 pub returns-in-Some-clause-fed : goal.returns-in-Some-clause-fed
 returns-in-Some-clause-fed g c =
-    let old : Connection = connection c.args.course.now c.args.framer.now in
+    let old : Connection = connection c.args.machine.now c.args.framer.now in
     let before : Store = store_of (g.S.BlockStore.disk c.args.store.now) (g.S.BlockStore.failures c.args.store.now) in
-    let now : Connection = connection c.loop-rest.course c.loop-rest.framer in
+    let now : Connection = connection c.loop-rest.machine c.loop-rest.framer in
     let mid : Store = store_of (g.S.BlockStore.disk c.loop-rest.store) (g.S.BlockStore.failures c.loop-rest.store) in
-    let new : Connection = connection c.feed_one.new.course c.feed_one.new.framer in
+    let new : Connection = connection c.feed_one.new.machine c.feed_one.new.framer in
     let after : Store = store_of (g.S.BlockStore.disk c.feed_one.new.store) (g.S.BlockStore.failures c.feed_one.new.store) in
     let out : List ℕ = c.args.out.now.items in
     let piece : List ℕ = c.args.piece.now in
@@ -42,11 +42,11 @@ returns-in-Some-clause-fed g c =
 
 pub returns-then-is_closed-clause-fed : goal.returns-then-is_closed-clause-fed
 returns-then-is_closed-clause-fed g c =
-    let old : Connection = connection c.args.course.now c.args.framer.now in
+    let old : Connection = connection c.args.machine.now c.args.framer.now in
     let before : Store = store_of (g.S.BlockStore.disk c.args.store.now) (g.S.BlockStore.failures c.args.store.now) in
-    let now : Connection = connection c.loop-rest.course c.loop-rest.framer in
+    let now : Connection = connection c.loop-rest.machine c.loop-rest.framer in
     let mid : Store = store_of (g.S.BlockStore.disk c.loop-rest.store) (g.S.BlockStore.failures c.loop-rest.store) in
-    let new : Connection = connection c.feed_one.new.course c.feed_one.new.framer in
+    let new : Connection = connection c.feed_one.new.machine c.feed_one.new.framer in
     let after : Store = store_of (g.S.BlockStore.disk c.feed_one.new.store) (g.S.BlockStore.failures c.feed_one.new.store) in
     let out : List ℕ = c.args.out.now.items in
     let piece : List ℕ = c.args.piece.now in
@@ -64,11 +64,11 @@ loop-rest-smaller g c =
 
 pub loop-rest-preserved : goal.loop-rest-preserved
 loop-rest-preserved g c =
-    let old : Connection = connection c.args.course.now c.args.framer.now in
+    let old : Connection = connection c.args.machine.now c.args.framer.now in
     let before : Store = store_of (g.S.BlockStore.disk c.args.store.now) (g.S.BlockStore.failures c.args.store.now) in
-    let now : Connection = connection c.loop-rest.course c.loop-rest.framer in
+    let now : Connection = connection c.loop-rest.machine c.loop-rest.framer in
     let mid : Store = store_of (g.S.BlockStore.disk c.loop-rest.store) (g.S.BlockStore.failures c.loop-rest.store) in
-    let new : Connection = connection c.feed_one.new.course c.feed_one.new.framer in
+    let new : Connection = connection c.feed_one.new.machine c.feed_one.new.framer in
     let after : Store = store_of (g.S.BlockStore.disk c.feed_one.new.store) (g.S.BlockStore.failures c.feed_one.new.store) in
     let out : List ℕ = c.args.out.now.items in
     let piece : List ℕ = c.args.piece.now in
@@ -80,9 +80,9 @@ loop-rest-preserved g c =
 
 pub returns-clause-fed : goal.returns-clause-fed
 returns-clause-fed g c =
-    let old : Connection = connection c.args.course.now c.args.framer.now in
+    let old : Connection = connection c.args.machine.now c.args.framer.now in
     let before : Store = store_of (g.S.BlockStore.disk c.args.store.now) (g.S.BlockStore.failures c.args.store.now) in
-    let now : Connection = connection c.loop-rest.course c.loop-rest.framer in
+    let now : Connection = connection c.loop-rest.machine c.loop-rest.framer in
     let mid : Store = store_of (g.S.BlockStore.disk c.loop-rest.store) (g.S.BlockStore.failures c.loop-rest.store) in
     let out : List ℕ = c.args.out.now.items in
     let piece : List ℕ = c.args.piece.now in

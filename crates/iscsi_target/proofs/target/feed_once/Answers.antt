@@ -7,9 +7,9 @@ use Rattle.iscsi_target.proofs.target.feed_once.Goals as goal
 
 pub returns-in_err-taken-clause-fed : goal.returns-in_err-taken-clause-fed
 returns-in_err-taken-clause-fed g c =
-    let old : Connection = connection c.args.course.now c.args.framer.now in
+    let old : Connection = connection c.args.machine.now c.args.framer.now in
     let before : Store = store_of (g.S.BlockStore.disk c.args.store.now) (g.S.BlockStore.failures c.args.store.now) in
-    let new : Connection = connection c.feed_one.new.course c.feed_one.new.framer in
+    let new : Connection = connection c.feed_one.new.machine c.feed_one.new.framer in
     let after : Store = store_of (g.S.BlockStore.disk c.feed_one.new.store) (g.S.BlockStore.failures c.feed_one.new.store) in
     let out : List ℕ = c.args.out.now.items in
     let piece : List ℕ = c.args.piece.now in
@@ -19,9 +19,9 @@ returns-in_err-taken-clause-fed g c =
 
 pub returns-in-Some-clause-fed : goal.returns-in-Some-clause-fed
 returns-in-Some-clause-fed g c =
-    let old : Connection = connection c.args.course.now c.args.framer.now in
+    let old : Connection = connection c.args.machine.now c.args.framer.now in
     let before : Store = store_of (g.S.BlockStore.disk c.args.store.now) (g.S.BlockStore.failures c.args.store.now) in
-    let new : Connection = connection c.feed_one.new.course c.feed_one.new.framer in
+    let new : Connection = connection c.feed_one.new.machine c.feed_one.new.framer in
     let after : Store = store_of (g.S.BlockStore.disk c.feed_one.new.store) (g.S.BlockStore.failures c.feed_one.new.store) in
     let out : List ℕ = c.args.out.now.items in
     let piece : List ℕ = c.args.piece.now in
@@ -31,9 +31,9 @@ returns-in-Some-clause-fed g c =
 
 pub returns-in-None-clause-fed : goal.returns-in-None-clause-fed
 returns-in-None-clause-fed g c =
-    let old : Connection = connection c.args.course.now c.args.framer.now in
+    let old : Connection = connection c.args.machine.now c.args.framer.now in
     let before : Store = store_of (g.S.BlockStore.disk c.args.store.now) (g.S.BlockStore.failures c.args.store.now) in
-    let new : Connection = connection c.feed_one.new.course c.feed_one.new.framer in
+    let new : Connection = connection c.feed_one.new.machine c.feed_one.new.framer in
     let after : Store = store_of (g.S.BlockStore.disk c.feed_one.new.store) (g.S.BlockStore.failures c.feed_one.new.store) in
     let out : List ℕ = c.args.out.now.items in
     let piece : List ℕ = c.args.piece.now in

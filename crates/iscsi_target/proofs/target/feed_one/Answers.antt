@@ -9,7 +9,7 @@ pub returns-clause-ok : goal.returns-clause-ok
 returns-clause-ok g c =
     let before : Store = store_of (g.S.BlockStore.disk c.args.store.now) (g.S.BlockStore.failures c.args.store.now) in
     let after : Store = store_of (g.S.BlockStore.disk c.answer_ready.new.store) (g.S.BlockStore.failures c.answer_ready.new.store) in
-    let new : Connection = connection c.answer_ready.new.course c.answer_ready.new.framer in
+    let new : Connection = connection c.answer_ready.new.machine c.answer_ready.new.framer in
     record {
       framing = c.take_bytes.new.framer;
       takes = c.in_ok-taken.ensures.ok;
@@ -19,9 +19,9 @@ returns-clause-ok g c =
 
 pub returns-clause-limit : goal.returns-clause-limit
 returns-clause-limit g c =
-    let old : Connection = connection c.args.course.now c.args.framer.now in
+    let old : Connection = connection c.args.machine.now c.args.framer.now in
     let before : Store = store_of (g.S.BlockStore.disk c.args.store.now) (g.S.BlockStore.failures c.args.store.now) in
-    let new : Connection = connection c.answer_ready.new.course c.answer_ready.new.framer in
+    let new : Connection = connection c.answer_ready.new.machine c.answer_ready.new.framer in
     let after : Store = store_of (g.S.BlockStore.disk c.answer_ready.new.store) (g.S.BlockStore.failures c.answer_ready.new.store) in
     let out : List ℕ = c.args.out.now.items in
     let piece : List ℕ = c.args.piece.now in
@@ -31,9 +31,9 @@ returns-clause-limit g c =
 
 pub returns-clause-unready : goal.returns-clause-unready
 returns-clause-unready g c =
-    let old : Connection = connection c.args.course.now c.args.framer.now in
+    let old : Connection = connection c.args.machine.now c.args.framer.now in
     let before : Store = store_of (g.S.BlockStore.disk c.args.store.now) (g.S.BlockStore.failures c.args.store.now) in
-    let new : Connection = connection c.answer_ready.new.course c.answer_ready.new.framer in
+    let new : Connection = connection c.answer_ready.new.machine c.answer_ready.new.framer in
     let after : Store = store_of (g.S.BlockStore.disk c.answer_ready.new.store) (g.S.BlockStore.failures c.answer_ready.new.store) in
     let out : List ℕ = c.args.out.now.items in
     let piece : List ℕ = c.args.piece.now in

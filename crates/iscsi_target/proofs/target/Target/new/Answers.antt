@@ -2,12 +2,13 @@ use Rattle.std.proofs.Common.{ap, ◌∙◌, arith}
 use Rattle.iscsi_login.specs.declared.preferences.Preferences.{Preferences}
 use Rattle.iscsi_stream.specs.Framing.{Framing, is_ready}
 use Rattle.iscsi_stream.proofs.Ready.{not_whole-nil}
-use Rattle.iscsi_target.specs.State.{Machine, limit}
+use Rattle.iscsi_target.specs.Session.{limit}
+use Rattle.iscsi_target.specs.State.{Machine}
 use Rattle.iscsi_target.proofs.target.Target.new.Goals as goal
 
 pub invariant_of-result : goal.invariant_of-result
 invariant_of-result c =
     let a = ap (λ (v : Framing). v.limit) c.new-2.ensures in
-    let e = ap (λ (s : Machine). limit s.settings) c.new.ensures in
+    let e = ap (λ (s : Machine). limit s.session.settings) c.new.ensures in
     let p = ap (λ (x : Preferences). x.max_recv) c.preferences.ensures.preferences in
     (omega (arith, a, c.max-limit.ensures, e, p), ap is_ready c.new-2.ensures ∙ not_whole-nil)
