@@ -1,13 +1,14 @@
 -- The requests that the commands of a script are (SPC-4 and SBC-3; which there are is own rule).
-use Rattle.std.specs.Prelude.{ℕ, ◌*◌, ◌^◌, Bool, true, false, replicate}
+use Rattle.std.specs.Prelude.{ℕ, ◌*◌, ◌^◌, Bool, true, false, nat_lt, if◌then◌else◌, replicate}
 use Rattle.scsi_cdb.specs.declared.block.Cdb.{Cdb}
 use Rattle.scsi_cdb.specs.declared.block.Cdb.TheVariants as cdb
 use Rattle.scsi_cdb.specs.declared.block.Transfer10.{Transfer10}
+use Rattle.scsi_cdb.specs.declared.block.Transfer16.{Transfer16}
 use Rattle.scsi_cdb.specs.Blocks.{canonical}
 use Rattle.iscsi_initiator.specs.declared.request.Request.{Request}
 use Rattle.iscsi_initiator.specs.declared.request.Request.TheVariants as requests
 use Rattle.iscsi_service.specs.declared.command.Command.{Command}
-use Rattle.iscsi_service.specs.declared.command.Command.TheVariants.{TestUnitReady, Inquiry, Capacity, Luns, Read, Write, Ping, Logout}
+use Rattle.iscsi_service.specs.declared.command.Command.TheVariants.{TestUnitReady, Inquiry, Capacity, Capacity16, Luns, Read, Write, Sync, Ping, Logout}
 
 -- A transfer of so many blocks from this one on, with each other field 0 (SBC-3, READ(10)).
 abbrev pub transfer : ℕ → ℕ → Transfer10
@@ -19,29 +20,66 @@ transfer logical_block_address blocks = record {
   control = 0;
 }
 
+-- The same with room for more (SBC-3, READ(16)).
+abbrev pub long_transfer : ℕ → ℕ → Transfer16
+long_transfer logical_block_address blocks = record {
+  options = 0;
+  logical_block_address = logical_block_address;
+  blocks = blocks;
+  group_number = 0;
+  control = 0;
+}
+
+-- READ(10), or READ(16) where that has no room for the first block (SBC-3).
+abbrev pub reading : ℕ → ℕ → Cdb
+reading logical_block_address blocks =
+    if nat_lt logical_block_address (2 ^ 32)
+    then cdb.Read10 (transfer logical_block_address blocks)
+    else cdb.Read16 (long_transfer logical_block_address blocks)
+
+-- WRITE(10), or WRITE(16) where that has no room for the first block (SBC-3).
+abbrev pub writing : ℕ → ℕ → Cdb
+writing logical_block_address blocks =
+    if nat_lt logical_block_address (2 ^ 32)
+    then cdb.Write10 (transfer logical_block_address blocks)
+    else cdb.Write16 (long_transfer logical_block_address blocks)
+
+-- A flush of so many blocks from this one on, with each other field 0 (SBC-3, SYNCHRONIZE CACHE
+-- (10)).
+abbrev pub flush : ℕ → ℕ → Cdb
+flush logical_block_address blocks = cdb.SyncCache10 (record {
+  options = 0;
+  logical_block_address = logical_block_address;
+  group_number = 0;
+  blocks = blocks;
+  control = 0;
+})
+
 -- A command to a unit that may give so many bytes; the unit's number is byte 1 of the LUN, the
 -- second from above (SAM-5, section 4.7).
 abbrev pub asked : ℕ → Cdb → ℕ → Request
 asked unit block expected = requests.In (unit * 2 ^ 48) (canonical block) expected
 
--- A WRITE(10) of so many blocks of 512 bytes, all of them this byte (SBC-3, WRITE(10)).
+-- A WRITE of so many blocks of 512 bytes, all of them this byte (SBC-3).
 abbrev pub written : ℕ → ℕ → ℕ → Request
 written logical_block_address blocks byte =
-    requests.Out 0 (canonical (cdb.Write10 (transfer logical_block_address blocks)))
+    requests.Out 0 (canonical (writing logical_block_address blocks))
     (replicate (512 * blocks) byte)
 
--- What a command asks for: TEST UNIT READY, INQUIRY and REPORT LUNS are SPC-4's, READ CAPACITY(10),
--- READ(10) and WRITE(10) SBC-3's, a ping and a logout those of RFC 7143, sections 11.18 and 11.14
--- (what stands in their other fields is own rule).
+-- What a command asks for: TEST UNIT READY, INQUIRY and REPORT LUNS are SPC-4's, READ CAPACITY,
+-- READ, WRITE and SYNCHRONIZE CACHE(10) SBC-3's, a ping and a logout those of RFC 7143, sections
+-- 11.18 and 11.14 (what stands in their other fields is own rule).
 abbrev pub request_of : Command → Request
 request_of (TestUnitReady unit) = asked unit (cdb.TestUnitReady 0) 0
 request_of (Inquiry unit allocation_length) =
     asked unit (cdb.Inquiry false 0 allocation_length 0) allocation_length
 request_of Capacity = asked 0 (cdb.Capacity10 0) 8
+request_of Capacity16 = asked 0 (cdb.Capacity16 32 0) 32
 request_of Luns = asked 0 (cdb.ReportLuns 0 16 0) 16
 request_of (Read logical_block_address blocks) =
-    asked 0 (cdb.Read10 (transfer logical_block_address blocks)) (512 * blocks)
+    asked 0 (reading logical_block_address blocks) (512 * blocks)
 request_of (Write logical_block_address blocks byte) = written logical_block_address blocks byte
+request_of (Sync logical_block_address blocks) = asked 0 (flush logical_block_address blocks) 0
 request_of (Ping bytes) = requests.Ping bytes
 request_of Logout = requests.Logout
 
@@ -50,8 +88,10 @@ abbrev pub is_logout : Command → Bool
 is_logout (TestUnitReady unit) = false
 is_logout (Inquiry unit allocation_length) = false
 is_logout Capacity = false
+is_logout Capacity16 = false
 is_logout Luns = false
 is_logout (Read logical_block_address blocks) = false
 is_logout (Write logical_block_address blocks byte) = false
+is_logout (Sync logical_block_address blocks) = false
 is_logout (Ping bytes) = false
 is_logout Logout = true

@@ -5,7 +5,7 @@ use Rattle.std.specs.Str.{bytes_eq}
 use Rattle.hex.specs.Hex.{decode_of, decode_sized}
 use Rattle.hex.specs.declared.error.FromHexError.{FromHexError}
 use Rattle.iscsi_service.specs.declared.command.Command.{Command}
-use Rattle.iscsi_service.specs.declared.command.Command.TheVariants.{TestUnitReady, Inquiry, Capacity, Luns, Read, Write, Ping, Logout}
+use Rattle.iscsi_service.specs.declared.command.Command.TheVariants.{TestUnitReady, Inquiry, Capacity, Capacity16, Luns, Read, Write, Sync, Ping, Logout}
 use Rattle.iscsi_service.specs.declared.serve_fault.ServeFault.{ServeFault}
 use Rattle.iscsi_service.specs.declared.serve_fault.ServeFault.TheVariants as serve
 
@@ -69,24 +69,32 @@ inquiry words = do
   allocation_length ← number 65535 others
   Some (Inquiry unit allocation_length)
 
--- `LBA N`: the first block, below 2^32, and how many, at most 8192 (own rule).
+-- `LBA N`: the first block, below 2^64, and how many, at most 8192 (own rule).
 abbrev pub read : List ℕ → Option Command
 read words = do
-  logical_block_address ← number 4294967295 (first_word words)
+  logical_block_address ← number 18446744073709551615 (first_word words)
   others ← other_words words
   blocks ← number 8192 others
   Some (Read logical_block_address blocks)
 
--- `LBA N BB`: the first block, below 2^32, how many, at most 8192, and what each byte is (own
+-- `LBA N BB`: the first block, below 2^64, how many, at most 8192, and what each byte is (own
 -- rule).
 abbrev pub write : List ℕ → Option Command
 write words = do
-  logical_block_address ← number 4294967295 (first_word words)
+  logical_block_address ← number 18446744073709551615 (first_word words)
   others ← other_words words
   blocks ← number 8192 (first_word others)
   last ← other_words others
   byte ← byte_of last
   Some (Write logical_block_address blocks byte)
+
+-- `LBA N`: the first block, below 2^32, and how many, below 65536 (own rule).
+abbrev pub sync : List ℕ → Option Command
+sync words = do
+  logical_block_address ← number 4294967295 (first_word words)
+  others ← other_words words
+  blocks ← number 65535 others
+  Some (Sync logical_block_address blocks)
 
 -- A ping of these bytes, 1 to 8192 (own rule).
 abbrev pub ping_of : Result (List ℕ) FromHexError → Option Command
@@ -103,11 +111,14 @@ abbrev pub IsInRange : Command → Type 0
 IsInRange (TestUnitReady unit) = unit < 256
 IsInRange (Inquiry unit allocation_length) = (unit < 256) × (allocation_length < 65536)
 IsInRange Capacity = Unit {0}
+IsInRange Capacity16 = Unit {0}
 IsInRange Luns = Unit {0}
 IsInRange (Read logical_block_address blocks) =
-    (logical_block_address < 2 ^ 32) × (blocks ≤ 8192)
+    (logical_block_address < 2 ^ 64) × (blocks ≤ 8192)
 IsInRange (Write logical_block_address blocks byte) =
-    (logical_block_address < 2 ^ 32) × (blocks ≤ 8192) × (byte < 256)
+    (logical_block_address < 2 ^ 64) × (blocks ≤ 8192) × (byte < 256)
+IsInRange (Sync logical_block_address blocks) =
+    (logical_block_address < 2 ^ 32) × (blocks < 65536)
 IsInRange (Ping bytes) = (0 < length bytes) × (length bytes ≤ 8192)
 IsInRange Logout = Unit {0}
 
@@ -122,9 +133,10 @@ AreInRange (command ∷ commands) = IsInRange command × AreInRange commands
 abbrev pub alone : List ℕ → Option Command
 alone name =
     if bytes_eq name (codes "capacity") then Some Capacity
+    else (if bytes_eq name (codes "capacity16") then Some Capacity16
     else (if bytes_eq name (codes "luns") then Some Luns
     else (if bytes_eq name (codes "logout") then Some Logout
-    else None))
+    else None)))
 
 -- A command of several words (own rule).
 abbrev pub followed : List ℕ → List ℕ → Option Command
@@ -133,8 +145,9 @@ followed name words =
     else (if bytes_eq name (codes "inquiry") then inquiry words
     else (if bytes_eq name (codes "read") then read words
     else (if bytes_eq name (codes "write") then write words
+    else (if bytes_eq name (codes "sync") then sync words
     else (if bytes_eq name (codes "ping") then ping words
-    else None))))
+    else None)))))
 
 -- The command of this name with these other words, if it has some (own rule).
 abbrev pub named : List ℕ → Option (List ℕ) → Option Command

@@ -13,7 +13,8 @@ use Rattle.iscsi_stream.specs.Framing.{IsBegun, last_place}
 use Rattle.iscsi_login.specs.Negotiation.{standard}
 use Rattle.iscsi_target.specs.declared.fault.TargetFault.TheVariants as faults
 use Rattle.iscsi_target.specs.Configured.{Settings}
-use Rattle.iscsi_target.specs.State.{Execution, Stepped, limit, opening}
+use Rattle.iscsi_target.specs.Session.{limit}
+use Rattle.iscsi_target.specs.State.{Execution, Stepped, opening}
 use Rattle.iscsi_target.specs.Machine.{answers, is_closed}
 use Rattle.iscsi_target.specs.Feed.{Writes}
 use Rattle.iscsi_target.specs.Laws.{Leads}

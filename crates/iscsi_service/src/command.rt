@@ -3,11 +3,14 @@
 ghost use Rattle.std.specs.Prelude.{◌≡◌, false, IfOk};
 ghost use Rattle.scsi_cdb.specs.declared.block.Cdb.TheVariants as cdb;
 ghost use Rattle.scsi_cdb.specs.Blocks.{Fits};
-ghost use Rattle.iscsi_service.specs.Commands.{request_of, is_logout, asked, written, transfer};
+ghost use Rattle.iscsi_service.specs.Commands.{request_of, is_logout, asked, written, reading, writing, flush, transfer, long_transfer};
 
 use iscsi_initiator::Request;
-use scsi_cdb::{Bytes, Cdb, Transfer10};
+use scsi_cdb::{Bytes, Cdb, Synchronize10, Transfer10, Transfer16};
 use std::alloc::{AllocError, Global};
+
+/// The first block for which a READ(10) or WRITE(10) has no room (SBC-3).
+const FIRST_LONG_ADDRESS: u64 = 4_294_967_296;
 
 /// A command of a script.
 #[derive(Debug, Drop)]
@@ -26,23 +29,32 @@ pub enum Command {
     },
     /// READ CAPACITY(10) of unit 0.
     Capacity,
+    /// READ CAPACITY(16) of unit 0.
+    Capacity16,
     /// REPORT LUNS, for the list of code 00 with room for one unit.
     Luns,
-    /// READ(10) of unit 0.
+    /// READ(10) of unit 0, or READ(16) where that has no room for the first block.
     Read {
         /// The first block.
-        logical_block_address: u32,
+        logical_block_address: u64,
         /// How many blocks of 512 bytes.
         blocks: u16,
     },
-    /// WRITE(10) of unit 0.
+    /// WRITE(10) of unit 0, or WRITE(16) where that has no room for the first block.
     Write {
         /// The first block.
-        logical_block_address: u32,
+        logical_block_address: u64,
         /// How many blocks of 512 bytes.
         blocks: u16,
         /// Each byte of each block.
         byte: u8,
+    },
+    /// SYNCHRONIZE CACHE(10) of unit 0.
+    Sync {
+        /// The first block.
+        logical_block_address: u32,
+        /// How many blocks of 512 bytes; 0 is all up to the last one.
+        blocks: u16,
     },
     /// A NOP-Out that is answered.
     Ping(Bytes),
@@ -76,20 +88,25 @@ impl Command {
                 u32::from(allocation_length),
             )),
             Command::Capacity => Ok(asking(0, Cdb::Capacity10 { control: 0 }, 8)),
+            Command::Capacity16 => Ok(asking(0, long_capacity(32), 32)),
             Command::Luns => Ok(asking(0, list_of_units(16), 16)),
             Command::Read {
                 logical_block_address,
                 blocks,
             } => Ok(asking(
                 0,
-                Cdb::Read10(transfer(logical_block_address, blocks)),
+                reading(logical_block_address, blocks),
                 512 * u32::from(blocks),
             )),
             Command::Write {
                 logical_block_address,
                 blocks,
                 byte,
-            } => writing(alloc, logical_block_address, blocks, byte),
+            } => written(alloc, logical_block_address, blocks, byte),
+            Command::Sync {
+                logical_block_address,
+                blocks,
+            } => Ok(asking(0, flush(logical_block_address, blocks), 0)),
             Command::Ping(bytes) => Ok(Request::Ping { bytes }),
             Command::Logout => Ok(Request::Logout),
         }
@@ -109,9 +126,9 @@ fn asking(unit: u8, cdb: Cdb, expected: u32) -> Request
 }
 
 // A command that takes blocks of one byte.
-fn writing(
+fn written(
     alloc: Global,
-    logical_block_address: u32,
+    logical_block_address: u64,
     blocks: u16,
     byte: u8,
 ) -> Result<Request, AllocError>
@@ -120,9 +137,57 @@ fn writing(
     let bytes = vec![in alloc; byte; 512 * usize::from(blocks)]?;
     Ok(Request::Out {
         lun: 0,
-        cdb: Cdb::Write10(transfer(logical_block_address, blocks)).write(),
+        cdb: writing(logical_block_address, blocks).write(),
         bytes: Bytes::from_vec(bytes),
     })
+}
+
+// A READ of blocks from this one on.
+fn reading(logical_block_address: u64, blocks: u16) -> Cdb
+    ensures block { result ≡ reading logical_block_address blocks }
+    ensures fits { Fits result }
+{
+    if logical_block_address < FIRST_LONG_ADDRESS {
+        Cdb::Read10(transfer(logical_block_address as u32, blocks))
+    } else {
+        Cdb::Read16(long_transfer(logical_block_address, blocks))
+    }
+}
+
+// A WRITE of blocks from this one on.
+fn writing(logical_block_address: u64, blocks: u16) -> Cdb
+    ensures block { result ≡ writing logical_block_address blocks }
+    ensures fits { Fits result }
+{
+    if logical_block_address < FIRST_LONG_ADDRESS {
+        Cdb::Write10(transfer(logical_block_address as u32, blocks))
+    } else {
+        Cdb::Write16(long_transfer(logical_block_address, blocks))
+    }
+}
+
+// A flush of blocks from this one on.
+fn flush(logical_block_address: u32, blocks: u16) -> Cdb
+    ensures block { result ≡ flush logical_block_address blocks }
+    ensures fits { Fits result }
+{
+    Cdb::SyncCache10(Synchronize10 {
+        options: 0,
+        logical_block_address,
+        group_number: 0,
+        blocks,
+        control: 0,
+    })
+}
+
+fn long_capacity(allocation_length: u32) -> Cdb
+    ensures block { result ≡ cdb.Capacity16 allocation_length 0 }
+    ensures fits { Fits result }
+{
+    Cdb::Capacity16 {
+        allocation_length,
+        control: 0,
+    }
 }
 
 fn standard_data(allocation_length: u16) -> Cdb
@@ -156,6 +221,18 @@ fn transfer(logical_block_address: u32, blocks: u16) -> Transfer10
         logical_block_address,
         group_number: 0,
         blocks,
+        control: 0,
+    }
+}
+
+fn long_transfer(logical_block_address: u64, blocks: u16) -> Transfer16
+    ensures { result ≡ long_transfer logical_block_address blocks }
+{
+    Transfer16 {
+        options: 0,
+        logical_block_address,
+        blocks: u32::from(blocks),
+        group_number: 0,
         control: 0,
     }
 }

@@ -1,6 +1,7 @@
 //! A session of an initiator and a target over a socket, as a script says.
 
 ghost use Rattle.std.specs.Prelude.{◌≡◌, ◌<◌, ◌≤◌, ◌∷◌, [], ℕ, List, IfOk, IfErr, OnOk};
+ghost use Rattle.scsi_disk.specs.Disk.{most_blocks};
 ghost use Rattle.std.specs.Io.KnownBytes.{Appends, Consumes};
 ghost use Rattle.iscsi_initiator.specs.State.{opening};
 ghost use Rattle.iscsi_initiator.specs.Calls.{opening_connection};
@@ -63,7 +64,7 @@ pub fn run_loop<R: Read, W: Write>(
     w: &mut W,
 ) -> Result<(), ServeFault>
     requires some { 0 < blocks }
-    requires few { blocks ≤ 65536 }
+    requires few { blocks ≤ most_blocks }
     requires moves { 0 < piece }
     requires short { piece ≤ 4096 }
     ensures loops { (script : List ℕ) × (written : List ℕ)
@@ -144,7 +145,7 @@ impl Ends {
     // Both ends of a session that is not started.
     fn open(rt: &HostRuntime, blocks: u64, piece: usize) -> Result<Ends, ServeFault>
         requires some { 0 < blocks }
-        requires few { blocks ≤ 65536 }
+        requires few { blocks ≤ most_blocks }
         requires moves { 0 < piece }
         requires short { piece ≤ 4096 }
         ensures opening { IfOk result (λ ends.

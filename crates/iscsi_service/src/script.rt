@@ -5,7 +5,7 @@ ghost use Rattle.std.specs.Str.{bytes_eq};
 ghost use Rattle.std.specs.Io.KnownBytes.{Consumes, IsAtEnd};
 ghost use Rattle.iscsi_text.specs.Text.{HasNo};
 ghost use Rattle.iscsi_text.specs.Inside.{SplitsAt};
-ghost use Rattle.iscsi_service.specs.Script.{parted, number, byte_of, test_unit_ready, inquiry, read, write, ping, alone, followed, meaning, lines_of, longest_script};
+ghost use Rattle.iscsi_service.specs.Script.{parted, number, byte_of, test_unit_ready, inquiry, read, write, sync, ping, alone, followed, meaning, lines_of, longest_script};
 ghost use Rattle.iscsi_service.specs.Script.{AreCommands, IsTooLongAt, LinesFail, IsScript, ScriptFails, IsInRange, AreInRange};
 
 use crate::command::Command;
@@ -20,7 +20,7 @@ use std::io::Read;
 /// The longest script, in bytes.
 const LONGEST_SCRIPT: usize = 1_048_576;
 /// The most blocks that one command reads or writes.
-const MOST_BLOCKS: u32 = 8192;
+const MOST_BLOCKS: u64 = 8192;
 /// The longest ping, in bytes.
 const LONGEST_PING: usize = 8192;
 
@@ -31,11 +31,15 @@ const INQUIRY: &[u8] = b"inquiry";
 
 const CAPACITY: &[u8] = b"capacity";
 
+const CAPACITY_16: &[u8] = b"capacity16";
+
 const LUNS: &[u8] = b"luns";
 
 const READ: &[u8] = b"read";
 
 const WRITE: &[u8] = b"write";
+
+const SYNC: &[u8] = b"sync";
 
 const PING: &[u8] = b"ping";
 
@@ -43,13 +47,13 @@ const LOGOUT: &[u8] = b"logout";
 
 /// Reads a script to its end and gives its commands.
 ///
-/// A line is `tur U`, `inquiry U A`, `capacity`, `luns`, `read LBA N`, `write LBA N BB`, `ping HEX`
-/// or `logout`, its words parted by one blank: decimal numbers, of which U is below 256, A below
-/// 65536, LBA below 2^32 and N, in blocks, at most 8192; two hex digits BB; and 1 to 8192 bytes
-/// HEX. Answers `Script` with the first line, counted from 1, that is none of these; where the
-/// script has more than 1,048,576 bytes, with the line of the first byte too many. `Read` comes
-/// where a read fails or 16,777,216 of them did not reach the end, and `NoMemory` where memory runs
-/// out.
+/// A line is `tur U`, `inquiry U A`, `capacity`, `capacity16`, `luns`, `read LBA N`, `write LBA N
+/// BB`, `sync LBA N`, `ping HEX` or `logout`, its words parted by one blank: decimal numbers, of
+/// which U is below 256, A below 65536, LBA below 2^64 and N, in blocks, at most 8192, but in a
+/// `sync` LBA is below 2^32 and N below 65536; two hex digits BB; and 1 to 8192 bytes HEX. Answers
+/// `Script` with the first line, counted from 1, that is none of these; where the script has more
+/// than 1,048,576 bytes, with the line of the first byte too many. `Read` comes where a read fails
+/// or 16,777,216 of them did not reach the end, and `NoMemory` where memory runs out.
 pub fn read_script<R: Read>(alloc: Global, r: &mut R) -> Result<Vec<Command>, ServeFault>
     ensures ok { IfOk result (λ commands. (script : List ℕ)
         × Consumes (R.remaining r.old) (R.remaining r.new) script × IsAtEnd (R.remaining r.new)
@@ -167,6 +171,9 @@ fn alone(name: &[u8]) -> Option<Command>
     if name == CAPACITY {
         return Some(Command::Capacity);
     }
+    if name == CAPACITY_16 {
+        return Some(Command::Capacity16);
+    }
     if name == LUNS {
         return Some(Command::Luns);
     }
@@ -193,6 +200,9 @@ fn followed(name: &[u8], words: &[u8]) -> Option<Command>
     }
     if name == WRITE {
         return write(words);
+    }
+    if name == SYNC {
+        return sync(words);
     }
     None
 }
@@ -223,7 +233,7 @@ fn read(words: &[u8]) -> Option<Command>
     ensures range { IfSome result IsInRange }
 {
     let (first, others) = parted(words, b' ');
-    let logical_block_address = number(first, u32::MAX)?;
+    let logical_block_address = number(first, u64::MAX)?;
     let blocks = number(others?, MOST_BLOCKS)? as u16;
     Some(Command::Read {
         logical_block_address,
@@ -236,7 +246,7 @@ fn write(words: &[u8]) -> Option<Command>
     ensures range { IfSome result IsInRange }
 {
     let (first, others) = parted(words, b' ');
-    let logical_block_address = number(first, u32::MAX)?;
+    let logical_block_address = number(first, u64::MAX)?;
     let (blocks, last) = parted(others?, b' ');
     let blocks = number(blocks, MOST_BLOCKS)? as u16;
     let byte = byte_of(last?)?;
@@ -244,6 +254,19 @@ fn write(words: &[u8]) -> Option<Command>
         logical_block_address,
         blocks,
         byte,
+    })
+}
+
+fn sync(words: &[u8]) -> Option<Command>
+    ensures means { result ≡ sync words.now }
+    ensures range { IfSome result IsInRange }
+{
+    let (first, others) = parted(words, b' ');
+    let logical_block_address = number(first, u64::from(u32::MAX))? as u32;
+    let blocks = number(others?, 65535)? as u16;
+    Some(Command::Sync {
+        logical_block_address,
+        blocks,
     })
 }
 
@@ -272,23 +295,28 @@ fn byte_of(digits: &[u8]) -> Option<u8>
 
 // The number that decimal digits make, leading zeros among them, if it is at most this.
 #[tactic(auto, using(crate::proofs::Scripts::number_more, crate::proofs::Scripts::number_no_digit, crate::proofs::Scripts::number_too_large))]
-fn number(digits: &[u8], most: u32) -> Option<u32>
+fn number(digits: &[u8], most: u64) -> Option<u64>
     ensures number { result ≡ number most digits.now }
     ensures most { IfSome result (λ n. n ≤ most) }
 {
     if digits.is_empty() {
         return None;
     }
-    let mut number = 0;
+    let mut number: u64 = 0;
     for digit in digits {
         if !digit.is_ascii_digit() {
             return None;
         }
-        let longer = number * 10 + u64::from(*digit - b'0');
-        if longer > u64::from(most) {
+        let Some(tenfold) = number.checked_mul(10) else {
+            return None;
+        };
+        let Some(longer) = tenfold.checked_add(u64::from(*digit - b'0')) else {
+            return None;
+        };
+        if longer > most {
             return None;
         }
         number = longer;
     }
-    Some(number as u32)
+    Some(number)
 }

@@ -1,6 +1,7 @@
 //! A target's service on a socket: one connection after another, over one store.
 
 ghost use Rattle.std.specs.Prelude.{◌≡◌, ◌<◌, ◌≤◌, ◌⊎◌, ℕ, List, IfErr};
+ghost use Rattle.scsi_disk.specs.Disk.{most_blocks};
 ghost use Rattle.iscsi_service.specs.Session.{HasExecuted, NeverFails};
 ghost use Rattle.iscsi_service.specs.Serving.{ServesOne, EndsService};
 
@@ -52,7 +53,7 @@ pub fn serve_one<S: BlockStore>(
 /// where `listening` cannot be printed (own rule).
 pub fn serve(rt: &HostRuntime, port: u16, blocks: u64, sessions: u16) -> Result<(), ServeFault>
     requires some { 0 < blocks }
-    requires few { blocks ≤ 65536 }
+    requires few { blocks ≤ most_blocks }
     ensures ends { IfErr result (λ fault. EndsService fault ⊎ (fault ≡ ServeFault.Write)) }
 {
     let listener = listen(rt, port)?;
@@ -81,7 +82,7 @@ fn serve_all(
     sessions: u16,
 ) -> Result<(), ServeFault>
     requires some { 0 < blocks }
-    requires few { blocks ≤ 65536 }
+    requires few { blocks ≤ most_blocks }
     ensures ends { IfErr result EndsService }
 {
     let alloc = rt.alloc();

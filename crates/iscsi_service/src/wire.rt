@@ -7,7 +7,10 @@ use crate::serve_fault::ServeFault;
 use iscsi_stream::write_fully;
 use std::io;
 use std::io::Read;
-use std::net::{Ipv4Addr, TcpListener, TcpStream};
+use std::net::{Ipv4Addr, SocketAddr, TcpListener, TcpStream};
+
+/// How many connections of others are closed before the port counts as failed (own rule).
+const STRANGERS: u32 = 16_777_216;
 
 /// A TCP connection whose two sockets are both here.
 #[derive(Drop)]
@@ -31,7 +34,7 @@ impl Wire {
     fn try_open(rt: &HostRuntime) -> io::Result<Wire> {
         let listener = TcpListener::bind(rt, (Ipv4Addr::LOCALHOST, 0))?;
         let initiator = TcpStream::connect(rt, listener.local_addr()?)?;
-        let (target, _) = listener.accept()?;
+        let target = accept_from(&listener, initiator.local_addr()?)?;
         // A piece is not to wait for the one before it to be acknowledged.
         initiator.set_nodelay(true)?;
         target.set_nodelay(true)?;
@@ -66,6 +69,17 @@ impl Wire {
             _ => Err(ServeFault::Network),
         }
     }
+}
+
+// The connection of this peer. Those of others, which found the port first, are closed.
+fn accept_from(listener: &TcpListener, peer: SocketAddr) -> io::Result<TcpStream> {
+    for _ in 0..STRANGERS {
+        let (stream, from) = listener.accept()?;
+        if from == peer {
+            return Ok(stream);
+        }
+    }
+    Err(io::Error::from(io::ErrorKind::ConnectionAborted))
 }
 
 // Writes a piece at one socket, and reads as many bytes at the other.

@@ -1,7 +1,7 @@
 -- What a filter writes for what it has read, and the exit status of its faults (own rule).
 use Rattle.std.specs.Prelude.{◌≡◌, ◌≤◌, ◌<◌, ℕ, Bool, true, false, List, [], length, take, Option, Result, Ok, Err}
 use Rattle.std.specs.Io.KnownBytes.{IsAtEnd}
-use Rattle.scsi_disk.specs.Disk.{zeros}
+use Rattle.scsi_disk.specs.Disk.{zeros, most_blocks}
 use Rattle.iscsi_text.specs.Fault.{IsFirstFault}
 use Rattle.iscsi_stream.specs.declared.fault.ToolFault.{ToolFault}
 use Rattle.iscsi_stream.specs.declared.fault.ToolFault.TheVariants as tool
@@ -95,17 +95,17 @@ NormalisesHex text (Err fault) read written = HexFails text fault read written
 
 -- ---- filters
 
--- The disk of a target has 1 to 65536 blocks (own rule).
+-- The disk of a target has 1 to 2^40 blocks (own rule).
 abbrev pub HasDisk : Work → Type 0
-HasDisk (Answer blocks) = (0 < blocks) × (blocks ≤ 65536)
+HasDisk (Answer blocks) = (0 < blocks) × (blocks ≤ most_blocks)
 HasDisk _ = Unit {0}
 
--- The disk of a job's target has 1 to 65536 blocks, and a piece 1 to 4096 bytes (own rule).
+-- The disk of a job's target has 1 to 2^40 blocks, and a piece 1 to 4096 bytes (own rule).
 abbrev pub IsJob : Job → Type 0
 IsJob (job.Filter filter) = HasDisk filter.work
-IsJob (job.Serve port blocks sessions) = (0 < blocks) × (blocks ≤ 65536)
+IsJob (job.Serve port blocks sessions) = (0 < blocks) × (blocks ≤ most_blocks)
 IsJob (job.Loop blocks piece) =
-    (0 < blocks) × (blocks ≤ 65536) × (0 < piece) × (piece ≤ 4096)
+    (0 < blocks) × (blocks ≤ most_blocks) × (0 < piece) × (piece ≤ 4096)
 
 -- A work that ended well has read its input to the end; answers to bytes end also where the session
 -- is closed (own rule).

@@ -2,7 +2,7 @@
 
 ghost use Rattle.std.specs.Prelude.{◌≡◌, ◌<◌, ◌≤◌, ℕ, List, OnOk};
 ghost use Rattle.std.specs.Io.KnownBytes.{Appends, Consumes};
-ghost use Rattle.scsi_disk.specs.Disk.{zeros};
+ghost use Rattle.scsi_disk.specs.Disk.{zeros, most_blocks};
 ghost use Rattle.iscsi_service.specs.Session.{target_settings, EndsWell};
 ghost use Rattle.iscsi_tool.specs.Answering.{filter_fault, AnswersBytes};
 
@@ -29,7 +29,7 @@ pub fn answer<R: Read, W: Write>(
     w: &mut W,
 ) -> Result<(), ToolFault>
     requires some { 0 < blocks }
-    requires few { blocks ≤ 65536 }
+    requires few { blocks ≤ most_blocks }
     ensures answers { (read : List ℕ) × (written : List ℕ)
         × Consumes (R.remaining r.old) (R.remaining r.new) read
         × Appends (W.contents w.old) (W.contents w.new) written

@@ -1,6 +1,7 @@
 //! The filters from one reader to one writer.
 
 ghost use Rattle.std.specs.Prelude.{◌≡◌, ◌<◌, ◌≤◌, ◌⊎◌, ℕ, List, true, false, OnOk, IfOk, IfErr};
+ghost use Rattle.scsi_disk.specs.Disk.{most_blocks};
 ghost use Rattle.std.specs.Io.KnownBytes.{Appends, Consumes, IsAtEnd};
 ghost use Rattle.iscsi_stream.specs.declared.fault.ToolFault.TheVariants as tool;
 ghost use Rattle.iscsi_stream.specs.Texts.{NormalisesText};
@@ -21,7 +22,7 @@ pub enum Work {
     Normalise,
     /// Writes the canonical text of one text.
     Text,
-    /// Writes the answers of a target whose disk has so many blocks of 512 bytes, 1 to 65536.
+    /// Writes the answers of a target whose disk has so many blocks of 512 bytes, 1 to 2^40.
     Answer(u64),
 }
 
@@ -110,7 +111,7 @@ fn answer_hex<R: Read, W: Write>(
     w: &mut W,
 ) -> Result<(), ToolFault>
     requires some { 0 < blocks }
-    requires few { blocks ≤ 65536 }
+    requires few { blocks ≤ most_blocks }
     ensures moves { (read : List ℕ) × (written : List ℕ)
         × Consumes (R.remaining r.old) (R.remaining r.new) read
         × Appends (W.contents w.old) (W.contents w.new) written }

@@ -1,6 +1,7 @@
 //! The words of the command line.
 
 ghost use Rattle.std.specs.Prelude.{◌≡◌, ◌<◌, ◌≤◌, [], true, Ok, IfOk, IfSome};
+ghost use Rattle.scsi_disk.specs.Disk.{most_blocks};
 ghost use Rattle.iscsi_tool.specs.Filtering.{HasDisk, IsJob};
 ghost use Rattle.iscsi_tool.specs.declared.filter.Work.TheVariants.{Normalise};
 ghost use Rattle.iscsi_tool.specs.declared.words.Job.TheVariants as job;
@@ -9,6 +10,7 @@ use crate::filter::{Filter, Work};
 use clap::error::ErrorKind;
 use clap::{Arg, ArgAction, ArgMatches, Command, Error};
 use iscsi_service::LONGEST_PIECE;
+use scsi_disk::MOST_BLOCKS;
 use std::alloc::{AllocError, AllocFailed, Global};
 use std::convert::AsStr;
 use thiserror::Error;
@@ -22,14 +24,14 @@ pub enum Job {
     Serve {
         /// The port; 0 is one that the system picks.
         port: u16,
-        /// How many blocks of 512 bytes the disk has, 1 to 65536.
+        /// How many blocks of 512 bytes the disk has, 1 to 2^40.
         blocks: u64,
         /// How many connections are served, one after another.
         sessions: u16,
     },
     /// Both ends of a session over a socket, as a script on the standard input says.
     Loop {
-        /// How many blocks of 512 bytes the target's disk has, 1 to 65536.
+        /// How many blocks of 512 bytes the target's disk has, 1 to 2^40.
         blocks: u64,
         /// The most bytes that are written before they are read, 1 to 4096.
         piece: u32,
@@ -59,9 +61,6 @@ impl<T: Drop> From<AllocFailed<T>> for LineFault {
         LineFault::NoMemory
     }
 }
-
-/// The most blocks that the disk of a target has.
-const MOST_BLOCKS: u64 = 65_536;
 
 /// What is done with no words.
 const UNASKED: Job = Job::Filter(Filter {
@@ -123,7 +122,7 @@ fn blocks<'a>(alloc: Global) -> Arg<'a> {
         alloc,
         "blocks",
         "N",
-        "how many blocks of 512 bytes the target's disk has, 1 to 65536",
+        "how many blocks of 512 bytes the target's disk has, 1 to 1099511627776",
     )
 }
 
@@ -198,7 +197,7 @@ fn command<'a>(alloc: Global) -> Result<Command<'a>, AllocError> {
 pub fn read_words<S: AsStr>(alloc: Global, words: &[S]) -> Result<Job, LineFault>
     ensures unasked { words.now ≡ [] →
         result ≡ Ok (job.Filter (record { work = Normalise; hex = true })) }
-    // A disk has 1 to 65536 blocks, and a piece 1 to 4096 bytes.
+    // A disk has 1 to 2^40 blocks, and a piece 1 to 4096 bytes.
     ensures disk { IfOk result IsJob }
 {
     if words.is_empty() {
@@ -305,9 +304,9 @@ fn number_of(digits: &str) -> Option<u16> {
     digits.parse::<u16>().ok()
 }
 
-// The number of blocks that digits say, from 1 to 65536.
+// The number of blocks that digits say, from 1 to 2^40.
 fn blocks_of(digits: &str) -> Option<u64>
-    ensures range { IfSome result (λ n. (0 < n) × (n ≤ 65536)) }
+    ensures range { IfSome result (λ n. (0 < n) × (n ≤ most_blocks)) }
 {
     if !digits.bytes().all(|c| c.is_ascii_digit()) {
         return None;
@@ -318,7 +317,7 @@ fn blocks_of(digits: &str) -> Option<u64>
     }
 }
 
-const BAD_BLOCKS: &str = "'--blocks <N>' is a number from 1 to 65536";
+const BAD_BLOCKS: &str = "'--blocks <N>' is a number from 1 to 1099511627776";
 
 // What a program says of a number that is none of its own.
 fn bad_number(alloc: Global, program: Result<Command<'_>, AllocError>, text: &str) -> LineFault {

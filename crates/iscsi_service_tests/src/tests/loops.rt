@@ -2,6 +2,7 @@
 
 use super::{Broken, Full, same};
 use iscsi_service::{LONGEST_PIECE, ServeFault, run_loop};
+use scsi_disk::MOST_BLOCKS;
 use std::alloc::{AllocError, Global};
 use std::test::Fail;
 
@@ -38,6 +39,34 @@ const SCRIPTS: &[(&str, &str, &str)] = &[
     ),
 ];
 
+/// Scripts over a disk of 2,048 blocks or of 2^40: a name, the blocks, the script, the lines.
+const DISKS: &[(&str, u64, &str, &str)] = &[
+    (
+        "flushes",
+        2048,
+        "sync 0 0\nsync 2048 0\nsync 2049 0\nsync 2047 2\nsync 0 2048\nsync 0 65535\n",
+        "login\ngood 0\ngood 0\ncheck 5/21/00\ncheck 5/21/00\ngood 0\ncheck 5/21/00\n",
+    ),
+    (
+        "the largest disk",
+        1_099_511_627_776,
+        "capacity\ncapacity16\nwrite 1099511627775 1 5a\nread 1099511627775 1\n\
+        read 1099511627775 2\n",
+        "login\ngood 8 ffffffff00000200\ngood 32 000000ffffffffff0000020000000000\ngood 0\n\
+        good 512 5a5a5a5a5a5a5a5a5a5a5a5a5a5a5a5a\ncheck 5/21/00 under 1024\n",
+    ),
+    (
+        "addresses on both sides of 2^32, 2^40 and 2^64",
+        1_099_511_627_776,
+        "write 4294967295 2 a5\nread 4294967295 1\nread 4294967296 1\nread 4294967297 1\n\
+        read 1099511627776 0\nread 1099511627776 1\nread 18446744073709551615 0\n\
+        read 18446744073709551615 1\nsync 4294967295 65535\n",
+        "login\ngood 0\ngood 512 a5a5a5a5a5a5a5a5a5a5a5a5a5a5a5a5\n\
+        good 512 a5a5a5a5a5a5a5a5a5a5a5a5a5a5a5a5\ngood 512 00000000000000000000000000000000\n\
+        good 0\ncheck 5/21/00 under 512\ncheck 5/21/00\ncheck 5/21/00 under 512\ngood 0\n",
+    ),
+];
+
 /// Lines that are no command.
 const REFUSED: &[&str] = &[
     "",
@@ -64,9 +93,11 @@ const REFUSED: &[&str] = &[
     "luns 0",
     "read 0",
     "read 0 8193",
-    "read 4294967296 1",
+    "read 18446744073709551616 1",
+    "read 99999999999999999999 1",
     "read 0 1 5a",
     "write 0 8",
+    "write 18446744073709551616 1 5a",
     "write 0 8193 5a",
     "write 0 8 5",
     "write 0 8 5a5",
@@ -79,16 +110,33 @@ const REFUSED: &[&str] = &[
     "ping 6z",
     "ping 61 62",
     "logout 0",
-    "sync 0 0",
+    "sync",
+    "sync 0",
+    "sync 4294967296 0",
+    "sync 0 65536",
+    "sync 0 0 0",
+    "capacity16 0",
+    "capacity10",
 ];
 
 // How a script ends with a disk of 2048 blocks, in pieces of at most so many bytes, and what it
 // writes.
 fn run(rt: &HostRuntime, script: &[u8], most: u32) -> (Result<(), ServeFault>, Vec<u8>) {
+    run_over(rt, 2048, script, most)
+}
+
+// The same with a disk of so many blocks.
+fn run_over(
+    rt: &HostRuntime,
+    blocks: u64,
+    script: &[u8],
+    most: u32,
+) -> (Result<(), ServeFault>, Vec<u8>) {
     let piece = most.max(1).min(LONGEST_PIECE);
     let mut source = script;
     let mut out = Vec::new(rt.alloc());
-    let result = run_loop(rt, 2048, piece, &mut source, &mut out);
+    let blocks = blocks.max(1).min(MOST_BLOCKS);
+    let result = run_loop(rt, blocks, piece, &mut source, &mut out);
     (result, out)
 }
 
@@ -117,6 +165,18 @@ fn loops_over_a_socket(rt: HostRuntime) -> Result<(), Fail> {
         let (result, out) = run(&rt, script.as_bytes(), 48);
         same(&rt, &result.is_ok(), &true, name);
         same(&rt, &out.as_slice(), &want.as_bytes(), name);
+    }
+    Ok(())
+}
+
+#[test]
+fn loops_over_disks(rt: HostRuntime) -> Result<(), Fail> {
+    for (name, blocks, script, want) in DISKS {
+        for piece in [1, 47, 48, 4096] {
+            let (result, out) = run_over(&rt, *blocks, script.as_bytes(), piece);
+            same(&rt, &result.is_ok(), &true, name);
+            same(&rt, &out.as_slice(), &want.as_bytes(), name);
+        }
     }
     Ok(())
 }

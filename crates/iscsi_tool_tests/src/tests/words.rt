@@ -35,8 +35,8 @@ const JOBS: &[(&str, &str)] = &[
         "Filter(Filter { work: Answer(1), hex: false })",
     ),
     (
-        "answer --hex --blocks=65536",
-        "Filter(Filter { work: Answer(65536), hex: true })",
+        "answer --hex --blocks=1099511627776",
+        "Filter(Filter { work: Answer(1099511627776), hex: true })",
     ),
     (
         "answer --blocks 0008",
@@ -51,8 +51,8 @@ const JOBS: &[(&str, &str)] = &[
         "Serve { port: 0, blocks: 1, sessions: 0 }",
     ),
     (
-        "serve --port 65535 --sessions 065535 --blocks 65536",
-        "Serve { port: 65535, blocks: 65536, sessions: 65535 }",
+        "serve --port 65535 --sessions 065535 --blocks 1099511627776",
+        "Serve { port: 65535, blocks: 1099511627776, sessions: 65535 }",
     ),
     (
         "loop --blocks 2048 --piece 48",
@@ -60,12 +60,12 @@ const JOBS: &[(&str, &str)] = &[
     ),
     ("loop --piece=1 --blocks=1", "Loop { blocks: 1, piece: 1 }"),
     (
-        "loop --piece 04096 --blocks 65536",
-        "Loop { blocks: 65536, piece: 4096 }",
+        "loop --piece 04096 --blocks 1099511627776",
+        "Loop { blocks: 1099511627776, piece: 4096 }",
     ),
 ];
 
-const BLOCKS: &str = "error: '--blocks <N>' is a number from 1 to 65536\n\nUsage: lanthovur ";
+const BLOCKS: &str = "error: '--blocks <N>' is a number from 1 to 1099511627776\n\nUsage: lanthovur ";
 
 const PORT: &str = "error: '--port <P>' is a number from 0 to 65535\n\nUsage: lanthovur serve";
 
@@ -122,7 +122,7 @@ const REFUSED: &[(&str, &str)] = &[
         "error: a value is required for '--blocks <N>' but none was supplied\n",
     ),
     ("answer --blocks 0", BLOCKS),
-    ("answer --blocks 65537", BLOCKS),
+    ("answer --blocks 1099511627777", BLOCKS),
     ("answer --blocks +8", BLOCKS),
     ("answer --blocks 0x8", BLOCKS),
     ("answer --blocks=", BLOCKS),
@@ -162,7 +162,7 @@ const REFUSED: &[(&str, &str)] = &[
     ("serve --port '' --blocks 1 --sessions 1", PORT),
     ("serve --port 0x10 --blocks 1 --sessions 1", PORT),
     ("serve --port 0 --blocks 0 --sessions 1", BLOCKS),
-    ("serve --port 0 --blocks 65537 --sessions 1", BLOCKS),
+    ("serve --port 0 --blocks 1099511627777 --sessions 1", BLOCKS),
     ("serve --port 0 --blocks 1 --sessions 65536", SESSIONS),
     (
         "serve --port 0 --blocks 1 --sessions 1 --hex",
@@ -185,7 +185,7 @@ const REFUSED: &[(&str, &str)] = &[
     ("loop --blocks 2048 --piece +1", PIECE),
     ("loop --blocks 2048 --piece ''", PIECE),
     ("loop --blocks 0 --piece 1", BLOCKS),
-    ("loop --blocks 65537 --piece 1", BLOCKS),
+    ("loop --blocks 1099511627777 --piece 1", BLOCKS),
     (
         "loop --blocks 2048",
         "error: the following required arguments were not provided:\n  --piece <k>\n",
