@@ -11,8 +11,8 @@ ghost use Rattle.scsi_disk.specs.Disk.{Disk};
 ghost use Rattle.iscsi_target.specs.Inside.{connection, store_of, target_fault, AnswersReady, ShutsReady, RestFails, TakesOne, FailsOne};
 
 use crate::config::Config;
-use crate::machine::Machine;
 use crate::fault::TargetFault;
+use crate::machine::Machine;
 use crate::received::Received;
 use iscsi_login::{Params, Phase, Stage};
 use iscsi_pdu::LOGIN_SEGMENT;
@@ -239,7 +239,11 @@ fn feed_one<S: BlockStore>(
 }
 
 // Takes bytes up to the end of a PDU. A fault closes the session.
-fn take_bytes(machine: &mut Machine, framer: &mut Framer, piece: &[u8]) -> Result<usize, TargetFault>
+fn take_bytes(
+    machine: &mut Machine,
+    framer: &mut Framer,
+    piece: &[u8],
+) -> Result<usize, TargetFault>
     ensures ok { IfOk result (λ n. Takes framer.old piece.now n framer.new) }
     ensures kept { OnOk result (machine.new ≡ machine.old) }
     ensures err { IfErr result (RestFails framer.old piece.now) }

@@ -1,8 +1,8 @@
 //! Blocks and data whose bytes were worked out by hand from the tables of SPC-4 and SBC-3.
 
 use scsi_cdb::{
-    Bytes, Cdb, Sense, Synchronize10, Transfer10, Transfer16, capacity10, capacity16, inquiry_bytes, report_luns,
-    vpd_bytes,
+    Bytes, Cdb, Sense, Synchronize10, Transfer10, Transfer16, capacity10, capacity16,
+    inquiry_bytes, report_luns, vpd_bytes,
 };
 use std::fmt::Debug;
 use std::process::Abort;

@@ -65,7 +65,8 @@ const JOBS: &[(&str, &str)] = &[
     ),
 ];
 
-const BLOCKS: &str = "error: '--blocks <N>' is a number from 1 to 1099511627776\n\nUsage: lanthovur ";
+const BLOCKS: &str =
+    "error: '--blocks <N>' is a number from 1 to 1099511627776\n\nUsage: lanthovur ";
 
 const PORT: &str = "error: '--port <P>' is a number from 0 to 65535\n\nUsage: lanthovur serve";
 
