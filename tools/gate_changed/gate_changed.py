@@ -5,7 +5,8 @@
 
 At the top of the repository. In N lanes (2 if not said), each crate that changed since COMMIT (HEAD if not said: what
 is not committed), or each NAME, in the order of crates.txt: its check, its tests with those of NAME_tests, and its
-must-fail edits; a crate whose must-fail/ alone changed has only the changed edits tried. --above also checks, with
+must-fail edits; a crate whose must-fail/ alone changed has only the changed edits tried. First it says which crates
+have files that are not as rt fmt writes them. --above also checks, with
 tests and no edits, the crates above those. Each line has the wall seconds. The last line is 'N well, M not'.
 
 Each edit is tried by rt's own code over a fresh copy of the work that the check kept, so none pays for what the one
@@ -113,6 +114,17 @@ def try_edit(crate, edit):
     say(f"{'ok ' if is_well else 'NOT'} {text[:170]} ({time.time() - start:.1f} s)")
 
 
+def look_at_layout(crates):
+    """Tells which crates have files that are not as rt fmt writes them: the gate refuses those."""
+    for crate in crates:
+        with tempfile.TemporaryFile("a+", errors="replace") as told:
+            is_well = not rt.rtlib.fmt(crate.folder, "--check", told)
+            told.seek(0)
+            if not is_well:
+                say(f"NOT layout {crate.name}: run rt fmt in its folder\n{told.read().strip()}")
+        (WELL if is_well else FAILED).append(f"layout {crate.name}")
+
+
 def tasks_of(crates, plan, lanes):
     """The tasks for rt's lanes: what each waits for, its size, the memory that it needs, and the call."""
 
@@ -160,6 +172,7 @@ def main():
         say(f"{crate.name}: {'check, tests' if crate.name in plan.looked else 'check'}, {len(plan.edits.get(crate.name, []))} edits")
     if words.list or not plan.crates:
         return 0
+    look_at_layout(crates)
     os.environ["RT_JOBS"] = str(words.lanes)
     rt.in_lanes(tasks_of(crates, plan, words.lanes))
     say(f"FAILED: {' '.join(FAILED)}" if FAILED else "all well; rt ci is the gate")
