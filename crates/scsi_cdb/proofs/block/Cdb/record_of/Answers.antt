@@ -1,4 +1,4 @@
-use Rattle.std.proofs.Common.{◌≡◌, ℕ, false, rules}
+use Rattle.std.proofs.Common.{◌≡◌, false, rules}
 use Rattle.scsi_cdb.specs.Blocks.{is_listed}
 use Rattle.scsi_cdb.proofs.Records.{is_unknown}
 use Rattle.scsi_cdb.proofs.block.Cdb.record_of.Goals as goal
