@@ -1,5 +1,5 @@
 -- An initiator that has completed its login holds what the target holds.
-use Rattle.std.proofs.Common.{◌≡◌, inl, inr, ℕ, false, List, [], ◌∷◌, ◌++◌, map, Option, Some, refl, sym, ap, ◌∙◌, subst, append_assoc}
+use Rattle.std.proofs.Common.{◌≡◌, ◌⊎◌, inl, inr, ℕ, false, List, [], ◌∷◌, ◌++◌, map, Option, Some, refl, sym, ap, ◌∙◌, subst, append_assoc}
 use Rattle.scsi_disk.specs.Disk.{Disk, disk_of}
 use Rattle.iscsi_stream.specs.declared.logins.Logins.{Logins}
 use Rattle.iscsi_stream.specs.Segment.{no_login, after as logins_after}
@@ -17,7 +17,6 @@ use Rattle.iscsi_initiator.specs.declared.request.Done.{Done}
 use Rattle.iscsi_initiator.specs.declared.request.SubmitFault.{SubmitFault}
 use Rattle.iscsi_initiator.specs.declared.request.SubmitFault.TheVariants as refusals
 use Rattle.iscsi_initiator.specs.State as initiator
-use Rattle.iscsi_initiator.specs.State.{is_closed}
 use Rattle.iscsi_login.specs.Stage.{is_closed_phase}
 use Rattle.iscsi_initiator.specs.Steps.{Stepped}
 use Rattle.iscsi_initiator.specs.Login.{start_step}
@@ -108,34 +107,44 @@ not_empty limit back given y a ms p e =
     let b = p.3 in
     no_pdu_none limit p.0 p.1 (p.2 ++ y) a.head (sym e ∙ ap (λ (x : List ℕ). x ++ y) b.whole ∙ append_assoc p.0 p.2 y) b.means b.within
 
+-- more is said than the answers to these messages only behind the login
+abbrev pub OnlyLater : List Message → target.Stepped → Type 0
+OnlyLater extra r = (extra ≡ []) ⊎ (r.machine.session.phase ≡ phases.Full)
+
+none_said : (k : ℕ) (back : Logins) (taken_ y : List ℕ) (m : Message) (ms extra : List Message) (t : target.Machine) → t.session.phase ≡ phases.Login → (extra ≡ []) ⊎ (t.session.phase ≡ phases.Full)
+    → ReadsAs k back taken_ (m ∷ ms) → taken_ ++ y ≡ canon extra → ⊥
+none_said k back taken_ y m ms extra t login (inl none) q f = not_empty k back taken_ y m ms q (f ∙ ap canon none)
+none_said k back taken_ y m ms extra t login (inr full) q f = (let bad : phases.Login ≡ phases.Full = sym login ∙ full in absurd cc)
+
 -- where the target's messages are those that the initiator sent, and the initiator's those that the target answered
-pub agree : (inputs : List Input) (c : Opening) (i : initiator.Machine) (t : target.Machine) (out back : Logins) (r : Message) (disk : Disk) (ms : List Message) (l k : ℕ) (given x taken_ y : List ℕ)
+pub agree : (inputs : List Input) (c : Opening) (i : initiator.Machine) (t : target.Machine) (out back : Logins) (r : Message) (disk : Disk) (ms extra : List Message) (l k : ℕ) (given x taken_ y : List ℕ)
     → IsOpening c → Asking c i t out r → back.response ≡ false → IsReached c i
     → ReadsAs l out given ms → given ++ x ≡ canonical_bytes r ++ canon (sent i inputs)
-    → ReadsAs k back taken_ (coming inputs) → taken_ ++ y ≡ canon (answers t disk ms).answers
+    → ReadsAs k back taken_ (coming inputs) → taken_ ++ y ≡ canon ((answers t disk ms).answers ++ extra) → OnlyLater extra (answers t disk ms)
     → (after_all i inputs).stage ≡ stages.Full → Same (answers t disk ms) (after_all i inputs)
 unfolding answers
-agree [] c i t out back r disk ms l k given x taken_ y o a b reach p e q f full = absurd (start_not_full i.stage a.stage full)
-agree (Takes ∷ inputs) c i t out back r disk ms l k given x taken_ y o a b reach p e q f full =
+agree [] c i t out back r disk ms extra l k given x taken_ y o a b reach p e q f later_ full = absurd (start_not_full i.stage a.stage full)
+agree (Takes ∷ inputs) c i t out back r disk ms extra l k given x taken_ y o a b reach p e q f later_ full =
     let same : taken i ≡ i = ap (λ (d : Option Done). record i { done = d }) (sym a.no_outcome) in
     subst (λ (m : initiator.Machine). Same (answers t disk ms) (after_all m inputs)) (sym same)
-    (agree inputs c i t out back r disk ms l k given x taken_ y o a b reach p (e ∙ ap (λ (m : initiator.Machine). canonical_bytes r ++ canon (sent m inputs)) same) q f
+    (agree inputs c i t out back r disk ms extra l k given x taken_ y o a b reach p (e ∙ ap (λ (m : initiator.Machine). canonical_bytes r ++ canon (sent m inputs)) same) q f later_
     (ap (λ (m : initiator.Machine). (after_all m inputs).stage) (sym same) ∙ full))
-agree (Asks request ∷ inputs) c i t out back r disk ms l k given x taken_ y o a b reach p e q f full =
+agree (Asks request ∷ inputs) c i t out back r disk ms extra l k given x taken_ y o a b reach p e q f later_ full =
     let s = refused phases.Login i request refusals.NotReady a.phase refl in
     subst (λ (m : Submitted). Same (answers t disk ms) (after_all m.machine inputs)) (sym s)
-    (agree inputs c i t out back r disk ms l k given x taken_ y o a b reach p (e ∙ ap (λ (m : Submitted). canonical_bytes r ++ canon (m.output ++ sent m.machine inputs)) s) q f
+    (agree inputs c i t out back r disk ms extra l k given x taken_ y o a b reach p (e ∙ ap (λ (m : Submitted). canonical_bytes r ++ canon (m.output ++ sent m.machine inputs)) s) q f later_
     (ap (λ (m : Submitted). (after_all m.machine inputs).stage) (sym s) ∙ full))
-agree (Comes m ∷ inputs) c i t out back r disk [] l k given x taken_ y o a b reach p e q f full = absurd (not_empty k back taken_ y m (coming inputs) q f)
-agree (Comes m ∷ inputs) c i t out back r disk (n ∷ ms) l k given x taken_ y o a b reach p e q f full =
+agree (Comes m ∷ inputs) c i t out back r disk [] extra l k given x taken_ y o a b reach p e q f later_ full = absurd (none_said k back taken_ y m (coming inputs) extra t a.logs_in.phase later_ q f)
+agree (Comes m ∷ inputs) c i t out back r disk (n ∷ ms) extra l k given x taken_ y o a b reach p e q f later_ full =
     let one : IsFirst l out x (canon (sent i (Comes m ∷ inputs))) n r ms = first_is l out given x (canon (sent i (Comes m ∷ inputs))) n r ms (asking_readable c i t out r o a) p e in
     let turn : Round c i (target_machine.step t disk r) (logins_after out r.head) = round c i t out r disk o a in
     let now : target.Stepped = target_machine.step t disk r in
     let later : target.Stepped = answers now.machine now.disk ms in
-    let said : canon (answers t disk (n ∷ ms)).answers ≡ canonical_bytes turn.answer ++ canon later.answers =
-    ap (λ (w : Message). canon (answers t disk (w ∷ ms)).answers) one.same ∙ ap (λ (xs : List Message). canon (xs ++ later.answers)) turn.is in
-    let two : IsFirst k back y (canon later.answers) m turn.answer (coming inputs) =
-    first_is k back taken_ y (canon later.answers) m turn.answer (coming inputs) (turn.readable back b) q (f ∙ said) in
+    let said : canon ((answers t disk (n ∷ ms)).answers ++ extra) ≡ canonical_bytes turn.answer ++ canon (later.answers ++ extra) =
+    ap (λ (w : Message). canon ((answers t disk (w ∷ ms)).answers ++ extra)) one.same ∙ ap (λ (xs : List Message). canon ((xs ++ later.answers) ++ extra)) turn.is in
+    let two : IsFirst k back y (canon (later.answers ++ extra)) m turn.answer (coming inputs) =
+    first_is k back taken_ y (canon (later.answers ++ extra)) m turn.answer (coming inputs) (turn.readable back b) q (f ∙ said) in
+    let only : OnlyLater extra later = subst (λ (w : Message). OnlyLater extra (answers t disk (w ∷ ms))) one.same later_ in
     let s : Stepped = step i turn.answer in
     let sent_is : one.given ++ x ≡ canon (s.output ++ sent s.machine inputs) = one.rest ∙ ap (λ (w : Message). canon (sent i (Comes w ∷ inputs))) two.same in
     let end : (after_all s.machine inputs).stage ≡ stages.Full = ap (λ (w : Message). (after_all i (Comes w ∷ inputs)).stage) (sym two.same) ∙ full in
@@ -147,8 +156,8 @@ agree (Comes m ∷ inputs) c i t out back r disk (n ∷ ms) l k given x taken_ y
           stage = keeps.stage ∙ agreed.target_stage;
           held = keeps.held ∙ agreed.held ∙ sym (full_stays c s.machine inputs o reach_ agreed.stage).1;
         })
-        | inr next ↦ agree inputs c s.machine now.machine (logins_after out r.head) (logins_after back turn.answer.head) next.request now.disk ms l k one.given x two.given y
-            o next.asking (turn.last back b) reach_ one.reads (sent_is ∙ ap (λ (xs : List Message). canon (xs ++ sent s.machine inputs)) next.is) two.reads two.rest end
+        | inr next ↦ agree inputs c s.machine now.machine (logins_after out r.head) (logins_after back turn.answer.head) next.request now.disk ms extra l k one.given x two.given y
+            o next.asking (turn.last back b) reach_ one.reads (sent_is ∙ ap (λ (xs : List Message). canon (xs ++ sent s.machine inputs)) next.is) two.reads two.rest only end
       ]
     ] in
     subst (λ (w : Message). Same (answers t disk (w ∷ ms)) (after_all i (Comes m ∷ inputs))) (sym one.same)
@@ -172,9 +181,13 @@ world_agrees c u w o s full =
     sym (append_assoc t.given t.rest (w.to_target ++ i.lost)) ∙ ap (λ (x : List ℕ). x ++ (w.to_target ++ i.lost)) (sym t.whole)
     ∙ sym (append_assoc u.moved_to_target w.to_target i.lost) ∙ ap (λ (x : List ℕ). x ++ i.lost) s.to_target ∙ i.output
     ∙ ap (λ (x : List Message). canon (x ++ sent (begun c) i.inputs)) a.is in
-    let back : i.given ++ (i.rest ++ w.to_initiator) ≡ canon (answers (target.opening c.target c.first_stat_sn) (disk_of c.blocks) t.messages).answers =
+    let back : i.given ++ (i.rest ++ w.to_initiator) ≡ canon ((answers (target.opening c.target c.first_stat_sn) (disk_of c.blocks) t.messages).answers ++ t.extra) =
     sym (append_assoc i.given i.rest w.to_initiator) ∙ ap (λ (x : List ℕ). x ++ w.to_initiator) (sym i.whole) ∙ s.to_initiator ∙ t.output in
+    let only : OnlyLater t.extra (answers (target.opening c.target c.first_stat_sn) (disk_of c.blocks) t.messages) = elim t.only [
+      | inl none ↦ inl none
+      | inr short ↦ inr short.1
+    ] in
     let same : Same (answers (target.opening c.target c.first_stat_sn) (disk_of c.blocks) t.messages) (after_all (begun c) i.inputs) =
-    agree i.inputs c (begun c) (target.opening c.target c.first_stat_sn) no_login no_login a.request (disk_of c.blocks) t.messages t.limit i.limit t.given rest i.given (i.rest ++ w.to_initiator)
-    o a.asking refl (first_reached c) t.reads whole i.reads back (sym i.stage ∙ full) in
+    agree i.inputs c (begun c) (target.opening c.target c.first_stat_sn) no_login no_login a.request (disk_of c.blocks) t.messages t.extra t.limit i.limit t.given rest i.given (i.rest ++ w.to_initiator)
+    o a.asking refl (first_reached c) t.reads whole i.reads back only (sym i.stage ∙ full) in
     (t.stage ∙ same.stage, t.held ∙ same.held ∙ sym i.held)

@@ -17,19 +17,19 @@ use Rattle.iscsi_target.specs.declared.fault.TargetFault.{TargetFault}
 use Rattle.iscsi_target.specs.declared.fault.TargetFault.TheVariants as target_faults
 use Rattle.iscsi_target.specs.Session as target_session
 use Rattle.iscsi_target.specs.State as target
-use Rattle.iscsi_target.specs.Transfer.{joined}
+use Rattle.iscsi_target.specs.State.{joined}
 use Rattle.iscsi_target.specs.Machine as target_machine
 use Rattle.iscsi_target.specs.Machine.{answers, then_stepped, first_rule}
 use Rattle.iscsi_target.specs.Laws.{joined_stepped}
 use Rattle.iscsi_target.specs.Feed as target_calls
 use Rattle.iscsi_target.proofs.Appending.{answers_append}
 use Rattle.iscsi_target.proofs.Joining.{answers_joined}
+use Rattle.iscsi_target.proofs.Feeding.{stands}
 use Rattle.iscsi_initiator.specs.State as initiator
 use Rattle.iscsi_initiator.specs.State.{is_closed}
 use Rattle.iscsi_initiator.specs.Steps as initiator_steps
 use Rattle.iscsi_initiator.specs.Machine.{step, steps}
 use Rattle.iscsi_initiator.specs.Calls as calls
-use Rattle.iscsi_initiator.specs.Calls.{heard_steps}
 use Rattle.iscsi_pair.specs.World.{World, Opening, TargetHears, MovesToTarget, store_of, target_ran_out}
 use Rattle.iscsi_pair.proofs.Keeping.{AreWritten, IsOpenFor, HearsWell, History, Relation, Sends, Goes, IsKept, written_append}
 use Rattle.iscsi_pair.proofs.Faultless.{both_none}
@@ -177,7 +177,7 @@ initiator_heard most_out most P k i t disk out (m ∷ new) left there here h s =
 pub record Stands (c : Opening) (P : Relation) (h : History) (w : World) : Type 0 where
   pub target_well : w.target_fault ≡ None
   pub initiator_well : w.initiator_fault ≡ None
-  -- the target's session, its open write in the pieces that came
+  -- the target's session, its writes in the pieces that came
   pub session : target.Machine
   pub disk : Disk
   -- what the target has yet to hear, and the initiator
@@ -329,8 +329,11 @@ target_hears c P h old new k byte bytes kept s m e memory =
           (let f : target_calls.Feeds old.target (store_of old.blocks) old.to_initiator (byte ∷ bytes) e.result new.target (store_of new.blocks) new.to_initiator =
           subst (λ (b : Bool). target_calls.FedIf b old.target (store_of old.blocks) old.to_initiator (byte ∷ bytes) e.result new.target (store_of new.blocks) new.to_initiator)
           (ap target_machine.is_closed s.machine ∙ on.0) e.fed in
+          let stood : target_calls.Stands old.to_initiator f.stepped f.answered.failures (store_of new.blocks) new.to_initiator =
+          stands old.to_initiator f.framing (drop f.count (byte ∷ bytes)) f.stepped f.answered.failures e.result new.target.machine (store_of new.blocks) new.to_initiator
+          (λ short. apart (ap target_ran_out (e.fault ∙ ap result_err short)) memory) f.leaves in
           target_ends e.result c P h old new f.framing f.count (byte ∷ bytes) (drop (length (byte ∷ bytes)) old.to_target) f.stepped
-          (target_turn c P h old new k (byte ∷ bytes) e.result kept s on.1 m f) f.ends e.fault memory (e.other_fault ∙ s.initiator_well) f.answered.disk e.initiator f.answered.output_is e.dropped)
+          (target_turn c P h old new k (byte ∷ bytes) e.result kept s on.1 m f) f.ends e.fault memory (e.other_fault ∙ s.initiator_well) stood.disk e.initiator stood.output_is e.dropped)
       | inr over ↦ absurd (let none : byte ∷ bytes ≡ [] = some_moves k old.to_target (byte ∷ bytes) m over.1 in cc)
     ]
 

@@ -330,13 +330,13 @@ part_head e h = record (login.response e h) { stat_sn = Some e.stat_sn }
 
 -- both ends behind a request that ends its text
 pub record LastTurn (i : initiator.Machine) (t : target.Machine) (disk : Disk) (r answer : Message) : Type 0 where
-  pub there : target_machine.step t disk r ≡ target.on disk t.write (text_answered (emptied t.session (login_request i true)) (login_request i true) (offered i))
+  pub there : target_machine.step t disk r ≡ target.on disk t.tasks (text_answered (emptied t.session (login_request i true)) (login_request i true) (offered i))
   pub now : step i answer ≡ enters (asked i) (with_answer i (text_head (emptied t.session (login_request i true)) (login_request i true)) (answer_pairs (emptied t.session (login_request i true)) (offered i)))
 
 -- both ends behind a request whose text goes on
 pub record PartTurn (i : initiator.Machine) (t : target.Machine) (disk : Disk) (r answer : Message) : Type 0 where
   pub bytes : List ℕ
-  pub there : target_machine.step t disk r ≡ target.on disk t.write (gather (entered t.session (login_request i false)) (login_request i false) bytes)
+  pub there : target_machine.step t disk r ≡ target.on disk t.tasks (gather (entered t.session (login_request i false)) (login_request i false) bytes)
   pub now : step i answer ≡ sends_more (counted i (part_head (entered t.session (login_request i false)) (login_request i false)))
 
 -- a request that ends its text is answered, and the answer is taken
@@ -355,8 +355,8 @@ last_turn c i t logins next r disk segment o suits a s left fits read size turn 
     let q : login.login_request t.session h segment ≡ text_answered e h given =
     answers_well t.session h segment given (not_refused c i t true a.stage s) (subst (λ (x : List ℕ). length x + length (segment_bytes segment) ≤ 16384) (sym same.gathered) size) refl
     (ap (λ (x : List ℕ). text_ending x segment) same.gathered ∙ read) good in
-    let there : target_machine.step t disk (login_message i true segment) ≡ target.on disk t.write (text_answered e h given) =
-    login_step_is t disk h segment a.logs_in.phase fits ∙ ap (target.on disk t.write) q in
+    let there : target_machine.step t disk (login_message i true segment) ≡ target.on disk t.tasks (text_answered e h given) =
+    login_step_is t disk h segment a.logs_in.phase fits ∙ ap (target.on disk t.tasks) q in
     let is : turn.answer ≡ answering (text_head e h) (answer_pairs e given) =
     one_answer turn.answer (answering (text_head e h) (answer_pairs e given)) (sym turn.is ∙ ap (λ (x : target.Stepped). x.answers) there) in
     record {
@@ -375,8 +375,8 @@ part_turn c i t logins next r disk segment bytes byte more a s left part fits si
     let same : SameState t.session e = entered_same t.session h in
     let q : login.login_request t.session h segment ≡ gather e h bytes =
     ap (login.login_request t.session h) part ∙ gathers_well t.session h bytes (not_refused c i t false a.stage s) (subst (λ (x : List ℕ). length x + length bytes ≤ 16384) (sym same.gathered) size) refl in
-    let there : target_machine.step t disk (login_message i false segment) ≡ target.on disk t.write (gather e h bytes) =
-    login_step_is t disk h segment a.logs_in.phase fits ∙ ap (target.on disk t.write) q in
+    let there : target_machine.step t disk (login_message i false segment) ≡ target.on disk t.tasks (gather e h bytes) =
+    login_step_is t disk h segment a.logs_in.phase fits ∙ ap (target.on disk t.tasks) q in
     let is : turn.answer ≡ answering (part_head e h) [] = one_answer turn.answer (answering (part_head e h) []) (sym turn.is ∙ ap (λ (x : target.Stepped). x.answers) there) in
     record {
       bytes = bytes;
@@ -428,7 +428,7 @@ turns c i t logins next r disk o suits a s =
 -- the next text goes out, behind the one of the security stage
 next_suited : (c : Opening) (i : initiator.Machine) (t : target.Machine) (disk : Disk) (h : LoginRequest) → (g : LoginResponse) (answer : Pairs) → i.settings ≡ c.initiator → Suited c i t → i.stage ≡ stages.Security
     → h ≡ login_request i true → let e : target_session.Session = emptied t.session h in g.stat_sn ≡ Some e.stat_sn
-    → Suited c (enters stages.Operational (with_answer i g answer)).machine (target.on disk t.write (text_answered e h (offered i))).machine
+    → Suited c (enters stages.Operational (with_answer i g answer)).machine (target.on disk t.tasks (text_answered e h (offered i))).machine
 next_suited c i t disk h g answer there s is hs number =
     let e : target_session.Session = emptied t.session h in
     let m : initiator.Machine = record (with_answer i g answer) { stage = stages.Operational } in
@@ -491,7 +491,7 @@ part_well c i t logins next r disk a s turn q =
     let same : SameState t.session e = entered_same t.session h in
     let n : Stepped = sends_more (counted i (part_head e h)) in
     let live : is_closed (step i turn.answer).machine ≡ false = ap (λ (x : Stepped). is_closed x.machine) q.now ∙ ap is_closed_phase a.phase in
-    let begun : Suited c n.machine (target.on disk t.write (gather e h q.bytes)).machine = record {
+    let begun : Suited c n.machine (target.on disk t.tasks (gather e h q.bytes)).machine = record {
       expected = eq-eqb (next_sn e.stat_sn) (next_sn e.stat_sn) refl;
       due = due_at e.begun i.stage _ _ (entered_begun t.session h) (in_stage i.stage t.session.stage);
       texts = elim s.texts [

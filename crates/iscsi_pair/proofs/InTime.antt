@@ -35,7 +35,7 @@ use Rattle.iscsi_pair.specs.declared.step.EndFault.TheVariants as ends
 use Rattle.iscsi_pair.specs.World.{World, Opening, IsOpening, IsInTime, Suits, Event, feed_fault, submit_fault, ToTarget, ToInitiator, Submits, Takes, Happens, Runs, RunsInTime, MovesToTarget, MovesToInitiator, Asks, new_pair, target_ran_out, initiator_ran_out, keeps_no_memory}
 use Rattle.iscsi_pair.specs.Traffic.{Traffic, said, after_all, sent, coming}
 use Rattle.iscsi_initiator.specs.Laws.{Input}
-use Rattle.iscsi_pair.proofs.TargetSide.{TargetFront, TargetEnded, TargetBroken, TargetFailed}
+use Rattle.iscsi_pair.proofs.TargetSide.{TargetFront, front_output, TargetEnded, TargetBroken, TargetFailed}
 use Rattle.iscsi_pair.proofs.InitiatorSide.{InitiatorFront, InitiatorEnded, InitiatorBroken, InitiatorFailed, begun, all_sent}
 use Rattle.iscsi_pair.proofs.Sides.{Sides}
 use Rattle.iscsi_pair.proofs.Talk.{Asks_on, first_asks}
@@ -131,21 +131,23 @@ target_broken fault c u w o suits s e =
           (append_assoc e.taken.rest (e.piece ++ e.more) (w.to_target ++ i.lost) ∙ ap (λ (x : List ℕ). e.taken.rest ++ x) (append_assoc e.piece e.more (w.to_target ++ i.lost))) on.1)
     ]
 
-initiator_ended : (c : Opening) (u : Traffic) (w : World) → IsOpening c → Suits c → Sides c u w → InitiatorEnded c u.moved_to_initiator u.queued_for_target w.initiator → w.initiator.machine.stage ≡ stages.Full
-initiator_ended c u w o suits s e =
-    let t : TargetFront c u.moved_to_target u.queued_for_initiator w.target = s.target.front in
-    let well = both_well c u w e.inputs t.messages t.limit e.limit t.given t.rest e.given e.rest e.lost o suits s t.reads t.whole e.output e.reads e.whole t.output in
+initiator_ended : (c : Opening) (u : Traffic) (w : World) → IsOpening c → Suits c → Sides c u w → target_ran_out w.target_fault ≡ false → InitiatorEnded c u.moved_to_initiator u.queued_for_target w.initiator → w.initiator.machine.stage ≡ stages.Full
+initiator_ended c u w o suits s there e =
+    let t : TargetFront c u.moved_to_target u.queued_for_initiator w.target w.target_fault = s.target.front in
+    let said_ : u.queued_for_initiator ≡ canon (said c t.messages).answers = front_output c u.moved_to_target u.queued_for_initiator w.target w.target_fault t there in
+    let well = both_well c u w e.inputs t.messages t.limit e.limit t.given t.rest e.given e.rest e.lost o suits s t.reads t.whole e.output e.reads e.whole said_ in
     elim well.initiator [
       | inl full ↦ e.stage ∙ full
       | inr on ↦ absurd (apart e.closed on.0)
     ]
 
-initiator_broken : (fault : StreamFault) (c : Opening) (u : Traffic) (w : World) → IsOpening c → Suits c → Sides c u w → InitiatorBroken fault c u.moved_to_initiator u.queued_for_target w.initiator → w.initiator.machine.stage ≡ stages.Full
-initiator_broken fault c u w o suits s e =
-    let t : TargetFront c u.moved_to_target u.queued_for_initiator w.target = s.target.front in
+initiator_broken : (fault : StreamFault) (c : Opening) (u : Traffic) (w : World) → IsOpening c → Suits c → Sides c u w → target_ran_out w.target_fault ≡ false → InitiatorBroken fault c u.moved_to_initiator u.queued_for_target w.initiator → w.initiator.machine.stage ≡ stages.Full
+initiator_broken fault c u w o suits s there e =
+    let t : TargetFront c u.moved_to_target u.queued_for_initiator w.target w.target_fault = s.target.front in
+    let said_ : u.queued_for_initiator ≡ canon (said c t.messages).answers = front_output c u.moved_to_target u.queued_for_initiator w.target w.target_fault t there in
     let rest : List ℕ = e.taken.rest ++ (e.piece ++ e.more) in
     let whole : u.moved_to_initiator ≡ e.taken.given ++ rest = e.whole ∙ ap (λ (x : List ℕ). x ++ (e.piece ++ e.more)) e.taken.whole ∙ append_assoc e.taken.given e.taken.rest (e.piece ++ e.more) in
-    let well = both_well c u w e.inputs t.messages t.limit e.framing.limit t.given t.rest e.taken.given rest [] o suits s t.reads t.whole (append-nil u.queued_for_target ∙ e.output) e.taken.reads whole t.output in
+    let well = both_well c u w e.inputs t.messages t.limit e.framing.limit t.given t.rest e.taken.given rest [] o suits s t.reads t.whole (append-nil u.queued_for_target ∙ e.output) e.taken.reads whole said_ in
     let enough : 8192 ≤ e.framing.limit = (let n = e.limit in omega (arith, n)) in
     elim well.initiator [
       | inl full ↦ e.stage ∙ full
@@ -162,16 +164,16 @@ target_by (Some (target_faults.Stream fault)) c u w o suits s f well = inr (targ
 target_by (Some (target_faults.Protocol rule)) c u w o suits s f well = inr (target_ended c u w o suits s f)
 target_by (Some target_faults.Closed) c u w o suits s f well = inr (target_ended c u w o suits s f)
 
-initiator_by : (fault : Option EndFault) (c : Opening) (u : Traffic) (w : World) → IsOpening c → Suits c → Sides c u w → InitiatorFailed fault c u.moved_to_initiator u.queued_for_target w.initiator → initiator_ran_out fault ≡ false
+initiator_by : (fault : Option EndFault) (c : Opening) (u : Traffic) (w : World) → IsOpening c → Suits c → Sides c u w → target_ran_out w.target_fault ≡ false → InitiatorFailed fault c u.moved_to_initiator u.queued_for_target w.initiator → initiator_ran_out fault ≡ false
     → ((f : SubmitFault) → fault ≡ Some (ends.Submit f) → w.initiator.machine.stage ≡ stages.Full) → (fault ≡ None) ⊎ (w.initiator.machine.stage ≡ stages.Full)
-initiator_by None c u w o suits s f well kept = inl refl
-initiator_by (Some (ends.Submit fault)) c u w o suits s f well kept = inr (kept fault refl)
-initiator_by (Some (ends.Feed faults.NoMemory)) c u w o suits s f well kept = absurd (cc well)
-initiator_by (Some (ends.Feed (faults.Stream fault))) c u w o suits s f well kept = inr (initiator_broken fault c u w o suits s f)
-initiator_by (Some (ends.Feed (faults.Protocol rule))) c u w o suits s f well kept = inr (initiator_ended c u w o suits s f)
-initiator_by (Some (ends.Feed (faults.Refused class detail))) c u w o suits s f well kept = inr (initiator_ended c u w o suits s f)
-initiator_by (Some (ends.Feed (faults.BadAnswer key))) c u w o suits s f well kept = inr (initiator_ended c u w o suits s f)
-initiator_by (Some (ends.Feed faults.Closed)) c u w o suits s f well kept = inr (initiator_ended c u w o suits s f)
+initiator_by None c u w o suits s there f well kept = inl refl
+initiator_by (Some (ends.Submit fault)) c u w o suits s there f well kept = inr (kept fault refl)
+initiator_by (Some (ends.Feed faults.NoMemory)) c u w o suits s there f well kept = absurd (cc well)
+initiator_by (Some (ends.Feed (faults.Stream fault))) c u w o suits s there f well kept = inr (initiator_broken fault c u w o suits s there f)
+initiator_by (Some (ends.Feed (faults.Protocol rule))) c u w o suits s there f well kept = inr (initiator_ended c u w o suits s there f)
+initiator_by (Some (ends.Feed (faults.Refused class detail))) c u w o suits s there f well kept = inr (initiator_ended c u w o suits s there f)
+initiator_by (Some (ends.Feed (faults.BadAnswer key))) c u w o suits s there f well kept = inr (initiator_ended c u w o suits s there f)
+initiator_by (Some (ends.Feed faults.Closed)) c u w o suits s there f well kept = inr (initiator_ended c u w o suits s there f)
 
 -- ---- requests in their time
 
@@ -227,5 +229,5 @@ pub none_fails : (c : Opening) (events : List Event) (u : Traffic) (w : World) �
 none_fails c events u w o suits r s well =
     let m = or_parts (target_ran_out w.target_fault) (initiator_ran_out w.initiator_fault) well in (
       target_by w.target_fault c u w o suits s s.target.failed m.0,
-      initiator_by w.initiator_fault c u w o suits s s.initiator.failed m.1 (runs_late (new_pair c) events w r (λ f is. absurd (cc is))),
+      initiator_by w.initiator_fault c u w o suits s m.0 s.initiator.failed m.1 (runs_late (new_pair c) events w r (λ f is. absurd (cc is))),
     )

@@ -28,7 +28,11 @@ use Rattle.iscsi_pdu.specs.declared.serial.Window.{Window}
 taken_in : (m : initiator.Machine) (t : target.Machine) (request : Request) (long : Bool) → AreInStep m t → is_too_long m request ≡ long → long ≡ false → refusal_when_full m request ≡ None
 taken_in m t request long a is short =
     let now : is_within m.cmd_sn m.window.exp.0 m.window.max.0 ≡ true =
-    ap (λ (w : Window). is_within m.cmd_sn w.exp.0 w.max.0) a.window ∙ (let d : (m.cmd_sn + (2 ^ 32 - m.cmd_sn)) % 2 ^ 32 ≡ 0 = (let lt = a.cmd_sn_fits in omega (arith, lt)) in rw d refl) in
+    ap (λ (w : Window). is_within m.cmd_sn w.exp.0 w.max.0) a.window
+    ∙ (let lt = a.cmd_sn_fits in
+    let high : ((m.cmd_sn + 7) % 2 ^ 32 + (2 ^ 32 - m.cmd_sn)) % 2 ^ 32 ≡ 7 = omega (arith, lt) in
+    let low : (m.cmd_sn + (2 ^ 32 - m.cmd_sn)) % 2 ^ 32 ≡ 0 = omega (arith, lt) in
+    rw (high, low) refl) in
     let none : is_some m.open_request ≡ false = ap (λ (x : Option Open). is_some x) a.none_open in
     let taken_ : is_some m.done ≡ false = ap (λ (x : Option Done). is_some x) a.none_done in
     rw (none, taken_, now, is ∙ short) refl

@@ -18,7 +18,8 @@ use Rattle.iscsi_target.specs.Session.{say}
 use Rattle.iscsi_target.specs.State.{on}
 use Rattle.iscsi_pdu.specs.Serial.{next_sn, is_within}
 use Rattle.iscsi_target.specs.Requests.{logged_out, logout_head, nop_in_head}
-use Rattle.iscsi_target.specs.Machine.{accepting, answers, step_on}
+use Rattle.iscsi_target.specs.Machine.{answers, having_accepted, step_on}
+use Rattle.iscsi_target.proofs.Alone.{request_alone}
 use Rattle.iscsi_target.proofs.Continuing.{then_nothing}
 use Rattle.iscsi_initiator.specs.declared.open.Open.TheVariants as opens
 use Rattle.iscsi_initiator.specs.declared.request.Done.TheVariants as done
@@ -29,8 +30,8 @@ use Rattle.iscsi_initiator.specs.State.{next_tag}
 use Rattle.iscsi_initiator.specs.Steps.{quiet}
 use Rattle.iscsi_initiator.specs.Machine.{step}
 use Rattle.iscsi_initiator.specs.Submitted.{Submitted, accepted, logout_request, ping, refusal, refusal_in, refusal_when_full, submitted}
-use Rattle.iscsi_pair.specs.LocalDisk.{AreInStep, Stand, window_of_one}
-use Rattle.iscsi_pair.proofs.Windows.{near_one, tells_one, tag_after}
+use Rattle.iscsi_pair.specs.LocalDisk.{AreInStep, Stand, window_of_eight}
+use Rattle.iscsi_pair.proofs.Windows.{near_next, tells_eight, tag_after}
 use Rattle.iscsi_pair.proofs.Written.{left_readable, logout_readable, ping_readable, pong_readable}
 use Rattle.iscsi_pair.proofs.Keeping.{IsOpenFor}
 use Rattle.iscsi_pair.proofs.Courses.{ArePlain, Begins, Ends, heard_by, hears_quiet, plain_one, short_message}
@@ -51,10 +52,17 @@ ping_message m bytes = record { head = heads.NopOut (ping m); segment = Bytes by
 ping_taken : (m : initiator.Machine) (t : target.Machine) (disk : Disk) (bytes : List ℕ) → m.cmd_sn < 2 ^ 32 → m.initiator_task_tag ≤ 0xffff_fffe
     → length bytes ≤ t.session.held.target_max_recv → t.session.held.target_max_recv ≤ target_session.limit t.session.settings
     → step_on reliable (ready t m.cmd_sn) disk (ping_message m bytes)
-    ≡ accepting (ping_message m bytes) (on disk None (say (ready t (next_sn m.cmd_sn)).session (nop_in_head (ready t (next_sn m.cmd_sn)).session 0 (ping m)) (take t.session.held.initiator_max_recv bytes)))
+    ≡ having_accepted (ping_message m bytes ∷ []) (on disk [] (say (ready t (next_sn m.cmd_sn)).session (nop_in_head (ready t (next_sn m.cmd_sn)).session 0 (ping m)) (take t.session.held.initiator_max_recv bytes)))
 unfolding segment_bytes
 ping_taken m t disk bytes lt tag short limit =
-    rw (le-ltb (target_session.limit t.session.settings) (length bytes) (omega (arith, short, limit)), le-ltb t.session.held.target_max_recv (length bytes) short, window_now m.cmd_sn lt, names_task (next_tag m.initiator_task_tag) (tag_after m.initiator_task_tag tag)) refl
+    request_alone reliable (ready t m.cmd_sn).session disk (ping_message m bytes)
+    (record {
+      phase = refl;
+      within = le-ltb (target_session.limit t.session.settings) (length bytes) (omega (arith, short, limit));
+      kind = refl;
+      short = le-ltb t.session.held.target_max_recv (length bytes) short;
+    }) refl (window_now m.cmd_sn lt) refl
+    ∙ rw (names_task (next_tag m.initiator_task_tag) (tag_after m.initiator_task_tag tag)) refl
 
 -- an initiator that has an open ping
 abbrev pinging : initiator.Machine → Window → initiator.Machine
@@ -72,7 +80,7 @@ pinged m t window bytes = record m {
 -- the initiator hears the answer
 pong_heard : (m before : initiator.Machine) (t : target.Machine) (window : Window) (bytes : List ℕ) → m.exp_stat_sn ≡ Some t.session.stat_sn → m.initiator_task_tag ≡ next_tag before.initiator_task_tag
     → m.initiator_task_tag ≤ 0xffff_fffe → length bytes ≤ m.held.initiator_max_recv
-    → step (pinging m window) (target_session.message (nop_in_head t.session (target.waiting t.write) (ping before)) bytes) ≡ quiet (pinged m t window bytes)
+    → step (pinging m window) (target_session.message (nop_in_head t.session (target.waiting t.tasks) (ping before)) bytes) ≡ quiet (pinged m t window bytes)
 unfolding step segment_bytes
 pong_heard m before t window bytes e same tag short =
     rw (sym same, names_task m.initiator_task_tag tag, eq-eqb m.initiator_task_tag m.initiator_task_tag refl, le-ltb m.held.initiator_max_recv (length bytes) short, e, eq-eqb t.session.stat_sn t.session.stat_sn refl) refl
@@ -100,18 +108,18 @@ local_ping m t disk bytes a e =
     let given : List ℕ = take m.held.initiator_max_recv bytes in
     let few : length given ≤ m.held.initiator_max_recv = omega (arith, length-take m.held.initiator_max_recv bytes) in
     let tag : next_tag m.initiator_task_tag ≤ 0xffff_fffe = tag_after m.initiator_task_tag a.tag_fits in
-    let is_t : t ≡ ready t m.cmd_sn = λ i. record { session = record t.session { phase = a.target_phase i; session_type = a.session i; exp_cmd_sn = a.cmd_sn i }; write = a.none_written i } in
+    let is_t : t ≡ ready t m.cmd_sn = λ i. record { session = record t.session { phase = a.target_phase i; session_type = a.session i; exp_cmd_sn = a.cmd_sn i }; tasks = a.no_task i } in
     let is_m : (accepted m request).machine ≡ pinging begun_ m.window = λ i. record begun_ { phase = a.initiator_phase i; open_request = Some opens.Ping } in
     let answer : Message = target_session.message (nop_in_head t'.session 0 (ping m)) given in
-    let executed : target.Stepped = accepting (ping_message m bytes) (on disk None (say t'.session (nop_in_head t'.session 0 (ping m)) given)) in
+    let executed : target.Stepped = having_accepted (ping_message m bytes ∷ []) (on disk [] (say t'.session (nop_in_head t'.session 0 (ping m)) given)) in
     let r : answers t disk (submitted m request).output ≡ executed =
     ap (λ (s : Submitted). answers t disk s.output) sent
     ∙ then_nothing (step_on reliable t disk (ping_message m bytes))
     ∙ ap (λ (x : target.Machine). step_on reliable x disk (ping_message m bytes)) is_t
     ∙ ping_taken m t disk bytes a.cmd_sn_fits a.tag_fits (subst (λ (h : Held). length bytes ≤ h.target_max_recv) (sym a.held) short) (subst (λ (h : Held). h.target_max_recv ≤ target_session.limit t.session.settings) (sym a.held) a.segment)
-    ∙ ap (λ (h : Held). accepting (ping_message m bytes) (on disk None (say t'.session (nop_in_head t'.session 0 (ping m)) (take h.initiator_max_recv bytes)))) a.held in
+    ∙ ap (λ (h : Held). having_accepted (ping_message m bytes ∷ []) (on disk [] (say t'.session (nop_in_head t'.session 0 (ping m)) (take h.initiator_max_recv bytes)))) a.held in
     let one : step (pinging begun_ m.window) answer ≡ quiet (pinged begun_ t' m.window given) = pong_heard begun_ m t' m.window given a.stat_sn refl tag few in
-    let told_ : told_window m.window t' ≡ window_of_one n = tells_one n m.window fits (near_one n m.cmd_sn m.window a.cmd_sn_fits refl a.window) in
+    let told_ : told_window m.window t' ≡ window_of_eight n = tells_eight n m.window fits (near_next n m.cmd_sn m.window a.cmd_sn_fits refl a.window) in
     let last : Stand = record { initiator = pinged begun_ t' m.window given; target = counted_on t'; disk = disk; answers = [] } in
     let ends_ : Ends m.held (pinging begun_ m.window) executed (done.Ping given) disk = record {
       last = last;
@@ -143,10 +151,16 @@ abbrev logout_message : initiator.Machine → Message
 logout_message m = record { head = heads.LogoutRequest (logout_request m); segment = Bytes [] }
 
 logout_taken : (m : initiator.Machine) (t : target.Machine) (disk : Disk) → m.cmd_sn < 2 ^ 32
-    → step_on reliable (ready t m.cmd_sn) disk (logout_message m) ≡ accepting (logout_message m) (on disk None (logged_out (ready t (next_sn m.cmd_sn)).session 0 (logout_request m)))
+    → step_on reliable (ready t m.cmd_sn) disk (logout_message m) ≡ having_accepted (logout_message m ∷ []) (on disk [] (logged_out (ready t (next_sn m.cmd_sn)).session 0 (logout_request m)))
 unfolding segment_bytes
 logout_taken m t disk lt =
-    rw (le-ltb (target_session.limit t.session.settings) 0 (omega arith), le-ltb t.session.held.target_max_recv 0 (omega arith), window_now m.cmd_sn lt) refl
+    request_alone reliable (ready t m.cmd_sn).session disk (logout_message m)
+    (record {
+      phase = refl;
+      within = le-ltb (target_session.limit t.session.settings) 0 (omega arith);
+      kind = refl;
+      short = le-ltb t.session.held.target_max_recv 0 (omega arith);
+    }) refl (window_now m.cmd_sn lt) refl
 
 abbrev leaving : initiator.Machine → Window → initiator.Machine
 leaving m window = record m { phase = phases.Full; open_request = Some opens.Logout; window = window }
@@ -161,7 +175,7 @@ left m t window = record m {
 }
 
 logout_heard : (m before : initiator.Machine) (t : target.Machine) (window : Window) → m.exp_stat_sn ≡ Some t.session.stat_sn → m.initiator_task_tag ≡ next_tag before.initiator_task_tag
-    → step (leaving m window) (target_session.message (logout_head t.session (target.waiting t.write) (logout_request before)) []) ≡ quiet (left m t window)
+    → step (leaving m window) (target_session.message (logout_head t.session (target.waiting t.tasks) (logout_request before)) []) ≡ quiet (left m t window)
 unfolding step segment_bytes
 logout_heard m before t window e same =
     rw (sym same, eq-eqb m.initiator_task_tag m.initiator_task_tag refl, le-ltb m.held.initiator_max_recv 0 (omega arith), e, eq-eqb t.session.stat_sn t.session.stat_sn refl) refl
@@ -176,10 +190,10 @@ local_logout m t disk a e =
     let begun_ : initiator.Machine = record m { initiator_task_tag = next_tag m.initiator_task_tag; cmd_sn = next_sn m.cmd_sn } in
     let t' : target.Machine = ready t n in
     let tag : next_tag m.initiator_task_tag ≤ 0xffff_fffe = tag_after m.initiator_task_tag a.tag_fits in
-    let is_t : t ≡ ready t m.cmd_sn = λ i. record { session = record t.session { phase = a.target_phase i; session_type = a.session i; exp_cmd_sn = a.cmd_sn i }; write = a.none_written i } in
+    let is_t : t ≡ ready t m.cmd_sn = λ i. record { session = record t.session { phase = a.target_phase i; session_type = a.session i; exp_cmd_sn = a.cmd_sn i }; tasks = a.no_task i } in
     let is_m : (accepted m request).machine ≡ leaving begun_ m.window = λ i. record begun_ { phase = a.initiator_phase i; open_request = Some opens.Logout } in
     let answer : Message = target_session.message (logout_head t'.session 0 (logout_request m)) [] in
-    let executed : target.Stepped = accepting (logout_message m) (on disk None (logged_out t'.session 0 (logout_request m))) in
+    let executed : target.Stepped = having_accepted (logout_message m ∷ []) (on disk [] (logged_out t'.session 0 (logout_request m))) in
     let r : answers t disk (submitted m request).output ≡ executed =
     ap (λ (s : Submitted). answers t disk s.output) sent
     ∙ then_nothing (step_on reliable t disk (logout_message m))

@@ -1,7 +1,7 @@
 -- A read between two ends that are in step: its outcome is that of the disk.
 use Rattle.std.specs.Prelude.{unwrap_or, ◌-◌, ◌*◌, min, nat_lt, ◌==◌, ◌&&◌, ◌||◌, not, if◌then◌else◌, is_some}
 use Rattle.std.specs.List.{flat_map, AllByRecursion}
-use Rattle.std.proofs.Common.{◌≡◌, inl, inr, ◌<◌, ◌≤◌, ℕ, zero, suc, ◌+◌, ◌^◌, ◌%◌, Bool, true, false, List, [], ◌∷◌, ◌++◌, length, drop, Option, Some, None, refl, sym, ap, ◌∙◌, subst, arith, append_assoc}
+use Rattle.std.proofs.Common.{◌≡◌, inl, ◌<◌, ◌≤◌, ℕ, zero, suc, ◌+◌, ◌^◌, ◌%◌, Bool, true, false, List, [], ◌∷◌, ◌++◌, length, drop, Option, Some, None, refl, sym, ap, ◌∙◌, subst, arith, append_assoc}
 use Rattle.std.proofs.Math.Nat.{mod-eq_of_lt, mod-lt}
 use Rattle.std.proofs.lemmas.Bool.{eq-eqb, le-leb, le-ltb, ltb-false}
 use Rattle.std.proofs.lemmas.List.{append-nil, length-append, length-take, length-drop}
@@ -33,10 +33,11 @@ use Rattle.iscsi_target.specs.State as target
 use Rattle.iscsi_target.specs.State.{max_cmd_sn}
 use Rattle.iscsi_target.specs.Session.{message}
 use Rattle.iscsi_target.specs.Command.{order_of, planned}
-use Rattle.iscsi_target.specs.Machine.{accepting, answers, step_on}
+use Rattle.iscsi_target.specs.Machine.{answers, having_accepted, step_on}
 use Rattle.iscsi_target.specs.Execution.{command_answers, execute, data_ins, data_in_head, marked, parts_given, response_head, run_given, sense_segment, reliable}
 use Rattle.iscsi_stream.specs.Pieces.{chunks_within, chunks}
-use Rattle.iscsi_target.proofs.Reached.{can_give}
+use Rattle.iscsi_target.proofs.Telling.{can_give}
+use Rattle.iscsi_target.proofs.Alone.{request_alone}
 use Rattle.iscsi_target.proofs.Continuing.{then_nothing}
 use Rattle.iscsi_target.proofs.DataIns.{Parts, all_given, bytes_of}
 use Rattle.iscsi_stream.proofs.Chunks.{joined, joined_chunks}
@@ -45,7 +46,7 @@ use Rattle.iscsi_initiator.specs.declared.open.Open.{Open}
 use Rattle.iscsi_initiator.specs.declared.open.Open.TheVariants as opens
 use Rattle.iscsi_initiator.specs.Full.{Response, due_to}
 use Rattle.iscsi_initiator.specs.State as initiator
-use Rattle.iscsi_initiator.specs.State.{is_closed, next_tag, sent_exp_stat_sn, serial}
+use Rattle.iscsi_initiator.specs.State.{next_tag, sent_exp_stat_sn, serial}
 use Rattle.iscsi_initiator.specs.declared.request.Request.{Request}
 use Rattle.iscsi_initiator.specs.declared.request.Request.TheVariants as requests
 use Rattle.iscsi_initiator.specs.declared.request.SubmitFault.{SubmitFault}
@@ -54,8 +55,8 @@ use Rattle.iscsi_initiator.specs.Submitted.{Submitted, accepted, command, or_acc
 use Rattle.iscsi_initiator.specs.Progress.{Reading}
 use Rattle.iscsi_initiator.specs.Steps.{quiet}
 use Rattle.iscsi_initiator.specs.Machine.{step}
-use Rattle.iscsi_pair.specs.LocalDisk.{AreInStep, Stand, reading_order, told, told_sense, window_of_one}
-use Rattle.iscsi_pair.proofs.Windows.{IsNear, near_one, tag_after, tells_one}
+use Rattle.iscsi_pair.specs.LocalDisk.{AreInStep, Stand, reading_order, told, told_sense, window_of_eight}
+use Rattle.iscsi_pair.proofs.Windows.{IsNear, near_next, near_now, tag_after, tells_eight}
 use Rattle.iscsi_pair.proofs.Written.{command_readable, data_in_readable, outcome_readable}
 use Rattle.iscsi_pair.proofs.Outcomes.{HasRoom, outcome_fits}
 use Rattle.iscsi_pair.proofs.Courses.{ArePlain, Begins, Ends, LeadsTo, heard_by, hears_quiet, plain_more, plain_one, short_message}
@@ -73,7 +74,7 @@ told_window window t = moved window (serial t.session.exp_cmd_sn) (serial (max_c
 -- one part that is due
 part_heard : (m : initiator.Machine) (t : target.Machine) (r : Reading) (window : Window) (part : List ℕ × Bool)
     → length part.0 ≤ m.held.initiator_max_recv → length r.received + length part.0 ≤ r.expected
-    → step (reading m r window) (message (data_in_head t m.initiator_task_tag r.next_data_sn (length r.received) part.1) part.0)
+    → step (reading m r window) (message (data_in_head t.session (target.waiting t.tasks) m.initiator_task_tag r.next_data_sn (length r.received) part.1) part.0)
     ≡ quiet (reading m (record r { received = r.received ++ part.0; next_data_sn = next_sn r.next_data_sn }) (told_window window t))
 unfolding step segment_bytes
 part_heard m t r window part short room =
@@ -95,7 +96,7 @@ record PartsHeard (m : initiator.Machine) (t : target.Machine) (r : Reading) (wi
   -- what each told window keeps is kept
   kept : (n : ℕ) → ((w : Window) → IsNear n w → IsNear n (told_window w t)) → IsNear n window → IsNear n told
   leads : (held : Held) (s : target.Machine) (disk : Disk) (x : Stand) → LeadsTo held (reading m (record r { received = r.received ++ bytes_of given; next_data_sn = r.next_data_sn + length given }) told) s disk more x
-      → LeadsTo held (reading m r window) s disk (data_ins t m.initiator_task_tag r.next_data_sn (length r.received) given ++ more) x
+      → LeadsTo held (reading m r window) s disk (data_ins t.session (target.waiting t.tasks) m.initiator_task_tag r.next_data_sn (length r.received) given ++ more) x
 
 -- each part is one that the initiator takes
 abbrev AreShort : ℕ → Parts → Type 0
@@ -118,7 +119,7 @@ parts_heard m t r window (part ∷ given) more none short room few =
     let sn : next_sn r.next_data_sn ≡ r.next_data_sn + 1 = next_small r.next_data_sn (omega (arith, few)) in
     let h : PartsHeard m t r' (told_window window t) given more =
     parts_heard m t r' (told_window window t) given more none short.1 (omega (arith, room, length-append part.0 (bytes_of given), length-append r.received part.0)) (omega (arith, few)) in
-    let one : step (reading m r window) (message (data_in_head t m.initiator_task_tag r.next_data_sn (length r.received) part.1) part.0) ≡ quiet (reading m r' (told_window window t)) =
+    let one : step (reading m r window) (message (data_in_head t.session (target.waiting t.tasks) m.initiator_task_tag r.next_data_sn (length r.received) part.1) part.0) ≡ quiet (reading m r' (told_window window t)) =
     part_heard m t r window part short.0 room'
     ∙ ap (λ (n : ℕ). quiet (reading m (record r { received = r.received ++ part.0; next_data_sn = n }) (told_window window t))) sn in
     let same : record r' { received = r'.received ++ bytes_of given; next_data_sn = r'.next_data_sn + length given } ≡ record r { received = r.received ++ bytes_of (part ∷ given); next_data_sn = r.next_data_sn + length (part ∷ given) } =
@@ -130,9 +131,9 @@ parts_heard m t r window (part ∷ given) more none short room few =
     record {
       told = h.told;
       kept = λ n keeps near. h.kept n keeps (keeps window near);
-      leads = λ held s disk x l. hears_quiet held (reading m r window) (reading m r' (told_window window t)) s disk (message (data_in_head t m.initiator_task_tag r.next_data_sn (length r.received) part.1) part.0)
-          (data_ins t m.initiator_task_tag (r.next_data_sn + 1) (length r.received + length part.0) given ++ more) x one refl refl none
-          (subst (λ (n : ℕ). LeadsTo held (reading m r' (told_window window t)) s disk (data_ins t m.initiator_task_tag (r.next_data_sn + 1) n given ++ more) x) (length-append r.received part.0)
+      leads = λ held s disk x l. hears_quiet held (reading m r window) (reading m r' (told_window window t)) s disk (message (data_in_head t.session (target.waiting t.tasks) m.initiator_task_tag r.next_data_sn (length r.received) part.1) part.0)
+          (data_ins t.session (target.waiting t.tasks) m.initiator_task_tag (r.next_data_sn + 1) (length r.received + length part.0) given ++ more) x one refl refl none
+          (subst (λ (n : ℕ). LeadsTo held (reading m r' (told_window window t)) s disk (data_ins t.session (target.waiting t.tasks) m.initiator_task_tag (r.next_data_sn + 1) n given ++ more) x) (length-append r.received part.0)
           (h.leads held s disk x (subst (λ (y : Reading). LeadsTo held (reading m y h.told) s disk more x) (sym same) l)));
     }
 
@@ -208,7 +209,7 @@ Awaits open_ received = (h : ScsiResponse) → due_to (Some open_) (heads.ScsiRe
 pub outcome_heard : (m : initiator.Machine) (t : target.Machine) (open_ : Open) (received : List ℕ) (window : Window) (status : ℕ) (sense : Option Sense) (bytes : List ℕ) (residual : Residual) (count : ℕ)
     → Awaits open_ received → m.exp_stat_sn ≡ Some t.session.stat_sn → 20 ≤ m.held.initiator_max_recv
     → (let outcome : Outcome = record { status = status; sense = sense; bytes = bytes; residual = residual } in
-    step (waiting m open_ window) (message (response_head t m.initiator_task_tag outcome count) (sense_segment sense)) ≡ quiet (finished m t window outcome received))
+    step (waiting m open_ window) (message (response_head t.session (target.waiting t.tasks) m.initiator_task_tag outcome count) (sense_segment sense)) ≡ quiet (finished m t window outcome received))
 unfolding step segment_bytes
 outcome_heard m t open_ received window status None bytes Exact count d e le =
     rw (eq-eqb m.initiator_task_tag m.initiator_task_tag refl, d _, le-ltb m.held.initiator_max_recv 0 (omega arith), e, eq-eqb t.session.stat_sn t.session.stat_sn refl) refl
@@ -228,7 +229,7 @@ record ReadHeard (m : initiator.Machine) (t : target.Machine) (r : Reading) (win
   told : Window
   kept : (n : ℕ) → ((w : Window) → IsNear n w → IsNear n (told_window w t)) → IsNear n window → IsNear n told
   leads : (held : Held) (s : target.Machine) (disk : Disk) (x : Stand) → LeadsTo held (finished m t told outcome outcome.bytes) s disk [] x
-      → LeadsTo held (reading m r window) s disk (command_answers t m.initiator_task_tag outcome (parts_given t.session.held outcome.bytes)) x
+      → LeadsTo held (reading m r window) s disk (command_answers t.session (target.waiting t.tasks) m.initiator_task_tag outcome (parts_given t.session.held outcome.bytes)) x
 
 -- the parts of what is given
 record AreGiven (held : Held) (bytes : List ℕ) : Type 0 where
@@ -251,7 +252,7 @@ read_heard m t window outcome expected held is_held stat_sn none room small =
     let r : Reading = record { expected = expected; received = []; next_data_sn = 0 } in
     let g : AreGiven t.session.held outcome.bytes = are_given t.session.held outcome.bytes (subst IsHeld (sym held) is_held) in
     let given : Parts = parts_given t.session.held outcome.bytes in
-    let last : Message = message (response_head t m.initiator_task_tag outcome (length given)) (sense_segment outcome.sense) in
+    let last : Message = message (response_head t.session (target.waiting t.tasks) m.initiator_task_tag outcome (length given)) (sense_segment outcome.sense) in
     let h : PartsHeard m t r window given (last ∷ []) =
     parts_heard m t r window given (last ∷ []) none (subst (λ (k : Held). AreShort k.initiator_max_recv given) held g.short)
     (omega (arith, room, ap (λ (x : List ℕ). length x) g.all)) (omega (arith, g.few, room, small)) in
@@ -268,13 +269,13 @@ read_heard m t window outcome expected held is_held stat_sn none room small =
 -- ---- what the target answers is read as it was written
 
 data_ins_written : (most : ℕ) (t : target.Machine) (tag data_sn offset : ℕ) (given : Parts) (more : List Message) → tag < 2 ^ 32 → t.session.exp_cmd_sn < 2 ^ 32 → most < 2 ^ 24 → AreShort most given
-    → data_sn + length given < 2 ^ 32 → offset + length (bytes_of given) < 2 ^ 32 → ArePlain most more → ArePlain most (data_ins t tag data_sn offset given ++ more)
+    → data_sn + length given < 2 ^ 32 → offset + length (bytes_of given) < 2 ^ 32 → ArePlain most more → ArePlain most (data_ins t.session (target.waiting t.tasks) tag data_sn offset given ++ more)
 data_ins_written most t tag data_sn offset [] more tag_fits cmd_sn size short few room plain = plain
 data_ins_written most t tag data_sn offset (part ∷ given) more tag_fits cmd_sn size short few room plain =
     let len = length-append part.0 (bytes_of given) in
-    plain_more most (message (data_in_head t tag data_sn offset part.1) part.0) (data_ins t tag (data_sn + 1) (offset + length part.0) given ++ more)
+    plain_more most (message (data_in_head t.session (target.waiting t.tasks) tag data_sn offset part.1) part.0) (data_ins t.session (target.waiting t.tasks) tag (data_sn + 1) (offset + length part.0) given ++ more)
     (λ logins. data_in_readable logins t tag data_sn offset part.1 part.0 tag_fits (omega (arith, few)) (omega (arith, room)) cmd_sn (omega (arith, short.0, size)))
-    (short_message (data_in_head t tag data_sn offset part.1) part.0 most short.0)
+    (short_message (data_in_head t.session (target.waiting t.tasks) tag data_sn offset part.1) part.0 most short.0)
     (data_ins_written most t tag (data_sn + 1) (offset + length part.0) given more tag_fits cmd_sn size short.1 (omega (arith, few)) (omega (arith, room, len)) plain)
 
 sense_most : (sense : Option Sense) → length (sense_segment sense) ≤ 20
@@ -282,18 +283,18 @@ sense_most None = omega arith
 sense_most (Some sense) = omega arith
 
 pub command_written : (t : target.Machine) (tag : ℕ) (outcome : Outcome) → IsHeld t.session.held → tag < 2 ^ 32 → t.session.exp_cmd_sn < 2 ^ 32 → t.session.stat_sn < 2 ^ 32 → length outcome.bytes ≤ 4194304 → HasRoom outcome
-    → ArePlain t.session.held.initiator_max_recv (command_answers t tag outcome (parts_given t.session.held outcome.bytes))
+    → ArePlain t.session.held.initiator_max_recv (command_answers t.session (target.waiting t.tasks) tag outcome (parts_given t.session.held outcome.bytes))
 command_written t tag outcome is tag_fits cmd_sn stat_sn room fits =
     let most : ℕ = t.session.held.initiator_max_recv in
     let g : AreGiven t.session.held outcome.bytes = are_given t.session.held outcome.bytes is in
     let given : Parts = parts_given t.session.held outcome.bytes in
     let size : most < 2 ^ 24 = omega (arith, is.initiator_max_recv.1) in
     let count : length given < 2 ^ 32 = omega (arith, g.few, room) in
-    data_ins_written most t tag 0 0 given (message (response_head t tag outcome (length given)) (sense_segment outcome.sense) ∷ []) tag_fits cmd_sn size g.short (omega (arith, count))
+    data_ins_written most t tag 0 0 given (message (response_head t.session (target.waiting t.tasks) tag outcome (length given)) (sense_segment outcome.sense) ∷ []) tag_fits cmd_sn size g.short (omega (arith, count))
     (omega (arith, ap (λ (x : List ℕ). length x) g.all, room))
-    (plain_one most (message (response_head t tag outcome (length given)) (sense_segment outcome.sense))
+    (plain_one most (message (response_head t.session (target.waiting t.tasks) tag outcome (length given)) (sense_segment outcome.sense))
     (λ logins. outcome_readable logins t tag outcome (length given) fits.status fits.residual tag_fits count stat_sn cmd_sn)
-    (short_message (response_head t tag outcome (length given)) (sense_segment outcome.sense) most (omega (arith, sense_most outcome.sense, is.initiator_max_recv.0))))
+    (short_message (response_head t.session (target.waiting t.tasks) tag outcome (length given)) (sense_segment outcome.sense) most (omega (arith, sense_most outcome.sense, is.initiator_max_recv.0))))
 
 -- ---- the target answers the command
 
@@ -301,7 +302,7 @@ command_written t tag outcome is tag_fits cmd_sn stat_sn room fits =
 abbrev pub ready : target.Machine → ℕ → target.Machine
 ready t cmd_sn = record {
   session = record t.session { phase = phases.Full; session_type = sessions.Normal; exp_cmd_sn = cmd_sn };
-  write = None;
+  tasks = [];
 }
 
 -- the target once an answer went out that carries StatSN
@@ -316,11 +317,11 @@ read_command m lun cdb expected = record {
 }
 
 -- the CmdSN that is due is in the window
-pub window_now : (n : ℕ) → n < 2 ^ 32 → is_within n n ((n + (2 ^ 32 - 0)) % 2 ^ 32) ≡ true
+pub window_now : (n : ℕ) → n < 2 ^ 32 → is_within n n ((n + (2 ^ 32 + 7 - 0)) % 2 ^ 32) ≡ true
 window_now n lt =
-    let e : (n + (2 ^ 32 - 0)) % 2 ^ 32 ≡ n = omega (arith, lt) in
-    let d : (n + (2 ^ 32 - n)) % 2 ^ 32 ≡ 0 = omega (arith, lt) in
-    rw e (rw d refl)
+    let high : ((n + (2 ^ 32 + 7 - 0)) % 2 ^ 32 + (2 ^ 32 - n)) % 2 ^ 32 ≡ 7 = omega (arith, lt) in
+    let low : (n + (2 ^ 32 - n)) % 2 ^ 32 ≡ 0 = omega (arith, lt) in
+    rw (high, low) refl
 
 -- a command that takes no data waits for none
 planned_now : (p : Plan) (t : target.Machine) (cmd_sn : ℕ) (disk : Disk) (h : ScsiCommand) → ((total : ℕ) → p ≡ Take total → total ≡ 0)
@@ -367,14 +368,20 @@ outcome_few (Give n) disk order most few = omega (arith, few n refl, length-take
 -- the command is executed
 read_taken : (m : initiator.Machine) (t : target.Machine) (disk : Disk) (lun : ℕ) (cdb : List ℕ) (expected : ℕ) → m.cmd_sn < 2 ^ 32
     → step_on reliable (ready t m.cmd_sn) disk (read_command m lun cdb expected)
-    ≡ accepting (read_command m lun cdb expected) (execute reliable (ready t (next_sn m.cmd_sn)) disk (next_tag m.initiator_task_tag) (reading_order lun cdb expected) [])
+    ≡ having_accepted (read_command m lun cdb expected ∷ []) (execute reliable (ready t (next_sn m.cmd_sn)) disk (next_tag m.initiator_task_tag) (reading_order lun cdb expected) [])
 unfolding segment_bytes
 read_taken m t disk lun cdb expected lt =
     let order : Order = reading_order lun cdb expected in
     let h : ScsiCommand = command m true lun cdb (record { read = not (expected == 0); write = false; expected = expected }) in
-    rw (le-ltb (target_session.limit t.session.settings) 0 (omega arith), le-ltb t.session.held.target_max_recv 0 (omega arith), window_now m.cmd_sn lt)
-    (ap (accepting (read_command m lun cdb expected))
-    (planned_now (plan_of order disk.count) t (next_sn m.cmd_sn) disk h (λ total. takes_none (first_refusal order disk.count) lun cdb expected disk.count total refl)))
+    request_alone reliable (ready t m.cmd_sn).session disk (read_command m lun cdb expected)
+    (record {
+      phase = refl;
+      within = le-ltb (target_session.limit t.session.settings) 0 (omega arith);
+      kind = refl;
+      short = le-ltb t.session.held.target_max_recv 0 (omega arith);
+    }) refl (window_now m.cmd_sn lt) refl
+    ∙ ap (having_accepted (read_command m lun cdb expected ∷ []))
+    (planned_now (plan_of order disk.count) t (next_sn m.cmd_sn) disk h (λ total. takes_none (first_refusal order disk.count) lun cdb expected disk.count total refl))
 
 -- ---- the whole of a read
 
@@ -407,7 +414,7 @@ few_expected m lun cdb expected full e =
 
 -- A command or a ping was answered: both ends are in step again.
 pub in_step_again : (m : initiator.Machine) (t : target.Machine) (window : Window) → t.session.held ≡ m.held → IsHeld m.held → m.held.target_max_recv ≤ target_session.limit t.session.settings → m.initiator_task_tag ≤ 0xffff_fffe → m.cmd_sn < 2 ^ 32
-    → told_window window (ready t m.cmd_sn) ≡ window_of_one m.cmd_sn
+    → told_window window (ready t m.cmd_sn) ≡ window_of_eight m.cmd_sn
     → AreInStep (record m { phase = phases.Full; exp_stat_sn = Some (next_sn t.session.stat_sn); window = told_window window (ready t m.cmd_sn); open_request = None; done = None }) (counted_on (ready t m.cmd_sn))
 in_step_again m t window held is_held segment tag cmd_sn told_ = record {
   initiator_phase = refl;
@@ -415,7 +422,7 @@ in_step_again m t window held is_held segment tag cmd_sn told_ = record {
   session = refl;
   none_open = refl;
   none_done = refl;
-  none_written = refl;
+  no_task = refl;
   held = held;
   is_held = is_held;
   segment = segment;
@@ -445,9 +452,9 @@ local_read m t disk lun cdb expected on_ size are a e =
     let begun_ : initiator.Machine = record m { initiator_task_tag = next_tag m.initiator_task_tag; cmd_sn = next_sn m.cmd_sn } in
     let t' : target.Machine = ready t n in
     let r0 : Reading = record { expected = expected; received = []; next_data_sn = 0 } in
-    let is_t : t ≡ ready t m.cmd_sn = λ i. record { session = record t.session { phase = a.target_phase i; session_type = a.session i; exp_cmd_sn = a.cmd_sn i }; write = a.none_written i } in
+    let is_t : t ≡ ready t m.cmd_sn = λ i. record { session = record t.session { phase = a.target_phase i; session_type = a.session i; exp_cmd_sn = a.cmd_sn i }; tasks = a.no_task i } in
     let is_m : (accepted m request).machine ≡ reading begun_ r0 m.window = λ i. record begun_ { phase = a.initiator_phase i; open_request = Some (opens.In r0) } in
-    let executed : target.Stepped = accepting (read_command m lun cdb expected) (execute reliable t' disk (next_tag m.initiator_task_tag) order []) in
+    let executed : target.Stepped = having_accepted (read_command m lun cdb expected ∷ []) (execute reliable t' disk (next_tag m.initiator_task_tag) order []) in
     let r : answers t disk (submitted m request).output ≡ executed =
     ap (λ (s : Submitted). answers t disk s.output) sent
     ∙ then_nothing (step_on reliable t disk (read_command m lun cdb expected))
@@ -457,8 +464,8 @@ local_read m t disk lun cdb expected on_ size are a e =
     let room : length after.outcome.bytes ≤ expected = outcome_few (plan_of order disk.count) disk order expected (λ n. gives_few (first_refusal order disk.count) order disk.count n) in
     let h : ReadHeard begun_ t' r0 m.window after.outcome = read_heard begun_ t' m.window after.outcome expected a.held a.is_held a.stat_sn a.none_done room (omega (arith, few)) in
     let last : Stand = record { initiator = finished begun_ t' h.told after.outcome after.outcome.bytes; target = counted_on t'; disk = after.disk; answers = [] } in
-    let told_ : told_window h.told t' ≡ window_of_one n =
-    tells_one n h.told fits (h.kept n (λ w near. subst (IsNear n) (sym (tells_one n w fits near)) (record { exp = inr refl; max = inr refl })) (near_one n m.cmd_sn m.window a.cmd_sn_fits refl a.window)) in
+    let told_ : told_window h.told t' ≡ window_of_eight n =
+    tells_eight n h.told fits (h.kept n (λ w near. near_now n (told_window w t') fits (tells_eight n w fits near)) (near_next n m.cmd_sn m.window a.cmd_sn_fits refl a.window)) in
     let ends_ : Ends m.held (reading begun_ r0 m.window) executed (told after.outcome) after.disk = record {
       last = last;
       leads = h.leads m.held (counted_on t') after.disk last (0, refl);

@@ -34,20 +34,23 @@ use Rattle.iscsi_target.specs.declared.due.Due.TheVariants.{Nothing, Unsolicited
 use Rattle.iscsi_target.specs.Session as target_session
 use Rattle.iscsi_target.specs.State as target
 use Rattle.iscsi_target.specs.Session.{message}
-use Rattle.iscsi_target.specs.State.{Stepped, Write, unchanged}
+use Rattle.iscsi_target.specs.Write.{Write}
+use Rattle.iscsi_target.specs.declared.tasks.Task.TheVariants.{Data}
+use Rattle.iscsi_target.specs.State.{Stepped, unchanged}
 use Rattle.iscsi_stream.specs.Pieces.{Pieces, data_of, chunks_within, chunks}
-use Rattle.iscsi_pdu.specs.Serial.{next_sn, is_within}
+use Rattle.iscsi_pdu.specs.Serial.{moved, next_sn, is_within}
 use Rattle.iscsi_target.specs.Transfer.{asking, continued, desired, is_idle, is_in_sequence, is_whole, received, with_data, with_piece}
 use Rattle.iscsi_target.specs.Execution.{command_answers, execute, parts_given, response_head, sense_segment, reliable}
 use Rattle.iscsi_target.specs.Command.{ask, breaks_burst_rules, is_bad_announcement, is_bad_segment, opened, planned, proceed, r2t_head}
-use Rattle.iscsi_target.specs.Machine.{accepting, answers, is_closed, step_on, then_stepped}
+use Rattle.iscsi_target.specs.Machine.{answers, having_accepted, is_closed, step_on, then_stepped}
+use Rattle.iscsi_target.proofs.Alone.{data_alone, request_alone}
 use Rattle.iscsi_target.proofs.Continuing.{then_nothing}
-use Rattle.iscsi_target.proofs.Reached.{can_give}
+use Rattle.iscsi_target.proofs.Telling.{can_give}
 use Rattle.iscsi_initiator.specs.declared.open.Open.{Open}
 use Rattle.iscsi_initiator.specs.declared.open.Open.TheVariants as opens
 use Rattle.iscsi_initiator.specs.declared.request.Done.TheVariants as done
 use Rattle.iscsi_initiator.specs.State as initiator
-use Rattle.iscsi_initiator.specs.State.{next_tag, sent_exp_stat_sn}
+use Rattle.iscsi_initiator.specs.State.{next_tag, sent_exp_stat_sn, serial}
 use Rattle.iscsi_initiator.specs.Progress.{Writing}
 use Rattle.iscsi_initiator.specs.Steps.{quiet, sends}
 use Rattle.iscsi_initiator.specs.Full.{data_outs, is_last, sequence}
@@ -59,7 +62,7 @@ use Rattle.iscsi_initiator.specs.Machine.{step, taken}
 use Rattle.iscsi_stream.proofs.Chunks.{joined, joined_chunks}
 use Rattle.iscsi_target.proofs.OpenWrites.{data_of_one}
 use Rattle.iscsi_pair.specs.LocalDisk.{AreInStep, Stand, told, told_sense, writing_order}
-use Rattle.iscsi_pair.proofs.Windows.{IsNear, near_one, tells_none, tells_one, tag_after}
+use Rattle.iscsi_pair.proofs.Windows.{IsNear, last_with, near_next, tells_fewer, tells_eight, tag_after}
 use Rattle.iscsi_pair.proofs.Talk.{some_then}
 use Rattle.iscsi_pair.proofs.Written.{command_readable, data_out_readable, ready_readable}
 use Rattle.iscsi_pair.proofs.Outcomes.{outcome_fits}
@@ -69,11 +72,11 @@ use Rattle.std.proofs.Math.Bool.{and-false}
 
 -- ---- a Data-Out
 
--- a target in full feature phase with this write open
+-- a target in full feature phase whose one task is this write
 abbrev writer : target.Machine → ℕ → Write → target.Machine
 writer t cmd_sn w = record {
   session = record t.session { phase = phases.Full; session_type = sessions.Normal; exp_cmd_sn = cmd_sn };
-  write = Some w;
+  tasks = Data w ∷ [];
 }
 
 abbrev data_message : DataOut → List ℕ → Message
@@ -84,7 +87,13 @@ data_taken : (t : target.Machine) (cmd_sn : ℕ) (w : Write) (disk : Disk) (h : 
     → step_on reliable (writer t cmd_sn w) disk (data_message h piece) ≡ proceed reliable (ready t cmd_sn) disk (with_data w h piece)
 unfolding segment_bytes
 data_taken t cmd_sn w disk h piece short limit tag due =
-    rw (le-ltb (target_session.limit t.session.settings) (length piece) (omega (arith, short, limit)), le-ltb t.session.held.target_max_recv (length piece) short, eq-eqb h.initiator_task_tag w.initiator_task_tag tag, due) refl
+    data_alone reliable (writer t cmd_sn w).session disk w (data_message h piece) h
+    (record {
+      phase = refl;
+      within = le-ltb (target_session.limit t.session.settings) (length piece) (omega (arith, short, limit));
+      kind = refl;
+      short = le-ltb t.session.held.target_max_recv (length piece) short;
+    }) refl (eq-eqb w.initiator_task_tag h.initiator_task_tag (sym tag)) due
 
 -- ---- a sequence
 
@@ -287,7 +296,7 @@ asked_for m v w n = sequence m (then_some (is_tag w.asked) w.order.lun) w.asked 
 
 ready_heard : (m : initiator.Machine) (t : target.Machine) (v : Writing) (w : Write) (window : Window) → w.initiator_task_tag ≡ m.initiator_task_tag → w.asked ≡ v.next_r2t_sn → received w ≡ v.sent
     → 1 ≤ desired t.session.held w → desired t.session.held w ≤ max_burst m.held → v.sent + desired t.session.held w ≤ length v.bytes
-    → step (writing m v window) (message (r2t_head t w) [])
+    → step (writing m v window) (message (r2t_head t.session (target.waiting t.tasks) w) [])
     ≡ sends (writing m (record v { sent = v.sent + desired t.session.held w; next_r2t_sn = next_sn v.next_r2t_sn }) (told_window window t)) (asked_for m v w (desired t.session.held w))
 unfolding step segment_bytes
 ready_heard m t v w window tag asked at some most room =
@@ -323,6 +332,7 @@ record Throughout (m : initiator.Machine) (t : target.Machine) (cmd_sn : ℕ) (b
 -- both ends have the same of the data
 record InHand (m : initiator.Machine) (v : Writing) (w : Write) (order : Order) : Type 0 where
   tag : w.initiator_task_tag ≡ m.initiator_task_tag
+  waits : w.immediate ≡ false
   order_is : w.order ≡ order
   due : w.due ≡ Nothing
   total : w.total ≡ length v.bytes
@@ -330,6 +340,10 @@ record InHand (m : initiator.Machine) (v : Writing) (w : Write) (order : Order) 
   sent : v.sent ≤ length v.bytes
   asked : w.asked ≡ v.next_r2t_sn
   few : w.asked ≤ v.sent
+
+-- a write whose command wasn't immediate takes a place of the window
+one_waits : (w : Write) → w.immediate ≡ false → target.waiting (Data w ∷ []) ≡ 1
+one_waits w e = rw e refl
 
 received_is : (m : initiator.Machine) (v : Writing) (w : Write) (order : Order) → InHand m v w order → received w ≡ v.sent
 received_is m v w order i = omega (arith, ap (λ (x : List ℕ). length x) i.came, length-take v.sent v.bytes, i.sent)
@@ -358,19 +372,19 @@ response_ends : (m : initiator.Machine) (t : target.Machine) (cmd_sn : ℕ) (ope
 response_ends m t cmd_sn open_ window bytes order disk tag pieces_ a near d same data_ =
     let after : Effect = effect disk order bytes in
     let s : target.Machine = ready t cmd_sn in
-    let response : Message = message (response_head s m.initiator_task_tag after.outcome 0) (sense_segment after.outcome.sense) in
+    let response : Message = message (response_head s.session (target.waiting s.tasks) m.initiator_task_tag after.outcome 0) (sense_segment after.outcome.sense) in
     let ended_ : initiator.Machine = finished m s window after.outcome [] in
     let last : Stand = record { initiator = ended_; target = counted_on s; disk = after.disk; answers = [] } in
     let one : step (waiting m open_ window) response ≡ quiet ended_ =
     outcome_heard m s open_ [] window after.outcome.status after.outcome.sense after.outcome.bytes after.outcome.residual 0 d a.stat_sn (omega (arith, a.is_held.initiator_max_recv.0)) in
     let is : (execute reliable s disk tag order pieces_).answers ≡ response ∷ [] =
-    ap (λ (x : Effect). command_answers s tag x.outcome (parts_given s.session.held x.outcome.bytes)) data_
-    ∙ ap (λ (x : List ℕ). command_answers s tag after.outcome (parts_given s.session.held x)) a.none_given
-    ∙ ap (λ (x : ℕ). command_answers s x after.outcome []) same in
+    ap (λ (x : Effect). command_answers s.session (target.waiting s.tasks) tag x.outcome (parts_given s.session.held x.outcome.bytes)) data_
+    ∙ ap (λ (x : List ℕ). command_answers s.session (target.waiting s.tasks) tag after.outcome (parts_given s.session.held x)) a.none_given
+    ∙ ap (λ (x : ℕ). command_answers s.session (target.waiting s.tasks) x after.outcome []) same in
     let disk_is : (execute reliable s disk tag order pieces_).disk ≡ after.disk = ap (λ (x : Effect). x.disk) data_ in
     let again : AreInStep (taken (finished m (ready t m.cmd_sn) window after.outcome [])) (counted_on (ready t m.cmd_sn)) =
     in_step_again m t window a.held a.is_held (subst (λ (h : Held). h.target_max_recv ≤ target_session.limit t.session.settings) a.held a.segment) a.tag_fits a.cmd_sn_fits
-    (tells_one m.cmd_sn window a.cmd_sn_fits (subst (λ (x : ℕ). IsNear x window) a.cmd_sn_is near)) in
+    (tells_eight m.cmd_sn window a.cmd_sn_fits (subst (λ (x : ℕ). IsNear x window) a.cmd_sn_is near)) in
     record {
       last = last;
       leads = subst (λ (ms : List Message). LeadsTo m.held (waiting m open_ window) (counted_on s) (execute reliable s disk tag order pieces_).disk ms last) (sym is)
@@ -396,7 +410,7 @@ whole_is m t cmd_sn v w order disk i whole = rw whole (ap (λ (x : Order). execu
 
 -- else the target asks for more
 part_is : (m : initiator.Machine) (t : target.Machine) (cmd_sn : ℕ) (v : Writing) (w : Write) (order : Order) (disk : Disk) → InHand m v w order → is_whole w ≡ false
-    → proceed reliable (ready t cmd_sn) disk w ≡ ask (writer t cmd_sn w) disk w
+    → proceed reliable (ready t cmd_sn) disk w ≡ ask (ready t cmd_sn) disk w
 part_is m t cmd_sn v w order disk i part = rw (part, i.due) refl
 
 -- what the target answers then is read as it was written
@@ -412,10 +426,10 @@ proceed_written m t cmd_sn v w order disk a i false part =
     subst (IsAnswered m.held) (sym (part_is m t cmd_sn v w order disk i part)) (record {
       live = refl;
       rule = refl;
-      answered = plain_one most (message (r2t_head s w) [])
+      answered = plain_one most (message (r2t_head s.session (target.waiting s.tasks) w) [])
           (λ logins. ready_readable logins s w on_ (omega (arith, i.tag, a.tag_fits)) (omega (arith, i.few, i.sent, a.few)) (omega (arith, at, i.sent, a.few)) (omega (arith, i.total, a.few)) a.stat_sn_fits
           (omega (arith, a.cmd_sn_is, a.cmd_sn_fits)))
-          (short_message (r2t_head s w) [] most (omega arith));
+          (short_message (r2t_head s.session (target.waiting s.tasks) w) [] most (omega arith));
     })
 
 all_came : (m : initiator.Machine) (t : target.Machine) (cmd_sn : ℕ) (v : Writing) (w : Write) (window : Window) (order : Order) (disk : Disk) → Throughout m t cmd_sn v.bytes order disk → IsNear cmd_sn window → InHand m v w order
@@ -465,7 +479,7 @@ turn m t cmd_sn v w window order disk a i part =
     let batch : List ℕ = take n (drop v.sent v.bytes) in
     let size : length batch ≡ n = omega (arith, length-take n (drop v.sent v.bytes), length-drop v.sent v.bytes, room) in
     let out : List Message = asked_for m v w n in
-    let one : step (writing m v window) (message (r2t_head s w) []) ≡ sends (writing m (more_sent v n) (told_window window s)) out = ready_heard m s v w window i.tag i.asked at some most room in
+    let one : step (writing m v window) (message (r2t_head s.session (target.waiting s.tasks) w) []) ≡ sends (writing m (more_sent v n) (told_window window s)) out = ready_heard m s v w window i.tag i.asked at some most room in
     let h : DataOut = record {
       is_final = false;
       lun = then_some (is_tag w.asked) w.order.lun;
@@ -483,6 +497,7 @@ turn m t cmd_sn v w window order disk a i part =
     ap (λ (k : Held). answers (writer t cmd_sn (asking t.session.held w)) disk (data_outs h (chunks k.target_max_recv batch))) (sym a.held) ∙ r.is in
     let hand_ : InHand m (more_sent v n) (more_came t w r.came) order = record {
       tag = i.tag;
+      waits = i.waits;
       order_is = i.order_is;
       due = refl;
       total = i.total;
@@ -501,13 +516,14 @@ turn m t cmd_sn v w window order disk a i part =
     heard_by m.held (writer t cmd_sn (asking t.session.held w)) disk out now sent_ written then_.live then_.rule then_.answered in
     record {
       window_now = told_window window s;
-      near = tells_none cmd_sn window (subst (λ (x : ℕ). x < 2 ^ 32) (sym a.cmd_sn_is) a.cmd_sn_fits);
+      near = λ near. subst (λ (x : ℕ). IsNear cmd_sn (moved window (serial cmd_sn) (serial (last_with cmd_sn x)))) (sym (one_waits w i.waits))
+          (tells_fewer cmd_sn window (subst (λ (x : ℕ). x < 2 ^ 32) (sym a.cmd_sn_is) a.cmd_sn_fits) near);
       came = r.came;
       n = n;
       some = some;
       hand = hand_;
       leads = λ x l. subst (λ (y : Stepped). LeadsTo m.held (writing m v window) y.machine y.disk y.answers x) (sym (part_is m t cmd_sn v w order disk i part))
-          (hears_sends m.held (writing m v window) (writing m (more_sent v n) (told_window window s)) (writer t cmd_sn (asking t.session.held w)) disk (message (r2t_head s w) []) out now x one refl refl a.none_done heard sent_ l);
+          (hears_sends m.held (writing m v window) (writing m (more_sent v n) (told_window window s)) (writer t cmd_sn (asking t.session.held w)) disk (message (r2t_head s.session (target.waiting s.tasks) w) []) out now x one refl refl a.none_done heard sent_ l);
     }
 
 -- from turn to turn until all came
@@ -625,12 +641,19 @@ unasked_data m bytes = sequence (begun_write m) None reserved_tag (length (immed
 command_taken : (m : initiator.Machine) (t : target.Machine) (disk : Disk) (lun : ℕ) (cdb bytes : List ℕ) → m.cmd_sn < 2 ^ 32 → t.session.held ≡ m.held → t.session.held.target_max_recv ≤ target_session.limit t.session.settings
     → length (immediate m bytes) ≤ t.session.held.target_max_recv
     → step_on reliable (ready t m.cmd_sn) disk (write_message m lun cdb bytes)
-    ≡ accepting (write_message m lun cdb bytes) (planned reliable (ready t (next_sn m.cmd_sn)) disk (write_head m lun cdb bytes) (immediate m bytes) (plan_of (writing_order lun cdb bytes) disk.count))
+    ≡ having_accepted (write_message m lun cdb bytes ∷ []) (planned reliable (ready t (next_sn m.cmd_sn)) disk (write_head m lun cdb bytes) (immediate m bytes) (plan_of (writing_order lun cdb bytes) disk.count))
 unfolding segment_bytes
 command_taken m t disk lun cdb bytes lt held limit short =
     let kept : breaks_burst_rules t.session.held (write_head m lun cdb bytes) (length (immediate m bytes)) ≡ false =
     ap (λ (k : Held). breaks_burst_rules k (write_head m lun cdb bytes) (length (immediate m bytes))) held ∙ burst_kept m lun cdb bytes in
-    rw (le-ltb (target_session.limit t.session.settings) (length (immediate m bytes)) (omega (arith, short, limit)), le-ltb t.session.held.target_max_recv (length (immediate m bytes)) short, window_now m.cmd_sn lt, kept) refl
+    request_alone reliable (ready t m.cmd_sn).session disk (write_message m lun cdb bytes)
+    (record {
+      phase = refl;
+      within = le-ltb (target_session.limit t.session.settings) (length (immediate m bytes)) (omega (arith, short, limit));
+      kind = refl;
+      short = le-ltb t.session.held.target_max_recv (length (immediate m bytes)) short;
+    }) refl (window_now m.cmd_sn lt) kept
+    ∙ rw kept refl
 
 -- the answers to the command and the data behind it
 abbrev first_answers : initiator.Machine → target.Machine → Disk → ℕ → List ℕ → List ℕ → Plan → Stepped
@@ -706,6 +729,7 @@ none_unasked m t disk lun cdb bytes window total a near all none =
     let front : imm ≡ take (length imm) bytes = immediate_are (is_on m.held keys.ImmediateData) (min (unasked m.held (length bytes)) m.held.target_max_recv) bytes in
     let i : InHand (begun_write m) v w order = record {
       tag = refl;
+      waits = refl;
       order_is = refl;
       due = rw none refl;
       total = all;
@@ -764,6 +788,7 @@ some_unasked m t disk lun cdb bytes window total a near all more =
     ∙ take-append-drop (length imm) (take (unasked m.held (length bytes)) bytes) ∙ ap (λ (k : ℕ). take k bytes) (sym sent_) in
     let i : InHand (begun_write m) v w' order = record {
       tag = refl;
+      waits = refl;
       order_is = refl;
       due = refl;
       total = all;
@@ -827,7 +852,7 @@ local_write m t disk lun cdb bytes on_ size are a e =
     let few : length bytes ≤ 4194304 = few_bytes m lun cdb bytes a.initiator_phase e in
     let sent : submitted m request ≡ accepted m request = submitted_is m request e in
     let i : initiator.Machine = writing (begun_write m) (first_sent m bytes) m.window in
-    let is_t : t ≡ ready t m.cmd_sn = λ k. record { session = record t.session { phase = a.target_phase k; session_type = a.session k; exp_cmd_sn = a.cmd_sn k }; write = a.none_written k } in
+    let is_t : t ≡ ready t m.cmd_sn = λ k. record { session = record t.session { phase = a.target_phase k; session_type = a.session k; exp_cmd_sn = a.cmd_sn k }; tasks = a.no_task k } in
     let is_m : (accepted m request).machine ≡ i = λ k. record (begun_write m) { phase = a.initiator_phase k; open_request = Some (opens.Out (first_sent m bytes)) } in
     let limit : t.session.held.target_max_recv ≤ target_session.limit t.session.settings = subst (λ (h : Held). h.target_max_recv ≤ target_session.limit t.session.settings) (sym a.held) a.segment in
     let short : length (immediate m bytes) ≤ t.session.held.target_max_recv =
@@ -851,8 +876,8 @@ local_write m t disk lun cdb bytes on_ size are a e =
     } in
     let first : Stepped = planned reliable (ready t (next_sn m.cmd_sn)) disk (write_head m lun cdb bytes) (immediate m bytes) p in
     let x : Comes m i order bytes disk (first_answers m t disk lun cdb bytes p) =
-    by_plan p m t disk lun cdb bytes m.window refl all (near_one (next_sn m.cmd_sn) m.cmd_sn m.window a.cmd_sn_fits refl a.window) (has_more m bytes) refl in
-    let r : Stepped = then_stepped (accepting (write_message m lun cdb bytes) first) (answers first.machine first.disk (unasked_data m bytes)) in
+    by_plan p m t disk lun cdb bytes m.window refl all (near_next (next_sn m.cmd_sn) m.cmd_sn m.window a.cmd_sn_fits refl a.window) (has_more m bytes) refl in
+    let r : Stepped = then_stepped (having_accepted (write_message m lun cdb bytes ∷ []) first) (answers first.machine first.disk (unasked_data m bytes)) in
     let is : answers t disk (submitted m request).output ≡ r =
     ap (λ (s : Submitted). answers t disk s.output) sent
     ∙ ap (λ (y : target.Machine). answers y disk (accepted m request).output) is_t

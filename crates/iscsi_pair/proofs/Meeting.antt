@@ -1,5 +1,5 @@
 -- At the end of a login both ends are in step.
-use Rattle.std.proofs.Common.{◌≡◌, ◌<◌, ◌≤◌, ◌⊎◌, inl, inr, ℕ, ◌+◌, Bool, true, false, [], ◌∷◌, Option, Some, None, refl, sym, ap, ◌∙◌, subst, arith}
+use Rattle.std.proofs.Common.{◌≡◌, ◌<◌, ◌≤◌, ◌⊎◌, inl, inr, ℕ, ◌+◌, Bool, true, false, List, [], ◌∷◌, Option, Some, None, refl, sym, ap, ◌∙◌, subst, arith}
 use Rattle.std.specs.Prelude.{◌^◌, ◌%◌, ◌-◌, if◌then◌else◌, unwrap_or}
 use Rattle.std.proofs.Math.Nat.{mod-lt}
 use Rattle.std.proofs.lemmas.Bool.{cond_both, cond-true}
@@ -24,12 +24,12 @@ use Rattle.iscsi_login.specs.Offers.{Proposal, offers_at}
 use Rattle.iscsi_target.specs.Configured as target_settings
 use Rattle.iscsi_target.specs.Session as target_session
 use Rattle.iscsi_target.specs.State as target
-use Rattle.iscsi_target.specs.State.{Write}
+use Rattle.iscsi_target.specs.declared.tasks.Task.{Task}
 use Rattle.iscsi_login.specs.Stage.{is_closed_phase}
 use Rattle.iscsi_target.specs.LoginText.{answer_pairs, session_for, session_in}
 use Rattle.iscsi_target.specs.Login.{entered, numbered, gather, text_answered}
 use Rattle.iscsi_target.specs.Machine as target_machine
-use Rattle.iscsi_target.specs.Machine.{answers, is_over_limit}
+use Rattle.iscsi_target.specs.Machine.{answers}
 use Rattle.iscsi_target.proofs.Numbers.{IsFit, step_fit}
 use Rattle.iscsi_target.proofs.Reached.{reached_fit}
 use Rattle.iscsi_initiator.specs.Configured.{IsStart}
@@ -39,11 +39,11 @@ use Rattle.iscsi_initiator.specs.Steps.{Stepped, sends}
 use Rattle.iscsi_initiator.specs.Login.{asked, counted, enters, fits_segment, login_message, login_request, offered, sends_cut, sends_more, sends_text, start_step}
 use Rattle.iscsi_initiator.specs.Machine.{step}
 use Rattle.iscsi_pair.specs.World.{Opening, IsOpening, Suits}
-use Rattle.iscsi_pair.specs.LocalDisk.{AreInStep, window_of_one}
+use Rattle.iscsi_pair.specs.LocalDisk.{AreInStep, window_of_eight}
 use Rattle.iscsi_pair.proofs.InitiatorLogin.{with_answer}
 use Rattle.iscsi_pair.proofs.Talk.{Agreed, Asking, Asks_on, Round}
 use Rattle.iscsi_pair.proofs.Suiting.{says_security, says_single, session_is}
-use Rattle.iscsi_pair.proofs.Windows.{IsNear, tells_one}
+use Rattle.iscsi_pair.proofs.Windows.{IsNear, near_now, tells_eight}
 use Rattle.iscsi_pair.proofs.Going.{HasNone, HasFirst, Suited, SameState, TextKeeps, LastTurn, PartTurn, emptied, entered_same, part_head, text_head, text_keeps, turns}
 
 -- ---- what is counted
@@ -53,10 +53,10 @@ pub record Numbered (c : Opening) (i : initiator.Machine) (t : target.Machine) :
   pub tag : i.initiator_task_tag ≡ 0
   pub cmd_sn : i.cmd_sn ≡ c.initiator.first_cmd_sn
   pub none_open : i.open_request ≡ None
-  pub none_written : t.write ≡ None
+  pub no_task : t.tasks ≡ []
   -- the first request settled the number that is due
   pub due : t.session.begun ≡ true → t.session.exp_cmd_sn ≡ c.initiator.first_cmd_sn
-  -- before the first answer no command is let in, and then one
+  -- before the first answer no command is let in, and then eight
   pub window : IsNear c.initiator.first_cmd_sn i.window
   -- what the target holds may be held, and its framer takes what it declared
   pub fit : IsFit t
@@ -138,18 +138,18 @@ record Tells (c : Opening) (e u : target_session.Session) (g : LoginResponse) : 
   told_exp : g.exp_cmd_sn ≡ e.exp_cmd_sn
   told_max : g.max_cmd_sn ≡ target_session.max_cmd_sn_with e 0
 
--- the window that it tells lets in one command
+-- the window that it tells lets in eight commands
 tells_window : (w : Window) (e : target_session.Session) (n : ℕ) → n < 2 ^ 32 → IsNear n w → e.exp_cmd_sn ≡ n
-    → moved w (serial e.exp_cmd_sn) (serial (target_session.max_cmd_sn_with e 0)) ≡ window_of_one n
+    → moved w (serial e.exp_cmd_sn) (serial (target_session.max_cmd_sn_with e 0)) ≡ window_of_eight n
 tells_window w e n lt near exp =
-    ap (λ (x : ℕ). moved w (serial x) (serial ((x + (2 ^ 32 - 0)) % 2 ^ 32))) exp
-    ∙ tells_one n w lt near
+    ap (λ (x : ℕ). moved w (serial x) (serial ((x + (2 ^ 32 + 7 - 0)) % 2 ^ 32))) exp
+    ∙ tells_eight n w lt near
 
--- with a session that goes on or not no write is left where none was open
-none_left : (session : target_session.Session) (write : Option Write) → write ≡ None → target.left session write ≡ None
-none_left session write none = by (is_closed_phase session.phase)
+-- with a session that goes on or not no task is left where there was none
+none_left : (session : target_session.Session) (tasks : List Task) → tasks ≡ [] → target.left session tasks ≡ []
+none_left session tasks none = by (is_closed_phase session.phase)
   where
-    by : (b : Bool) → (if b then None else write) ≡ None
+    by : (b : Bool) → (if b then [] else tasks) ≡ []
     by true = refl
     by false = none
 
@@ -183,18 +183,18 @@ record Steady (c : Opening) (m : initiator.Machine) (t : target.Machine) : Type 
   none_done : m.done ≡ None
   most : m.held.initiator_max_recv ≡ c.initiator.proposal.prefs.max_recv
   cmd_sn : m.cmd_sn ≡ c.initiator.first_cmd_sn
-  window : m.window ≡ window_of_one c.initiator.first_cmd_sn
+  window : m.window ≡ window_of_eight c.initiator.first_cmd_sn
   stat_sn : m.exp_stat_sn ≡ Some t.session.stat_sn
   stat_sn_fits : t.session.stat_sn < 2 ^ 32
   target_settings : t.session.settings ≡ c.target
   exp_cmd_sn : t.session.exp_cmd_sn ≡ c.initiator.first_cmd_sn
-  none_written : t.write ≡ None
+  no_task : t.tasks ≡ []
   fit : IsFit t
   session : t.session.has_text ≡ true → t.session.session_type ≡ sessions.Normal
 
 -- the target counted what it told, and the initiator what it heard
 steady : (c : Opening) (i : initiator.Machine) (t : target.Machine) (e : target_session.Session) (u : target.Machine) (g : LoginResponse) (held : Held) (n : initiator.Machine) {logins : Logins} {r : Message} → IsOpening c → Asking c i t logins r → Numbered c i t
-    → Begun t.session e c.initiator.first_cmd_sn → Tells c e u.session g → u.write ≡ None → Kept (record (counted i g) { held = held }) n → held.initiator_max_recv ≡ i.held.initiator_max_recv
+    → Begun t.session e c.initiator.first_cmd_sn → Tells c e u.session g → u.tasks ≡ [] → Kept (record (counted i g) { held = held }) n → held.initiator_max_recv ≡ i.held.initiator_max_recv
     → IsFit u → (u.session.has_text ≡ true → u.session.session_type ≡ sessions.Normal) → Steady c n u
 steady c i t e u g held n o a b begun tells none k most fit session = record {
   settings = k.settings ∙ a.settings;
@@ -209,7 +209,7 @@ steady c i t e u g held n o a b begun tells none k most fit session = record {
   stat_sn_fits = subst (λ (x : ℕ). x < 2 ^ 32) (sym tells.stat_sn) (mod-lt (e.stat_sn + 1) (omega arith));
   target_settings = tells.settings;
   exp_cmd_sn = tells.exp_cmd_sn ∙ begun.cmd_sn;
-  none_written = none;
+  no_task = none;
   fit = fit;
   session = session;
 }
@@ -225,14 +225,14 @@ meets_by c i t s disk next o y full same = record {
       session = y.session (full agreed.stage).1;
       none_open = y.none_open;
       none_done = y.none_done;
-      none_written = y.none_written;
+      no_task = y.no_task;
       held = agreed.held;
       is_held = subst IsHeld agreed.held (y.fit.held (subst (λ (x : target_settings.Settings). IsInRange x.preferences) (sym y.target_settings) o.preferences));
       segment = subst (λ (x : Held). x.target_max_recv ≤ target_session.limit t.machine.session.settings) agreed.held y.fit.limit;
       tag_fits = (let z = y.tag in omega (arith, z));
       cmd_sn = y.exp_cmd_sn ∙ sym y.cmd_sn;
       cmd_sn_fits = subst (λ (x : ℕ). x < 2 ^ 32) (sym y.cmd_sn) o.cmd_sn;
-      window = y.window ∙ ap window_of_one (sym y.cmd_sn);
+      window = y.window ∙ ap window_of_eight (sym y.cmd_sn);
       stat_sn = y.stat_sn;
       stat_sn_fits = y.stat_sn_fits;
     };
@@ -244,9 +244,9 @@ meets_by c i t s disk next o y full same = record {
     tag = y.tag;
     cmd_sn = y.cmd_sn;
     none_open = y.none_open;
-    none_written = y.none_written;
+    no_task = y.no_task;
     due = λ begun. y.exp_cmd_sn;
-    window = record { exp = inr (ap (λ (x : Window). x.exp) y.window); max = inr (ap (λ (x : Window). x.max) y.window) };
+    window = near_now c.initiator.first_cmd_sn s.machine.window o.cmd_sn y.window;
     fit = y.fit;
     session = y.session;
   };
@@ -264,10 +264,10 @@ last_meets c i t logins next r disk o normal a s b turn q =
     let same : SameState t.session (entered t.session h) = entered_same t.session h in
     let k : Begun t.session (entered t.session h) c.initiator.first_cmd_sn = begins t.session h c.initiator.first_cmd_sn (ap (λ (x : initiator.Settings). x.first_cmd_sn) a.settings) b.due in
     let w : initiator.Machine = with_answer i g (answer_pairs e (offered i)) in
-    let u : target.Stepped = target.on disk t.write (text_answered e h (offered i)) in
+    let u : target.Stepped = target.on disk t.tasks (text_answered e h (offered i)) in
     let y : Steady c (enters (asked i) w).machine u.machine =
     steady c i t e u.machine g w.held (enters (asked i) w).machine o a b (record { cmd_sn = k.cmd_sn; session_type = k.session_type })
-    (record { settings = same.settings ∙ a.target_settings; stat_sn = refl; exp_cmd_sn = refl; told_sn = refl; told_exp = refl; told_max = refl }) (none_left u.machine.session t.write b.none_written)
+    (record { settings = same.settings ∙ a.target_settings; stat_sn = refl; exp_cmd_sn = refl; told_sn = refl; told_exp = refl; told_max = refl }) (none_left u.machine.session t.tasks b.no_task)
     (enters_kept (asked i) w) refl
     (subst (λ (x : target.Stepped). IsFit x.machine) q.there (step_fit t disk r b.fit))
     (λ is. normal_for c i t e o normal a.settings same.has_text k.session_type b.session s.texts) in
@@ -286,10 +286,10 @@ part_meets c i t logins next r disk o a b turn q =
     let same : SameState t.session e = entered_same t.session h in
     let k : Begun t.session e c.initiator.first_cmd_sn = begins t.session h c.initiator.first_cmd_sn (ap (λ (x : initiator.Settings). x.first_cmd_sn) a.settings) b.due in
     let n : Stepped = sends_more (counted i g) in
-    let u : target.Stepped = target.on disk t.write (gather e h q.bytes) in
+    let u : target.Stepped = target.on disk t.tasks (gather e h q.bytes) in
     let y : Steady c n.machine u.machine =
     steady c i t e u.machine g i.held n.machine o a b k
-    (record { settings = same.settings ∙ a.target_settings; stat_sn = refl; exp_cmd_sn = refl; told_sn = refl; told_exp = refl; told_max = refl }) (none_left u.machine.session t.write b.none_written)
+    (record { settings = same.settings ∙ a.target_settings; stat_sn = refl; exp_cmd_sn = refl; told_sn = refl; told_exp = refl; told_max = refl }) (none_left u.machine.session t.tasks b.no_task)
     (record { settings = refl; exp_stat_sn = refl; held = refl; window = refl; cmd_sn = refl; tag = refl; open_request = refl; none_done = refl }) refl
     (subst (λ (x : target.Stepped). IsFit x.machine) q.there (step_fit t disk r b.fit))
     (λ is. k.session_type ∙ b.session (sym same.has_text ∙ is)) in
@@ -323,7 +323,7 @@ first_numbered c o =
       tag = k.tag;
       cmd_sn = k.cmd_sn;
       none_open = k.open_request;
-      none_written = refl;
+      no_task = refl;
       due = λ begun. absurd (cc begun);
       window = record { exp = inr (ap (λ (x : Window). x.exp) k.window); max = inl (ap (λ (x : Window). x.max) k.window) };
       fit = opening_fit c.target c.first_stat_sn;

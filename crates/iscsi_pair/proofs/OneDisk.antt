@@ -1,13 +1,12 @@
 -- One local disk, in every world of a served run.
-use Rattle.std.proofs.Common.{◌≡◌, ◌≤◌, inl, inr, List, [], ◌++◌, length, None, Option, sym, ap, ◌∙◌, subst}
-use Rattle.std.specs.Option.{option_map}
+use Rattle.std.proofs.Common.{◌≡◌, ◌≤◌, inl, inr, List, [], ◌++◌, length, map, None, sym, ap, ◌∙◌, subst}
 use Rattle.scsi_disk.specs.Disk.{Disk, disk_of}
 use Rattle.iscsi_stream.specs.declared.logins.Logins.{Logins}
 use Rattle.iscsi_stream.specs.Stream.{Message, after_all}
 use Rattle.iscsi_login.specs.Held.{Held}
 use Rattle.iscsi_target.specs.State as target
-use Rattle.iscsi_target.specs.State.{Write}
-use Rattle.iscsi_target.specs.Transfer.{joined, joined_write}
+use Rattle.iscsi_target.specs.State.{joined, joined_task}
+use Rattle.iscsi_target.specs.declared.tasks.Task.{Task}
 use Rattle.iscsi_target.specs.Machine.{answers}
 use Rattle.iscsi_initiator.specs.declared.request.Done.{Done}
 use Rattle.iscsi_initiator.specs.Laws.{listed}
@@ -74,12 +73,12 @@ pub idle_whole : (c : Opening) (events : List Event) (w : World) (outcomes : Lis
 idle_whole c events w outcomes n r p q =
     let i = (still c events w outcomes n r p q).is_idle in (i.outcomes_are, i.disk_is)
 
--- the program keeps no open write as one piece where there is none
+-- the program keeps no write as one piece where there is no task
 joined_ends : (held : Held) (h : History) (i : initiator.Machine) (t : target.Machine) → AreSettled held h i t → AreAtEnd h.requests i (joined t)
 joined_ends held h i t rest =
     elim rest [
       | inl on_ ↦ (let same : t ≡ joined t =
-          ap (λ (w : Option Write). record t { write = w }) on_.0.none_written ∙ sym (ap (λ (w : Option Write). record t { write = option_map joined_write w }) on_.0.none_written) in
+          ap (λ (tasks : List Task). record t { tasks = tasks }) on_.0.no_task ∙ sym (ap (λ (tasks : List Task). record t { tasks = map joined_task tasks }) on_.0.no_task) in
           inl (subst (AreInStep i) same on_.0))
       | inr over ↦ inr (record { initiator_phase = over.0.initiator_phase; target_phase = over.0.target_phase; none_open = over.0.none_open }, over.1)
     ]

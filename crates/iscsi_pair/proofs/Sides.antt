@@ -8,6 +8,9 @@ use Rattle.iscsi_stream.specs.declared.fault.StreamFault.{StreamFault}
 use Rattle.iscsi_stream.specs.declared.fault.StreamFault.TheVariants as stream
 use Rattle.iscsi_login.specs.declared.phase.Phase.{Phase}
 use Rattle.iscsi_target.specs.declared.fault.TargetFault.{TargetFault}
+use Rattle.iscsi_target.specs.declared.fault.TargetFault.TheVariants as target_faults
+use Rattle.iscsi_target.specs.State.{Machine, Stepped}
+use Rattle.iscsi_stream.specs.Framing.{Framing}
 use Rattle.iscsi_target.specs.Machine as target_machine
 use Rattle.iscsi_target.specs.Feed as target
 use Rattle.iscsi_initiator.specs.declared.fault.InitiatorFault.{InitiatorFault}
@@ -60,10 +63,19 @@ moved_front moved queue queued k e =
 grows_none : (before after : List ℕ) → after ≡ before → Grows before after
 grows_none before after e = record { more = []; is = e ∙ sym (append-nil before) }
 
+leaves_grow : (result : Result Phase TargetFault) (output : List ℕ) (framing : Framing) (rest : List ℕ) (r : Stepped) (counted : ℕ) (new : Machine) (after : target.Store) (written : List ℕ)
+    → target.LeavesBy result output framing rest r counted new after written → Grows output written
+leaves_grow (Ok phase) output framing rest r counted new after written l = record { more = canon r.answers; is = l.output_is }
+leaves_grow (Err target_faults.NoMemory) output framing rest r counted new after written l = record { more = canon (r.answers ++ l.front.answers); is = l.output_is }
+leaves_grow (Err (target_faults.Stream fault)) output framing rest r counted new after written l = record { more = canon r.answers; is = l.output_is }
+leaves_grow (Err (target_faults.Protocol rule)) output framing rest r counted new after written l = record { more = canon r.answers; is = l.output_is }
+leaves_grow (Err target_faults.Closed) output framing rest r counted new after written l = record { more = canon r.answers; is = l.output_is }
+
 target_grows : (b : Bool) (old : target.Connection) (before : target.Store) (output piece : List ℕ) (result : Result Phase TargetFault) (new : target.Connection) (after : target.Store) (written : List ℕ)
     → target.FedIf b old before output piece result new after written → Grows output written
 target_grows true old before output piece result new after written f = grows_none output written f.output_is
-target_grows false old before output piece result new after written f = record { more = canon f.stepped.answers; is = f.answered.output_is }
+target_grows false old before output piece result new after written f =
+    leaves_grow result output f.framing (drop f.count piece) f.stepped f.answered.failures new.machine after written f.leaves
 
 stream_grows : (fault : StreamFault) (old : initiator.Connection) (piece : List ℕ) (new : initiator.Connection) (before after : List ℕ) → initiator.StreamFails fault old piece new before after → Grows before after
 stream_grows stream.NoMemory old piece new before after e = absurd e
@@ -159,7 +171,7 @@ moves_to_target (Some fault) (byte ∷ bytes) c t old new k f m s e =
     let w : World = record old { to_target = drop (length moved) old.to_target } in
     let q : t.queued_for_initiator ++ behind old.to_initiator old.to_initiator ≡ t.queued_for_initiator = nothing_behind t.queued_for_initiator old.to_initiator in
     let side : TargetSide c (t.moved_to_target ++ moved) t.queued_for_initiator old.target old.blocks old.target_fault = record {
-      front = target_drops c t.moved_to_target moved t.queued_for_initiator old.target s.target.front;
+      front = target_drops c t.moved_to_target moved t.queued_for_initiator old.target old.target_fault s.target.front;
       failed = target_failed old.target_fault c t.moved_to_target moved t.queued_for_initiator old.target s.target.failed;
       over = λ none over. absurd (let bad : Some fault ≡ None = sym f ∙ none in cc);
       lives = λ none live. absurd (let bad : Some fault ≡ None = sym f ∙ none in cc);

@@ -280,10 +280,10 @@ asking_short c i t logins r a =
 
 -- the target behind what its session replied
 abbrev behind : target.Machine → target_session.Reply → target.Machine
-behind t reply = record { session = reply.session; write = target.left reply.session t.write }
+behind t reply = record { session = reply.session; tasks = target.left reply.session t.tasks }
 
 refused_round : (c : Opening) (i : initiator.Machine) (t : target.Machine) (logins next : Logins) (r : Message) (disk : Disk) (last : Bool) (reply : target_session.Reply) → Asking c i t logins r
-    → Refuses (login_request i last) reply → Round c i (target.on disk t.write reply) next
+    → Refuses (login_request i last) reply → Round c i (target.on disk t.tasks reply) next
 refused_round c i t logins next r disk last reply a q = record {
   answer = answering q.answer [];
   is = q.is;
@@ -296,7 +296,7 @@ refused_round c i t logins next r disk last reply a q = record {
 -- the login goes on with the next part of the text
 gathered_round : (c : Opening) (i : initiator.Machine) (t : target.Machine) (logins next : Logins) (r : Message) (disk : Disk) (bytes : List ℕ) (byte : ℕ) (more : List ℕ) (reply : target_session.Reply) → IsOpening c → Asking c i t logins r
     → i.left ≡ byte ∷ more → t.session.gathered ++ (bytes ++ i.left) ≡ canonical_text (offered i) → next.request ≡ true
-    → Gathers t.session (login_request i false) bytes reply → Round c i (target.on disk t.write reply) next
+    → Gathers t.session (login_request i false) bytes reply → Round c i (target.on disk t.tasks reply) next
 gathered_round c i t logins next r disk bytes byte more reply o a left text request q = record {
   answer = answering q.answer [];
   is = q.is;
@@ -400,7 +400,7 @@ told_to stages.Operational c i t logins next r reply o a is first q =
 told_to stages.Full c i t logins next r reply o a is first q = absurd (subst IsStart is a.stage)
 
 told_round : (c : Opening) (i : initiator.Machine) (t : target.Machine) (logins next : Logins) (r : Message) (disk : Disk) (reply : target_session.Reply) → IsOpening c → Asking c i t logins r
-    → i.left ≡ [] → next.request ≡ false → Tells t.session (login_request i true) (offered i) reply → Round c i (target.on disk t.write reply) next
+    → i.left ≡ [] → next.request ≡ false → Tells t.session (login_request i true) (offered i) reply → Round c i (target.on disk t.tasks reply) next
 told_round c i t logins next r disk reply o a left first q = record {
   answer = answering q.answer answer;
   is = q.is;

@@ -1,5 +1,5 @@
 -- The target's end of a pair: what it has heard and said, whatever came of it.
-use Rattle.std.proofs.Common.{◌≡◌, ◌≢◌, ℕ, Bool, true, false, List, [], ◌++◌, take, drop, Option, Some, None, Result, Ok, Err, inl, inr, refl, sym, ap, ◌∙◌, subst, append_assoc}
+use Rattle.std.proofs.Common.{◌≡◌, ◌≢◌, ◌⊎◌, ℕ, Bool, true, false, List, [], ◌++◌, take, drop, Option, Some, None, Result, Ok, Err, inl, inr, refl, sym, ap, ◌∙◌, subst, append_assoc}
 use Rattle.std.specs.Result.{result_err}
 use Rattle.std.proofs.lemmas.List.{append-nil, take-append-drop}
 use Rattle.scsi_disk.specs.Disk.{disk_of}
@@ -10,31 +10,49 @@ use Rattle.iscsi_stream.specs.declared.fault.StreamFault.{StreamFault}
 use Rattle.iscsi_stream.specs.declared.fault.StreamFault.TheVariants as stream
 use Rattle.iscsi_stream.specs.Framing.{Framing, HasTaken, FeedFails, is_ready}
 use Rattle.iscsi_stream.proofs.Taking.{at_opening}
+use Rattle.iscsi_stream.proofs.Writing.{canon_append}
 use Rattle.iscsi_stream.proofs.Ready.{not_whole-nil, apart}
 use Rattle.iscsi_login.specs.declared.phase.Phase.{Phase}
+use Rattle.iscsi_login.specs.declared.phase.Phase.TheVariants as phases
 use Rattle.iscsi_target.specs.declared.fault.TargetFault.{TargetFault}
 use Rattle.iscsi_target.specs.declared.fault.TargetFault.TheVariants as faults
 use Rattle.iscsi_target.specs.Session.{limit}
 use Rattle.iscsi_target.specs.State.{Machine, Stepped}
-use Rattle.iscsi_target.specs.Transfer.{joined}
+use Rattle.iscsi_target.specs.State.{joined}
 use Rattle.iscsi_target.specs.Machine.{answers, is_closed}
-use Rattle.iscsi_target.specs.Feed.{Connection, Store, Feeds, Fed, FedIf, Ends, HasAnswered, opening_connection}
-use Rattle.iscsi_target.proofs.Feeding.{Told, told, answers_close}
+use Rattle.iscsi_target.specs.Feed.{Connection, Store, Feeds, Fed, FedIf, Ends, IsShut, LeavesBy, Stands, StopsShort, HasAnswered, opening_connection}
+use Rattle.iscsi_target.proofs.Feeding.{Told, told, answers_close, stands}
+use Rattle.iscsi_target.proofs.Keeping.{Stays, stop_stays}
 use Rattle.iscsi_target.proofs.Streaming.{goes_on}
-use Rattle.iscsi_pair.specs.World.{Opening, store_of}
+use Rattle.iscsi_pair.specs.World.{Opening, store_of, target_ran_out}
 use Rattle.iscsi_pair.specs.Traffic.{said}
 
--- the first of the bytes moved are these messages, and the answers to them were queued; a failed end did nothing with the others
-pub record TargetFront (c : Opening) (moved out : List ℕ) (t : Connection) : Type 0 where
+-- The first of the bytes moved are these messages, and the answers to them were queued; a failed end did nothing with the others,
+-- but that it answered some tasks of the next one where memory ran out at one of them, in full feature phase.
+pub record TargetFront (c : Opening) (moved out : List ℕ) (t : Connection) (fault : Option TargetFault) : Type 0 where
   pub limit : ℕ
   pub messages : List Message
   pub given : List ℕ
   pub rest : List ℕ
   pub whole : moved ≡ given ++ rest
   pub reads : ReadsAs limit no_login given messages
-  pub output : out ≡ canon (said c messages).answers
+  pub extra : List Message
+  pub output : out ≡ canon ((said c messages).answers ++ extra)
+  pub only : (extra ≡ []) ⊎ ((fault ≡ Some faults.NoMemory) × ((said c messages).machine.session.phase ≡ phases.Full))
   pub stage : t.machine.session.stage ≡ (said c messages).machine.session.stage
   pub held : t.machine.session.held ≡ (said c messages).machine.session.held
+
+-- unless memory ran out there are no answers but those to whole messages
+pub none_extra : (c : Opening) (moved out : List ℕ) (t : Connection) (fault : Option TargetFault) → (f : TargetFront c moved out t fault) → target_ran_out fault ≡ false → f.extra ≡ []
+none_extra c moved out t fault f well =
+    elim f.only [
+      | inl none ↦ none
+      | inr short ↦ absurd (let bad : true ≡ false = sym (ap target_ran_out short.0) ∙ well in cc)
+    ]
+
+pub front_output : (c : Opening) (moved out : List ℕ) (t : Connection) (fault : Option TargetFault) → (f : TargetFront c moved out t fault) → target_ran_out fault ≡ false → out ≡ canon (said c f.messages).answers
+front_output c moved out t fault f well =
+    f.output ∙ ap (λ (x : List Message). canon ((said c f.messages).answers ++ x)) (none_extra c moved out t fault f well) ∙ ap canon (append-nil (said c f.messages).answers)
 
 -- an end that hasn't failed has taken all bytes moved
 pub record TargetLives (c : Opening) (moved out : List ℕ) (t : Connection) (blocks : List ℕ) : Type 0 where
@@ -91,37 +109,65 @@ TargetFailed (Some (faults.Protocol rule)) c moved out t = TargetEnded c moved o
 TargetFailed (Some faults.Closed) c moved out t = TargetEnded c moved out t
 
 pub record TargetSide (c : Opening) (moved out : List ℕ) (t : Connection) (blocks : List ℕ) (fault : Option TargetFault) : Type 0 where
-  pub front : TargetFront c moved out t
+  pub front : TargetFront c moved out t fault
   pub over : fault ≡ None → is_closed t.machine ≡ true → TargetOver c moved out t blocks
   pub lives : fault ≡ None → is_closed t.machine ≡ false → TargetLives c moved out t blocks
   pub failed : TargetFailed fault c moved out t
 
-front_taken : (c : Opening) (moved more out : List ℕ) (messages : List Message) (v : Framing) (t : Connection) → HasTaken moved messages v → out ≡ canon (said c messages).answers
-    → t.machine.session.stage ≡ (said c messages).machine.session.stage → t.machine.session.held ≡ (said c messages).machine.session.held → TargetFront c (moved ++ more) out t
-front_taken c moved more out messages v t h o s e = record {
+-- what is left of a target behind these messages, and what it wrote
+record Left (c : Opening) (ms : List Message) (out : List ℕ) (new : Machine) (fault : Option TargetFault) : Type 0 where
+  extra : List Message
+  output : out ≡ canon ((said c ms).answers ++ extra)
+  only : (extra ≡ []) ⊎ ((fault ≡ Some faults.NoMemory) × ((said c ms).machine.session.phase ≡ phases.Full))
+  stage : new.session.stage ≡ (said c ms).machine.session.stage
+  held : new.session.held ≡ (said c ms).machine.session.held
+
+front_taken : (c : Opening) (moved more out : List ℕ) (messages : List Message) (v : Framing) (t : Connection) (fault : Option TargetFault) → HasTaken moved messages v → Left c messages out t.machine fault
+    → TargetFront c (moved ++ more) out t fault
+front_taken c moved more out messages v t fault h l = record {
   limit = v.limit;
   messages = messages;
   given = h.given;
   rest = h.rest ++ more;
   whole = ap (λ (x : List ℕ). x ++ more) h.whole ∙ append_assoc h.given h.rest more;
   reads = h.reads;
-  output = o;
-  stage = s;
-  held = e;
+  extra = l.extra;
+  output = l.output;
+  only = l.only;
+  stage = l.stage;
+  held = l.held;
 }
 
 -- bytes that are dropped change nothing
-pub front_drops : (c : Opening) (moved more out : List ℕ) (t : Connection) → TargetFront c moved out t → TargetFront c (moved ++ more) out t
-front_drops c moved more out t f = record {
+pub front_drops : (c : Opening) (moved more out : List ℕ) (t : Connection) (fault : Option TargetFault) → TargetFront c moved out t fault → TargetFront c (moved ++ more) out t fault
+front_drops c moved more out t fault f = record {
   limit = f.limit;
   messages = f.messages;
   given = f.given;
   reads = f.reads;
+  extra = f.extra;
   output = f.output;
+  only = f.only;
   stage = f.stage;
   held = f.held;
   rest = f.rest ++ more;
   whole = ap (λ (x : List ℕ). x ++ more) f.whole ∙ append_assoc f.given f.rest more;
+}
+
+-- a target that had not failed fails with another fault than that memory ran out
+front_fails : (c : Opening) (moved out : List ℕ) (t : Connection) (fault : Option TargetFault) → TargetFront c moved out t None → TargetFront c moved out t fault
+front_fails c moved out t fault f = record {
+  limit = f.limit;
+  messages = f.messages;
+  given = f.given;
+  rest = f.rest;
+  whole = f.whole;
+  reads = f.reads;
+  extra = f.extra;
+  output = f.output;
+  only = inl (none_extra c moved out t None f refl);
+  stage = f.stage;
+  held = f.held;
 }
 
 ended_drops : (c : Opening) (moved more out : List ℕ) (t : Connection) → TargetEnded c moved out t → TargetEnded c (moved ++ more) out t
@@ -163,7 +209,7 @@ unfolding answers
 opening_side c =
     let h : HasTaken [] [] (opening_connection c.target c.first_stat_sn).framing = at_opening (limit c.target) in
     record {
-      front = front_taken c [] [] [] [] (opening_connection c.target c.first_stat_sn).framing (opening_connection c.target c.first_stat_sn) h refl refl refl;
+      front = front_taken c [] [] [] [] (opening_connection c.target c.first_stat_sn).framing (opening_connection c.target c.first_stat_sn) None h (record { extra = []; output = refl; only = inl refl; stage = refl; held = refl });
       failed = tt;
       over = λ none over. absurd (cc over);
       lives = λ none live. record {
@@ -176,6 +222,24 @@ opening_side c =
 -- ---- a piece
 
 -- what was written before makes no difference
+stands_behind : (prior output : List ℕ) (r : Stepped) (counted : ℕ) (after : Store) (written : List ℕ) → Stands output r counted after written → Stands (prior ++ output) r counted after (prior ++ written)
+stands_behind prior output r counted after written s =
+    record { failures = s.failures; disk = s.disk; output_is = ap (λ (x : List ℕ). prior ++ x) s.output_is ∙ sym (append_assoc prior output (canon r.answers)) }
+
+leaves_behind : (result : Result Phase TargetFault) (prior output : List ℕ) (framing : Framing) (rest : List ℕ) (r : Stepped) (counted : ℕ) (new : Machine) (after : Store) (written : List ℕ)
+    → LeavesBy result output framing rest r counted new after written → LeavesBy result (prior ++ output) framing rest r counted new after (prior ++ written)
+leaves_behind (Ok phase) prior output framing rest r counted new after written l = stands_behind prior output r counted after written l
+leaves_behind (Err faults.NoMemory) prior output framing rest r counted new after written l = record {
+  front = l.front;
+  stops = l.stops;
+  shut = l.shut;
+  disk = l.disk;
+  output_is = ap (λ (x : List ℕ). prior ++ x) l.output_is ∙ sym (append_assoc prior output (canon (r.answers ++ l.front.answers)));
+}
+leaves_behind (Err (faults.Stream fault)) prior output framing rest r counted new after written l = stands_behind prior output r counted after written l
+leaves_behind (Err (faults.Protocol rule)) prior output framing rest r counted new after written l = stands_behind prior output r counted after written l
+leaves_behind (Err faults.Closed) prior output framing rest r counted new after written l = stands_behind prior output r counted after written l
+
 feeds_behind : (prior : List ℕ) (old : Connection) (before : Store) (output piece : List ℕ) (result : Result Phase TargetFault) (new : Connection) (after : Store) (written : List ℕ)
     → Feeds old before output piece result new after written → Feeds old before (prior ++ output) piece result new after (prior ++ written)
 feeds_behind prior old before output piece result new after written f = record {
@@ -184,30 +248,68 @@ feeds_behind prior old before output piece result new after written f = record {
   some = f.some;
   messages = f.messages;
   stepped = f.stepped;
-  counts = f.counts;
+  answered = f.answered;
+  leaves = leaves_behind result prior output f.framing (drop f.count piece) f.stepped f.answered.failures new.machine after written f.leaves;
   ends = f.ends;
-  answered = record {
-    taken = f.answered.taken;
-    limit = f.answered.limit;
-    ready = f.answered.ready;
-    failures = f.answered.failures;
-    may = f.answered.may;
-    works = f.answered.works;
-    disk = f.answered.disk;
-    output_is = ap (λ (x : List ℕ). prior ++ x) f.answered.output_is ∙ sym (append_assoc prior output (canon f.stepped.answers));
-  };
 }
 
 record Kept (new : Machine) (r : Machine) : Type 0 where
   stage : new.session.stage ≡ r.session.stage
   held : new.session.held ≡ r.session.held
 
-ends_keep : (piece : List ℕ) (result : Result Phase TargetFault) (v : Framing) (n : ℕ) (r : Stepped) (new : Connection) → Ends piece result v n r new → Kept new.machine r.machine
-ends_keep piece (Ok phase) v n r new e = record { stage = ap (λ (m : Machine). m.session.stage) e.1; held = ap (λ (m : Machine). m.session.held) e.1 }
-ends_keep piece (Err faults.NoMemory) v n r new e = record { stage = ap (λ (m : Machine). m.session.stage) e.1; held = ap (λ (m : Machine). m.session.held) e.1 }
-ends_keep piece (Err (faults.Stream fault)) v n r new e = record { stage = ap (λ (m : Machine). m.session.stage) e.3; held = ap (λ (m : Machine). m.session.held) e.3 }
-ends_keep piece (Err (faults.Protocol rule)) v n r new e = record { stage = ap (λ (m : Machine). m.session.stage) e.1; held = ap (λ (m : Machine). m.session.held) e.1 }
-ends_keep piece (Err faults.Closed) v n r new e = absurd e
+kept_joined : (new r : Machine) → new ≡ joined r → Kept new r
+kept_joined new r e = record { stage = ap (λ (m : Machine). m.session.stage) e; held = ap (λ (m : Machine). m.session.held) e }
+
+kept_shut : (new r : Machine) → IsShut r new → Kept new r
+kept_shut new r e = record { stage = ap (λ (m : Machine). m.session.stage) e; held = ap (λ (m : Machine). m.session.held) e }
+
+-- where memory was there
+left_whole : (c : Opening) (ms : List Message) (out : List ℕ) (r : Stepped) (counted : ℕ) (new : Machine) (after : Store) (written : List ℕ) (fault : Option TargetFault)
+    → Told c.target c.first_stat_sn (disk_of c.blocks) ms r r.disk (out ++ canon r.answers) → Stands out r counted after written → Kept new r.machine → Left c ms written new fault
+left_whole c ms out r counted new after written fault t s k = record {
+  extra = [];
+  output = s.output_is ∙ t.output_is ∙ ap canon (sym (append-nil (said c ms).answers));
+  only = inl refl;
+  stage = k.stage ∙ ap (λ (m : Machine). m.session.stage) t.machine;
+  held = k.held ∙ ap (λ (m : Machine). m.session.held) t.machine;
+}
+
+-- where memory ran out
+left_short : (c : Opening) (ms : List Message) (out : List ℕ) (framing : Framing) (rest : List ℕ) (r : Stepped) (counted : ℕ) (new : Machine) (after : Store) (written : List ℕ)
+    → Told c.target c.first_stat_sn (disk_of c.blocks) ms r r.disk (out ++ canon r.answers) → StopsShort out framing rest r counted new after written → Left c ms written new (Some faults.NoMemory)
+left_short c ms out framing rest r counted new after written t l =
+    let wrote : written ≡ canon ((said c ms).answers ++ l.front.answers) =
+    l.output_is ∙ ap (λ (x : List ℕ). out ++ x) (canon_append r.answers l.front.answers) ∙ sym (append_assoc out (canon r.answers) (canon l.front.answers))
+    ∙ ap (λ (x : List ℕ). x ++ canon l.front.answers) t.output_is ∙ sym (canon_append (said c ms).answers l.front.answers) in
+    elim l.stops [
+      | inl none ↦ record {
+        extra = l.front.answers;
+        output = wrote;
+        only = inl (ap (λ (x : Stepped). x.answers) none.0);
+        stage = ap (λ (m : Machine). m.session.stage) l.shut ∙ ap (λ (x : Stepped). x.machine.session.stage) none.0 ∙ ap (λ (m : Machine). m.session.stage) t.machine;
+        held = ap (λ (m : Machine). m.session.held) l.shut ∙ ap (λ (x : Stepped). x.machine.session.held) none.0 ∙ ap (λ (m : Machine). m.session.held) t.machine;
+      }
+      | inr at ↦
+          (let k : Stays r.machine l.front.machine = stop_stays r.machine r.disk counted at.message l.front after.failures at.stops in
+          record {
+            extra = l.front.answers;
+            output = wrote;
+            only = inr (refl, sym (ap (λ (m : Machine). m.session.phase) t.machine) ∙ at.stops.full);
+            stage = ap (λ (m : Machine). m.session.stage) l.shut ∙ k.stage ∙ ap (λ (m : Machine). m.session.stage) t.machine;
+            held = ap (λ (m : Machine). m.session.held) l.shut ∙ k.held ∙ ap (λ (m : Machine). m.session.held) t.machine;
+          })
+    ]
+
+left_by : (result : Result Phase TargetFault) (c : Opening) (ms : List Message) (out : List ℕ) (framing : Framing) (piece rest : List ℕ) (n : ℕ) (r : Stepped) (counted : ℕ) (new : Connection) (after : Store) (written : List ℕ)
+    → Told c.target c.first_stat_sn (disk_of c.blocks) ms r r.disk (out ++ canon r.answers) → LeavesBy result out framing rest r counted new.machine after written → Ends piece result framing n r new
+    → Left c ms written new.machine (result_err result)
+left_by (Ok phase) c ms out framing piece rest n r counted new after written t l e = left_whole c ms out r counted new.machine after written None t l (kept_joined new.machine r.machine e.1)
+left_by (Err faults.NoMemory) c ms out framing piece rest n r counted new after written t l e = left_short c ms out framing rest r counted new.machine after written t l
+left_by (Err (faults.Stream fault)) c ms out framing piece rest n r counted new after written t l e =
+    left_whole c ms out r counted new.machine after written (Some (faults.Stream fault)) t l (kept_shut new.machine r.machine e.3)
+left_by (Err (faults.Protocol rule)) c ms out framing piece rest n r counted new after written t l e =
+    left_whole c ms out r counted new.machine after written (Some (faults.Protocol rule)) t l (kept_joined new.machine r.machine e.1)
+left_by (Err faults.Closed) c ms out framing piece rest n r counted new after written t l e = absurd e
 
 ends_limit : (piece : List ℕ) (result : Result Phase TargetFault) (v : Framing) (n : ℕ) (r : Stepped) (new : Connection) → Ends piece result v n r new
     → result_err result ≡ None → is_closed new.machine ≡ false → new.framing ≡ v
@@ -235,7 +337,7 @@ ends_unready piece (Err fault) v n r new e u none live = absurd (cc none)
 
 feeds_failed : (result : Result Phase TargetFault) (c : Opening) (moved out bytes : List ℕ) (old : Connection) (blocks : List ℕ) (new : Connection) (after written : List ℕ)
     → (l : TargetLives c moved out old blocks) → (f : Feeds old (store_of blocks) out bytes result new (store_of after) written)
-    → Told c.target c.first_stat_sn (disk_of c.blocks) (l.has.messages ++ f.messages) f.stepped (disk_of after) written → HasTaken (moved ++ take f.count bytes) (l.has.messages ++ f.messages) f.framing
+    → Told c.target c.first_stat_sn (disk_of c.blocks) (l.has.messages ++ f.messages) f.stepped f.stepped.disk (out ++ canon f.stepped.answers) → HasTaken (moved ++ take f.count bytes) (l.has.messages ++ f.messages) f.framing
     → new.machine.session.stage ≡ (said c (l.has.messages ++ f.messages)).machine.session.stage → Ends bytes result f.framing f.count f.stepped new → TargetFailed (result_err result) c (moved ++ bytes) written new
 feeds_failed (Ok phase) c moved out bytes old blocks new after written l f t h s e = tt
 feeds_failed (Err faults.NoMemory) c moved out bytes old blocks new after written l f t h s e = tt
@@ -251,7 +353,7 @@ feeds_failed (Err (faults.Stream fault)) c moved out bytes old blocks new after 
       ∙ ap (λ (x : List ℕ). (moved ++ take f.count bytes) ++ x) (sym (append-nil (drop f.count bytes)));
   refused = e.2;
   some = e.1;
-  output = t.output_is;
+  output = f.leaves.output_is ∙ t.output_is;
   stage = s;
 }
 feeds_failed (Err (faults.Protocol rule)) c moved out bytes old blocks new after written l f t h s e =
@@ -266,7 +368,7 @@ feeds_failed (Err (faults.Protocol rule)) c moved out bytes old blocks new after
       whole = ap (λ (x : List ℕ). moved ++ x) (sym (take-append-drop f.count bytes)) ∙ sym (append_assoc moved (take f.count bytes) (drop f.count bytes))
           ∙ ap (λ (x : List ℕ). x ++ drop f.count bytes) h.whole ∙ append_assoc h.given h.rest (drop f.count bytes);
       reads = h.reads;
-      output = t.output_is;
+      output = f.leaves.output_is ∙ t.output_is;
       stage = s;
       closed = sym (ap is_closed t.machine) ∙ over;
     }
@@ -275,17 +377,27 @@ feeds_failed (Err faults.Closed) c moved out bytes old blocks new after written 
 feeds_side : (c : Opening) (moved out bytes : List ℕ) (old : Connection) (blocks : List ℕ) (result : Result Phase TargetFault) (new : Connection) (after written : List ℕ)
     → TargetLives c moved out old blocks → Feeds old (store_of blocks) out bytes result new (store_of after) written → TargetSide c (moved ++ bytes) written new after (result_err result)
 feeds_side c moved out bytes old blocks result new after written l f =
-    let t : Told c.target c.first_stat_sn (disk_of c.blocks) (l.has.messages ++ f.messages) f.stepped (disk_of after) written =
-    told c.target c.first_stat_sn (disk_of c.blocks) moved old (store_of blocks) out (take f.count bytes) f.framing f.messages f.stepped (store_of after) written l.has f.answered refl in
+    let t : Told c.target c.first_stat_sn (disk_of c.blocks) (l.has.messages ++ f.messages) f.stepped f.stepped.disk (out ++ canon f.stepped.answers) =
+    told c.target c.first_stat_sn (disk_of c.blocks) moved old (store_of blocks) out (take f.count bytes) f.framing f.messages f.stepped 0 (record { disk = f.stepped.disk; failures = 0 }) (out ++ canon f.stepped.answers) l.has
+    (record {
+      taken = f.answered.taken;
+      limit = f.answered.limit;
+      ready = f.answered.ready;
+      failures = f.answered.failures;
+      may = f.answered.may;
+      works = f.answered.works;
+    }) (record { failures = refl; disk = refl; output_is = refl }) refl in
     let h : HasTaken (moved ++ take f.count bytes) (l.has.messages ++ f.messages) f.framing = f.answered.taken moved l.has.messages l.has.taken in
-    let k : Kept new.machine f.stepped.machine = ends_keep bytes result f.framing f.count f.stepped new f.ends in
+    let left : Left c (l.has.messages ++ f.messages) written new.machine (result_err result) =
+    left_by result c (l.has.messages ++ f.messages) out f.framing bytes (drop f.count bytes) f.count f.stepped f.answered.failures new (store_of after) written t f.leaves f.ends in
+    let stood : result_err result ≡ None → Stands out f.stepped f.answered.failures (store_of after) written =
+    λ none. stands out f.framing (drop f.count bytes) f.stepped f.answered.failures result new.machine (store_of after) written (λ short. let bad : None ≡ Some faults.NoMemory = sym none ∙ ap result_err short in absurd cc) f.leaves in
     let all : (moved ++ take f.count bytes) ++ drop f.count bytes ≡ moved ++ bytes =
     append_assoc moved (take f.count bytes) (drop f.count bytes) ∙ ap (λ (x : List ℕ). moved ++ x) (take-append-drop f.count bytes) in
     record {
-      front = subst (λ (x : List ℕ). TargetFront c x written new) all
-          (front_taken c (moved ++ take f.count bytes) (drop f.count bytes) written (l.has.messages ++ f.messages) f.framing new h t.output_is
-          (k.stage ∙ ap (λ (m : Machine). m.session.stage) t.machine) (k.held ∙ ap (λ (m : Machine). m.session.held) t.machine));
-      failed = feeds_failed result c moved out bytes old blocks new after written l f t h (k.stage ∙ ap (λ (m : Machine). m.session.stage) t.machine) f.ends;
+      front = subst (λ (x : List ℕ). TargetFront c x written new (result_err result)) all
+          (front_taken c (moved ++ take f.count bytes) (drop f.count bytes) written (l.has.messages ++ f.messages) f.framing new (result_err result) h left);
+      failed = feeds_failed result c moved out bytes old blocks new after written l f t h left.stage f.ends;
       over = λ none over. record {
         limit = f.framing.limit;
         messages = l.has.messages ++ f.messages;
@@ -293,10 +405,10 @@ feeds_side c moved out bytes old blocks result new after written l f =
         rest = h.rest ++ drop f.count bytes;
         whole = sym all ∙ ap (λ (x : List ℕ). x ++ drop f.count bytes) h.whole ∙ append_assoc h.given h.rest (drop f.count bytes);
         reads = h.reads;
-        output = t.output_is;
+        output = (stood none).output_is ∙ t.output_is;
         closed = sym (ap is_closed (ends_over bytes result f.framing f.count f.stepped new f.ends none ∙ t.machine)) ∙ over;
         machine = ends_over bytes result f.framing f.count f.stepped new f.ends none ∙ t.machine;
-        disk = t.disk_is;
+        disk = (stood none).disk ∙ t.disk_is;
       };
       lives = λ none live. record {
         limit = ap (λ (v : Framing). v.limit) (ends_limit bytes result f.framing f.count f.stepped new f.ends none live) ∙ f.answered.limit ∙ l.limit;
@@ -309,8 +421,9 @@ fed_if : (b : Bool) (c : Opening) (moved prior before bytes : List ℕ) (old : C
     → is_closed old.machine ≡ b → TargetSide c moved (prior ++ before) old blocks None → FedIf b old (store_of blocks) before bytes result new (store_of after) written
     → TargetSide c (moved ++ bytes) (prior ++ written) new after (result_err result)
 fed_if true c moved prior before bytes old blocks result new after written is s f = record {
-  front = subst (λ (x : List ℕ). TargetFront c (moved ++ bytes) (prior ++ x) new) (sym f.output_is)
-      (subst (λ (x : Connection). TargetFront c (moved ++ bytes) (prior ++ before) x) (sym f.connection) (front_drops c moved bytes (prior ++ before) old s.front));
+  front = subst (λ (x : List ℕ). TargetFront c (moved ++ bytes) (prior ++ x) new (result_err result)) (sym f.output_is)
+      (subst (λ (x : Connection). TargetFront c (moved ++ bytes) (prior ++ before) x (result_err result)) (sym f.connection)
+      (front_fails c (moved ++ bytes) (prior ++ before) old (result_err result) (front_drops c moved bytes (prior ++ before) old None s.front)));
   failed = subst (λ (x : Result Phase TargetFault). TargetFailed (result_err x) c (moved ++ bytes) (prior ++ written) new) (sym f.result_is)
       (let l : TargetOver c moved (prior ++ before) old blocks = s.over refl is in
       let there : TargetEnded c moved (prior ++ before) old = record {

@@ -23,7 +23,8 @@ use Rattle.iscsi_stream.specs.Segment.{Bytes, continues, is_last, segment_bytes}
 use Rattle.iscsi_stream.proofs.Segments.{segment_plain, none_whole}
 use Rattle.iscsi_target.specs.State as target
 use Rattle.iscsi_target.specs.Session.{message}
-use Rattle.iscsi_target.specs.State.{Write, max_cmd_sn, waiting}
+use Rattle.iscsi_target.specs.Write.{Write}
+use Rattle.iscsi_target.specs.State.{max_cmd_sn, waiting}
 use Rattle.iscsi_target.specs.Transfer.{received, desired}
 use Rattle.iscsi_target.specs.Execution.{data_in_head, response_head, residual_count, sense_segment, is_over, is_under}
 use Rattle.iscsi_target.specs.Command.{r2t_head}
@@ -115,9 +116,9 @@ max_room s = mod-lt _ (omega arith)
 -- Data that a target sends are read as they were written.
 pub data_in_readable : (logins : Logins) (s : target.Machine) (tag data_sn offset : ℕ) (is_final : Bool) (bytes : List ℕ)
     → tag < 2 ^ 32 → data_sn < 2 ^ 32 → offset < 2 ^ 32 → s.session.exp_cmd_sn < 2 ^ 32 → length bytes < 2 ^ 24
-    → Readable logins (message (data_in_head s tag data_sn offset is_final) bytes)
+    → Readable logins (message (data_in_head s.session (waiting s.tasks) tag data_sn offset is_final) bytes)
 data_in_readable logins s tag data_sn offset is_final bytes tag_fits data_sn_fits offset_fits cmd_sn lt =
-    plain_readable logins (data_in_head s tag data_sn offset is_final) bytes refl
+    plain_readable logins (data_in_head s.session (waiting s.tasks) tag data_sn offset is_final) bytes refl
     (refl, (refl, (refl, (refl, (refl, ((refl, tt), ((refl, tt), ((refl, tag_fits), ((refl, omega arith), ((refl, tt), ((refl, cmd_sn), ((refl, max_room s), ((refl, data_sn_fits), ((refl, offset_fits), ((refl, tt), tt)))))))))))))))
     tt tt lt
 
@@ -135,35 +136,35 @@ sense_short (Some sense) = omega arith
 -- The outcome of a command is read as it was written.
 pub outcome_readable : (logins : Logins) (s : target.Machine) (tag : ℕ) (outcome : Outcome) (count : ℕ)
     → outcome.status < 256 → IfSome (residual_count outcome.residual) (λ n. n < 2 ^ 32) → tag < 2 ^ 32 → count < 2 ^ 32 → s.session.stat_sn < 2 ^ 32 → s.session.exp_cmd_sn < 2 ^ 32
-    → Readable logins (message (response_head s tag outcome count) (sense_segment outcome.sense))
+    → Readable logins (message (response_head s.session (waiting s.tasks) tag outcome count) (sense_segment outcome.sense))
 outcome_readable logins s tag outcome count status residual tag_fits count_fits stat_sn cmd_sn =
-    plain_readable logins (response_head s tag outcome count) (sense_segment outcome.sense) refl
+    plain_readable logins (response_head s.session (waiting s.tasks) tag outcome count) (sense_segment outcome.sense) refl
     (refl, (refl, (refl, (refl, ((refl, omega arith), ((refl, status), ((refl, tag_fits), ((refl, stat_sn), ((refl, cmd_sn), ((refl, max_room s), ((refl, count_fits), ((refl, tt), ((has_count outcome.residual, residual), tt)))))))))))))
     tt tt (sense_short outcome.sense)
 
 -- A request for data is read as it was written.
 pub ready_readable : (logins : Logins) (s : target.Machine) (w : Write)
     → w.order.lun < 2 ^ 64 → w.initiator_task_tag < 2 ^ 32 → w.asked < 2 ^ 32 → received w < 2 ^ 32 → desired s.session.held w < 2 ^ 32 → s.session.stat_sn < 2 ^ 32 → s.session.exp_cmd_sn < 2 ^ 32
-    → Readable logins (message (r2t_head s w) [])
+    → Readable logins (message (r2t_head s.session (waiting s.tasks) w) [])
 ready_readable logins s w lun tag asked offset size stat_sn cmd_sn =
-    plain_readable logins (r2t_head s w) [] refl
+    plain_readable logins (r2t_head s.session (waiting s.tasks) w) [] refl
     ((refl, lun), ((refl, tag), ((refl, asked), ((refl, stat_sn), ((refl, cmd_sn), ((refl, max_room s), ((refl, asked), ((refl, offset), ((refl, size), tt)))))))))
     tt tt (omega arith)
 
 -- The answer to a ping is read as it was written.
 pub pong_readable : (logins : Logins) (s : target.Machine) (h : NopOut) (bytes : List ℕ)
     → h.initiator_task_tag < 2 ^ 32 → s.session.stat_sn < 2 ^ 32 → s.session.exp_cmd_sn < 2 ^ 32 → length bytes < 2 ^ 24
-    → Readable logins (message (nop_in_head s.session (waiting s.write) h) bytes)
+    → Readable logins (message (nop_in_head s.session (waiting s.tasks) h) bytes)
 pong_readable logins s h bytes tag stat_sn cmd_sn lt =
-    plain_readable logins (nop_in_head s.session (waiting s.write) h) bytes refl
+    plain_readable logins (nop_in_head s.session (waiting s.tasks) h) bytes refl
     ((refl, tt), ((refl, tag), ((refl, omega arith), ((refl, stat_sn), ((refl, cmd_sn), ((refl, max_room s), tt))))))
     tt tt lt
 
 -- The answer to a logout is read as it was written.
 pub left_readable : (logins : Logins) (s : target.Machine) (h : LogoutRequest)
     → h.initiator_task_tag < 2 ^ 32 → s.session.stat_sn < 2 ^ 32 → s.session.exp_cmd_sn < 2 ^ 32
-    → Readable logins (message (logout_head s.session (waiting s.write) h) [])
+    → Readable logins (message (logout_head s.session (waiting s.tasks) h) [])
 left_readable logins s h tag stat_sn cmd_sn =
-    plain_readable logins (logout_head s.session (waiting s.write) h) [] refl
+    plain_readable logins (logout_head s.session (waiting s.tasks) h) [] refl
     ((refl, omega arith), ((refl, tag), ((refl, stat_sn), ((refl, cmd_sn), ((refl, max_room s), ((refl, omega arith), ((refl, omega arith), tt)))))))
     tt tt (omega arith)

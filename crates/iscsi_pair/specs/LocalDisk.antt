@@ -1,6 +1,6 @@
 -- One local disk: what requests do where the disk is here; two ends that are in step, and what a
 -- request leads them to, answer by answer (RFC 7143, sections 11.3 and 11.4; own rule).
-use Rattle.std.specs.Prelude.{◌≡◌, ◌⊎◌, ℕ, ◌<◌, ◌≤◌, ◌^◌, ◌==◌, zero, suc, false, not, List, [], ◌∷◌, ◌++◌, length, take, Option, Some, None}
+use Rattle.std.specs.Prelude.{◌≡◌, ◌⊎◌, ℕ, ◌+◌, ◌%◌, ◌<◌, ◌≤◌, ◌^◌, ◌==◌, zero, suc, false, not, List, [], ◌∷◌, ◌++◌, length, take, Option, Some, None}
 use Rattle.scsi_cdb.specs.Sense.{sense_bytes}
 use Rattle.scsi_cdb.specs.declared.sense.Sense.{Sense}
 use Rattle.scsi_disk.specs.Disk.{Disk}
@@ -88,9 +88,12 @@ local_disk most disk (request ∷ more) = local_disk most (local most disk reque
 
 -- ---- two ends that are in step
 
--- The window that lets in one command, of this number (section 4.2.2.1).
-abbrev pub window_of_one : ℕ → Window
-window_of_one cmd_sn = record { exp = initiator.serial cmd_sn; max = initiator.serial cmd_sn }
+-- The window that lets in eight commands, from this number on (section 4.2.2.1).
+abbrev pub window_of_eight : ℕ → Window
+window_of_eight cmd_sn = record {
+  exp = initiator.serial cmd_sn;
+  max = initiator.serial ((cmd_sn + 7) % 2 ^ 32);
+}
 
 -- Both ends are in full feature phase of a normal session, hold the same, wait for the same numbers,
 -- and have nothing open (sections 4.2 and 6.3).
@@ -100,7 +103,7 @@ pub record AreInStep (m : initiator.Machine) (t : target.Machine) : Type 0 where
   pub session : t.session.session_type ≡ sessions.Normal
   pub none_open : m.open_request ≡ None
   pub none_done : m.done ≡ None
-  pub none_written : t.write ≡ None
+  pub no_task : t.tasks ≡ []
   pub held : t.session.held ≡ m.held
   pub is_held : IsHeld m.held
   pub segment : m.held.target_max_recv ≤ target_session.limit t.session.settings
@@ -108,8 +111,8 @@ pub record AreInStep (m : initiator.Machine) (t : target.Machine) : Type 0 where
   pub tag_fits : m.initiator_task_tag ≤ 0xffff_fffe
   pub cmd_sn : t.session.exp_cmd_sn ≡ m.cmd_sn
   pub cmd_sn_fits : m.cmd_sn < 2 ^ 32
-  -- the target takes one command, of that number
-  pub window : m.window ≡ window_of_one m.cmd_sn
+  -- the target takes eight commands, from that number on
+  pub window : m.window ≡ window_of_eight m.cmd_sn
   pub stat_sn : m.exp_stat_sn ≡ Some t.session.stat_sn
   pub stat_sn_fits : t.session.stat_sn < 2 ^ 32
 

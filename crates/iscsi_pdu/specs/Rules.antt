@@ -34,6 +34,10 @@ login_out_of_turn = 7
 abbrev pub rejected : ℕ
 rejected = 8
 
+-- a request's CmdSN is inside the window, and not the one that is due (section 4.2.2.1)
+abbrev pub command_out_of_turn : ℕ
+command_out_of_turn = 9
+
 -- ---- reasons of a Reject
 
 -- protocol error

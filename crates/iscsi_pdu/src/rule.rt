@@ -17,6 +17,8 @@ pub const STATUS_OUT_OF_ORDER: u8 = 6;
 pub const LOGIN_OUT_OF_TURN: u8 = 7;
 /// A Reject came.
 pub const REJECTED: u8 = 8;
+/// A request's CmdSN is inside the window, and not the one that is due.
+pub const COMMAND_OUT_OF_TURN: u8 = 9;
 
 /// The reason of a Reject of a PDU that breaks a rule.
 pub const PROTOCOL_ERROR: u8 = 0x04;

@@ -20,10 +20,18 @@ use Rattle.iscsi_target.specs.declared.fault.TargetFault.TheVariants as faults
 use Rattle.iscsi_target.specs.Configured.{Settings}
 use Rattle.iscsi_target.specs.Session.{limit}
 use Rattle.iscsi_target.specs.State.{Machine, Stepped, opening}
-use Rattle.iscsi_target.specs.Transfer.{joined}
+use Rattle.iscsi_target.specs.State.{joined}
 use Rattle.iscsi_target.specs.Machine.{answers, is_closed, then_stepped, first_rule}
 use Rattle.iscsi_target.specs.Laws.{joined_stepped}
-use Rattle.iscsi_target.specs.Feed.{Connection, Store, Answers, Ends, Fed, FedIf, Feeds, Stays, Finishes, HasAnswered, FedAll, opening_connection, stream_of}
+use Rattle.iscsi_stream.specs.Canonical.{canon}
+use Rattle.iscsi_stream.specs.Framing.{Moves}
+use Rattle.iscsi_stream.proofs.Writing.{canon_append}
+use Rattle.iscsi_target.specs.State.{unchanged}
+use Rattle.iscsi_target.specs.Machine.{MayStop}
+use Rattle.iscsi_target.proofs.FeedLoop.{stop_as, may_rise, short_rises}
+use Rattle.iscsi_service.specs.Session.{led}
+use Rattle.iscsi_target.specs.Feed as feed
+use Rattle.iscsi_target.specs.Feed.{StopsShort, Connection, Store, Answers, Ends, Fed, FedIf, Feeds, Stays, Finishes, HasAnswered, FedAll, opening_connection, stream_of}
 use Rattle.iscsi_target.proofs.Appending.{answers_append}
 use Rattle.iscsi_target.proofs.Joining.{answers_joined}
 use Rattle.iscsi_target.proofs.Feeding.{Told, told, answers_close}
@@ -49,29 +57,38 @@ stands_first settings disk = record {
 }
 
 -- a broken rule closes the session
-works_close : (old : Connection) (before : Store) (out bytes : List ℕ) (framing : Framing) (more : List Message) (r : Stepped) (after : Store) (written : List ℕ) → Answers old before out bytes framing more r after written
+works_close : (old : Connection) (before : Store) (out bytes : List ℕ) (framing : Framing) (more : List Message) (r : Stepped) (after : Store) → Answers old before bytes framing more r after
     → after.failures ≡ before.failures → (rule : ℕ) → r.rule ≡ Some rule → is_closed r.machine ≡ true
-works_close old before out bytes framing more r after written a works rule e =
+works_close old before out bytes framing more r after a works rule e =
     let is : r ≡ answers old.machine before.disk more = a.works works in
     ap (λ (x : Stepped). is_closed x.machine) is ∙ answers_close old.machine before.disk more rule (ap (λ (x : Stepped). x.rule) (sym is) ∙ e)
 
-framing_kept : (piece : List ℕ) (result : Result Phase TargetFault) (framing : Framing) (n : ℕ) (r : Stepped) (new : Connection) → Ends piece result framing n r new → ((rule : ℕ) → r.rule ≡ Some rule → is_closed r.machine ≡ true)
+-- where memory ran out, the session is closed
+short_closed : (result : Result Phase TargetFault) (out : List ℕ) (framing : Framing) (rest : List ℕ) (r : Stepped) (counted : ℕ) (new : Machine) (after : Store) (written : List ℕ) → feed.LeavesBy result out framing rest r counted new after written
+    → result ≡ Err faults.NoMemory → is_closed new ≡ true
+short_closed (Ok phase) out framing rest r counted new after written h e = absurd cc
+short_closed (Err faults.NoMemory) out framing rest r counted new after written h e = ap is_closed h.shut
+short_closed (Err (faults.Stream fault)) out framing rest r counted new after written h e = absurd cc
+short_closed (Err (faults.Protocol rule)) out framing rest r counted new after written h e = absurd cc
+short_closed (Err faults.Closed) out framing rest r counted new after written h e = absurd cc
+
+framing_kept : (piece : List ℕ) (result : Result Phase TargetFault) (framing : Framing) (n : ℕ) (r : Stepped) (new : Connection) → Ends piece result framing n r new → (result ≡ Err faults.NoMemory → is_closed new.machine ≡ true) → ((rule : ℕ) → r.rule ≡ Some rule → is_closed r.machine ≡ true)
     → is_closed new.machine ≡ false → new.framing ≡ framing
-framing_kept piece (Ok phase) framing n r new e closes live =
+framing_kept piece (Ok phase) framing n r new e short closes live =
     elim e.3 [
       | inl over ↦ absurd (apart (ap is_closed e.1 ∙ over) live)
       | inr on ↦ on.framing_is
     ]
-framing_kept piece (Err faults.NoMemory) framing n r new e closes live = absurd (apart (ap is_closed e.1) live)
-framing_kept piece (Err (faults.Stream fault)) framing n r new e closes live = absurd (apart (ap is_closed e.3) live)
-framing_kept piece (Err (faults.Protocol rule)) framing n r new e closes live = absurd (apart (ap is_closed e.1 ∙ closes rule e.0) live)
-framing_kept piece (Err faults.Closed) framing n r new e closes live = absurd e
+framing_kept piece (Err faults.NoMemory) framing n r new e short closes live = absurd (apart (short refl) live)
+framing_kept piece (Err (faults.Stream fault)) framing n r new e short closes live = absurd (apart (ap is_closed e.3) live)
+framing_kept piece (Err (faults.Protocol rule)) framing n r new e short closes live = absurd (apart (ap is_closed e.1 ∙ closes rule e.0) live)
+framing_kept piece (Err faults.Closed) framing n r new e short closes live = absurd e
 
 stands_more : (settings : Settings) (disk : Disk) (bytes : List ℕ) (old : Connection) (before : Store) (out piece : List ℕ) (result : Result Phase TargetFault) (new : Connection) (after : Store) (written : List ℕ)
     → Stands settings disk bytes old before.disk out → Feeds old before out piece result new after written → after.failures ≡ before.failures → is_closed new.machine ≡ false → Stands settings disk (bytes ++ piece) new after.disk written
 stands_more settings disk bytes old before out piece result new after written s f works live =
     let kept : new.framing ≡ f.framing =
-    framing_kept piece result f.framing f.count f.stepped new f.ends (works_close old before out (take f.count piece) f.framing f.messages f.stepped after written f.answered works) live in
+    framing_kept piece result f.framing f.count f.stepped new f.ends (short_closed result out f.framing (drop f.count piece) f.stepped f.answered.failures new.machine after written f.leaves) (works_close old before out (take f.count piece) f.framing f.messages f.stepped after f.answered works) live in
     record {
       has = goes_on settings 1 disk bytes old before out piece result new after written f works live s.has;
       ready = ap is_ready kept ∙ f.answered.ready;
@@ -127,10 +144,10 @@ none_broken settings disk ms live =
     none_of (answers (opening settings 1) disk ms).rule (λ k e. apart (answers_close (opening settings 1) disk ms k e) live)
 
 -- the rule that the PDUs of a call broke is that of all PDUs
-rule_of : (settings : Settings) (disk : Disk) (taken : List ℕ) (old : Connection) (before : Store) (out bytes : List ℕ) (framing : Framing) (more : List Message) (r : Stepped) (after : Store) (written : List ℕ)
-    → (h : HasAnswered settings 1 disk taken old before.disk out) → is_closed old.machine ≡ false → Answers old before out bytes framing more r after written → after.failures ≡ before.failures
+rule_of : (settings : Settings) (disk : Disk) (taken : List ℕ) (old : Connection) (before : Store) (out bytes : List ℕ) (framing : Framing) (more : List Message) (r : Stepped) (after : Store)
+    → (h : HasAnswered settings 1 disk taken old before.disk out) → is_closed old.machine ≡ false → Answers old before bytes framing more r after → after.failures ≡ before.failures
     → r.rule ≡ (answers (opening settings 1) disk (h.messages ++ more)).rule
-rule_of settings disk taken old before out bytes framing more r after written h live a works =
+rule_of settings disk taken old before out bytes framing more r after h live a works =
     let first : Stepped = answers (opening settings 1) disk h.messages in
     let later : Stepped = answers first.machine first.disk more in
     let e : joined_stepped r ≡ joined_stepped later =
@@ -238,20 +255,20 @@ fed_hears settings disk bytes piece old new before after out written result s f 
     hears_of settings (bytes ++ piece) (bytes ++ take f.count piece) (drop f.count piece) (s.has.messages ++ f.messages) f.framing (f.answered.taken bytes s.has.messages s.has.taken) (f.answered.limit ∙ s.bound) (whole_is bytes piece f.count)
 
 fed_told : (settings : Settings) (disk : Disk) (bytes piece : List ℕ) (old new : Connection) (before after : Store) (out written : List ℕ) (result : Result Phase TargetFault) → (s : Stands settings disk bytes old before.disk out)
-    → (f : Feeds old before out piece result new after written) → after.failures ≡ before.failures → Told settings 1 disk (s.has.messages ++ f.messages) f.stepped after.disk written
-fed_told settings disk bytes piece old new before after out written result s f works =
-    told settings 1 disk bytes old before out (take f.count piece) f.framing f.messages f.stepped after written s.has f.answered works
+    → (f : Feeds old before out piece result new after written) → feed.Stands out f.stepped f.answered.failures after written → after.failures ≡ before.failures → Told settings 1 disk (s.has.messages ++ f.messages) f.stepped after.disk written
+fed_told settings disk bytes piece old new before after out written result s f left works =
+    told settings 1 disk bytes old before out (take f.count piece) f.framing f.messages f.stepped f.answered.failures after written s.has f.answered left works
 
 fed_rule : (settings : Settings) (disk : Disk) (bytes piece : List ℕ) (old new : Connection) (before after : Store) (out written : List ℕ) (result : Result Phase TargetFault) → (s : Stands settings disk bytes old before.disk out)
     → is_closed old.machine ≡ false → (f : Feeds old before out piece result new after written) → after.failures ≡ before.failures → (answers (opening settings 1) disk (s.has.messages ++ f.messages)).rule ≡ f.stepped.rule
 fed_rule settings disk bytes piece old new before after out written result s live f works =
-    sym (rule_of settings disk bytes old before out (take f.count piece) f.framing f.messages f.stepped after written s.has live f.answered works)
+    sym (rule_of settings disk bytes old before out (take f.count piece) f.framing f.messages f.stepped after s.has live f.answered works)
 
 pub fault_told : (fault : TargetFault) (settings : Settings) (disk : Disk) (bytes piece : List ℕ) (old new : Connection) (before after : Store) (out written : List ℕ) → Stands settings disk bytes old before.disk out
     → is_closed old.machine ≡ false → Feeds old before out piece (Err fault) new after written → after.failures ≡ before.failures → EndsBy settings disk (Err (session.Target fault)) (bytes ++ piece)
 fault_told (faults.Stream fault) settings disk bytes piece old new before after out written s live f works =
     let result : Result Phase TargetFault = Err (faults.Stream fault) in
-    let t = fed_told settings disk bytes piece old new before after out written result s f works in (
+    let t = fed_told settings disk bytes piece old new before after out written result s f f.leaves works in (
       fed_hears settings disk bytes piece old new before after out written result s f,
       (fed_rule settings disk bytes piece old new before after out written result s live f works ∙ f.ends.0.rule, sym (ap is_closed t.machine) ∙ f.ends.0.live),
       rest_refused (limit settings) (bytes ++ take f.count piece) (s.has.messages ++ f.messages) f.framing (drop f.count piece) fault (f.answered.taken bytes s.has.messages s.has.taken) (f.answered.limit ∙ s.bound) f.ends.1 f.ends.2,
@@ -262,18 +279,63 @@ fault_told (faults.Protocol rule) settings disk bytes piece old new before after
 fault_told faults.NoMemory settings disk bytes piece old new before after out written s live f works = tt
 fault_told faults.Closed settings disk bytes piece old new before after out written s live f works = absurd f.ends
 
--- where memory ran out, the PDUs before were answered
+-- where memory ran out, the PDUs before were answered, and perhaps some tasks of the next one
+first_front : (settings : Settings) (disk : Disk) (read out : List ℕ) (framing : Framing) (rest : List ℕ) (r : Stepped) (counted : ℕ) (new : Machine) (after : Store) (written : List ℕ) (hears : Hears settings read)
+    → Told settings 1 disk hears.messages r r.disk (out ++ canon r.answers) → after.failures ≡ counted → (l : StopsShort out framing rest r counted new after written)
+    → ((message : Message) (next : Framing) (n : ℕ) → Moves framing next (take n rest) (message ∷ []) → next.limit ≡ framing.limit → (more : Hears settings read) × (more.messages ≡ hears.messages ++ message ∷ []))
+    → ServesFirst settings disk read after.disk written
+first_front settings disk read out framing rest r counted new after written hears t same l hear =
+    let all : Stepped = led settings disk read hears in
+    let wrote : (q : Stepped) → joined_stepped l.front ≡ joined_stepped q → written ≡ canon (all.answers ++ q.answers) = λ q e.
+    l.output_is ∙ ap (λ (x : List ℕ). out ++ x) (canon_append r.answers l.front.answers) ∙ sym (append_assoc out (canon r.answers) (canon l.front.answers))
+    ∙ ap (λ (x : List ℕ). x ++ canon l.front.answers) t.output_is ∙ sym (canon_append all.answers l.front.answers)
+    ∙ ap (λ (x : Stepped). canon (all.answers ++ x.answers)) e in
+    elim l.stops [
+      | inl none ↦
+          (let q : Stepped = unchanged all.machine all.disk in
+          let e : joined_stepped l.front ≡ joined_stepped q = ap joined_stepped none.0 ∙ (λ i. unchanged (t.machine i) (t.disk_is i)) in
+          record { hears = hears; front = q; stops = inl refl; disk_is = l.disk ∙ ap (λ (x : Stepped). x.disk) e; output_is = wrote q e })
+      | inr at ↦
+          (let x = stop_as r.machine all.machine r.disk all.disk counted at.message l.front after.failures t.machine t.disk_is at.stops in
+          let m = hear at.message at.next at.count at.taken at.limit in
+          record {
+            hears = hears;
+            front = x.0;
+            stops = inr (record { message = at.message; more = m.0; behind = m.1; failures = counted; stops = subst (λ (n : ℕ). MayStop all.machine all.disk counted at.message x.0 n) same x.1 });
+            disk_is = l.disk ∙ ap (λ (y : Stepped). y.disk) x.2;
+            output_is = wrote x.0 x.2;
+          })
+    ]
+
 pub first_told : (settings : Settings) (disk : Disk) (bytes piece : List ℕ) (old new : Connection) (before after : Store) (out written : List ℕ) → Stands settings disk bytes old before.disk out
     → Feeds old before out piece (Err faults.NoMemory) new after written → after.failures ≡ before.failures → ServesFirst settings disk (bytes ++ piece) after.disk written
 first_told settings disk bytes piece old new before after out written s f works =
-    let t = fed_told settings disk bytes piece old new before after out written (Err faults.NoMemory) s f works in
-    (fed_hears settings disk bytes piece old new before after out written (Err faults.NoMemory) s f, record { disk_is = t.disk_is; output_is = t.output_is })
+    let hears : Hears settings (bytes ++ piece) = fed_hears settings disk bytes piece old new before after out written (Err faults.NoMemory) s f in
+    let mid : Store = record { disk = f.stepped.disk; failures = after.failures } in
+    let a : Answers old before (take f.count piece) f.framing f.messages f.stepped mid = record {
+      taken = f.answered.taken;
+      limit = f.answered.limit;
+      ready = f.answered.ready;
+      failures = f.answered.failures;
+      may = f.answered.may;
+      works = f.answered.works;
+    } in
+    let t = told settings 1 disk bytes old before out (take f.count piece) f.framing f.messages f.stepped after.failures mid (out ++ canon f.stepped.answers) s.has a (record { failures = refl; disk = refl; output_is = refl }) works in
+    let low : before.failures ≤ f.answered.failures = may_rise old.machine before.disk before.failures f.messages f.stepped f.answered.failures f.answered.may in
+    let high : f.answered.failures ≤ after.failures = short_rises out f.framing (drop f.count piece) f.stepped f.answered.failures new.machine after written f.leaves in
+    first_front settings disk (bytes ++ piece) out f.framing (drop f.count piece) f.stepped f.answered.failures new.machine after written hears t (omega (arith, low, high, works)) f.leaves
+    (λ message next n moves limit_. (
+      hears_of settings (bytes ++ piece) ((bytes ++ take f.count piece) ++ take n (drop f.count piece)) (drop n (drop f.count piece)) ((s.has.messages ++ f.messages) ++ message ∷ []) next
+          (moves (bytes ++ take f.count piece) (s.has.messages ++ f.messages) (f.answered.taken bytes s.has.messages s.has.taken)) (limit_ ∙ f.answered.limit ∙ s.bound)
+          (whole_is bytes piece f.count ∙ whole_is (bytes ++ take f.count piece) (drop f.count piece) n),
+      refl,
+    ))
 
 -- the PDUs of a piece close it
 pub over_told : (phase : Phase) (settings : Settings) (disk : Disk) (bytes piece : List ℕ) (old new : Connection) (before after : Store) (out written : List ℕ) → Stands settings disk bytes old before.disk out → is_closed old.machine ≡ false
     → Feeds old before out piece (Ok phase) new after written → is_closed_phase phase ≡ true → after.failures ≡ before.failures → IsOver settings disk (bytes ++ piece)
 over_told phase settings disk bytes piece old new before after out written s live f over works =
-    let t = fed_told settings disk bytes piece old new before after out written (Ok phase) s f works in (
+    let t = fed_told settings disk bytes piece old new before after out written (Ok phase) s f f.leaves works in (
       fed_hears settings disk bytes piece old new before after out written (Ok phase) s f,
       fed_rule settings disk bytes piece old new before after out written (Ok phase) s live f works ∙ f.ends.0,
       sym (ap is_closed t.machine) ∙ sym (ap is_closed_phase f.ends.2) ∙ over,

@@ -15,10 +15,13 @@ use Rattle.iscsi_target.specs.declared.fault.TargetFault.TheVariants as faults
 use Rattle.iscsi_target.specs.Configured.{Settings}
 use Rattle.iscsi_target.specs.Machine.{is_closed}
 use Rattle.iscsi_login.specs.Stage.{is_closed_phase}
-use Rattle.iscsi_target.specs.Feed.{Connection, Store, Fed, FedIf, FedNext, FedNextIf, Feeds, Stays, FedAll, GoesWell, Finishes, opening_connection, stream_of}
+use Rattle.iscsi_stream.specs.Framing.{Framing}
+use Rattle.iscsi_target.specs.State.{Machine, Stepped}
+use Rattle.iscsi_target.specs.Feed as feed
+use Rattle.iscsi_target.specs.Feed.{LeavesBy, Connection, Store, Fed, FedIf, FedNext, FedNextIf, Feeds, Stays, FedAll, GoesWell, Finishes, opening_connection, stream_of}
 use Rattle.iscsi_target.specs.Laws.{Leads}
 use Rattle.iscsi_target.proofs.Feeding.{fed_any}
-use Rattle.iscsi_target.proofs.Leading.{may_leads, leads_append}
+use Rattle.iscsi_target.proofs.Leading.{may_leads, stop_leads, leads_append}
 use Rattle.iscsi_service.specs.declared.session.SessionFault.{SessionFault}
 use Rattle.iscsi_service.specs.declared.session.SessionFault.TheVariants as session
 use Rattle.iscsi_service.specs.Session.{target_settings, HasExecuted, ServesAll, ServesFirst, Serves, IsOver, EndsBy, EndsWell}
@@ -53,6 +56,28 @@ at_start steady settings first contents = record {
   executed = none_executed first.disk;
 }
 
+-- behind what was written
+stands_behind : (front out : List ℕ) (r : Stepped) (counted : ℕ) (after : Store) (written : List ℕ) → feed.Stands out r counted after written → feed.Stands (front ++ out) r counted after (front ++ written)
+stands_behind front out r counted after written h = record {
+  failures = h.failures;
+  disk = h.disk;
+  output_is = ap (λ (x : List ℕ). front ++ x) h.output_is ∙ sym (append_assoc front out (canon r.answers));
+}
+
+left_behind : (result : Result Phase TargetFault) (front out : List ℕ) (framing : Framing) (rest : List ℕ) (r : Stepped) (counted : ℕ) (new : Machine) (after : Store) (written : List ℕ) → LeavesBy result out framing rest r counted new after written
+    → LeavesBy result (front ++ out) framing rest r counted new after (front ++ written)
+left_behind (Ok phase) front out framing rest r counted new after written h = stands_behind front out r counted after written h
+left_behind (Err faults.NoMemory) front out framing rest r counted new after written h = record {
+  front = h.front;
+  stops = h.stops;
+  shut = h.shut;
+  disk = h.disk;
+  output_is = ap (λ (x : List ℕ). front ++ x) h.output_is ∙ sym (append_assoc front out (canon (r.answers ++ h.front.answers)));
+}
+left_behind (Err (faults.Stream fault)) front out framing rest r counted new after written h = stands_behind front out r counted after written h
+left_behind (Err (faults.Protocol rule)) front out framing rest r counted new after written h = stands_behind front out r counted after written h
+left_behind (Err faults.Closed) front out framing rest r counted new after written h = stands_behind front out r counted after written h
+
 -- what a call of feed appends, behind what was written
 fed_behind : (b : Bool) (old new : Connection) (before after : Store) (front piece out written : List ℕ) (result : Result Phase TargetFault)
     → FedIf b old before out piece result new after written → FedIf b old before (front ++ out) piece result new after (front ++ written)
@@ -68,17 +93,8 @@ fed_behind false old new before after front piece out written result f = record 
   some = f.some;
   messages = f.messages;
   stepped = f.stepped;
-  answered = record {
-    taken = f.answered.taken;
-    limit = f.answered.limit;
-    ready = f.answered.ready;
-    failures = f.answered.failures;
-    may = f.answered.may;
-    works = f.answered.works;
-    disk = f.answered.disk;
-    output_is = ap (λ (x : List ℕ). front ++ x) f.answered.output_is ∙ sym (append_assoc front out (canon f.stepped.answers));
-  };
-  counts = f.counts;
+  answered = f.answered;
+  leaves = left_behind result front out f.framing (drop f.count piece) f.stepped f.answered.failures new.machine after written f.leaves;
   ends = f.ends;
 }
 
@@ -105,12 +121,31 @@ stream_more : (pieces : List (List ℕ)) (piece : List ℕ) → stream_of pieces
 stream_more [] piece = sym (append-nil piece)
 stream_more (p ∷ pieces) piece = append_assoc p (stream_of pieces) piece ∙ ap (λ (x : List ℕ). p ++ x) (stream_more pieces piece)
 
+-- what was executed, where a call ended so
+stands_executed : (first : Disk) (out : List ℕ) (r : Stepped) (counted : ℕ) (after : Store) (written : List ℕ) → Leads first r.executed r.disk → feed.Stands out r counted after written → HasExecuted first after.disk
+stands_executed first out r counted after written leads h = (r.executed, subst (λ (d : Disk). Leads first r.executed d) (sym h.disk) leads)
+
+left_executed : (result : Result Phase TargetFault) (first : Disk) (out : List ℕ) (framing : Framing) (rest : List ℕ) (r : Stepped) (counted : ℕ) (new : Machine) (after : Store) (written : List ℕ) → Leads first r.executed r.disk
+    → LeavesBy result out framing rest r counted new after written → HasExecuted first after.disk
+left_executed (Ok phase) first out framing rest r counted new after written leads h = stands_executed first out r counted after written leads h
+left_executed (Err faults.NoMemory) first out framing rest r counted new after written leads h = elim h.stops [
+  | inl none ↦ (r.executed, subst (λ (d : Disk). Leads first r.executed d) (sym (h.disk ∙ ap (λ (x : Stepped). x.disk) none.0)) leads)
+  | inr at ↦ (
+    r.executed ++ h.front.executed,
+    subst (λ (d : Disk). Leads first (r.executed ++ h.front.executed) d) (sym h.disk)
+        (leads_append first r.disk h.front.disk r.executed h.front.executed leads (stop_leads r.machine r.disk counted after.failures at.message h.front at.stops)),
+  )
+]
+left_executed (Err (faults.Stream fault)) first out framing rest r counted new after written leads h = stands_executed first out r counted after written leads h
+left_executed (Err (faults.Protocol rule)) first out framing rest r counted new after written leads h = stands_executed first out r counted after written leads h
+left_executed (Err faults.Closed) first out framing rest r counted new after written leads h = stands_executed first out r counted after written leads h
+
 -- what a call of feed executed
 fed_executed : (b : Bool) (old new : Connection) (before after : Store) (out piece written : List ℕ) (result : Result Phase TargetFault)
     → FedIf b old before out piece result new after written → HasExecuted before.disk after.disk
 fed_executed true old new before after out piece written result f = ([], subst (λ (x : Store). Leads before.disk [] x.disk) (sym f.store) (nothing_executed before.disk))
 fed_executed false old new before after out piece written result f =
-    (f.stepped.executed, subst (λ (d : Disk). Leads before.disk f.stepped.executed d) (sym f.answered.disk) (may_leads old.machine before.disk before.failures f.answered.failures f.messages f.stepped f.answered.may))
+    left_executed result before.disk out f.framing (drop f.count piece) f.stepped f.answered.failures new.machine after written (may_leads old.machine before.disk before.failures f.answered.failures f.messages f.stepped f.answered.may) f.leaves
 
 -- so the blocks are those that commands left, one call more
 pub executed_more : (first : Disk) (old new : Connection) (before after : Store) (out piece written : List ℕ) (result : Result Phase TargetFault)

@@ -1,6 +1,6 @@
 -- A target's session over a stream: what it leaves, and where it ends (RFC 7143, sections 6 and
 -- 11).
-use Rattle.std.specs.Prelude.{◌≡◌, ◌⊎◌, ◌≤◌, ◌<◌, ℕ, true, false, List, [], ◌++◌, length, take, min, Option, Some, None, Result, Ok, Err, codes}
+use Rattle.std.specs.Prelude.{◌≡◌, ◌⊎◌, ◌≤◌, ◌<◌, ℕ, true, false, List, [], ◌∷◌, ◌++◌, length, take, min, Option, Some, None, Result, Ok, Err, codes}
 use Rattle.std.specs.Io.KnownBytes.{Consumes, IsAtEnd}
 use Rattle.scsi_disk.specs.Disk.{Disk}
 use Rattle.iscsi_pdu.specs.declared.head.Head.{Head}
@@ -14,8 +14,9 @@ use Rattle.iscsi_login.specs.Negotiation.{standard}
 use Rattle.iscsi_target.specs.declared.fault.TargetFault.TheVariants as faults
 use Rattle.iscsi_target.specs.Configured.{Settings}
 use Rattle.iscsi_target.specs.Session.{limit}
-use Rattle.iscsi_target.specs.State.{Execution, Stepped, opening}
-use Rattle.iscsi_target.specs.Machine.{answers, is_closed}
+use Rattle.iscsi_stream.specs.Canonical.{canon}
+use Rattle.iscsi_target.specs.State.{Execution, Stepped, opening, unchanged}
+use Rattle.iscsi_target.specs.Machine.{answers, is_closed, MayStop}
 use Rattle.iscsi_target.specs.Feed.{Writes}
 use Rattle.iscsi_target.specs.Laws.{Leads}
 use Rattle.iscsi_service.specs.declared.session.SessionFault.{SessionFault}
@@ -58,11 +59,28 @@ pub record Hears (settings : Settings) (read : List ℕ) : Type 0 where
 abbrev pub led : (settings : Settings) → Disk → (read : List ℕ) → Hears settings read → Stepped
 led settings disk read hears = answers (opening settings 1) disk hears.messages
 
+-- Some tasks of the PDU behind those that were answered were done, in their order, over a device
+-- that did not fail (own rule).
+pub record DoesSome (settings : Settings) (disk : Disk) (read : List ℕ) (hears : Hears settings read)
+    (front : Stepped) : Type 0 where
+  pub message : Message
+  -- what was read begins with these PDUs and that one
+  pub more : Hears settings read
+  pub behind : more.messages ≡ hears.messages ++ message ∷ []
+  pub failures : ℕ
+  pub stops : MayStop (led settings disk read hears).machine (led settings disk read hears).disk
+      failures message front failures
+
 -- The answers to some first PDUs of what was read are written, whole, and the blocks are those that
--- these PDUs lead to (own rule).
-abbrev pub ServesFirst : Settings → Disk → List ℕ → Disk → List ℕ → Type 0
-ServesFirst settings disk read disk_now written =
-    (hears : Hears settings read) × Writes settings 1 disk hears.messages disk_now written
+-- these PDUs lead to; of the PDU behind them some tasks may have been done, whole (own rule).
+pub record ServesFirst (settings : Settings) (disk : Disk) (read : List ℕ) (disk_now : Disk)
+    (written : List ℕ) : Type 0 where
+  pub hears : Hears settings read
+  pub front : Stepped
+  pub stops : (front ≡ unchanged (led settings disk read hears).machine
+      (led settings disk read hears).disk) ⊎ DoesSome settings disk read hears front
+  pub disk_is : disk_now ≡ front.disk
+  pub output_is : written ≡ canon ((led settings disk read hears).answers ++ front.answers)
 
 -- What a session leaves where it ends; where a write failed, nothing is said of it (own rule).
 abbrev pub Serves : Settings → Disk → Result (Unit {0}) SessionFault → List ℕ → Disk → List ℕ

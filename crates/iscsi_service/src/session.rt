@@ -58,12 +58,13 @@ pub enum SessionFault {
 /// where the stream ends.
 ///
 /// What is written are the answers to all PDUs of what was read, and the store has the blocks that
-/// they leave; after want of memory those of some first PDUs, whole. Of a failed write nothing is
-/// said. Answers `Ok` where the stream ends behind a PDU or the session was closed and no rule
-/// broken; `Target` with the rule that the last PDU broke, or with the fault and the place of what
-/// follows the PDUs where that is refused, or begun and not whole at the end of the stream, after
-/// the answers that were due; `Read` where a read fails or 16,777,216 of them did not reach the
-/// end, and none of these faults came before; `Write` where a write fails or takes no byte.
+/// they leave; after want of memory those of some first PDUs, whole, and of some first tasks of the
+/// next one. Of a failed write nothing is said. Answers `Ok` where the stream ends behind a PDU or
+/// the session was closed and no rule broken; `Target` with the rule that the last PDU broke, or
+/// with the fault and the place of what follows the PDUs where that is refused, or begun and not
+/// whole at the end of the stream, after the answers that were due; `Read` where a read fails or
+/// 16,777,216 of them did not reach the end, and none of these faults came before; `Write` where a
+/// write fails or takes no byte.
 ///
 /// The session is that of RFC 7143, sections 6 and 11; how it is read and written is own rule.
 pub fn serve_stream<S: BlockStore, R: Read, W: Write>(

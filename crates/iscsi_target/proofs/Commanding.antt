@@ -6,15 +6,16 @@ use Rattle.iscsi_pdu.specs.declared.head.scsi_command.ScsiCommand.{ScsiCommand}
 use Rattle.iscsi_pdu.specs.declared.head.data_out.DataOut.{DataOut}
 use Rattle.iscsi_stream.specs.Stream.{Message}
 use Rattle.iscsi_login.specs.Held.{first_burst}
-use Rattle.iscsi_target.specs.State.{Machine, Write, Stepped, unchanged}
+use Rattle.iscsi_target.specs.Write.{Write}
+use Rattle.iscsi_target.specs.State.{Machine, Stepped, unchanged, waiting}
+use Rattle.iscsi_target.specs.declared.tasks.Task.TheVariants.{Data}
 use Rattle.iscsi_stream.specs.Pieces.{data_of}
 use Rattle.iscsi_target.specs.Rejecting.{breaks}
 use Rattle.iscsi_pdu.specs.Rules.{data_out_of_order}
 use Rattle.iscsi_target.specs.Transfer.{received, is_whole, is_idle, is_in_sequence, taken, with_data, with_piece, joined_write}
 use Rattle.iscsi_target.specs.Execution.{Device, execute}
-use Rattle.iscsi_target.specs.Command.{breaks_burst_rules, scsi_command, order_of, planned, proceed, ask, data_out, data_for, data_taken}
+use Rattle.iscsi_target.specs.Command.{breaks_burst_rules, scsi_command, order_of, planned, proceed, ask, led_by}
 use Rattle.iscsi_target.specs.Laws.{joined_stepped}
-use Rattle.iscsi_target.proofs.Joining.{proceed_same}
 use Rattle.iscsi_target.proofs.OpenWrites.{data_of_one}
 use Rattle.scsi_disk.specs.Plan.{plan_of}
 use Rattle.std.proofs.Common.{rules, append_assoc, ◌≤◌}
@@ -30,81 +31,36 @@ use Rattle.iscsi_target.specs.Execution.{response_head, sense_segment, command_a
 use Rattle.iscsi_target.specs.Command.{r2t_head}
 use Rattle.iscsi_target.specs.declared.due.Due.{Due}
 use Rattle.iscsi_target.specs.declared.due.Due.TheVariants.{Nothing, Unsolicited, Solicited}
-use Rattle.iscsi_target.specs.Inside.{IsAsked, asking_for}
+use Rattle.iscsi_target.specs.Staged.{IsAsked, asking_for}
 use Rattle.iscsi_target.proofs.Answering.{one_answer}
 use Rattle.iscsi_target.specs.Inside.{Leaves}
-
-pub none_written : (s : Machine) → s.write ≡ None → record s { write = None } ≡ s
-none_written s e = ap (λ (w : Option Write). record s { write = w }) (sym e)
 
 pub command_broken : (d : Device) (s : Machine) (disk : Disk) (m : Message) (h : ScsiCommand) (bytes : List ℕ) → breaks_burst_rules s.session.held h (length bytes) ≡ true
     → scsi_command d s disk m h bytes ≡ breaks s disk data_out_of_order m
 command_broken d s disk m h bytes e =
     ap (λ (b : Bool). if b then breaks s disk data_out_of_order m else planned d s disk h bytes (plan_of (order_of h) disk.count)) e
 
-pub proceeds_whole : (d : Device) (s : Machine) (disk : Disk) (w : Write) → is_whole w ≡ true → s.write ≡ None
-    → execute d s disk w.initiator_task_tag w.order w.pieces ≡ proceed d s disk w
-proceeds_whole d s disk w e none =
-    ap (λ (x : Machine). execute d x disk w.initiator_task_tag w.order w.pieces) (sym (none_written s none))
-    ∙ sym (ap (λ (b : Bool). if b then execute d (record s { write = None }) disk w.initiator_task_tag w.order w.pieces
-    else (if is_idle w.due then ask (record s { write = Some w }) disk w else unchanged (record s { write = Some w }) disk)) e)
+pub proceeds_whole : (d : Device) (s : Machine) (disk : Disk) (w : Write) → is_whole w ≡ true → execute d s disk w.initiator_task_tag w.order w.pieces ≡ proceed d s disk w
+proceeds_whole d s disk w e = sym (rw e refl)
 
-proceeds_on : (d : Device) (s : Machine) (disk : Disk) (w : Write) → is_whole w ≡ false
-    → proceed d s disk w ≡ (if is_idle w.due then ask (record s { write = Some w }) disk w else unchanged (record s { write = Some w }) disk)
-proceeds_on d s disk w e =
-    ap (λ (b : Bool). if b then execute d (record s { write = None }) disk w.initiator_task_tag w.order w.pieces
-    else (if is_idle w.due then ask (record s { write = Some w }) disk w else unchanged (record s { write = Some w }) disk)) e
+pub proceeds_asking : (d : Device) (s : Machine) (disk : Disk) (w : Write) → is_whole w ≡ false → is_idle w.due ≡ true → proceed d s disk w ≡ ask s disk w
+proceeds_asking d s disk w e idle = rw (e, idle) refl
 
-pub proceeds_asking : (d : Device) (s : Machine) (disk : Disk) (w : Write) → is_whole w ≡ false → is_idle w.due ≡ true → proceed d s disk w ≡ ask (record s { write = Some w }) disk w
-proceeds_asking d s disk w e idle = proceeds_on d s disk w e
-    ∙ ap (λ (b : Bool). if b then ask (record s { write = Some w }) disk w else unchanged (record s { write = Some w }) disk) idle
-
-pub proceeds_waiting : (d : Device) (s : Machine) (disk : Disk) (w : Write) → is_whole w ≡ false → is_idle w.due ≡ false → proceed d s disk w ≡ unchanged (record s { write = Some w }) disk
-proceeds_waiting d s disk w e idle = proceeds_on d s disk w e
-    ∙ ap (λ (b : Bool). if b then ask (record s { write = Some w }) disk w else unchanged (record s { write = Some w }) disk) idle
-
--- ---- a Data-Out
-
-pub no_write : (d : Device) (s : Machine) (disk : Disk) (m : Message) (h : DataOut) (bytes : List ℕ) → s.write ≡ None → data_out d s disk m h bytes ≡ unchanged s disk
-no_write d s disk m h bytes e = ap (data_for d s disk m h bytes) e
-
-abbrev with_tag : Device → Machine → Disk → Message → DataOut → List ℕ → Write → Bool → Stepped
-with_tag d s disk m h bytes w b = if b then data_taken d s disk m (taken (first_burst s.session.held) w h bytes) else unchanged s disk
-
-pub other_tag : (d : Device) (s : Machine) (disk : Disk) (m : Message) (h : DataOut) (bytes : List ℕ) (w : Write) → s.write ≡ Some w → (h.initiator_task_tag == w.initiator_task_tag) ≡ false
-    → data_out d s disk m h bytes ≡ unchanged s disk
-other_tag d s disk m h bytes w e f = ap (data_for d s disk m h bytes) e ∙ ap (with_tag d s disk m h bytes w) f
-
-abbrev if_taken : Device → Machine → Disk → Message → DataOut → List ℕ → Write → Bool → Stepped
-if_taken d s disk m h bytes w b = data_taken d s disk m (if b then Some (with_data w h bytes) else None)
-
-pub out_of_order : (d : Device) (s : Machine) (disk : Disk) (m : Message) (h : DataOut) (bytes : List ℕ) (w : Write) → s.write ≡ Some w → (h.initiator_task_tag == w.initiator_task_tag) ≡ true
-    → is_in_sequence (first_burst s.session.held) w h (received w + length bytes) w.due ≡ false → data_out d s disk m h bytes ≡ breaks s disk data_out_of_order m
-out_of_order d s disk m h bytes w e f g = ap (data_for d s disk m h bytes) e ∙ ap (with_tag d s disk m h bytes w) f ∙ ap (if_taken d s disk m h bytes w) g
-
-pub in_order : (d : Device) (s : Machine) (disk : Disk) (m : Message) (h : DataOut) (bytes : List ℕ) (w : Write) → s.write ≡ Some w → (h.initiator_task_tag == w.initiator_task_tag) ≡ true
-    → is_in_sequence (first_burst s.session.held) w h (received w + length bytes) w.due ≡ true
-    → joined_stepped (proceed d (record s { write = None }) disk (joined_write (with_data w h bytes))) ≡ joined_stepped (data_out d s disk m h bytes)
-in_order d s disk m h bytes w e f g =
-    let v : Write = with_data w h bytes in
-    (proceed_same d s disk v (with_piece [] 0 (data_of v.pieces)) v.pieces (data_of_one (data_of v.pieces))).is
-    ∙ ap joined_stepped (sym (ap (data_for d s disk m h bytes) e ∙ ap (with_tag d s disk m h bytes w) f ∙ ap (if_taken d s disk m h bytes w) g))
+pub proceeds_waiting : (d : Device) (s : Machine) (disk : Disk) (w : Write) → is_whole w ≡ false → is_idle w.due ≡ false → proceed d s disk w ≡ unchanged (led_by w s) disk
+proceeds_waiting d s disk w e idle = rw (e, idle) refl
 
 -- ---- no answer
-
-pub some_written : (s : Machine) (w : Write) → s.write ≡ Some w → record s { write = Some w } ≡ s
-some_written s w e = ap (λ (x : Option Write). record s { write = x }) (sym e)
 
 pub asked_idle : (total received asked : ℕ) (due : Due) → is_idle due ≡ true → IsAsked total received asked due → asked ≤ received
 asked_idle total received asked Nothing idle h = h
 asked_idle total received asked (Unsolicited n) idle h = absurd cc
 asked_idle total received asked (Solicited tag n end) idle h = absurd cc
 
-pub asked_out : {E : Type 0} (s : Machine) (disk : Disk) (w asked : Write) (head : Head) (desired_ : ℕ) (new : Machine) (before after : List ℕ) → desired_ ≡ desired s.session.held w → asked ≡ asking_for desired_ w → new ≡ record s { write = Some asked }
-    → head ≡ r2t_head (record s { write = Some w }) w → after ≡ before ++ whole head [] → Leaves {E = E} (ask (record s { write = Some w }) disk w) (Ok None) s new before after
+pub asked_out : {E : Type 0} (s : Machine) (disk : Disk) (w asked : Write) (head : Head) (desired_ : ℕ) (new : Machine) (before after : List ℕ) → desired_ ≡ desired s.session.held w → asked ≡ asking_for desired_ w
+    → new ≡ record s { tasks = Data asked ∷ s.tasks } → head ≡ r2t_head s.session (waiting (led_by w s).tasks) w → after ≡ before ++ whole head [] → Leaves {E = E} (ask s disk w) (Ok None) s new before after
 asked_out s disk w asked head desired_ new before after is_desired is_asked is_new is_head is_after = record {
-  machine = is_new ∙ ap (λ (x : Write). record s { write = Some x }) (is_asked ∙ ap (λ (n : ℕ). asking_for n w) is_desired);
-  output = is_after ∙ ap (λ (h : Head). before ++ whole h []) is_head ∙ ap (λ (x : List ℕ). before ++ x) (one_answer (r2t_head (record s { write = Some w }) w) []);
+  machine = is_new ∙ ap (λ (x : Write). record s { tasks = Data x ∷ s.tasks }) (is_asked ∙ ap (λ (n : ℕ). asking_for n w) is_desired);
+  output = is_after ∙ ap (λ (h : Head). before ++ whole h []) is_head ∙ ap (λ (x : List ℕ). before ++ x) (one_answer (r2t_head s.session (waiting (led_by w s).tasks) w) []);
   rule_is = refl;
   err = tt;
   unwritten = tt;
@@ -112,26 +68,26 @@ asked_out s disk w asked head desired_ new before after is_desired is_asked is_n
 
 -- ---- what an order tells
 
-pub told_write : (s : Machine) (tag : ℕ) (outcome : Outcome) (head : Head) (before mid after : List ℕ) → outcome.bytes ≡ [] → head ≡ response_head s tag outcome 0 → mid ≡ before
-    → after ≡ mid ++ whole head (sense_segment outcome.sense) → after ≡ before ++ canon (command_answers s tag outcome (parts_given s.session.held outcome.bytes))
+pub told_write : (s : Machine) (tag : ℕ) (outcome : Outcome) (head : Head) (before mid after : List ℕ) → outcome.bytes ≡ [] → head ≡ response_head s.session (waiting s.tasks) tag outcome 0 → mid ≡ before
+    → after ≡ mid ++ whole head (sense_segment outcome.sense) → after ≡ before ++ canon (command_answers s.session (waiting s.tasks) tag outcome (parts_given s.session.held outcome.bytes))
 told_write s tag outcome head before mid after none is_head is_mid is_after =
     is_after ∙ ap (λ (m : List ℕ). m ++ whole head (sense_segment outcome.sense)) is_mid
     ∙ ap (λ (h : Head). before ++ whole h (sense_segment outcome.sense)) is_head
-    ∙ ap (λ (x : List ℕ). before ++ x) (one_answer (response_head s tag outcome 0) (sense_segment outcome.sense))
-    ∙ ap (λ (b : List ℕ). before ++ canon (command_answers s tag outcome (parts_given s.session.held b))) (sym none)
+    ∙ ap (λ (x : List ℕ). before ++ x) (one_answer (response_head s.session (waiting s.tasks) tag outcome 0) (sense_segment outcome.sense))
+    ∙ ap (λ (b : List ℕ). before ++ canon (command_answers s.session (waiting s.tasks) tag outcome (parts_given s.session.held b))) (sym none)
 
 pub told_order : (s : Machine) (tag : ℕ) (outcome : Outcome) (bytes : List ℕ) (count : ℕ) (head : Head) (before mid after : List ℕ) → bytes ≡ outcome.bytes → count ≡ length (parts_given s.session.held bytes)
-    → mid ≡ before ++ canon (data_ins s tag 0 0 (parts_given s.session.held bytes)) → head ≡ response_head s tag outcome count
-    → after ≡ mid ++ whole head (sense_segment outcome.sense) → after ≡ before ++ canon (command_answers s tag outcome (parts_given s.session.held outcome.bytes))
+    → mid ≡ before ++ canon (data_ins s.session (waiting s.tasks) tag 0 0 (parts_given s.session.held bytes)) → head ≡ response_head s.session (waiting s.tasks) tag outcome count
+    → after ≡ mid ++ whole head (sense_segment outcome.sense) → after ≡ before ++ canon (command_answers s.session (waiting s.tasks) tag outcome (parts_given s.session.held outcome.bytes))
 told_order s tag outcome bytes count head before mid after is_bytes is_count is_mid is_head is_after =
     let given : List (List ℕ × Bool) = parts_given s.session.held bytes in
-    let ins : List Message = data_ins s tag 0 0 given in
-    let last : Message = message (response_head s tag outcome (length given)) (sense_segment outcome.sense) in
+    let ins : List Message = data_ins s.session (waiting s.tasks) tag 0 0 given in
+    let last : Message = message (response_head s.session (waiting s.tasks) tag outcome (length given)) (sense_segment outcome.sense) in
     is_after ∙ ap (λ (m : List ℕ). m ++ whole head (sense_segment outcome.sense)) is_mid ∙ append_assoc before (canon ins) (whole head (sense_segment outcome.sense))
-    ∙ ap (λ (h : Head). before ++ (canon ins ++ whole h (sense_segment outcome.sense))) (is_head ∙ ap (response_head s tag outcome) is_count)
-    ∙ ap (λ (x : List ℕ). before ++ (canon ins ++ x)) (one_answer (response_head s tag outcome (length given)) (sense_segment outcome.sense))
+    ∙ ap (λ (h : Head). before ++ (canon ins ++ whole h (sense_segment outcome.sense))) (is_head ∙ ap (response_head s.session (waiting s.tasks) tag outcome) is_count)
+    ∙ ap (λ (x : List ℕ). before ++ (canon ins ++ x)) (one_answer (response_head s.session (waiting s.tasks) tag outcome (length given)) (sense_segment outcome.sense))
     ∙ ap (λ (x : List ℕ). before ++ x) (sym (flat_map-append canonical_bytes ins (last ∷ [])))
-    ∙ ap (λ (b : List ℕ). before ++ canon (command_answers s tag outcome (parts_given s.session.held b))) is_bytes
+    ∙ ap (λ (b : List ℕ). before ++ canon (command_answers s.session (waiting s.tasks) tag outcome (parts_given s.session.held b))) is_bytes
 
 pub on_ok : {A E P Q : Type 0} (result : Result A E) → (P → Q) → OnOk result P → OnOk result Q
 on_ok (Ok x) step h = step h

@@ -8,8 +8,8 @@ use Rattle.scsi_disk.specs.declared.order.Order.{Order}
 use Rattle.iscsi_stream.specs.Segment.{segment_bytes}
 use Rattle.iscsi_stream.specs.Stream.{Message}
 use Rattle.iscsi_login.specs.Held.{Held, max_burst}
-use Rattle.iscsi_target.specs.Session.{message}
-use Rattle.iscsi_target.specs.State.{Machine}
+use Rattle.iscsi_target.specs.Session.{Session, message}
+use Rattle.iscsi_target.specs.State.{Machine, waiting}
 use Rattle.iscsi_stream.specs.Pieces.{Pieces, data_of, chunks, TilesFrom, data_pieces}
 use Rattle.iscsi_target.specs.Execution.{Device, execute, marked, run_given, parts_given, data_ins, response_head, sense_segment}
 use Rattle.iscsi_target.specs.Tiles.{Tiles, TileBytes}
@@ -40,21 +40,21 @@ bytes_runs held (run ∷ runs) lt =
 pub all_given : (held : Held) (bytes : List ℕ) → 0 < max_burst held → 0 < held.initiator_max_recv → bytes_of (parts_given held bytes) ≡ bytes
 all_given held bytes burst most = bytes_runs held (chunks (max_burst held) bytes) most ∙ joined_chunks (max_burst held) bytes burst
 
-tiles_ins : (s : Machine) (tag data_sn at : ℕ) (given : Parts) (last : Message) → data_pieces (last ∷ []) ≡ []
-    → TilesFrom at (data_pieces (data_ins s tag data_sn at given ++ last ∷ [])) (at + length (bytes_of given))
+tiles_ins : (s : Session) (waits tag data_sn at : ℕ) (given : Parts) (last : Message) → data_pieces (last ∷ []) ≡ []
+    → TilesFrom at (data_pieces (data_ins s waits tag data_sn at given ++ last ∷ [])) (at + length (bytes_of given))
 unfolding segment_bytes
-tiles_ins s tag data_sn at [] last e = subst (λ (ps : Pieces). TilesFrom at ps (at + 0)) (sym e) (omega arith)
-tiles_ins s tag data_sn at (part ∷ given) last e = (
+tiles_ins s waits tag data_sn at [] last e = subst (λ (ps : Pieces). TilesFrom at ps (at + 0)) (sym e) (omega arith)
+tiles_ins s waits tag data_sn at (part ∷ given) last e = (
   refl,
-  subst (λ (n : ℕ). TilesFrom (at + length part.0) (data_pieces (data_ins s tag (data_sn + 1) (at + length part.0) given ++ last ∷ [])) n)
-      (let f = length-append part.0 (bytes_of given) in omega (arith, f)) (tiles_ins s tag (data_sn + 1) (at + length part.0) given last e),
+  subst (λ (n : ℕ). TilesFrom (at + length part.0) (data_pieces (data_ins s waits tag (data_sn + 1) (at + length part.0) given ++ last ∷ [])) n)
+      (let f = length-append part.0 (bytes_of given) in omega (arith, f)) (tiles_ins s waits tag (data_sn + 1) (at + length part.0) given last e),
 )
 
-data_ins_bytes : (s : Machine) (tag data_sn at : ℕ) (given : Parts) (last : Message) → data_pieces (last ∷ []) ≡ []
-    → data_of (data_pieces (data_ins s tag data_sn at given ++ last ∷ [])) ≡ bytes_of given
+data_ins_bytes : (s : Session) (waits tag data_sn at : ℕ) (given : Parts) (last : Message) → data_pieces (last ∷ []) ≡ []
+    → data_of (data_pieces (data_ins s waits tag data_sn at given ++ last ∷ [])) ≡ bytes_of given
 unfolding segment_bytes
-data_ins_bytes s tag data_sn at [] last e = ap data_of e
-data_ins_bytes s tag data_sn at (part ∷ given) last e = ap (λ (z : List ℕ). part.0 ++ z) (data_ins_bytes s tag (data_sn + 1) (at + length part.0) given last e)
+data_ins_bytes s waits tag data_sn at [] last e = ap data_of e
+data_ins_bytes s waits tag data_sn at (part ∷ given) last e = ap (λ (z : List ℕ). part.0 ++ z) (data_ins_bytes s waits tag (data_sn + 1) (at + length part.0) given last e)
 
 -- the Data-In of a command tile what it gives
 pub execute_tiled : (device : Device) (s : Machine) (disk : Disk) (tag : ℕ) (order : Order) (pieces : Pieces) → 0 < max_burst s.session.held → 0 < s.session.held.initiator_max_recv
@@ -62,8 +62,8 @@ pub execute_tiled : (device : Device) (s : Machine) (disk : Disk) (tag : ℕ) (o
 execute_tiled device s disk tag order pieces burst most =
     let e : Effect = device 0 disk order (data_of pieces) in
     let given : Parts = parts_given s.session.held e.outcome.bytes in
-    let last : Message = message (response_head s tag e.outcome (length given)) (sense_segment e.outcome.sense) in
+    let last : Message = message (response_head s.session (waiting s.tasks) tag e.outcome (length given)) (sense_segment e.outcome.sense) in
     let all : bytes_of given ≡ e.outcome.bytes = all_given s.session.held e.outcome.bytes burst most in (
-      subst (λ (n : ℕ). Tiles (data_pieces (data_ins s tag 0 0 given ++ last ∷ [])) n) (let f = ap (λ (z : List ℕ). length z) all in omega (arith, f)) (tiles_ins s tag 0 0 given last refl),
-      data_ins_bytes s tag 0 0 given last refl ∙ all,
+      subst (λ (n : ℕ). Tiles (data_pieces (data_ins s.session (waiting s.tasks) tag 0 0 given ++ last ∷ [])) n) (let f = ap (λ (z : List ℕ). length z) all in omega (arith, f)) (tiles_ins s.session (waiting s.tasks) tag 0 0 given last refl),
+      data_ins_bytes s.session (waiting s.tasks) tag 0 0 given last refl ∙ all,
     )

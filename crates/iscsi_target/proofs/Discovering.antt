@@ -15,7 +15,7 @@ use Rattle.iscsi_text.specs.Reading.{has_key, placed, in_order}
 use Rattle.iscsi_text.proofs.Keys.{key_le_both, key_le_trans, same_key, bytes_eq_same}
 use Rattle.iscsi_target.specs.Discovery.{replies, reply_to, word_for, name_if, reply_pairs, is_asked}
 use Rattle.iscsi_target.specs.Inside.{has_first, has_reply}
-use Rattle.iscsi_target.proofs.StepParts.{by_cases}
+use Rattle.iscsi_target.proofs.Turns.{by_cases}
 use Rattle.iscsi_text.proofs.Pairs.{at_all}
 use Rattle.iscsi_stream.proofs.Ready.{apart}
 

@@ -23,16 +23,18 @@ use Rattle.iscsi_login.specs.declared.phase.Phase.TheVariants as phases
 use Rattle.iscsi_target.specs.declared.fault.TargetFault.{TargetFault}
 use Rattle.iscsi_target.specs.declared.fault.TargetFault.TheVariants as faults
 use Rattle.iscsi_target.specs.Configured.{Settings}
-use Rattle.iscsi_target.specs.Session.{Reply, limit}
-use Rattle.iscsi_target.specs.State.{Machine, Write, Stepped, closed, opening, on, unchanged, shut_down, waiting}
-use Rattle.iscsi_target.specs.Transfer.{joined, is_whole as write_is_whole, is_idle}
+use Rattle.iscsi_target.specs.Session.{Session, Reply, limit}
+use Rattle.iscsi_target.specs.declared.tasks.Task.{Task}
+use Rattle.iscsi_target.specs.State.{Machine, Stepped, closed, opening, on, unchanged, shut_down, waiting}
+use Rattle.iscsi_target.specs.State.{joined}
 use Rattle.iscsi_target.specs.Login.{login_step}
 use Rattle.iscsi_target.specs.Execution.{Device, reliable}
-use Rattle.iscsi_target.specs.Command.{proceed, opened}
-use Rattle.iscsi_target.specs.Machine.{is_closed, is_over_limit, step, answers, then_stepped, first_rule}
+use Rattle.iscsi_pdu.specs.Rules.{data_out_of_order}
+use Rattle.iscsi_target.specs.Machine.{is_closed, is_over_limit, step, answers, begun, done_in_turn, then_stepped, first_rule}
 use Rattle.iscsi_target.specs.Laws.{joined_stepped}
-use Rattle.iscsi_target.specs.Feed.{Connection, Store, Answers, Ends, Feeds, Fed, HasAnswered, GoesWell, FedAll, FedIf, Stays, Meets, opening_connection, Writes, Holds, Refuses, SameSession}
-use Rattle.iscsi_target.proofs.StepParts.{by_cases, Parts, step_parts}
+use Rattle.iscsi_target.specs.Feed.{Connection, Store, Answers, Stands, LeavesBy, Ends, Feeds, Fed, HasAnswered, GoesWell, FedAll, FedIf, Stays, Meets, opening_connection, Writes, Holds, Refuses, SameSession}
+use Rattle.iscsi_target.proofs.Turns.{by_cases, Begins, begins, Turns, turns, with_tasks}
+use Rattle.iscsi_target.proofs.StepParts.{Parts, step_parts}
 use Rattle.iscsi_target.proofs.Replies.{login_logs, reject_reply, breach_reply, request_answered_reply}
 use Rattle.iscsi_login.specs.Stage.{is_closed_phase}
 use Rattle.iscsi_target.proofs.Numbers.{closed_answers, answers_settings}
@@ -48,36 +50,58 @@ use Rattle.iscsi_login.specs.Stage.{is_closed_phase}
 record Closes (r : Stepped) : Type 0 where
   is : (k : ℕ) → r.rule ≡ Some k → is_closed r.machine ≡ true
 
-reply_closes : (s : Machine) (disk : Disk) (r : Reply) → ((k : ℕ) → r.rule ≡ Some k → is_closed_phase r.session.phase ≡ true) → Closes (on disk s.write r)
-reply_closes s disk r c = record { is = c }
+reply_closes : (tasks : List Task) (disk : Disk) (r : Reply) → ((k : ℕ) → r.rule ≡ Some k → is_closed_phase r.session.phase ≡ true) → Closes (on disk tasks r)
+reply_closes tasks disk r c = record { is = c }
 
-proceed_closes : (device : Device) (s : Machine) (disk : Disk) (w : Write) → Closes (proceed device s disk w)
-proceed_closes device s disk w =
-    by_cases (write_is_whole w) (λ h. rw h (record { is = λ k e. absurd cc }))
-    (λ h. by_cases (is_idle w.due) (λ g. rw (h, g) (record { is = λ k e. absurd cc })) (λ g. rw (h, g) (record { is = λ k e. absurd cc })))
-
-parts_close : (device : Device) (disk : Disk) → Parts device disk (λ s m r. Closes r) (λ s m r. Closes r)
-parts_close device disk = record {
-  nothing_ = λ s m c. record { is = λ k e. absurd cc };
-  shut_ = λ s m. record { is = λ k e. refl };
-  reject_ = λ s reason m a. reply_closes s disk _ (reject_reply s.session (waiting s.write) reason m).rule;
-  breach_ = λ s rule m. reply_closes s disk _ (breach_reply s.session (waiting s.write) rule m).rule;
-  login_ = λ s m k. reply_closes s disk (login_step s.session m) (login_logs s.session m).is.rule;
-  taken_ = λ s m h w more k e g f. proceed_closes device s disk more;
-  immediate_ = λ s m r a w c h. record { is = h.is };
-  in_turn_ = λ s m n r a c w h. record { is = h.is };
-  refused_ = λ s m rule. reply_closes s disk _ (breach_reply s.session (waiting s.write) rule m).rule;
-  request_ = λ s m head k none. reply_closes s disk _ (request_answered_reply s.session (waiting s.write) m head).rule;
-  execute_ = λ s m h k none. record { is = λ n e. absurd cc };
-  opened_ = λ s m h total k e f. proceed_closes device s disk (opened h total (segment_bytes m.segment));
+begins_close : Begins (λ device s disk task r. Closes r)
+begins_close = record {
+  request_ = λ device s disk m none. reply_closes s.tasks disk _ (request_answered_reply s.session (waiting s.tasks) m m.head).rule;
+  refused_ = λ device s disk m h k broke. reply_closes s.tasks disk _ (breach_reply s.session (waiting s.tasks) data_out_of_order m).rule;
+  command_ = λ device s disk m h k none. record { is = λ n e. absurd cc };
+  write_ = λ device s disk task w is whole. record { is = λ n e. absurd cc };
+  ask_ = λ device s disk task w is whole idle. record { is = λ n e. absurd cc };
+  wait_ = λ device s disk task w is whole idle. record { is = λ n e. absurd cc };
 }
 
-step_closes : (s : Machine) (disk : Disk) (m : Message) → Closes (step s disk m)
-step_closes s disk m = step_parts reliable disk (λ s m r. Closes r) (λ s m r. Closes r) (parts_close reliable disk) s m
+begun_closes : (device : Device) (s : Session) (disk : Disk) (task : Task) (more : List Task) → Closes (begun device (with_tasks s more) disk task)
+begun_closes device s disk task more = begins (λ device s disk task r. Closes r) begins_close device (with_tasks s more) disk task
 
 rule_case : (first later : Option ℕ) (k : ℕ) → first_rule first later ≡ Some k → (first ≡ Some k) ⊎ (later ≡ Some k)
 rule_case None later k e = inr e
 rule_case (Some rule) later k e = inl e
+
+-- a task that leaves the session open breaks no rule
+turns_close : Turns (λ device s disk tasks r. Closes r)
+turns_close = record {
+  none_ = λ device s disk. record { is = λ k e. absurd cc };
+  stop_ = λ device s disk task more why. begun_closes device s disk task more;
+  then_ = λ device s disk task more b stay live later.
+      (let a : Stepped = begun device (with_tasks s more) disk task in
+      record {
+        is = λ k e. elim (rule_case a.rule b.rule k e) [
+          | inl x ↦ absurd (apart ((begun_closes device s disk task more).is k x) live)
+          | inr x ↦ later.is k x
+        ];
+      });
+}
+
+done_closes : (device : Device) (s : Session) (disk : Disk) (tasks : List Task) → Closes (done_in_turn device s disk tasks)
+done_closes device s disk tasks = turns (λ device s disk tasks r. Closes r) turns_close device s disk tasks
+
+parts_close : (device : Device) (disk : Disk) → Parts device disk (λ s m r. Closes r)
+parts_close device disk = record {
+  nothing_ = λ s m c. record { is = λ k e. absurd cc };
+  shut_ = λ s m. record { is = λ k e. refl };
+  reject_ = λ s reason m a. reply_closes s.tasks disk _ (reject_reply s.session (waiting s.tasks) reason m).rule;
+  breach_ = λ s rule m. reply_closes s.tasks disk _ (breach_reply s.session (waiting s.tasks) rule m).rule;
+  login_ = λ s m k. reply_closes s.tasks disk (login_step s.session m) (login_logs s.session m).is.rule;
+  taken_ = λ s m h w v k e f. record { is = (done_closes device s.session disk _).is };
+  refused_ = λ s t m rule a x. record { is = (breach_reply t.session (waiting t.tasks) rule m).rule };
+  admitted_ = λ s t m a x f. record { is = (done_closes device t.session disk _).is };
+}
+
+step_closes : (s : Machine) (disk : Disk) (m : Message) → Closes (step s disk m)
+step_closes s disk m = step_parts reliable disk (λ s m r. Closes r) (parts_close reliable disk) s m
 
 pub answers_close : (s : Machine) (disk : Disk) (ms : List Message) (k : ℕ) → (answers s disk ms).rule ≡ Some k → is_closed (answers s disk ms).machine ≡ true
 unfolding answers
@@ -102,16 +126,25 @@ record Live (settings : Settings) (n : ℕ) (disk : Disk) (taken : List ℕ) (no
 record Over (settings : Settings) (n : ℕ) (disk : Disk) (taken : List ℕ) (now : Connection) (disk_now : Disk) (written : List ℕ) : Type 0 where
   over : (more : List ℕ) (ms : List Message) → StreamMeans (taken ++ more) ms → Meets settings n disk ms now disk_now written
 
+-- what stands where memory was there
+pub stands : (output : List ℕ) (framing : Framing) (rest : List ℕ) (r : Stepped) (counted : ℕ) (result : Result Phase TargetFault) (new : Machine) (after : Store) (written : List ℕ) → (result ≡ Err faults.NoMemory → ⊥)
+    → LeavesBy result output framing rest r counted new after written → Stands output r counted after written
+stands output framing rest r counted (Ok phase) new after written memory h = h
+stands output framing rest r counted (Err faults.NoMemory) new after written memory h = absurd (memory refl)
+stands output framing rest r counted (Err (faults.Stream fault)) new after written memory h = h
+stands output framing rest r counted (Err (faults.Protocol rule)) new after written memory h = h
+stands output framing rest r counted (Err faults.Closed) new after written memory h = h
+
 -- what a call answered, told from the opening state
 pub record Told (settings : Settings) (n : ℕ) (disk : Disk) (ms : List Message) (r : Stepped) (disk_now : Disk) (written : List ℕ) : Type 0 where
   pub machine : joined r.machine ≡ joined (answers (opening settings n) disk ms).machine
   pub disk_is : disk_now ≡ (answers (opening settings n) disk ms).disk
   pub output_is : written ≡ canon (answers (opening settings n) disk ms).answers
 
-pub told : (settings : Settings) (n : ℕ) (disk : Disk) (taken : List ℕ) (old : Connection) (before : Store) (out : List ℕ) (bytes : List ℕ) (framing : Framing) (more : List Message) (r : Stepped) (after : Store) (written : List ℕ)
-    → (h : HasAnswered settings n disk taken old before.disk out) → Answers old before out bytes framing more r after written → after.failures ≡ before.failures
+pub told : (settings : Settings) (n : ℕ) (disk : Disk) (taken : List ℕ) (old : Connection) (before : Store) (out : List ℕ) (bytes : List ℕ) (framing : Framing) (more : List Message) (r : Stepped) (counted : ℕ) (after : Store) (written : List ℕ)
+    → (h : HasAnswered settings n disk taken old before.disk out) → Answers old before bytes framing more r after → Stands out r counted after written → after.failures ≡ before.failures
     → Told settings n disk (h.messages ++ more) r after.disk written
-told settings n disk taken old before out bytes framing more r after written h a works =
+told settings n disk taken old before out bytes framing more r counted after written h a b works =
     let first : Stepped = answers (opening settings n) disk h.messages in
     let later : Stepped = answers first.machine first.disk more in
     let e : joined_stepped r ≡ joined_stepped later =
@@ -122,8 +155,8 @@ told settings n disk taken old before out bytes framing more r after written h a
     let both : answers (opening settings n) disk (h.messages ++ more) ≡ then_stepped first later = answers_append (opening settings n) disk h.messages more in
     record {
       machine = ap (λ (x : Stepped). x.machine) e ∙ ap (λ (x : Stepped). joined x.machine) (sym both);
-      disk_is = a.disk ∙ ap (λ (x : Stepped). x.disk) e ∙ ap (λ (x : Stepped). x.disk) (sym both);
-      output_is = a.output_is ∙ ap (λ (x : List ℕ). x ++ canon r.answers) h.output_is
+      disk_is = b.disk ∙ ap (λ (x : Stepped). x.disk) e ∙ ap (λ (x : Stepped). x.disk) (sym both);
+      output_is = b.output_is ∙ ap (λ (x : List ℕ). x ++ canon r.answers) h.output_is
           ∙ ap (λ (x : Stepped). canon first.answers ++ canon x.answers) e
           ∙ sym (canon_append first.answers later.answers) ∙ ap (λ (x : Stepped). canon x.answers) (sym both);
     }
@@ -274,7 +307,8 @@ feed_goes settings n disk taken old before out piece result new after written li
     let h : HasAnswered settings n disk taken old before.disk out = live.has in
     let t : HasTaken (taken ++ take f.count piece) (h.messages ++ f.messages) f.framing = f.answered.taken taken h.messages h.taken in
     ends_go settings n disk taken piece f.count (h.messages ++ f.messages) f.framing f.stepped new after.disk written result t
-    (told settings n disk taken old before out (take f.count piece) f.framing f.messages f.stepped after written h f.answered well.device)
+    (told settings n disk taken old before out (take f.count piece) f.framing f.messages f.stepped f.answered.failures after written h f.answered
+    (stands out f.framing (drop f.count piece) f.stepped f.answered.failures result new.machine after written well.memory f.leaves) well.device)
     (f.answered.limit ∙ live.bound) f.answered.ready
     (λ k e. let w = f.answered.works well.device in
     ap (λ (x : Stepped). is_closed x.machine) w ∙ answers_close old.machine before.disk f.messages k (sym (ap (λ (x : Stepped). x.rule) w) ∙ e))
@@ -513,7 +547,8 @@ next_fate settings n disk taken old before out piece result new after written le
     let h : HasAnswered settings n disk taken old before.disk out = l.1.has in
     let t : HasTaken (taken ++ take f.count piece) (h.messages ++ f.messages) f.framing = f.answered.taken taken h.messages h.taken in
     ends_fate settings n disk taken piece f.count (h.messages ++ f.messages) f.framing f.stepped new after.disk written result le t
-    (told settings n disk taken old before out (take f.count piece) f.framing f.messages f.stepped after written h f.answered well.device)
+    (told settings n disk taken old before out (take f.count piece) f.framing f.messages f.stepped f.answered.failures after written h f.answered
+    (stands out f.framing (drop f.count piece) f.stepped f.answered.failures result new.machine after written well.memory f.leaves) well.device)
     (f.answered.limit ∙ l.1.bound) f.answered.ready
     (λ k e. let w = f.answered.works well.device in
     ap (λ (x : Stepped). is_closed x.machine) w ∙ answers_close old.machine before.disk f.messages k (sym (ap (λ (x : Stepped). x.rule) w) ∙ e))

@@ -12,7 +12,7 @@ use Rattle.iscsi_stream.specs.Stream.{Message}
 use Rattle.iscsi_stream.specs.Canonical.{canon, canonical_bytes}
 use Rattle.iscsi_login.specs.Held.{Held, max_burst}
 use Rattle.iscsi_target.specs.Session.{message}
-use Rattle.iscsi_target.specs.State.{Machine}
+use Rattle.iscsi_target.specs.State.{Machine, waiting}
 use Rattle.iscsi_target.specs.Execution.{marked, run_given, parts_given, data_ins, data_in_head}
 use Rattle.iscsi_stream.specs.Pieces.{chunks_within, chunks}
 use Rattle.iscsi_target.specs.declared.machine.command.Sent.{Sent}
@@ -20,7 +20,7 @@ use Rattle.iscsi_stream.proofs.Chunks.{chunks_step}
 
 -- the bytes before the rest of a run went out, behind others
 pub record GaveUpTo (s : Machine) (tag : ℕ) (before : Sent) (run rest : List ℕ) (sent : Sent) (old new : List ℕ) : Type 0 where
-  pub written : new ++ canon (data_ins s tag sent.count sent.bytes (run_given s.session.held rest)) ≡ old ++ canon (data_ins s tag before.count before.bytes (run_given s.session.held run))
+  pub written : new ++ canon (data_ins s.session (waiting s.tasks) tag sent.count sent.bytes (run_given s.session.held rest)) ≡ old ++ canon (data_ins s.session (waiting s.tasks) tag before.count before.bytes (run_given s.session.held run))
   pub count : sent.count + length (run_given s.session.held rest) ≡ before.count + length (run_given s.session.held run)
   pub carried : sent.bytes + length rest ≡ before.bytes + length run
   pub few : sent.count ≤ sent.bytes
@@ -28,7 +28,7 @@ pub record GaveUpTo (s : Machine) (tag : ℕ) (before : Sent) (run rest : List �
 
 -- the bytes before the rest went out
 pub record GaveRuns (s : Machine) (tag : ℕ) (bytes rest : List ℕ) (sent : Sent) (old new : List ℕ) : Type 0 where
-  pub written : new ++ canon (data_ins s tag sent.count sent.bytes (parts_given s.session.held rest)) ≡ old ++ canon (data_ins s tag 0 0 (parts_given s.session.held bytes))
+  pub written : new ++ canon (data_ins s.session (waiting s.tasks) tag sent.count sent.bytes (parts_given s.session.held rest)) ≡ old ++ canon (data_ins s.session (waiting s.tasks) tag 0 0 (parts_given s.session.held bytes))
   pub count : sent.count + length (parts_given s.session.held rest) ≡ length (parts_given s.session.held bytes)
   pub carried : sent.bytes + length rest ≡ length bytes
   pub few : sent.count ≤ sent.bytes
@@ -86,19 +86,19 @@ one_longer x xs = omega arith
 
 pub gave_more : (s : Machine) (tag : ℕ) (before : Sent) (run rest : List ℕ) (sent : Sent) (old new : List ℕ) (n : ℕ) (now after : List ℕ)
     → 0 < s.session.held.initiator_max_recv → 0 < length rest → n ≡ min s.session.held.initiator_max_recv (length rest)
-    → now ≡ new ++ whole (data_in_head s tag sent.count sent.bytes (n == length rest)) (take n rest) → after ≡ drop n rest
+    → now ≡ new ++ whole (data_in_head s.session (waiting s.tasks) tag sent.count sent.bytes (n == length rest)) (take n rest) → after ≡ drop n rest
     → GaveUpTo s tag before run rest sent old new → GaveUpTo s tag before run after (record { count = sent.count + 1; bytes = sent.bytes + n }) old now
 gave_more s tag before run rest sent old new n now after most some is is_now is_after g =
     let step = run_step s.session.held rest n (n == length rest) some most is refl in
     let len : length (take n rest) ≡ n = omega (arith, length-take n rest, is) in
-    let more : List Message = data_ins s tag (sent.count + 1) (sent.bytes + n) (run_given s.session.held after) in
-    let head : Head = data_in_head s tag sent.count sent.bytes (n == length rest) in
-    let split : canon (data_ins s tag sent.count sent.bytes (run_given s.session.held rest)) ≡ whole head (take n rest) ++ canon more =
-    ap (λ (x : List (List ℕ × Bool)). canon (data_ins s tag sent.count sent.bytes x)) step
-    ∙ one_more (message head (take n rest)) (data_ins s tag (sent.count + 1) (sent.bytes + length (take n rest)) (run_given s.session.held (drop n rest)))
-    ∙ ap (λ (x : List ℕ). x ++ canon (data_ins s tag (sent.count + 1) (sent.bytes + length (take n rest)) (run_given s.session.held (drop n rest)))) (said head (take n rest))
-    ∙ ap (λ (k : ℕ). whole head (take n rest) ++ canon (data_ins s tag (sent.count + 1) (sent.bytes + k) (run_given s.session.held (drop n rest)))) len
-    ∙ ap (λ (x : List ℕ). whole head (take n rest) ++ canon (data_ins s tag (sent.count + 1) (sent.bytes + n) (run_given s.session.held x))) (sym is_after) in
+    let more : List Message = data_ins s.session (waiting s.tasks) tag (sent.count + 1) (sent.bytes + n) (run_given s.session.held after) in
+    let head : Head = data_in_head s.session (waiting s.tasks) tag sent.count sent.bytes (n == length rest) in
+    let split : canon (data_ins s.session (waiting s.tasks) tag sent.count sent.bytes (run_given s.session.held rest)) ≡ whole head (take n rest) ++ canon more =
+    ap (λ (x : List (List ℕ × Bool)). canon (data_ins s.session (waiting s.tasks) tag sent.count sent.bytes x)) step
+    ∙ one_more (message head (take n rest)) (data_ins s.session (waiting s.tasks) tag (sent.count + 1) (sent.bytes + length (take n rest)) (run_given s.session.held (drop n rest)))
+    ∙ ap (λ (x : List ℕ). x ++ canon (data_ins s.session (waiting s.tasks) tag (sent.count + 1) (sent.bytes + length (take n rest)) (run_given s.session.held (drop n rest)))) (said head (take n rest))
+    ∙ ap (λ (k : ℕ). whole head (take n rest) ++ canon (data_ins s.session (waiting s.tasks) tag (sent.count + 1) (sent.bytes + k) (run_given s.session.held (drop n rest)))) len
+    ∙ ap (λ (x : List ℕ). whole head (take n rest) ++ canon (data_ins s.session (waiting s.tasks) tag (sent.count + 1) (sent.bytes + n) (run_given s.session.held x))) (sym is_after) in
     let count : length (run_given s.session.held rest) ≡ 1 + length (run_given s.session.held after) =
     ap (λ (x : List (List ℕ × Bool)). length x) step ∙ one_longer (take n rest, n == length rest) (run_given s.session.held (drop n rest)) ∙ ap (λ (x : List ℕ). 1 + length (run_given s.session.held x)) (sym is_after) in
     let behind : length after ≡ length rest - n = ap length is_after ∙ length-drop n rest in
@@ -116,8 +116,8 @@ abbrev size_of : List (List ℕ × Bool) → ℕ
 size_of [] = 0
 size_of (part ∷ more) = length part.0 + size_of more
 
-ins_append : (s : Machine) (tag count at : ℕ) (xs ys : List (List ℕ × Bool)) → data_ins s tag count at (xs ++ ys) ≡ data_ins s tag count at xs ++ data_ins s tag (count + length xs) (at + size_of xs) ys
-ins_append s tag count at [] ys = λ i. data_ins s tag (same_count i) (same_at i) ys
+ins_append : (s : Machine) (tag count at : ℕ) (xs ys : List (List ℕ × Bool)) → data_ins s.session (waiting s.tasks) tag count at (xs ++ ys) ≡ data_ins s.session (waiting s.tasks) tag count at xs ++ data_ins s.session (waiting s.tasks) tag (count + length xs) (at + size_of xs) ys
+ins_append s tag count at [] ys = λ i. data_ins s.session (waiting s.tasks) tag (same_count i) (same_at i) ys
   where
     same_count : count ≡ count + 0
     same_count = omega arith
@@ -127,8 +127,8 @@ ins_append s tag count at [] ys = λ i. data_ins s tag (same_count i) (same_at i
 ins_append s tag count at (x ∷ xs) ys =
     let e : (count + 1) + length xs ≡ count + length (x ∷ xs) = omega arith in
     let f : (at + length x.0) + size_of xs ≡ at + (length x.0 + size_of xs) = omega arith in
-    ap (λ (ms : List Message). message (data_in_head s tag count at x.1) x.0 ∷ ms) (ins_append s tag (count + 1) (at + length x.0) xs ys
-    ∙ (λ i. data_ins s tag (count + 1) (at + length x.0) xs ++ data_ins s tag (e i) (f i) ys))
+    ap (λ (ms : List Message). message (data_in_head s.session (waiting s.tasks) tag count at x.1) x.0 ∷ ms) (ins_append s tag (count + 1) (at + length x.0) xs ys
+    ∙ (λ i. data_ins s.session (waiting s.tasks) tag (count + 1) (at + length x.0) xs ++ data_ins s.session (waiting s.tasks) tag (e i) (f i) ys))
 
 abbrev sizes : List (List ℕ) → ℕ
 sizes [] = 0
@@ -163,29 +163,29 @@ runs_step held (b ∷ rest) n some lt is =
 pub gave_run : (s : Machine) (tag : ℕ) (bytes rest : List ℕ) (sent next : Sent) (old new now after : List ℕ) (n : ℕ)
     → 0 < s.session.held.initiator_max_recv → 0 < max_burst s.session.held → 0 < length rest → n ≡ min (max_burst s.session.held) (length rest)
     → next.count ≡ sent.count + length (run_given s.session.held (take n rest)) → next.bytes ≡ sent.bytes + length (take n rest) → next.count ≤ next.bytes
-    → now ≡ new ++ canon (data_ins s tag sent.count sent.bytes (run_given s.session.held (take n rest))) → after ≡ drop n rest
+    → now ≡ new ++ canon (data_ins s.session (waiting s.tasks) tag sent.count sent.bytes (run_given s.session.held (take n rest))) → after ≡ drop n rest
     → GaveRuns s tag bytes rest sent old new → GaveRuns s tag bytes after next old now
 gave_run s tag bytes rest sent next old new now after n most burst some is is_count is_bytes few is_now is_after g =
     let run : List (List ℕ × Bool) = run_given s.session.held (take n rest) in
     let step = runs_step s.session.held rest n some burst is in
     let size : size_of run ≡ length (take n rest) = size_run s.session.held (take n rest) most in
-    let tail : List Message = data_ins s tag next.count next.bytes (parts_given s.session.held after) in
+    let tail : List Message = data_ins s.session (waiting s.tasks) tag next.count next.bytes (parts_given s.session.held after) in
     let at_count : sent.count + length run ≡ next.count = sym is_count in
     let at_bytes : sent.bytes + size_of run ≡ next.bytes = omega (arith, size, is_bytes) in
-    let all : data_ins s tag sent.count sent.bytes (parts_given s.session.held rest) ≡ data_ins s tag sent.count sent.bytes run ++ tail =
-    ap (data_ins s tag sent.count sent.bytes) step ∙ ins_append s tag sent.count sent.bytes run (parts_given s.session.held (drop n rest))
-    ∙ (λ i. data_ins s tag sent.count sent.bytes run ++ data_ins s tag (at_count i) (at_bytes i) (parts_given s.session.held (drop n rest)))
-    ∙ ap (λ (x : List ℕ). data_ins s tag sent.count sent.bytes run ++ data_ins s tag next.count next.bytes (parts_given s.session.held x)) (sym is_after) in
-    let split : canon (data_ins s tag sent.count sent.bytes (parts_given s.session.held rest)) ≡ canon (data_ins s tag sent.count sent.bytes run) ++ canon tail =
-    ap canon all ∙ flat_map-append canonical_bytes (data_ins s tag sent.count sent.bytes run) tail in
+    let all : data_ins s.session (waiting s.tasks) tag sent.count sent.bytes (parts_given s.session.held rest) ≡ data_ins s.session (waiting s.tasks) tag sent.count sent.bytes run ++ tail =
+    ap (data_ins s.session (waiting s.tasks) tag sent.count sent.bytes) step ∙ ins_append s tag sent.count sent.bytes run (parts_given s.session.held (drop n rest))
+    ∙ (λ i. data_ins s.session (waiting s.tasks) tag sent.count sent.bytes run ++ data_ins s.session (waiting s.tasks) tag (at_count i) (at_bytes i) (parts_given s.session.held (drop n rest)))
+    ∙ ap (λ (x : List ℕ). data_ins s.session (waiting s.tasks) tag sent.count sent.bytes run ++ data_ins s.session (waiting s.tasks) tag next.count next.bytes (parts_given s.session.held x)) (sym is_after) in
+    let split : canon (data_ins s.session (waiting s.tasks) tag sent.count sent.bytes (parts_given s.session.held rest)) ≡ canon (data_ins s.session (waiting s.tasks) tag sent.count sent.bytes run) ++ canon tail =
+    ap canon all ∙ flat_map-append canonical_bytes (data_ins s.session (waiting s.tasks) tag sent.count sent.bytes run) tail in
     let count : length (parts_given s.session.held rest) ≡ length run + length (parts_given s.session.held after) =
     ap (λ (x : List (List ℕ × Bool)). length x) step ∙ length-append run (parts_given s.session.held (drop n rest)) ∙ ap (λ (x : List ℕ). length run + length (parts_given s.session.held x)) (sym is_after) in
     let behind : length after ≡ length rest - n = ap length is_after ∙ length-drop n rest in
     let len : length (take n rest) ≡ n = omega (arith, length-take n rest, is) in
     record {
-      written = ap (λ (x : List ℕ). x ++ canon tail) is_now ∙ append_assoc new (canon (data_ins s tag sent.count sent.bytes run)) (canon tail) ∙ ap (λ (x : List ℕ). new ++ x) (sym split) ∙ g.written;
+      written = ap (λ (x : List ℕ). x ++ canon tail) is_now ∙ append_assoc new (canon (data_ins s.session (waiting s.tasks) tag sent.count sent.bytes run)) (canon tail) ∙ ap (λ (x : List ℕ). new ++ x) (sym split) ∙ g.written;
       count = omega (arith, g.count, count, is_count);
       carried = omega (arith, g.carried, behind, is, len, is_bytes);
       few = few;
-      front = front_kept old new (canon (data_ins s tag sent.count sent.bytes run)) now is_now g.front;
+      front = front_kept old new (canon (data_ins s.session (waiting s.tasks) tag sent.count sent.bytes run)) now is_now g.front;
     }

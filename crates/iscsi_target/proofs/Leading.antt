@@ -3,48 +3,13 @@ use Rattle.std.proofs.Common.{◌≡◌, ℕ, inl, inr, arith, List, [], ◌∷�
 use Rattle.std.proofs.lemmas.Bool.{cases_lt}
 use Rattle.scsi_disk.specs.Disk.{Disk}
 use Rattle.scsi_disk.specs.Effect.{Effect, Executes}
-use Rattle.iscsi_stream.specs.Segment.{segment_bytes}
 use Rattle.iscsi_stream.specs.Stream.{Message}
-use Rattle.iscsi_target.specs.State.{Machine, Write, Execution, Stepped}
+use Rattle.iscsi_target.specs.State.{Machine, Execution, Stepped}
 use Rattle.iscsi_stream.specs.Pieces.{data_of}
-use Rattle.iscsi_target.specs.Transfer.{is_whole, is_idle}
 use Rattle.iscsi_target.specs.Execution.{Device, device_next}
-use Rattle.iscsi_target.specs.Command.{proceed, opened}
-use Rattle.iscsi_target.specs.Machine.{step_on, RunsIn, MayStep, MayAnswer}
+use Rattle.iscsi_target.specs.Machine.{RunsIn, MayStep, MayStop, MayAnswer}
 use Rattle.iscsi_target.specs.Laws.{Leads, MayLeave}
-use Rattle.iscsi_target.proofs.StepParts.{by_cases, Parts, step_parts}
-
--- what was executed led from disk to disk as the device did it
-abbrev Does : Device → Disk → List Execution → Disk → Type 0
-Does device disk [] last = last ≡ disk
-Does device disk (e ∷ es) last = (e.disk ≡ disk) × Does (device_next device) (device 0 e.disk e.order (data_of e.pieces)).disk es last
-
-record Goes (device : Device) (disk : Disk) (r : Stepped) : Type 0 where
-  is : Does device disk r.executed r.disk
-
-proceed_does : (device : Device) (s : Machine) (disk : Disk) (w : Write) → Goes device disk (proceed device s disk w)
-proceed_does device s disk w =
-    by_cases (is_whole w) (λ h. rw h (record { is = (refl, refl) }))
-    (λ h. by_cases (is_idle w.due) (λ g. rw (h, g) (record { is = refl })) (λ g. rw (h, g) (record { is = refl })))
-
-parts_do : (device : Device) (disk : Disk) → Parts device disk (λ s m r. Goes device disk r) (λ s m r. Goes device disk r)
-parts_do device disk = record {
-  nothing_ = λ s m c. record { is = refl };
-  shut_ = λ s m. record { is = refl };
-  reject_ = λ s reason m a. record { is = refl };
-  breach_ = λ s rule m. record { is = refl };
-  login_ = λ s m k. record { is = refl };
-  taken_ = λ s m h w more k e g f. proceed_does device s disk more;
-  immediate_ = λ s m r a w c f. record { is = f.is };
-  in_turn_ = λ s m n r a c w f. record { is = f.is };
-  refused_ = λ s m rule. record { is = refl };
-  request_ = λ s m head k none. record { is = refl };
-  execute_ = λ s m h k none. record { is = (refl, refl) };
-  opened_ = λ s m h total k e f. proceed_does device s disk (opened h total (segment_bytes m.segment));
-}
-
-step_does : (device : Device) (s : Machine) (disk : Disk) (m : Message) → Goes device disk (step_on device s disk m)
-step_does device s disk m = step_parts device disk (λ s m r. Goes device disk r) (λ s m r. Goes device disk r) (parts_do device disk) s m
+use Rattle.iscsi_target.proofs.DiskFold.{Does, Goes, step_does, first_does}
 
 leaves : (e : Execution) (before after : ℕ) (left : Effect) → Executes before after e.disk e.order (data_of e.pieces) left → MayLeave e left
 leaves e before after left x = elim (cases_lt before after) [
@@ -71,6 +36,11 @@ step_leads : (s : Machine) (disk : Disk) (before after : ℕ) (m : Message) (r :
 step_leads s disk before after m r p =
     let d : Goes p.device disk r = subst (λ (x : Stepped). Goes p.device disk x) (sym p.is) (step_does p.device s disk m) in
     leads_of p.device disk before after r.executed r.disk d.is p.runs
+
+pub stop_leads : (s : Machine) (disk : Disk) (before after : ℕ) (m : Message) (r : Stepped) → MayStop s disk before m r after → Leads disk r.executed r.disk
+stop_leads s disk before after m r p =
+    let d : Goes p.device disk r = subst (λ (x : Stepped). Goes p.device disk x) (sym p.is) (first_does p.done p.device p.session disk p.tasks) in
+    leads_of p.device disk before p.failures r.executed r.disk d.is p.runs
 
 pub may_leads : (s : Machine) (disk : Disk) (before after : ℕ) (ms : List Message) (r : Stepped) → MayAnswer s disk before ms r after → Leads disk r.executed r.disk
 unfolding MayAnswer Leads

@@ -1,10 +1,15 @@
+pub mod Alone
 pub mod Continuing
 pub mod Leading
 pub mod StreamNumbers
 pub mod LoginRows
 pub mod SessionRows
 pub mod ManyKeys
+pub mod Turns
+pub mod Places
 pub mod StepParts
+pub mod Pending
+pub mod Working
 pub mod DiskFold
 pub mod OpenWrites
 pub mod Joining
@@ -36,3 +41,4 @@ pub mod Discovering
 pub mod DiscoveringLoop
 pub mod Streaming
 pub mod OneOutcome
+pub mod Shutting

@@ -12,7 +12,7 @@ use Rattle.iscsi_stream.specs.Stream.{Message}
 use Rattle.iscsi_pdu.specs.declared.head.login_request.LoginRequest.{LoginRequest}
 use Rattle.iscsi_stream.specs.Canonical.{canon}
 use Rattle.iscsi_login.specs.declared.phase.Phase.TheVariants as phases
-use Rattle.iscsi_target.specs.Machine.{answers}
+use Rattle.iscsi_target.specs.Machine.{answers, done_in_turn}
 use Rattle.iscsi_target.specs.Sessions.{LoginIsAnswered, LoginLeads}
 use Rattle.iscsi_target.specs.Worked.{hex, entry, login, first, second, segment, says, command, orders, initiator_name, target_name, first_text, second_text, fresh, blank, logged_in, Row}
 
@@ -23,15 +23,15 @@ pub first_request_is_answered : Row fresh
     ((hex (codes "43810000 0000006e 40000001 00000000 00000000 00000000 00000001 00000000 00000000 00000000 00000000 00000000"))
     ++ first_text
     ++ 0 ∷ 0 ∷ [])
-    ((hex (codes "23810000 00000027 40000001 00000000 00000000 00000000 00000001 00000001 00000001 00000000 00000000 00000000"))
+    ((hex (codes "23810000 00000027 40000001 00000000 00000000 00000000 00000001 00000001 00000008 00000000 00000000 00000000"))
     ++ entry (codes "AuthMethod=None") ++ entry (codes "TargetPortalGroupTag=1") ++ 0 ∷ [])
     None
-unfolding answers digits header whole put_bit put_number put_bytes put_raw kind_of cut joined overlaid zero_blocks segment_of segment_bytes
+unfolding answers done_in_turn digits header whole put_bit put_number put_bytes put_raw kind_of cut joined overlaid zero_blocks segment_of segment_bytes
 first_request_is_answered = (refl, refl, refl)
 
 -- The second request ends the login, with the session's number and what the target takes.
 pub login_in_two_requests : LoginIsAnswered
-unfolding answers digits header whole put_bit put_number put_bytes put_raw kind_of cut joined overlaid zero_blocks segment_of segment_bytes
+unfolding answers done_in_turn digits header whole put_bit put_number put_bytes put_raw kind_of cut joined overlaid zero_blocks segment_of segment_bytes
 login_in_two_requests = (refl, refl, refl)
 
 -- A first text has the initiator's name.
@@ -41,9 +41,9 @@ pub no_initiator_name : Row fresh
     ((hex (codes "43810000 00000047 40000001 00000000 00000000 00000000 00000001 00000000 00000000 00000000 00000000 00000000"))
     ++ (entry (codes "AuthMethod=None") ++ entry (codes "SessionType=Normal") ++ target_name)
     ++ 0 ∷ [])
-    (hex (codes "23000000 00000000 40000001 00000000 00000000 00000000 00000000 00000001 00000001 02070000 00000000 00000000"))
+    (hex (codes "23000000 00000000 40000001 00000000 00000000 00000000 00000000 00000001 00000008 02070000 00000000 00000000"))
     None
-unfolding answers digits header whole put_bit put_number put_bytes put_raw kind_of cut joined overlaid zero_blocks segment_of segment_bytes
+unfolding answers done_in_turn digits header whole put_bit put_number put_bytes put_raw kind_of cut joined overlaid zero_blocks segment_of segment_bytes
 no_initiator_name = (refl, refl, refl)
 
 -- It names this target.
@@ -53,9 +53,9 @@ pub another_target : Row fresh
     ((hex (codes "43810000 00000057 40000001 00000000 00000000 00000000 00000001 00000000 00000000 00000000 00000000 00000000"))
     ++ (entry (codes "AuthMethod=None") ++ initiator_name ++ entry (codes "SessionType=Normal") ++ entry (codes "TargetName=x"))
     ++ 0 ∷ [])
-    (hex (codes "23000000 00000000 40000001 00000000 00000000 00000000 00000000 00000001 00000001 02030000 00000000 00000000"))
+    (hex (codes "23000000 00000000 40000001 00000000 00000000 00000000 00000000 00000001 00000008 02030000 00000000 00000000"))
     None
-unfolding answers digits header whole put_bit put_number put_bytes put_raw kind_of cut joined overlaid zero_blocks segment_of segment_bytes
+unfolding answers done_in_turn digits header whole put_bit put_number put_bytes put_raw kind_of cut joined overlaid zero_blocks segment_of segment_bytes
 another_target = (refl, refl, refl)
 
 -- Authentication can't be demanded.
@@ -65,9 +65,9 @@ pub chap_alone : Row fresh
     ((hex (codes "43810000 0000006e 40000001 00000000 00000000 00000000 00000001 00000000 00000000 00000000 00000000 00000000"))
     ++ (entry (codes "AuthMethod=CHAP") ++ initiator_name ++ entry (codes "SessionType=Normal") ++ target_name)
     ++ 0 ∷ 0 ∷ [])
-    (hex (codes "23000000 00000000 40000001 00000000 00000000 00000000 00000000 00000001 00000001 02010000 00000000 00000000"))
+    (hex (codes "23000000 00000000 40000001 00000000 00000000 00000000 00000000 00000001 00000008 02010000 00000000 00000000"))
     None
-unfolding answers digits header whole put_bit put_number put_bytes put_raw kind_of cut joined overlaid zero_blocks segment_of segment_bytes
+unfolding answers done_in_turn digits header whole put_bit put_number put_bytes put_raw kind_of cut joined overlaid zero_blocks segment_of segment_bytes
 chap_alone = (refl, refl, refl)
 
 -- There is no session to join.
@@ -77,9 +77,9 @@ pub session_to_join : Row fresh
     ((hex (codes "43810000 0000006e 40000001 00000005 00000000 00000000 00000001 00000000 00000000 00000000 00000000 00000000"))
     ++ (first_text)
     ++ 0 ∷ 0 ∷ [])
-    (hex (codes "23000000 00000000 40000001 00000000 00000000 00000000 00000000 00000001 00000001 020a0000 00000000 00000000"))
+    (hex (codes "23000000 00000000 40000001 00000000 00000000 00000000 00000000 00000001 00000008 020a0000 00000000 00000000"))
     None
-unfolding answers digits header whole put_bit put_number put_bytes put_raw kind_of cut joined overlaid zero_blocks segment_of segment_bytes
+unfolding answers done_in_turn digits header whole put_bit put_number put_bytes put_raw kind_of cut joined overlaid zero_blocks segment_of segment_bytes
 session_to_join = (refl, refl, refl)
 
 -- The target speaks version 0 alone.
@@ -89,9 +89,9 @@ pub version_above_0 : Row fresh
     ((hex (codes "43810001 0000006e 40000001 00000000 00000000 00000000 00000001 00000000 00000000 00000000 00000000 00000000"))
     ++ (first_text)
     ++ 0 ∷ 0 ∷ [])
-    (hex (codes "23000000 00000000 40000001 00000000 00000000 00000000 00000000 00000001 00000001 02050000 00000000 00000000"))
+    (hex (codes "23000000 00000000 40000001 00000000 00000000 00000000 00000000 00000001 00000008 02050000 00000000 00000000"))
     None
-unfolding answers digits header whole put_bit put_number put_bytes put_raw kind_of cut joined overlaid zero_blocks segment_of segment_bytes
+unfolding answers done_in_turn digits header whole put_bit put_number put_bytes put_raw kind_of cut joined overlaid zero_blocks segment_of segment_bytes
 version_above_0 = (refl, refl, refl)
 
 -- A session is normal, or for discovery.
@@ -101,9 +101,9 @@ pub unknown_session_type : Row fresh
     ((hex (codes "43810000 0000006d 40000001 00000000 00000000 00000000 00000001 00000000 00000000 00000000 00000000 00000000"))
     ++ (entry (codes "AuthMethod=None") ++ initiator_name ++ entry (codes "SessionType=Other") ++ target_name)
     ++ 0 ∷ 0 ∷ 0 ∷ [])
-    (hex (codes "23000000 00000000 40000001 00000000 00000000 00000000 00000000 00000001 00000001 02090000 00000000 00000000"))
+    (hex (codes "23000000 00000000 40000001 00000000 00000000 00000000 00000000 00000001 00000008 02090000 00000000 00000000"))
     None
-unfolding answers digits header whole put_bit put_number put_bytes put_raw kind_of cut joined overlaid zero_blocks segment_of segment_bytes
+unfolding answers done_in_turn digits header whole put_bit put_number put_bytes put_raw kind_of cut joined overlaid zero_blocks segment_of segment_bytes
 unknown_session_type = (refl, refl, refl)
 
 -- A text that goes on can't move at once.
@@ -113,9 +113,9 @@ pub continued_and_moving : Row fresh
     ((hex (codes "43c10000 0000006e 40000001 00000000 00000000 00000000 00000001 00000000 00000000 00000000 00000000 00000000"))
     ++ first_text
     ++ 0 ∷ 0 ∷ [])
-    (hex (codes "23000000 00000000 40000001 00000000 00000000 00000000 00000000 00000001 00000001 02000000 00000000 00000000"))
+    (hex (codes "23000000 00000000 40000001 00000000 00000000 00000000 00000000 00000001 00000008 02000000 00000000 00000000"))
     None
-unfolding answers digits header whole put_bit put_number put_bytes put_raw kind_of cut joined overlaid zero_blocks segment_of segment_bytes
+unfolding answers done_in_turn digits header whole put_bit put_number put_bytes put_raw kind_of cut joined overlaid zero_blocks segment_of segment_bytes
 continued_and_moving = (refl, refl, refl)
 
 -- A segment of 511 bytes can't be declared.
@@ -129,11 +129,11 @@ pub bad_segment_length : Row fresh
     ++ (hex (codes "43870000 0000001d 40000001 00000000 00000000 00000000 00000001 00000002 00000000 00000000 00000000 00000000"))
     ++ entry (codes "MaxRecvDataSegmentLength=511")
     ++ 0 ∷ 0 ∷ 0 ∷ [])
-    ((hex (codes "23810000 00000027 40000001 00000000 00000000 00000000 00000001 00000001 00000001 00000000 00000000 00000000"))
+    ((hex (codes "23810000 00000027 40000001 00000000 00000000 00000000 00000001 00000001 00000008 00000000 00000000 00000000"))
     ++ (entry (codes "AuthMethod=None") ++ entry (codes "TargetPortalGroupTag=1") ++ 0 ∷ [])
-    ++ (hex (codes "23040000 00000000 40000001 00000000 00000000 00000000 00000000 00000001 00000001 02000000 00000000 00000000")))
+    ++ (hex (codes "23040000 00000000 40000001 00000000 00000000 00000000 00000000 00000001 00000008 02000000 00000000 00000000")))
     None
-unfolding answers digits header whole put_bit put_number put_bytes put_raw kind_of cut joined overlaid zero_blocks segment_of segment_bytes
+unfolding answers done_in_turn digits header whole put_bit put_number put_bytes put_raw kind_of cut joined overlaid zero_blocks segment_of segment_bytes
 bad_segment_length = (refl, refl, refl)
 
 -- A text in three segments: the first two answers are empty.
@@ -149,12 +149,12 @@ pub text_in_three_segments : Row fresh
     ++ (hex (codes "43810000 00000032 40000001 00000000 00000000 00000000 00000001 00000000 00000000 00000000 00000000 00000000"))
     ++ drop 60 first_text
     ++ 0 ∷ 0 ∷ [])
-    ((hex (codes "23000000 00000000 40000001 00000000 00000000 00000000 00000001 00000001 00000001 00000000 00000000 00000000"))
-    ++ (hex (codes "23000000 00000000 40000001 00000000 00000000 00000000 00000002 00000001 00000001 00000000 00000000 00000000"))
-    ++ (hex (codes "23810000 00000027 40000001 00000000 00000000 00000000 00000003 00000001 00000001 00000000 00000000 00000000"))
+    ((hex (codes "23000000 00000000 40000001 00000000 00000000 00000000 00000001 00000001 00000008 00000000 00000000 00000000"))
+    ++ (hex (codes "23000000 00000000 40000001 00000000 00000000 00000000 00000002 00000001 00000008 00000000 00000000 00000000"))
+    ++ (hex (codes "23810000 00000027 40000001 00000000 00000000 00000000 00000003 00000001 00000008 00000000 00000000 00000000"))
     ++ entry (codes "AuthMethod=None") ++ entry (codes "TargetPortalGroupTag=1") ++ 0 ∷ [])
     None
-unfolding answers digits header whole put_bit put_number put_bytes put_raw kind_of cut joined overlaid zero_blocks segment_of segment_bytes
+unfolding answers done_in_turn digits header whole put_bit put_number put_bytes put_raw kind_of cut joined overlaid zero_blocks segment_of segment_bytes
 text_in_three_segments = (refl, refl, refl)
 
 -- A Login Request in full feature phase is rejected, with its canonical header.
@@ -163,9 +163,9 @@ pub login_in_full_phase : Row logged_in
     ∷ [])
     ((hex (codes "43870000 00000014 40000001 00000000 00000000 00000000 00000001 00000003 00000000 00000000 00000000 00000000"))
     ++ entry (codes "MaxBurstLength=1024"))
-    (hex (codes "3f800400 00000030 00000000 00000000 ffffffff 00000000 00000003 00000001 00000001 00000000 00000000 00000000 43870000 00000014 40000001 00000000 00000000 00000000 00000001 00000003 00000000 00000000 00000000 00000000"))
+    (hex (codes "3f800400 00000030 00000000 00000000 ffffffff 00000000 00000003 00000001 00000008 00000000 00000000 00000000 43870000 00000014 40000001 00000000 00000000 00000000 00000001 00000003 00000000 00000000 00000000 00000000"))
     (Some 1)
-unfolding answers digits header whole put_bit put_number put_bytes put_raw kind_of cut joined overlaid zero_blocks segment_of segment_bytes
+unfolding answers done_in_turn digits header whole put_bit put_number put_bytes put_raw kind_of cut joined overlaid zero_blocks segment_of segment_bytes
 login_in_full_phase = (refl, refl, refl)
 
 -- So it is where its number is spelled in hex.
@@ -174,9 +174,9 @@ pub login_in_full_phase_by_hex : Row logged_in
     ∷ [])
     ((hex (codes "43870000 00000014 40000001 00000000 00000000 00000000 00000001 00000003 00000000 00000000 00000000 00000000"))
     ++ entry (codes "MaxBurstLength=1024"))
-    (hex (codes "3f800400 00000030 00000000 00000000 ffffffff 00000000 00000003 00000001 00000001 00000000 00000000 00000000 43870000 00000014 40000001 00000000 00000000 00000000 00000001 00000003 00000000 00000000 00000000 00000000"))
+    (hex (codes "3f800400 00000030 00000000 00000000 ffffffff 00000000 00000003 00000001 00000008 00000000 00000000 00000000 43870000 00000014 40000001 00000000 00000000 00000000 00000001 00000003 00000000 00000000 00000000 00000000"))
     (Some 1)
-unfolding answers digits header whole put_bit put_number put_bytes put_raw kind_of cut joined overlaid zero_blocks segment_of segment_bytes
+unfolding answers done_in_turn digits header whole put_bit put_number put_bytes put_raw kind_of cut joined overlaid zero_blocks segment_of segment_bytes
 login_in_full_phase_by_hex = (refl, refl, refl)
 
 -- A discovery session tells the target's name.
@@ -204,13 +204,13 @@ pub discovery_names_the_target : Row fresh
     ++ entry (codes "MaxBurstLength=1024")
     ++ (hex (codes "04800000 00000010 00000000 00000000 00000001 ffffffff 00000001 00000003 00000000 00000000 00000000 00000000"))
     ++ entry (codes "SendTargets=All"))
-    ((hex (codes "23810000 00000000 40000001 00000000 00000000 00000000 00000001 00000001 00000001 00000000 00000000 00000000"))
-    ++ (hex (codes "23870000 00000038 40000001 00000001 00000000 00000000 00000002 00000001 00000001 00000000 00000000 00000000"))
+    ((hex (codes "23810000 00000000 40000001 00000000 00000000 00000000 00000001 00000001 00000008 00000000 00000000 00000000"))
+    ++ (hex (codes "23870000 00000038 40000001 00000001 00000000 00000000 00000002 00000001 00000008 00000000 00000000 00000000"))
     ++ entry (codes "MaxBurstLength=Irrelevant") ++ entry (codes "MaxRecvDataSegmentLength=8192")
-    ++ (hex (codes "24800000 00000024 00000000 00000000 00000001 ffffffff 00000003 00000002 00000002 00000000 00000000 00000000"))
+    ++ (hex (codes "24800000 00000024 00000000 00000000 00000001 ffffffff 00000003 00000002 00000009 00000000 00000000 00000000"))
     ++ target_name)
     None
-unfolding answers digits header whole put_bit put_number put_bytes put_raw kind_of cut joined overlaid zero_blocks segment_of segment_bytes
+unfolding answers done_in_turn digits header whole put_bit put_number put_bytes put_raw kind_of cut joined overlaid zero_blocks segment_of segment_bytes
 discovery_names_the_target = (refl, refl, refl)
 
 -- A discovery session takes no command.
@@ -225,12 +225,12 @@ pub command_in_discovery : Row fresh
     ++ (hex (codes "43870000 00000014 40000001 00000000 00000000 00000000 00000001 00000002 00000000 00000000 00000000 00000000"))
     ++ entry (codes "MaxBurstLength=1024")
     ++ (hex (codes "01810000 00000000 00000000 00000000 00000001 00000000 00000001 00000003 00000000 00000000 00000000 00000000")))
-    ((hex (codes "23810000 00000000 40000001 00000000 00000000 00000000 00000001 00000001 00000001 00000000 00000000 00000000"))
-    ++ (hex (codes "23870000 00000038 40000001 00000001 00000000 00000000 00000002 00000001 00000001 00000000 00000000 00000000"))
+    ((hex (codes "23810000 00000000 40000001 00000000 00000000 00000000 00000001 00000001 00000008 00000000 00000000 00000000"))
+    ++ (hex (codes "23870000 00000038 40000001 00000001 00000000 00000000 00000002 00000001 00000008 00000000 00000000 00000000"))
     ++ entry (codes "MaxBurstLength=Irrelevant") ++ entry (codes "MaxRecvDataSegmentLength=8192")
-    ++ (hex (codes "3f800400 00000030 00000000 00000000 ffffffff 00000000 00000003 00000001 00000001 00000000 00000000 00000000 01810000 00000000 00000000 00000000 00000001 00000000 00000001 00000003 00000000 00000000 00000000 00000000")))
+    ++ (hex (codes "3f800400 00000030 00000000 00000000 ffffffff 00000000 00000003 00000001 00000008 00000000 00000000 00000000 01810000 00000000 00000000 00000000 00000001 00000000 00000001 00000003 00000000 00000000 00000000 00000000")))
     (Some 1)
-unfolding answers digits header whole put_bit put_number put_bytes put_raw kind_of cut joined overlaid zero_blocks segment_of segment_bytes
+unfolding answers done_in_turn digits header whole put_bit put_number put_bytes put_raw kind_of cut joined overlaid zero_blocks segment_of segment_bytes
 command_in_discovery = (refl, refl, refl)
 
 -- CmdSN counts round; a request whose CmdSN was taken is dropped.
@@ -250,19 +250,19 @@ pub cmd_sn_counts_round : Row fresh
     ++ (hex (codes "01810000 00000000 00000000 00000000 00000001 00000000 ffffffff 00000003 00000000 00000000 00000000 00000000"))
     ++ (hex (codes "01810000 00000000 00000000 00000000 00000002 00000000 00000000 00000003 00000000 00000000 00000000 00000000"))
     ++ (hex (codes "01810000 00000000 00000000 00000000 00000003 00000000 ffffffff 00000003 00000000 00000000 00000000 00000000")))
-    ((hex (codes "23810000 00000027 40000001 00000000 00000000 00000000 00000001 ffffffff ffffffff 00000000 00000000 00000000"))
+    ((hex (codes "23810000 00000027 40000001 00000000 00000000 00000000 00000001 ffffffff 00000006 00000000 00000000 00000000"))
     ++ (entry (codes "AuthMethod=None") ++ entry (codes "TargetPortalGroupTag=1") ++ 0 ∷ [])
-    ++ (hex (codes "23870000 00000073 40000001 00000001 00000000 00000000 00000002 ffffffff ffffffff 00000000 00000000 00000000"))
+    ++ (hex (codes "23870000 00000073 40000001 00000001 00000000 00000000 00000002 ffffffff 00000006 00000000 00000000 00000000"))
     ++ (entry (codes "HeaderDigest=None") ++ entry (codes "IFMarker=No") ++ entry (codes "InitialR2T=No") ++ entry (codes "MaxBurstLength=1024") ++ entry (codes "MaxRecvDataSegmentLength=8192") ++ entry (codes "X-test=NotUnderstood") ++ 0 ∷ [])
-    ++ (hex (codes "21800000 00000000 00000000 00000000 00000001 00000000 00000003 00000000 00000000 00000000 00000000 00000000"))
-    ++ (hex (codes "21800000 00000000 00000000 00000000 00000002 00000000 00000004 00000001 00000001 00000000 00000000 00000000")))
+    ++ (hex (codes "21800000 00000000 00000000 00000000 00000001 00000000 00000003 00000000 00000007 00000000 00000000 00000000"))
+    ++ (hex (codes "21800000 00000000 00000000 00000000 00000002 00000000 00000004 00000001 00000008 00000000 00000000 00000000")))
     None
-unfolding answers digits header whole put_bit put_number put_bytes put_raw kind_of cut joined overlaid zero_blocks segment_of segment_bytes
+unfolding answers done_in_turn digits header whole put_bit put_number put_bytes put_raw kind_of cut joined overlaid zero_blocks segment_of segment_bytes
 cmd_sn_counts_round = (refl, refl, refl)
 
 -- The two requests lead to the session that the other rows begin in.
 pub login_leads : LoginLeads
-unfolding answers digits header whole put_bit put_number put_bytes put_raw kind_of cut joined overlaid zero_blocks segment_of segment_bytes
+unfolding answers done_in_turn digits header whole put_bit put_number put_bytes put_raw kind_of cut joined overlaid zero_blocks segment_of segment_bytes
 login_leads = refl
 
 -- A text has at most 16,384 bytes; the answers before are empty.
@@ -270,9 +270,9 @@ pub text_at_the_limit : Row (record fresh { session = record fresh.session { beg
     (segment true (login false true 0 None 0) (codes "A") ∷ [])
     (hex (codes "43400000 00000001 40000001 00000000 00000000 00000000 00000001 00000000 00000000 00000000 00000000 00000000")
     ++ 0x41 ∷ 0 ∷ 0 ∷ 0 ∷ [])
-    (hex (codes "23000000 00000000 40000001 00000000 00000000 00000000 00000001 00000001 00000001 00000000 00000000 00000000"))
+    (hex (codes "23000000 00000000 40000001 00000000 00000000 00000000 00000001 00000001 00000008 00000000 00000000 00000000"))
     None
-unfolding answers digits header whole put_bit put_number put_bytes put_raw kind_of cut joined overlaid zero_blocks segment_of segment_bytes
+unfolding answers done_in_turn digits header whole put_bit put_number put_bytes put_raw kind_of cut joined overlaid zero_blocks segment_of segment_bytes
 text_at_the_limit = (refl, refl, refl)
 
 -- One byte more is refused.
@@ -280,9 +280,9 @@ pub text_past_the_limit : Row (record fresh { session = record fresh.session { b
     (segment true (login false false 0 None 0) (codes "A") ∷ [])
     (hex (codes "43000000 00000001 40000001 00000000 00000000 00000000 00000001 00000000 00000000 00000000 00000000 00000000")
     ++ 0x41 ∷ 0 ∷ 0 ∷ 0 ∷ [])
-    (hex (codes "23000000 00000000 40000001 00000000 00000000 00000000 00000000 00000001 00000001 03020000 00000000 00000000"))
+    (hex (codes "23000000 00000000 40000001 00000000 00000000 00000000 00000000 00000001 00000008 03020000 00000000 00000000"))
     None
-unfolding answers digits header whole put_bit put_number put_bytes put_raw kind_of cut joined overlaid zero_blocks segment_of segment_bytes
+unfolding answers done_in_turn digits header whole put_bit put_number put_bytes put_raw kind_of cut joined overlaid zero_blocks segment_of segment_bytes
 text_past_the_limit = (refl, refl, refl)
 
 -- ---- the order of refusals
@@ -291,74 +291,74 @@ text_past_the_limit = (refl, refl, refl)
 abbrev Refused : LoginRequest → List ℕ → ℕ → ℕ → Type 0
 Refused h text class detail =
     canon (answers fresh blank (says h text ∷ [])).answers
-    ≡ hex (codes "23000000 00000000 40000001 00000000 00000000 00000000 00000000 00000001 00000001")
+    ≡ hex (codes "23000000 00000000 40000001 00000000 00000000 00000000 00000000 00000001 00000008")
     ++ class ∷ detail ∷ replicate 10 0
 
 pub version_before_session : Refused (record first { version_min = 1; tsih = 5 }) first_text 0x02 0x05
-unfolding answers digits header whole put_bit put_number put_bytes put_raw kind_of segment_of segment_bytes
+unfolding answers done_in_turn digits header whole put_bit put_number put_bytes put_raw kind_of segment_of segment_bytes
 version_before_session = refl
 
 pub session_before_move : Refused (record first { tsih = 5; next_stage = Some 0 }) first_text 0x02 0x0a
-unfolding answers digits header whole put_bit put_number put_bytes put_raw kind_of segment_of segment_bytes
+unfolding answers done_in_turn digits header whole put_bit put_number put_bytes put_raw kind_of segment_of segment_bytes
 session_before_move = refl
 
 pub no_move_to_itself : Refused (record first { next_stage = Some 0 }) first_text 0x02 0x00
-unfolding answers digits header whole put_bit put_number put_bytes put_raw kind_of segment_of segment_bytes
+unfolding answers done_in_turn digits header whole put_bit put_number put_bytes put_raw kind_of segment_of segment_bytes
 no_move_to_itself = refl
 
 pub no_move_to_2 : Refused (record first { next_stage = Some 2 }) first_text 0x02 0x00
-unfolding answers digits header whole put_bit put_number put_bytes put_raw kind_of segment_of segment_bytes
+unfolding answers done_in_turn digits header whole put_bit put_number put_bytes put_raw kind_of segment_of segment_bytes
 no_move_to_2 = refl
 
 pub text_at_fault_before_names : Refused first (codes "AuthMethod=CHAP") 0x02 0x00
-unfolding answers digits header whole put_bit put_number put_bytes put_raw kind_of segment_of segment_bytes
+unfolding answers done_in_turn digits header whole put_bit put_number put_bytes put_raw kind_of segment_of segment_bytes
 text_at_fault_before_names = refl
 
 pub name_before_type : Refused first (entry (codes "SessionType=Other")) 0x02 0x07
-unfolding answers digits header whole put_bit put_number put_bytes put_raw kind_of segment_of segment_bytes
+unfolding answers done_in_turn digits header whole put_bit put_number put_bytes put_raw kind_of segment_of segment_bytes
 name_before_type = refl
 
 pub empty_name_is_none : Refused first (entry (codes "InitiatorName=") ++ target_name) 0x02 0x07
-unfolding answers digits header whole put_bit put_number put_bytes put_raw kind_of segment_of segment_bytes
+unfolding answers done_in_turn digits header whole put_bit put_number put_bytes put_raw kind_of segment_of segment_bytes
 empty_name_is_none = refl
 
 pub type_before_target : Refused first (initiator_name ++ entry (codes "SessionType=Other")) 0x02 0x09
-unfolding answers digits header whole put_bit put_number put_bytes put_raw kind_of segment_of segment_bytes
+unfolding answers done_in_turn digits header whole put_bit put_number put_bytes put_raw kind_of segment_of segment_bytes
 type_before_target = refl
 
 pub no_target_name : Refused first (initiator_name ++ entry (codes "AuthMethod=CHAP")) 0x02 0x07
-unfolding answers digits header whole put_bit put_number put_bytes put_raw kind_of segment_of segment_bytes
+unfolding answers done_in_turn digits header whole put_bit put_number put_bytes put_raw kind_of segment_of segment_bytes
 no_target_name = refl
 
 pub empty_target_name_is_another : Refused first (initiator_name ++ entry (codes "TargetName=")) 0x02 0x03
-unfolding answers digits header whole put_bit put_number put_bytes put_raw kind_of segment_of segment_bytes
+unfolding answers done_in_turn digits header whole put_bit put_number put_bytes put_raw kind_of segment_of segment_bytes
 empty_target_name_is_another = refl
 
 pub target_before_authentication : Refused first (initiator_name ++ entry (codes "TargetName=x") ++ entry (codes "AuthMethod=CHAP")) 0x02 0x03
-unfolding answers digits header whole put_bit put_number put_bytes put_raw kind_of segment_of segment_bytes
+unfolding answers done_in_turn digits header whole put_bit put_number put_bytes put_raw kind_of segment_of segment_bytes
 target_before_authentication = refl
 
 pub authentication_before_length : Refused first (initiator_name ++ target_name ++ entry (codes "AuthMethod=CHAP") ++ entry (codes "MaxRecvDataSegmentLength=511")) 0x02 0x01
-unfolding answers digits header whole put_bit put_number put_bytes put_raw kind_of segment_of segment_bytes
+unfolding answers done_in_turn digits header whole put_bit put_number put_bytes put_raw kind_of segment_of segment_bytes
 authentication_before_length = refl
 
 -- the second request of a login is refused with this class and detail
 abbrev RefusedLater : LoginRequest → List ℕ → ℕ → ℕ → Type 0
 RefusedLater h text class detail =
     drop 88 (canon (answers fresh blank (says first first_text ∷ says h text ∷ [])).answers)
-    ≡ hex (codes "23040000 00000000 40000001 00000000 00000000 00000000 00000000 00000001 00000001")
+    ≡ hex (codes "23040000 00000000 40000001 00000000 00000000 00000000 00000000 00000001 00000008")
     ++ class ∷ detail ∷ replicate 10 0
 
 pub key_given_again : RefusedLater second (entry (codes "AuthMethod=None") ++ entry (codes "MaxRecvDataSegmentLength=511")) 0x02 0x00
-unfolding answers digits header whole put_bit put_number put_bytes put_raw kind_of segment_of segment_bytes
+unfolding answers done_in_turn digits header whole put_bit put_number put_bytes put_raw kind_of segment_of segment_bytes
 key_given_again = refl
 
 pub no_move_back : RefusedLater (record second { next_stage = Some 0 }) second_text 0x02 0x00
-unfolding answers digits header whole put_bit put_number put_bytes put_raw kind_of segment_of segment_bytes
+unfolding answers done_in_turn digits header whole put_bit put_number put_bytes put_raw kind_of segment_of segment_bytes
 no_move_back = refl
 
 -- An unknown key may be given again; a request that does not move holds the stage.
 pub unknown_key_again : (answers fresh blank
     (says (login false false 0 None 0) (first_text ++ entry (codes "X=1")) ∷ says first (entry (codes "X=2")) ∷ says second [] ∷ [])).machine.session.phase ≡ phases.Full
-unfolding answers digits header whole put_bit put_number put_bytes put_raw kind_of segment_of segment_bytes
+unfolding answers done_in_turn digits header whole put_bit put_number put_bytes put_raw kind_of segment_of segment_bytes
 unknown_key_again = refl

@@ -7,7 +7,7 @@ use Rattle.iscsi_pdu.specs.Meaning.{header, whole}
 use Rattle.iscsi_text.specs.Key.{kind_of}
 use Rattle.iscsi_stream.specs.Segment.{segment_of, segment_bytes}
 use Rattle.iscsi_stream.specs.Canonical.{canon}
-use Rattle.iscsi_target.specs.Machine.{answers}
+use Rattle.iscsi_target.specs.Machine.{answers, done_in_turn}
 use Rattle.iscsi_target.specs.Worked.{hex, entry, first, says, first_text, fresh, blank}
 
 -- the digits of a number below 1000
@@ -21,7 +21,7 @@ keys (suc n) = keys n ++ entry (codes "K" ++ three n ++ codes "=1")
 
 -- A text of 500 unknown keys would get an answer of over 8,192 bytes.
 pub too_many_keys : (canon (answers fresh blank (says first (first_text ++ keys 500) ∷ [])).answers
-    ≡ hex (codes "23000000 00000000 40000001 00000000 00000000 00000000 00000000 00000001 00000001 03020000 00000000 00000000"))
+    ≡ hex (codes "23000000 00000000 40000001 00000000 00000000 00000000 00000000 00000001 00000008 03020000 00000000 00000000"))
     × ((answers fresh blank (says first (first_text ++ keys 500) ∷ [])).rule ≡ None)
-unfolding answers digits header whole put_bit put_number put_bytes put_raw kind_of cut joined overlaid zero_blocks segment_of segment_bytes
+unfolding answers done_in_turn digits header whole put_bit put_number put_bytes put_raw kind_of cut joined overlaid zero_blocks segment_of segment_bytes
 too_many_keys = (refl, refl)

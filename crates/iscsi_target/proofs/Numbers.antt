@@ -17,14 +17,10 @@ use Rattle.iscsi_pdu.specs.Serial.{next_sn}
 use Rattle.iscsi_target.specs.Login.{login_step, login_in, login_request, numbered}
 use Rattle.iscsi_target.specs.Machine.{step, answers, then_stepped, is_closed, is_over_limit}
 use Rattle.iscsi_target.specs.Laws.{stat_sns, stat_sn_of, given_number, response_tags, response_tag, cmd_sns, cmd_sn_of, HasCmdSn, CountOn}
-use Rattle.iscsi_target.proofs.StepParts.{by_cases}
+use Rattle.iscsi_target.proofs.Turns.{by_cases}
 use Rattle.iscsi_target.proofs.Replies.{Count, IsReply, request_reply}
-use Rattle.iscsi_target.proofs.Telling.{StepTells, step_tells, tags_done}
+use Rattle.iscsi_target.proofs.Telling.{StepTells, step_tells, tags_done, count_append}
 use Rattle.iscsi_target.specs.Execution.{reliable}
-
-pub count_append : (n : ℕ) (a b : List ℕ) (mid after : ℕ) → Count n a mid → Count mid b after → Count n (a ++ b) after
-count_append n [] b mid after e c = subst (λ (x : ℕ). Count x b after) e c
-count_append n (k ∷ a) b mid after e c = (e.0, count_append (next_sn n) a b mid after e.1 c)
 
 pub count_on : (n : ℕ) (numbers : List ℕ) (after : ℕ) → n < 2 ^ 32 → Count n numbers after → CountOn n numbers
 count_on n [] after lt c k le = absurd (omega (arith, le))
@@ -116,7 +112,7 @@ opening_over : (settings : Settings) (n : ℕ) (disk : Disk) (m : Message) → i
 opening_over settings n disk m e = rw e refl
 
 opening_login : (settings : Settings) (n : ℕ) (disk : Disk) (m : Message) → is_over_limit (opening settings n) m.segment ≡ false
-    → step (opening settings n) disk m ≡ on disk None (login_step (opening_session settings n) m)
+    → step (opening settings n) disk m ≡ on disk [] (login_step (opening_session settings n) m)
 opening_login settings n disk m e = rw e refl
 
 -- after messages of which the first does this
@@ -135,11 +131,11 @@ from_login s disk ms first b e lt all =
     count_on first (cmd_sns (answers s disk ms).accepted) (answers s disk ms).machine.session.exp_cmd_sn lt c
 
 from_request : (settings : Settings) (n : ℕ) (disk : Disk) (m : Message) (ms : List Message) (h : LoginPdu) (head : Head) → head ≡ LoginRequest h → h.cmd_sn < 2 ^ 32
-    → AllByRecursion HasCmdSn ms → From disk ms h.cmd_sn (on disk None (login_in (opening_session settings n) head m.segment))
+    → AllByRecursion HasCmdSn ms → From disk ms h.cmd_sn (on disk [] (login_in (opening_session settings n) head m.segment))
 from_request settings n disk m ms h head k lt all =
     let c : IsReply (numbered (opening_session settings n) h) (login_request (opening_session settings n) h m.segment) = request_reply (opening_session settings n) h m.segment in
-    subst (λ (x : Head). From disk ms h.cmd_sn (on disk None (login_in (opening_session settings n) x m.segment))) (sym k)
-    (from_login (on disk None (login_request (opening_session settings n) h m.segment)).machine disk ms h.cmd_sn c.begun c.exp_cmd_sn lt all)
+    subst (λ (x : Head). From disk ms h.cmd_sn (on disk [] (login_in (opening_session settings n) x m.segment))) (sym k)
+    (from_login (on disk [] (login_request (opening_session settings n) h m.segment)).machine disk ms h.cmd_sn c.begun c.exp_cmd_sn lt all)
 
 pub first_numbers : (settings : Settings) (n : ℕ) (disk : Disk) (m : Message) (ms : List Message) (h : LoginPdu) → m.head ≡ LoginRequest h → h.cmd_sn < 2 ^ 32
     → AllByRecursion HasCmdSn ms → CountOn h.cmd_sn (cmd_sns (answers (opening settings n) disk (m ∷ ms)).accepted)

@@ -13,13 +13,13 @@ use Rattle.iscsi_login.specs.declared.phase.Phase.{Phase}
 use Rattle.iscsi_target.specs.declared.fault.TargetFault.{TargetFault}
 use Rattle.iscsi_target.specs.declared.fault.TargetFault.TheVariants as faults
 use Rattle.iscsi_target.specs.State.{Machine, Stepped, closed}
-use Rattle.iscsi_target.specs.Transfer.{joined}
+use Rattle.iscsi_target.specs.State.{joined}
 use Rattle.iscsi_target.specs.Machine.{answers, is_closed, then_stepped}
 use Rattle.iscsi_target.specs.Feed.{Alike, Connection, Ends, Fed, FedAlike, FedIf, Feeds, GoesWell, Store}
 use Rattle.iscsi_target.proofs.Numbers.{closed_answers}
 use Rattle.iscsi_target.proofs.Continuing.{then_nothing}
 use Rattle.iscsi_target.proofs.Appending.{answers_append}
-use Rattle.iscsi_target.proofs.Feeding.{answers_close}
+use Rattle.iscsi_target.proofs.Feeding.{answers_close, stands}
 
 -- ---- what messages lead to
 
@@ -100,6 +100,7 @@ run_of stream ms old before output piece result new after written t f well =
     let s : List ℕ = stream ++ take f.count piece in
     let h : HasTaken s (ms ++ f.messages) f.framing = f.answered.taken stream ms t in
     let is : f.stepped ≡ answers old.machine before.disk f.messages = f.answered.works well.device in
+    let stood = stands output f.framing (drop f.count piece) f.stepped f.answered.failures result new.machine after written well.memory f.leaves in
     let x : Sight = sight s (ms ++ f.messages) f.framing h (drop f.count piece) in
     let e : Ended (leaves (answers old.machine before.disk f.messages)) x result new.machine new.framing =
     subst (λ (r : Stepped). Ended (leaves r) x result new.machine new.framing) is (ended s (ms ++ f.messages) old before output piece result new after written f h well f.ends) in
@@ -110,8 +111,8 @@ run_of stream ms old before output piece result new after written t f well =
       sight = x;
       hears = framer_hears (course old.machine before.disk) old.framing.limit (stream ++ piece) s (drop f.count piece) ms f.messages f.framing h f.answered.limit whole
           (end_of (leaves (answers old.machine before.disk f.messages)) x result new.machine new.framing e);
-      disk_is = f.answered.disk ∙ ap (λ (r : Stepped). r.disk) is;
-      output_is = f.answered.output_is ∙ ap (λ (r : Stepped). output ++ canon r.answers) is;
+      disk_is = stood.disk ∙ ap (λ (r : Stepped). r.disk) is;
+      output_is = stood.output_is ∙ ap (λ (r : Stepped). output ++ canon r.answers) is;
       ended = e;
     }
 

@@ -7,7 +7,7 @@ use Rattle.scsi_disk.specs.Plan.{plan_of}
 use Rattle.scsi_disk.specs.declared.order.Plan.TheVariants.{Take}
 use Rattle.iscsi_pdu.specs.declared.head.data_out.DataOut.{DataOut as DataPdu}
 use Rattle.iscsi_login.specs.Held.{Held}
-use Rattle.iscsi_target.specs.State.{Write}
+use Rattle.iscsi_target.specs.Write.{Write}
 use Rattle.iscsi_stream.specs.Pieces.{Pieces, data_of, TilesFrom}
 use Rattle.iscsi_pdu.specs.Fields.{reserved_tag}
 use Rattle.iscsi_target.specs.declared.due.Due.{Due}

@@ -10,7 +10,7 @@ use Rattle.scsi_disk.specs.Plan.{plan_of, plan_by, first_refusal, is_write, is_u
 use Rattle.scsi_disk.specs.declared.order.Order.{Order}
 use Rattle.scsi_disk.specs.declared.order.Outcome.{Outcome}
 use Rattle.iscsi_target.specs.declared.due.Due.{Due}
-use Rattle.iscsi_target.specs.Inside.{IsStaged, IsAsked}
+use Rattle.iscsi_target.specs.Staged.{IsStaged, IsAsked}
 use Rattle.scsi_disk.specs.declared.order.Plan.{Plan}
 use Rattle.scsi_disk.specs.declared.order.Plan.TheVariants.{Refuse, Take, Give}
 

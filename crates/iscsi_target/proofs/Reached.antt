@@ -1,5 +1,5 @@
 -- What holds in each state that messages lead to from the opening state.
-use Rattle.std.proofs.Common.{◌≡◌, ◌<◌, ◌≤◌, ℕ, List, Bool, true, false, length, Some, refl, sym, ap, ◌∙◌, subst, arith}
+use Rattle.std.proofs.Common.{◌≡◌, ◌<◌, ◌≤◌, ℕ, List, [], ◌∷◌, Bool, true, false, length, Some, refl, sym, ap, ◌∙◌, subst, arith}
 use Rattle.std.specs.Prelude.{nat_lt}
 use Rattle.std.proofs.lemmas.Bool.{ltb-false, ltb-true}
 use Rattle.scsi_disk.specs.Disk.{Disk}
@@ -18,14 +18,14 @@ use Rattle.iscsi_login.specs.Held.{Held, IsHeld, defaults, held_value, number_of
 use Rattle.iscsi_login.proofs.Agreement.{default_allowed}
 use Rattle.iscsi_target.specs.Configured.{Settings}
 use Rattle.iscsi_target.specs.Session.{limit}
-use Rattle.iscsi_target.specs.State.{Machine, Stepped, opening, unchanged, max_cmd_sn}
+use Rattle.iscsi_target.specs.State.{Machine, Execution, Stepped, opening, unchanged, max_cmd_sn}
 use Rattle.iscsi_pdu.specs.Serial.{is_within}
-use Rattle.iscsi_target.specs.Machine.{step, answers, is_closed, is_over_limit, full_step, phase_step, due_step, request}
+use Rattle.iscsi_target.specs.Machine.{Met, Dropped, plainly, followed, having_accepted, step, answers, is_closed, is_over_limit, full_step, full_met, phase_step, due_met, request}
 use Rattle.iscsi_login.specs.Stage.{is_closed_phase}
-use Rattle.iscsi_target.specs.Tiles.{TilesDataIn}
+use Rattle.iscsi_target.specs.Tiles.{TilesDataIn, GiveTiles, bytes_given}
 use Rattle.iscsi_target.specs.Laws.{IsOutside, cmd_sn_of, cmd_sn_if}
-use Rattle.iscsi_target.proofs.StepParts.{by_cases}
-use Rattle.iscsi_target.proofs.Telling.{StepTells, step_tells, CanGive}
+use Rattle.iscsi_target.proofs.Turns.{by_cases}
+use Rattle.iscsi_target.proofs.Telling.{StepTells, step_tells, Gives}
 use Rattle.iscsi_target.proofs.Numbers.{IsFit, answers_fit, answers_settings}
 use Rattle.iscsi_target.specs.Execution.{reliable}
 
@@ -60,44 +60,44 @@ pub reached_held : (settings : Settings) (n : ℕ) (disk : Disk) (ms : List Mess
 reached_held settings n disk ms p =
     (reached_fit settings n disk ms).held (subst (λ (x : Settings). IsInRange x.preferences) (sym (answers_settings (opening settings n) disk ms)) p)
 
-burst_some : (value : Answered) → Allows (rule_of keys.MaxBurstLength) value → 0 < number_of value
-burst_some (answered.Number n) a = omega (arith, a.0)
-burst_some (answered.Flag b) a = absurd a
-burst_some answered.NoneItem a = absurd a
-burst_some answered.Reject a = absurd a
-
-pub can_give : (held : Held) → IsHeld held → CanGive held
-can_give held h = record { burst = burst_some (held_value held keys.MaxBurstLength) (h.values keys.MaxBurstLength); most = omega (arith, h.initiator_max_recv.0) }
-
 -- ---- Data-In
+
+-- what a store that doesn't fail gives
+gives_tiles : (answers : List Message) (es : List Execution) → Gives reliable answers es → GiveTiles bytes_given answers es
+gives_tiles answers [] g = g
+gives_tiles answers (e ∷ es) g = (g.0, g.1, g.2, g.3, gives_tiles g.1 es g.4)
 
 pub reached_data_in : (settings : Settings) (n : ℕ) (disk : Disk) (ms : List Message) (m : Message) → IsInRange settings.preferences
     → TilesDataIn (step (answers (opening settings n) disk ms).machine (answers (opening settings n) disk ms).disk m)
 reached_data_in settings n disk ms m p =
     let r : Stepped = answers (opening settings n) disk ms in
     let t : StepTells reliable r.machine m (step r.machine r.disk m) = step_tells reliable r.disk r.machine m in
-    record { tags = t.gives_tags; tiled = t.gives (can_give r.machine.session.held (reached_held settings n disk ms p)); none = t.gives_none }
+    gives_tiles (step r.machine r.disk m).answers (step r.machine r.disk m).executed
+    (t.gives (subst (λ (x : Settings). IsInRange x.preferences) (sym (answers_settings (opening settings n) disk ms)) p) (reached_held settings n disk ms p))
 
 -- ---- outside the window
 
-outside_if : (s : Machine) (disk : Disk) (m : Message) (i : Bool) (cmd_sn n : ℕ) → cmd_sn_if i cmd_sn ≡ Some n
-    → is_within n s.session.exp_cmd_sn (max_cmd_sn s) ≡ false → request reliable s disk m i cmd_sn ≡ unchanged s disk
-outside_if s disk m true cmd_sn n e o = absurd cc
-outside_if s disk m false cmd_sn n e o =
+outside_if : (s : Machine) (count : ℕ) (m : Message) (i : Bool) (cmd_sn n : ℕ) → cmd_sn_if i cmd_sn ≡ Some n
+    → is_within n s.session.exp_cmd_sn (max_cmd_sn s) ≡ false → request s count m i cmd_sn ≡ plainly Dropped
+outside_if s count m true cmd_sn n e o = absurd cc
+outside_if s count m false cmd_sn n e o =
     let f : cmd_sn ≡ n = cc in
     rw f (rw o refl)
 
-outside_due : (s : Machine) (disk : Disk) (m : Message) (head : Head) (n : ℕ) → cmd_sn_of head ≡ Some n
-    → is_within n s.session.exp_cmd_sn (max_cmd_sn s) ≡ false → due_step reliable s disk m head ≡ unchanged s disk
-outside_due s disk m (NopOut h) n e o = outside_if s disk m h.immediate h.cmd_sn n e o
-outside_due s disk m (ScsiCommand h) n e o = outside_if s disk m h.immediate h.cmd_sn n e o
-outside_due s disk m (TaskRequest h) n e o = outside_if s disk m h.immediate h.cmd_sn n e o
-outside_due s disk m (TextRequest h) n e o = outside_if s disk m h.immediate h.cmd_sn n e o
-outside_due s disk m (LogoutRequest h) n e o = outside_if s disk m h.immediate h.cmd_sn n e o
-outside_due s disk m _ n e o = absurd cc
+outside_due : (s : Machine) (count : ℕ) (m : Message) (head : Head) (n : ℕ) → cmd_sn_of head ≡ Some n
+    → is_within n s.session.exp_cmd_sn (max_cmd_sn s) ≡ false → due_met s count m head ≡ plainly Dropped
+outside_due s count m (NopOut h) n e o = outside_if s count m h.immediate h.cmd_sn n e o
+outside_due s count m (ScsiCommand h) n e o = outside_if s count m h.immediate h.cmd_sn n e o
+outside_due s count m (TaskRequest h) n e o = outside_if s count m h.immediate h.cmd_sn n e o
+outside_due s count m (TextRequest h) n e o = outside_if s count m h.immediate h.cmd_sn n e o
+outside_due s count m (LogoutRequest h) n e o = outside_if s count m h.immediate h.cmd_sn n e o
+outside_due s count m _ n e o = absurd cc
+
+outside_met : (s : Machine) (count : ℕ) (m : Message) → IsOutside s m → full_met s count m ≡ plainly Dropped
+outside_met s count m o = rw (o.kind, o.size) (outside_due s count m m.head o.number o.is_number o.outside)
 
 outside_full : (s : Machine) (disk : Disk) (m : Message) → IsOutside s m → full_step reliable s disk m ≡ unchanged s disk
-outside_full s disk m o = rw (o.kind, o.size) (outside_due s disk m m.head o.number o.is_number o.outside)
+outside_full s disk m o = ap (λ (x : Met). having_accepted x.accepted (followed reliable s disk x.next)) (outside_met s disk.count m o)
 
 within_limit : (s : Machine) (segment : Segment) → nat_lt s.session.held.target_max_recv (length (segment_bytes segment)) ≡ false
     → s.session.held.target_max_recv ≤ limit s.session.settings → is_over_limit s segment ≡ false

@@ -33,12 +33,13 @@ use Rattle.iscsi_target.specs.Discovery.{text_request, text_reply_to, reply_pair
 use Rattle.iscsi_target.specs.Requests.{nop_out, task_request, logout_request}
 use Rattle.iscsi_login.specs.Stage.{is_closed_phase}
 use Rattle.scsi_disk.specs.Disk.{Disk}
-use Rattle.iscsi_target.specs.State.{Machine, Write, on}
+use Rattle.iscsi_target.specs.declared.tasks.Task.{Task}
+use Rattle.iscsi_target.specs.State.{Machine, on}
 use Rattle.iscsi_target.specs.Machine.{is_closed, request_answered}
 use Rattle.iscsi_target.specs.Tiles.{r2t_ranges}
 use Rattle.iscsi_stream.specs.Pieces.{data_pieces}
 use Rattle.iscsi_target.specs.Laws.{stat_sns, response_tags, FitsNumber, login_cmd_sn}
-use Rattle.iscsi_target.proofs.StepParts.{by_cases}
+use Rattle.iscsi_target.proofs.Turns.{by_cases}
 use Rattle.iscsi_target.proofs.Lengths.{declares_well, holds}
 
 -- each is the one after the one before, from the first on; the last argument is what comes then
@@ -204,12 +205,12 @@ request_answered_reply s waiting m (TextRequest h) = text_reply_is s waiting m h
 request_answered_reply s waiting m (LogoutRequest h) = logout_reply s waiting m h
 request_answered_reply s waiting m _ = breach_reply s waiting kind_not_due m
 
--- ---- beside the open write
+-- ---- beside the tasks
 
 pub record IsOver (s : Machine) : Type 0 where
   pub closed : is_closed s ≡ true
-  pub write : s.write ≡ None
+  pub tasks : s.tasks ≡ []
 
--- the session is over, or the open write stays
-pub on_ends : (disk : Disk) (write : Option Write) (r : Reply) → IsOver (on disk write r).machine ⊎ ((on disk write r).machine.write ≡ write)
-on_ends disk write r = by_cases (is_closed_phase r.session.phase) (λ e. inl (record { closed = e; write = rw e refl })) (λ e. inr (rw e refl))
+-- the session is over, or the tasks stay
+pub on_ends : (disk : Disk) (tasks : List Task) (r : Reply) → IsOver (on disk tasks r).machine ⊎ ((on disk tasks r).machine.tasks ≡ tasks)
+on_ends disk tasks r = by_cases (is_closed_phase r.session.phase) (λ e. inl (record { closed = e; tasks = rw e refl })) (λ e. inr (rw e refl))

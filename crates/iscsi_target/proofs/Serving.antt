@@ -1,5 +1,5 @@
 -- What the parts of a session do with a store.
-use Rattle.std.proofs.Common.{◌≡◌, inl, inr, ◌∙◌, ℕ, List, [], ◌∷◌, ◌++◌, map, Option, None, refl, sym, ap, subst, arith}
+use Rattle.std.proofs.Common.{◌≡◌, ◌≤◌, inl, inr, ◌∙◌, ℕ, List, [], ◌∷◌, ◌++◌, map, Option, None, refl, sym, ap, subst, arith}
 use Rattle.std.specs.Prelude.{Result, Ok, Err, IfOk, OnErr}
 use Rattle.std.proofs.lemmas.Bool.{cases_lt}
 use Rattle.std.proofs.lemmas.List.{append-nil}
@@ -9,13 +9,15 @@ use Rattle.scsi_disk.specs.declared.order.Order.{Order}
 use Rattle.iscsi_stream.specs.Stream.{Message}
 use Rattle.iscsi_stream.specs.Canonical.{canon}
 use Rattle.iscsi_target.specs.Session.{Session, Reply, counted, ended}
-use Rattle.iscsi_target.specs.State.{Machine, Stepped, Execution, on, unchanged, left, closed}
+use Rattle.iscsi_target.specs.State.{Machine, Stepped, Execution, on, unchanged, left, closed, waiting}
 use Rattle.iscsi_stream.specs.Pieces.{Pieces, data_of}
-use Rattle.iscsi_target.specs.Transfer.{joined}
+use Rattle.iscsi_target.specs.State.{joined}
 use Rattle.iscsi_target.specs.Execution.{Device, reliable, device_next, execute, command_answers, parts_given}
-use Rattle.iscsi_target.specs.Machine.{RunsIn, accepting}
+use Rattle.iscsi_target.specs.Machine.{Next, Dropped, Answered, Queued, followed, RunsIn, having_accepted}
 use Rattle.iscsi_target.specs.Laws.{joined_execution, joined_stepped}
-use Rattle.iscsi_target.specs.Inside.{Serves, Does, Attempts, Leaves, Handles, store_of}
+use Rattle.iscsi_target.specs.Feed.{Store}
+use Rattle.iscsi_target.specs.declared.tasks.Task.{Task}
+use Rattle.iscsi_target.specs.Inside.{Serves, Does, Attempts, Leaves, Handles, Works, Follows, Halts, store_of}
 use Rattle.iscsi_target.proofs.OpenWrites.{data_of_one}
 
 pub by_ok : {E A : Type 0} (P Q : A → Type 0) (result : Result A E) → ((x : A) → P x → Q x) → IfOk result P → IfOk result Q
@@ -24,7 +26,7 @@ by_ok P Q (Err e) step h = tt
 
 -- ---- what leaves the disk
 
-leaves_serves : (n : ℕ) (r : Stepped) (f : Device → Stepped) (disk : Disk) (broken : Option ℕ) (new : Machine) (before after : List ℕ)
+pub leaves_serves : (n : ℕ) (r : Stepped) (f : Device → Stepped) (disk : Disk) (broken : Option ℕ) (new : Machine) (before after : List ℕ)
     → ((d : Device) → f d ≡ r) → r.executed ≡ [] → r.disk ≡ disk → new ≡ r.machine → after ≡ before ++ canon r.answers → broken ≡ r.rule → Serves n n f broken new disk before after
 leaves_serves n r f disk broken new before after is none same is_new is_after is_rule = record {
   device = reliable;
@@ -51,11 +53,11 @@ pub attempts : {E : Type 0} (r : Reply) (result : Result (Option ℕ) E) (old ne
 attempts r (Ok rule) old new before after h = record { ok = h.ok; err = tt; unwritten = tt }
 attempts r (Err e) old new before after h = record { ok = tt; err = ap ended h.err; unwritten = h.unwritten }
 
--- what a session replied is what the target did, whose open write goes with the session
+-- what a session replied is what the target did, whose tasks go with the session
 pub relays : {E : Type 0} (r : Reply) (result : Result (Option ℕ) E) (old new : Machine) (session : Session) (disk : Disk) (before after : List ℕ)
-    → Attempts r result old.session session before after → new ≡ record { session = session; write = left session old.write } → Leaves (on disk old.write r) result old new before after
+    → Attempts r result old.session session before after → new ≡ record { session = session; tasks = left session old.tasks } → Leaves (on disk old.tasks r) result old new before after
 relays r (Ok rule) old new session disk before after h e = record {
-  machine = e ∙ ap (λ (s : Session). record { session = s; write = left s old.write }) h.ok.session;
+  machine = e ∙ ap (λ (s : Session). record { session = s; tasks = left s old.tasks }) h.ok.session;
   output = h.ok.output;
   rule_is = h.ok.rule_is;
   err = tt;
@@ -65,7 +67,7 @@ relays r (Err x) old new session disk before after h e = record {
   machine = tt;
   output = tt;
   rule_is = tt;
-  err = ap closed e ∙ ap (λ (s : Session). record { session = s; write = None }) h.err;
+  err = ap closed e ∙ ap (λ (s : Session). record { session = s; tasks = [] }) h.err;
   unwritten = h.unwritten;
 }
 
@@ -90,6 +92,11 @@ runs_apart d before (x ∷ xs) after h = (
 -- where a piece ended makes no difference to what a store did
 pub runs_as : (d : Device) (before after : ℕ) (a b : Stepped) → joined_stepped a ≡ joined_stepped b → RunsIn d before a.executed after → RunsIn d before b.executed after
 runs_as d before after a b e h = runs_apart d before b.executed after (subst (λ (x : Stepped). RunsIn d before x.executed after) e (runs_joined d before a.executed after h))
+
+-- the count of failures never falls
+pub runs_rise : (d : Device) (before : ℕ) (xs : List Execution) (after : ℕ) → RunsIn d before xs after → before ≤ after
+runs_rise d before [] after h = omega (arith, h)
+runs_rise d before (x ∷ xs) after h = let a = h.1.rises in let b = runs_rise (device_next d) h.0 xs after h.2 in omega (arith, a, b)
 
 pub serves_same : (fb fa : ℕ) (f g : Device → Stepped) (broken : Option ℕ) (new : Machine) (now : Disk) (before after : List ℕ)
     → ((d : Device) → joined_stepped (g d) ≡ joined_stepped (f d)) → Serves fb fa g broken new now before after → Serves fb fa f broken new now before after
@@ -118,9 +125,9 @@ same_if result fb fa f g new now before after is h =
     by_ok (λ b. Serves fb fa g b new now before after) (λ b. Serves fb fa f b new now before after) result
     (λ b. serves_same fb fa f g b new now before after is) h
 
-accepts_by : (fb fa : ℕ) (m : Message) (g : Device → Stepped) (broken : Option ℕ) (new : Machine) (now : Disk) (before after : List ℕ)
-    → Serves fb fa g broken new now before after → Serves fb fa (λ d. accepting m (g d)) broken new now before after
-accepts_by fb fa m g broken new now before after h = record {
+pub accepts_by : (fb fa : ℕ) (ms : List Message) (g : Device → Stepped) (broken : Option ℕ) (new : Machine) (now : Disk) (before after : List ℕ)
+    → Serves fb fa g broken new now before after → Serves fb fa (λ d. having_accepted ms (g d)) broken new now before after
+accepts_by fb fa ms g broken new now before after h = record {
   device = h.device;
   rises = h.rises;
   works = h.works;
@@ -131,17 +138,11 @@ accepts_by fb fa m g broken new now before after h = record {
   rule_is = h.rule_is;
 }
 
-pub accepts_if : {E : Type 0} (result : Result (Option ℕ) E) (fb fa : ℕ) (m : Message) (f g : Device → Stepped) (new : Machine) (now : Disk) (before after : List ℕ)
-    → ((d : Device) → accepting m (g d) ≡ f d) → IfOk result (λ b. Serves fb fa g b new now before after) → IfOk result (λ b. Serves fb fa f b new now before after)
-accepts_if result fb fa m f g new now before after is h =
-    by_ok (λ b. Serves fb fa g b new now before after) (λ b. Serves fb fa f b new now before after) result
-    (λ b x. serves_same fb fa f (λ d. accepting m (g d)) b new now before after (λ d. ap joined_stepped (is d)) (accepts_by fb fa m g b new now before after x)) h
-
 -- ---- an order
 
 pub order_serves : (fb fa tag : ℕ) (s : Machine) (disk : Disk) (order : Order) (pieces : Pieces) (e : Effect) (new : Machine) (now : Disk) (before after : List ℕ)
     → Executes fb fa disk order (data_of pieces) e → new ≡ record s { session = counted s.session } → now ≡ e.disk
-    → after ≡ before ++ canon (command_answers s tag e.outcome (parts_given s.session.held e.outcome.bytes))
+    → after ≡ before ++ canon (command_answers s.session (waiting s.tasks) tag e.outcome (parts_given s.session.held e.outcome.bytes))
     → Serves fb fa (λ d. execute d s disk tag order pieces) None new now before after
 order_serves fb fa tag s disk order pieces e new now before after x is_new is_now is_after =
     elim (cases_lt fb fa) [
@@ -164,7 +165,7 @@ order_serves fb fa tag s disk order pieces e new now before after x is_new is_no
             runs = (fa, subst (λ (y : Effect). Executes fb fa disk order (data_of pieces) y) same x, refl);
             machine = ap joined is_new;
             disk_is = is_now ∙ ap (λ (y : Effect). y.disk) same;
-            output = is_after ∙ ap (λ (y : Effect). before ++ canon (command_answers s tag y.outcome (parts_given s.session.held y.outcome.bytes))) same;
+            output = is_after ∙ ap (λ (y : Effect). before ++ canon (command_answers s.session (waiting s.tasks) tag y.outcome (parts_given s.session.held y.outcome.bytes))) same;
             rule_is = refl;
           }
     ]
@@ -172,3 +173,31 @@ order_serves fb fa tag s disk order pieces e new now before after x is_new is_no
 pub on_err : {A E P : Type 0} (result : Result A E) → P → OnErr result P
 on_err (Ok x) h = tt
 on_err (Err e) h = h
+
+-- ---- what comes of a PDU
+
+pub answered_follows : {E : Type 0} (result : Result (Option ℕ) E) (n : ℕ) (s : Machine) (r : Reply) (next : Next) (disk : Disk) (new : Machine) (before after : List ℕ) → next ≡ Answered r → Leaves (on disk s.tasks r) result s new before after
+    → Follows next result s (store_of disk n) before new (store_of disk n) after
+answered_follows (Ok rule) n s r next disk new before after is h = record {
+  ok = leaves_serves n (on disk s.tasks r) (λ d. followed d s disk next) disk rule new before after (λ d. ap (followed d s disk) is) refl refl h.machine h.output h.rule_is;
+  err = tt;
+}
+answered_follows (Err e) n s r next disk new before after is h = record {
+  ok = tt;
+  err = subst (λ (x : Next). Halts n n s disk x new disk before after) (sym is) (record { machine = h.err; rises = omega arith; disk_is = refl; unwritten = h.unwritten });
+}
+
+pub dropped_follows : {E : Type 0} (n : ℕ) (s : Machine) (next : Next) (disk : Disk) (new : Machine) (out : List ℕ) → next ≡ Dropped → new ≡ s → Follows {E = E} next (Ok None) s (store_of disk n) out new (store_of disk n) out
+dropped_follows n s next disk new out is e = record {
+  ok = unchanged_serves n s (λ d. followed d s disk next) disk new out (λ d. ap (followed d s disk) is) e;
+  err = tt;
+}
+
+pub follows_as : {E : Type 0} (result : Result (Option ℕ) E) (a b : Next) (old : Machine) (before : Store) (output : List ℕ) (new : Machine) (after : Store) (written : List ℕ) → a ≡ b → Follows a result old before output new after written
+    → Follows b result old before output new after written
+follows_as result a b old before output new after written e h = subst (λ (x : Next). Follows x result old before output new after written) e h
+
+pub works_follow : {E : Type 0} (result : Result (Option ℕ) E) (next : Next) (session : Session) (tasks : List Task) (old : Machine) (before : Store) (output : List ℕ) (new : Machine) (after : Store) (written : List ℕ) → next ≡ Queued session tasks
+    → Works session tasks result before output new after written → Follows next result old before output new after written
+works_follow result next session tasks old before output new after written is h =
+    subst (λ (x : Next). Follows x result old before output new after written) (sym is) (record { ok = h.ok; err = h.err })

@@ -9,7 +9,7 @@ use Rattle.iscsi_pdu.specs.declared.head.Head.TheVariants as heads
 use Rattle.iscsi_text.specs.Key.{kind_of}
 use Rattle.iscsi_stream.specs.Segment.{Bytes, segment_of, segment_bytes}
 use Rattle.iscsi_stream.specs.Stream.{Message}
-use Rattle.iscsi_target.specs.Machine.{answers}
+use Rattle.iscsi_target.specs.Machine.{answers, done_in_turn}
 use Rattle.iscsi_target.specs.Sessions.{WriteIsAnswered}
 use Rattle.iscsi_target.specs.Worked.{hex, fill, ping, command, orders, sends, volunteers, blank, logged_in, Row, entry, agreed, fresh}
 
@@ -18,14 +18,14 @@ pub ping_comes_back : Row logged_in
     (ping 1
     ∷ [])
     ((hex (codes "40800000 00000003 00000000 00000000 00000001 ffffffff 00000001 00000003 00000000 00000000 00000000 00000000 61626300")))
-    (hex (codes "20800000 00000003 00000000 00000000 00000001 ffffffff 00000003 00000001 00000001 00000000 00000000 00000000 61626300"))
+    (hex (codes "20800000 00000003 00000000 00000000 00000001 ffffffff 00000003 00000001 00000008 00000000 00000000 00000000 61626300"))
     None
-unfolding answers digits header whole put_bit put_number put_bytes put_raw kind_of cut joined overlaid zero_blocks segment_of segment_bytes
+unfolding answers done_in_turn digits header whole put_bit put_number put_bytes put_raw kind_of cut joined overlaid zero_blocks segment_of segment_bytes
 ping_comes_back = (refl, refl, refl)
 
 -- A write of eight blocks: one comes with the command, the others as R2Ts ask for them.
 pub write_in_bursts : WriteIsAnswered
-unfolding answers digits header whole put_bit put_number put_bytes put_raw kind_of cut joined overlaid zero_blocks segment_of segment_bytes
+unfolding answers done_in_turn digits header whole put_bit put_number put_bytes put_raw kind_of cut joined overlaid zero_blocks segment_of segment_bytes
 write_in_bursts = (refl, refl, refl)
 
 -- It leaves its eight blocks, and no other changes.
@@ -37,7 +37,7 @@ pub write_leaves_its_blocks : blocks_from (answers logged_in blank
     ∷ sends 3 0 3584 (fill 8)
     ∷ [])).disk 0 9
     ≡ fill 1 ++ fill 2 ++ fill 3 ++ fill 4 ++ fill 5 ++ fill 6 ++ fill 7 ++ fill 8 ++ fill 0
-unfolding answers digits header whole put_bit put_number put_bytes put_raw kind_of cut joined overlaid zero_blocks segment_of segment_bytes
+unfolding answers done_in_turn digits header whole put_bit put_number put_bytes put_raw kind_of cut joined overlaid zero_blocks segment_of segment_bytes
 write_leaves_its_blocks = refl
 
 -- Before the last Data-Out no block changes.
@@ -48,7 +48,7 @@ pub write_waits_for_all : blocks_from (answers logged_in blank
     ∷ sends 2 0 2560 (fill 6 ++ fill 7)
     ∷ [])).disk 0 9
     ≡ fill 0 ++ fill 0 ++ fill 0 ++ fill 0 ++ fill 0 ++ fill 0 ++ fill 0 ++ fill 0 ++ fill 0
-unfolding answers digits header whole put_bit put_number put_bytes put_raw kind_of cut joined overlaid zero_blocks segment_of segment_bytes
+unfolding answers done_in_turn digits header whole put_bit put_number put_bytes put_raw kind_of cut joined overlaid zero_blocks segment_of segment_bytes
 write_waits_for_all = refl
 
 -- Two blocks at the last one aren't there.
@@ -56,10 +56,10 @@ pub read_past_the_end : Row logged_in
     (orders (command true true false 1024 (cdbs.Read10 (record { options = 0; logical_block_address = 2047; group_number = 0; blocks = 2; control = 0 }))) []
     ∷ [])
     (hex (codes "01c10000 00000000 00000000 00000000 00000001 00000400 00000001 00000003 28000000 07ff0000 02000000 00000000"))
-    ((hex (codes "21820002 00000014 00000000 00000000 00000001 00000000 00000003 00000002 00000002 00000000 00000000 00000400"))
+    ((hex (codes "21820002 00000014 00000000 00000000 00000001 00000000 00000003 00000002 00000009 00000000 00000000 00000400"))
     ++ (hex (codes "0012 70000500 0000000a 00000000 21000000 0000")))
     None
-unfolding answers digits header whole put_bit put_number put_bytes put_raw kind_of cut joined overlaid zero_blocks segment_of segment_bytes
+unfolding answers done_in_turn digits header whole put_bit put_number put_bytes put_raw kind_of cut joined overlaid zero_blocks segment_of segment_bytes
 read_past_the_end = (refl, refl, refl)
 
 -- The last block is there.
@@ -67,11 +67,11 @@ pub read_the_last_block : Row logged_in
     (orders (command true true false 512 (cdbs.Read10 (record { options = 0; logical_block_address = 2047; group_number = 0; blocks = 1; control = 0 }))) []
     ∷ [])
     (hex (codes "01c10000 00000000 00000000 00000000 00000001 00000200 00000001 00000003 28000000 07ff0000 01000000 00000000"))
-    ((hex (codes "25800000 00000200 00000000 00000000 00000001 ffffffff 00000000 00000002 00000002 00000000 00000000 00000000"))
+    ((hex (codes "25800000 00000200 00000000 00000000 00000001 ffffffff 00000000 00000002 00000009 00000000 00000000 00000000"))
     ++ fill 0
-    ++ (hex (codes "21800000 00000000 00000000 00000000 00000001 00000000 00000003 00000002 00000002 00000001 00000000 00000000")))
+    ++ (hex (codes "21800000 00000000 00000000 00000000 00000001 00000000 00000003 00000002 00000009 00000001 00000000 00000000")))
     None
-unfolding answers digits header whole put_bit put_number put_bytes put_raw kind_of cut joined overlaid zero_blocks segment_of segment_bytes
+unfolding answers done_in_turn digits header whole put_bit put_number put_bytes put_raw kind_of cut joined overlaid zero_blocks segment_of segment_bytes
 read_the_last_block = (refl, refl, refl)
 
 -- No block at the end is no block too many.
@@ -79,9 +79,9 @@ pub read_no_block_at_the_end : Row logged_in
     (orders (command true true false 0 (cdbs.Read10 (record { options = 0; logical_block_address = 2048; group_number = 0; blocks = 0; control = 0 }))) []
     ∷ [])
     (hex (codes "01c10000 00000000 00000000 00000000 00000001 00000000 00000001 00000003 28000000 08000000 00000000 00000000"))
-    (hex (codes "21800000 00000000 00000000 00000000 00000001 00000000 00000003 00000002 00000002 00000000 00000000 00000000"))
+    (hex (codes "21800000 00000000 00000000 00000000 00000001 00000000 00000003 00000002 00000009 00000000 00000000 00000000"))
     None
-unfolding answers digits header whole put_bit put_number put_bytes put_raw kind_of cut joined overlaid zero_blocks segment_of segment_bytes
+unfolding answers done_in_turn digits header whole put_bit put_number put_bytes put_raw kind_of cut joined overlaid zero_blocks segment_of segment_bytes
 read_no_block_at_the_end = (refl, refl, refl)
 
 -- One block there is.
@@ -89,10 +89,10 @@ pub read_one_block_at_the_end : Row logged_in
     (orders (command true true false 512 (cdbs.Read10 (record { options = 0; logical_block_address = 2048; group_number = 0; blocks = 1; control = 0 }))) []
     ∷ [])
     (hex (codes "01c10000 00000000 00000000 00000000 00000001 00000200 00000001 00000003 28000000 08000000 01000000 00000000"))
-    ((hex (codes "21820002 00000014 00000000 00000000 00000001 00000000 00000003 00000002 00000002 00000000 00000000 00000200"))
+    ((hex (codes "21820002 00000014 00000000 00000000 00000001 00000000 00000003 00000002 00000009 00000000 00000000 00000200"))
     ++ (hex (codes "0012 70000500 0000000a 00000000 21000000 0000")))
     None
-unfolding answers digits header whole put_bit put_number put_bytes put_raw kind_of cut joined overlaid zero_blocks segment_of segment_bytes
+unfolding answers done_in_turn digits header whole put_bit put_number put_bytes put_raw kind_of cut joined overlaid zero_blocks segment_of segment_bytes
 read_one_block_at_the_end = (refl, refl, refl)
 
 -- A command has at most 8,192 blocks.
@@ -100,10 +100,10 @@ pub read_too_many_blocks : Row logged_in
     (orders (command true true false 512 (cdbs.Read16 (record { options = 0; logical_block_address = 0; group_number = 0; blocks = 8193; control = 0 }))) []
     ∷ [])
     (hex (codes "01c10000 00000000 00000000 00000000 00000001 00000200 00000001 00000003 88000000 00000000 00000000 20010000"))
-    ((hex (codes "21820002 00000014 00000000 00000000 00000001 00000000 00000003 00000002 00000002 00000000 00000000 00000200"))
+    ((hex (codes "21820002 00000014 00000000 00000000 00000001 00000000 00000003 00000002 00000009 00000000 00000000 00000200"))
     ++ (hex (codes "0012 70000500 0000000a 00000000 24000000 0000")))
     None
-unfolding answers digits header whole put_bit put_number put_bytes put_raw kind_of cut joined overlaid zero_blocks segment_of segment_bytes
+unfolding answers done_in_turn digits header whole put_bit put_number put_bytes put_raw kind_of cut joined overlaid zero_blocks segment_of segment_bytes
 read_too_many_blocks = (refl, refl, refl)
 
 -- A block number of 64 bits doesn't count round.
@@ -111,10 +111,10 @@ pub read_at_the_last_number : Row logged_in
     (orders (command true true false 512 (cdbs.Read16 (record { options = 0; logical_block_address = 0xffff_ffff_ffff_ffff; group_number = 0; blocks = 1; control = 0 }))) []
     ∷ [])
     (hex (codes "01c10000 00000000 00000000 00000000 00000001 00000200 00000001 00000003 8800ffff ffffffff ffff0000 00010000"))
-    ((hex (codes "21820002 00000014 00000000 00000000 00000001 00000000 00000003 00000002 00000002 00000000 00000000 00000200"))
+    ((hex (codes "21820002 00000014 00000000 00000000 00000001 00000000 00000003 00000002 00000009 00000000 00000000 00000200"))
     ++ (hex (codes "0012 70000500 0000000a 00000000 21000000 0000")))
     None
-unfolding answers digits header whole put_bit put_number put_bytes put_raw kind_of cut joined overlaid zero_blocks segment_of segment_bytes
+unfolding answers done_in_turn digits header whole put_bit put_number put_bytes put_raw kind_of cut joined overlaid zero_blocks segment_of segment_bytes
 read_at_the_last_number = (refl, refl, refl)
 
 -- Three blocks with bursts of two: each run ends with the F bit.
@@ -122,13 +122,13 @@ pub read_in_runs : Row logged_in
     (orders (command true true false 1536 (cdbs.Read10 (record { options = 0; logical_block_address = 0; group_number = 0; blocks = 3; control = 0 }))) []
     ∷ [])
     (hex (codes "01c10000 00000000 00000000 00000000 00000001 00000600 00000001 00000003 28000000 00000000 03000000 00000000"))
-    ((hex (codes "25800000 00000400 00000000 00000000 00000001 ffffffff 00000000 00000002 00000002 00000000 00000000 00000000"))
+    ((hex (codes "25800000 00000400 00000000 00000000 00000001 ffffffff 00000000 00000002 00000009 00000000 00000000 00000000"))
     ++ (fill 0 ++ fill 0)
-    ++ (hex (codes "25800000 00000200 00000000 00000000 00000001 ffffffff 00000000 00000002 00000002 00000001 00000400 00000000"))
+    ++ (hex (codes "25800000 00000200 00000000 00000000 00000001 ffffffff 00000000 00000002 00000009 00000001 00000400 00000000"))
     ++ fill 0
-    ++ (hex (codes "21800000 00000000 00000000 00000000 00000001 00000000 00000003 00000002 00000002 00000002 00000000 00000000")))
+    ++ (hex (codes "21800000 00000000 00000000 00000000 00000001 00000000 00000003 00000002 00000009 00000002 00000000 00000000")))
     None
-unfolding answers digits header whole put_bit put_number put_bytes put_raw kind_of cut joined overlaid zero_blocks segment_of segment_bytes
+unfolding answers done_in_turn digits header whole put_bit put_number put_bytes put_raw kind_of cut joined overlaid zero_blocks segment_of segment_bytes
 read_in_runs = (refl, refl, refl)
 
 -- INQUIRY data are cut at the allocation length.
@@ -136,11 +136,11 @@ pub inquiry_is_cut : Row logged_in
     (orders (command true true false 36 (cdbs.Inquiry false 0 5 0)) []
     ∷ [])
     (hex (codes "01c10000 00000000 00000000 00000000 00000001 00000024 00000001 00000003 12000000 05000000 00000000 00000000"))
-    ((hex (codes "25800000 00000005 00000000 00000000 00000001 ffffffff 00000000 00000002 00000002 00000000 00000000 00000000"))
+    ((hex (codes "25800000 00000005 00000000 00000000 00000001 ffffffff 00000000 00000002 00000009 00000000 00000000 00000000"))
     ++ (hex (codes "00000612 1f000000"))
-    ++ (hex (codes "21820000 00000000 00000000 00000000 00000001 00000000 00000003 00000002 00000002 00000001 00000000 0000001f")))
+    ++ (hex (codes "21820000 00000000 00000000 00000000 00000001 00000000 00000003 00000002 00000009 00000001 00000000 0000001f")))
     None
-unfolding answers digits header whole put_bit put_number put_bytes put_raw kind_of cut joined overlaid zero_blocks segment_of segment_bytes
+unfolding answers done_in_turn digits header whole put_bit put_number put_bytes put_raw kind_of cut joined overlaid zero_blocks segment_of segment_bytes
 inquiry_is_cut = (refl, refl, refl)
 
 -- There is no page b0.
@@ -148,10 +148,10 @@ pub page_that_is_not_there : Row logged_in
     (orders (command true true false 255 (cdbs.Inquiry true 0xb0 255 0)) []
     ∷ [])
     (hex (codes "01c10000 00000000 00000000 00000000 00000001 000000ff 00000001 00000003 1201b000 ff000000 00000000 00000000"))
-    ((hex (codes "21820002 00000014 00000000 00000000 00000001 00000000 00000003 00000002 00000002 00000000 00000000 000000ff"))
+    ((hex (codes "21820002 00000014 00000000 00000000 00000001 00000000 00000003 00000002 00000009 00000000 00000000 000000ff"))
     ++ (hex (codes "0012 70000500 0000000a 00000000 24000000 0000")))
     None
-unfolding answers digits header whole put_bit put_number put_bytes put_raw kind_of cut joined overlaid zero_blocks segment_of segment_bytes
+unfolding answers done_in_turn digits header whole put_bit put_number put_bytes put_raw kind_of cut joined overlaid zero_blocks segment_of segment_bytes
 page_that_is_not_there = (refl, refl, refl)
 
 -- The report of units has unit 0.
@@ -159,11 +159,11 @@ pub report_of_units : Row logged_in
     (orders (command true true false 16 (cdbs.ReportLuns 0 16 0)) []
     ∷ [])
     (hex (codes "01c10000 00000000 00000000 00000000 00000001 00000010 00000001 00000003 a0000000 00000000 00100000 00000000"))
-    ((hex (codes "25800000 00000010 00000000 00000000 00000001 ffffffff 00000000 00000002 00000002 00000000 00000000 00000000"))
+    ((hex (codes "25800000 00000010 00000000 00000000 00000001 ffffffff 00000000 00000002 00000009 00000000 00000000 00000000"))
     ++ (hex (codes "00000008 00000000 00000000 00000000"))
-    ++ (hex (codes "21800000 00000000 00000000 00000000 00000001 00000000 00000003 00000002 00000002 00000001 00000000 00000000")))
+    ++ (hex (codes "21800000 00000000 00000000 00000000 00000001 00000000 00000003 00000002 00000009 00000001 00000000 00000000")))
     None
-unfolding answers digits header whole put_bit put_number put_bytes put_raw kind_of cut joined overlaid zero_blocks segment_of segment_bytes
+unfolding answers done_in_turn digits header whole put_bit put_number put_bytes put_raw kind_of cut joined overlaid zero_blocks segment_of segment_bytes
 report_of_units = (refl, refl, refl)
 
 -- There is no well-known unit.
@@ -171,11 +171,11 @@ pub report_of_well_known_units : Row logged_in
     (orders (command true true false 16 (cdbs.ReportLuns 1 16 0)) []
     ∷ [])
     (hex (codes "01c10000 00000000 00000000 00000000 00000001 00000010 00000001 00000003 a0000100 00000000 00100000 00000000"))
-    ((hex (codes "25800000 00000008 00000000 00000000 00000001 ffffffff 00000000 00000002 00000002 00000000 00000000 00000000"))
+    ((hex (codes "25800000 00000008 00000000 00000000 00000001 ffffffff 00000000 00000002 00000009 00000000 00000000 00000000"))
     ++ (hex (codes "00000000 00000000"))
-    ++ (hex (codes "21820000 00000000 00000000 00000000 00000001 00000000 00000003 00000002 00000002 00000001 00000000 00000008")))
+    ++ (hex (codes "21820000 00000000 00000000 00000000 00000001 00000000 00000003 00000002 00000009 00000001 00000000 00000008")))
     None
-unfolding answers digits header whole put_bit put_number put_bytes put_raw kind_of cut joined overlaid zero_blocks segment_of segment_bytes
+unfolding answers done_in_turn digits header whole put_bit put_number put_bytes put_raw kind_of cut joined overlaid zero_blocks segment_of segment_bytes
 report_of_well_known_units = (refl, refl, refl)
 
 -- Code 34 is unknown.
@@ -183,10 +183,10 @@ pub unknown_command : Row logged_in
     (orders (record (command true false false 0 (cdbs.Unknown (0x34 ∷ replicate 15 0))) { lun = 0 }) []
     ∷ [])
     (hex (codes "01810000 00000000 00000000 00000000 00000001 00000000 00000001 00000003 34000000 00000000 00000000 00000000"))
-    ((hex (codes "21800002 00000014 00000000 00000000 00000001 00000000 00000003 00000002 00000002 00000000 00000000 00000000"))
+    ((hex (codes "21800002 00000014 00000000 00000000 00000001 00000000 00000003 00000002 00000009 00000000 00000000 00000000"))
     ++ (hex (codes "0012 70000500 0000000a 00000000 20000000 0000")))
     None
-unfolding answers digits header whole put_bit put_number put_bytes put_raw kind_of cut joined overlaid zero_blocks segment_of segment_bytes
+unfolding answers done_in_turn digits header whole put_bit put_number put_bytes put_raw kind_of cut joined overlaid zero_blocks segment_of segment_bytes
 unknown_command = (refl, refl, refl)
 
 -- So it is at a unit that isn't there.
@@ -194,10 +194,10 @@ pub unknown_command_at_another_unit : Row logged_in
     (orders (record (command true false false 0 (cdbs.Unknown (0x34 ∷ replicate 15 0))) { lun = 0x0001_0000_0000_0000 }) []
     ∷ [])
     (hex (codes "01810000 00000000 00010000 00000000 00000001 00000000 00000001 00000003 34000000 00000000 00000000 00000000"))
-    ((hex (codes "21800002 00000014 00000000 00000000 00000001 00000000 00000003 00000002 00000002 00000000 00000000 00000000"))
+    ((hex (codes "21800002 00000014 00000000 00000000 00000001 00000000 00000003 00000002 00000009 00000000 00000000 00000000"))
     ++ (hex (codes "0012 70000500 0000000a 00000000 20000000 0000")))
     None
-unfolding answers digits header whole put_bit put_number put_bytes put_raw kind_of cut joined overlaid zero_blocks segment_of segment_bytes
+unfolding answers done_in_turn digits header whole put_bit put_number put_bytes put_raw kind_of cut joined overlaid zero_blocks segment_of segment_bytes
 unknown_command_at_another_unit = (refl, refl, refl)
 
 -- A Data-Out with another DataSN is rejected.
@@ -209,11 +209,11 @@ pub data_sn_out_of_order : Row logged_in
     ++ fill 1
     ++ (hex (codes "05800000 00000400 00000000 00000000 00000001 00000000 00000000 00000003 00000000 00000001 00000200 00000000"))
     ++ replicate 1024 0)
-    ((hex (codes "31800000 00000000 00000000 00000000 00000001 00000000 00000003 00000002 00000001 00000000 00000200 00000400"))
-    ++ (hex (codes "3f800400 00000030 00000000 00000000 ffffffff 00000000 00000003 00000002 00000001 00000000 00000000 00000000"))
+    ((hex (codes "31800000 00000000 00000000 00000000 00000001 00000000 00000003 00000002 00000008 00000000 00000200 00000400"))
+    ++ (hex (codes "3f800400 00000030 00000000 00000000 ffffffff 00000000 00000003 00000002 00000008 00000000 00000000 00000000"))
     ++ (hex (codes "05800000 00000400 00000000 00000000 00000001 00000000 00000000 00000003 00000000 00000001 00000200 00000000")))
     (Some 3)
-unfolding answers digits header whole put_bit put_number put_bytes put_raw kind_of cut joined overlaid zero_blocks segment_of segment_bytes
+unfolding answers done_in_turn digits header whole put_bit put_number put_bytes put_raw kind_of cut joined overlaid zero_blocks segment_of segment_bytes
 data_sn_out_of_order = (refl, refl, refl)
 
 -- So is one that goes past its burst.
@@ -225,11 +225,11 @@ pub data_past_the_burst : Row logged_in
     ++ fill 1
     ++ (hex (codes "05800000 00000404 00000000 00000000 00000001 00000000 00000000 00000003 00000000 00000000 00000200 00000000"))
     ++ replicate 1028 0)
-    ((hex (codes "31800000 00000000 00000000 00000000 00000001 00000000 00000003 00000002 00000001 00000000 00000200 00000400"))
-    ++ (hex (codes "3f800400 00000030 00000000 00000000 ffffffff 00000000 00000003 00000002 00000001 00000000 00000000 00000000"))
+    ((hex (codes "31800000 00000000 00000000 00000000 00000001 00000000 00000003 00000002 00000008 00000000 00000200 00000400"))
+    ++ (hex (codes "3f800400 00000030 00000000 00000000 ffffffff 00000000 00000003 00000002 00000008 00000000 00000000 00000000"))
     ++ (hex (codes "05800000 00000404 00000000 00000000 00000001 00000000 00000000 00000003 00000000 00000000 00000200 00000000")))
     (Some 3)
-unfolding answers digits header whole put_bit put_number put_bytes put_raw kind_of cut joined overlaid zero_blocks segment_of segment_bytes
+unfolding answers done_in_turn digits header whole put_bit put_number put_bytes put_raw kind_of cut joined overlaid zero_blocks segment_of segment_bytes
 data_past_the_burst = (refl, refl, refl)
 
 -- While a write is open there is no room for a ping; the write goes on.
@@ -244,12 +244,12 @@ pub ping_while_a_write_is_open : Row logged_in
     ++ (0x61 ∷ 0x62 ∷ 0x63 ∷ 0 ∷ [])
     ++ (hex (codes "05800000 00000400 00000000 00000000 00000001 00000000 00000000 00000003 00000000 00000000 00000200 00000000"))
     ++ (fill 2 ++ fill 3))
-    ((hex (codes "31800000 00000000 00000000 00000000 00000001 00000000 00000003 00000002 00000001 00000000 00000200 00000400"))
-    ++ (hex (codes "3f800600 00000030 00000000 00000000 ffffffff 00000000 00000003 00000002 00000001 00000000 00000000 00000000"))
+    ((hex (codes "31800000 00000000 00000000 00000000 00000001 00000000 00000003 00000002 00000008 00000000 00000200 00000400"))
+    ++ (hex (codes "3f800600 00000030 00000000 00000000 ffffffff 00000000 00000003 00000002 00000008 00000000 00000000 00000000"))
     ++ (hex (codes "40800000 00000003 00000000 00000000 00000002 ffffffff 00000001 00000003 00000000 00000000 00000000 00000000"))
-    ++ (hex (codes "31800000 00000000 00000000 00000000 00000001 00000001 00000004 00000002 00000001 00000001 00000600 00000400")))
+    ++ (hex (codes "31800000 00000000 00000000 00000000 00000001 00000001 00000004 00000002 00000008 00000001 00000600 00000400")))
     None
-unfolding answers digits header whole put_bit put_number put_bytes put_raw kind_of cut joined overlaid zero_blocks segment_of segment_bytes
+unfolding answers done_in_turn digits header whole put_bit put_number put_bytes put_raw kind_of cut joined overlaid zero_blocks segment_of segment_bytes
 ping_while_a_write_is_open = (refl, refl, refl)
 
 -- Data that come unasked end a sequence of their own.
@@ -270,12 +270,12 @@ pub unsolicited_data : Row logged_in
     ++ (fill 5 ++ fill 6)
     ++ (hex (codes "05800000 00000400 00000000 00000000 00000001 00000002 00000000 00000003 00000000 00000000 00000c00 00000000"))
     ++ (fill 7 ++ fill 8))
-    ((hex (codes "31800000 00000000 00000000 00000000 00000001 00000000 00000003 00000002 00000001 00000000 00000400 00000400"))
-    ++ (hex (codes "31800000 00000000 00000000 00000000 00000001 00000001 00000003 00000002 00000001 00000001 00000800 00000400"))
-    ++ (hex (codes "31800000 00000000 00000000 00000000 00000001 00000002 00000003 00000002 00000001 00000002 00000c00 00000400"))
-    ++ (hex (codes "21800000 00000000 00000000 00000000 00000001 00000000 00000003 00000002 00000002 00000000 00000000 00000000")))
+    ((hex (codes "31800000 00000000 00000000 00000000 00000001 00000000 00000003 00000002 00000008 00000000 00000400 00000400"))
+    ++ (hex (codes "31800000 00000000 00000000 00000000 00000001 00000001 00000003 00000002 00000008 00000001 00000800 00000400"))
+    ++ (hex (codes "31800000 00000000 00000000 00000000 00000001 00000002 00000003 00000002 00000008 00000002 00000c00 00000400"))
+    ++ (hex (codes "21800000 00000000 00000000 00000000 00000001 00000000 00000003 00000002 00000009 00000000 00000000 00000000")))
     None
-unfolding answers digits header whole put_bit put_number put_bytes put_raw kind_of cut joined overlaid zero_blocks segment_of segment_bytes
+unfolding answers done_in_turn digits header whole put_bit put_number put_bytes put_raw kind_of cut joined overlaid zero_blocks segment_of segment_bytes
 unsolicited_data = (refl, refl, refl)
 
 -- Where the first burst is there, no more may be announced.
@@ -284,10 +284,10 @@ pub first_burst_and_more : Row logged_in
     ∷ [])
     ((hex (codes "01210000 00000400 00000000 00000000 00000001 00001000 00000001 00000003 2a000000 00000000 08000000 00000000"))
     ++ replicate 1024 0)
-    ((hex (codes "3f800400 00000030 00000000 00000000 ffffffff 00000000 00000003 00000002 00000002 00000000 00000000 00000000"))
+    ((hex (codes "3f800400 00000030 00000000 00000000 ffffffff 00000000 00000003 00000002 00000009 00000000 00000000 00000000"))
     ++ (hex (codes "01210000 00000400 00000000 00000000 00000001 00001000 00000001 00000003 2a000000 00000000 08000000 00000000")))
     (Some 3)
-unfolding answers digits header whole put_bit put_number put_bytes put_raw kind_of cut joined overlaid zero_blocks segment_of segment_bytes
+unfolding answers done_in_turn digits header whole put_bit put_number put_bytes put_raw kind_of cut joined overlaid zero_blocks segment_of segment_bytes
 first_burst_and_more = (refl, refl, refl)
 
 -- Data of a write that was refused are dropped.
@@ -298,10 +298,10 @@ pub data_of_a_refused_write : Row logged_in
     ((hex (codes "01210000 00000000 00000000 00000000 00000001 00000400 00000001 00000003 2a000000 07ff0000 02000000 00000000"))
     ++ (hex (codes "05800000 00000200 00000000 00000000 00000001 ffffffff 00000000 00000003 00000000 00000000 00000000 00000000"))
     ++ fill 0)
-    ((hex (codes "21820002 00000014 00000000 00000000 00000001 00000000 00000003 00000002 00000002 00000000 00000000 00000400"))
+    ((hex (codes "21820002 00000014 00000000 00000000 00000001 00000000 00000003 00000002 00000009 00000000 00000000 00000400"))
     ++ (hex (codes "0012 70000500 0000000a 00000000 21000000 0000")))
     None
-unfolding answers digits header whole put_bit put_number put_bytes put_raw kind_of cut joined overlaid zero_blocks segment_of segment_bytes
+unfolding answers done_in_turn digits header whole put_bit put_number put_bytes put_raw kind_of cut joined overlaid zero_blocks segment_of segment_bytes
 data_of_a_refused_write = (refl, refl, refl)
 
 -- No task management function is supported.
@@ -322,9 +322,9 @@ pub task_management : Row logged_in
     } in m)
     ∷ [])
     (hex (codes "42810000 00000000 00000000 00000000 00000001 00000009 00000001 00000003 00000000 00000000 00000000 00000000"))
-    (hex (codes "22800500 00000000 00000000 00000000 00000001 00000000 00000003 00000001 00000001 00000000 00000000 00000000"))
+    (hex (codes "22800500 00000000 00000000 00000000 00000001 00000000 00000003 00000001 00000008 00000000 00000000 00000000"))
     None
-unfolding answers digits header whole put_bit put_number put_bytes put_raw kind_of cut joined overlaid zero_blocks segment_of segment_bytes
+unfolding answers done_in_turn digits header whole put_bit put_number put_bytes put_raw kind_of cut joined overlaid zero_blocks segment_of segment_bytes
 task_management = (refl, refl, refl)
 
 -- A logout is answered.
@@ -342,9 +342,9 @@ pub logout : Row logged_in
     } in m)
     ∷ [])
     (hex (codes "46800000 00000000 00000000 00000000 00000001 00000000 00000001 00000003 00000000 00000000 00000000 00000000"))
-    (hex (codes "26800000 00000000 00000000 00000000 00000001 00000000 00000003 00000001 00000001 00000000 00000000 00000000"))
+    (hex (codes "26800000 00000000 00000000 00000000 00000001 00000000 00000003 00000001 00000008 00000000 00000000 00000000"))
     None
-unfolding answers digits header whole put_bit put_number put_bytes put_raw kind_of cut joined overlaid zero_blocks segment_of segment_bytes
+unfolding answers done_in_turn digits header whole put_bit put_number put_bytes put_raw kind_of cut joined overlaid zero_blocks segment_of segment_bytes
 logout = (refl, refl, refl)
 
 -- One for recovery is rejected.
@@ -362,10 +362,10 @@ pub logout_for_recovery : Row logged_in
     } in m)
     ∷ [])
     (hex (codes "46820000 00000000 00000000 00000000 00000001 00000000 00000001 00000003 00000000 00000000 00000000 00000000"))
-    ((hex (codes "3f800400 00000030 00000000 00000000 ffffffff 00000000 00000003 00000001 00000001 00000000 00000000 00000000"))
+    ((hex (codes "3f800400 00000030 00000000 00000000 ffffffff 00000000 00000003 00000001 00000008 00000000 00000000 00000000"))
     ++ (hex (codes "46820000 00000000 00000000 00000000 00000001 00000000 00000001 00000003 00000000 00000000 00000000 00000000")))
     (Some 5)
-unfolding answers digits header whole put_bit put_number put_bytes put_raw kind_of cut joined overlaid zero_blocks segment_of segment_bytes
+unfolding answers done_in_turn digits header whole put_bit put_number put_bytes put_raw kind_of cut joined overlaid zero_blocks segment_of segment_bytes
 logout_for_recovery = (refl, refl, refl)
 
 -- A Text Request has to be whole.
@@ -385,26 +385,26 @@ pub text_that_goes_on : Row logged_in
     } in m)
     ∷ [])
     (hex (codes "04000000 00000000 00000000 00000000 00000001 ffffffff 00000001 00000003 00000000 00000000 00000000 00000000"))
-    ((hex (codes "3f800400 00000030 00000000 00000000 ffffffff 00000000 00000003 00000002 00000002 00000000 00000000 00000000"))
+    ((hex (codes "3f800400 00000030 00000000 00000000 ffffffff 00000000 00000003 00000002 00000009 00000000 00000000 00000000"))
     ++ (hex (codes "04000000 00000000 00000000 00000000 00000001 ffffffff 00000001 00000003 00000000 00000000 00000000 00000000")))
     (Some 4)
-unfolding answers digits header whole put_bit put_number put_bytes put_raw kind_of cut joined overlaid zero_blocks segment_of segment_bytes
+unfolding answers done_in_turn digits header whole put_bit put_number put_bytes put_raw kind_of cut joined overlaid zero_blocks segment_of segment_bytes
 text_that_goes_on = (refl, refl, refl)
 
 -- Before full feature phase no other PDU is due: the session is closed, and nothing is written.
 pub ping_before_login : Row fresh (ping 1 ∷ [])
     (hex (codes "40800000 00000003 00000000 00000000 00000001 ffffffff 00000001 00000003 00000000 00000000 00000000 00000000 61626300"))
     [] (Some 1)
-unfolding answers digits header whole put_bit put_number put_bytes put_raw kind_of cut joined overlaid zero_blocks segment_of segment_bytes
+unfolding answers done_in_turn digits header whole put_bit put_number put_bytes put_raw kind_of cut joined overlaid zero_blocks segment_of segment_bytes
 ping_before_login = (refl, refl, refl)
 
 -- A segment longer than the target declared is rejected.
 pub segment_past_what_was_declared : Row (record logged_in { session = record logged_in.session { held = record agreed { target_max_recv = 2 } } }) (ping 1 ∷ [])
     (hex (codes "40800000 00000003 00000000 00000000 00000001 ffffffff 00000001 00000003 00000000 00000000 00000000 00000000 61626300"))
-    (hex (codes "3f800400 00000030 00000000 00000000 ffffffff 00000000 00000003 00000001 00000001 00000000 00000000 00000000")
+    (hex (codes "3f800400 00000030 00000000 00000000 ffffffff 00000000 00000003 00000001 00000008 00000000 00000000 00000000")
     ++ hex (codes "40800000 00000003 00000000 00000000 00000001 ffffffff 00000001 00000003 00000000 00000000 00000000 00000000"))
     (Some 2)
-unfolding answers digits header whole put_bit put_number put_bytes put_raw kind_of cut joined overlaid zero_blocks segment_of segment_bytes
+unfolding answers done_in_turn digits header whole put_bit put_number put_bytes put_raw kind_of cut joined overlaid zero_blocks segment_of segment_bytes
 segment_past_what_was_declared = (refl, refl, refl)
 
 -- One longer than the framer takes closes the session, and nothing is written.
@@ -413,7 +413,7 @@ pub segment_past_the_limit : Row logged_in (sends 0 0 0 (replicate 8193 0) ∷ p
     ++ replicate 8196 0
     ++ hex (codes "40800000 00000003 00000000 00000000 00000001 ffffffff 00000001 00000003 00000000 00000000 00000000 00000000 61626300"))
     [] None
-unfolding answers digits header whole put_bit put_number put_bytes put_raw kind_of cut joined overlaid zero_blocks segment_of segment_bytes
+unfolding answers done_in_turn digits header whole put_bit put_number put_bytes put_raw kind_of cut joined overlaid zero_blocks segment_of segment_bytes
 segment_past_the_limit = (refl, refl, refl)
 
 -- Data for no write are dropped, and a ping without a tag has no answer; the session goes on.
@@ -421,9 +421,9 @@ pub dropped_in_silence : Row logged_in (volunteers 0 (codes "ab") ∷ ping 0xfff
     (hex (codes "05800000 00000002 00000000 00000000 00000001 ffffffff 00000000 00000003 00000000 00000000 00000000 00000000 61620000")
     ++ hex (codes "40800000 00000003 00000000 00000000 ffffffff ffffffff 00000001 00000003 00000000 00000000 00000000 00000000 61626300")
     ++ hex (codes "40800000 00000003 00000000 00000000 00000001 ffffffff 00000001 00000003 00000000 00000000 00000000 00000000 61626300"))
-    (hex (codes "20800000 00000003 00000000 00000000 00000001 ffffffff 00000003 00000001 00000001 00000000 00000000 00000000 61626300"))
+    (hex (codes "20800000 00000003 00000000 00000000 00000001 ffffffff 00000003 00000001 00000008 00000000 00000000 00000000 61626300"))
     None
-unfolding answers digits header whole put_bit put_number put_bytes put_raw kind_of cut joined overlaid zero_blocks segment_of segment_bytes
+unfolding answers done_in_turn digits header whole put_bit put_number put_bytes put_raw kind_of cut joined overlaid zero_blocks segment_of segment_bytes
 dropped_in_silence = (refl, refl, refl)
 
 -- A text gets the target's name once, `Reject` for a known key and `NotUnderstood` for another.
@@ -443,10 +443,10 @@ pub text_of_four_keys : Row logged_in
     } in m) ∷ [])
     (hex (codes "04800000 00000031 00000000 00000000 00000001 ffffffff 00000001 00000003 00000000 00000000 00000000 00000000")
     ++ entry (codes "X=1") ++ entry (codes "SendTargets=") ++ entry (codes "TargetName=x") ++ entry (codes "MaxBurstLength=512") ++ 0 ∷ 0 ∷ 0 ∷ [])
-    (hex (codes "24800000 0000004a 00000000 00000000 00000001 ffffffff 00000003 00000002 00000002 00000000 00000000 00000000")
+    (hex (codes "24800000 0000004a 00000000 00000000 00000001 ffffffff 00000003 00000002 00000009 00000000 00000000 00000000")
     ++ entry (codes "MaxBurstLength=Reject") ++ entry (codes "TargetName=iqn.2026-01.example:disk") ++ entry (codes "X=NotUnderstood") ++ 0 ∷ 0 ∷ [])
     None
-unfolding answers digits header whole put_bit put_number put_bytes put_raw kind_of cut joined overlaid zero_blocks segment_of segment_bytes
+unfolding answers done_in_turn digits header whole put_bit put_number put_bytes put_raw kind_of cut joined overlaid zero_blocks segment_of segment_bytes
 text_of_four_keys = (refl, refl, refl)
 
 -- A closed session answers nothing.
@@ -464,7 +464,7 @@ pub nothing_after_logout : Row logged_in
     } in m) ∷ ping 1 ∷ [])
     (hex (codes "46810000 00000000 00000000 00000000 00000001 00000000 00000001 00000003 00000000 00000000 00000000 00000000")
     ++ hex (codes "40800000 00000003 00000000 00000000 00000001 ffffffff 00000001 00000003 00000000 00000000 00000000 00000000 61626300"))
-    (hex (codes "26800000 00000000 00000000 00000000 00000001 00000000 00000003 00000001 00000001 00000000 00000000 00000000"))
+    (hex (codes "26800000 00000000 00000000 00000000 00000001 00000000 00000003 00000001 00000008 00000000 00000000 00000000"))
     None
-unfolding answers digits header whole put_bit put_number put_bytes put_raw kind_of cut joined overlaid zero_blocks segment_of segment_bytes
+unfolding answers done_in_turn digits header whole put_bit put_number put_bytes put_raw kind_of cut joined overlaid zero_blocks segment_of segment_bytes
 nothing_after_logout = (refl, refl, refl)

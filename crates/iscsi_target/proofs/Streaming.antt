@@ -10,17 +10,17 @@ use Rattle.iscsi_target.specs.declared.fault.TargetFault.{TargetFault}
 use Rattle.iscsi_target.specs.declared.fault.TargetFault.TheVariants as faults
 use Rattle.iscsi_target.specs.Configured.{Settings}
 use Rattle.iscsi_target.specs.State.{Stepped}
-use Rattle.iscsi_target.specs.Transfer.{joined}
+use Rattle.iscsi_target.specs.State.{joined}
 use Rattle.iscsi_target.specs.Machine.{is_closed, answers}
-use Rattle.iscsi_target.specs.Feed.{Connection, Store, Feeds, Ends, HasAnswered}
+use Rattle.iscsi_target.specs.Feed.{Stands, Connection, Store, Feeds, Ends, HasAnswered}
 use Rattle.iscsi_target.proofs.Feeding.{answers_close, told}
 
 -- the session goes on, and the whole piece was taken
 went_on : (settings : Settings) (n : ℕ) (disk : Disk) (stream : List ℕ) (old : Connection) (before : Store) (out piece : List ℕ) (result : Result Phase TargetFault) (new : Connection) (after : Store) (written : List ℕ)
-    → (f : Feeds old before out piece result new after written) → after.failures ≡ before.failures → HasAnswered settings n disk stream old before.disk out
+    → (f : Feeds old before out piece result new after written) → Stands out f.stepped f.answered.failures after written → after.failures ≡ before.failures → HasAnswered settings n disk stream old before.disk out
     → f.count ≡ length piece → new.framing ≡ f.framing → new.machine ≡ joined f.stepped.machine → HasAnswered settings n disk (stream ++ piece) new after.disk written
-went_on settings n disk stream old before out piece result new after written f works h all framing machine =
-    let t = told settings n disk stream old before out (take f.count piece) f.framing f.messages f.stepped after written h f.answered works in
+went_on settings n disk stream old before out piece result new after written f stood works h all framing machine =
+    let t = told settings n disk stream old before out (take f.count piece) f.framing f.messages f.stepped f.answered.failures after written h f.answered stood works in
     let whole : take f.count piece ≡ piece = take_all f.count piece (omega (arith, all)) in
     record {
       messages = h.messages ++ f.messages;
@@ -37,9 +37,9 @@ by_end : (settings : Settings) (n : ℕ) (disk : Disk) (stream : List ℕ) (old 
 by_end settings n disk stream old before out piece (Ok phase) new after written f works live h e =
     elim e.3 [
       | inl over ↦ absurd (apart (ap is_closed e.1 ∙ over) live)
-      | inr on ↦ went_on settings n disk stream old before out piece (Ok phase) new after written f works h on.all on.framing_is e.1
+      | inr on ↦ went_on settings n disk stream old before out piece (Ok phase) new after written f f.leaves works h on.all on.framing_is e.1
     ]
-by_end settings n disk stream old before out piece (Err faults.NoMemory) new after written f works live h e = absurd (apart (ap is_closed e.1) live)
+by_end settings n disk stream old before out piece (Err faults.NoMemory) new after written f works live h e = absurd (apart (ap is_closed f.leaves.shut) live)
 by_end settings n disk stream old before out piece (Err (faults.Stream fault)) new after written f works live h e = absurd (apart (ap is_closed e.3) live)
 by_end settings n disk stream old before out piece (Err (faults.Protocol rule)) new after written f works live h e =
     let is : f.stepped ≡ answers old.machine before.disk f.messages = f.answered.works works in

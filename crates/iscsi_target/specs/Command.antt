@@ -1,23 +1,26 @@
 -- SCSI commands, and the data that writes take (RFC 7143, sections 11.3, 11.7 and 11.8).
-use Rattle.std.specs.Prelude.{ℕ, Bool, not, ◌==◌, ◌&&◌, ◌||◌, nat_lt, nat_le, if◌then◌else◌, List, [], ◌∷◌, length, Option, Some, None}
+use Rattle.std.specs.Prelude.{ℕ, Bool, false, not, ◌&&◌, ◌||◌, nat_lt, nat_le, if◌then◌else◌, List, [], ◌∷◌, length}
 use Rattle.scsi_disk.specs.Disk.{Disk}
 use Rattle.scsi_disk.specs.Plan.{plan_of}
 use Rattle.scsi_disk.specs.declared.order.Order.{Order}
 use Rattle.scsi_disk.specs.declared.order.Plan.{Plan}
 use Rattle.scsi_disk.specs.declared.order.Plan.TheVariants.{Take}
 use Rattle.iscsi_pdu.specs.declared.head.scsi_command.ScsiCommand.{ScsiCommand}
-use Rattle.iscsi_pdu.specs.declared.head.data_out.DataOut.{DataOut}
 use Rattle.iscsi_pdu.specs.declared.head.Head.{Head}
 use Rattle.iscsi_pdu.specs.declared.head.Head.TheVariants as heads
+use Rattle.iscsi_stream.specs.Segment.{segment_bytes}
 use Rattle.iscsi_stream.specs.Stream.{Message}
 use Rattle.iscsi_login.specs.declared.key.NegKey.TheVariants as keys
-use Rattle.iscsi_login.specs.Held.{Held, first_burst, is_on, unasked}
-use Rattle.iscsi_target.specs.Session.{message}
-use Rattle.iscsi_target.specs.State.{Machine, Write, Stepped, unchanged, max_cmd_sn}
-use Rattle.iscsi_target.specs.Rejecting.{breaks}
-use Rattle.iscsi_pdu.specs.Rules.{data_out_of_order}
+use Rattle.iscsi_login.specs.Held.{Held, is_on, unasked}
+use Rattle.iscsi_target.specs.Session.{Session, message, max_cmd_sn_with}
+use Rattle.iscsi_target.specs.Write.{Write}
+use Rattle.iscsi_target.specs.declared.tasks.Task.{Task}
+use Rattle.iscsi_target.specs.declared.tasks.Task.TheVariants.{Request, Data}
+use Rattle.iscsi_target.specs.State.{Machine, Stepped, unchanged, waiting}
 use Rattle.iscsi_target.specs.declared.due.Due.TheVariants.{Nothing, Unsolicited}
-use Rattle.iscsi_target.specs.Transfer.{received, with_piece, is_whole, taken, asking, desired, is_idle}
+use Rattle.iscsi_pdu.specs.Rules.{data_out_of_order}
+use Rattle.iscsi_target.specs.Rejecting.{breaks}
+use Rattle.iscsi_target.specs.Transfer.{received, with_piece, is_whole, asking, desired, is_idle}
 use Rattle.iscsi_target.specs.Execution.{Device, execute}
 
 -- ---- a command
@@ -50,39 +53,44 @@ breaks_burst_rules held h n = is_bad_segment held h n || is_bad_announcement hel
 
 -- ---- a write
 
--- The head of the R2T that goes out next (section 11.8).
-abbrev pub r2t_head : Machine → Write → Head
-r2t_head s w = heads.ReadyToTransfer (record {
+-- The head of the R2T that goes out next, while so many tasks wait (section 11.8).
+abbrev pub r2t_head : Session → ℕ → Write → Head
+r2t_head s waiting w = heads.ReadyToTransfer (record {
   lun = w.order.lun;
   initiator_task_tag = w.initiator_task_tag;
   target_transfer_tag = w.asked;
-  stat_sn = s.session.stat_sn;
-  exp_cmd_sn = s.session.exp_cmd_sn;
-  max_cmd_sn = max_cmd_sn s;
+  stat_sn = s.stat_sn;
+  exp_cmd_sn = s.exp_cmd_sn;
+  max_cmd_sn = max_cmd_sn_with s waiting;
   r2t_sn = w.asked;
   buffer_offset = received w;
-  desired_data_transfer_length = desired s.session.held w;
+  desired_data_transfer_length = desired s.held w;
 })
+
+-- The write is the first task, before those that there are (section 4.2.2.1).
+abbrev pub led_by : Write → Machine → Machine
+led_by w s = record s { tasks = Data w ∷ s.tasks }
 
 -- An R2T goes out, which advances no StatSN (section 11.8).
 abbrev pub ask : Machine → Disk → Write → Stepped
-ask s disk w = record (unchanged (record s { write = Some (asking s.session.held w) }) disk) {
-  answers = message (r2t_head s w) [] ∷ [];
+ask s disk w = record (unchanged (led_by (asking s.session.held w) s) disk) {
+  answers = message (r2t_head s.session (waiting (led_by w s).tasks) w) [] ∷ [];
 }
 
--- A write that is open: it is executed when all bytes are there; else an R2T goes out where no
--- sequence is due (sections 4.2.5.2 and 11.8; that all blocks are written at once is own rule).
+-- The first task is a write, with these behind it: it is executed when all bytes are there; else an
+-- R2T goes out where no sequence is due (sections 4.2.5.2 and 11.8; that all blocks are written at
+-- once is own rule).
 abbrev pub proceed : Device → Machine → Disk → Write → Stepped
 proceed device s disk w =
-    if is_whole w
-    then execute device (record s { write = None }) disk w.initiator_task_tag w.order w.pieces
-    else if is_idle w.due then ask (record s { write = Some w }) disk w
-    else unchanged (record s { write = Some w }) disk
+    if is_whole w then execute device s disk w.initiator_task_tag w.order w.pieces
+    else if is_idle w.due then ask s disk w
+    else unchanged (led_by w s) disk
 
 -- The write of so many bytes that a command with these immediate bytes opens (section 11.3).
 abbrev pub opened : ScsiCommand → ℕ → List ℕ → Write
 opened h total bytes = record {
   initiator_task_tag = h.initiator_task_tag;
+  immediate = h.immediate;
   order = order_of h;
   total = total;
   pieces = with_piece [] 0 bytes;
@@ -90,34 +98,38 @@ opened h total bytes = record {
   asked = 0;
 }
 
--- A command by its plan: a write is opened, any other command is executed. One that is refused
--- doesn't wait for its data (section 11.4; own rule).
+-- A command by its plan, with the tasks behind it: a write is opened, any other command is executed.
+-- One that is refused doesn't wait for its data (section 11.4; own rule).
 abbrev pub planned : Device → Machine → Disk → ScsiCommand → List ℕ → Plan → Stepped
 planned device s disk h bytes (Take total) = proceed device s disk (opened h total bytes)
 planned device s disk h bytes _ = execute device s disk h.initiator_task_tag (order_of h) []
 
--- A SCSI Command (section 11.3).
+-- A SCSI Command, with the tasks behind it (section 11.3).
 abbrev pub scsi_command : Device → Machine → Disk → Message → ScsiCommand → List ℕ → Stepped
 scsi_command device s disk m h bytes =
     if breaks_burst_rules s.session.held h (length bytes) then breaks s disk data_out_of_order m
     else planned device s disk h bytes (plan_of (order_of h) disk.count)
 
--- ---- a Data-Out
+-- ---- a command that comes
 
--- The open write with the Data-Out, or none where that wasn't due (section 11.7).
-abbrev pub data_taken : Device → Machine → Disk → Message → Option Write → Stepped
-data_taken device s disk m None = breaks s disk data_out_of_order m
-data_taken device s disk m (Some w) = proceed device s disk w
+-- The task of a command with these immediate bytes, by its plan: a write takes its data while it
+-- waits (section 11.3; own rule).
+abbrev pub task_planned : Message → ScsiCommand → List ℕ → Plan → Task
+task_planned m h bytes (Take total) = Data (opened h total bytes)
+task_planned m h bytes _ = Request m
 
--- The open write with its tag takes a Data-Out; where there is none it is dropped (section 11.7;
--- own rule).
-abbrev pub data_for : Device → Machine → Disk → Message → DataOut → List ℕ → Option Write → Stepped
-data_for device s disk m h bytes None = unchanged s disk
-data_for device s disk m h bytes (Some w) =
-    if h.initiator_task_tag == w.initiator_task_tag
-    then data_taken device s disk m (taken (first_burst s.session.held) w h bytes)
-    else unchanged s disk
+-- The task of a request, on a disk of so many blocks (section 11.3).
+abbrev pub task_by : ℕ → Message → Head → Task
+task_by count m (heads.ScsiCommand h) =
+    task_planned m h (segment_bytes m.segment) (plan_of (order_of h) count)
+task_by count m _ = Request m
 
--- A Data-Out (section 11.7).
-abbrev pub data_out : Device → Machine → Disk → Message → DataOut → List ℕ → Stepped
-data_out device s disk m h bytes = data_for device s disk m h bytes s.write
+-- The task of a request, on a disk of so many blocks (section 11.3).
+abbrev pub task_of : ℕ → Message → Task
+task_of count m = task_by count m m.head
+
+-- A request with so many bytes breaks the rules of the first burst (sections 13.10, 13.11 and
+-- 13.14).
+abbrev pub breaks_rules : Held → ℕ → Head → Bool
+breaks_rules held n (heads.ScsiCommand h) = breaks_burst_rules held h n
+breaks_rules held n _ = false

@@ -14,8 +14,8 @@ use Rattle.iscsi_pdu.specs.declared.head.Head.{Head}
 use Rattle.iscsi_pdu.specs.declared.head.Head.TheVariants as heads
 use Rattle.iscsi_stream.specs.Stream.{Message}
 use Rattle.iscsi_login.specs.Held.{Held, max_burst}
-use Rattle.iscsi_target.specs.Session.{message, counted}
-use Rattle.iscsi_target.specs.State.{Machine, Execution, Stepped, max_cmd_sn}
+use Rattle.iscsi_target.specs.Session.{Session, message, counted, max_cmd_sn_with}
+use Rattle.iscsi_target.specs.State.{Machine, Execution, Stepped, waiting}
 use Rattle.iscsi_stream.specs.Pieces.{Pieces, data_of, chunks}
 use Rattle.iscsi_pdu.specs.Fields.{reserved_tag}
 
@@ -30,6 +30,11 @@ reliable n = effect
 -- What is left of it behind one order (own rule).
 abbrev pub device_next : Device → Device
 device_next device n = device (n + 1)
+
+-- What is left of it behind these orders (own rule).
+abbrev pub device_after : List Execution → Device → Device
+device_after [] device = device
+device_after (e ∷ es) device = device_after es (device_next device)
 
 -- ---- data that a command gives
 
@@ -47,9 +52,10 @@ run_given held run = marked (chunks held.initiator_max_recv run)
 abbrev pub parts_given : Held → List ℕ → List (List ℕ × Bool)
 parts_given held bytes = flat_map (run_given held) (chunks (max_burst held) bytes)
 
--- The head of a Data-In; the status comes in a response of its own (section 11.7; own rule).
-abbrev pub data_in_head : Machine → ℕ → ℕ → ℕ → Bool → Head
-data_in_head s tag data_sn offset is_final = heads.DataIn (record {
+-- The head of a Data-In, while so many tasks wait; the status comes in a response of its own (section
+-- 11.7; own rule).
+abbrev pub data_in_head : Session → ℕ → ℕ → ℕ → ℕ → Bool → Head
+data_in_head s waiting tag data_sn offset is_final = heads.DataIn (record {
   is_final = is_final;
   acknowledge = false;
   overflow = None;
@@ -60,19 +66,19 @@ data_in_head s tag data_sn offset is_final = heads.DataIn (record {
   initiator_task_tag = tag;
   target_transfer_tag = reserved_tag;
   stat_sn = None;
-  exp_cmd_sn = s.session.exp_cmd_sn;
-  max_cmd_sn = max_cmd_sn s;
+  exp_cmd_sn = s.exp_cmd_sn;
+  max_cmd_sn = max_cmd_sn_with s waiting;
   data_sn = data_sn;
   buffer_offset = offset;
   residual = None;
 })
 
 -- The Data-In of these parts, from a DataSN and an offset on (sections 11.7.4 and 11.7.5).
-abbrev pub data_ins : Machine → ℕ → ℕ → ℕ → List (List ℕ × Bool) → List Message
-data_ins s tag data_sn offset [] = []
-data_ins s tag data_sn offset (part ∷ more) =
-    message (data_in_head s tag data_sn offset part.1) part.0
-    ∷ data_ins s tag (data_sn + 1) (offset + length part.0) more
+abbrev pub data_ins : Session → ℕ → ℕ → ℕ → ℕ → List (List ℕ × Bool) → List Message
+data_ins s waiting tag data_sn offset [] = []
+data_ins s waiting tag data_sn offset (part ∷ more) =
+    message (data_in_head s waiting tag data_sn offset part.1) part.0
+    ∷ data_ins s waiting tag (data_sn + 1) (offset + length part.0) more
 
 -- ---- the response
 
@@ -93,8 +99,8 @@ residual_count (Under n) = Some n
 residual_count (Over n) = Some n
 
 -- The head of the response to a command that gave so many Data-In (section 11.4).
-abbrev pub response_head : Machine → ℕ → Outcome → ℕ → Head
-response_head s tag outcome count = heads.ScsiResponse (record {
+abbrev pub response_head : Session → ℕ → ℕ → Outcome → ℕ → Head
+response_head s waiting tag outcome count = heads.ScsiResponse (record {
   bidirectional_overflow = false;
   bidirectional_underflow = false;
   overflow = is_over outcome.residual;
@@ -102,9 +108,9 @@ response_head s tag outcome count = heads.ScsiResponse (record {
   response = 0;
   status = Some outcome.status;
   initiator_task_tag = tag;
-  stat_sn = s.session.stat_sn;
-  exp_cmd_sn = s.session.exp_cmd_sn;
-  max_cmd_sn = max_cmd_sn s;
+  stat_sn = s.stat_sn;
+  exp_cmd_sn = s.exp_cmd_sn;
+  max_cmd_sn = max_cmd_sn_with s waiting;
   exp_data_sn = Some count;
   bidirectional_residual = None;
   residual = residual_count outcome.residual;
@@ -116,10 +122,11 @@ sense_segment None = []
 sense_segment (Some sense) = 0x00 ∷ 0x12 ∷ sense_bytes sense
 
 -- The Data-In of a command, and then its response (section 11.4).
-abbrev pub command_answers : Machine → ℕ → Outcome → List (List ℕ × Bool) → List Message
-command_answers s tag outcome given =
-    data_ins s tag 0 0 given
-    ++ message (response_head s tag outcome (length given)) (sense_segment outcome.sense) ∷ []
+abbrev pub command_answers : Session → ℕ → ℕ → Outcome → List (List ℕ × Bool) → List Message
+command_answers s waiting tag outcome given =
+    data_ins s waiting tag 0 0 given
+    ++ message (response_head s waiting tag outcome (length given)) (sense_segment outcome.sense)
+    ∷ []
 
 -- An order was executed with this effect: its data go out, and its response (section 11.4).
 abbrev pub told : Machine → Execution → Effect → Stepped
@@ -127,7 +134,7 @@ told s e effect = record {
   machine = record s { session = counted s.session };
   disk = effect.disk;
   answers =
-      command_answers s e.initiator_task_tag effect.outcome
+      command_answers s.session (waiting s.tasks) e.initiator_task_tag effect.outcome
       (parts_given s.session.held effect.outcome.bytes);
   rule = None;
   accepted = [];

@@ -15,9 +15,9 @@ use Rattle.iscsi_target.specs.declared.fault.TargetFault.{TargetFault}
 use Rattle.iscsi_target.specs.declared.fault.TargetFault.TheVariants as faults
 use Rattle.iscsi_target.specs.Configured.{Settings}
 use Rattle.iscsi_target.specs.Session.{limit}
-use Rattle.iscsi_target.specs.State.{Machine, Stepped, closed, opening}
-use Rattle.iscsi_target.specs.Transfer.{joined}
-use Rattle.iscsi_target.specs.Machine.{is_closed, answers, MayAnswer}
+use Rattle.iscsi_target.specs.State.{Machine, Stepped, closed, opening, unchanged}
+use Rattle.iscsi_target.specs.State.{joined}
+use Rattle.iscsi_target.specs.Machine.{is_closed, answers, MayAnswer, MayStop}
 
 -- A target between two calls: its session, and what it has of the next PDU (own rule).
 pub record Connection : Type 0 where
@@ -41,8 +41,8 @@ pub record Store : Type 0 where
 -- A call took bytes that complete these PDUs, and answered them one after another. Each execution did
 -- what the order does where no failure was counted at it, and failed where one was; where none was
 -- counted at all the answers are those of the machine.
-pub record Answers (old : Connection) (before : Store) (output bytes : List ℕ) (framing : Framing)
-    (ms : List Message) (r : Stepped) (after : Store) (written : List ℕ) : Type 0 where
+pub record Answers (old : Connection) (before : Store) (bytes : List ℕ) (framing : Framing)
+    (ms : List Message) (r : Stepped) (after : Store) : Type 0 where
   pub taken : Moves old.framing framing bytes ms
   pub limit : framing.limit ≡ old.framing.limit
   pub ready : is_ready framing ≡ false
@@ -50,8 +50,6 @@ pub record Answers (old : Connection) (before : Store) (output bytes : List ℕ)
   pub failures : ℕ
   pub may : MayAnswer old.machine before.disk before.failures ms r failures
   pub works : after.failures ≡ before.failures → r ≡ answers old.machine before.disk ms
-  pub disk : after.disk ≡ r.disk
-  pub output_is : written ≡ output ++ canon r.answers
 
 -- The session is closed by a fault, with what it held and the stage that it was in (own rule).
 abbrev pub IsShut : Machine → Machine → Type 0
@@ -75,8 +73,8 @@ abbrev pub Ends : List ℕ → Result Phase TargetFault → Framing → ℕ → 
 Ends piece (Ok phase) framing n r new =
     (r.rule ≡ None) × (new.machine ≡ joined r.machine) × (phase ≡ r.machine.session.phase)
     × ((is_closed r.machine ≡ true) ⊎ GoesOn piece framing n r new)
--- memory was refused at the next PDU: it changes nothing but that the session is closed
-Ends piece (Err faults.NoMemory) framing n r new = IsLive r × IsShut r.machine new.machine
+-- memory was refused at the next PDU
+Ends piece (Err faults.NoMemory) framing n r new = IsLive r
 -- the rest of the stream so far begins with what the framer refuses
 Ends piece (Err (faults.Stream fault)) framing n r new =
     IsLive r × (fault ≢ stream.NoMemory) × FeedFails framing (drop n piece) fault
@@ -86,11 +84,43 @@ Ends piece (Err (faults.Protocol rule)) framing n r new =
     (r.rule ≡ Some rule) × (new.machine ≡ joined r.machine)
 Ends piece (Err faults.Closed) framing n r new = ⊥
 
--- No failure was counted behind the PDUs that were answered, but at one at which memory ran out (own
--- rule).
-abbrev pub CountsTo : Result Phase TargetFault → ℕ → ℕ → Type 0
-CountsTo (Err faults.NoMemory) counted after = counted ≤ after
-CountsTo _ counted after = after ≡ counted
+-- The blocks and what was written are those of the PDUs that were answered; no failure was counted
+-- behind them (own rule).
+pub record Stands (output : List ℕ) (r : Stepped) (counted : ℕ) (after : Store)
+    (written : List ℕ) : Type 0 where
+  pub failures : after.failures ≡ counted
+  pub disk : after.disk ≡ r.disk
+  pub output_is : written ≡ output ++ canon r.answers
+
+-- The next PDU, of which some tasks were done (own rule).
+pub record StopsAt (framing : Framing) (rest : List ℕ) (r : Stepped) (counted : ℕ)
+    (front : Stepped) (after : ℕ) : Type 0 where
+  pub message : Message
+  pub next : Framing
+  pub count : ℕ
+  pub taken : Moves framing next (take count rest) (message ∷ [])
+  pub limit : next.limit ≡ framing.limit
+  pub stops : MayStop r.machine r.disk counted message front after
+
+-- Memory ran out behind the PDUs that were answered: nothing more was done, or some tasks of the
+-- next PDU. The session is closed (own rule).
+pub record StopsShort (output : List ℕ) (framing : Framing) (rest : List ℕ) (r : Stepped)
+    (counted : ℕ) (new : Machine) (after : Store) (written : List ℕ) : Type 0 where
+  pub front : Stepped
+  pub stops :
+      ((front ≡ unchanged r.machine r.disk) × (counted ≤ after.failures))
+      ⊎ StopsAt framing rest r counted front after.failures
+  pub shut : IsShut front.machine new
+  pub disk : after.disk ≡ front.disk
+  pub output_is : written ≡ output ++ canon (r.answers ++ front.answers)
+
+-- What a call left, by what it answers (own rule).
+abbrev pub LeavesBy : Result Phase TargetFault → List ℕ → Framing → List ℕ → Stepped → ℕ
+    → Machine → Store → List ℕ → Type 0
+LeavesBy (Err faults.NoMemory) output framing rest r counted new after written =
+    StopsShort output framing rest r counted new after written
+LeavesBy _ output framing rest r counted new after written =
+    Stands output r counted after written
 
 -- A call in a session that isn't closed took the first bytes of the piece, and answered the PDUs
 -- that they complete (own rule).
@@ -102,8 +132,9 @@ pub record Feeds (old : Connection) (before : Store) (output piece : List ℕ)
   pub some : count ≤ length piece
   pub messages : List Message
   pub stepped : Stepped
-  pub answered : Answers old before output (take count piece) framing messages stepped after written
-  pub counts : CountsTo result answered.failures after.failures
+  pub answered : Answers old before (take count piece) framing messages stepped after
+  pub leaves : LeavesBy result output framing (drop count piece) stepped answered.failures
+      new.machine after written
   pub ends : Ends piece result framing count stepped new
 
 -- A closed session stays as it is (own rule).
@@ -205,7 +236,7 @@ FedAll old before output (piece ∷ pieces) new after written =
     × FedAll now store out pieces new after written
 
 -- The target is where these messages lead to from the opening state, and so are the blocks and what
--- was written; of the open write the program keeps the bytes as one piece (own rule).
+-- was written; of each write the program keeps the bytes as one piece (own rule).
 pub record Meets (settings : Settings) (first_stat_sn : ℕ) (disk : Disk) (messages : List Message)
     (now : Connection) (disk_now : Disk) (written : List ℕ) : Type 0 where
   pub machine :

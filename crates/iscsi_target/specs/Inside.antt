@@ -1,5 +1,6 @@
 -- What the parts of a session do. No reader of its contract needs these.
-use Rattle.std.specs.Prelude.{◌≡◌, ◌≢◌, ◌⊎◌, ℕ, ◌+◌, ◌*◌, ◌≤◌, Option, Some, None, Bool, true, false, not, ◌&&◌, List, [], ◌∷◌, ◌++◌, length, codes, Result, IfOk, OnOk, OnErr}
+use Rattle.std.specs.Prelude.{◌≡◌, ◌≢◌, ◌⊎◌, ℕ, ◌+◌, ◌<◌, ◌≤◌, Option, Some, None, Bool, true, false, not, ◌&&◌, if◌then◌else◌, List, [], ◌∷◌, ◌++◌, length, map, insert, remove, slice_index_or, codes, Result, IfOk, OnOk, OnErr}
+use Rattle.std.specs.List.{AllByRecursion}
 use Rattle.std.specs.Str.{bytes_eq}
 use Rattle.iscsi_stream.specs.Canonical.{canon}
 use Rattle.scsi_disk.specs.Disk.{Disk}
@@ -10,13 +11,22 @@ use Rattle.iscsi_text.specs.declared.pair.Pair.{Pair}
 use Rattle.iscsi_text.specs.Inside.{shown}
 use Rattle.iscsi_pdu.specs.declared.head.login_response.LoginResponse.{LoginResponse}
 use Rattle.iscsi_target.specs.Session.{Session, Reply, ended, counted}
-use Rattle.iscsi_target.specs.State.{Machine, Write, Stepped, closed}
+use Rattle.iscsi_target.specs.Write.{Write}
+use Rattle.iscsi_target.specs.declared.tasks.Task.{Task}
+use Rattle.iscsi_target.specs.declared.tasks.Task.TheVariants.{Request, Data}
+use Rattle.iscsi_target.specs.State.{Machine, Stepped, closed, takes_place}
 use Rattle.iscsi_target.specs.Login.{answered}
-use Rattle.iscsi_target.specs.Transfer.{received, joined}
+use Rattle.iscsi_target.specs.Transfer.{received, is_whole, is_idle}
+use Rattle.iscsi_target.specs.State.{joined, joined_task}
 use Rattle.iscsi_target.specs.Execution.{Device, reliable}
-use Rattle.iscsi_target.specs.Machine.{RunsIn, step_on}
+use Rattle.iscsi_pdu.specs.Rules.{kind_not_due, data_out_of_order}
+use Rattle.iscsi_stream.specs.Segment.{segment_bytes}
+use Rattle.iscsi_target.specs.Command.{breaks_rules}
+use Rattle.iscsi_target.specs.Machine.{is_tag_of, tag_of, RunsIn, Next, Queued, write_of, with_write, done_first, done_in_turn, followed, full_met, step_on}
 use Rattle.iscsi_target.specs.Feed.{Connection, Store}
 use Rattle.iscsi_pdu.specs.declared.head.Head.{Head}
+use Rattle.iscsi_stream.specs.Stream.{Message}
+use Rattle.iscsi_login.specs.declared.phase.Phase.TheVariants as phases
 use Rattle.iscsi_pdu.specs.Meaning.{Means}
 use Rattle.iscsi_stream.specs.declared.fault.StreamFault.{StreamFault}
 use Rattle.iscsi_stream.specs.declared.fault.StreamFault.TheVariants as stream
@@ -26,29 +36,63 @@ use Rattle.iscsi_target.specs.declared.fault.TargetFault.TheVariants as faults
 use Rattle.iscsi_target.specs.declared.due.Due.{Due}
 use Rattle.iscsi_target.specs.declared.due.Due.TheVariants.{Nothing, Unsolicited, Solicited}
 
--- ---- the open write
+-- ---- tasks as a program keeps them
 
--- So many R2Ts went out: each asked for a byte at least (own rule).
-abbrev pub IsAsked : ℕ → ℕ → ℕ → Due → Type 0
-IsAsked total received asked Nothing = asked ≤ received
-IsAsked total received asked (Unsolicited data_sn) = asked ≤ received
-IsAsked total received asked (Solicited tag data_sn end) = (end ≤ total) × (asked ≤ end)
+-- The tasks behind the first (own rule).
+abbrev pub behind : List Task → List Task
+behind [] = []
+behind (task ∷ more) = more
 
--- What is kept of an open write: a WRITE of so many bytes, no more of them, and what is due (own
--- rule).
-pub record IsStaged (order : Order) (total : ℕ) (bytes : List ℕ) (due : Due)
-    (asked : ℕ) : Type 0 where
-  pub is_write : is_write order.cdb ≡ true
-  pub total_is : total ≡ 512 * (transfer order.cdb).count
-  pub fits : length bytes ≤ total
-  pub asked_for : IsAsked total (length bytes) asked due
+-- Each of these takes a place of the window (section 4.2.2.1).
+abbrev pub TakePlaces : List Task → Type 0
+TakePlaces tasks = AllByRecursion (λ task. takes_place task ≡ true) tasks
 
--- The write once an R2T for so many bytes went out (own rule).
-abbrev pub asking_for : ℕ → Write → Write
-asking_for desired w = record w {
-  due = Solicited w.asked 0 (received w + desired);
-  asked = w.asked + 1;
-}
+-- The first alone may be an immediate one, and the bytes of each write stand as one piece (own rule).
+pub record AreInPlace (tasks : List Task) : Type 0 where
+  pub places : TakePlaces (behind tasks)
+  pub joined : map joined_task tasks ≡ tasks
+
+-- The write with this tag stands at this place; put back there it is the one in its place (own rule).
+pub record IsWriteAt (tag : ℕ) (tasks : List Task) (place : ℕ) : Type 0 where
+  pub write : Write
+  pub within : place < length tasks
+  pub at_place : (other : Task) → slice_index_or tasks place other ≡ Data write
+  pub found : write_of tasks tag ≡ Some write
+  pub back : (v : Write) → v.initiator_task_tag ≡ tag
+      → insert (remove tasks place) place (Data v) ≡ with_write v tasks
+
+-- ---- tasks between two PDUs
+
+-- The first task is a write that waits for data (own rule).
+abbrev pub IsPending : List Task → Type 0
+IsPending [] = Unit {0}
+IsPending (Request m ∷ more) = ⊥
+IsPending (Data w ∷ more) = (is_whole w ≡ false) × (is_idle w.due ≡ false)
+
+-- No R2T went out for what is due (section 11.8).
+abbrev pub is_unasked : Due → Bool
+is_unasked (Solicited tag data_sn end) = false
+is_unasked _ = true
+
+-- No R2T went out for the task (section 11.8).
+abbrev pub IsUnasked : Task → Type 0
+IsUnasked (Request m) = Unit {0}
+IsUnasked (Data w) = is_unasked w.due ≡ true
+
+-- The first task is a write that waits for data, and no R2T went out for one behind it (section
+-- 11.8).
+pub record AreKept (tasks : List Task) : Type 0 where
+  pub pending : IsPending tasks
+  pub unasked : AllByRecursion IsUnasked (behind tasks)
+
+-- The rule that a request breaks as it is accepted, if it breaks one (sections 11.2.1.8 and 13.14;
+-- own rule).
+abbrev pub refusal : Machine → Message → Option ℕ
+refusal s m =
+    if is_tag_of s.tasks (tag_of m.head) then Some kind_not_due
+    else if breaks_rules s.session.held (length (segment_bytes m.segment)) m.head
+    then Some data_out_of_order
+    else None
 
 -- ---- a step
 
@@ -107,7 +151,7 @@ pub record GivesUp (failures_before failures_after : ℕ) (old new : Machine) (d
   pub disk_is : now ≡ disk
   pub unwritten : after ≡ before
 
--- What was done with any message, over a store: it was answered so, or memory ran out (own rule).
+-- What was done with a task, over a store: it was handled so, or memory ran out (own rule).
 pub record Handles {E : Type 0} (step : Device → Stepped) (result : Result (Option ℕ) E)
     (old : Machine) (before : Store) (output : List ℕ)
     (new : Machine) (after : Store) (written : List ℕ) : Type 0 where
@@ -115,6 +159,63 @@ pub record Handles {E : Type 0} (step : Device → Stepped) (result : Result (Op
       new after.disk output written)
   pub err : OnErr result (GivesUp before.failures after.failures
       old new before.disk after.disk output written)
+
+-- Memory ran out at one of these tasks: those before it were done, and it changed nothing (own rule).
+pub record Stops (failures_before failures_after : ℕ) (session : Session) (disk : Disk)
+    (tasks : List Task) (new : Machine) (now : Disk) (before after : List ℕ) : Type 0 where
+  pub done : ℕ
+  pub device : Device
+  -- the failures that were counted behind the last of them
+  pub failures : ℕ
+  pub runs : RunsIn device failures_before (done_first done device session disk tasks).executed failures
+  pub rises : failures ≤ failures_after
+  pub machine : closed new ≡ closed (done_first done device session disk tasks).machine
+  pub disk_is : now ≡ (done_first done device session disk tasks).disk
+  pub output : after ≡ before ++ canon (done_first done device session disk tasks).answers
+
+-- What was done with tasks in their turn, over a store (own rule).
+pub record Works {E : Type 0} (session : Session) (tasks : List Task) (result : Result (Option ℕ) E)
+    (before : Store) (output : List ℕ)
+    (new : Machine) (after : Store) (written : List ℕ) : Type 0 where
+  pub ok : IfOk result (λ rule. Serves before.failures after.failures
+      (λ device. done_in_turn device session before.disk tasks) rule
+      new after.disk output written)
+  pub err : OnErr result (Stops before.failures after.failures session before.disk tasks
+      new after.disk output written)
+
+-- Memory ran out at what comes of a PDU: at one of the tasks, or before anything was done (own rule).
+abbrev pub Halts : ℕ → ℕ → Machine → Disk → Next → Machine → Disk → List ℕ → List ℕ → Type 0
+Halts fb fa old disk (Queued session tasks) new now before after =
+    Stops fb fa session disk tasks new now before after
+Halts fb fa old disk _ new now before after = GivesUp fb fa old new disk now before after
+
+-- What was done with a PDU of which this comes, over a store (own rule).
+pub record Follows {E : Type 0} (next : Next) (result : Result (Option ℕ) E)
+    (old : Machine) (before : Store) (output : List ℕ)
+    (new : Machine) (after : Store) (written : List ℕ) : Type 0 where
+  pub ok : IfOk result (λ rule. Serves before.failures after.failures
+      (λ device. followed device old before.disk next) rule
+      new after.disk output written)
+  pub err : OnErr result (Halts before.failures after.failures old before.disk next
+      new after.disk output written)
+
+-- Memory ran out at a message: at one of the tasks that it leads to, or before anything was done (own
+-- rule).
+abbrev pub HaltsAt : ℕ → ℕ → Machine → Disk → Message → Machine → Disk → List ℕ → List ℕ → Type 0
+HaltsAt fb fa old disk m new now before after =
+    GivesUp fb fa old new disk now before after
+    ⊎ ((old.session.phase ≡ phases.Full)
+    × Halts fb fa old disk (full_met old disk.count m).next new now before after)
+
+-- What was done with a message, over a store (own rule).
+pub record Answers {E : Type 0} (m : Message) (result : Result (Option ℕ) E)
+    (old : Machine) (before : Store) (output : List ℕ)
+    (new : Machine) (after : Store) (written : List ℕ) : Type 0 where
+  pub ok : IfOk result (λ rule. Serves before.failures after.failures
+      (λ device. step_on device old before.disk m) rule
+      new after.disk output written)
+  pub err : OnErr result (HaltsAt before.failures after.failures old before.disk m
+      new after.disk output written)
 
 -- ---- the login
 
@@ -181,12 +282,15 @@ AnswersReady old before output broken new after written =
 -- rule).
 pub record ShutsReady (old : Connection) (before : Store) (output : List ℕ)
     (new : Connection) (after : Store) (written : List ℕ) : Type 0 where
-  pub machine : new.machine ≡ closed old.machine
+  pub head : Head
+  pub segment : List ℕ
+  pub means : Means old.framing.held head segment
   pub unready : is_ready new.framing ≡ false
   pub limit : new.framing.limit ≡ old.framing.limit
-  pub rises : before.failures ≤ after.failures
-  pub disk_is : after.disk ≡ before.disk
-  pub output_is : written ≡ output
+  pub settings : new.machine.session.settings ≡ old.machine.session.settings
+  pub closed_ : new.machine ≡ closed new.machine
+  pub halts : HaltsAt before.failures after.failures old.machine before.disk
+      (message_of old.framing head segment) new.machine after.disk output written
 
 -- The rest of a stream is refused so (own rule).
 abbrev pub RestFails : Framing → List ℕ → TargetFault → Type 0
@@ -217,6 +321,8 @@ pub record RunsOut (old : Connection) (before : Store) (output piece : List ℕ)
     (fault : TargetFault) (new : Connection) (after : Store) (written : List ℕ) : Type 0 where
   pub memory : fault ≡ faults.NoMemory
   pub framing : Framing
+  pub count : ℕ
+  pub takes : Takes old.framing piece count framing
   pub shuts : ShutsReady (connection old.machine framing) before output new after written
 
 -- Why no bytes could be taken, or no PDU answered (own rule).

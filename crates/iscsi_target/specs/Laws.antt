@@ -1,6 +1,6 @@
 -- The words of the laws: what holds of every list of messages (RFC 7143, sections 4.2, 11.7 and
 -- 11.8).
-use Rattle.std.specs.Prelude.{◌≡◌, ◌⊎◌, ℕ, ◌+◌, ◌≤◌, ◌<◌, ◌^◌, ◌%◌, Bool, true, false, List, [], ◌∷◌, ◌++◌, length, map, slice_index, Option, Some, None}
+use Rattle.std.specs.Prelude.{◌≡◌, ◌⊎◌, ℕ, ◌+◌, ◌<◌, ◌^◌, ◌%◌, Bool, true, false, List, [], ◌∷◌, ◌++◌, length, map, slice_index, Option, Some, None}
 use Rattle.std.specs.List.{flat_map}
 use Rattle.scsi_disk.specs.Disk.{Disk}
 use Rattle.scsi_disk.specs.Effect.{Effect, effect, FailsBy}
@@ -11,10 +11,13 @@ use Rattle.iscsi_pdu.specs.declared.head.Head.{Head}
 use Rattle.iscsi_pdu.specs.declared.head.Head.TheVariants as heads
 use Rattle.iscsi_stream.specs.Stream.{Message}
 use Rattle.iscsi_login.specs.declared.phase.Phase.TheVariants as phases
-use Rattle.iscsi_target.specs.State.{Machine, Write, Execution, Stepped, max_cmd_sn}
+use Rattle.iscsi_target.specs.declared.tasks.Task.{Task}
+use Rattle.iscsi_target.specs.declared.tasks.Task.TheVariants.{Request, Data}
+use Rattle.iscsi_target.specs.State.{Machine, Execution, Stepped, max_cmd_sn}
 use Rattle.iscsi_stream.specs.Pieces.{data_of}
 use Rattle.iscsi_pdu.specs.Serial.{is_within}
-use Rattle.iscsi_target.specs.Transfer.{with_piece, joined}
+use Rattle.iscsi_target.specs.Transfer.{with_piece}
+use Rattle.iscsi_target.specs.State.{joined}
 use Rattle.iscsi_target.specs.Command.{order_of}
 use Rattle.iscsi_target.specs.Machine.{is_closed, is_due_kind, is_too_long}
 
@@ -80,24 +83,24 @@ pub record HasCmdSn (m : Message) : Type 0 where
 -- ---- one disk
 
 -- A command by its tag and what it orders (section 11.3).
-abbrev pub Task : Type 0
-Task = ℕ × Order
+abbrev pub Command : Type 0
+Command = ℕ × Order
 
 -- The command of a request, if it is one (section 11.3).
-abbrev pub task_in : Head → List Task
+abbrev pub task_in : Head → List Command
 task_in (heads.ScsiCommand h) = (h.initiator_task_tag, order_of h) ∷ []
 task_in _ = []
 
 -- The commands among requests (section 11.3).
-abbrev pub tasks_in : List Message → List Task
+abbrev pub tasks_in : List Message → List Command
 tasks_in ms = flat_map (λ m. task_in m.head) ms
 
 -- The command that was executed (section 11.3).
-abbrev pub task_of : Execution → Task
+abbrev pub task_of : Execution → Command
 task_of e = (e.initiator_task_tag, e.order)
 
 -- The commands that were executed (section 11.3).
-abbrev pub tasks_done : List Execution → List Task
+abbrev pub tasks_done : List Execution → List Command
 tasks_done es = map task_of es
 
 -- An order that was executed, with its data (section 11.3).
@@ -118,10 +121,14 @@ Leads disk [] last = last ≡ disk
 Leads disk (e ∷ es) last =
     (after : Effect) × (e.disk ≡ disk) × MayLeave e after × Leads after.disk es last
 
--- The command of the open write (section 11.3).
-abbrev pub task_open : Option Write → List Task
-task_open None = []
-task_open (Some w) = (w.initiator_task_tag, w.order) ∷ []
+-- The command of a task, if it is one (section 11.3).
+abbrev pub task_open : Task → List Command
+task_open (Request m) = task_in m.head
+task_open (Data w) = (w.initiator_task_tag, w.order) ∷ []
+
+-- The commands among tasks (section 11.3).
+abbrev pub tasks_open : List Task → List Command
+tasks_open tasks = flat_map task_open tasks
 
 -- The tag of the command that an answer is the response to (section 11.4).
 abbrev pub response_tag : Head → List ℕ
@@ -132,13 +139,12 @@ response_tag _ = []
 abbrev pub response_tags : List Message → List ℕ
 response_tags ms = flat_map (λ m. response_tag m.head) ms
 
--- The commands that were accepted are those that were executed, in their order, and at most one
--- more: the open write, unless the session is closed (section 4.2.2.1).
+-- The commands that were accepted are those that were executed, in their order, and then those of
+-- the tasks that there are, unless the session is closed (section 4.2.2.1).
 pub record AreInOrder (r : Stepped) : Type 0 where
-  pub more : List Task
+  pub more : List Command
   pub order : tasks_in r.accepted ≡ tasks_done r.executed ++ more
-  pub few : length more ≤ 1
-  pub open_write : is_closed r.machine ≡ false → more ≡ task_open r.machine.write
+  pub open_ : is_closed r.machine ≡ false → more ≡ tasks_open r.machine.tasks
 
 -- ---- the window
 

@@ -1,32 +1,41 @@
 -- The target machine: what each PDU leads to, over whole messages (RFC 7143, sections 4 to 11).
 --
--- `step` is one message, and `answers` any number of them. A login stands in `Login`, SCSI commands
--- in `Command`, the other requests in `Requests` and `Discovery`.
-use Rattle.std.specs.Prelude.{◌≡◌, ℕ, Bool, true, false, not, nat_lt, if◌then◌else◌, List, [], ◌∷◌, ◌++◌, length, Option, Some, None}
+-- `step` is one message, and `answers` any number of them. What comes of a PDU in full feature phase
+-- (`full_met`) is apart from the tasks that are done (`done_in_turn`). A login stands in `Login`,
+-- SCSI commands in `Command`, the other requests in `Requests` and `Discovery`.
+use Rattle.std.specs.Prelude.{◌≡◌, ◌≤◌, ℕ, zero, suc, Bool, true, false, not, ◌==◌, ◌||◌, nat_lt, if◌then◌else◌, List, [], ◌∷◌, ◌++◌, length, Option, Some, None}
+use Rattle.std.specs.List.{list_any}
 use Rattle.scsi_disk.specs.Disk.{Disk}
 use Rattle.scsi_disk.specs.Effect.{Executes}
+use Rattle.iscsi_pdu.specs.Fields.{reserved_tag}
+use Rattle.iscsi_pdu.specs.Serial.{next_sn, is_within}
+use Rattle.iscsi_pdu.specs.Rules.{kind_not_due, segment_too_long, data_out_of_order, command_out_of_turn, too_many_immediate}
+use Rattle.iscsi_pdu.specs.declared.head.data_out.DataOut.{DataOut}
 use Rattle.iscsi_pdu.specs.declared.head.Head.{Head}
 use Rattle.iscsi_pdu.specs.declared.head.Head.TheVariants as heads
+use Rattle.iscsi_stream.specs.Pieces.{data_of}
 use Rattle.iscsi_stream.specs.Segment.{Segment, Bytes, Text, segment_bytes}
 use Rattle.iscsi_stream.specs.Stream.{Message}
 use Rattle.iscsi_login.specs.declared.phase.Phase.{Phase}
 use Rattle.iscsi_login.specs.declared.phase.Phase.TheVariants as phases
 use Rattle.iscsi_login.specs.declared.stage.Session.{Session as SessionType}
+use Rattle.iscsi_login.specs.Held.{first_burst}
+use Rattle.iscsi_login.specs.Stage.{is_closed_phase}
 use Rattle.iscsi_target.specs.Session.{Session, Reply, limit}
-use Rattle.iscsi_target.specs.State.{Machine, Write, Execution, Stepped, on, unchanged, shut_down, waiting, max_cmd_sn}
-use Rattle.iscsi_stream.specs.Pieces.{data_of}
-use Rattle.iscsi_pdu.specs.Serial.{next_sn, is_within}
-use Rattle.iscsi_target.specs.Rejecting.{reject, breach, breaks}
-use Rattle.iscsi_pdu.specs.Rules.{kind_not_due, segment_too_long, too_many_immediate}
+use Rattle.iscsi_target.specs.Write.{Write}
+use Rattle.iscsi_target.specs.declared.tasks.Task.{Task}
+use Rattle.iscsi_target.specs.declared.tasks.Task.TheVariants.{Request, Data}
+use Rattle.iscsi_target.specs.State.{Machine, Execution, Stepped, on, unchanged, shut_down, waiting, max_cmd_sn}
+use Rattle.iscsi_target.specs.Rejecting.{reject, breach}
 use Rattle.iscsi_target.specs.LoginText.{is_normal}
 use Rattle.iscsi_target.specs.Login.{login_step}
 use Rattle.iscsi_target.specs.Discovery.{text_request}
-use Rattle.iscsi_target.specs.Execution.{Device, reliable, device_next}
+use Rattle.iscsi_target.specs.Transfer.{taken}
+use Rattle.iscsi_target.specs.Execution.{Device, reliable, device_next, device_after}
 use Rattle.iscsi_target.specs.Requests.{nop_out, task_request, logout_request}
-use Rattle.iscsi_target.specs.Command.{scsi_command, data_out}
-use Rattle.iscsi_login.specs.Stage.{is_closed_phase}
+use Rattle.iscsi_target.specs.Command.{scsi_command, proceed, task_of, breaks_rules}
 
--- ---- full feature phase
+-- ---- requests
 
 -- The kinds of PDU that may come in a session (section 4.2.4; which come in a discovery session,
 -- and that the others close it, is own rule).
@@ -49,100 +58,32 @@ request_answered s waiting m (heads.TextRequest h) =
 request_answered s waiting m (heads.LogoutRequest h) = logout_request s waiting m h
 request_answered s waiting m _ = breach s waiting kind_not_due m
 
--- A request that is accepted (section 4.2.4).
+-- A request that is the first task, with those behind it (section 4.2.4).
 abbrev pub handled : Device → Machine → Disk → Message → Head → Stepped
 handled device s disk m (heads.ScsiCommand h) =
     scsi_command device s disk m h (segment_bytes m.segment)
 handled device s disk m head =
-    on disk s.write (request_answered s.session (waiting s.write) m head)
+    on disk s.tasks (request_answered s.session (waiting s.tasks) m head)
 
--- What follows is of a request that was accepted (section 4.2.2.1).
-abbrev pub accepting : Message → Stepped → Stepped
-accepting m r = record r { accepted = m ∷ [] }
+-- ---- tasks in their turn
 
--- A write is open (own rule).
-abbrev pub has_write : Option Write → Bool
-has_write None = false
-has_write (Some w) = true
+-- The first task, with those behind it (section 4.2.2.1).
+abbrev pub begun : Device → Machine → Disk → Task → Stepped
+begun device s disk (Request m) = handled device s disk m m.head
+begun device s disk (Data w) = proceed device s disk w
 
--- An immediate request takes no CmdSN; while a write is open there is no room for it (section
--- 4.2.2.1; how much room there is, is own rule).
-abbrev pub immediate : Device → Machine → Disk → Message → Stepped
-immediate device s disk m =
-    if has_write s.write
-    then on disk s.write (reject s.session (waiting s.write) too_many_immediate m)
-    else accepting m (handled device s disk m m.head)
-
--- The CmdSN that was due is taken (section 4.2.2.1).
-abbrev pub advanced : Machine → Machine
-advanced s = record s {
-  session = record s.session { exp_cmd_sn = next_sn s.session.exp_cmd_sn };
-}
-
--- A request outside the window is dropped (section 4.2.2.1).
-abbrev pub in_turn : Device → Machine → Disk → Message → ℕ → Stepped
-in_turn device s disk m cmd_sn =
-    if is_within cmd_sn s.session.exp_cmd_sn (max_cmd_sn s)
-    then accepting m (handled device (advanced s) disk m m.head)
-    else unchanged s disk
-
--- A request that is immediate or has this CmdSN (section 11.2.1.1).
-abbrev pub request : Device → Machine → Disk → Message → Bool → ℕ → Stepped
-request device s disk m is_immediate cmd_sn =
-    if is_immediate then immediate device s disk m else in_turn device s disk m cmd_sn
-
--- A PDU that is due, by its kind; a Data-Out has no CmdSN (section 4.2.2.1).
-abbrev pub due_step : Device → Machine → Disk → Message → Head → Stepped
-due_step device s disk m (heads.DataOut h) = data_out device s disk m h (segment_bytes m.segment)
-due_step device s disk m (heads.NopOut h) = request device s disk m h.immediate h.cmd_sn
-due_step device s disk m (heads.TaskRequest h) = request device s disk m h.immediate h.cmd_sn
-due_step device s disk m (heads.TextRequest h) = request device s disk m h.immediate h.cmd_sn
-due_step device s disk m (heads.LogoutRequest h) = request device s disk m h.immediate h.cmd_sn
-due_step device s disk m (heads.ScsiCommand h) = request device s disk m h.immediate h.cmd_sn
-due_step device s disk m _ = breaks s disk kind_not_due m
-
--- The segment has more bytes than the target takes (section 13.12).
-abbrev pub is_too_long : Machine → Message → Bool
-is_too_long s m = nat_lt s.session.held.target_max_recv (length (segment_bytes m.segment))
-
--- A PDU in full feature phase: its kind is judged before its length, and that before its CmdSN
--- (section 4.2.4; the order is own rule).
-abbrev pub full_step : Device → Machine → Disk → Message → Stepped
-full_step device s disk m =
-    if not (is_due_kind s.session.session_type m.head) then breaks s disk kind_not_due m
-    else if is_too_long s m then breaks s disk segment_too_long m
-    else due_step device s disk m m.head
-
--- ---- one message
-
--- A segment is longer than the framer takes (own rule).
-abbrev pub is_over_limit : Machine → Segment → Bool
-is_over_limit s (Bytes bytes) = nat_lt (limit s.session.settings) (length bytes)
-is_over_limit s (Text pairs) = false
-
--- A message, by the phase; a closed session answers nothing (sections 4.2.3 and 4.2.4).
-abbrev pub phase_step : Device → Phase → Machine → Disk → Message → Stepped
-phase_step device phases.Login s disk m = on disk s.write (login_step s.session m)
-phase_step device phases.Full s disk m = full_step device s disk m
-phase_step device phases.Closed s disk m = unchanged s disk
+-- With these behind it the task stays the first: a write whose data are not all there (own rule).
+abbrev pub stays : List Task → Stepped → Bool
+stays more r = nat_lt (length more) (length r.machine.tasks)
 
 -- The session is over (own rule).
 abbrev pub is_closed : Machine → Bool
 is_closed s = is_closed_phase s.session.phase
 
--- One message, over a store that does so with orders; one over the limit closes the session (own
--- rule).
-abbrev pub step_on : Device → Machine → Disk → Message → Stepped
-step_on device s disk m =
-    if is_closed s then unchanged s disk
-    else if is_over_limit s m.segment then shut_down s disk
-    else phase_step device s.session.phase s disk m
-
--- One message, over a store that doesn't fail (own rule).
-abbrev pub step : Machine → Disk → Message → Stepped
-step s disk m = step_on reliable s disk m
-
--- ---- messages one after another
+-- There is a task (own rule).
+abbrev pub is_busy : List Task → Bool
+is_busy [] = false
+is_busy (task ∷ more) = true
 
 -- The rule that was broken first (own rule).
 abbrev pub first_rule : Option ℕ → Option ℕ → Option ℕ
@@ -159,6 +100,219 @@ then_stepped first later = record {
   accepted = first.accepted ++ later.accepted;
   executed = first.executed ++ later.executed;
 }
+
+-- Tasks in their order, up to a write whose data are not all there, or to the end of the session
+-- (section 4.2.2.1; own rule).
+unfoldable pub done_in_turn : Device → Session → Disk → List Task → Stepped
+done_in_turn device s disk [] = unchanged (record { session = s; tasks = [] }) disk
+done_in_turn device s disk (task ∷ more) =
+    let r : Stepped = begun device (record { session = s; tasks = more }) disk task in
+    if not (is_busy more) || (stays more r || is_closed r.machine) then r
+    else then_stepped r
+    (done_in_turn (device_after r.executed device) r.machine.session r.disk more)
+
+-- So many tasks in their order, as far as they are done (own rule).
+unfoldable pub done_first : ℕ → Device → Session → Disk → List Task → Stepped
+done_first zero device s disk tasks =
+    unchanged (record { session = s; tasks = tasks }) disk
+done_first (suc k) device s disk [] = unchanged (record { session = s; tasks = [] }) disk
+done_first (suc k) device s disk (task ∷ more) =
+    let r : Stepped = begun device (record { session = s; tasks = more }) disk task in
+    if stays more r || is_closed r.machine then r
+    else then_stepped r
+    (done_first k (device_after r.executed device) r.machine.session r.disk more)
+
+-- ---- what comes of a PDU
+
+-- What comes of a PDU: it is dropped, it is answered at once, or a task begins or goes on, and tasks
+-- are done in their turn (own rule).
+pub data Next : Type 0 where
+  Dropped : Next
+  Answered : Reply → Next
+  Queued : Session → List Task → Next
+
+-- What comes of a PDU, and the request that was accepted, if it is one (own rule).
+pub record Met : Type 0 where
+  pub accepted : List Message
+  pub next : Next
+
+-- It is no request that is accepted (own rule).
+abbrev pub plainly : Next → Met
+plainly next = record { accepted = []; next = next }
+
+-- The request is accepted (section 4.2.2.1).
+abbrev pub accepting : Message → Next → Met
+accepting m next = record { accepted = m ∷ []; next = next }
+
+-- The PDU broke the rule (own rule).
+abbrev pub broken : Machine → ℕ → Message → Next
+broken s rule m = Answered (breach s.session (waiting s.tasks) rule m)
+
+-- ---- a Data-Out
+
+-- The task is a write with this tag (section 11.7).
+abbrev pub is_write_with : ℕ → Task → Bool
+is_write_with tag (Request m) = false
+is_write_with tag (Data w) = w.initiator_task_tag == tag
+
+-- The write of a task with this tag, if there is one (section 11.7).
+abbrev pub write_of : List Task → ℕ → Option Write
+write_of [] tag = None
+write_of (Request m ∷ more) tag = write_of more tag
+write_of (Data w ∷ more) tag =
+    if w.initiator_task_tag == tag then Some w else write_of more tag
+
+-- The tasks with this write in place of the one with its tag (own rule).
+abbrev pub with_write : Write → List Task → List Task
+with_write v [] = []
+with_write v (Request m ∷ more) = Request m ∷ with_write v more
+with_write v (Data w ∷ more) =
+    if w.initiator_task_tag == v.initiator_task_tag then Data v ∷ more
+    else Data w ∷ with_write v more
+
+-- The write with the Data-Out, or none where that wasn't due (section 11.7).
+abbrev pub data_taken : Machine → Message → Option Write → Next
+data_taken s m None = broken s data_out_of_order m
+data_taken s m (Some v) = Queued s.session (with_write v s.tasks)
+
+-- The write with its tag takes a Data-Out; where there is none it is dropped (section 11.7; own
+-- rule).
+abbrev pub data_for : Machine → Message → DataOut → List ℕ → Option Write → Next
+data_for s m h bytes None = Dropped
+data_for s m h bytes (Some w) = data_taken s m (taken (first_burst s.session.held) w h bytes)
+
+-- A Data-Out (section 11.7).
+abbrev pub data_out : Machine → Message → DataOut → List ℕ → Next
+data_out s m h bytes = data_for s m h bytes (write_of s.tasks h.initiator_task_tag)
+
+-- ---- a request
+
+-- The tag of a request; a ping may have none (sections 11.2.1.8 and 11.18).
+abbrev pub tag_of : Head → Option ℕ
+tag_of (heads.NopOut h) =
+    if h.initiator_task_tag == reserved_tag then None else Some h.initiator_task_tag
+tag_of (heads.ScsiCommand h) = Some h.initiator_task_tag
+tag_of (heads.TaskRequest h) = Some h.initiator_task_tag
+tag_of (heads.TextRequest h) = Some h.initiator_task_tag
+tag_of (heads.LogoutRequest h) = Some h.initiator_task_tag
+tag_of _ = None
+
+-- The tag of a task (section 11.2.1.8).
+abbrev pub task_tag : Task → Option ℕ
+task_tag (Request m) = tag_of m.head
+task_tag (Data w) = Some w.initiator_task_tag
+
+-- Both are there, and alike (own rule).
+abbrev pub is_same_tag : Option ℕ → Option ℕ → Bool
+is_same_tag (Some a) (Some b) = a == b
+is_same_tag _ _ = false
+
+-- A task has the tag (section 11.2.1.8).
+abbrev pub is_tag_of : List Task → Option ℕ → Bool
+is_tag_of tasks tag = list_any (λ task. is_same_tag (task_tag task) tag) tasks
+
+-- A request that was accepted becomes the last task: its tag is no task's, and it keeps the rules
+-- of the first burst (sections 11.2.1.8 and 13.14; the order is own rule).
+abbrev pub admitted : Machine → ℕ → Message → Next
+admitted s count m =
+    if is_tag_of s.tasks (tag_of m.head) then broken s kind_not_due m
+    else if breaks_rules s.session.held (length (segment_bytes m.segment)) m.head
+    then broken s data_out_of_order m
+    else Queued s.session (s.tasks ++ task_of count m ∷ [])
+
+-- An immediate request takes no CmdSN; while there is a task there is no room for it (section
+-- 4.2.2.1; how much room there is, is own rule).
+abbrev pub immediate : Machine → ℕ → Message → Met
+immediate s count m =
+    if is_busy s.tasks
+    then plainly (Answered (reject s.session (waiting s.tasks) too_many_immediate m))
+    else accepting m (admitted s count m)
+
+-- The CmdSN that was due is taken (section 4.2.2.1).
+abbrev pub advanced : Machine → Machine
+advanced s = record s {
+  session = record s.session { exp_cmd_sn = next_sn s.session.exp_cmd_sn };
+}
+
+-- A request outside the window is dropped; one inside it has the CmdSN that is due (section
+-- 4.2.2.1; that another one is a fault is own rule).
+abbrev pub in_turn : Machine → ℕ → Message → ℕ → Met
+in_turn s count m cmd_sn =
+    if not (is_within cmd_sn s.session.exp_cmd_sn (max_cmd_sn s)) then plainly Dropped
+    else if not (cmd_sn == s.session.exp_cmd_sn) then plainly (broken s command_out_of_turn m)
+    else accepting m (admitted (advanced s) count m)
+
+-- A request that is immediate or has this CmdSN (section 11.2.1.1).
+abbrev pub request : Machine → ℕ → Message → Bool → ℕ → Met
+request s count m is_immediate cmd_sn =
+    if is_immediate then immediate s count m else in_turn s count m cmd_sn
+
+-- ---- full feature phase
+
+-- A PDU that is due, by its kind; a Data-Out has no CmdSN (section 4.2.2.1).
+abbrev pub due_met : Machine → ℕ → Message → Head → Met
+due_met s count m (heads.DataOut h) = plainly (data_out s m h (segment_bytes m.segment))
+due_met s count m (heads.NopOut h) = request s count m h.immediate h.cmd_sn
+due_met s count m (heads.TaskRequest h) = request s count m h.immediate h.cmd_sn
+due_met s count m (heads.TextRequest h) = request s count m h.immediate h.cmd_sn
+due_met s count m (heads.LogoutRequest h) = request s count m h.immediate h.cmd_sn
+due_met s count m (heads.ScsiCommand h) = request s count m h.immediate h.cmd_sn
+due_met s count m _ = plainly (broken s kind_not_due m)
+
+-- The segment has more bytes than the target takes (section 13.12).
+abbrev pub is_too_long : Machine → Message → Bool
+is_too_long s m = nat_lt s.session.held.target_max_recv (length (segment_bytes m.segment))
+
+-- A PDU in full feature phase: its kind is judged before its length, and that before its CmdSN
+-- (section 4.2.4; the order is own rule).
+abbrev pub full_met : Machine → ℕ → Message → Met
+full_met s count m =
+    if not (is_due_kind s.session.session_type m.head) then plainly (broken s kind_not_due m)
+    else if is_too_long s m then plainly (broken s segment_too_long m)
+    else due_met s count m m.head
+
+-- What comes of it, over a store that does so with orders (own rule).
+abbrev pub followed : Device → Machine → Disk → Next → Stepped
+followed device s disk Dropped = unchanged s disk
+followed device s disk (Answered r) = on disk s.tasks r
+followed device s disk (Queued session tasks) = done_in_turn device session disk tasks
+
+-- These requests were accepted (section 4.2.2.1).
+abbrev pub having_accepted : List Message → Stepped → Stepped
+having_accepted ms r = record r { accepted = ms }
+
+-- A PDU in full feature phase, over a store that does so with orders (section 4.2.4).
+abbrev pub full_step : Device → Machine → Disk → Message → Stepped
+full_step device s disk m =
+    having_accepted (full_met s disk.count m).accepted
+    (followed device s disk (full_met s disk.count m).next)
+
+-- ---- one message
+
+-- A segment is longer than the framer takes (own rule).
+abbrev pub is_over_limit : Machine → Segment → Bool
+is_over_limit s (Bytes bytes) = nat_lt (limit s.session.settings) (length bytes)
+is_over_limit s (Text pairs) = false
+
+-- A message, by the phase; a closed session answers nothing (sections 4.2.3 and 4.2.4).
+abbrev pub phase_step : Device → Phase → Machine → Disk → Message → Stepped
+phase_step device phases.Login s disk m = on disk s.tasks (login_step s.session m)
+phase_step device phases.Full s disk m = full_step device s disk m
+phase_step device phases.Closed s disk m = unchanged s disk
+
+-- One message, over a store that does so with orders; one over the limit closes the session (own
+-- rule).
+abbrev pub step_on : Device → Machine → Disk → Message → Stepped
+step_on device s disk m =
+    if is_closed s then unchanged s disk
+    else if is_over_limit s m.segment then shut_down s disk
+    else phase_step device s.session.phase s disk m
+
+-- One message, over a store that doesn't fail (own rule).
+abbrev pub step : Machine → Disk → Message → Stepped
+step s disk m = step_on reliable s disk m
+
+-- ---- messages one after another
 
 -- Any messages, over a store that doesn't fail (own rule).
 unfoldable pub answers : Machine → Disk → List Message → Stepped
@@ -185,6 +339,22 @@ pub record MayStep (s : Machine) (disk : Disk) (before : ℕ) (m : Message) (r :
   pub device : Device
   pub is : r ≡ step_on device s disk m
   pub runs : RunsIn device before r.executed after
+
+-- One message at which memory ran out, over a store that may fail: some of the tasks were done, in
+-- their order, and the one at which it ran out changed nothing (own rule).
+pub record MayStop (s : Machine) (disk : Disk) (before : ℕ) (m : Message) (r : Stepped)
+    (after : ℕ) : Type 0 where
+  pub full : s.session.phase ≡ phases.Full
+  pub session : Session
+  pub tasks : List Task
+  pub queued : (full_met s disk.count m).next ≡ Queued session tasks
+  pub done : ℕ
+  pub device : Device
+  pub is : r ≡ done_first done device session disk tasks
+  -- the failures that were counted behind the last of them
+  pub failures : ℕ
+  pub runs : RunsIn device before r.executed failures
+  pub rises : failures ≤ after
 
 -- Any messages, over a store that may fail (own rule).
 unfoldable pub MayAnswer : Machine → Disk → ℕ → List Message → Stepped → ℕ → Type 0

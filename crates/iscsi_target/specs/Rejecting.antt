@@ -40,4 +40,4 @@ breach s waiting rule m = breached s waiting rule (canonical_header m)
 
 -- The same of a target (own rule).
 abbrev pub breaks : Machine → Disk → ℕ → Message → Stepped
-breaks s disk rule m = on disk s.write (breach s.session (waiting s.write) rule m)
+breaks s disk rule m = on disk s.tasks (breach s.session (waiting s.tasks) rule m)

@@ -64,10 +64,10 @@ ended s = record s { phase = phases.Closed; gathered = [] }
 
 -- ---- numbers
 
--- MaxCmdSN while so many commands wait: the window is as wide as one command, less those (section
+-- MaxCmdSN while so many tasks wait: the window is as wide as eight commands, less those (section
 -- 4.2.2.1; the width is own rule).
 abbrev pub max_cmd_sn_with : Session → ℕ → ℕ
-max_cmd_sn_with s waiting = (s.exp_cmd_sn + (2 ^ 32 - waiting)) % 2 ^ 32
+max_cmd_sn_with s waiting = (s.exp_cmd_sn + (2 ^ 32 + 7 - waiting)) % 2 ^ 32
 
 -- An answer went out that carries StatSN and advances it (section 4.2.2.2).
 abbrev pub counted : Session → Session

@@ -1,6 +1,6 @@
--- A target between two PDUs: its session and its open write, and what any message does (RFC 7143,
+-- A target between two PDUs: its session and its tasks, and what any message does (RFC 7143,
 -- section 4.2).
-use Rattle.std.specs.Prelude.{ℕ, List, [], Option, Some, None, if◌then◌else◌}
+use Rattle.std.specs.Prelude.{ℕ, Bool, true, not, List, [], ◌∷◌, length, map, filter, Option, None, if◌then◌else◌}
 use Rattle.scsi_disk.specs.Disk.{Disk}
 use Rattle.scsi_disk.specs.declared.order.Order.{Order}
 use Rattle.iscsi_stream.specs.Pieces.{Pieces}
@@ -8,46 +8,49 @@ use Rattle.iscsi_stream.specs.Stream.{Message}
 use Rattle.iscsi_login.specs.Stage.{is_closed_phase}
 use Rattle.iscsi_target.specs.Configured.{Settings}
 use Rattle.iscsi_target.specs.Session.{Session, Reply, opening_session, ended, max_cmd_sn_with}
-use Rattle.iscsi_target.specs.declared.due.Due.{Due}
+use Rattle.iscsi_target.specs.Transfer.{joined_write}
+use Rattle.iscsi_target.specs.declared.tasks.Task.{Task}
+use Rattle.iscsi_target.specs.declared.tasks.Task.TheVariants.{Request, Data}
 
--- ---- the open write
+-- ---- tasks
 
--- A write for which data are due (sections 11.3, 11.7 and 11.8).
-pub record Write : Type 0 where
-  pub initiator_task_tag : ℕ
-  pub order : Order
-  -- how many bytes it takes
-  pub total : ℕ
-  -- what came, in order of arrival; pieces of no bytes are left out
-  pub pieces : Pieces
-  pub due : Due
-  -- how many R2Ts went out, which is the next one's tag and R2TSN
-  pub asked : ℕ
+-- The task takes a place of the window; an immediate command takes none (section 4.2.2.1).
+abbrev pub takes_place : Task → Bool
+takes_place (Request m) = true
+takes_place (Data w) = not w.immediate
+
+-- How many tasks take a place of the window (section 4.2.2.1).
+abbrev pub waiting : List Task → ℕ
+waiting tasks = length (filter takes_place tasks)
 
 -- ---- the machine
 
--- A session and its open write (sections 4.2 and 11.3).
+-- A session and its tasks, in the order in which they are handled (section 4.2.2.1).
 pub record Machine : Type 0 where
   pub session : Session
-  pub write : Option Write
+  pub tasks : List Task
 
 -- Nothing came (section 6.3).
 abbrev pub opening : Settings → ℕ → Machine
 opening settings first_stat_sn =
-    record { session = opening_session settings first_stat_sn; write = None }
+    record { session = opening_session settings first_stat_sn; tasks = [] }
 
--- The session is over; what was gathered is dropped, and so is the open write (own rule).
+-- The session is over; what was gathered is dropped, and so are the tasks (own rule).
 abbrev pub closed : Machine → Machine
-closed s = record { session = ended s.session; write = None }
+closed s = record { session = ended s.session; tasks = [] }
 
--- How many commands wait (own rule).
-abbrev pub waiting : Option Write → ℕ
-waiting None = 0
-waiting (Some w) = 1
-
--- MaxCmdSN: the window, less the commands that wait (section 4.2.2.1).
+-- MaxCmdSN: the window, less the tasks that take a place of it (section 4.2.2.1).
 abbrev pub max_cmd_sn : Machine → ℕ
-max_cmd_sn s = max_cmd_sn_with s.session (waiting s.write)
+max_cmd_sn s = max_cmd_sn_with s.session (waiting s.tasks)
+
+-- The task with the bytes of its write as one piece (own rule).
+abbrev pub joined_task : Task → Task
+joined_task (Request m) = Request m
+joined_task (Data w) = Data (joined_write w)
+
+-- The session with the bytes of each of its writes as one piece (own rule).
+abbrev pub joined : Machine → Machine
+joined s = record s { tasks = map joined_task s.tasks }
 
 -- ---- what a message does
 
@@ -68,14 +71,14 @@ pub record Stepped : Type 0 where
   pub accepted : List Message
   pub executed : List Execution
 
--- The open write that is left with a session: none where that is over (own rule).
-abbrev pub left : Session → Option Write → Option Write
-left session write = if is_closed_phase session.phase then None else write
+-- The tasks that are left with a session: none where that is over (own rule).
+abbrev pub left : Session → List Task → List Task
+left session tasks = if is_closed_phase session.phase then [] else tasks
 
--- What a session replied, beside the disk and the open write (own rule).
-abbrev pub on : Disk → Option Write → Reply → Stepped
-on disk write r = record {
-  machine = record { session = r.session; write = left r.session write };
+-- What a session replied, beside the disk and the tasks (own rule).
+abbrev pub on : Disk → List Task → Reply → Stepped
+on disk tasks r = record {
+  machine = record { session = r.session; tasks = left r.session tasks };
   disk = disk;
   answers = r.answers;
   rule = r.rule;

@@ -1,5 +1,5 @@
 -- What tiles a transfer, and what R2Ts ask for (RFC 7143, sections 11.7 and 11.8).
-use Rattle.std.specs.Prelude.{◌≡◌, ℕ, ◌+◌, ◌≤◌, Bool, true, ◌==◌, ◌&&◌, if◌then◌else◌, List, [], ◌∷◌, length, Option, Some, None, is_some}
+use Rattle.std.specs.Prelude.{◌≡◌, ℕ, ◌+◌, ◌≤◌, Bool, true, if◌then◌else◌, List, [], ◌∷◌, ◌++◌, length, Option, Some, None, is_some}
 use Rattle.std.specs.List.{flat_map, AllByRecursion}
 use Rattle.scsi_disk.specs.Disk.{Disk}
 use Rattle.scsi_disk.specs.Effect.{effect}
@@ -12,12 +12,15 @@ use Rattle.iscsi_pdu.specs.declared.head.Head.TheVariants as heads
 use Rattle.iscsi_stream.specs.Segment.{segment_bytes}
 use Rattle.iscsi_stream.specs.Stream.{Message}
 use Rattle.iscsi_login.specs.Held.{Held, first_burst, max_burst}
-use Rattle.iscsi_target.specs.State.{Machine, Write, Execution, Stepped}
+use Rattle.iscsi_target.specs.Write.{Write}
+use Rattle.iscsi_target.specs.declared.tasks.Task.{Task}
+use Rattle.iscsi_target.specs.declared.tasks.Task.TheVariants.{Data}
+use Rattle.iscsi_target.specs.State.{Machine, Execution, Stepped}
 use Rattle.iscsi_stream.specs.Pieces.{Pieces, data_of, TilesFrom, data_pieces}
 use Rattle.iscsi_target.specs.declared.due.Due.{Due}
 use Rattle.iscsi_target.specs.declared.due.Due.TheVariants.{Solicited}
 use Rattle.iscsi_target.specs.Transfer.{taken}
-use Rattle.iscsi_target.specs.Machine.{step}
+use Rattle.iscsi_target.specs.Machine.{write_of, step}
 
 -- ---- pieces tile a transfer
 
@@ -43,16 +46,24 @@ data_in_tags ms = flat_map (λ m. data_in_tag m.head) ms
 abbrev pub bytes_given : Execution → List ℕ
 bytes_given e = (effect e.disk e.order (data_of e.pieces)).outcome.bytes
 
--- Each of these is the tag of what was executed (section 11.7).
-abbrev pub AreTags : List ℕ → Execution → Type 0
-AreTags tags e = AllByRecursion (λ tag. tag ≡ e.initiator_task_tag) tags
+-- These answers have the Data-In of what was executed: they have its tag, and tile these bytes
+-- (section 11.7).
+pub record GivesTiles (e : Execution) (bytes : List ℕ) (answers : List Message) : Type 0 where
+  pub tags : AllByRecursion (λ tag. tag ≡ e.initiator_task_tag) (data_in_tags answers)
+  pub tiled : TileBytes (data_pieces answers) bytes
 
--- The Data-In of what a message made the target execute have its tag, and tile what it gave;
--- without it there are none (section 11.7).
-pub record TilesDataIn (r : Stepped) : Type 0 where
-  pub tags : AllByRecursion (AreTags (data_in_tags r.answers)) r.executed
-  pub tiled : AllByRecursion (λ e. TileBytes (data_pieces r.answers) (bytes_given e)) r.executed
-  pub none : r.executed ≡ [] → data_pieces r.answers ≡ []
+-- The answers are those that have the Data-In of each execution, one after another; behind them
+-- there are none (section 11.7).
+abbrev pub GiveTiles : (Execution → List ℕ) → List Message → List Execution → Type 0
+GiveTiles given answers [] = data_pieces answers ≡ []
+GiveTiles given answers (e ∷ es) =
+    (own : List Message) × (more : List Message) × (answers ≡ own ++ more)
+    × GivesTiles e (given e) own × GiveTiles given more es
+
+-- The Data-In of what a message made the target execute have its tag, and tile what it gave, one
+-- execution after another; others there are none (section 11.7).
+abbrev pub TilesDataIn : Stepped → Type 0
+TilesDataIn r = GiveTiles bytes_given r.answers r.executed
 
 -- The pieces of the data of an order tile what it takes, by its plan (section 11.7).
 abbrev pub TilesPlan : Plan → Pieces → Type 0
@@ -79,10 +90,10 @@ pub record IsModest (held : Held) (total : ℕ) (range : ℕ × ℕ) : Type 0 wh
   pub burst : range.1 ≤ max_burst held
   pub inside : range.0 + range.1 ≤ total
 
--- How many bytes the open write takes (section 11.3).
-abbrev pub total_of : Option Write → ℕ
-total_of None = 0
-total_of (Some w) = w.total
+-- How many bytes the first task takes, where it is a write (section 11.3).
+abbrev pub total_of : List Task → ℕ
+total_of (Data w ∷ more) = w.total
+total_of _ = 0
 
 -- The Data-Out is the last that an R2T asked for (section 11.8).
 abbrev pub ends_r2t : Due → Bool → ℕ
@@ -93,14 +104,13 @@ ends_r2t _ _ = 0
 abbrev pub data_answers : ℕ → DataOut → List ℕ → Option Write → ℕ
 data_answers first_burst h bytes None = 0
 data_answers first_burst h bytes (Some w) =
-    if h.initiator_task_tag == w.initiator_task_tag && is_some (taken first_burst w h bytes)
-    then ends_r2t w.due h.is_final
-    else 0
+    if is_some (taken first_burst w h bytes) then ends_r2t w.due h.is_final else 0
 
 -- How many R2Ts a PDU answers (section 11.8).
 abbrev pub pdu_answers : Machine → Message → Head → ℕ
 pdu_answers s m (heads.DataOut h) =
-    data_answers (first_burst s.session.held) h (segment_bytes m.segment) s.write
+    data_answers (first_burst s.session.held) h (segment_bytes m.segment)
+    (write_of s.tasks h.initiator_task_tag)
 pdu_answers s m _ = 0
 
 -- How many R2Ts are answered by messages (section 11.8).

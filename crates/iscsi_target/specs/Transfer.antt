@@ -1,10 +1,10 @@
 -- The data of a write: immediate, unsolicited, and asked for by R2Ts (RFC 7143, sections 4.2.5.2,
 -- 11.7 and 11.8).
-use Rattle.std.specs.Prelude.{ℕ, ◌+◌, ◌-◌, Bool, true, false, not, ◌==◌, ◌&&◌, ◌||◌, nat_lt, min, if◌then◌else◌, List, [], ◌∷◌, ◌++◌, length, Option, Some, None, option_map}
+use Rattle.std.specs.Prelude.{ℕ, ◌+◌, ◌-◌, Bool, true, false, not, ◌==◌, ◌&&◌, ◌||◌, nat_lt, min, if◌then◌else◌, List, [], ◌∷◌, ◌++◌, length, Option, Some, None}
 use Rattle.iscsi_text.specs.Reading.{is_empty}
 use Rattle.iscsi_pdu.specs.declared.head.data_out.DataOut.{DataOut}
 use Rattle.iscsi_login.specs.Held.{Held, max_burst}
-use Rattle.iscsi_target.specs.State.{Machine, Write}
+use Rattle.iscsi_target.specs.Write.{Write}
 use Rattle.iscsi_stream.specs.Pieces.{Pieces, data_of}
 use Rattle.iscsi_pdu.specs.Serial.{next_sn}
 use Rattle.iscsi_pdu.specs.Fields.{reserved_tag}
@@ -101,7 +101,3 @@ asking held w = record w {
 -- rule).
 abbrev pub joined_write : Write → Write
 joined_write w = record w { pieces = with_piece [] 0 (data_of w.pieces) }
-
--- The session with the bytes of its open write as one piece (own rule).
-abbrev pub joined : Machine → Machine
-joined s = record s { write = option_map joined_write s.write }

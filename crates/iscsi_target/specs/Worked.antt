@@ -224,7 +224,7 @@ logged_in = record {
     exp_cmd_sn = 1;
     stat_sn = 3;
   };
-  write = None;
+  tasks = [];
 }
 
 -- ---- what is said of a row
@@ -235,3 +235,8 @@ abbrev pub Row : Machine → List Message → List ℕ → List ℕ → Option �
 Row s ms input output rule =
     (canon ms ≡ input) × (canon (answers s blank ms).answers ≡ output)
     × ((answers s blank ms).rule ≡ rule)
+
+-- The messages are answered by these bytes; this rule is broken, if one is.
+abbrev pub Answered : Machine → List Message → List ℕ → Option ℕ → Type 0
+Answered s ms output rule =
+    (canon (answers s blank ms).answers ≡ output) × ((answers s blank ms).rule ≡ rule)

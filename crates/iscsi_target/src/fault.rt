@@ -10,14 +10,16 @@ use thiserror::Error;
 /// Why a target's session ends. Every later call answers `Closed`.
 #[derive(Clone, Copy, Debug, PartialEq, Eq, Error)]
 pub enum TargetFault {
-    /// Memory ran out. The PDU that needed it wrote nothing and changed no block.
+    /// Memory ran out. The task that needed it wrote nothing and changed no block; those before it were
+    /// handled.
     #[error("memory")]
     NoMemory,
     /// The stream is refused; the fault is never `NoMemory`.
     #[error(transparent)]
     Stream(StreamFault),
-    /// A PDU of the initiator broke the rule of this number, 1 to 5: a kind that is not due, a
-    /// segment too long, data out of order, a text at fault, a logout for another reason.
+    /// A PDU of the initiator broke the rule of this number, 1 to 5 or 9: a kind or tag that is not
+    /// due, a segment too long, data out of order, a text at fault, a logout for another reason, a
+    /// command out of its turn.
     #[error("protocol: rule {0}")]
     Protocol(u8),
     /// The session was closed before.

@@ -18,7 +18,7 @@ ghost use Rattle.iscsi_target.specs.declared.fault.TargetFault.{TargetFault};
 ghost use Rattle.iscsi_target.specs.Configured.{Settings};
 ghost use Rattle.iscsi_target.specs.Session.{limit};
 ghost use Rattle.iscsi_target.specs.State.{Machine, Stepped, opening, unchanged};
-ghost use Rattle.iscsi_target.specs.Transfer.{joined};
+ghost use Rattle.iscsi_target.specs.State.{joined};
 ghost use Rattle.iscsi_target.specs.Execution.{Device};
 ghost use Rattle.iscsi_target.specs.Machine.{is_closed, step, step_on, answers, then_stepped, MayStep, MayAnswer};
 ghost use Rattle.iscsi_target.specs.Feed.{Alike, Connection, Fed, FedAlike, FedAll, GoesWell, Holds, Meets, SameSession, Store, Writes, opening_connection, stream_of};
@@ -36,7 +36,7 @@ pub fn worked_sessions()
 
 /// One disk: it is what the commands that were executed make of it, one after another. They are
 /// those whose response went out, in the order in which they were accepted, and no accepted one is
-/// left out but the open write, or the command at which the session was closed.
+/// left out but those that wait, which come behind, or at which the session was closed.
 pub fn one_disk()
     ensures fold { (s : Machine) (disk : Disk) (ms : List Message)
         → (answers s disk ms).disk ≡ disk_after (map supplied (answers s disk ms).executed) disk }
@@ -73,8 +73,9 @@ pub fn status_numbers()
         ≡ (s.session.stat_sn + length (stat_sns (answers s disk ms).answers)) % 2 ^ 32 }
 {}
 
-/// Tiling: whatever came before, the Data-In that a message leads to tile what the command gives,
-/// and the pieces of a write that is executed tile its transfer.
+/// Tiling: whatever came before, the Data-In that a message leads to are those of the commands that
+/// are executed, one after another, and tile what each gives; and the pieces of a write that is
+/// executed tile its transfer.
 pub fn tiling()
     ensures data_in { (settings : Settings) (n : ℕ) (disk : Disk) (ms : List Message) (m : Message)
         → IsInRange settings.preferences
@@ -85,11 +86,11 @@ pub fn tiling()
 {}
 
 /// Ready-to-transfer bounds: whatever came before, an R2T asks for at most a burst, and for nothing
-/// past the transfer; and at most one R2T is unanswered.
+/// past the transfer of the write that is the first task; and at most one R2T is unanswered.
 pub fn ready_to_transfer_bounds()
     ensures modest { (settings : Settings) (n : ℕ) (disk : Disk) (ms : List Message) (m : Message)
         → let r = answers (opening settings n) disk ms in let t = step r.machine r.disk m in
-        AllByRecursion (IsModest t.machine.session.held (total_of t.machine.write)) (r2t_ranges t.answers) }
+        AllByRecursion (IsModest t.machine.session.held (total_of t.machine.tasks)) (r2t_ranges t.answers) }
     ensures one { (settings : Settings) (n : ℕ) (disk : Disk) (ms : List Message)
         → AllByRecursion HasCmdSn ms
         → length (r2t_ranges (answers (opening settings n) disk ms).answers)

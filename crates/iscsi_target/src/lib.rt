@@ -4,6 +4,7 @@
 mod config;
 mod due;
 mod fault;
+mod kept;
 pub mod laws;
 mod machine;
 mod open_write;
@@ -12,6 +13,7 @@ mod response;
 mod session;
 mod status;
 mod target;
+mod tasks;
 mod writing;
 
 pub use config::Config;

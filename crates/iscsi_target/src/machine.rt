@@ -1,45 +1,41 @@
-//! A target between two PDUs: its session and its open write.
+//! A target between two PDUs: its session and its tasks.
 
-ghost use Rattle.std.specs.Prelude.{◌≡◌, ◌<◌, ◌^◌, None, Some};
+ghost use Rattle.std.specs.Prelude.{◌≡◌, ◌<◌, ◌^◌, ◌≤◌, None, Some, length};
 ghost use Rattle.scsi_disk.specs.Disk.{Disk};
 ghost use Rattle.iscsi_target.specs.State.{opening, max_cmd_sn, closed, left, on, waiting};
 ghost use Rattle.iscsi_target.specs.Session.{counted};
-ghost use Rattle.iscsi_target.specs.Transfer.{joined};
+ghost use Rattle.iscsi_target.specs.State.{joined};
 ghost use Rattle.iscsi_target.specs.Rejecting.{reject, breaks};
 ghost use Rattle.iscsi_target.specs.Machine.{is_closed};
 ghost use Rattle.iscsi_target.specs.Inside.{Leaves};
 
 mod answering;
 mod command;
+mod writes;
 
 use crate::config::Config;
-use crate::open_write::OpenWrite;
 use crate::received::Received;
 use crate::response::Numbers;
 use crate::session::Session;
+use crate::tasks::Tasks;
 use iscsi_login::{Params, Phase, Stage};
 use std::alloc::{AllocError, Global};
 use std::marker::Model;
 
-/// A session and its open write, between two PDUs. Where a call runs out of memory it has written
-/// nothing, and what is left of the session is good for nothing but to be closed.
+/// A session and its tasks, between two PDUs. Where a call runs out of memory, what is left of the
+/// session is good for nothing but to be closed.
 #[derive(Drop)]
 pub struct Machine {
     session: Session,
-    write: Option<OpenWrite>,
+    tasks: Tasks,
 }
 
 impl Model for Machine {
-    ghost use Rattle.std.specs.Prelude.{◌≡◌};
-    ghost use Rattle.std.specs.Option.{option_map};
     ghost use Rattle.iscsi_target.specs.State.{Machine};
-    ghost use Rattle.iscsi_target.specs.Transfer.{joined_write};
 
     ghost Value = { Machine };
 
-    ghost view = { λ s. record { session = s.session; write = s.write } };
-
-    ghost invariant = { λ s. option_map joined_write s.write ≡ s.write };
+    ghost view = { λ s. record { session = s.session; tasks = s.tasks } };
 }
 
 impl Machine {
@@ -49,7 +45,7 @@ impl Machine {
     {
         Machine {
             session: Session::new(alloc, config, first_statsn),
-            write: None,
+            tasks: Tasks::new(alloc),
         }
     }
 
@@ -63,9 +59,10 @@ impl Machine {
     /// What the session is doing.
     pub fn phase(&self) -> Phase
         ensures phase { result ≡ self.now.session.phase }
-        // The bytes of the open write stand as one piece.
+        // The bytes of each write stand as one piece.
         ensures joined { joined self.now ≡ self.now }
     {
+        let _tasks = self.tasks.len();
         self.session.phase()
     }
 
@@ -83,11 +80,12 @@ impl Machine {
         self.session.stage()
     }
 
-    // How many commands wait.
+    // How many tasks take a place of the window.
     fn waiting(&self) -> u32
-        ensures { result ≡ waiting self.now.write }
+        ensures value { result ≡ waiting self.now.tasks }
+        ensures most { result ≤ 9 }
     {
-        u32::from(self.write.is_some())
+        self.tasks.waiting()
     }
 
     // What an answer says of its number and of the window.
@@ -95,6 +93,8 @@ impl Machine {
         ensures stat_sn { result.stat_sn ≡ self.now.session.stat_sn }
         ensures exp_cmd_sn { result.exp_cmd_sn ≡ self.now.session.exp_cmd_sn }
         ensures max_cmd_sn { result.max_cmd_sn ≡ max_cmd_sn self.now }
+        ensures fits { self.now.session.exp_cmd_sn < 2 ^ 32 }
+        ensures few { waiting self.now.tasks ≤ 9 }
     {
         self.session.numbers(self.waiting())
     }
@@ -106,37 +106,20 @@ impl Machine {
         self.session.count();
     }
 
-    // The open write, which is open no more.
-    fn take_write(&mut self) -> Option<OpenWrite>
-        ensures write { result ≡ self.old.write }
-        ensures none { self.new ≡ record self.old { write = None } }
-    {
-        self.write.take()
-    }
-
-    // Opens a write, or keeps it open.
-    #[tactic(auto, using(crate::proofs::OpenWrites::data_of_one))]
-    fn keep_write(&mut self, write: OpenWrite)
-        ensures { self.new ≡ record self.old { write = Some write } }
-    {
-        let _total = write.total;
-        self.write = Some(write);
-    }
-
-    /// Closes the session; what was gathered is dropped, and so is the open write.
+    /// Closes the session; what was gathered is dropped, and so are the tasks.
     pub fn close(&mut self)
         ensures { self.new ≡ closed self.old }
     {
         self.session.close();
-        self.write = None;
+        self.tasks.clear();
     }
 
-    // The open write goes with the session.
+    // The tasks go with the session.
     fn settle(&mut self)
-        ensures { self.new ≡ record self.old { write = left self.old.session self.old.write } }
+        ensures { self.new ≡ record self.old { tasks = left self.old.session self.old.tasks } }
     {
         if self.session.is_closed() {
-            self.write = None;
+            self.tasks.clear();
         }
     }
 
@@ -147,8 +130,8 @@ impl Machine {
         received: &Received<'_>,
         out: &mut Vec<u8>,
     ) -> Result<Option<u8>, AllocError>
-        ensures { (disk : Disk) → Leaves (on disk self.old.write
-            (reject self.old.session (waiting self.old.write) reason received.now)) result
+        ensures { (disk : Disk) → Leaves (on disk self.old.tasks
+            (reject self.old.session (waiting self.old.tasks) reason received.now)) result
             self.old self.new out.old.items out.new.items }
     {
         let waiting = self.waiting();

@@ -1,7 +1,7 @@
 //! The write that is open.
 
 ghost use Rattle.std.specs.Prelude.{◌≡◌, ◌<◌, ◌≤◌, ◌^◌, ◌+◌, ◌-◌, ◌==◌, ◌&&◌, true, false, length, min, IfOk, OnErr, IsTrue};
-ghost use Rattle.iscsi_target.specs.Inside.{asking_for};
+ghost use Rattle.iscsi_target.specs.Staged.{asking_for};
 ghost use Rattle.iscsi_target.specs.Transfer.{received, is_whole, is_idle, is_in_sequence, with_data, joined_write, continued};
 
 use crate::due::Due;
@@ -15,6 +15,8 @@ use std::marker::Model;
 pub struct OpenWrite {
     /// The command's tag.
     pub initiator_task_tag: u32,
+    /// Whether the command was immediate.
+    pub immediate: bool,
     /// What the command orders of the disk.
     pub order: Order,
     /// How many bytes it takes.
@@ -29,15 +31,16 @@ pub struct OpenWrite {
 
 impl Model for OpenWrite {
     ghost use Rattle.std.specs.Prelude.{[]};
-    ghost use Rattle.iscsi_target.specs.State.{Write};
+    ghost use Rattle.iscsi_target.specs.Write.{Write};
     ghost use Rattle.iscsi_target.specs.Transfer.{with_piece};
-    ghost use Rattle.iscsi_target.specs.Inside.{IsStaged};
+    ghost use Rattle.iscsi_target.specs.Staged.{IsStaged};
 
     ghost Value = { Write };
 
     // The bytes stand as one piece.
     ghost view = { λ w. record {
       initiator_task_tag = w.initiator_task_tag;
+      immediate = w.immediate;
       order = w.order;
       total = w.total;
       pieces = with_piece [] 0 w.data.items;

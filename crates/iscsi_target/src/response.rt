@@ -1,8 +1,8 @@
 //! The head of the response to a command.
 
-ghost use Rattle.std.specs.Prelude.{◌≡◌};
+ghost use Rattle.std.specs.Prelude.{◌≡◌, ℕ};
 ghost use Rattle.iscsi_pdu.specs.Meaning.{Fits};
-ghost use Rattle.iscsi_target.specs.State.{Machine, max_cmd_sn};
+ghost use Rattle.iscsi_target.specs.Session.{Session, max_cmd_sn_with};
 ghost use Rattle.iscsi_target.specs.Execution.{response_head, residual_count};
 
 use iscsi_pdu::{Head, ScsiResponse};
@@ -22,9 +22,9 @@ pub struct Numbers {
 
 /// The head of the response to a command whose data went out in so many PDUs.
 pub fn response_head(numbers: Numbers, tag: u32, outcome: &Outcome, count: u32) -> Head
-    ensures head { (s : Machine) → s.session.stat_sn ≡ numbers.stat_sn
-        → s.session.exp_cmd_sn ≡ numbers.exp_cmd_sn → max_cmd_sn s ≡ numbers.max_cmd_sn
-        → result ≡ response_head s tag outcome.now count }
+    ensures head { (s : Session) (waiting : ℕ) → s.stat_sn ≡ numbers.stat_sn
+        → s.exp_cmd_sn ≡ numbers.exp_cmd_sn → max_cmd_sn_with s waiting ≡ numbers.max_cmd_sn
+        → result ≡ response_head s waiting tag outcome.now count }
     ensures fits { Fits result }
 {
     Head::ScsiResponse(ScsiResponse {

@@ -23,8 +23,11 @@ use iscsi_stream::{canonical_head, write_pdu};
 use std::alloc::{AllocError, Global};
 use std::marker::Model;
 
+/// How many commands that aren't immediate may wait (RFC 7143, section 4.2.2.1; own rule).
+const WINDOW: u32 = 8;
+
 /// A session between two PDUs. It knows no disk and no command; what it says of the window it is told:
-/// how many commands wait. Where a call runs out of memory it has written nothing, and what is left of
+/// how many tasks wait. Where a call runs out of memory it has written nothing, and what is left of
 /// the session is good for nothing but to be closed.
 #[derive(Drop)]
 pub struct Session {
@@ -119,7 +122,7 @@ impl Session {
         self.session_type
     }
 
-    /// What an answer says of its number and of the window, while so many commands wait.
+    /// What an answer says of its number and of the window, while so many tasks wait.
     pub fn numbers(&self, waiting: u32) -> Numbers
         ensures stat_sn { result.stat_sn ≡ self.now.stat_sn }
         ensures exp_cmd_sn { result.exp_cmd_sn ≡ self.now.exp_cmd_sn }
@@ -128,7 +131,10 @@ impl Session {
         Numbers {
             stat_sn: self.stat_sn,
             exp_cmd_sn: self.exp_cmd_sn,
-            max_cmd_sn: self.exp_cmd_sn.wrapping_sub(waiting),
+            max_cmd_sn: self
+                .exp_cmd_sn
+                .wrapping_add(WINDOW - 1)
+                .wrapping_sub(waiting),
         }
     }
 

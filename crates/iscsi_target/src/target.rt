@@ -26,7 +26,7 @@ use std::marker::Model;
 /// | Phase | What holds |
 /// |---|---|
 /// | `Login` | Login Requests are answered or refused; another PDU closes the session |
-/// | `Full` | requests are answered, commands executed on the store; at most one write is open |
+/// | `Full` | requests are answered, commands executed on the store, in their order; behind a write that takes its data up to eight wait |
 /// | `Closed` | each call answers `Closed` |
 #[derive(Drop)]
 pub struct Target {
@@ -64,10 +64,11 @@ impl Target {
     /// which phase the session is then.
     ///
     /// A login that is refused and a logout answer `Closed`, and the rest of the piece is dropped.
-    /// After a fault the session is closed: `out` has the whole answers to the PDUs before the one
-    /// at fault, and of that one a Reject where it broke a rule in full feature phase. The PDU at
-    /// which memory ran out wrote nothing and changed no block. A closed session answers `Closed`
-    /// and takes nothing (RFC 7143, sections 6 and 11; the rules and their order are own).
+    /// After a fault the session is closed: `out` has the whole answers to the tasks that were
+    /// handled before, and a Reject where a rule was broken in full feature phase. The task at which
+    /// memory ran out wrote nothing and changed no block, and none behind it was handled. A closed
+    /// session answers `Closed` and takes nothing (RFC 7143, sections 6 and 11; the rules and their
+    /// order are own).
     pub fn feed<S: BlockStore>(
         &mut self,
         piece: &[u8],

@@ -1,6 +1,6 @@
 -- What `answer` writes for what it has read (RFC 7143, sections 6 and 11; own rule).
 use Rattle.std.specs.Prelude.{◌≡◌, ℕ, List, Result, Ok, Err}
-use Rattle.scsi_disk.specs.Disk.{zeros}
+use Rattle.scsi_disk.specs.Disk.{Disk, zeros}
 use Rattle.iscsi_stream.specs.declared.fault.ToolFault.{ToolFault}
 use Rattle.iscsi_stream.specs.declared.fault.ToolFault.TheVariants as tool
 use Rattle.iscsi_stream.specs.Stream.{Message, Splits, longest_segment}
@@ -10,7 +10,7 @@ use Rattle.iscsi_target.specs.State.{opening}
 use Rattle.iscsi_target.specs.Machine.{answers}
 use Rattle.iscsi_service.specs.declared.session.SessionFault.{SessionFault}
 use Rattle.iscsi_service.specs.declared.session.SessionFault.TheVariants as session
-use Rattle.iscsi_service.specs.Session.{target_settings, Hears, EndsBy}
+use Rattle.iscsi_service.specs.Session.{target_settings, ServesFirst, EndsBy}
 
 -- The fault of a filter for that of its session (own rule).
 abbrev pub filter_fault : SessionFault → ToolFault
@@ -28,10 +28,11 @@ AnswersAll blocks read written =
     (ms : List Message) (given rest : List ℕ) → Splits longest_segment read ms given rest
     → written ≡ canon (answers (opening target_settings 1) (zeros blocks) ms).answers
 
--- The answers of the target to some first PDUs of what was read are written, whole (own rule).
+-- The answers of the target to some first PDUs of what was read are written, whole, and of the PDU
+-- behind them those of some tasks (own rule).
 abbrev pub AnswersFirst : ℕ → List ℕ → List ℕ → Type 0
-AnswersFirst blocks read written = (hears : Hears target_settings read)
-    × (written ≡ canon (answers (opening target_settings 1) (zeros blocks) hears.messages).answers)
+AnswersFirst blocks read written =
+    (now : Disk) × ServesFirst target_settings (zeros blocks) read now written
 
 -- What is written where answering ends, and why it ends so; where a write failed, nothing is said of
 -- it (own rule).

@@ -17,10 +17,11 @@ use std::io::{Read, Write};
 /// gives; what one read leads to goes out in one write. It stops where the session is closed.
 ///
 /// What is written are the answers to all PDUs of what was read, and after want of memory those to
-/// some first PDUs; of a failed write nothing is said. Answers `Stream` where the stream ends within
-/// a PDU or has what the target's framer refuses, with the place of that; `Protocol` with the rule
-/// that the last PDU broke; `Ok` where no rule was broken and the stream ends behind a PDU, or the
-/// session was closed: a refused login is no fault. `Read`, `Write` and `NoMemory` are as in
+/// some first PDUs and to some first tasks of the next one; of a failed write nothing is said.
+/// Answers `Stream` where the stream ends within a PDU or has what the target's framer refuses, with
+/// the place of that; `Protocol` with the rule that the last PDU broke; `Ok` where no rule was broken
+/// and the stream ends behind a PDU, or the session was closed: a refused login is no fault. `Read`,
+/// `Write` and `NoMemory` are as in
 /// `normalise`.
 pub fn answer<R: Read, W: Write>(
     alloc: Global,

@@ -1,24 +1,30 @@
 //! What a target makes of a PDU.
 
-ghost use Rattle.std.specs.Prelude.{◌≡◌, ◌↔◌, ◌<◌, ◌≤◌, ◌^◌, nat_lt, IsTrue, true, false};
+ghost use Rattle.std.specs.Prelude.{◌≡◌, ◌≢◌, ◌⊎◌, ◌↔◌, ◌<◌, ◌≤◌, ◌^◌, ◌++◌, ◌∷◌, [], None, Some, length, nat_lt, IsTrue, IfOk, true, false};
 ghost use Rattle.iscsi_pdu.specs.Serial.{distance};
 ghost use Rattle.scsi_disk.specs.Disk.{Disk};
 ghost use Rattle.iscsi_target.specs.State.{max_cmd_sn, on, waiting};
 ghost use Rattle.iscsi_target.specs.Login.{login_step};
-ghost use Rattle.iscsi_target.specs.Machine.{is_due_kind, has_write, advanced, request_answered, handled, immediate, in_turn, due_step, full_step, is_closed, is_over_limit, step_on};
-ghost use Rattle.iscsi_target.specs.Inside.{Leaves, Handles, store_of};
+ghost use Rattle.iscsi_target.specs.Command.{breaks_rules, task_of};
+ghost use Rattle.iscsi_target.specs.Machine.{is_due_kind, is_tag_of, tag_of, advanced, request_answered, handled, begun, immediate, in_turn, due_met, full_met, is_closed, is_over_limit};
+ghost use Rattle.iscsi_target.specs.Laws.{cmd_sn_of};
+ghost use Rattle.iscsi_target.specs.Inside.{Leaves, Handles, Works, Follows, Answers, TakePlaces, refusal, store_of};
 
 use super::Machine;
 use crate::received::Received;
+use crate::tasks::{Task, tag_of};
 use iscsi_login::{Phase, Session};
-use iscsi_pdu::rule::{KIND_NOT_DUE, SEGMENT_TOO_LONG, TOO_MANY_IMMEDIATE};
+use iscsi_pdu::rule::{
+    COMMAND_OUT_OF_TURN, DATA_OUT_OF_ORDER, KIND_NOT_DUE, SEGMENT_TOO_LONG, TOO_MANY_IMMEDIATE,
+};
 use iscsi_pdu::{Head, Serial};
 use scsi_disk::BlockStore;
 use std::alloc::AllocError;
 
 impl Machine {
-    /// Answers a PDU. Says which rule it broke, if it broke one. Where memory runs out it has
-    /// written nothing and changed no block, and the session is to be closed.
+    /// Answers a PDU. Says which rule it broke, if it broke one. Where memory runs out, the tasks
+    /// before the one at which it did were handled, that one wrote nothing and changed no block,
+    /// and the session is to be closed.
     pub fn answer_pdu<S: BlockStore>(
         &mut self,
         received: &Received<'_>,
@@ -27,7 +33,7 @@ impl Machine {
     ) -> Result<Option<u8>, AllocError>
         requires within { is_over_limit self.old received.now.segment ≡ false }
         requires live { is_closed self.old ≡ false }
-        ensures { Handles (λ device. step_on device self.old (S.disk store.old) received.now)
+        ensures { Answers received.now
             result self.old (store_of (S.disk store.old) (S.failures store.old)) out.old.items
             self.new (store_of (S.disk store.new) (S.failures store.new)) out.new.items }
     {
@@ -44,7 +50,7 @@ impl Machine {
         received: &Received<'_>,
         out: &mut Vec<u8>,
     ) -> Result<Option<u8>, AllocError>
-        ensures { (disk : Disk) → Leaves (on disk self.old.write
+        ensures { (disk : Disk) → Leaves (on disk self.old.tasks
             (login_step self.old.session received.now)) result
             self.old self.new out.old.items out.new.items }
     {
@@ -60,7 +66,7 @@ impl Machine {
         store: &mut S,
         out: &mut Vec<u8>,
     ) -> Result<Option<u8>, AllocError>
-        ensures { Handles (λ device. full_step device self.old (S.disk store.old) received.now)
+        ensures { Follows (full_met self.old (S.disk store.old).count received.now).next
             result self.old (store_of (S.disk store.old) (S.failures store.old)) out.old.items
             self.new (store_of (S.disk store.new) (S.failures store.new)) out.new.items }
     {
@@ -103,9 +109,7 @@ impl Machine {
         store: &mut S,
         out: &mut Vec<u8>,
     ) -> Result<Option<u8>, AllocError>
-        requires due { is_due_kind self.old.session.session_type received.now.head ≡ true }
-        ensures { Handles (λ device. due_step device self.old (S.disk store.old)
-            received.now received.now.head)
+        ensures { Follows (due_met self.old (S.disk store.old).count received.now received.now.head).next
             result self.old (store_of (S.disk store.old) (S.failures store.old)) out.old.items
             self.new (store_of (S.disk store.new) (S.failures store.new)) out.new.items }
     {
@@ -141,21 +145,24 @@ impl Machine {
         }
     }
 
-    // An immediate request, for which there is no room while a write is open.
+    // An immediate request, for which there is no room while there is a task.
     fn serve_at_once<S: BlockStore>(
         &mut self,
         received: &Received<'_>,
         store: &mut S,
         out: &mut Vec<u8>,
     ) -> Result<Option<u8>, AllocError>
-        ensures { Handles (λ device. immediate device self.old (S.disk store.old) received.now)
+        ensures { Follows (immediate self.old (S.disk store.old).count received.now).next
             result self.old (store_of (S.disk store.old) (S.failures store.old)) out.old.items
             self.new (store_of (S.disk store.new) (S.failures store.new)) out.new.items }
     {
-        if self.has_write() {
+        if self.tasks.len() > 0 {
             return self.reject(TOO_MANY_IMMEDIATE, received, out);
         }
-        self.handle(received, store, out)
+        match self.refusal(received) {
+            Some(rule) => self.breach(rule, received, out),
+            None => self.admit(received, store, out),
+        }
     }
 
     // A request with its place in the order of commands; outside the window it is dropped.
@@ -166,17 +173,24 @@ impl Machine {
         store: &mut S,
         out: &mut Vec<u8>,
     ) -> Result<Option<u8>, AllocError>
-        ensures { Handles (λ device. in_turn device self.old (S.disk store.old) received.now cmd_sn)
+        requires number { cmd_sn_of received.now.head ≡ Some cmd_sn }
+        ensures { Follows (in_turn self.old (S.disk store.old).count received.now cmd_sn).next
             result self.old (store_of (S.disk store.old) (S.failures store.old)) out.old.items
             self.new (store_of (S.disk store.new) (S.failures store.new)) out.new.items }
     {
         if !self.is_within(cmd_sn) {
             return Ok(None);
         }
-        let before = self.advance();
-        let result = self.handle(received, store, out);
+        if cmd_sn != self.numbers().exp_cmd_sn {
+            return self.breach(COMMAND_OUT_OF_TURN, received, out);
+        }
+        self.advance();
+        let Some(rule) = self.refusal(received) else {
+            return self.admit(received, store, out);
+        };
+        let result = self.breach(rule, received, out);
         if result.is_err() {
-            self.session.expect(before);
+            self.session.expect(cmd_sn);
         }
         result
     }
@@ -186,13 +200,6 @@ impl Machine {
         ensures { result ≡ nat_lt self.now.session.held.target_max_recv len }
     {
         len > self.session.held().target_max_recv as usize
-    }
-
-    // Whether a write is open.
-    fn has_write(&self) -> bool
-        ensures { result ≡ has_write self.now.write }
-    {
-        self.write.is_some()
     }
 
     // Whether a CmdSN is within the window.
@@ -205,23 +212,120 @@ impl Machine {
         Serial(cmd_sn).within(Serial(numbers.exp_cmd_sn), Serial(numbers.max_cmd_sn))
     }
 
-    // Takes the CmdSN that is due, and gives it.
-    fn advance(&mut self) -> u32
-        ensures value { result ≡ self.old.session.exp_cmd_sn }
-        ensures advanced { self.new ≡ advanced self.old }
+    // Takes the CmdSN that is due.
+    fn advance(&mut self)
+        ensures { self.new ≡ advanced self.old }
     {
-        let before = self.numbers().exp_cmd_sn;
-        self.session.expect(before.wrapping_add(1));
-        before
+        let due = self.numbers().exp_cmd_sn;
+        self.session.expect(due.wrapping_add(1));
     }
 
-    // A request that is accepted.
+    // The rule that a request breaks as it is accepted, if it breaks one.
+    fn refusal(&self, received: &Received<'_>) -> Option<u8>
+        ensures { result ≡ refusal self.now received.now }
+    {
+        let head = &received.pdu.head;
+        if self.has_tag(head) {
+            return Some(KIND_NOT_DUE);
+        }
+        if self.breaks_rules(head, received.pdu.bytes.len()) {
+            return Some(DATA_OUT_OF_ORDER);
+        }
+        None
+    }
+
+    // A request that was accepted: it becomes the last task, and is handled where it lies if it is
+    // the first.
+    fn admit<S: BlockStore>(
+        &mut self,
+        received: &Received<'_>,
+        store: &mut S,
+        out: &mut Vec<u8>,
+    ) -> Result<Option<u8>, AllocError>
+        requires room { waiting self.old.tasks ≤ 7 }
+        requires turn { self.old.tasks ≡ [] ⊎ (cmd_sn_of received.now.head ≢ None) }
+        requires kept { refusal self.old received.now ≡ None }
+        ensures { Works self.old.session
+            (self.old.tasks ++ task_of (S.disk store.old).count received.now ∷ [])
+            result (store_of (S.disk store.old) (S.failures store.old)) out.old.items
+            self.new (store_of (S.disk store.new) (S.failures store.new)) out.new.items }
+    {
+        if self.tasks.len() == 0 {
+            return self.handle(received, store, out);
+        }
+        let task = self.task(received, store.blocks(), out)?;
+        self.tasks.push(task);
+        self.work_off(store, out)
+    }
+
+    // Whether a task has the tag of this request.
+    fn has_tag(&self, head: &Head) -> bool
+        ensures { result ≡ is_tag_of self.now.tasks (tag_of head.now) }
+    {
+        match tag_of(head) {
+            Some(tag) => self.tasks.has_tag(tag),
+            None => false,
+        }
+    }
+
+    // Whether a request with so many bytes breaks the rules of the first burst.
+    fn breaks_rules(&self, head: &Head, len: usize) -> bool
+        ensures { result ≡ breaks_rules self.now.session.held len head.now }
+    {
+        match head {
+            Head::ScsiCommand(command) => self.breaks_burst_rules(command, len),
+            _ => false,
+        }
+    }
+
+    // Tasks in their turn, up to a write whose data are not all there, or to the end of the session.
+    pub(super) fn work_off<S: BlockStore>(
+        &mut self,
+        store: &mut S,
+        out: &mut Vec<u8>,
+    ) -> Result<Option<u8>, AllocError>
+        ensures { Works self.old.session self.old.tasks
+            result (store_of (S.disk store.old) (S.failures store.old)) out.old.items
+            self.new (store_of (S.disk store.new) (S.failures store.new)) out.new.items }
+    {
+        while let Some(task) = self.tasks.take_first() {
+            let behind = self.tasks.len();
+            let broken = self.begin(task, store, out)?;
+            if self.is_closed() || self.tasks.len() > behind {
+                return Ok(broken);
+            }
+        }
+        Ok(None)
+    }
+
+    // The first task, which was taken from before the others.
+    fn begin<S: BlockStore>(
+        &mut self,
+        task: Task,
+        store: &mut S,
+        out: &mut Vec<u8>,
+    ) -> Result<Option<u8>, AllocError>
+        requires places { TakePlaces self.old.tasks }
+        requires room { length self.old.tasks < 9 }
+        ensures { Handles (λ device. begun device self.old (S.disk store.old) task)
+            result self.old (store_of (S.disk store.old) (S.failures store.old)) out.old.items
+            self.new (store_of (S.disk store.new) (S.failures store.new)) out.new.items }
+    {
+        match task {
+            Task::Request(kept) => self.handle(&kept.received(), store, out),
+            Task::Data(write) => self.proceed(write, store, out),
+        }
+    }
+
+    // A request that is the first task.
     fn handle<S: BlockStore>(
         &mut self,
         received: &Received<'_>,
         store: &mut S,
         out: &mut Vec<u8>,
     ) -> Result<Option<u8>, AllocError>
+        requires places { TakePlaces self.old.tasks }
+        requires room { length self.old.tasks < 9 }
         ensures { Handles (λ device. handled device self.old (S.disk store.old)
             received.now received.now.head)
             result self.old (store_of (S.disk store.old) (S.failures store.old)) out.old.items
@@ -260,8 +364,8 @@ impl Machine {
         received: &Received<'_>,
         out: &mut Vec<u8>,
     ) -> Result<Option<u8>, AllocError>
-        ensures { (disk : Disk) → Leaves (on disk self.old.write
-            (request_answered self.old.session (waiting self.old.write) received.now
+        ensures { (disk : Disk) → Leaves (on disk self.old.tasks
+            (request_answered self.old.session (waiting self.old.tasks) received.now
             received.now.head)) result
             self.old self.new out.old.items out.new.items }
     {

@@ -1,4 +1,6 @@
-use Rattle.std.proofs.Common.{List, ℕ, drop, refl, subst}
+use Rattle.std.proofs.Common.{List, ℕ, drop, refl, sym, ap, ◌∙◌, subst}
+use Rattle.iscsi_stream.specs.Framing.{Framing}
+use Rattle.iscsi_target.specs.Session.{limit}
 use Rattle.iscsi_target.specs.State.{Machine}
 use Rattle.iscsi_target.specs.Feed.{Connection, Store}
 use Rattle.iscsi_target.specs.Inside.{connection, store_of, AnswersReady}
@@ -40,3 +42,8 @@ returns-clause-unready g c =
     let fed = fed_one old before out piece piece (drop c.in_ok-taken.taken piece) old before out c.in_ok-taken.taken c.in_ok-broken.broken new after c.answer_ready.new.out.items
     (fed_none old before out piece c.requires.unready c.requires.live) (returns-clause-ok g c) refl in
     fed.fed.answered.ready
+
+pub returns-in_err-broken-clause-limit : goal.returns-in_err-broken-clause-limit
+returns-in_err-broken-clause-limit g c =
+    c.in_err-broken.ensures.err.limit ∙ ap (λ (v : Framing). v.limit) c.in_ok-taken.ensures.ok.gathered ∙ c.requires.limit
+    ∙ ap limit (sym (c.in_err-broken.ensures.err.settings ∙ ap (λ (m : Machine). m.session.settings) c.in_ok-taken.ensures.kept))

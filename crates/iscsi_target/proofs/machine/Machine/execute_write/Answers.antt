@@ -1,7 +1,8 @@
 use Rattle.std.proofs.Common.{◌≡◌, ℕ, List, [], refl, sym, subst, ◌∙◌, rules}
 use Rattle.std.specs.Prelude.{None}
 use Rattle.scsi_disk.specs.Effect.{Effect, Executes}
-use Rattle.iscsi_target.specs.State.{Write}
+use Rattle.iscsi_target.specs.Write.{Write}
+use Rattle.iscsi_target.specs.State.{waiting}
 use Rattle.iscsi_target.specs.Execution.{Device, execute}
 use Rattle.iscsi_target.specs.Transfer.{with_piece}
 use Rattle.iscsi_target.specs.Inside.{Serves}
@@ -23,7 +24,7 @@ returns g c = record {
       (subst (λ (bytes : List ℕ). Executes (g.S.BlockStore.failures c.args.store.now) fa (g.S.BlockStore.disk c.args.store.now) w.order bytes e) (c.deref.ensures.value ∙ sym (data_of_one w.data.items)) c.in_ok-outcome.ensures.ok)
       c.count.ensures refl
       (told_write c.args.self.now w.initiator_task_tag c.in_ok-outcome.outcome c.response_head-head.result c.args.out.now.items c.reserve.new.self.items c.append_response.new.out.items none
-      (c.response_head-head.ensures.head c.args.self.now (sym c.numbers.ensures.stat_sn) (sym c.numbers.ensures.exp_cmd_sn) (sym c.numbers.ensures.max_cmd_sn))
+      (c.response_head-head.ensures.head c.args.self.now.session (waiting c.args.self.now.tasks) (sym c.numbers.ensures.stat_sn) (sym c.numbers.ensures.exp_cmd_sn) (sym c.numbers.ensures.max_cmd_sn))
       c.in_ok-reserve.ensures.items c.in-Ok.ensures.ok));
   err = search rules;
 }

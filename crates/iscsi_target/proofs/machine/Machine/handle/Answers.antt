@@ -17,5 +17,5 @@ returns-in-ScsiCommand g c = record {
 pub returns-in-NopOut : goal.returns-in-NopOut
 returns-in-NopOut g c =
     let other : is_command c.received.inside.pdu.head ≡ false = search rules in
-    leaves_handles c.answer_request.result (g.S.BlockStore.failures c.args.store.now) (on (g.S.BlockStore.disk c.args.store.now) c.args.self.now.write (request_answered c.args.self.now.session (waiting c.args.self.now.write) c.args.received.now c.args.received.now.head)) (λ (d : Device). handled d c.args.self.now (g.S.BlockStore.disk c.args.store.now) c.args.received.now c.args.received.now.head) (g.S.BlockStore.disk c.args.store.now) c.args.self.now c.answer_request.new.self c.args.out.now.items c.answer_request.new.out.items
+    leaves_handles c.answer_request.result (g.S.BlockStore.failures c.args.store.now) (on (g.S.BlockStore.disk c.args.store.now) c.args.self.now.tasks (request_answered c.args.self.now.session (waiting c.args.self.now.tasks) c.args.received.now c.args.received.now.head)) (λ (d : Device). handled d c.args.self.now (g.S.BlockStore.disk c.args.store.now) c.args.received.now c.args.received.now.head) (g.S.BlockStore.disk c.args.store.now) c.args.self.now c.answer_request.new.self c.args.out.now.items c.answer_request.new.out.items
     (λ (d : Device). handles_other d c.args.self.now (g.S.BlockStore.disk c.args.store.now) c.received.inside.continued c.received.inside.pdu.head c.received.inside.pdu.bytes.now c.args.received.now c.received.view_is other) refl refl (c.answer_request.ensures (g.S.BlockStore.disk c.args.store.now))

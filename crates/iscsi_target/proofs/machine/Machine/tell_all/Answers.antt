@@ -1,4 +1,5 @@
 use Rattle.std.proofs.Common.{sym}
+use Rattle.iscsi_target.specs.State.{waiting}
 use Rattle.iscsi_target.proofs.Commanding.{told_order, on_ok}
 use Rattle.iscsi_target.proofs.machine.Machine.tell_all.Goals as goal
 
@@ -6,4 +7,4 @@ pub returns-clause-ok : goal.returns-clause-ok
 returns-clause-ok c =
     on_ok c.append_response.result (told_order c.args.self.now c.args.tag c.args.outcome.now c.as_slice.result.now c.in_ok-count.count c.response_head-head.result c.args.out.now.items c.give.new.out.items c.append_response.new.out.items
     c.as_slice.ensures c.in_ok-count.ensures.ok.0 c.in_ok-count.ensures.ok.1
-    (c.response_head-head.ensures.head c.args.self.now (sym c.numbers.ensures.stat_sn) (sym c.numbers.ensures.exp_cmd_sn) (sym c.numbers.ensures.max_cmd_sn))) c.append_response.ensures.ok
+    (c.response_head-head.ensures.head c.args.self.now.session (waiting c.args.self.now.tasks) (sym c.numbers.ensures.stat_sn) (sym c.numbers.ensures.exp_cmd_sn) (sym c.numbers.ensures.max_cmd_sn))) c.append_response.ensures.ok

@@ -1,5 +1,5 @@
 use Rattle.std.proofs.Common.{length, ap, ◌∙◌, arith}
-use Rattle.iscsi_target.specs.State.{Write}
+use Rattle.iscsi_target.specs.Write.{Write}
 use Rattle.iscsi_target.specs.Transfer.{is_idle, received}
 use Rattle.iscsi_target.proofs.OpenWrites.{data_of_one}
 use Rattle.iscsi_target.proofs.Commanding.{asked_idle}

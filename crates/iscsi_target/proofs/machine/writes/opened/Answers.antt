@@ -2,8 +2,8 @@ use Rattle.std.proofs.Common.{◌≤◌, length, arith, rules}
 use Rattle.scsi_disk.specs.Plan.{first_refusal}
 use Rattle.iscsi_target.specs.Command.{order_of}
 use Rattle.iscsi_target.proofs.Orders.{takes_is, staged_at}
-use Rattle.iscsi_target.proofs.machine.command.opened.Goals.{then-command, else-command}
-use Rattle.iscsi_target.proofs.machine.command.opened.Goals as goal
+use Rattle.iscsi_target.proofs.machine.writes.opened.Goals.{then-command, else-command}
+use Rattle.iscsi_target.proofs.machine.writes.opened.Goals as goal
 
 pub invariant_of-result : goal.invariant_of-result
 invariant_of-result c =

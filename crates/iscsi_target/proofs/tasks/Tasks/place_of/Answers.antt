@@ -1,0 +1,22 @@
+use Rattle.std.proofs.Common.{◌≡◌, ◌<◌, ℕ, List, Bool, true, length, sym, ap, subst, ◌∙◌, arith, rules}
+use Rattle.std.specs.Prelude.{slice_index_or, None}
+use Rattle.iscsi_target.specs.declared.tasks.Task.{Task}
+use Rattle.iscsi_target.specs.Machine.{is_write_with, write_of}
+use Rattle.iscsi_target.specs.Inside.{IsWriteAt}
+use Rattle.iscsi_target.proofs.Places.{NoneBefore, write_at, write_none}
+use Rattle.iscsi_target.proofs.tasks.Tasks.place_of.Goals as goal
+
+pub returns-then-is_write-clause-some : goal.returns-then-is_write-clause-some
+returns-then-is_write-clause-some c =
+    let items : List Task = c.self.inside.list.items in
+    let within : c.loop-place.place < length items = search rules in
+    subst (λ (ts : List Task). IsWriteAt c.args.tag ts c.loop-place.place) c.self.view_is
+    (write_at c.args.tag items c.loop-place.place c.index-as_slice-place.result within c.loop-place.invariant.1
+    (let here : is_write_with c.args.tag (slice_index_or items c.loop-place.place c.index-as_slice-place.result) ≡ true = search rules in here))
+
+pub returns-clause-none : goal.returns-clause-none
+returns-clause-none c =
+    let items : List Task = c.self.inside.list.items in
+    let all : c.loop-place.place ≡ length items = search rules in
+    subst (λ (ts : List Task). write_of ts c.args.tag ≡ None) c.self.view_is
+    (write_none c.args.tag items (subst (NoneBefore c.args.tag items) all c.loop-place.invariant.1))

@@ -1,0 +1,221 @@
+//! Writes, and the data that they take (RFC 7143, sections 11.3, 11.7 and 11.8).
+
+ghost use Rattle.std.specs.Prelude.{◌≡◌, ◌<◌, ◌≤◌, ◌^◌, ℕ, length, IfOk, true, false};
+ghost use Rattle.scsi_disk.specs.Disk.{Disk};
+ghost use Rattle.scsi_disk.specs.Plan.{plan_of};
+ghost use Rattle.iscsi_pdu.specs.Meaning.{Fits};
+ghost use Rattle.iscsi_stream.specs.Segment.{segment_bytes};
+ghost use Rattle.iscsi_target.specs.State.{waiting};
+ghost use Rattle.iscsi_target.specs.Execution.{execute};
+ghost use Rattle.iscsi_target.specs.Transfer.{is_whole, is_idle, desired};
+ghost use Rattle.iscsi_target.specs.Command.{order_of, r2t_head, led_by, ask, proceed, opened, breaks_rules, task_of};
+ghost use Rattle.iscsi_target.specs.Machine.{data_out};
+ghost use Rattle.iscsi_target.specs.Inside.{Leaves, Handles, Follows, TakePlaces, store_of};
+
+use super::Machine;
+use super::command::order_of;
+use crate::due::Due;
+use crate::kept::Kept;
+use crate::open_write::OpenWrite;
+use crate::received::Received;
+use crate::response::response_head;
+use crate::tasks::Task;
+use crate::writing::append_response;
+use iscsi_pdu::rule::DATA_OUT_OF_ORDER;
+use iscsi_pdu::{DataOut, Head, ReadyToTransfer, ScsiCommand};
+use iscsi_stream::write_pdu;
+use scsi_disk::{BlockStore, Plan, execute, plan};
+use std::alloc::{AllocError, Global};
+
+/// The most that a response takes: a header, the sense data behind their length, padding.
+const RESPONSE_LEN: usize = 71;
+
+impl Machine {
+    // Opens a write of so many bytes, with its immediate data.
+    pub(super) fn open<S: BlockStore>(
+        &mut self,
+        command: &ScsiCommand,
+        total: u32,
+        bytes: &[u8],
+        store: &mut S,
+        out: &mut Vec<u8>,
+    ) -> Result<Option<u8>, AllocError>
+        requires plan { plan_of (order_of command.now) (S.disk store.old).count ≡ Plan.Take total }
+        requires fits { length bytes.now ≤ total }
+        requires places { TakePlaces self.old.tasks }
+        requires room { length self.old.tasks < 9 }
+        ensures { Handles (λ device. proceed device self.old (S.disk store.old)
+            (opened command.now total bytes.now))
+            result self.old (store_of (S.disk store.old) (S.failures store.old)) out.old.items
+            self.new (store_of (S.disk store.new) (S.failures store.new)) out.new.items }
+    {
+        let write = opened(*out.allocator(), command, total, bytes)?;
+        self.proceed(write, store, out)
+    }
+
+    // A write that is the first task, before the others: it is executed when all its bytes are
+    // there, else an R2T goes out where no sequence is due.
+    pub(super) fn proceed<S: BlockStore>(
+        &mut self,
+        write: OpenWrite,
+        store: &mut S,
+        out: &mut Vec<u8>,
+    ) -> Result<Option<u8>, AllocError>
+        requires places { TakePlaces self.old.tasks }
+        requires room { length self.old.tasks < 9 }
+        ensures { Handles (λ device. proceed device self.old (S.disk store.old) write)
+            result self.old (store_of (S.disk store.old) (S.failures store.old)) out.old.items
+            self.new (store_of (S.disk store.new) (S.failures store.new)) out.new.items }
+    {
+        if write.is_whole() {
+            return self.execute_write(&write, store, out);
+        }
+        if write.is_idle() {
+            return self.ask(write, out);
+        }
+        self.tasks.push_first(write);
+        Ok(None)
+    }
+
+    // Executes a write whose bytes are all there, and its response goes out. The room for the
+    // response is there before a block changes, so that want of memory changes none.
+    fn execute_write<S: BlockStore>(
+        &mut self,
+        write: &OpenWrite,
+        store: &mut S,
+        out: &mut Vec<u8>,
+    ) -> Result<Option<u8>, AllocError>
+        requires { is_whole write.now ≡ true }
+        ensures { Handles (λ device. execute device self.old (S.disk store.old)
+            write.now.initiator_task_tag write.now.order write.now.pieces)
+            result self.old (store_of (S.disk store.old) (S.failures store.old)) out.old.items
+            self.new (store_of (S.disk store.new) (S.failures store.new)) out.new.items }
+    {
+        out.reserve(RESPONSE_LEN)?;
+        let outcome = execute(*out.allocator(), &write.order, &write.data, store)?;
+        let head = response_head(self.numbers(), write.initiator_task_tag, &outcome, 0);
+        let Ok(()) = append_response(&head, outcome.sense, out) else {
+            unreachable!()
+        };
+        self.count();
+        Ok(None)
+    }
+
+    // An R2T goes out for the next bytes of a write (RFC 7143, section 11.8).
+    fn ask(&mut self, write: OpenWrite, out: &mut Vec<u8>) -> Result<Option<u8>, AllocError>
+        requires whole { is_whole write ≡ false }
+        requires idle { is_idle write.due ≡ true }
+        requires places { TakePlaces self.old.tasks }
+        requires room { length self.old.tasks < 9 }
+        ensures { (disk : Disk) → Leaves (ask self.old disk write)
+            result self.old self.new out.old.items out.new.items }
+    {
+        let mut write = write;
+        let desired = write.desired(self.max_burst());
+        let head = self.r2t_head(&write, desired);
+        write_pdu(&head, &[], out)?;
+        let _received = write.received();
+        write.ask(desired);
+        self.tasks.push_first(write);
+        Ok(None)
+    }
+
+    // The head of the R2T that goes out next for a write, for so many bytes.
+    fn r2t_head(&self, write: &OpenWrite, len: u32) -> Head
+        requires { len ≡ desired self.now.session.held write.now }
+        ensures head { result ≡ r2t_head self.now.session (waiting (led_by write.now self.now).tasks) write.now }
+        ensures fits { Fits result }
+    {
+        let numbers = self
+            .session
+            .numbers(self.waiting() + u32::from(!write.immediate));
+        Head::ReadyToTransfer(ReadyToTransfer {
+            lun: write.order.lun,
+            initiator_task_tag: write.initiator_task_tag,
+            target_transfer_tag: write.asked,
+            stat_sn: numbers.stat_sn,
+            exp_cmd_sn: numbers.exp_cmd_sn,
+            max_cmd_sn: numbers.max_cmd_sn,
+            r2t_sn: write.asked,
+            buffer_offset: write.received(),
+            desired_data_transfer_length: len,
+        })
+    }
+
+    // A Data-Out, which the write with its tag takes; without one it is dropped. Then tasks are done
+    // in their turn. Answers the rule that is broken, if one is.
+    pub(super) fn data_out<S: BlockStore>(
+        &mut self,
+        head: &DataOut,
+        bytes: &[u8],
+        received: &Received<'_>,
+        store: &mut S,
+        out: &mut Vec<u8>,
+    ) -> Result<Option<u8>, AllocError>
+        requires { length bytes.now < 2 ^ 24 }
+        ensures { Follows (data_out self.old received.now head.now bytes.now)
+            result self.old (store_of (S.disk store.old) (S.failures store.old)) out.old.items
+            self.new (store_of (S.disk store.new) (S.failures store.new)) out.new.items }
+    {
+        let Some((place, write)) = self.tasks.take_write(head.initiator_task_tag) else {
+            return Ok(None);
+        };
+        let mut write = write;
+        let is_due = write.take(self.first_burst(), head, bytes)?;
+        self.tasks.put_write(place, write);
+        if !is_due {
+            return self.breach(DATA_OUT_OF_ORDER, received, out);
+        }
+        self.work_off(store, out)
+    }
+
+    // The task of a request that has to wait, on a disk of so many blocks.
+    pub(super) fn task(
+        &self,
+        received: &Received<'_>,
+        blocks: u64,
+        out: &Vec<u8>,
+    ) -> Result<Task, AllocError>
+        requires keeps { breaks_rules self.now.session.held (length (segment_bytes received.now.segment))
+            received.now.head ≡ false }
+        ensures { IfOk result (λ task. task ≡ task_of blocks received.now) }
+    {
+        let alloc = *out.allocator();
+        if let Head::ScsiCommand(command) = &received.pdu.head {
+            if let Plan::Take(total) = plan(&order_of(command), blocks) {
+                let write = opened(alloc, command, total, received.pdu.bytes)?;
+                return Ok(Task::Data(write));
+            }
+        }
+        Ok(Task::Request(Kept::copy(alloc, received)?))
+    }
+}
+
+// The write of so many bytes that a command opens with its immediate data, and the room for all of
+// them.
+fn opened(
+    alloc: Global,
+    command: &ScsiCommand,
+    total: u32,
+    bytes: &[u8],
+) -> Result<OpenWrite, AllocError>
+    requires plan { (count : ℕ) × (plan_of (order_of command.now) count ≡ Plan.Take total) }
+    requires fits { length bytes.now ≤ total }
+    ensures { IfOk result (λ write. write ≡ opened command.now total bytes.now) }
+{
+    let mut data = Vec::with_capacity(alloc, total as usize)?;
+    data.extend_from_slice(bytes)?;
+    Ok(OpenWrite {
+        initiator_task_tag: command.initiator_task_tag,
+        immediate: command.immediate,
+        order: order_of(command),
+        total,
+        data,
+        due: if command.is_final {
+            Due::Nothing
+        } else {
+            Due::Unsolicited { data_sn: 0 }
+        },
+        asked: 0,
+    })
+}

@@ -1,0 +1,238 @@
+//! The tasks of a session, in the order in which they are handled (RFC 7143, section 4.2.2.1).
+
+ghost use Rattle.std.specs.Prelude.{◌≡◌, ◌⊎◌, ◌<◌, ◌≤◌, ◌++◌, ◌∷◌, None, Some, [], true, length, insert, IfNone, IfSome, OnSome};
+ghost use Rattle.iscsi_target.specs.Write.{Write};
+ghost use Rattle.iscsi_target.specs.State.{takes_place, waiting};
+ghost use Rattle.iscsi_target.specs.Transfer.{joined_write};
+ghost use Rattle.iscsi_target.specs.State.{joined_task};
+ghost use Rattle.iscsi_target.specs.Machine.{is_tag_of, tag_of, is_write_with, write_of, with_write, task_tag, is_same_tag};
+ghost use Rattle.iscsi_target.specs.declared.tasks.Task.TheVariants.{Data};
+ghost use Rattle.iscsi_target.specs.Inside.{AreInPlace, TakePlaces, IsWriteAt};
+
+use crate::kept::Kept;
+use crate::open_write::OpenWrite;
+use arrayvec::ArrayVec;
+use iscsi_pdu::{Head, RESERVED_TAG};
+use std::alloc::Global;
+use std::default::MadeWith;
+use std::marker::Model;
+
+/// A request that was accepted and is not handled.
+#[derive(Drop)]
+pub enum Task {
+    /// A request whose data, if it has any, came with it.
+    Request(Kept),
+    /// A write, which takes its data as they come.
+    Data(OpenWrite),
+}
+
+impl Task {
+    // Whether it takes a place of the window.
+    fn takes_place(&self) -> bool
+        ensures { result ≡ takes_place self.now }
+    {
+        match self {
+            Task::Request(_) => true,
+            Task::Data(write) => !write.immediate,
+        }
+    }
+
+    // Whether it has this tag.
+    fn has_tag(&self, tag: u32) -> bool
+        ensures { result ≡ is_same_tag (task_tag self.now) (Some tag) }
+    {
+        match self {
+            Task::Request(kept) => tag_of(kept.head()) == Some(tag),
+            Task::Data(write) => write.initiator_task_tag == tag,
+        }
+    }
+
+    // Whether it is a write with this tag.
+    fn is_write(&self, tag: u32) -> bool
+        ensures { result ≡ is_write_with tag self.now }
+    {
+        match self {
+            Task::Request(_) => false,
+            Task::Data(write) => write.initiator_task_tag == tag,
+        }
+    }
+}
+
+impl MadeWith<Global> for Task {
+    fn made_with(alloc: Global) -> Task {
+        Task::Request(Kept::blank(alloc))
+    }
+}
+
+/// The tag of a request; a ping may have none (RFC 7143, sections 11.2.1.8 and 11.18).
+pub fn tag_of(head: &Head) -> Option<u32>
+    ensures { result ≡ tag_of head.now }
+{
+    match head {
+        Head::NopOut(head) if head.initiator_task_tag == RESERVED_TAG => None,
+        Head::NopOut(head) => Some(head.initiator_task_tag),
+        Head::ScsiCommand(head) => Some(head.initiator_task_tag),
+        Head::TaskRequest(head) => Some(head.initiator_task_tag),
+        Head::TextRequest(head) => Some(head.initiator_task_tag),
+        Head::LogoutRequest(head) => Some(head.initiator_task_tag),
+        Head::LoginRequest(_)
+        | Head::DataOut(_)
+        | Head::NopIn(_)
+        | Head::ScsiResponse(_)
+        | Head::TaskResponse(_)
+        | Head::LoginResponse(_)
+        | Head::TextResponse(_)
+        | Head::DataIn(_)
+        | Head::LogoutResponse(_)
+        | Head::ReadyToTransfer(_)
+        | Head::AsyncMessage(_)
+        | Head::Reject(_) => None,
+    }
+}
+
+/// The tasks: at most eight that take a place of the window, and an immediate one, which can only be
+/// the first. Its contracts see the list.
+#[derive(Drop)]
+pub struct Tasks {
+    list: ArrayVec<Task, 9, Global>,
+}
+
+impl Model for Tasks {
+    ghost use Rattle.std.specs.Prelude.{List};
+    ghost use Rattle.iscsi_target.specs.declared.tasks.Task.{Task};
+    ghost use Rattle.iscsi_target.specs.Inside.{AreInPlace};
+
+    ghost Value = { List Task };
+
+    ghost view = { λ t. t.list.items };
+
+    ghost invariant = { λ t. AreInPlace t.list.items };
+}
+
+impl Tasks {
+    /// None. It takes no memory.
+    pub fn new(alloc: Global) -> Tasks
+        ensures { result ≡ [] }
+    {
+        Tasks {
+            list: ArrayVec::new_in(alloc),
+        }
+    }
+
+    /// How many there are.
+    pub fn len(&self) -> usize
+        ensures value { result ≡ length self.now }
+        ensures most { result ≤ 9 }
+        ensures in_place { AreInPlace self.now }
+    {
+        self.list.len()
+    }
+
+    /// How many take a place of the window.
+    pub fn waiting(&self) -> u32
+        ensures value { result ≡ waiting self.now }
+        ensures most { result ≤ 9 }
+    {
+        let waiting = self
+            .list
+            .as_slice()
+            .iter()
+            .filter(|task| task.takes_place());
+        waiting.count() as u32
+    }
+
+    /// Whether one has this tag.
+    pub fn has_tag(&self, tag: u32) -> bool
+        ensures { result ≡ is_tag_of self.now (Some tag) }
+    {
+        self.list.as_slice().iter().any(|task| task.has_tag(tag))
+    }
+}
+
+impl Tasks {
+    /// Takes the write with this tag out, if there is one, and says where it stood.
+    pub fn take_write(&mut self, tag: u32) -> Option<(usize, OpenWrite)>
+        ensures none { IfNone result (write_of self.old tag ≡ None) }
+        ensures kept { IfNone result (self.new ≡ self.old) }
+        ensures some { IfSome result (λ x. write_of self.old tag ≡ Some x.1) }
+        ensures place { IfSome result (λ x. x.0 ≤ length self.new) }
+        ensures room { OnSome result (length self.new < 9) }
+        ensures back { IfSome result (λ x. (v : Write) → v.initiator_task_tag ≡ tag
+            → insert self.new x.0 (Data v) ≡ with_write v self.old) }
+        ensures in_place { IfSome result (λ x. (v : Write) → v.immediate ≡ x.1.immediate
+            → joined_write v ≡ v → AreInPlace (insert self.new x.0 (Data v))) }
+    {
+        // (that there are nine at most)
+        let _len = self.list.len();
+        let place = self.place_of(tag)?;
+        match self.list.remove(place) {
+            Task::Data(write) => Some((place, write)),
+            Task::Request(_) => unreachable!(),
+        }
+    }
+
+    // Where the write with this tag stands, if there is one.
+    fn place_of(&self, tag: u32) -> Option<usize>
+        ensures none { IfNone result (write_of self.now tag ≡ None) }
+        ensures some { IfSome result (IsWriteAt tag self.now) }
+    {
+        let mut place = 0;
+        while place < self.list.len() {
+            if self.list.as_slice()[place].is_write(tag) {
+                return Some(place);
+            }
+            place += 1;
+        }
+        None
+    }
+
+    /// Puts a write where it stood.
+    pub fn put_write(&mut self, place: usize, write: OpenWrite)
+        requires place { place ≤ length self.old }
+        requires room { length self.old < 9 }
+        requires in_place { AreInPlace (insert self.old place (Data write)) }
+        ensures { self.new ≡ insert self.old place (Data write) }
+    {
+        self.list.insert(place, Task::Data(write));
+    }
+
+    /// The first task, which is one no more.
+    pub fn take_first(&mut self) -> Option<Task>
+        ensures none { IfNone result (self.old ≡ []) }
+        ensures kept { IfNone result (self.new ≡ self.old) }
+        ensures some { IfSome result (λ task. self.old ≡ task ∷ self.new) }
+        ensures places { OnSome result (TakePlaces self.new) }
+        ensures room { OnSome result (length self.new < 9) }
+    {
+        if self.list.len() == 0 {
+            return None;
+        }
+        Some(self.list.remove(0))
+    }
+
+    /// A write before the others, which each take a place of the window.
+    pub fn push_first(&mut self, write: OpenWrite)
+        requires places { TakePlaces self.old }
+        requires room { length self.old < 9 }
+        ensures { self.new ≡ Data write ∷ self.old }
+    {
+        self.list.insert(0, Task::Data(write));
+    }
+
+    /// A task behind the others, which takes a place of the window where there are others.
+    pub fn push(&mut self, task: Task)
+        requires place { self.old ≡ [] ⊎ (takes_place task ≡ true) }
+        requires joined { joined_task task ≡ task }
+        requires room { length self.old < 9 }
+        ensures { self.new ≡ self.old ++ task ∷ [] }
+    {
+        self.list.push(task);
+    }
+
+    /// Leaves none.
+    pub fn clear(&mut self)
+        ensures { self.new ≡ [] }
+    {
+        self.list.clear();
+    }
+}
