@@ -12,6 +12,7 @@ use std::test::Fail;
 mod changes;
 mod configs;
 mod dialogues;
+mod queues;
 mod rows;
 
 const NAME: &[u8] = b"iqn.2026-01.example:disk";

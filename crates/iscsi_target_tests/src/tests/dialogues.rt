@@ -1,5 +1,9 @@
 //! Sessions by example, in pieces of any length.
 
+use super::queues::{
+    BEHIND, EIGHT, FAILING_QUEUES, LONG_QUEUES, SHORT_QUEUES, TURN, WAITING_REQUESTS,
+    WAITING_WRITES, WINDOWS,
+};
 use super::rows::{Dialogue, FAILING, LOGIN, LOGINS, LONG, REQUESTS, SHORT, WRITES};
 use super::{BY_PDU, feed_pieces, pdu_of, same, target_of, target_with};
 use iscsi_login::{Phase, Preferences, Stage};
@@ -134,11 +138,14 @@ fn check_dialogue<S: BlockStore>(
     check(rt, alloc, name, len, &mut target, store, lines)
 }
 
-// A session over a disk whose first read or write fails.
-fn check_failing(rt: &impl Abort, alloc: Global, row: &Dialogue, len: usize) -> Result<(), Fail> {
+// A session over a disk whose read or write of this number fails, in pieces of several lengths.
+fn check_failing(rt: &impl Abort, alloc: Global, at: u64, row: &Dialogue) -> Result<(), Fail> {
     let (name, _, lines) = *row;
-    let mut store = FailAt::new(MemoryStore::new(alloc, 2048)?, 0);
-    check_after_login(rt, alloc, name, len, &mut store, lines)
+    for len in [BY_PDU, 1, 47, 48, 100_000] {
+        let mut store = FailAt::new(MemoryStore::new(alloc, 2048)?, at);
+        check_after_login(rt, alloc, name, len, &mut store, lines)?;
+    }
+    Ok(())
 }
 
 // Sessions over the store that keeps what was written alone, and once over the other.
@@ -165,6 +172,31 @@ fn requests(rt: HostRuntime) -> Result<(), Fail> {
 }
 
 #[test]
+fn windows(rt: HostRuntime) -> Result<(), Fail> {
+    check_rows(&rt, rt.alloc(), WINDOWS)
+}
+
+#[test]
+fn short_queues(rt: HostRuntime) -> Result<(), Fail> {
+    check_rows(&rt, rt.alloc(), SHORT_QUEUES)
+}
+
+#[test]
+fn long_queues(rt: HostRuntime) -> Result<(), Fail> {
+    check_rows(&rt, rt.alloc(), LONG_QUEUES)
+}
+
+#[test]
+fn writes_that_wait(rt: HostRuntime) -> Result<(), Fail> {
+    check_rows(&rt, rt.alloc(), WAITING_WRITES)
+}
+
+#[test]
+fn requests_that_wait(rt: HostRuntime) -> Result<(), Fail> {
+    check_rows(&rt, rt.alloc(), WAITING_REQUESTS)
+}
+
+#[test]
 fn long_texts(rt: HostRuntime) -> Result<(), Fail> {
     for row in LONG {
         for len in [BY_PDU, 47] {
@@ -179,21 +211,34 @@ fn long_texts(rt: HostRuntime) -> Result<(), Fail> {
 #[test]
 fn stores_that_fail(rt: HostRuntime) -> Result<(), Fail> {
     for row in FAILING {
-        for len in [BY_PDU, 1, 47, 48, 100_000] {
-            check_failing(&rt, rt.alloc(), row, len)?;
-        }
+        check_failing(&rt, rt.alloc(), 0, row)?;
+    }
+    for (at, row) in FAILING_QUEUES {
+        check_failing(&rt, rt.alloc(), *at, row)?;
     }
     Ok(())
 }
 
-/// Over the store that keeps what was written alone.
-#[test]
-fn a_write_in_pieces_of_each_length(rt: HostRuntime) -> Result<(), Fail> {
+// A session in pieces of each length to 100, over the store that keeps what was written alone.
+fn check_lengths(rt: &impl Abort, alloc: Global, name: &str, lines: &str) -> Result<(), Fail> {
     for len in 1..101 {
-        let mut store = SparseStore::new(rt.alloc(), 2048);
-        check_after_login(&rt, rt.alloc(), "writes", len, &mut store, WRITES)?;
+        let mut store = SparseStore::new(alloc, 2048);
+        check_after_login(rt, alloc, name, len, &mut store, lines)?;
     }
     Ok(())
+}
+
+#[test]
+fn a_write_in_pieces_of_each_length(rt: HostRuntime) -> Result<(), Fail> {
+    check_lengths(&rt, rt.alloc(), "writes", WRITES)
+}
+
+/// A read and commands behind a write, and a command out of its turn.
+#[test]
+fn a_window_in_pieces_of_each_length(rt: HostRuntime) -> Result<(), Fail> {
+    check_lengths(&rt, rt.alloc(), "a read behind a write", BEHIND)?;
+    check_lengths(&rt, rt.alloc(), "eight commands", EIGHT)?;
+    check_lengths(&rt, rt.alloc(), "out of its turn", TURN)
 }
 
 // A target that takes segments of at most 512 bytes.

@@ -1,6 +1,6 @@
 //! Answers of a target, worked out by hand from RFC 7143 and the rules of the profile: a line for
 //! each PDU, with its header in hex and, behind an apostrophe, the text of its segment, in which
-//! `|` stands for a byte 00. The padding is left out.
+//! `|` stands for a byte 00; `5a*512` are 512 bytes of 5a. The padding is left out.
 
 use super::{Broken, Full, same};
 use iscsi_stream::{StreamFault, ToolFault};
@@ -15,18 +15,20 @@ const CUT: &str =
     4387";
 
 const FIRST_ANSWER: &str =
-    "23810000 00000027 40000001 00000000 00000000 00000000 00000001 00000001 00000001 00000000 00000000 00000000 'AuthMethod=None|TargetPortalGroupTag=1|";
+    "23810000 00000027 40000001 00000000 00000000 00000000 00000001 00000001 00000008 00000000 00000000 00000000 'AuthMethod=None|TargetPortalGroupTag=1|";
 
-// A login and a ping.
-const REQUESTS: &str =
+// A login.
+const LOGIN: &str =
     "43810000 0000006e 40000001 00000000 00000000 00000000 00000001 00000000 00000000 00000000 00000000 00000000 'AuthMethod=None|InitiatorName=iqn.2026-01.example:host|SessionType=Normal|TargetName=iqn.2026-01.example:disk|\n\
-    43870000 0000006e 40000001 00000000 00000000 00000000 00000001 00000002 00000000 00000000 00000000 00000000 'HeaderDigest=CRC32C,None|IFMarker=No|InitialR2T=No|MaxBurstLength=1024|MaxRecvDataSegmentLength=4096|X-test=1|\n\
-    40800000 00000000 00000000 00000000 00000001 ffffffff 00000001 00000003 00000000 00000000 00000000 00000000";
+    43870000 0000006e 40000001 00000000 00000000 00000000 00000001 00000002 00000000 00000000 00000000 00000000 'HeaderDigest=CRC32C,None|IFMarker=No|InitialR2T=No|MaxBurstLength=1024|MaxRecvDataSegmentLength=4096|X-test=1|";
 
-const ANSWERS: &str =
-    "23810000 00000027 40000001 00000000 00000000 00000000 00000001 00000001 00000001 00000000 00000000 00000000 'AuthMethod=None|TargetPortalGroupTag=1|\n\
-    23870000 00000073 40000001 00000001 00000000 00000000 00000002 00000001 00000001 00000000 00000000 00000000 'HeaderDigest=None|IFMarker=No|InitialR2T=No|MaxBurstLength=1024|MaxRecvDataSegmentLength=8192|X-test=NotUnderstood|\n\
-    20800000 00000000 00000000 00000000 00000001 ffffffff 00000003 00000001 00000001 00000000 00000000 00000000";
+const LOGGED_IN: &str =
+    "23810000 00000027 40000001 00000000 00000000 00000000 00000001 00000001 00000008 00000000 00000000 00000000 'AuthMethod=None|TargetPortalGroupTag=1|\n\
+    23870000 00000073 40000001 00000001 00000000 00000000 00000002 00000001 00000008 00000000 00000000 00000000 'HeaderDigest=None|IFMarker=No|InitialR2T=No|MaxBurstLength=1024|MaxRecvDataSegmentLength=8192|X-test=NotUnderstood|";
+
+// The answer to a ping behind the login.
+const PONG: &str =
+    "20800000 00000000 00000000 00000000 00000001 ffffffff 00000003 00000001 00000008 00000000 00000000 00000000";
 
 // A first request without the initiator's name, and a ping.
 const NAMELESS: &str =
@@ -34,40 +36,130 @@ const NAMELESS: &str =
     40800000 00000000 00000000 00000000 00000001 ffffffff 00000001 00000003 00000000 00000000 00000000 00000000";
 
 const REFUSAL: &str =
-    "23000000 00000000 40000001 00000000 00000000 00000000 00000000 00000001 00000001 02070000 00000000 00000000";
+    "23000000 00000000 40000001 00000000 00000000 00000000 00000000 00000001 00000008 02070000 00000000 00000000";
 
 const PING: &str =
     "40800000 00000000 00000000 00000000 00000001 ffffffff 00000001 00000003 00000000 00000000 00000000 00000000";
 
-fn bytes_of(alloc: Global, lines: &str) -> Result<Vec<u8>, Fail> {
+// A write that takes its data, and a read behind it.
+const BEHIND: &str =
+    "01a10000 00000200 00000000 00000000 00000001 00001000 00000001 00000003 2a000000 00000000 08000000 00000000 5a*512\n\
+    01c10000 00000000 00000000 00000000 00000002 00000200 00000002 00000003 28000000 00000000 01000000 00000000\n\
+    05800000 00000400 00000000 00000000 00000001 00000000 00000000 00000003 00000000 00000000 00000200 00000000 5a*1024\n\
+    05800000 00000400 00000000 00000000 00000001 00000001 00000000 00000003 00000000 00000000 00000600 00000000 5a*1024\n\
+    05800000 00000400 00000000 00000000 00000001 00000002 00000000 00000003 00000000 00000000 00000a00 00000000 5a*1024\n\
+    05800000 00000200 00000000 00000000 00000001 00000003 00000000 00000003 00000000 00000000 00000e00 00000000 5a*512";
+
+const BEHIND_ANSWERS: &str =
+    "31800000 00000000 00000000 00000000 00000001 00000000 00000003 00000002 00000008 00000000 00000200 00000400\n\
+    31800000 00000000 00000000 00000000 00000001 00000001 00000003 00000003 00000008 00000001 00000600 00000400\n\
+    31800000 00000000 00000000 00000000 00000001 00000002 00000003 00000003 00000008 00000002 00000a00 00000400\n\
+    31800000 00000000 00000000 00000000 00000001 00000003 00000003 00000003 00000008 00000003 00000e00 00000200\n\
+    21800000 00000000 00000000 00000000 00000001 00000000 00000003 00000003 00000009 00000000 00000000 00000000\n\
+    25800000 00000200 00000000 00000000 00000002 ffffffff 00000000 00000003 0000000a 00000000 00000000 00000000 5a*512\n\
+    21800000 00000000 00000000 00000000 00000002 00000000 00000004 00000003 0000000a 00000001 00000000 00000000";
+
+// A write, seven commands behind it, and one past the window.
+const EIGHT: &str =
+    "01a10000 00000200 00000000 00000000 00000001 00001000 00000001 00000003 2a000000 00000000 08000000 00000000 5a*512\n\
+    01810000 00000000 00000000 00000000 00000002 00000000 00000002 00000003 00000000 00000000 00000000 00000000\n\
+    01810000 00000000 00000000 00000000 00000003 00000000 00000003 00000003 00000000 00000000 00000000 00000000\n\
+    01810000 00000000 00000000 00000000 00000004 00000000 00000004 00000003 00000000 00000000 00000000 00000000\n\
+    01810000 00000000 00000000 00000000 00000005 00000000 00000005 00000003 00000000 00000000 00000000 00000000\n\
+    01810000 00000000 00000000 00000000 00000006 00000000 00000006 00000003 00000000 00000000 00000000 00000000\n\
+    01810000 00000000 00000000 00000000 00000007 00000000 00000007 00000003 00000000 00000000 00000000 00000000\n\
+    01810000 00000000 00000000 00000000 00000008 00000000 00000008 00000003 00000000 00000000 00000000 00000000\n\
+    01810000 00000000 00000000 00000000 00000009 00000000 00000009 00000003 00000000 00000000 00000000 00000000\n\
+    05800000 00000400 00000000 00000000 00000001 00000000 00000000 00000003 00000000 00000000 00000200 00000000 5a*1024\n\
+    05800000 00000400 00000000 00000000 00000001 00000001 00000000 00000003 00000000 00000000 00000600 00000000 5a*1024\n\
+    05800000 00000400 00000000 00000000 00000001 00000002 00000000 00000003 00000000 00000000 00000a00 00000000 5a*1024\n\
+    05800000 00000200 00000000 00000000 00000001 00000003 00000000 00000003 00000000 00000000 00000e00 00000000 5a*512";
+
+const EIGHT_ANSWERS: &str =
+    "31800000 00000000 00000000 00000000 00000001 00000000 00000003 00000002 00000008 00000000 00000200 00000400\n\
+    31800000 00000000 00000000 00000000 00000001 00000001 00000003 00000009 00000008 00000001 00000600 00000400\n\
+    31800000 00000000 00000000 00000000 00000001 00000002 00000003 00000009 00000008 00000002 00000a00 00000400\n\
+    31800000 00000000 00000000 00000000 00000001 00000003 00000003 00000009 00000008 00000003 00000e00 00000200\n\
+    21800000 00000000 00000000 00000000 00000001 00000000 00000003 00000009 00000009 00000000 00000000 00000000\n\
+    21800000 00000000 00000000 00000000 00000002 00000000 00000004 00000009 0000000a 00000000 00000000 00000000\n\
+    21800000 00000000 00000000 00000000 00000003 00000000 00000005 00000009 0000000b 00000000 00000000 00000000\n\
+    21800000 00000000 00000000 00000000 00000004 00000000 00000006 00000009 0000000c 00000000 00000000 00000000\n\
+    21800000 00000000 00000000 00000000 00000005 00000000 00000007 00000009 0000000d 00000000 00000000 00000000\n\
+    21800000 00000000 00000000 00000000 00000006 00000000 00000008 00000009 0000000e 00000000 00000000 00000000\n\
+    21800000 00000000 00000000 00000000 00000007 00000000 00000009 00000009 0000000f 00000000 00000000 00000000\n\
+    21800000 00000000 00000000 00000000 00000008 00000000 0000000a 00000009 00000010 00000000 00000000 00000000";
+
+// A command whose number is not the one that is due.
+const TURN: &str =
+    "01810000 00000000 00000000 00000000 00000001 00000000 00000003 00000003 00000000 00000000 00000000 00000000";
+
+const TURN_ANSWERS: &str =
+    "3f800400 00000030 00000000 00000000 ffffffff 00000000 00000003 00000001 00000008 00000000 00000000 00000000 018100000000000000000000000000000000000100000000000000030000000300000000000000000000000000000000";
+
+// The bytes of a line: a header, and a segment of text, or of one byte so many times.
+fn add_line(alloc: Global, line: &str, stream: &mut Vec<u8>) -> Result<(), Fail> {
+    let (header, text) = line.split_once('\'').unwrap_or((line, ""));
+    let (header, count) = header.split_once(" 5a*").unwrap_or((header, "0"));
+    let digits: Vec<u8> = header
+        .as_bytes()
+        .iter()
+        .copied()
+        .filter(|b| *b != b' ')
+        .collect(alloc)?;
+    stream.extend_from_slice(&hex::decode(alloc, digits)?)?;
+    for _ in 0..count.parse::<u16>()? {
+        stream.push(0x5a)?;
+    }
+    for byte in text.bytes() {
+        stream.push(if byte == b'|' { 0 } else { byte })?;
+    }
+    stream.extend_from_slice([0u8; 3].get(..(4 - text.len() % 4) % 4).unwrap_or(&[]))?;
+    Ok(())
+}
+
+fn bytes_of(alloc: Global, parts: &[&str]) -> Result<Vec<u8>, Fail> {
     let mut stream = Vec::new(alloc);
-    for line in lines.lines() {
-        let (header, text) = line.split_once('\'').unwrap_or((line, ""));
-        let digits: Vec<u8> = header
-            .as_bytes()
-            .iter()
-            .copied()
-            .filter(|b| *b != b' ')
-            .collect(alloc)?;
-        stream.extend_from_slice(&hex::decode(alloc, digits)?)?;
-        for byte in text.bytes() {
-            stream.push(if byte == b'|' { 0 } else { byte })?;
+    for part in parts {
+        for line in part.lines() {
+            add_line(alloc, line, &mut stream)?;
         }
-        stream.extend_from_slice([0u8; 3].get(..(4 - text.len() % 4) % 4).unwrap_or(&[]))?;
     }
     Ok(stream)
 }
 
 /// Sessions: the requests, the answers, and how the filter ends.
-const SESSIONS: &[(&str, &str, &str, Result<(), ToolFault>)] = &[
-    ("nothing", "", "", Ok(())),
-    ("a login and a ping", REQUESTS, ANSWERS, Ok(())),
-    ("a login that is refused", NAMELESS, REFUSAL, Ok(())),
-    ("a ping alone", PING, "", Err(ToolFault::Protocol(1))),
+const SESSIONS: &[(&str, &[&str], &[&str], Result<(), ToolFault>)] = &[
+    ("nothing", &[], &[], Ok(())),
+    (
+        "a login and a ping",
+        &[LOGIN, PING],
+        &[LOGGED_IN, PONG],
+        Ok(()),
+    ),
+    ("a login that is refused", &[NAMELESS], &[REFUSAL], Ok(())),
+    ("a ping alone", &[PING], &[], Err(ToolFault::Protocol(1))),
+    (
+        "a read behind a write",
+        &[LOGIN, BEHIND],
+        &[LOGGED_IN, BEHIND_ANSWERS],
+        Ok(()),
+    ),
+    (
+        "eight commands, and one past the window",
+        &[LOGIN, EIGHT],
+        &[LOGGED_IN, EIGHT_ANSWERS],
+        Ok(()),
+    ),
+    (
+        "a command out of its turn",
+        &[LOGIN, TURN],
+        &[LOGGED_IN, TURN_ANSWERS],
+        Err(ToolFault::Protocol(9)),
+    ),
     (
         "a part of a header",
-        CUT,
-        FIRST_ANSWER,
+        &[CUT],
+        &[FIRST_ANSWER],
         Err(ToolFault::Stream(StreamFault::Truncated(160))),
     ),
 ];
@@ -93,8 +185,8 @@ fn check(
     rt: &impl Abort,
     alloc: Global,
     name: &str,
-    requests: &str,
-    answers: &str,
+    requests: &[&str],
+    answers: &[&str],
     want: Result<(), ToolFault>,
 ) -> Result<(), Fail> {
     let stream = bytes_of(alloc, requests)?;
@@ -128,8 +220,8 @@ fn a_reader_and_a_writer_that_fail(rt: HostRuntime) -> Result<(), Fail> {
         work: Work::Answer(8),
         hex: false,
     };
-    let requests = bytes_of(rt.alloc(), REQUESTS)?;
-    let answers = bytes_of(rt.alloc(), ANSWERS)?;
+    let requests = bytes_of(rt.alloc(), &[LOGIN, PING])?;
+    let answers = bytes_of(rt.alloc(), &[LOGGED_IN, PONG])?;
     // What was read is answered before the read that fails.
     let mut out = Vec::new(rt.alloc());
     let result = run_filter(rt.alloc(), filter, &mut Broken(Some(&requests)), &mut out);
