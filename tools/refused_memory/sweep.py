@@ -2,18 +2,19 @@
 """Refuses each allocation of the built program in turn, and looks at what it answers and has written then.
 
 Each run ends as with ample memory, or with status 3, the line `memory`, and less than the output that is due: whole
-PDUs or lines, of `answer` all answers to some first PDUs, and nothing of a line of hex or a text. The whole output is
-there with that line only where nothing is due to the last PDUs, or where none is due at all. A run that met no refusal
-ends as with ample memory, and that not for want of it. Two runs are of `loop`, with a script of each command and one
-that is refused. The segment buffer is kept from PDU to PDU: a run over 1,000 PDUs of 4,096 bytes ends well where each
-allocation is refused that a run over one does not ask for.
+PDUs or lines, of `answer` all answers to some first PDUs and to some first tasks of the next one, and nothing of a line
+of hex or a text. The whole output is there with that line only where nothing is due to the last PDUs, or where none is
+due at all. A run that met no refusal ends as with ample memory, and that not for want of it. Two runs are of `loop`,
+with a script of each command and one that is refused. The segment buffer is kept from PDU to PDU: a run over 1,000 PDUs
+of 4,096 bytes ends well where each allocation is refused that a run over one does not ask for.
 
-The sessions of `answer` are the dialogues of iscsi_target_tests, with the answers that stand there, and one that reads
-back the eight blocks of its write. Two of them also go over a socket to `serve`, whose service ends where memory is
-refused, after the answers that were due. A session ends where memory is refused, and its disk with the program. So from outside
-one sees that the answers stop before those of the PDU that memory was refused for: no R2T and no response comes for it or
-after it, and no read shows a part of a write. That the eight blocks are then all old or all new is a clause: `fed` of
-`Target::feed`, by which such a PDU leaves the blocks as they were.
+The sessions of `answer` are the dialogues of iscsi_target_tests, those in which requests wait among them, with the
+answers that stand there, and one that reads back the eight blocks of its write. Two of them also go over a socket to
+`serve`, whose service ends where memory is refused, after the answers that were due. A session ends where memory is
+refused, and its disk with the program. So from outside one sees that the answers stop before those of the task that
+memory was refused for: no R2T and no response comes for it or after it, and no read shows a part of a write. That the
+eight blocks are then all old or all new is a clause: `fed` of `Target::feed`, by which such a task leaves the blocks as
+they were.
 """
 import os
 import re
@@ -33,11 +34,11 @@ MOST = 10000
 # A read of the eight blocks that the session "writes" has written, in sequences of MaxBurstLength bytes.
 READ_BACK = """\
 > 01c10000 00000000 00000000 00000000 00000003 00001000 00000003 00000005 28000000 00000000 08000000 00000000
-< 25800000 00000400 00000000 00000000 00000003 ffffffff 00000000 00000004 00000004 00000000 00000000 00000000 5a*1024
-< 25800000 00000400 00000000 00000000 00000003 ffffffff 00000000 00000004 00000004 00000001 00000400 00000000 5a*1024
-< 25800000 00000400 00000000 00000000 00000003 ffffffff 00000000 00000004 00000004 00000002 00000800 00000000 5a*1024
-< 25800000 00000400 00000000 00000000 00000003 ffffffff 00000000 00000004 00000004 00000003 00000c00 00000000 5a*1024
-< 21800000 00000000 00000000 00000000 00000003 00000000 00000005 00000004 00000004 00000004 00000000 00000000
+< 25800000 00000400 00000000 00000000 00000003 ffffffff 00000000 00000004 0000000b 00000000 00000000 00000000 5a*1024
+< 25800000 00000400 00000000 00000000 00000003 ffffffff 00000000 00000004 0000000b 00000001 00000400 00000000 5a*1024
+< 25800000 00000400 00000000 00000000 00000003 ffffffff 00000000 00000004 0000000b 00000002 00000800 00000000 5a*1024
+< 25800000 00000400 00000000 00000000 00000003 ffffffff 00000000 00000004 0000000b 00000003 00000c00 00000000 5a*1024
+< 21800000 00000000 00000000 00000000 00000003 00000000 00000005 00000004 0000000b 00000004 00000000 00000000
 = full"""
 
 
@@ -141,25 +142,36 @@ def pdu(line):
     return header + data + bytes(-len(data) % 4)
 
 
+def sessions():
+    """The name, whether it begins with a login of its own, and the lines of each session over a store that works."""
+    for name in ("rows", "queues"):
+        text = open(f"{TOP}/crates/iscsi_target_tests/src/tests/{name}.rt").read().split("pub const FAILING")[0]
+        named = dict(re.findall(r'pub const (\w+): &str =\s*"(.*?)";', text, re.S))
+        for session, fresh, lines, constant in re.findall(r'\(\s*"([^"]*)",\s*(true|false),\s*(?:"([^"]*)"|(\w+)),?\s*\)', text):
+            yield session, fresh == "true", unquoted(lines or named[constant])
+
+
 def dialogues():
-    """The name of each session, what comes, the lengths of the answers before each PDU, the answers, and the status."""
-    rows = open(f"{TOP}/crates/iscsi_target_tests/src/tests/rows.rt").read().split("pub const FAILING")[0]
+    """The name of each session, what comes, the lengths of the answers at which they may stop, the answers, and the status."""
+    rows = open(f"{TOP}/crates/iscsi_target_tests/src/tests/rows.rt").read()
     login = unquoted(re.search(r'LOGIN: &str =\s*"(.*?)";', rows, re.S)[1])
-    found = re.findall(r'\(\s*"([^"]*)",\s*(true|false),\s*"([^"]*)",\s*\)', rows)
-    sessions = [("login", "true", login)] + [(name, fresh, unquoted(lines)) for name, fresh, lines in found]
-    writes = next(lines for name, _, lines in sessions if name == "writes")
-    sessions.append(("reads back a write", "false", f"{writes}\n{READ_BACK}"))
-    for name, fresh, lines in sessions:
-        lines = (lines if fresh == "true" else f"{login}\n{lines}").split("\n")
-        came, due, stops, status = b"", b"", set(), 0
-        for line in lines:
+    found = [("login", True, login), *sessions()]
+    writes = next(lines for name, _, lines in found if name == "writes")
+    found.append(("reads back a write", False, f"{writes}\n{READ_BACK}"))
+    for name, fresh, lines in found:
+        came, due, stops, status, last = b"", b"", set(), 0, ""
+        for line in (lines if fresh else f"{login}\n{lines}").split("\n"):
             if line.startswith(">"):
                 came += pdu(line[2:])
                 stops.add(len(due))
             elif line.startswith("<"):
+                # A PDU may lead to several tasks, whose answers are each whole: Data-In go on to the response.
+                if not last.startswith("< 25"):
+                    stops.add(len(due))
                 due += pdu(line[2:])
             elif line.startswith("= rule"):
                 status = 1
+            last = line
         yield name, came, stops, due, status
 
 
