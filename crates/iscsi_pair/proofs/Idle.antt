@@ -12,6 +12,7 @@ use Rattle.iscsi_stream.proofs.Ready.{unready_of, apart}
 use Rattle.iscsi_login.specs.declared.phase.Phase.TheVariants as phases
 use Rattle.iscsi_login.specs.declared.stage.Stage.TheVariants as stages
 use Rattle.iscsi_target.specs.State as target
+use Rattle.iscsi_target.specs.Session as target_session
 use Rattle.iscsi_target.specs.Machine as target_machine
 use Rattle.iscsi_target.specs.Machine.{answers}
 use Rattle.iscsi_initiator.specs.declared.request.Done.{Done}
@@ -114,7 +115,7 @@ all_moved : (moved queue queued : List ℕ) → queue ≡ [] → moved ++ queue 
 all_moved moved queue queued none e = sym (append-nil moved) ∙ ap (λ (x : List ℕ). moved ++ x) (sym none) ∙ e
 
 idle_open : (c : Opening) (u : Traffic) (w : World) (l : ℕ) (ms : List Message) (given rest : List ℕ) → IsOpening c → Sides c u w → w.to_target ≡ [] → w.to_initiator ≡ []
-    → (i : InitiatorLives c u.demands u.moved_to_initiator u.queued_for_target w.initiator) → is_closed w.initiator.machine ≡ false
+    → (i : InitiatorLives [] c u.demands u.moved_to_initiator u.queued_for_target w.initiator) → is_closed w.initiator.machine ≡ false
     → ReadsAs l no_login given ms → u.moved_to_target ≡ given ++ rest → HoldsNone l rest ⊎ (target_machine.is_closed (said c ms).machine ≡ true) → u.queued_for_initiator ≡ canon (said c ms).answers
     → w.initiator.machine.stage ≡ stages.Full
 idle_open c u w l ms given rest o s none_out none_back i live p whole here out =
@@ -136,7 +137,7 @@ by_ends : (b d : Bool) (c : Opening) (u : Traffic) (w : World) → is_closed w.i
 by_ends true d c u w is there o s none_out none_back target_well well = (s.initiator.over well is).full
 by_ends false true c u w is there o s none_out none_back target_well well =
     let t : TargetOver c u.moved_to_target u.queued_for_initiator w.target w.blocks = s.target.over target_well there in
-    idle_open c u w t.limit t.messages t.given t.rest o s none_out none_back (s.initiator.lives well is) is t.reads t.whole (inr t.closed) t.output
+    idle_open c u w (target_session.limit c.target) t.messages t.given t.rest o s none_out none_back (s.initiator.lives well is) is t.reads t.whole (inr t.closed) t.output
 by_ends false false c u w is there o s none_out none_back target_well well =
     let t : TargetLives c u.moved_to_target u.queued_for_initiator w.target w.blocks = s.target.lives target_well there in
     let enough : 8192 ≤ w.target.framing.limit = (let e = t.limit in omega (arith, e)) in

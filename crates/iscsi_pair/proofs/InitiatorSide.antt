@@ -25,7 +25,7 @@ use Rattle.iscsi_text.specs.Canonical.{canonical_text}
 use Rattle.iscsi_initiator.specs.Login.{start_step, fits_segment, offered}
 use Rattle.iscsi_initiator.specs.Machine.{step, steps, taken}
 use Rattle.iscsi_initiator.specs.Submitted.{submitted, or_accepted, refusal, refusal_in}
-use Rattle.iscsi_initiator.specs.Calls.{Connection, Heard, heard_steps, Feeds, HearsAll, ClosesAt, StreamEnds, StreamFails, Stays, Submits, Accepts, after_taking}
+use Rattle.iscsi_initiator.specs.Calls.{Connection, Heard, heard_steps, Feeds, HearsAll, ClosesAt, StreamEnds, StreamFails, Stays, Submits, Accepts, after_taking, limit}
 use Rattle.iscsi_initiator.proofs.OneOutcome.{closed_step, no_fault, not_live}
 use Rattle.iscsi_login.specs.declared.stage.Stage.TheVariants as stages
 use Rattle.iscsi_pair.proofs.Ending.{IsFullStage, asked_phase, steps_well, inputs_full, text_goes}
@@ -116,26 +116,36 @@ pub record InitiatorFront (c : Opening) (moved out : List ℕ) (i : Connection) 
   pub stage : i.machine.stage ≡ (after_all (begun c) inputs).stage
   pub held : i.machine.held ≡ (after_all (begun c) inputs).held
 
+-- the inputs are these first ones, and others behind them
+pub record Follows (past inputs : List Input) : Type 0 where
+  pub later : List Input
+  pub is : inputs ≡ past ++ later
+
+follows_more : (past inputs more : List Input) → Follows past inputs → Follows past (inputs ++ more)
+follows_more past inputs more f =
+    record { later = f.later ++ more; is = ap (λ (x : List Input). x ++ more) f.is ∙ append_assoc past f.later more }
+
 -- an end that hasn't failed has taken all bytes moved
-pub record InitiatorLives (c : Opening) (acts : List Input) (moved out : List ℕ) (i : Connection) : Type 0 where
+pub record InitiatorLives (past : List Input) (c : Opening) (acts : List Input) (moved out : List ℕ) (i : Connection) : Type 0 where
   pub inputs : List Input
   pub taken : HasTaken moved (coming inputs) i.framing
   pub order : demanded inputs ≡ acts
+  pub follows : Follows past inputs
   pub machine : i.machine ≡ after_all (begun c) inputs
   pub output : out ≡ canon (all_sent c inputs)
   pub unready : is_ready i.framing ≡ false
   pub limit : i.framing.limit ≡ (started c).framing.limit
 
 -- the session ended without a fault: with the last of the messages that came
-pub record InitiatorOver (c : Opening) (acts : List Input) (moved out : List ℕ) (i : Connection) : Type 0 where
+pub record InitiatorOver (past : List Input) (c : Opening) (acts : List Input) (moved out : List ℕ) (i : Connection) : Type 0 where
   pub full : i.machine.stage ≡ stages.Full
   pub inputs : List Input
   pub given : List ℕ
   pub rest : List ℕ
   pub whole : moved ≡ given ++ rest
-  pub limit : ℕ
-  pub reads : ReadsAs limit no_login given (coming inputs)
+  pub reads : ReadsAs (limit c.initiator) no_login given (coming inputs)
   pub order : demanded inputs ≡ acts
+  pub follows : Follows past inputs
   pub machine : i.machine ≡ after_all (begun c) inputs
   pub output : out ≡ canon (all_sent c inputs)
 
@@ -178,10 +188,10 @@ InitiatorFailed (Some (ends.Feed (faults.Refused class detail))) c moved out i =
 InitiatorFailed (Some (ends.Feed (faults.BadAnswer key))) c moved out i = InitiatorEnded c moved out i
 InitiatorFailed (Some (ends.Feed faults.Closed)) c moved out i = InitiatorEnded c moved out i
 
-pub record InitiatorSide (c : Opening) (acts : List Input) (moved out : List ℕ) (i : Connection) (fault : Option EndFault) : Type 0 where
+pub record InitiatorSide (past : List Input) (c : Opening) (acts : List Input) (moved out : List ℕ) (i : Connection) (fault : Option EndFault) : Type 0 where
   pub front : InitiatorFront c moved out i
-  pub over : fault ≡ None → is_closed i.machine ≡ true → InitiatorOver c acts moved out i
-  pub lives : fault ≡ None → is_closed i.machine ≡ false → InitiatorLives c acts moved out i
+  pub over : fault ≡ None → is_closed i.machine ≡ true → InitiatorOver past c acts moved out i
+  pub lives : fault ≡ None → is_closed i.machine ≡ false → InitiatorLives past c acts moved out i
   pub failed : InitiatorFailed fault c moved out i
 
 front_taken : (c : Opening) (moved more out lost : List ℕ) (inputs : List Input) (v : Framing) (i : Connection) → HasTaken moved (coming inputs) v → out ++ lost ≡ canon (all_sent c inputs)
@@ -290,8 +300,8 @@ fault_taken (Some (ends.Feed (faults.Refused class detail))) c moved out i f = e
 fault_taken (Some (ends.Feed (faults.BadAnswer key))) c moved out i f = ended_taken c moved out i f
 fault_taken (Some (ends.Feed faults.Closed)) c moved out i f = ended_taken c moved out i f
 
-lives_front : (c : Opening) (acts : List Input) (moved out : List ℕ) (i : Connection) → InitiatorLives c acts moved out i → InitiatorFront c moved out i
-lives_front c acts moved out i l =
+lives_front : (past : List Input) (c : Opening) (acts : List Input) (moved out : List ℕ) (i : Connection) → InitiatorLives past c acts moved out i → InitiatorFront c moved out i
+lives_front past c acts moved out i l =
     subst (λ (x : List ℕ). InitiatorFront c x out i) (append-nil moved)
     (front_taken c moved [] out [] l.inputs i.framing i l.taken (append-nil out ∙ l.output) (ap (λ (m : Machine). m.stage) l.machine) (ap (λ (m : Machine). m.held) l.machine))
 
@@ -308,32 +318,34 @@ begun_open c =
 full_stage : (c : Opening) (inputs : List Input) → IsFullStage (after_all (begun c) inputs)
 full_stage c inputs = inputs_full (begun c) inputs (text_goes (record (opening c.initiator) { started = true }) refl).full
 
-pub opening_side : (c : Opening) → InitiatorSide c [] [] (new_pair c).to_target (started c) None
+pub opening_side : (c : Opening) → InitiatorSide [] c [] [] (new_pair c).to_target (started c) None
 opening_side c =
-    let l : InitiatorLives c [] [] (new_pair c).to_target (started c) = record {
+    let l : InitiatorLives [] c [] [] (new_pair c).to_target (started c) = record {
       inputs = [];
       taken = at_opening (started c).framing.limit;
       order = refl;
+      follows = record { later = []; is = refl };
       machine = refl;
       output = ap canon (sym (append-nil (start_step (opening c.initiator)).output));
       unready = not_whole-nil;
       limit = refl;
     } in
-    record { front = lives_front c [] [] (new_pair c).to_target (started c) l; failed = tt; over = λ none over. absurd (apart over (begun_open c)); lives = λ none live. l }
+    record { front = lives_front [] c [] [] (new_pair c).to_target (started c) l; failed = tt; over = λ none over. absurd (apart over (begun_open c)); lives = λ none live. l }
 
 -- ---- a piece
 
 -- messages that come behind what it has taken
-record Comes_on (c : Opening) (acts : List Input) (moved out more : List ℕ) (m : Machine) (ms : List Message) (v : Framing) (inputs : List Input) : Type 0 where
+record Comes_on (past : List Input) (c : Opening) (acts : List Input) (moved out more : List ℕ) (m : Machine) (ms : List Message) (v : Framing) (inputs : List Input) : Type 0 where
   is : List Input
   taken : HasTaken (moved ++ more) (coming is) v
   order : demanded is ≡ acts
+  follows : Follows past is
   machine : (steps m ms).machine ≡ after_all (begun c) is
   output : out ++ canon (steps m ms).output ≡ canon (all_sent c is)
 
-come_on : (c : Opening) (acts : List Input) (moved out more : List ℕ) (i : Connection) (l : InitiatorLives c acts moved out i) (ms : List Message) (v : Framing)
-    → ((stream : List ℕ) (xs : List Message) → HasTaken stream xs i.framing → HasTaken (stream ++ more) (xs ++ ms) v) → Comes_on c acts moved out more i.machine ms v l.inputs
-come_on c acts moved out more i l ms v moves =
+come_on : (past : List Input) (c : Opening) (acts : List Input) (moved out more : List ℕ) (i : Connection) (l : InitiatorLives past c acts moved out i) (ms : List Message) (v : Framing)
+    → ((stream : List ℕ) (xs : List Message) → HasTaken stream xs i.framing → HasTaken (stream ++ more) (xs ++ ms) v) → Comes_on past c acts moved out more i.machine ms v l.inputs
+come_on past c acts moved out more i l ms v moves =
     let a : AreSteps i.machine ms = are_steps i.machine ms in
     let first : List Message = (start_step (opening c.initiator)).output in
     let now : Machine = after_all (begun c) l.inputs in
@@ -343,6 +355,7 @@ come_on c acts moved out more i l ms v moves =
           (ap (λ (xs : List Message). coming l.inputs ++ xs) (sym (coming_messages ms)) ∙ sym (coming_append l.inputs (map Comes ms)))
           (moves moved (coming l.inputs) l.taken);
       order = demanded_append l.inputs (map Comes ms) ∙ ap (λ (x : List Input). demanded l.inputs ++ x) (demanded_messages ms) ∙ append-nil (demanded l.inputs) ∙ l.order;
+      follows = follows_more past l.inputs (map Comes ms) l.follows;
       machine = sym a.machine ∙ ap (λ (m : Machine). after_all m (map Comes ms)) l.machine ∙ sym (after_append (begun c) l.inputs (map Comes ms));
       output = ap (λ (x : List ℕ). x ++ canon (steps i.machine ms).output) l.output
           ∙ sym (canon_append (all_sent c l.inputs) (steps i.machine ms).output)
@@ -353,11 +366,11 @@ come_on c acts moved out more i l ms v moves =
     }
 
 -- what is left where a call heard some messages, and wrote what they lead to but for what was lost
-heard_front : (c : Opening) (acts : List Input) (moved prior before bytes after lost : List ℕ) (old new : Connection) → InitiatorLives c acts moved (prior ++ before) old → (h : Heard old bytes)
+heard_front : (past : List Input) (c : Opening) (acts : List Input) (moved prior before bytes after lost : List ℕ) (old new : Connection) → InitiatorLives past c acts moved (prior ++ before) old → (h : Heard old bytes)
     → after ++ lost ≡ before ++ canon (heard_steps old bytes h).output → new.machine.stage ≡ (heard_steps old bytes h).machine.stage → new.machine.held ≡ (heard_steps old bytes h).machine.held
     → InitiatorFront c (moved ++ bytes) (prior ++ after) new
-heard_front c acts moved prior before bytes after lost old new l h out stage held =
-    let o = come_on c acts moved (prior ++ before) (take h.count bytes) old l h.messages h.framing h.moves in
+heard_front past c acts moved prior before bytes after lost old new l h out stage held =
+    let o = come_on past c acts moved (prior ++ before) (take h.count bytes) old l h.messages h.framing h.moves in
     let all : (moved ++ take h.count bytes) ++ drop h.count bytes ≡ moved ++ bytes =
     append_assoc moved (take h.count bytes) (drop h.count bytes) ∙ ap (λ (x : List ℕ). moved ++ x) (take-append-drop h.count bytes) in
     subst (λ (x : List ℕ). InitiatorFront c x (prior ++ after) new) all
@@ -365,16 +378,17 @@ heard_front c acts moved prior before bytes after lost old new l h out stage hel
     (append_assoc prior after lost ∙ ap (λ (x : List ℕ). prior ++ x) out ∙ sym (append_assoc prior before (canon (heard_steps old bytes h).output)) ∙ o.output)
     (stage ∙ ap (λ (m : Machine). m.stage) o.machine) (held ∙ ap (λ (m : Machine). m.held) o.machine))
 
-hears_all : (c : Opening) (acts : List Input) (moved prior before bytes after : List ℕ) (old new : Connection) (phase : Phase) → InitiatorLives c acts moved (prior ++ before) old → (h : Heard old bytes)
-    → HearsAll old bytes h new before after phase → InitiatorLives c acts (moved ++ bytes) (prior ++ after) new
-hears_all c acts moved prior before bytes after old new phase l h e =
-    let o = come_on c acts moved (prior ++ before) (take h.count bytes) old l h.messages h.framing h.moves in
+hears_all : (past : List Input) (c : Opening) (acts : List Input) (moved prior before bytes after : List ℕ) (old new : Connection) (phase : Phase) → InitiatorLives past c acts moved (prior ++ before) old → (h : Heard old bytes)
+    → HearsAll old bytes h new before after phase → InitiatorLives past c acts (moved ++ bytes) (prior ++ after) new
+hears_all past c acts moved prior before bytes after old new phase l h e =
+    let o = come_on past c acts moved (prior ++ before) (take h.count bytes) old l h.messages h.framing h.moves in
     let whole : take h.count bytes ≡ bytes = take_all h.count bytes (omega (arith, e.all)) in
     record {
       inputs = o.is;
       taken = subst (λ (v : Framing). HasTaken (moved ++ bytes) (coming o.is) v) (sym (ap (λ (x : Connection). x.framing) e.connection))
           (subst (λ (x : List ℕ). HasTaken (moved ++ x) (coming o.is) h.framing) whole o.taken);
       order = o.order;
+      follows = o.follows;
       machine = ap (λ (x : Connection). x.machine) e.connection ∙ o.machine;
       output = ap (λ (x : List ℕ). prior ++ x) e.output ∙ sym (append_assoc prior before (canon (heard_steps old bytes h).output)) ∙ o.output;
       unready = ap (λ (x : Connection). is_ready x.framing) e.connection ∙ e.unready;
@@ -382,10 +396,10 @@ hears_all c acts moved prior before bytes after old new phase l h e =
     }
 
 -- where the session ends without a fault, it has reached its last stage
-ends_full : (c : Opening) (acts : List Input) (moved prior before bytes after : List ℕ) (old new : Connection) → InitiatorLives c acts moved (prior ++ before) old → is_closed old.machine ≡ false → (h : Heard old bytes)
-    → ClosesAt old bytes h new before after None → InitiatorOver c acts (moved ++ bytes) (prior ++ after) new
-ends_full c acts moved prior before bytes after old new l live h e =
-    let o = come_on c acts moved (prior ++ before) (take h.count bytes) old l h.messages h.framing h.moves in
+ends_full : (past : List Input) (c : Opening) (acts : List Input) (moved prior before bytes after : List ℕ) (old new : Connection) → InitiatorLives past c acts moved (prior ++ before) old → is_closed old.machine ≡ false → (h : Heard old bytes)
+    → ClosesAt old bytes h new before after None → InitiatorOver past c acts (moved ++ bytes) (prior ++ after) new
+ends_full past c acts moved prior before bytes after old new l live h e =
+    let o = come_on past c acts moved (prior ++ before) (take h.count bytes) old l h.messages h.framing h.moves in
     record {
       full = ap (λ (m : Machine). m.stage) e.machine ∙ (steps_well old.machine h.messages live (subst IsFullStage (sym l.machine) (full_stage c l.inputs))).quiet_end e.cause e.closes;
       inputs = o.is;
@@ -393,18 +407,18 @@ ends_full c acts moved prior before bytes after old new l live h e =
       rest = o.taken.rest ++ drop h.count bytes;
       whole = ap (λ (x : List ℕ). moved ++ x) (sym (take-append-drop h.count bytes)) ∙ sym (append_assoc moved (take h.count bytes) (drop h.count bytes))
           ∙ ap (λ (x : List ℕ). x ++ drop h.count bytes) o.taken.whole ∙ append_assoc o.taken.given o.taken.rest (drop h.count bytes);
-      limit = h.framing.limit;
-      reads = o.taken.reads;
+      reads = subst (λ (k : ℕ). ReadsAs k no_login o.taken.given (coming o.is)) (h.limit ∙ l.limit) o.taken.reads;
       order = o.order;
+      follows = o.follows;
       machine = e.machine ∙ o.machine;
       output = ap (λ (x : List ℕ). prior ++ x) e.output ∙ sym (append_assoc prior before (canon (heard_steps old bytes h).output)) ∙ o.output;
     }
 
 -- a session that a message closed
-closes_ended : (c : Opening) (acts : List Input) (moved prior before bytes after : List ℕ) (old new : Connection) (fault : Option InitiatorFault) → InitiatorLives c acts moved (prior ++ before) old → (h : Heard old bytes)
+closes_ended : (past : List Input) (c : Opening) (acts : List Input) (moved prior before bytes after : List ℕ) (old new : Connection) (fault : Option InitiatorFault) → InitiatorLives past c acts moved (prior ++ before) old → (h : Heard old bytes)
     → ClosesAt old bytes h new before after fault → InitiatorEnded c (moved ++ bytes) (prior ++ after) new
-closes_ended c acts moved prior before bytes after old new fault l h e =
-    let o = come_on c acts moved (prior ++ before) (take h.count bytes) old l h.messages h.framing h.moves in
+closes_ended past c acts moved prior before bytes after old new fault l h e =
+    let o = come_on past c acts moved (prior ++ before) (take h.count bytes) old l h.messages h.framing h.moves in
     record {
       limit = h.framing.limit;
       inputs = o.is;
@@ -419,21 +433,21 @@ closes_ended c acts moved prior before bytes after old new fault l h e =
       closed = sym (ap is_closed o.machine) ∙ e.closes;
     }
 
-closes_side : (c : Opening) (acts : List Input) (moved prior before bytes after : List ℕ) (old new : Connection) (fault : Option InitiatorFault) (kept : Option EndFault) → InitiatorLives c acts moved (prior ++ before) old → (h : Heard old bytes)
-    → (kept ≡ None → InitiatorOver c acts (moved ++ bytes) (prior ++ after) new) → (InitiatorEnded c (moved ++ bytes) (prior ++ after) new → InitiatorFailed kept c (moved ++ bytes) (prior ++ after) new)
-    → ClosesAt old bytes h new before after fault → InitiatorSide c acts (moved ++ bytes) (prior ++ after) new kept
-closes_side c acts moved prior before bytes after old new fault kept l h full why e = record {
-  failed = why (closes_ended c acts moved prior before bytes after old new fault l h e);
+closes_side : (past : List Input) (c : Opening) (acts : List Input) (moved prior before bytes after : List ℕ) (old new : Connection) (fault : Option InitiatorFault) (kept : Option EndFault) → InitiatorLives past c acts moved (prior ++ before) old → (h : Heard old bytes)
+    → (kept ≡ None → InitiatorOver past c acts (moved ++ bytes) (prior ++ after) new) → (InitiatorEnded c (moved ++ bytes) (prior ++ after) new → InitiatorFailed kept c (moved ++ bytes) (prior ++ after) new)
+    → ClosesAt old bytes h new before after fault → InitiatorSide past c acts (moved ++ bytes) (prior ++ after) new kept
+closes_side past c acts moved prior before bytes after old new fault kept l h full why e = record {
+  failed = why (closes_ended past c acts moved prior before bytes after old new fault l h e);
   over = λ none over. full none;
-  front = heard_front c acts moved prior before bytes after [] old new l h (append-nil after ∙ e.output) (ap (λ (m : Machine). m.stage) e.machine) (ap (λ (m : Machine). m.held) e.machine);
+  front = heard_front past c acts moved prior before bytes after [] old new l h (append-nil after ∙ e.output) (ap (λ (m : Machine). m.stage) e.machine) (ap (λ (m : Machine). m.held) e.machine);
   lives = λ none live. absurd (apart (ap is_closed e.machine ∙ e.closes) live);
 }
 
 -- a stream that was refused
-stream_broken : (c : Opening) (acts : List Input) (moved prior before bytes after : List ℕ) (old new : Connection) (fault : StreamFault) → InitiatorLives c acts moved (prior ++ before) old → (h : Heard old bytes) → fault ≢ stream.NoMemory
+stream_broken : (past : List Input) (c : Opening) (acts : List Input) (moved prior before bytes after : List ℕ) (old new : Connection) (fault : StreamFault) → InitiatorLives past c acts moved (prior ++ before) old → (h : Heard old bytes) → fault ≢ stream.NoMemory
     → StreamEnds old bytes h new before after fault → InitiatorBroken fault c (moved ++ bytes) (prior ++ after) new
-stream_broken c acts moved prior before bytes after old new fault l h some e =
-    let o = come_on c acts moved (prior ++ before) (take h.count bytes) old l h.messages h.framing h.moves in
+stream_broken past c acts moved prior before bytes after old new fault l h some e =
+    let o = come_on past c acts moved (prior ++ before) (take h.count bytes) old l h.messages h.framing h.moves in
     record {
       inputs = o.is;
       framing = h.framing;
@@ -450,22 +464,22 @@ stream_broken c acts moved prior before bytes after old new fault l h some e =
       stage = ap (λ (m : Machine). m.stage) e.machine ∙ ap (λ (m : Machine). m.stage) o.machine;
     }
 
-stream_side : (c : Opening) (acts : List Input) (moved prior before bytes after : List ℕ) (old new : Connection) (fault : StreamFault) (kept : EndFault) → InitiatorLives c acts moved (prior ++ before) old → (h : Heard old bytes) → fault ≢ stream.NoMemory → (InitiatorBroken fault c (moved ++ bytes) (prior ++ after) new → InitiatorFailed (Some kept) c (moved ++ bytes) (prior ++ after) new)
-    → StreamEnds old bytes h new before after fault → InitiatorSide c acts (moved ++ bytes) (prior ++ after) new (Some kept)
-stream_side c acts moved prior before bytes after old new fault kept l h some why e = record {
-  failed = why (stream_broken c acts moved prior before bytes after old new fault l h some e);
+stream_side : (past : List Input) (c : Opening) (acts : List Input) (moved prior before bytes after : List ℕ) (old new : Connection) (fault : StreamFault) (kept : EndFault) → InitiatorLives past c acts moved (prior ++ before) old → (h : Heard old bytes) → fault ≢ stream.NoMemory → (InitiatorBroken fault c (moved ++ bytes) (prior ++ after) new → InitiatorFailed (Some kept) c (moved ++ bytes) (prior ++ after) new)
+    → StreamEnds old bytes h new before after fault → InitiatorSide past c acts (moved ++ bytes) (prior ++ after) new (Some kept)
+stream_side past c acts moved prior before bytes after old new fault kept l h some why e = record {
+  failed = why (stream_broken past c acts moved prior before bytes after old new fault l h some e);
   over = λ none over. absurd (cc none);
-  front = heard_front c acts moved prior before bytes after [] old new l h (append-nil after ∙ e.output) (ap (λ (m : Machine). m.stage) e.machine) (ap (λ (m : Machine). m.held) e.machine);
+  front = heard_front past c acts moved prior before bytes after [] old new l h (append-nil after ∙ e.output) (ap (λ (m : Machine). m.stage) e.machine) (ap (λ (m : Machine). m.held) e.machine);
   lives = λ none live. absurd (cc none);
 }
 
-stays_side : (c : Opening) (acts : List Input) (moved prior before bytes after : List ℕ) (old new : Connection) (kept : EndFault) → InitiatorSide c acts moved (prior ++ before) old None
+stays_side : (past : List Input) (c : Opening) (acts : List Input) (moved prior before bytes after : List ℕ) (old new : Connection) (kept : EndFault) → InitiatorSide past c acts moved (prior ++ before) old None
     → (InitiatorEnded c (moved ++ bytes) (prior ++ after) new → InitiatorFailed (Some kept) c (moved ++ bytes) (prior ++ after) new)
-    → Stays old new before after → InitiatorSide c acts (moved ++ bytes) (prior ++ after) new (Some kept)
-stays_side c acts moved prior before bytes after old new kept s why e = record {
-  failed = why (let l : InitiatorOver c acts moved (prior ++ before) old = s.over refl e.closed in
+    → Stays old new before after → InitiatorSide past c acts (moved ++ bytes) (prior ++ after) new (Some kept)
+stays_side past c acts moved prior before bytes after old new kept s why e = record {
+  failed = why (let l : InitiatorOver past c acts moved (prior ++ before) old = s.over refl e.closed in
       let there : InitiatorEnded c moved (prior ++ before) old = record {
-        limit = l.limit;
+        limit = limit c.initiator;
         inputs = l.inputs;
         given = l.given;
         rest = l.rest;
@@ -493,55 +507,55 @@ failed_open : (b : Bool) (old : Connection) (bytes : List ℕ) (h : Heard old by
 failed_open true old bytes h fault is cause = absurd (no_fault old h.messages fault is cause)
 failed_open false old bytes h fault is cause = is
 
-stream_fails : (fault : StreamFault) (c : Opening) (acts : List Input) (moved prior before bytes after : List ℕ) (old new : Connection) → InitiatorSide c acts moved (prior ++ before) old None
+stream_fails : (fault : StreamFault) (past : List Input) (c : Opening) (acts : List Input) (moved prior before bytes after : List ℕ) (old new : Connection) → InitiatorSide past c acts moved (prior ++ before) old None
     → StreamFails fault old bytes new before after → (kept : EndFault) → (InitiatorBroken fault c (moved ++ bytes) (prior ++ after) new → InitiatorFailed (Some kept) c (moved ++ bytes) (prior ++ after) new)
-    → InitiatorSide c acts (moved ++ bytes) (prior ++ after) new (Some kept)
-stream_fails stream.NoMemory c acts moved prior before bytes after old new s e kept why = absurd e
-stream_fails (stream.Head fault place) c acts moved prior before bytes after old new s e kept why =
-    stream_side c acts moved prior before bytes after old new (stream.Head fault place) kept (s.lives refl (was_open _ old bytes e.0 refl e.1.live)) e.0 (λ n. cc n) why e.1
-stream_fails (stream.OverLimit place) c acts moved prior before bytes after old new s e kept why =
-    stream_side c acts moved prior before bytes after old new (stream.OverLimit place) kept (s.lives refl (was_open _ old bytes e.0 refl e.1.live)) e.0 (λ n. cc n) why e.1
-stream_fails (stream.Truncated place) c acts moved prior before bytes after old new s e kept why =
-    stream_side c acts moved prior before bytes after old new (stream.Truncated place) kept (s.lives refl (was_open _ old bytes e.0 refl e.1.live)) e.0 (λ n. cc n) why e.1
-stream_fails stream.Failed c acts moved prior before bytes after old new s e kept why =
-    stream_side c acts moved prior before bytes after old new stream.Failed kept (s.lives refl (was_open _ old bytes e.0 refl e.1.live)) e.0 (λ n. cc n) why e.1
+    → InitiatorSide past c acts (moved ++ bytes) (prior ++ after) new (Some kept)
+stream_fails stream.NoMemory past c acts moved prior before bytes after old new s e kept why = absurd e
+stream_fails (stream.Head fault place) past c acts moved prior before bytes after old new s e kept why =
+    stream_side past c acts moved prior before bytes after old new (stream.Head fault place) kept (s.lives refl (was_open _ old bytes e.0 refl e.1.live)) e.0 (λ n. cc n) why e.1
+stream_fails (stream.OverLimit place) past c acts moved prior before bytes after old new s e kept why =
+    stream_side past c acts moved prior before bytes after old new (stream.OverLimit place) kept (s.lives refl (was_open _ old bytes e.0 refl e.1.live)) e.0 (λ n. cc n) why e.1
+stream_fails (stream.Truncated place) past c acts moved prior before bytes after old new s e kept why =
+    stream_side past c acts moved prior before bytes after old new (stream.Truncated place) kept (s.lives refl (was_open _ old bytes e.0 refl e.1.live)) e.0 (λ n. cc n) why e.1
+stream_fails stream.Failed past c acts moved prior before bytes after old new s e kept why =
+    stream_side past c acts moved prior before bytes after old new stream.Failed kept (s.lives refl (was_open _ old bytes e.0 refl e.1.live)) e.0 (λ n. cc n) why e.1
 
-closes_fails : (fault : InitiatorFault) (c : Opening) (acts : List Input) (moved prior before bytes after : List ℕ) (old new : Connection) → InitiatorSide c acts moved (prior ++ before) old None
+closes_fails : (fault : InitiatorFault) (past : List Input) (c : Opening) (acts : List Input) (moved prior before bytes after : List ℕ) (old new : Connection) → InitiatorSide past c acts moved (prior ++ before) old None
     → (e : (h : Heard old bytes) × ClosesAt old bytes h new before after (Some fault)) → (kept : EndFault)
-    → (InitiatorEnded c (moved ++ bytes) (prior ++ after) new → InitiatorFailed (Some kept) c (moved ++ bytes) (prior ++ after) new) → InitiatorSide c acts (moved ++ bytes) (prior ++ after) new (Some kept)
-closes_fails fault c acts moved prior before bytes after old new s e kept why =
-    closes_side c acts moved prior before bytes after old new (Some fault) (Some kept) (s.lives refl (failed_open _ old bytes e.0 fault refl e.1.cause)) e.0 (λ none. absurd (cc none)) why e.1
+    → (InitiatorEnded c (moved ++ bytes) (prior ++ after) new → InitiatorFailed (Some kept) c (moved ++ bytes) (prior ++ after) new) → InitiatorSide past c acts (moved ++ bytes) (prior ++ after) new (Some kept)
+closes_fails fault past c acts moved prior before bytes after old new s e kept why =
+    closes_side past c acts moved prior before bytes after old new (Some fault) (Some kept) (s.lives refl (failed_open _ old bytes e.0 fault refl e.1.cause)) e.0 (λ none. absurd (cc none)) why e.1
 
 -- the initiator heard these bytes
-pub initiator_heard : (result : Result Phase InitiatorFault) (c : Opening) (acts : List Input) (moved prior before bytes after : List ℕ) (old new : Connection) → InitiatorSide c acts moved (prior ++ before) old None
-    → Feeds result old bytes new before after → InitiatorSide c acts (moved ++ bytes) (prior ++ after) new (feed_fault (result_err result))
-initiator_heard (Ok phase) c acts moved prior before bytes after old new s e =
+pub initiator_heard : (result : Result Phase InitiatorFault) (past : List Input) (c : Opening) (acts : List Input) (moved prior before bytes after : List ℕ) (old new : Connection) → InitiatorSide past c acts moved (prior ++ before) old None
+    → Feeds result old bytes new before after → InitiatorSide past c acts (moved ++ bytes) (prior ++ after) new (feed_fault (result_err result))
+initiator_heard (Ok phase) past c acts moved prior before bytes after old new s e =
     elim e.1.1 [
-      | inl all ↦ (let l : InitiatorLives c acts (moved ++ bytes) (prior ++ after) new = hears_all c acts moved prior before bytes after old new phase (s.lives refl e.0) e.1.0 all in
-          record { front = lives_front c acts (moved ++ bytes) (prior ++ after) new l; failed = tt; over = λ none over. absurd (apart over (ap (λ (x : Connection). is_closed x.machine) all.connection ∙ all.live)); lives = λ none live. l })
-      | inr over ↦ closes_side c acts moved prior before bytes after old new None None (s.lives refl e.0) e.1.0 (λ none. ends_full c acts moved prior before bytes after old new (s.lives refl e.0) e.0 e.1.0 over.0) (λ x. tt) over.0
+      | inl all ↦ (let l : InitiatorLives past c acts (moved ++ bytes) (prior ++ after) new = hears_all past c acts moved prior before bytes after old new phase (s.lives refl e.0) e.1.0 all in
+          record { front = lives_front past c acts (moved ++ bytes) (prior ++ after) new l; failed = tt; over = λ none over. absurd (apart over (ap (λ (x : Connection). is_closed x.machine) all.connection ∙ all.live)); lives = λ none live. l })
+      | inr over ↦ closes_side past c acts moved prior before bytes after old new None None (s.lives refl e.0) e.1.0 (λ none. ends_full past c acts moved prior before bytes after old new (s.lives refl e.0) e.0 e.1.0 over.0) (λ x. tt) over.0
     ]
-initiator_heard (Err faults.NoMemory) c acts moved prior before bytes after old new s e =
-    let l : InitiatorLives c acts moved (prior ++ before) old = s.lives refl (was_open _ old bytes e.0 refl e.1.live) in
+initiator_heard (Err faults.NoMemory) past c acts moved prior before bytes after old new s e =
+    let l : InitiatorLives past c acts moved (prior ++ before) old = s.lives refl (was_open _ old bytes e.0 refl e.1.live) in
     record {
-      front = heard_front c acts moved prior before bytes after (canon (heard_steps old bytes e.0).output) old new l e.0 (ap (λ (x : List ℕ). x ++ canon (heard_steps old bytes e.0).output) e.1.output)
+      front = heard_front past c acts moved prior before bytes after (canon (heard_steps old bytes e.0).output) old new l e.0 (ap (λ (x : List ℕ). x ++ canon (heard_steps old bytes e.0).output) e.1.output)
           (ap (λ (m : Machine). m.stage) e.1.machine) (ap (λ (m : Machine). m.held) e.1.machine);
       failed = tt;
       over = λ none over. absurd (cc none);
       lives = λ none live. absurd (cc none);
     }
-initiator_heard (Err (faults.Stream fault)) c acts moved prior before bytes after old new s e = stream_fails fault c acts moved prior before bytes after old new s e _ (λ x. x)
-initiator_heard (Err (faults.Protocol rule)) c acts moved prior before bytes after old new s e = closes_fails (faults.Protocol rule) c acts moved prior before bytes after old new s e _ (λ x. x)
-initiator_heard (Err (faults.Refused class detail)) c acts moved prior before bytes after old new s e = closes_fails (faults.Refused class detail) c acts moved prior before bytes after old new s e _ (λ x. x)
-initiator_heard (Err (faults.BadAnswer key)) c acts moved prior before bytes after old new s e = closes_fails (faults.BadAnswer key) c acts moved prior before bytes after old new s e _ (λ x. x)
-initiator_heard (Err faults.Closed) c acts moved prior before bytes after old new s e = stays_side c acts moved prior before bytes after old new _ s (λ x. x) e
+initiator_heard (Err (faults.Stream fault)) past c acts moved prior before bytes after old new s e = stream_fails fault past c acts moved prior before bytes after old new s e _ (λ x. x)
+initiator_heard (Err (faults.Protocol rule)) past c acts moved prior before bytes after old new s e = closes_fails (faults.Protocol rule) past c acts moved prior before bytes after old new s e _ (λ x. x)
+initiator_heard (Err (faults.Refused class detail)) past c acts moved prior before bytes after old new s e = closes_fails (faults.Refused class detail) past c acts moved prior before bytes after old new s e _ (λ x. x)
+initiator_heard (Err (faults.BadAnswer key)) past c acts moved prior before bytes after old new s e = closes_fails (faults.BadAnswer key) past c acts moved prior before bytes after old new s e _ (λ x. x)
+initiator_heard (Err faults.Closed) past c acts moved prior before bytes after old new s e = stays_side past c acts moved prior before bytes after old new _ s (λ x. x) e
 
 -- ---- a request, and the taking of an outcome
 
 -- the outcome is taken
-pub initiator_took_outcome : (c : Opening) (acts : List Input) (moved out : List ℕ) (i : Connection) (fault : Option EndFault) → InitiatorSide c acts moved out i fault
-    → InitiatorSide c (acts ++ Takes ∷ []) moved out (after_taking i) fault
-initiator_took_outcome c acts moved out i fault s =
+pub initiator_took_outcome : (past : List Input) (c : Opening) (acts : List Input) (moved out : List ℕ) (i : Connection) (fault : Option EndFault) → InitiatorSide past c acts moved out i fault
+    → InitiatorSide past c (acts ++ Takes ∷ []) moved out (after_taking i) fault
+initiator_took_outcome past c acts moved out i fault s =
     let f : InitiatorFront c moved out i = s.front in
     let coming_same : (inputs : List Input) → coming inputs ≡ coming (inputs ++ Takes ∷ []) = λ inputs. sym (append-nil (coming inputs)) ∙ sym (coming_append inputs (Takes ∷ [])) in
     let sent_same : (inputs : List Input) → canon (all_sent c inputs) ≡ canon (all_sent c (inputs ++ Takes ∷ [])) = λ inputs.
@@ -562,22 +576,23 @@ initiator_took_outcome c acts moved out i fault s =
         held = f.held;
       };
       failed = fault_taken fault c moved out i s.failed;
-      over = λ none over. (let l : InitiatorOver c acts moved out i = s.over none over in record {
+      over = λ none over. (let l : InitiatorOver past c acts moved out i = s.over none over in record {
         full = l.full;
         inputs = l.inputs ++ Takes ∷ [];
         given = l.given;
         rest = l.rest;
         whole = l.whole;
-        limit = l.limit;
-        reads = subst (λ (xs : List Message). ReadsAs l.limit no_login l.given xs) (coming_same l.inputs) l.reads;
+        reads = subst (λ (xs : List Message). ReadsAs (limit c.initiator) no_login l.given xs) (coming_same l.inputs) l.reads;
         order = order_same l.inputs l.order;
+        follows = follows_more past l.inputs (Takes ∷ []) l.follows;
         machine = ap taken l.machine ∙ sym (after_append (begun c) l.inputs (Takes ∷ []));
         output = l.output ∙ sent_same l.inputs;
       });
-      lives = λ none live. (let l : InitiatorLives c acts moved out i = s.lives none live in record {
+      lives = λ none live. (let l : InitiatorLives past c acts moved out i = s.lives none live in record {
         inputs = l.inputs ++ Takes ∷ [];
         taken = subst (λ (xs : List Message). HasTaken moved xs i.framing) (coming_same l.inputs) l.taken;
         order = order_same l.inputs l.order;
+        follows = follows_more past l.inputs (Takes ∷ []) l.follows;
         machine = ap taken l.machine ∙ sym (after_append (begun c) l.inputs (Takes ∷ []));
         output = l.output ∙ sent_same l.inputs;
         unready = l.unready;
@@ -600,17 +615,18 @@ unfolding submitted
 not_closed true m request c n = absurd (refused_closed m.phase m request refl c (or_refusal (refusal m request) m request refl n))
 not_closed false m request c n = c
 
-accepts_side : (c : Opening) (acts : List Input) (moved prior before after : List ℕ) (old new : Connection) (request : Request) → InitiatorSide c acts moved (prior ++ before) old None
-    → Accepts old request new before after → InitiatorSide c (acts ++ Asks request ∷ []) moved (prior ++ after) new None
-accepts_side c acts moved prior before after old new request s e =
-    let l : InitiatorLives c acts moved (prior ++ before) old = s.lives refl (not_closed _ old.machine request refl e.none) in
+accepts_side : (past : List Input) (c : Opening) (acts : List Input) (moved prior before after : List ℕ) (old new : Connection) (request : Request) → InitiatorSide past c acts moved (prior ++ before) old None
+    → Accepts old request new before after → InitiatorSide past c (acts ++ Asks request ∷ []) moved (prior ++ after) new None
+accepts_side past c acts moved prior before after old new request s e =
+    let l : InitiatorLives past c acts moved (prior ++ before) old = s.lives refl (not_closed _ old.machine request refl e.none) in
     let first : List Message = (start_step (opening c.initiator)).output in
     let now : Machine = after_all (begun c) l.inputs in
-    let more : InitiatorLives c (acts ++ Asks request ∷ []) moved (prior ++ after) new = record {
+    let more : InitiatorLives past c (acts ++ Asks request ∷ []) moved (prior ++ after) new = record {
       inputs = l.inputs ++ Asks request ∷ [];
       taken = subst (λ (v : Framing). HasTaken moved (coming (l.inputs ++ Asks request ∷ [])) v) (sym (ap (λ (x : Connection). x.framing) e.connection))
           (subst (λ (xs : List Message). HasTaken moved xs old.framing) (sym (append-nil (coming l.inputs)) ∙ sym (coming_append l.inputs (Asks request ∷ []))) l.taken);
       order = demanded_append l.inputs (Asks request ∷ []) ∙ ap (λ (x : List Input). x ++ Asks request ∷ []) l.order;
+      follows = follows_more past l.inputs (Asks request ∷ []) l.follows;
       machine = ap (λ (x : Connection). x.machine) e.connection ∙ ap (λ (m : Machine). (submitted m request).machine) l.machine ∙ sym (after_append (begun c) l.inputs (Asks request ∷ []));
       output = ap (λ (x : List ℕ). prior ++ x) e.output ∙ sym (append_assoc prior before (canon (submitted old.machine request).output))
           ∙ ap (λ (x : List ℕ). x ++ canon (submitted old.machine request).output) l.output
@@ -624,13 +640,13 @@ accepts_side c acts moved prior before after old new request s e =
     let live : is_closed old.machine ≡ false = not_closed _ old.machine request refl e.none in
     let open_ : is_closed new.machine ≡ false =
     ap (λ (x : Connection). is_closed x.machine) e.connection ∙ ap is_closed_phase (asked_phase old.machine request) ∙ live in
-    record { front = lives_front c (acts ++ Asks request ∷ []) moved (prior ++ after) new more; failed = tt; over = λ none over. absurd (apart over open_); lives = λ none live. more }
+    record { front = lives_front past c (acts ++ Asks request ∷ []) moved (prior ++ after) new more; failed = tt; over = λ none over. absurd (apart over open_); lives = λ none live. more }
 
 -- a request was handed in
-pub initiator_asked : (result : Result (Unit {0}) Refused) (c : Opening) (acts : List Input) (moved prior before after : List ℕ) (old new : Connection) (request : Request) → InitiatorSide c acts moved (prior ++ before) old None
-    → Submits result old request new before after → InitiatorSide c (acts ++ Asks request ∷ []) moved (prior ++ after) new (submit_fault (result_err result))
-initiator_asked (Ok done) c acts moved prior before after old new request s e = accepts_side c acts moved prior before after old new request s e
-initiator_asked (Err refused) c acts moved prior before after old new request s e = record {
+pub initiator_asked : (result : Result (Unit {0}) Refused) (past : List Input) (c : Opening) (acts : List Input) (moved prior before after : List ℕ) (old new : Connection) (request : Request) → InitiatorSide past c acts moved (prior ++ before) old None
+    → Submits result old request new before after → InitiatorSide past c (acts ++ Asks request ∷ []) moved (prior ++ after) new (submit_fault (result_err result))
+initiator_asked (Ok done) past c acts moved prior before after old new request s e = accepts_side past c acts moved prior before after old new request s e
+initiator_asked (Err refused) past c acts moved prior before after old new request s e = record {
   front = subst (λ (x : List ℕ). InitiatorFront c moved (prior ++ x) new) (sym e.output) (subst (λ (x : Connection). InitiatorFront c moved (prior ++ before) x) (sym e.connection) s.front);
   failed = tt;
   over = λ none over. absurd (cc none);
@@ -638,9 +654,9 @@ initiator_asked (Err refused) c acts moved prior before after old new request s 
 }
 
 -- an end that has failed drops what is demanded
-pub failed_drops : (c : Opening) (acts more : List Input) (moved out : List ℕ) (i : Connection) (fault : Option EndFault) (kept : EndFault) → fault ≡ Some kept → InitiatorSide c acts moved out i fault
-    → InitiatorSide c (acts ++ more) moved out i fault
-failed_drops c acts more moved out i fault kept is s = record {
+pub failed_drops : (past : List Input) (c : Opening) (acts more : List Input) (moved out : List ℕ) (i : Connection) (fault : Option EndFault) (kept : EndFault) → fault ≡ Some kept → InitiatorSide past c acts moved out i fault
+    → InitiatorSide past c (acts ++ more) moved out i fault
+failed_drops past c acts more moved out i fault kept is s = record {
   front = s.front;
   failed = s.failed;
   over = λ none over. absurd (let bad : Some kept ≡ None = sym is ∙ none in cc);

@@ -200,7 +200,7 @@ all_events : (c : Opening) (t : Traffic) (old same : World) (events : List Event
 unfolding RunsCalmly
 all_events c t old same [] v w s l a b = same_worlds old same v w l a b
 all_events c t old same (event ∷ events) v w s l a b =
-    all_events c (traffic_after t old event a.0) a.0 b.0 events v w (happens_sides c t old event a.0 s a.1) (one_event c t old same event a.0 b.0 s l a.1 b.1 a.2 b.2) a.3 b.3
+    all_events c (traffic_after t old event a.0) a.0 b.0 events v w (happens_sides [] c t old event a.0 s a.1) (one_event c t old same event a.0 b.0 s l a.1 b.1 a.2 b.2) a.3 b.3
 
 itself : (w : World) → LooksAlike w w
 itself w = record {

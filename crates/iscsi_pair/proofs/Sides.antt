@@ -27,12 +27,15 @@ use Rattle.iscsi_pair.specs.Traffic.{Traffic, first_traffic, behind, traffic_aft
 use Rattle.iscsi_pair.proofs.TargetSide.{TargetSide, target_heard, opening_side as target_opening, front_drops as target_drops, failed_drops as target_failed}
 use Rattle.iscsi_pair.proofs.InitiatorSide.{InitiatorSide, initiator_heard, initiator_asked, initiator_took_outcome, failed_drops, fault_drops, opening_side as initiator_opening, front_drops as initiator_drops}
 
--- what holds of a world and of what went between its ends
-pub record Sides (c : Opening) (t : Traffic) (w : World) : Type 0 where
+-- what holds of a world and of what went between its ends, where the initiator met these inputs first
+pub record SidesFrom (past : List inputs.Input) (c : Opening) (t : Traffic) (w : World) : Type 0 where
   pub to_target : t.moved_to_target ++ w.to_target ≡ t.queued_for_target
   pub to_initiator : t.moved_to_initiator ++ w.to_initiator ≡ t.queued_for_initiator
   pub target : TargetSide c t.moved_to_target t.queued_for_initiator w.target w.blocks w.target_fault
-  pub initiator : InitiatorSide c t.demands t.moved_to_initiator t.queued_for_target w.initiator w.initiator_fault
+  pub initiator : InitiatorSide past c t.demands t.moved_to_initiator t.queued_for_target w.initiator w.initiator_fault
+
+abbrev pub Sides : Opening → Traffic → World → Type 0
+Sides c t w = SidesFrom [] c t w
 
 pub opening_sides : (c : Opening) → Sides c (first_traffic c) (new_pair c)
 opening_sides c = record { to_target = refl; to_initiator = refl; target = target_opening c; initiator = initiator_opening c }
@@ -103,8 +106,8 @@ asked_grows (Err refused) old request new before after e = grows_none before aft
 
 -- ---- one event
 
-same_traffic : (c : Opening) (t u : Traffic) (w : World) → u ≡ t → Sides c t w → Sides c u w
-same_traffic c t u w e s = subst (λ (x : Traffic). Sides c x w) (sym e) s
+same_traffic : (past : List inputs.Input) (c : Opening) (t u : Traffic) (w : World) → u ≡ t → SidesFrom past c t w → SidesFrom past c u w
+same_traffic past c t u w e s = subst (λ (x : Traffic). SidesFrom past c x w) (sym e) s
 
 -- what an event adds that moves these bytes to the target
 abbrev to_target_adds : Traffic → World → List ℕ → World → Traffic
@@ -140,9 +143,9 @@ to_initiator_none t w = λ i. record {
   demands = t.demands;
 }
 
-target_hears : (c : Opening) (t : Traffic) (old new : World) (k : ℕ) (moved : List ℕ) → moved ≡ take k old.to_target → old.target_fault ≡ None → Sides c t old → TargetHears moved old new
-    → Sides c (to_target_adds t old moved new) new
-target_hears c t old new k moved m none s h =
+target_hears : (past : List inputs.Input) (c : Opening) (t : Traffic) (old new : World) (k : ℕ) (moved : List ℕ) → moved ≡ take k old.to_target → old.target_fault ≡ None → SidesFrom past c t old → TargetHears moved old new
+    → SidesFrom past c (to_target_adds t old moved new) new
+target_hears past c t old new k moved m none s h =
     let g : Grows old.to_initiator new.to_initiator = target_grows (target_machine.is_closed old.target.machine) old.target (store_of old.blocks) old.to_initiator moved h.result new.target (store_of new.blocks) new.to_initiator h.fed in
     let q : t.moved_to_initiator ++ new.to_initiator ≡ t.queued_for_initiator ++ behind old.to_initiator new.to_initiator = queued_more t.moved_to_initiator old.to_initiator new.to_initiator t.queued_for_initiator g s.to_initiator in
     let side : TargetSide c (t.moved_to_target ++ moved) (t.moved_to_initiator ++ new.to_initiator) new.target new.blocks (result_err h.result) =
@@ -157,16 +160,16 @@ target_hears c t old new k moved m none s h =
       to_initiator = q;
       target = subst (λ (x : Option TargetFault). TargetSide c (t.moved_to_target ++ moved) (t.queued_for_initiator ++ behind old.to_initiator new.to_initiator) new.target new.blocks x) (sym h.fault)
           (subst (λ (x : List ℕ). TargetSide c (t.moved_to_target ++ moved) x new.target new.blocks (result_err h.result)) q side);
-      initiator = subst (λ (x : Option EndFault). InitiatorSide c t.demands t.moved_to_initiator t.queued_for_target new.initiator x) (sym h.other_fault)
-          (subst (λ (x : initiator.Connection). InitiatorSide c t.demands t.moved_to_initiator t.queued_for_target x old.initiator_fault) (sym h.initiator) s.initiator);
+      initiator = subst (λ (x : Option EndFault). InitiatorSide past c t.demands t.moved_to_initiator t.queued_for_target new.initiator x) (sym h.other_fault)
+          (subst (λ (x : initiator.Connection). InitiatorSide past c t.demands t.moved_to_initiator t.queued_for_target x old.initiator_fault) (sym h.initiator) s.initiator);
     }
 
-moves_to_target : (fault : Option TargetFault) (moved : List ℕ) (c : Opening) (t : Traffic) (old new : World) (k : ℕ) → old.target_fault ≡ fault → moved ≡ take k old.to_target → Sides c t old
-    → MovesToTarget fault moved old new → Sides c (to_target_adds t old moved new) new
-moves_to_target fault [] c t old new k f m s e =
-    subst (λ (w : World). Sides c (to_target_adds t old [] w) w) (sym e) (same_traffic c t (to_target_adds t old [] old) old (to_target_none t old) s)
-moves_to_target None (byte ∷ bytes) c t old new k f m s e = target_hears c t old new k (byte ∷ bytes) m f s e
-moves_to_target (Some fault) (byte ∷ bytes) c t old new k f m s e =
+moves_to_target : (fault : Option TargetFault) (moved : List ℕ) (past : List inputs.Input) (c : Opening) (t : Traffic) (old new : World) (k : ℕ) → old.target_fault ≡ fault → moved ≡ take k old.to_target → SidesFrom past c t old
+    → MovesToTarget fault moved old new → SidesFrom past c (to_target_adds t old moved new) new
+moves_to_target fault [] past c t old new k f m s e =
+    subst (λ (w : World). SidesFrom past c (to_target_adds t old [] w) w) (sym e) (same_traffic past c t (to_target_adds t old [] old) old (to_target_none t old) s)
+moves_to_target None (byte ∷ bytes) past c t old new k f m s e = target_hears past c t old new k (byte ∷ bytes) m f s e
+moves_to_target (Some fault) (byte ∷ bytes) past c t old new k f m s e =
     let moved : List ℕ = byte ∷ bytes in
     let w : World = record old { to_target = drop (length moved) old.to_target } in
     let q : t.queued_for_initiator ++ behind old.to_initiator old.to_initiator ≡ t.queued_for_initiator = nothing_behind t.queued_for_initiator old.to_initiator in
@@ -176,58 +179,58 @@ moves_to_target (Some fault) (byte ∷ bytes) c t old new k f m s e =
       over = λ none over. absurd (let bad : Some fault ≡ None = sym f ∙ none in cc);
       lives = λ none live. absurd (let bad : Some fault ≡ None = sym f ∙ none in cc);
     } in
-    let there : Sides c (to_target_adds t old moved w) w = record {
+    let there : SidesFrom past c (to_target_adds t old moved w) w = record {
       to_target = ap (λ (x : List ℕ). (t.moved_to_target ++ x) ++ drop (length x) old.to_target) m ∙ moved_front t.moved_to_target old.to_target t.queued_for_target k s.to_target;
       to_initiator = s.to_initiator ∙ sym q;
       target = subst (λ (x : List ℕ). TargetSide c (t.moved_to_target ++ moved) x old.target old.blocks old.target_fault) (sym q) side;
       initiator = s.initiator;
     } in
-    subst (λ (x : World). Sides c (to_target_adds t old moved x) x) (sym e) there
+    subst (λ (x : World). SidesFrom past c (to_target_adds t old moved x) x) (sym e) there
 
-initiator_hears : (c : Opening) (t : Traffic) (old new : World) (k : ℕ) (moved : List ℕ) → moved ≡ take k old.to_initiator → old.initiator_fault ≡ None → Sides c t old → InitiatorHears moved old new
-    → Sides c (to_initiator_adds t old moved new) new
-initiator_hears c t old new k moved m none s h =
+initiator_hears : (past : List inputs.Input) (c : Opening) (t : Traffic) (old new : World) (k : ℕ) (moved : List ℕ) → moved ≡ take k old.to_initiator → old.initiator_fault ≡ None → SidesFrom past c t old → InitiatorHears moved old new
+    → SidesFrom past c (to_initiator_adds t old moved new) new
+initiator_hears past c t old new k moved m none s h =
     let g : Grows old.to_target new.to_target = initiator_grows h.result old.initiator moved new.initiator old.to_target new.to_target h.fed in
     let q : t.moved_to_target ++ new.to_target ≡ t.queued_for_target ++ behind old.to_target new.to_target = queued_more t.moved_to_target old.to_target new.to_target t.queued_for_target g s.to_target in
-    let side : InitiatorSide c t.demands (t.moved_to_initiator ++ moved) (t.moved_to_target ++ new.to_target) new.initiator (feed_fault (result_err h.result)) =
-    initiator_heard h.result c t.demands t.moved_to_initiator t.moved_to_target old.to_target moved new.to_target old.initiator new.initiator
-    (subst (λ (x : Option EndFault). InitiatorSide c t.demands t.moved_to_initiator (t.moved_to_target ++ old.to_target) old.initiator x) none
-    (subst (λ (x : List ℕ). InitiatorSide c t.demands t.moved_to_initiator x old.initiator old.initiator_fault) (sym s.to_target) s.initiator))
+    let side : InitiatorSide past c t.demands (t.moved_to_initiator ++ moved) (t.moved_to_target ++ new.to_target) new.initiator (feed_fault (result_err h.result)) =
+    initiator_heard h.result past c t.demands t.moved_to_initiator t.moved_to_target old.to_target moved new.to_target old.initiator new.initiator
+    (subst (λ (x : Option EndFault). InitiatorSide past c t.demands t.moved_to_initiator (t.moved_to_target ++ old.to_target) old.initiator x) none
+    (subst (λ (x : List ℕ). InitiatorSide past c t.demands t.moved_to_initiator x old.initiator old.initiator_fault) (sym s.to_target) s.initiator))
     h.fed in
     record {
       to_initiator = ap (λ (x : List ℕ). (t.moved_to_initiator ++ moved) ++ x) h.dropped
           ∙ ap (λ (x : List ℕ). (t.moved_to_initiator ++ x) ++ drop (length x) old.to_initiator) m
           ∙ moved_front t.moved_to_initiator old.to_initiator t.queued_for_initiator k s.to_initiator;
       to_target = q;
-      initiator = subst (λ (x : Option EndFault). InitiatorSide c t.demands (t.moved_to_initiator ++ moved) (t.queued_for_target ++ behind old.to_target new.to_target) new.initiator x) (sym h.fault)
-          (subst (λ (x : List ℕ). InitiatorSide c t.demands (t.moved_to_initiator ++ moved) x new.initiator (feed_fault (result_err h.result))) q side);
+      initiator = subst (λ (x : Option EndFault). InitiatorSide past c t.demands (t.moved_to_initiator ++ moved) (t.queued_for_target ++ behind old.to_target new.to_target) new.initiator x) (sym h.fault)
+          (subst (λ (x : List ℕ). InitiatorSide past c t.demands (t.moved_to_initiator ++ moved) x new.initiator (feed_fault (result_err h.result))) q side);
       target = subst (λ (x : Option TargetFault). TargetSide c t.moved_to_target t.queued_for_initiator new.target new.blocks x) (sym h.other_fault)
           (subst (λ (x : List ℕ). TargetSide c t.moved_to_target t.queued_for_initiator new.target x old.target_fault) (sym h.blocks)
           (subst (λ (x : target.Connection). TargetSide c t.moved_to_target t.queued_for_initiator x old.blocks old.target_fault) (sym h.target) s.target));
     }
 
-moves_to_initiator : (fault : Option EndFault) (moved : List ℕ) (c : Opening) (t : Traffic) (old new : World) (k : ℕ) → old.initiator_fault ≡ fault → moved ≡ take k old.to_initiator → Sides c t old
-    → MovesToInitiator fault moved old new → Sides c (to_initiator_adds t old moved new) new
-moves_to_initiator fault [] c t old new k f m s e =
-    subst (λ (w : World). Sides c (to_initiator_adds t old [] w) w) (sym e) (same_traffic c t (to_initiator_adds t old [] old) old (to_initiator_none t old) s)
-moves_to_initiator None (byte ∷ bytes) c t old new k f m s e = initiator_hears c t old new k (byte ∷ bytes) m f s e
-moves_to_initiator (Some fault) (byte ∷ bytes) c t old new k f m s e =
+moves_to_initiator : (fault : Option EndFault) (moved : List ℕ) (past : List inputs.Input) (c : Opening) (t : Traffic) (old new : World) (k : ℕ) → old.initiator_fault ≡ fault → moved ≡ take k old.to_initiator → SidesFrom past c t old
+    → MovesToInitiator fault moved old new → SidesFrom past c (to_initiator_adds t old moved new) new
+moves_to_initiator fault [] past c t old new k f m s e =
+    subst (λ (w : World). SidesFrom past c (to_initiator_adds t old [] w) w) (sym e) (same_traffic past c t (to_initiator_adds t old [] old) old (to_initiator_none t old) s)
+moves_to_initiator None (byte ∷ bytes) past c t old new k f m s e = initiator_hears past c t old new k (byte ∷ bytes) m f s e
+moves_to_initiator (Some fault) (byte ∷ bytes) past c t old new k f m s e =
     let moved : List ℕ = byte ∷ bytes in
     let w : World = record old { to_initiator = drop (length moved) old.to_initiator } in
     let q : t.queued_for_target ++ behind old.to_target old.to_target ≡ t.queued_for_target = nothing_behind t.queued_for_target old.to_target in
-    let side : InitiatorSide c t.demands (t.moved_to_initiator ++ moved) t.queued_for_target old.initiator old.initiator_fault = record {
+    let side : InitiatorSide past c t.demands (t.moved_to_initiator ++ moved) t.queued_for_target old.initiator old.initiator_fault = record {
       front = initiator_drops c t.moved_to_initiator moved t.queued_for_target old.initiator s.initiator.front;
       failed = fault_drops old.initiator_fault c t.moved_to_initiator moved t.queued_for_target old.initiator s.initiator.failed;
       over = λ none over. absurd (let bad : Some fault ≡ None = sym f ∙ none in cc);
       lives = λ none live. absurd (let bad : Some fault ≡ None = sym f ∙ none in cc);
     } in
-    let there : Sides c (to_initiator_adds t old moved w) w = record {
+    let there : SidesFrom past c (to_initiator_adds t old moved w) w = record {
       to_initiator = ap (λ (x : List ℕ). (t.moved_to_initiator ++ x) ++ drop (length x) old.to_initiator) m ∙ moved_front t.moved_to_initiator old.to_initiator t.queued_for_initiator k s.to_initiator;
       to_target = s.to_target ∙ sym q;
-      initiator = subst (λ (x : List ℕ). InitiatorSide c t.demands (t.moved_to_initiator ++ moved) x old.initiator old.initiator_fault) (sym q) side;
+      initiator = subst (λ (x : List ℕ). InitiatorSide past c t.demands (t.moved_to_initiator ++ moved) x old.initiator old.initiator_fault) (sym q) side;
       target = s.target;
     } in
-    subst (λ (x : World). Sides c (to_initiator_adds t old moved x) x) (sym e) there
+    subst (λ (x : World). SidesFrom past c (to_initiator_adds t old moved x) x) (sym e) there
 
 abbrev asks_adds : Traffic → World → Request → World → Traffic
 asks_adds t old request new = record t {
@@ -235,58 +238,58 @@ asks_adds t old request new = record t {
   demands = t.demands ++ inputs.Asks request ∷ [];
 }
 
-asks : (fault : Option EndFault) (c : Opening) (t : Traffic) (old new : World) (request : Request) → old.initiator_fault ≡ fault → Sides c t old
-    → Asks fault request old new → Sides c (asks_adds t old request new) new
-asks (Some fault) c t old new request f s e =
+asks : (fault : Option EndFault) (past : List inputs.Input) (c : Opening) (t : Traffic) (old new : World) (request : Request) → old.initiator_fault ≡ fault → SidesFrom past c t old
+    → Asks fault request old new → SidesFrom past c (asks_adds t old request new) new
+asks (Some fault) past c t old new request f s e =
     let q : t.queued_for_target ++ behind old.to_target old.to_target ≡ t.queued_for_target = nothing_behind t.queued_for_target old.to_target in
-    let there : Sides c (asks_adds t old request old) old = record {
+    let there : SidesFrom past c (asks_adds t old request old) old = record {
       to_target = s.to_target ∙ sym q;
       to_initiator = s.to_initiator;
       target = s.target;
-      initiator = subst (λ (x : List ℕ). InitiatorSide c (t.demands ++ inputs.Asks request ∷ []) t.moved_to_initiator x old.initiator old.initiator_fault) (sym q)
-          (failed_drops c t.demands (inputs.Asks request ∷ []) t.moved_to_initiator t.queued_for_target old.initiator old.initiator_fault fault f s.initiator);
+      initiator = subst (λ (x : List ℕ). InitiatorSide past c (t.demands ++ inputs.Asks request ∷ []) t.moved_to_initiator x old.initiator old.initiator_fault) (sym q)
+          (failed_drops past c t.demands (inputs.Asks request ∷ []) t.moved_to_initiator t.queued_for_target old.initiator old.initiator_fault fault f s.initiator);
     } in
-    subst (λ (w : World). Sides c (asks_adds t old request w) w) (sym e) there
-asks None c t old new request f s h =
+    subst (λ (w : World). SidesFrom past c (asks_adds t old request w) w) (sym e) there
+asks None past c t old new request f s h =
     let g : Grows old.to_target new.to_target = asked_grows h.result old.initiator request new.initiator old.to_target new.to_target h.submitted in
     let q : t.moved_to_target ++ new.to_target ≡ t.queued_for_target ++ behind old.to_target new.to_target = queued_more t.moved_to_target old.to_target new.to_target t.queued_for_target g s.to_target in
-    let side : InitiatorSide c (t.demands ++ inputs.Asks request ∷ []) t.moved_to_initiator (t.moved_to_target ++ new.to_target) new.initiator (submit_fault (result_err h.result)) =
-    initiator_asked h.result c t.demands t.moved_to_initiator t.moved_to_target old.to_target new.to_target old.initiator new.initiator request
-    (subst (λ (x : Option EndFault). InitiatorSide c t.demands t.moved_to_initiator (t.moved_to_target ++ old.to_target) old.initiator x) f
-    (subst (λ (x : List ℕ). InitiatorSide c t.demands t.moved_to_initiator x old.initiator old.initiator_fault) (sym s.to_target) s.initiator))
+    let side : InitiatorSide past c (t.demands ++ inputs.Asks request ∷ []) t.moved_to_initiator (t.moved_to_target ++ new.to_target) new.initiator (submit_fault (result_err h.result)) =
+    initiator_asked h.result past c t.demands t.moved_to_initiator t.moved_to_target old.to_target new.to_target old.initiator new.initiator request
+    (subst (λ (x : Option EndFault). InitiatorSide past c t.demands t.moved_to_initiator (t.moved_to_target ++ old.to_target) old.initiator x) f
+    (subst (λ (x : List ℕ). InitiatorSide past c t.demands t.moved_to_initiator x old.initiator old.initiator_fault) (sym s.to_target) s.initiator))
     h.submitted in
     record {
       to_target = q;
       to_initiator = ap (λ (x : List ℕ). t.moved_to_initiator ++ x) h.queue ∙ s.to_initiator;
-      initiator = subst (λ (x : Option EndFault). InitiatorSide c (t.demands ++ inputs.Asks request ∷ []) t.moved_to_initiator (t.queued_for_target ++ behind old.to_target new.to_target) new.initiator x) (sym h.fault)
-          (subst (λ (x : List ℕ). InitiatorSide c (t.demands ++ inputs.Asks request ∷ []) t.moved_to_initiator x new.initiator (submit_fault (result_err h.result))) q side);
+      initiator = subst (λ (x : Option EndFault). InitiatorSide past c (t.demands ++ inputs.Asks request ∷ []) t.moved_to_initiator (t.queued_for_target ++ behind old.to_target new.to_target) new.initiator x) (sym h.fault)
+          (subst (λ (x : List ℕ). InitiatorSide past c (t.demands ++ inputs.Asks request ∷ []) t.moved_to_initiator x new.initiator (submit_fault (result_err h.result))) q side);
       target = subst (λ (x : Option TargetFault). TargetSide c t.moved_to_target t.queued_for_initiator new.target new.blocks x) (sym h.other_fault)
           (subst (λ (x : List ℕ). TargetSide c t.moved_to_target t.queued_for_initiator new.target x old.target_fault) (sym h.blocks)
           (subst (λ (x : target.Connection). TargetSide c t.moved_to_target t.queued_for_initiator x old.blocks old.target_fault) (sym h.target) s.target));
     }
 
-pub happens_sides : (c : Opening) (t : Traffic) (old : World) (event : Event) (new : World) → Sides c t old → Happens old event new → Sides c (traffic_after t old event new) new
-happens_sides c t old (ToTarget k) new s e = moves_to_target old.target_fault (take k old.to_target) c t old new k refl refl s e
-happens_sides c t old (ToInitiator k) new s e = moves_to_initiator old.initiator_fault (take k old.to_initiator) c t old new k refl refl s e
-happens_sides c t old (Submits request) new s e = asks old.initiator_fault c t old new request refl s e
-happens_sides c t old Takes new s e =
+pub happens_sides : (past : List inputs.Input) (c : Opening) (t : Traffic) (old : World) (event : Event) (new : World) → SidesFrom past c t old → Happens old event new → SidesFrom past c (traffic_after t old event new) new
+happens_sides past c t old (ToTarget k) new s e = moves_to_target old.target_fault (take k old.to_target) past c t old new k refl refl s e
+happens_sides past c t old (ToInitiator k) new s e = moves_to_initiator old.initiator_fault (take k old.to_initiator) past c t old new k refl refl s e
+happens_sides past c t old (Submits request) new s e = asks old.initiator_fault past c t old new request refl s e
+happens_sides past c t old Takes new s e =
     let w : World = record old { initiator = initiator.after_taking old.initiator } in
     let u : Traffic = record t { demands = t.demands ++ inputs.Takes ∷ [] } in
-    let there : Sides c u w = record {
+    let there : SidesFrom past c u w = record {
       to_target = s.to_target;
       to_initiator = s.to_initiator;
       target = s.target;
-      initiator = initiator_took_outcome c t.demands t.moved_to_initiator t.queued_for_target old.initiator old.initiator_fault s.initiator;
+      initiator = initiator_took_outcome past c t.demands t.moved_to_initiator t.queued_for_target old.initiator old.initiator_fault s.initiator;
     } in
-    subst (λ (x : World). Sides c u x) (sym e) there
+    subst (λ (x : World). SidesFrom past c u x) (sym e) there
 
 -- ---- any events
 
-pub traced_sides : (c : Opening) (t : Traffic) (old : World) (events : List Event) (new : World) (u : Traffic) → Sides c t old → Traces t old events new u → Sides c u new
+pub traced_sides : (past : List inputs.Input) (c : Opening) (t : Traffic) (old : World) (events : List Event) (new : World) (u : Traffic) → SidesFrom past c t old → Traces t old events new u → SidesFrom past c u new
 unfolding Traces
-traced_sides c t old [] new u s e = subst (λ (x : Traffic). Sides c x new) (sym e.1) (subst (λ (w : World). Sides c t w) (sym e.0) s)
-traced_sides c t old (event ∷ events) new u s e =
-    traced_sides c (traffic_after t old event e.0) e.0 events new u (happens_sides c t old event e.0 s e.1) e.2
+traced_sides past c t old [] new u s e = subst (λ (x : Traffic). SidesFrom past c x new) (sym e.1) (subst (λ (w : World). SidesFrom past c t w) (sym e.0) s)
+traced_sides past c t old (event ∷ events) new u s e =
+    traced_sides past c (traffic_after t old event e.0) e.0 events new u (happens_sides past c t old event e.0 s e.1) e.2
 
 -- every run can be traced
 pub traced : (t : Traffic) (old : World) (events : List Event) (new : World) → Runs old events new → (u : Traffic) × Traces t old events new u
@@ -297,4 +300,4 @@ traced t old (event ∷ events) new e =
     (r.0, (e.0, e.1, r.1))
 
 pub reached_sides : (c : Opening) (events : List Event) (new : World) (u : Traffic) → Traces (first_traffic c) (new_pair c) events new u → Sides c u new
-reached_sides c events new u e = traced_sides c (first_traffic c) (new_pair c) events new u (opening_sides c) e
+reached_sides c events new u e = traced_sides [] c (first_traffic c) (new_pair c) events new u (opening_sides c) e

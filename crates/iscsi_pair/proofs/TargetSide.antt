@@ -62,12 +62,11 @@ pub record TargetLives (c : Opening) (moved out : List ℕ) (t : Connection) (bl
 
 -- the session ended without a fault: with the last of these messages
 pub record TargetOver (c : Opening) (moved out : List ℕ) (t : Connection) (blocks : List ℕ) : Type 0 where
-  pub limit : ℕ
   pub messages : List Message
   pub given : List ℕ
   pub rest : List ℕ
   pub whole : moved ≡ given ++ rest
-  pub reads : ReadsAs limit no_login given messages
+  pub reads : ReadsAs (limit c.target) no_login given messages
   pub output : out ≡ canon (said c messages).answers
   pub closed : is_closed (said c messages).machine ≡ true
   pub machine : t.machine ≡ joined (said c messages).machine
@@ -399,12 +398,11 @@ feeds_side c moved out bytes old blocks result new after written l f =
           (front_taken c (moved ++ take f.count bytes) (drop f.count bytes) written (l.has.messages ++ f.messages) f.framing new (result_err result) h left);
       failed = feeds_failed result c moved out bytes old blocks new after written l f t h left.stage f.ends;
       over = λ none over. record {
-        limit = f.framing.limit;
         messages = l.has.messages ++ f.messages;
         given = h.given;
         rest = h.rest ++ drop f.count bytes;
         whole = sym all ∙ ap (λ (x : List ℕ). x ++ drop f.count bytes) h.whole ∙ append_assoc h.given h.rest (drop f.count bytes);
-        reads = h.reads;
+        reads = subst (λ (x : ℕ). ReadsAs x no_login h.given (l.has.messages ++ f.messages)) (f.answered.limit ∙ l.limit) h.reads;
         output = (stood none).output_is ∙ t.output_is;
         closed = sym (ap is_closed (ends_over bytes result f.framing f.count f.stepped new f.ends none ∙ t.machine)) ∙ over;
         machine = ends_over bytes result f.framing f.count f.stepped new f.ends none ∙ t.machine;
@@ -427,7 +425,7 @@ fed_if true c moved prior before bytes old blocks result new after written is s 
   failed = subst (λ (x : Result Phase TargetFault). TargetFailed (result_err x) c (moved ++ bytes) (prior ++ written) new) (sym f.result_is)
       (let l : TargetOver c moved (prior ++ before) old blocks = s.over refl is in
       let there : TargetEnded c moved (prior ++ before) old = record {
-        limit = l.limit;
+        limit = limit c.target;
         messages = l.messages;
         given = l.given;
         rest = l.rest;

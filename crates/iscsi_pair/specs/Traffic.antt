@@ -7,9 +7,11 @@ use Rattle.iscsi_stream.specs.Canonical.{canon}
 use Rattle.iscsi_stream.specs.Framing.{HasTaken, is_ready}
 use Rattle.iscsi_target.specs.State.{Stepped, opening}
 use Rattle.iscsi_target.specs.State.{joined}
+use Rattle.iscsi_target.specs.Session as target_session
 use Rattle.iscsi_target.specs.Machine as target_machine
 use Rattle.iscsi_target.specs.Machine.{answers}
 use Rattle.iscsi_initiator.specs.State.{Machine, is_closed}
+use Rattle.iscsi_initiator.specs.Calls as initiator_calls
 use Rattle.iscsi_initiator.specs.Machine.{step}
 use Rattle.iscsi_initiator.specs.Submitted.{submitted}
 use Rattle.iscsi_pair.specs.World as world
@@ -116,8 +118,7 @@ pub record TargetStands (c : Opening) (t : Traffic) (w : World) : Type 0 where
   pub given : List ℕ
   pub rest : List ℕ
   pub whole : t.moved_to_target ≡ given ++ rest
-  pub limit : ℕ
-  pub reads : ReadsAs limit no_login given messages
+  pub reads : ReadsAs (target_session.limit c.target) no_login given messages
   pub machine : w.target.machine ≡ joined (said c messages).machine
   pub disk : disk_of w.blocks ≡ (said c messages).disk
   pub output : t.queued_for_initiator ≡ canon (said c messages).answers
@@ -127,17 +128,15 @@ pub record TargetStands (c : Opening) (t : Traffic) (w : World) : Type 0 where
   pub none_waits : target_machine.is_closed w.target.machine ≡ false →
       is_ready w.target.framing ≡ false
 
--- The initiator is where its machine goes with the PDUs that are the first of what was moved to it,
--- with the requests handed in and the outcomes taken, in their order; what it sent is all that was
--- queued for the target. While its session goes on it has taken all that was moved (own rule).
-pub record InitiatorStands (c : Opening) (t : Traffic) (w : World) : Type 0 where
-  pub inputs : List Input
+-- The initiator is where its machine goes with these inputs: the PDUs that are the first of what was
+-- moved to it, the requests handed in and the outcomes taken. What it sent is all that was queued for
+-- the target. While its session goes on it has taken all that was moved (own rule).
+pub record InitiatorStands (c : Opening) (inputs : List Input) (t : Traffic) (w : World) : Type 0 where
   pub given : List ℕ
   pub rest : List ℕ
   pub whole : t.moved_to_initiator ≡ given ++ rest
-  pub limit : ℕ
-  pub reads : ReadsAs limit no_login given (coming inputs)
-  pub order : demanded inputs ≡ t.demands
+  pub reads : ReadsAs (initiator_calls.limit c.initiator) no_login given (coming inputs)
+  pub demands : demanded inputs ≡ t.demands
   pub machine : w.initiator.machine ≡ after_all (started c).machine inputs
   pub output : t.queued_for_target ≡ (new_pair c).to_target ++ canon (sent (started c).machine inputs)
   pub taken : is_closed w.initiator.machine ≡ false →

@@ -11,7 +11,7 @@ ghost use Rattle.iscsi_login.specs.declared.stage.Stage.TheVariants as stages;
 ghost use Rattle.iscsi_target.specs.State as target;
 ghost use Rattle.iscsi_initiator.specs.declared.request.Done.{Done};
 ghost use Rattle.iscsi_initiator.specs.declared.request.Request.{Request};
-ghost use Rattle.iscsi_initiator.specs.Laws.{listed};
+ghost use Rattle.iscsi_initiator.specs.Laws.{Input, listed};
 ghost use Rattle.iscsi_initiator.specs.Machine.{taken};
 ghost use Rattle.iscsi_initiator.specs.State as initiator;
 ghost use Rattle.iscsi_initiator.specs.Submitted.{is_too_long, submitted};
@@ -38,15 +38,21 @@ pub fn queues()
 {}
 
 /// While an end hasn't failed, it is where its machine goes with the PDUs that were moved to it, for
-/// the initiator with the requests handed in and the outcomes taken too, in their order, and what its
-/// machine sends is what was queued for the other end.
+/// the initiator with the requests handed in and the outcomes taken too, in the order of the events,
+/// and what its machine sends is what was queued for the other end.
 pub fn ends()
     ensures target { (c : Opening) (events : List Event) (w : World) (t : Traffic)
         → Traces (first_traffic c) (new_pair c) events w t → w.target_fault ≡ None
         → TargetStands c t w }
     ensures initiator { (c : Opening) (events : List Event) (w : World) (t : Traffic)
         → Traces (first_traffic c) (new_pair c) events w t → w.initiator_fault ≡ None
-        → InitiatorStands c t w }
+        → (inputs : List Input) × InitiatorStands c inputs t w }
+    // In the order of the events: however far they had come, what the initiator had met by then is the
+    // first of what it has met after them all.
+    ensures order { (c : Opening) (past more : List Event) (mid w : World) (u t : Traffic)
+        (inputs : List Input) → Traces (first_traffic c) (new_pair c) past mid u
+        → InitiatorStands c inputs u mid → Traces u mid more w t → w.initiator_fault ≡ None
+        → (later : List Input) × InitiatorStands c (inputs ++ later) t w }
 {}
 
 /// One world: where no growth is refused, the events alone say to which world a pair comes, however
