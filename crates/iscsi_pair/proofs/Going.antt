@@ -335,6 +335,8 @@ pub record LastTurn (i : initiator.Machine) (t : target.Machine) (disk : Disk) (
 
 -- both ends behind a request whose text goes on
 pub record PartTurn (i : initiator.Machine) (t : target.Machine) (disk : Disk) (r answer : Message) : Type 0 where
+  -- some of it is left
+  pub some : 0 < length i.left
   pub bytes : List ℕ
   pub there : target_machine.step t disk r ≡ target.on disk t.tasks (gather (entered t.session (login_request i false)) (login_request i false) bytes)
   pub now : step i answer ≡ sends_more (counted i (part_head (entered t.session (login_request i false)) (login_request i false)))
@@ -379,6 +381,7 @@ part_turn c i t logins next r disk segment bytes byte more a s left part fits si
     login_step_is t disk h segment a.logs_in.phase fits ∙ ap (target.on disk t.tasks) q in
     let is : turn.answer ≡ answering (part_head e h) [] = one_answer turn.answer (answering (part_head e h) []) (sym turn.is ∙ ap (λ (x : target.Stepped). x.answers) there) in
     record {
+      some = subst (λ (x : List ℕ). 0 < length x) (sym left) (omega arith);
       bytes = bytes;
       there = there;
       now = ap (step i) is ∙ hears_more_well i (part_head e h) byte more a.phase a.started refl refl (ap (is_expected i.exp_stat_sn) same.stat_sn ∙ s.expected) left (and_from _ _ (eq-eqb (stage_number i.stage) (stage_number i.stage) refl) refl);

@@ -35,3 +35,9 @@ pub mod CarriedOut
 pub mod Carried
 pub mod OneDisk
 pub mod Observed
+pub mod Blocks
+pub mod Steps
+pub mod Turns
+pub mod LoggingIn
+pub mod Lists
+pub mod ReadBack

@@ -110,11 +110,11 @@ pub data Serves (c : Opening) (i : initiator.Machine) (t : target.Machine) (disk
 
 -- ---- what is sent
 
-written_within : (most more : ℕ) (logins : Logins) (ms : List Message) → most ≤ more → AreWritten most logins ms → AreWritten more logins ms
+pub written_within : (most more : ℕ) (logins : Logins) (ms : List Message) → most ≤ more → AreWritten most logins ms → AreWritten more logins ms
 written_within most more logins [] le w = w
 written_within most more logins (m ∷ ms) le w = (record { readable = w.0.readable; short = (let short = w.0.short in omega (arith, short, le)) }, written_within most more (after logins m.head) ms le w.1)
 
-hears_well : (c : Opening) (held : Held) (t : target.Machine) (disk : Disk) (here : Logins) (out : List Message) → HaveAgreed c held → AreHeard held t disk out → HearsWell (most_back c) t disk here out
+pub hears_well : (c : Opening) (held : Held) (t : target.Machine) (disk : Disk) (here : Logins) (out : List Message) → HaveAgreed c held → AreHeard held t disk out → HearsWell (most_back c) t disk here out
 hears_well c held t disk here out a h = record {
   open_ = h.open_;
   rule = h.rule;
@@ -130,7 +130,7 @@ same_more : (a b : Message) (x y : List Message) → a ∷ x ≡ b ∷ y → x �
 same_more a b x y e = cc e
 
 -- a login request goes out
-login_sends : (c : Opening) (i : initiator.Machine) (out : List Message) (t : target.Machine) (there here : Logins) (r : Message) → IsNormal c → out ≡ r ∷ [] → Asking c i t there r → Suited c i t → Numbered c i t
+pub login_sends : (c : Opening) (i : initiator.Machine) (out : List Message) (t : target.Machine) (there here : Logins) (r : Message) → IsNormal c → out ≡ r ∷ [] → Asking c i t there r → Suited c i t → Numbered c i t
     → here.response ≡ false → Sends (most_out c) (most_back c) (Serves c) i out t (disk_of c.blocks) [] there here none_asked
 unfolding answers
 login_sends c i out t there here r o is a s n whole =
@@ -282,7 +282,7 @@ serving_accepts (suc n) c i t disk (m ∷ back) h request v l e = (let bad : tru
 -- ---- outcomes
 
 -- a logout alone closes the session
-is_logout : (most : ℕ) (disk : Disk) (request : Request) → (local most disk request).outcome ≡ done.Closed → request ≡ requests.Logout
+pub is_logout : (most : ℕ) (disk : Disk) (request : Request) → (local most disk request).outcome ≡ done.Closed → request ≡ requests.Logout
 is_logout most disk (requests.In lun cdb expected) e = absurd (cc e)
 is_logout most disk (requests.Out lun cdb bytes) e = absurd (cc e)
 is_logout most disk (requests.Ping bytes) e = absurd (cc e)

@@ -57,7 +57,7 @@ reads_behind limit logins given (m ∷ ms) rest whole (n ∷ ns) p q e =
     (reads_behind limit (after logins m.head) p.2 ms rest q.2 ns p.4 (subst (λ (h : Head). ReadsAs limit (after logins h) q.2 ns) (sym same.head) q.4) (sym same.rest))
 
 -- two streams, one behind the other
-reads_joined : (limit : ℕ) (logins : Logins) (a : List ℕ) (ms : List Message) (b : List ℕ) (ns : List Message) → ReadsAs limit logins a ms → ReadsAs limit (after_all logins ms) b ns → ReadsAs limit logins (a ++ b) (ms ++ ns)
+pub reads_joined : (limit : ℕ) (logins : Logins) (a : List ℕ) (ms : List Message) (b : List ℕ) (ns : List Message) → ReadsAs limit logins a ms → ReadsAs limit (after_all logins ms) b ns → ReadsAs limit logins (a ++ b) (ms ++ ns)
 unfolding ReadsAs
 reads_joined limit logins a [] b ns p q = subst (λ (x : List ℕ). ReadsAs limit logins (x ++ b) ns) (sym p) q
 reads_joined limit logins a (m ∷ ms) b ns p q =

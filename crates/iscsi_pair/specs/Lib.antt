@@ -2,3 +2,4 @@ pub mod World
 pub mod Traffic
 pub mod LocalDisk
 pub mod Served
+pub mod Example

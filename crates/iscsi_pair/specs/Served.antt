@@ -1,5 +1,5 @@
 -- Runs in which memory is there and every request is accepted (RFC 7143, section 4.2; own rule).
-use Rattle.std.specs.Prelude.{◌≡◌, ◌⊎◌, ℕ, ◌<◌, ◌^◌, false, List, [], ◌∷◌, ◌++◌, length, None}
+use Rattle.std.specs.Prelude.{◌≡◌, ◌⊎◌, ℕ, ◌<◌, ◌≤◌, ◌^◌, false, List, [], ◌∷◌, ◌++◌, length, None}
 use Rattle.scsi_disk.specs.Disk.{Disk, disk_of}
 use Rattle.iscsi_pdu.specs.Meaning.{AreBytes}
 use Rattle.iscsi_login.specs.declared.stage.Session.TheVariants as sessions
@@ -8,9 +8,9 @@ use Rattle.iscsi_initiator.specs.declared.request.Request.{Request}
 use Rattle.iscsi_initiator.specs.declared.request.Request.TheVariants as requests
 use Rattle.iscsi_initiator.specs.Laws.{listed}
 use Rattle.iscsi_initiator.specs.State as initiator
-use Rattle.iscsi_initiator.specs.Submitted.{submitted}
+use Rattle.iscsi_initiator.specs.Submitted.{most_bytes, submitted}
 use Rattle.iscsi_target.specs.State as target
-use Rattle.iscsi_pair.specs.World.{World, Opening, IsOpening, Suits, Event, Submits, Takes, Happens, keeps_no_memory}
+use Rattle.iscsi_pair.specs.World.{World, Opening, IsOpening, Suits, Event, Submits, Takes, Happens, keeps_no_memory, new_pair}
 use Rattle.iscsi_pair.specs.LocalDisk.{AreInStep, HaveParted, local_disk, local_outcomes}
 
 -- The unit and the block of a command have room in their fields (section 11.3).
@@ -24,6 +24,15 @@ IsServed (requests.Out lun cdb bytes) = HasRoom lun cdb
 IsServed (requests.Ping bytes) = Unit {0}
 IsServed (requests.Text bytes) = ⊥
 IsServed requests.Logout = Unit {0}
+
+-- A command or a ping that any target takes between two others: it moves no more than one command
+-- may, or has no more bytes than each end takes at least (sections 11.3, 11.18 and 13.12).
+abbrev pub IsAlwaysTaken : Request → Type 0
+IsAlwaysTaken (requests.In lun cdb expected) = HasRoom lun cdb × (expected ≤ most_bytes)
+IsAlwaysTaken (requests.Out lun cdb bytes) = HasRoom lun cdb × (length bytes ≤ most_bytes)
+IsAlwaysTaken (requests.Ping bytes) = length bytes ≤ 512
+IsAlwaysTaken (requests.Text bytes) = ⊥
+IsAlwaysTaken requests.Logout = ⊥
 
 -- A request that is handed in is one of these, and accepted (section 4.2).
 abbrev pub IsAccepted : Event → World → Type 0
@@ -54,6 +63,16 @@ RunsServed old (event ∷ events) new outcomes =
     (mid : World) × (later : List Done) × Happens old event mid × IsAccepted event old
     × (keeps_no_memory mid ≡ false) × (outcomes ≡ given_in event old ++ later)
     × RunsServed mid events new later
+
+-- Some run is served in which these requests are handed in and these outcomes taken, and after which
+-- nothing is on its way (own rule).
+pub record SomeRunServes (c : Opening) (requests : List Request) (outcomes : List Done) : Type 0 where
+  pub events : List Event
+  pub world : World
+  pub asked_are : asked events ≡ requests
+  pub runs : RunsServed (new_pair c) events world outcomes
+  pub none_out : world.to_target ≡ []
+  pub none_back : world.to_initiator ≡ []
 
 -- Both ends suit each other, in a normal session (section 6.3).
 pub record IsNormal (c : Opening) : Type 0 where

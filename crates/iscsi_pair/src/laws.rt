@@ -4,19 +4,21 @@
 //! wherever memory runs out but where a law says that no growth was refused. `one_request` is of any
 //! two ends that are in step, over whole messages.
 
-ghost use Rattle.std.specs.Prelude.{◌≡◌, ◌≤◌, ◌⊎◌, ◌++◌, [], List, None, false, length};
+ghost use Rattle.std.specs.Prelude.{◌≡◌, ◌≤◌, ◌⊎◌, ◌++◌, ◌∷◌, [], ℕ, List, None, false, length};
 ghost use Rattle.std.specs.List.{AllByRecursion};
 ghost use Rattle.scsi_disk.specs.Disk.{Disk, disk_of};
 ghost use Rattle.iscsi_login.specs.declared.stage.Stage.TheVariants as stages;
 ghost use Rattle.iscsi_target.specs.State as target;
 ghost use Rattle.iscsi_initiator.specs.declared.request.Done.{Done};
 ghost use Rattle.iscsi_initiator.specs.declared.request.Request.{Request};
+ghost use Rattle.iscsi_initiator.specs.declared.request.Request.TheVariants as requests;
 ghost use Rattle.iscsi_initiator.specs.Laws.{Input, listed};
 ghost use Rattle.iscsi_initiator.specs.Machine.{taken};
 ghost use Rattle.iscsi_initiator.specs.State as initiator;
 ghost use Rattle.iscsi_initiator.specs.Submitted.{is_too_long, submitted};
 ghost use Rattle.iscsi_pair.specs.LocalDisk.{AreInStep, ComesTo, handed_in, local};
-ghost use Rattle.iscsi_pair.specs.Served.{AreAtEnd, IsNormal, IsServed, RunsServed, asked, disk_after, disk_outcomes};
+ghost use Rattle.iscsi_pair.specs.Example.{good, read_first, standard_opening, write_first};
+ghost use Rattle.iscsi_pair.specs.Served.{AreAtEnd, IsAlwaysTaken, IsNormal, IsServed, RunsServed, SomeRunServes, asked, disk_after, disk_outcomes};
 ghost use Rattle.iscsi_pair.specs.World.{Event, IsOpening, LooksAlike, Opening, Reached, RunsCalmly, RunsInTime, Suits, World, keeps_no_memory, new_pair};
 ghost use Rattle.iscsi_pair.specs.Traffic.{Traffic, Traces, first_traffic, TargetStands, InitiatorStands};
 
@@ -151,4 +153,28 @@ pub fn one_local_disk()
         → IsNormal c → RunsServed (new_pair c) events w outcomes
         → w.to_target ≡ [] → w.to_initiator ≡ []
         → AreAtEnd (asked events) (taken w.initiator.machine) w.target.machine }
+{}
+
+/// Every list of commands and pings can be served: where each is one that any target takes, there are
+/// events that hand in these, one after another, such that the run is served and has taken all their
+/// outcomes on one local disk, with nothing on its way then. So the premises of `one_local_disk` are
+/// met (RFC 7143, section 4.2).
+pub fn lists_are_served()
+    ensures served { (c : Opening) (all : List Request) → IsNormal c
+        → AllByRecursion IsAlwaysTaken all → SomeRunServes c all (disk_outcomes c all) }
+    // And so can one that a logout ends.
+    ensures ended { (c : Opening) (past : List Request) → IsNormal c
+        → AllByRecursion IsAlwaysTaken past → let all = past ++ requests.Logout ∷ [] in
+        SomeRunServes c all (disk_outcomes c all) }
+{}
+
+/// What is written is read: some run is served in which a WRITE(10) of the first block is handed in and
+/// a READ(10) of it, and whose outcomes are GOOD for both, for the read with the bytes that were
+/// written (SBC-3).
+pub fn what_is_written_is_read()
+    ensures read { (c : Opening) (bytes : List ℕ) → IsNormal c → 512 ≤ length c.blocks
+        → length bytes ≡ 512
+        → SomeRunServes c (write_first bytes ∷ read_first ∷ []) (good [] ∷ good bytes ∷ []) }
+    // Ends of the standard preferences, with names that suit, are such ends.
+    ensures normal { (blocks : List ℕ) → IsNormal (standard_opening blocks) }
 {}

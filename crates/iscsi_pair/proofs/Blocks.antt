@@ -1,0 +1,93 @@
+-- The blocks of a target's disk are those of some bytes, whatever it executed.
+use Rattle.std.specs.List.{AllByRecursion}
+use Rattle.std.proofs.Common.{◌≡◌, ◌≤◌, ℕ, ◌+◌, ◌-◌, ◌*◌, ◌/◌, List, [], ◌∷◌, ◌++◌, length, take, drop, refl, sym, ap, ◌∙◌, subst, arith}
+use Rattle.std.proofs.lemmas.List.{length-append, length-drop, length-take-le}
+use borrow.Rule.Slice.PartMut.{put_mid}
+use Rattle.scsi_disk.specs.Disk.{Disk, disk_of, written}
+use Rattle.scsi_disk.specs.Effect.{disk_by, effect}
+use Rattle.scsi_disk.specs.Plan.{plan_of, transfer}
+use Rattle.scsi_disk.specs.declared.order.Order.{Order}
+use Rattle.scsi_disk.specs.declared.order.Plan.{Plan}
+use Rattle.scsi_disk.specs.declared.order.Plan.TheVariants.{Refuse, Take, Give}
+use Rattle.scsi_disk.proofs.Blocks.{cut-put, same_disk}
+use Rattle.scsi_disk.proofs.Planned.{IsTaken, taken}
+use Rattle.iscsi_stream.specs.Pieces.{Pieces, TilesFrom, data_of}
+use Rattle.iscsi_stream.specs.Stream.{Message}
+use Rattle.iscsi_target.specs.State.{Machine, Execution, Stepped}
+use Rattle.iscsi_target.specs.Execution.{reliable}
+use Rattle.iscsi_target.specs.Machine.{answers, step}
+use Rattle.iscsi_target.specs.Tiles.{IsTiled, TilesPlan}
+use Rattle.iscsi_target.proofs.DiskFold.{Does, step_does}
+use Rattle.iscsi_target.proofs.Sound.{IsSound, KeepsWrites, step_count, step_goes}
+
+-- some bytes have these blocks
+pub record HasBlocks (disk : Disk) : Type 0 where
+  pub bytes : List ℕ
+  pub is : disk_of bytes ≡ disk
+
+-- ---- a write
+
+length_put : (a k : ℕ) (xs ys : List ℕ) → length ys ≡ k → a + k ≤ length xs → length (put_mid a k xs ys) ≡ length xs
+length_put a k xs ys e room =
+    let front : length (take a xs) ≡ a = length-take-le a xs (omega (arith, room)) in
+    let back : length (drop k (drop a xs)) ≡ length xs - a - k = length-drop k (drop a xs) ∙ ap (λ (n : ℕ). n - k) (length-drop a xs) in
+    let one = length-append (take a xs) (ys ++ drop k (drop a xs)) in
+    let two = length-append ys (drop k (drop a xs)) in
+    omega (arith, front, back, one, two, e, room)
+
+-- whole blocks inside the disk are written
+writes : (xs ys : List ℕ) (first count : ℕ) → length ys ≡ 512 * count → first + count ≤ length xs / 512 → HasBlocks (written first ys (disk_of xs))
+writes xs ys first count whole inside =
+    let room : 512 * first + length ys ≤ length xs = omega (arith, whole, inside) in
+    record {
+      bytes = put_mid (512 * first) (length ys) xs ys;
+      is = same_disk _ _ (ap (λ (n : ℕ). n / 512) (length_put (512 * first) (length ys) xs ys refl room)) (cut-put 512 xs ys first count whole (omega (arith, room)));
+    }
+
+-- ---- an order
+
+-- pieces that tile so many bytes have as many
+tiles_size : (at : ℕ) (pieces : Pieces) (end : ℕ) → TilesFrom at pieces end → at + length (data_of pieces) ≡ end
+tiles_size at [] end e = omega (arith, e)
+tiles_size at (piece ∷ pieces) end e =
+    let more = tiles_size (at + length piece.1) pieces end e.1 in
+    let both = length-append piece.1 (data_of pieces) in
+    omega (arith, more, both)
+
+by_plan : (plan : Plan) (xs : List ℕ) (order : Order) (pieces : Pieces) → plan_of order (length xs / 512) ≡ plan → TilesPlan plan pieces
+    → HasBlocks (disk_by plan (disk_of xs) order (data_of pieces))
+by_plan (Refuse sense) xs order pieces is t = record { bytes = xs; is = refl }
+by_plan (Give n) xs order pieces is t = record { bytes = xs; is = refl }
+by_plan (Take n) xs order pieces is t =
+    let f : IsTaken order (length xs / 512) n = taken order (length xs / 512) n is in
+    let size = tiles_size 0 pieces n t in
+    let same = f.length in
+    writes xs (data_of pieces) (transfer order.cdb).first (transfer order.cdb).count (omega (arith, size, same)) f.names.inside
+
+-- an order is executed, with data that tile what it takes
+executes : (xs : List ℕ) (order : Order) (pieces : Pieces) → TilesPlan (plan_of order (length xs / 512)) pieces
+    → HasBlocks (effect (disk_of xs) order (data_of pieces)).disk
+executes xs order pieces t = by_plan (plan_of order (length xs / 512)) xs order pieces refl t
+
+-- ---- messages
+
+-- orders one after another
+does_blocks : (xs : List ℕ) (es : List Execution) (last : Disk) → Does reliable (disk_of xs) es last → AllByRecursion IsTiled es → HasBlocks last
+does_blocks xs [] last d t = record { bytes = xs; is = sym d }
+does_blocks xs (e ∷ es) last d t =
+    let tiled : TilesPlan (plan_of e.order (length xs / 512)) e.pieces = subst (λ (x : Disk). TilesPlan (plan_of e.order x.count) e.pieces) d.0 t.0 in
+    let h : HasBlocks (effect e.disk e.order (data_of e.pieces)).disk =
+    subst (λ (x : Disk). HasBlocks (effect x e.order (data_of e.pieces)).disk) (sym d.0) (executes xs e.order e.pieces tiled) in
+    does_blocks h.bytes es last (subst (λ (x : Disk). Does reliable x es last) (sym h.is) d.1) t.1
+
+step_blocks : (s : Machine) (disk : Disk) (m : Message) → IsSound disk.count s.tasks → HasBlocks disk → HasBlocks (step s disk m).disk
+step_blocks s disk m o h =
+    let r : Stepped = step s disk m in
+    does_blocks h.bytes r.executed r.disk (subst (λ (x : Disk). Does reliable x r.executed r.disk) (sym h.is) (step_does reliable s disk m).is) (step_goes disk s m o).tiled
+
+pub answers_blocks : (s : Machine) (disk : Disk) (ms : List Message) → IsSound disk.count s.tasks → HasBlocks disk → HasBlocks (answers s disk ms).disk
+unfolding answers
+answers_blocks s disk [] o h = h
+answers_blocks s disk (m ∷ ms) o h =
+    let r : Stepped = step s disk m in
+    answers_blocks r.machine r.disk ms (subst (λ (n : ℕ). IsSound n r.machine.tasks) (sym (step_count s disk m)) (step_goes disk s m o).sound) (step_blocks s disk m o h)
