@@ -14,7 +14,7 @@ use Rattle.iscsi_stream.specs.Framing.{Framing, HasTaken, FeedFails, is_ready}
 use Rattle.iscsi_stream.proofs.Taking.{at_opening}
 use Rattle.iscsi_stream.proofs.Ready.{apart, not_whole-nil}
 use Rattle.iscsi_login.specs.declared.phase.Phase.{Phase}
-use Rattle.iscsi_target.specs.Session as target_session
+use Rattle.iscsi_target_session.specs.Session as target_session
 use Rattle.iscsi_target.specs.State as target
 use Rattle.iscsi_target.specs.Machine as target_machine
 use Rattle.iscsi_target.specs.Machine.{answers, then_stepped, first_rule}

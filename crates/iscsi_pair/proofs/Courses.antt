@@ -10,7 +10,7 @@ use Rattle.iscsi_stream.specs.Stream.{Message}
 use Rattle.iscsi_stream.proofs.Ready.{apart}
 use Rattle.iscsi_login.specs.declared.phase.Phase.TheVariants as phases
 use Rattle.iscsi_login.specs.Held.{Held}
-use Rattle.iscsi_target.specs.Session as target_session
+use Rattle.iscsi_target_session.specs.Session as target_session
 use Rattle.iscsi_target.specs.State as target
 use Rattle.iscsi_target.specs.Machine as target_machine
 use Rattle.iscsi_target.specs.Machine.{answers}

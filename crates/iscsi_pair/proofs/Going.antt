@@ -34,14 +34,14 @@ use Rattle.iscsi_initiator.specs.State.{is_closed}
 use Rattle.iscsi_initiator.specs.Steps.{Stepped, sends}
 use Rattle.iscsi_initiator.specs.Login.{offered, asked, asked_from, login_request, login_message, is_expected, goes_on, moves_on, in_turn, judged, enters, counted, sends_more, sends_text, sends_cut, fits_segment, start_step}
 use Rattle.iscsi_initiator.specs.Machine.{step}
-use Rattle.iscsi_target.specs.declared.status.Status.{Status}
-use Rattle.iscsi_target.specs.Configured as target_settings
-use Rattle.iscsi_target.specs.Session as target_session
+use Rattle.iscsi_target_session.specs.declared.status.Status.{Status}
+use Rattle.iscsi_target_session.specs.Configured as target_settings
+use Rattle.iscsi_target_session.specs.Session as target_session
 use Rattle.iscsi_target.specs.State as target
 use Rattle.scsi_disk.specs.Plan.{first_of}
-use Rattle.iscsi_target.specs.LoginText.{known_keys, gives_again, given_with, text_refusals, answer_pairs, session_for, declared_tag, declared_length}
-use Rattle.iscsi_target.specs.Login as login
-use Rattle.iscsi_target.specs.Login.{request_refusals, is_same_stage, stage_named, stage_asked, is_move, numbered, entered, gather, text_answered, text_ending}
+use Rattle.iscsi_target_session.specs.LoginText.{known_keys, gives_again, given_with, text_refusals, answer_pairs, session_for, declared_tag, declared_length}
+use Rattle.iscsi_target_session.specs.Login as login
+use Rattle.iscsi_target_session.specs.Login.{request_refusals, is_same_stage, stage_named, stage_asked, is_move, numbered, entered, gather, text_answered, text_ending}
 use Rattle.iscsi_pair.specs.World.{Opening, IsOpening, Suits}
 use Rattle.iscsi_target.specs.Machine as target_machine
 use Rattle.iscsi_target.specs.Machine.{is_over_limit}

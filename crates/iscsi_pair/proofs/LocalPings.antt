@@ -12,12 +12,12 @@ use Rattle.iscsi_stream.specs.Stream.{Message}
 use Rattle.iscsi_login.specs.declared.phase.Phase.{Phase}
 use Rattle.iscsi_login.specs.declared.phase.Phase.TheVariants as phases
 use Rattle.iscsi_login.specs.Held.{Held}
-use Rattle.iscsi_target.specs.Session as target_session
+use Rattle.iscsi_target_session.specs.Session as target_session
 use Rattle.iscsi_target.specs.State as target
-use Rattle.iscsi_target.specs.Session.{say}
+use Rattle.iscsi_target_session.specs.Session.{say}
 use Rattle.iscsi_target.specs.State.{on}
 use Rattle.iscsi_pdu.specs.Serial.{next_sn, is_within}
-use Rattle.iscsi_target.specs.Requests.{logged_out, logout_head, nop_in_head}
+use Rattle.iscsi_target_session.specs.Requests.{logged_out, logout_head, nop_in_head}
 use Rattle.iscsi_target.specs.Machine.{answers, having_accepted, step_on}
 use Rattle.iscsi_target.proofs.Alone.{request_alone}
 use Rattle.iscsi_target.proofs.Continuing.{then_nothing}

@@ -28,10 +28,10 @@ use Rattle.iscsi_login.specs.declared.phase.Phase.{Phase}
 use Rattle.iscsi_login.specs.declared.phase.Phase.TheVariants as phases
 use Rattle.iscsi_login.specs.declared.stage.Session.TheVariants as sessions
 use Rattle.iscsi_login.specs.Held.{Held, IsHeld, max_burst}
-use Rattle.iscsi_target.specs.Session as target_session
+use Rattle.iscsi_target_session.specs.Session as target_session
 use Rattle.iscsi_target.specs.State as target
 use Rattle.iscsi_target.specs.State.{max_cmd_sn}
-use Rattle.iscsi_target.specs.Session.{message}
+use Rattle.iscsi_target_session.specs.Session.{message}
 use Rattle.iscsi_target.specs.Command.{order_of, planned}
 use Rattle.iscsi_target.specs.Machine.{answers, having_accepted, step_on}
 use Rattle.iscsi_target.specs.Execution.{command_answers, execute, data_ins, data_in_head, marked, parts_given, response_head, run_given, sense_segment, reliable}

@@ -31,9 +31,9 @@ use Rattle.iscsi_login.specs.Held.{Held, IsHeld, first_burst, is_on, max_burst, 
 use Rattle.iscsi_login.specs.declared.key.NegKey.TheVariants as keys
 use Rattle.iscsi_target.specs.declared.due.Due.{Due}
 use Rattle.iscsi_target.specs.declared.due.Due.TheVariants.{Nothing, Unsolicited, Solicited}
-use Rattle.iscsi_target.specs.Session as target_session
+use Rattle.iscsi_target_session.specs.Session as target_session
 use Rattle.iscsi_target.specs.State as target
-use Rattle.iscsi_target.specs.Session.{message}
+use Rattle.iscsi_target_session.specs.Session.{message}
 use Rattle.iscsi_target.specs.Write.{Write}
 use Rattle.iscsi_target.specs.declared.tasks.Task.TheVariants.{Data}
 use Rattle.iscsi_target.specs.State.{Stepped, unchanged}

@@ -10,8 +10,8 @@ use Rattle.iscsi_stream.specs.Canonical.{canon}
 use Rattle.iscsi_login.specs.declared.stage.Stage.{Stage}
 use Rattle.iscsi_login.specs.declared.stage.Stage.TheVariants as stages
 use Rattle.iscsi_login.specs.Stage.{is_closed_phase}
-use Rattle.iscsi_target.specs.Session as target_session
-use Rattle.iscsi_target.specs.LoginText.{answer_pairs}
+use Rattle.iscsi_target_session.specs.Session as target_session
+use Rattle.iscsi_target_session.specs.LoginText.{answer_pairs}
 use Rattle.iscsi_target.specs.State as target
 use Rattle.iscsi_target.specs.Machine as target_machine
 use Rattle.iscsi_target.specs.Machine.{answers}

@@ -21,13 +21,13 @@ use Rattle.iscsi_login.specs.Held.{Held, IsHeld}
 use Rattle.iscsi_login.specs.Negotiation.{IsInRange}
 use Rattle.iscsi_text.specs.Reading.{in_order}
 use Rattle.iscsi_login.specs.Offers.{Proposal, offers_at}
-use Rattle.iscsi_target.specs.Configured as target_settings
-use Rattle.iscsi_target.specs.Session as target_session
+use Rattle.iscsi_target_session.specs.Configured as target_settings
+use Rattle.iscsi_target_session.specs.Session as target_session
 use Rattle.iscsi_target.specs.State as target
 use Rattle.iscsi_target.specs.declared.tasks.Task.{Task}
 use Rattle.iscsi_login.specs.Stage.{is_closed_phase}
-use Rattle.iscsi_target.specs.LoginText.{answer_pairs, session_for, session_in}
-use Rattle.iscsi_target.specs.Login.{entered, numbered, gather, text_answered}
+use Rattle.iscsi_target_session.specs.LoginText.{answer_pairs, session_for, session_in}
+use Rattle.iscsi_target_session.specs.Login.{entered, numbered, gather, text_answered}
 use Rattle.iscsi_target.specs.Machine as target_machine
 use Rattle.iscsi_target.specs.Machine.{answers}
 use Rattle.iscsi_target.proofs.Numbers.{IsFit, step_fit}

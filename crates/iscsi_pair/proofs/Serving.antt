@@ -8,8 +8,8 @@ use Rattle.iscsi_stream.specs.Segment.{after, no_login}
 use Rattle.iscsi_stream.specs.Stream.{Message, after_all}
 use Rattle.iscsi_login.specs.declared.phase.Phase.TheVariants as phases
 use Rattle.iscsi_login.specs.Held.{Held}
-use Rattle.iscsi_target.specs.Configured as target_settings
-use Rattle.iscsi_target.specs.Session as target_session
+use Rattle.iscsi_target_session.specs.Configured as target_settings
+use Rattle.iscsi_target_session.specs.Session as target_session
 use Rattle.iscsi_target.specs.State as target
 use Rattle.iscsi_target.specs.Machine as target_machine
 use Rattle.iscsi_target.specs.Machine.{answers}

@@ -14,7 +14,7 @@ use Rattle.iscsi_stream.proofs.Writing.{canon_append}
 use Rattle.iscsi_login.specs.declared.phase.Phase.{Phase}
 use Rattle.iscsi_login.specs.declared.phase.Phase.TheVariants as phases
 use Rattle.iscsi_login.specs.Stage.{is_closed_phase}
-use Rattle.iscsi_target.specs.Session as target_session
+use Rattle.iscsi_target_session.specs.Session as target_session
 use Rattle.iscsi_target.specs.State as target
 use Rattle.iscsi_target.specs.State.{Execution, joined}
 use Rattle.iscsi_target.specs.Execution.{reliable}

@@ -24,10 +24,10 @@ use Rattle.std.proofs.lemmas.List.{length-append}
 use Rattle.iscsi_text.proofs.Keys.{bytes_eq_same}
 use Rattle.iscsi_text.proofs.Order.{all_in_order}
 use Rattle.iscsi_pair.proofs.Sizes.{IsShort, text_short, length-in_order, security_short, operational_short, single_short}
-use Rattle.iscsi_target.specs.declared.status.Status.{Status}
-use Rattle.iscsi_target.specs.Session.{Session as TargetSession}
+use Rattle.iscsi_target_session.specs.declared.status.Status.{Status}
+use Rattle.iscsi_target_session.specs.Session.{Session as TargetSession}
 use Rattle.scsi_disk.specs.Plan.{first_of}
-use Rattle.iscsi_target.specs.LoginText.{answer_pairs, is_normal, session_for, text_refusals, known_keys, gives_again, given_with, value_for, is_name, session_in, names_target, demands_authentication, is_bad_length}
+use Rattle.iscsi_target_session.specs.LoginText.{answer_pairs, is_normal, session_for, text_refusals, known_keys, gives_again, given_with, value_for, is_name, session_in, names_target, demands_authentication, is_bad_length}
 
 -- ---- what a target reads in an offer
 

@@ -34,12 +34,12 @@ use Rattle.iscsi_initiator.specs.State.{sent_exp_stat_sn}
 use Rattle.iscsi_initiator.specs.Steps.{Stepped, sends}
 use Rattle.iscsi_initiator.specs.Login.{offered, asked, asked_from, login_request, login_message, counted, sends_cut, sends_more, sends_text, enters, fits_segment, start_step}
 use Rattle.iscsi_initiator.specs.Machine.{step}
-use Rattle.iscsi_target.specs.Configured as target_settings
-use Rattle.iscsi_target.specs.Session as target_session
+use Rattle.iscsi_target_session.specs.Configured as target_settings
+use Rattle.iscsi_target_session.specs.Session as target_session
 use Rattle.iscsi_target.specs.State as target
 use Rattle.iscsi_target.specs.Machine.{is_over_limit}
 use Rattle.iscsi_target.specs.Machine as target_machine
-use Rattle.iscsi_target.specs.Login as target_login
+use Rattle.iscsi_target_session.specs.Login as target_login
 use Rattle.iscsi_pair.specs.World.{Opening, IsOpening}
 use Rattle.iscsi_pair.proofs.Front.{RequestFits, Readable, response_readable, request_readable, part_readable}
 use Rattle.iscsi_pair.proofs.Offered.{offers_read, offers_mean, declares}

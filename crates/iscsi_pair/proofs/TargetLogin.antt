@@ -22,13 +22,13 @@ use Rattle.iscsi_login.specs.Held.{Held}
 use Rattle.iscsi_login.specs.Negotiation.{IsInRange}
 use Rattle.iscsi_login.specs.Answer as login
 use Rattle.iscsi_login.specs.Answer.{target_holds}
-use Rattle.iscsi_target.specs.declared.status.Status.{Status}
-use Rattle.iscsi_target.specs.Configured.{Settings}
-use Rattle.iscsi_target.specs.Session.{Session, Reply}
+use Rattle.iscsi_target_session.specs.declared.status.Status.{Status}
+use Rattle.iscsi_target_session.specs.Configured.{Settings}
+use Rattle.iscsi_target_session.specs.Session.{Session, Reply}
 use Rattle.iscsi_target.specs.State.{Machine, on}
 use Rattle.scsi_disk.specs.Plan.{first_of}
-use Rattle.iscsi_target.specs.LoginText.{out_of_resources, text_refusals, session_for, declared_tag, declared_length, answer_pairs}
-use Rattle.iscsi_target.specs.Login.{login_request, request_refusals, refuse, refuse_or, response, login_message, numbered, entered, segment_taken, gather, whole_text, text_ending, text_answered, text_response, stage_asked, stage_after, phase_at, tsih_at}
+use Rattle.iscsi_target_session.specs.LoginText.{out_of_resources, text_refusals, session_for, declared_tag, declared_length, answer_pairs}
+use Rattle.iscsi_target_session.specs.Login.{login_request, request_refusals, refuse, refuse_or, response, login_message, numbered, entered, segment_taken, gather, whole_text, text_ending, text_answered, text_response, stage_asked, stage_after, phase_at, tsih_at}
 use Rattle.iscsi_target.specs.Machine.{step, is_closed, is_over_limit, phase_step}
 use Rattle.iscsi_login.specs.Stage.{is_closed_phase}
 use Rattle.iscsi_pair.proofs.Front.{RequestFits, ResponseFits}

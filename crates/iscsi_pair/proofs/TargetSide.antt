@@ -16,7 +16,7 @@ use Rattle.iscsi_login.specs.declared.phase.Phase.{Phase}
 use Rattle.iscsi_login.specs.declared.phase.Phase.TheVariants as phases
 use Rattle.iscsi_target.specs.declared.fault.TargetFault.{TargetFault}
 use Rattle.iscsi_target.specs.declared.fault.TargetFault.TheVariants as faults
-use Rattle.iscsi_target.specs.Session.{limit}
+use Rattle.iscsi_target_session.specs.Session.{limit}
 use Rattle.iscsi_target.specs.State.{Machine, Stepped}
 use Rattle.iscsi_target.specs.State.{joined}
 use Rattle.iscsi_target.specs.Machine.{answers, is_closed}

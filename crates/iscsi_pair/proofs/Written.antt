@@ -22,13 +22,13 @@ use Rattle.iscsi_stream.specs.declared.logins.Logins.{Logins}
 use Rattle.iscsi_stream.specs.Segment.{Bytes, continues, is_last, segment_bytes}
 use Rattle.iscsi_stream.proofs.Segments.{segment_plain, none_whole}
 use Rattle.iscsi_target.specs.State as target
-use Rattle.iscsi_target.specs.Session.{message}
+use Rattle.iscsi_target_session.specs.Session.{message}
 use Rattle.iscsi_target.specs.Write.{Write}
 use Rattle.iscsi_target.specs.State.{max_cmd_sn, waiting}
 use Rattle.iscsi_target.specs.Transfer.{received, desired}
 use Rattle.iscsi_target.specs.Execution.{data_in_head, response_head, residual_count, sense_segment, is_over, is_under}
 use Rattle.iscsi_target.specs.Command.{r2t_head}
-use Rattle.iscsi_target.specs.Requests.{nop_in_head, logout_head}
+use Rattle.iscsi_target_session.specs.Requests.{nop_in_head, logout_head}
 use Rattle.iscsi_initiator.specs.State as initiator
 use Rattle.iscsi_initiator.specs.State.{sent_exp_stat_sn}
 use Rattle.iscsi_initiator.specs.Block.{record_of}

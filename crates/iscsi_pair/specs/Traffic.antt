@@ -7,7 +7,7 @@ use Rattle.iscsi_stream.specs.Canonical.{canon}
 use Rattle.iscsi_stream.specs.Framing.{HasTaken, is_ready}
 use Rattle.iscsi_target.specs.State.{Stepped, opening}
 use Rattle.iscsi_target.specs.State.{joined}
-use Rattle.iscsi_target.specs.Session as target_session
+use Rattle.iscsi_target_session.specs.Session as target_session
 use Rattle.iscsi_target.specs.Machine as target_machine
 use Rattle.iscsi_target.specs.Machine.{answers}
 use Rattle.iscsi_initiator.specs.State.{Machine, is_closed}

@@ -10,7 +10,7 @@ use Rattle.iscsi_login.specs.declared.offers.Auth.TheVariants as auths
 use Rattle.iscsi_login.specs.Negotiation.{IsInRange}
 use Rattle.iscsi_target.specs.declared.fault.TargetFault.{TargetFault}
 use Rattle.iscsi_target.specs.declared.fault.TargetFault.TheVariants as target_faults
-use Rattle.iscsi_target.specs.Configured as target_settings
+use Rattle.iscsi_target_session.specs.Configured as target_settings
 use Rattle.iscsi_target.specs.Feed as target
 use Rattle.iscsi_initiator.specs.declared.fault.InitiatorFault.{InitiatorFault}
 use Rattle.iscsi_initiator.specs.declared.fault.InitiatorFault.TheVariants as initiator_faults

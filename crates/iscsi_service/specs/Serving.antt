@@ -3,7 +3,7 @@ use Rattle.std.specs.Prelude.{◌≡◌, ℕ, List, Result, Ok, Err}
 use Rattle.scsi_disk.specs.Disk.{Disk}
 use Rattle.iscsi_target.specs.declared.fault.TargetFault.{TargetFault}
 use Rattle.iscsi_target.specs.declared.fault.TargetFault.TheVariants as target
-use Rattle.iscsi_target.specs.Configured.{Settings}
+use Rattle.iscsi_target_session.specs.Configured.{Settings}
 use Rattle.iscsi_initiator.specs.declared.fault.InitiatorFault.{InitiatorFault}
 use Rattle.iscsi_initiator.specs.declared.fault.InitiatorFault.TheVariants as initiator
 use Rattle.iscsi_service.specs.declared.session.SessionFault.{SessionFault}

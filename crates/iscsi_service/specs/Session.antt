@@ -12,8 +12,8 @@ use Rattle.iscsi_stream.specs.Stream.{Message, ReadsAs, NoPdu, Splits, longest_s
 use Rattle.iscsi_stream.specs.Framing.{IsBegun, last_place}
 use Rattle.iscsi_login.specs.Negotiation.{standard}
 use Rattle.iscsi_target.specs.declared.fault.TargetFault.TheVariants as faults
-use Rattle.iscsi_target.specs.Configured.{Settings}
-use Rattle.iscsi_target.specs.Session.{limit}
+use Rattle.iscsi_target_session.specs.Configured.{Settings}
+use Rattle.iscsi_target_session.specs.Session.{limit}
 use Rattle.iscsi_stream.specs.Canonical.{canon}
 use Rattle.iscsi_target.specs.State.{Execution, Stepped, opening, unchanged}
 use Rattle.iscsi_target.specs.Machine.{answers, is_closed, MayStop}

@@ -3,7 +3,7 @@
 use Rattle.std.specs.Prelude.{◌≡◌, ℕ, List, [], ◌++◌, Option, Err}
 use Rattle.std.specs.Io.KnownBytes.{Appends}
 use Rattle.iscsi_target.specs.declared.fault.TargetFault.TheVariants as faults
-use Rattle.iscsi_target.specs.Configured.{Settings}
+use Rattle.iscsi_target_session.specs.Configured.{Settings}
 use Rattle.iscsi_target.specs.Feed.{Connection, Store, FedAll, opening_connection, stream_of}
 use Rattle.iscsi_service.specs.Session.{HasExecuted, IsOver, EndsBy, ServesFirst}
 use Rattle.iscsi_service.specs.declared.session.SessionFault.{SessionFault}

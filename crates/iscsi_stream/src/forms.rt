@@ -36,6 +36,8 @@ pub fn text_of<'a>(
         ≡ segment_of continued pdu.now.head pdu.now.bytes.now) }
     ensures no_longer { IfOk result (λ text. IfSome text
         (λ pairs. length (canonical_text pairs) ≤ length pdu.now.bytes.now)) }
+    ensures whole { IfOk result (λ text. IfSome text
+        (λ _. (continued ≡ false) × (is_last pdu.now.head ≡ true))) }
     ensures memory { OnErr result ((continued ≡ false) × (is_last pdu.now.head ≡ true)) }
 {
     if continued || !is_last(&pdu.head) {

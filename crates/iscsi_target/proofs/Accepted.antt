@@ -1,5 +1,5 @@
 -- Commands are executed in the order in which they were accepted.
-use Rattle.std.proofs.Common.{◌≡◌, ◌<◌, ◌⊎◌, inl, inr, ℕ, ◌+◌, ◌^◌, List, [], ◌∷◌, ◌++◌, Bool, true, false, length, Option, Some, None, refl, sym, ap, ◌∙◌, subst, arith, map, append_assoc}
+use Rattle.std.proofs.Common.{◌≡◌, ◌⊎◌, inl, inr, ℕ, ◌+◌, List, [], ◌∷◌, ◌++◌, Bool, true, false, length, Some, None, refl, sym, ap, ◌∙◌, subst, map, append_assoc}
 use Rattle.std.specs.Prelude.{◌==◌, nat_lt, if◌then◌else◌}
 use Rattle.std.specs.List.{AllByRecursion}
 use Rattle.std.proofs.lemmas.Bool.{eqb-true}
@@ -7,7 +7,6 @@ use Rattle.std.proofs.lemmas.List.{append-nil, map-append}
 use Rattle.std.proofs.lemmas.Grind.{flat_map-append}
 use Rattle.scsi_disk.specs.Disk.{Disk}
 use Rattle.scsi_disk.specs.Plan.{plan_of}
-use Rattle.scsi_disk.specs.declared.order.Order.{Order}
 use Rattle.scsi_disk.specs.declared.order.Plan.{Plan}
 use Rattle.scsi_disk.specs.declared.order.Plan.TheVariants as plans
 use Rattle.iscsi_pdu.specs.declared.head.Head.{Head}
@@ -18,22 +17,22 @@ use Rattle.iscsi_stream.specs.Segment.{segment_bytes}
 use Rattle.iscsi_stream.specs.Stream.{Message}
 use Rattle.iscsi_stream.proofs.Ready.{apart}
 use Rattle.iscsi_login.specs.Held.{first_burst}
-use Rattle.iscsi_target.specs.Configured.{Settings}
-use Rattle.iscsi_target.specs.Session.{Session, Reply}
+use Rattle.iscsi_target_session.specs.Configured.{Settings}
+use Rattle.iscsi_target_session.specs.Session.{Session, Reply}
 use Rattle.iscsi_target.specs.Write.{Write}
 use Rattle.iscsi_target.specs.declared.tasks.Task.{Task}
 use Rattle.iscsi_target.specs.declared.tasks.Task.TheVariants.{Request, Data}
 use Rattle.iscsi_target.specs.State.{Machine, Execution, Stepped, on, unchanged, shut_down, opening}
 use Rattle.iscsi_pdu.specs.Rules.{data_out_of_order}
-use Rattle.iscsi_target.specs.Rejecting.{breach, breaks}
-use Rattle.iscsi_target.specs.Login.{login_step}
+use Rattle.iscsi_target.specs.State.{breaks}
+use Rattle.iscsi_target_session.specs.Login.{login_step}
 use Rattle.iscsi_target.specs.Transfer.{taken, with_data, is_in_sequence, received, asking}
 use Rattle.iscsi_target.specs.Execution.{Device, reliable, execute}
 use Rattle.iscsi_target.specs.Command.{order_of, led_by, ask, task_of as task_for, task_by, task_planned}
 use Rattle.iscsi_target.specs.Machine.{begun, stays, step, step_on, answers, then_stepped, is_closed, done_in_turn, having_accepted, write_of, with_write}
 use Rattle.iscsi_target.specs.Laws.{Command, task_in, tasks_in, task_of, tasks_done, task_open, tasks_open, HasCmdSn, AreInOrder}
 use Rattle.iscsi_target.proofs.Turns.{Writes, Waits, Opens, Begins, begins, Turns, turns, with_tasks, stays_on}
-use Rattle.iscsi_target.proofs.Turns.{by_cases}
+use Rattle.iscsi_target_session.proofs.Cases.{by_cases}
 use Rattle.iscsi_target.proofs.StepParts.{Accepts, Immediately, InTurn, Parts, step_parts}
 use Rattle.iscsi_target.proofs.Replies.{IsOver, on_ends}
 use Rattle.iscsi_target.proofs.Numbers.{closed_answers}

@@ -12,7 +12,7 @@ use Rattle.iscsi_stream.specs.Stream.{Message}
 use Rattle.iscsi_login.specs.Held.{first_burst}
 use Rattle.iscsi_login.specs.declared.phase.Phase.TheVariants as phases
 use Rattle.iscsi_login.specs.Stage.{is_closed_phase}
-use Rattle.iscsi_target.specs.Session.{Session, max_cmd_sn_with}
+use Rattle.iscsi_target_session.specs.Session.{Session, max_cmd_sn_with}
 use Rattle.iscsi_target.specs.Write.{Write}
 use Rattle.iscsi_target.specs.declared.tasks.Task.TheVariants.{Data}
 use Rattle.iscsi_target.specs.State.{Machine, Stepped}
@@ -21,7 +21,8 @@ use Rattle.iscsi_target.specs.Execution.{Device}
 use Rattle.iscsi_target.specs.Command.{breaks_rules, proceed}
 use Rattle.iscsi_target.specs.Machine.{Met, handled, advanced, in_turn, request, data_out, due_met, done_in_turn, followed, having_accepted, is_due_kind, is_too_long, is_over_limit, step_on}
 use Rattle.iscsi_target.specs.Laws.{cmd_sn_of, cmd_sn_if}
-use Rattle.iscsi_target.proofs.Turns.{by_cases, with_tasks}
+use Rattle.iscsi_target_session.proofs.Cases.{by_cases}
+use Rattle.iscsi_target.proofs.Turns.{with_tasks}
 use Rattle.iscsi_target.proofs.Dispatching.{alone, live_step}
 
 -- what comes of a PDU is done

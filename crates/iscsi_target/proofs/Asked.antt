@@ -18,29 +18,33 @@ use Rattle.iscsi_stream.specs.Segment.{segment_bytes}
 use Rattle.iscsi_stream.specs.Stream.{Message}
 use Rattle.iscsi_stream.proofs.Ready.{apart}
 use Rattle.iscsi_login.specs.Held.{first_burst}
-use Rattle.iscsi_target.specs.Configured.{Settings}
-use Rattle.iscsi_target.specs.Session.{Session, Reply}
+use Rattle.iscsi_target_session.specs.Configured.{Settings}
+use Rattle.iscsi_target_session.specs.Session.{Session, Reply}
 use Rattle.iscsi_target.specs.Write.{Write}
 use Rattle.iscsi_target.specs.declared.tasks.Task.{Task}
 use Rattle.iscsi_target.specs.declared.tasks.Task.TheVariants.{Request, Data}
 use Rattle.iscsi_target.specs.State.{Machine, Stepped, on, unchanged, shut_down, opening, waiting}
-use Rattle.iscsi_target.specs.Rejecting.{breach, breaks}
-use Rattle.iscsi_target.specs.Login.{login_step, login_in}
+use Rattle.iscsi_target_session.specs.Rejecting.{breach}
+use Rattle.iscsi_target.specs.State.{breaks}
+use Rattle.iscsi_target_session.specs.Login.{login_step, login_in}
 use Rattle.iscsi_target.specs.declared.due.Due.{Due}
 use Rattle.iscsi_target.specs.declared.due.Due.TheVariants.{Nothing, Unsolicited, Solicited}
 use Rattle.iscsi_target.specs.Transfer.{is_whole, is_idle, taken, with_data, is_in_sequence, received, continued, is_next, is_solicited_piece, asking}
 use Rattle.iscsi_target.specs.Execution.{Device, execute, reliable}
 use Rattle.iscsi_target.specs.Command.{order_of, opened, task_of, task_by, task_planned}
-use Rattle.iscsi_target.specs.Machine.{request_answered, step, step_on, answers, then_stepped, is_closed, begun, stays, done_in_turn, having_accepted, write_of, with_write}
+use Rattle.iscsi_target_session.specs.Requests.{request_answered}
+use Rattle.iscsi_target.specs.Machine.{step, step_on, answers, then_stepped, is_closed, begun, stays, done_in_turn, having_accepted, write_of, with_write}
 use Rattle.iscsi_target.specs.Inside.{is_unasked, AreKept}
 use Rattle.iscsi_target.specs.Tiles.{r2t_ranges, r2t_range, ends_r2t, data_answers, pdu_answers, r2ts_answered}
 use Rattle.iscsi_target.specs.Laws.{HasCmdSn}
-use Rattle.iscsi_target.proofs.Turns.{by_cases, Writes, Waits, Opens, Begins, begins, Turns, turns, with_tasks, stays_on}
+use Rattle.iscsi_target_session.proofs.Cases.{by_cases}
+use Rattle.iscsi_target.proofs.Turns.{Writes, Waits, Opens, Begins, begins, Turns, turns, with_tasks, stays_on}
 use Rattle.iscsi_target.proofs.StepParts.{Accepts, Immediately, InTurn, Parts, step_parts}
 use Rattle.iscsi_target.proofs.Replies.{IsOver, on_ends, Logs, login_logs, request_answered_reply}
 use Rattle.iscsi_target.proofs.Accepted.{still, found_tag, taken_same}
 use Rattle.iscsi_target.proofs.Numbers.{closed_answers}
-use Rattle.iscsi_target.proofs.OpenWrites.{DueFits, and_left, and_right, size_with}
+use Rattle.iscsi_target.proofs.OpenWrites.{DueFits, size_with}
+use Rattle.iscsi_target_session.proofs.Cases.{and_left, and_right}
 use Rattle.iscsi_target.proofs.Pending.{AreUnasked, none_kept, taken_unasked, found_unasked, written_unasked, behind_with, step_kept}
 use Rattle.iscsi_target.proofs.Sound.{IsSound, execute_ranges, step_goes, step_count}
 

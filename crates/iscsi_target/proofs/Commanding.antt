@@ -1,22 +1,17 @@
 -- The steps of commands and Data-Out, case by case.
-use Rattle.std.proofs.Common.{◌≡◌, ◌∙◌, ℕ, ◌+◌, List, [], ◌∷◌, ◌++◌, Bool, true, false, length, Option, Some, None, refl, sym, ap}
+use Rattle.std.proofs.Common.{◌≡◌, ◌∙◌, ℕ, List, [], ◌∷◌, ◌++◌, Bool, true, false, length, None, refl, sym, ap}
 use Rattle.std.specs.Prelude.{◌==◌, if◌then◌else◌}
 use Rattle.scsi_disk.specs.Disk.{Disk}
 use Rattle.iscsi_pdu.specs.declared.head.scsi_command.ScsiCommand.{ScsiCommand}
-use Rattle.iscsi_pdu.specs.declared.head.data_out.DataOut.{DataOut}
 use Rattle.iscsi_stream.specs.Stream.{Message}
-use Rattle.iscsi_login.specs.Held.{first_burst}
 use Rattle.iscsi_target.specs.Write.{Write}
-use Rattle.iscsi_target.specs.State.{Machine, Stepped, unchanged, waiting}
+use Rattle.iscsi_target.specs.State.{Machine, unchanged, waiting}
 use Rattle.iscsi_target.specs.declared.tasks.Task.TheVariants.{Data}
-use Rattle.iscsi_stream.specs.Pieces.{data_of}
-use Rattle.iscsi_target.specs.Rejecting.{breaks}
+use Rattle.iscsi_target.specs.State.{breaks}
 use Rattle.iscsi_pdu.specs.Rules.{data_out_of_order}
-use Rattle.iscsi_target.specs.Transfer.{received, is_whole, is_idle, is_in_sequence, taken, with_data, with_piece, joined_write}
+use Rattle.iscsi_target.specs.Transfer.{received, is_whole, is_idle}
 use Rattle.iscsi_target.specs.Execution.{Device, execute}
 use Rattle.iscsi_target.specs.Command.{breaks_burst_rules, scsi_command, order_of, planned, proceed, ask, led_by}
-use Rattle.iscsi_target.specs.Laws.{joined_stepped}
-use Rattle.iscsi_target.proofs.OpenWrites.{data_of_one}
 use Rattle.scsi_disk.specs.Plan.{plan_of}
 use Rattle.std.proofs.Common.{rules, append_assoc, ◌≤◌}
 use Rattle.std.specs.Prelude.{Result, Ok, Err, OnOk}
@@ -25,14 +20,14 @@ use Rattle.scsi_disk.specs.declared.order.Outcome.{Outcome}
 use Rattle.iscsi_pdu.specs.Meaning.{whole}
 use Rattle.iscsi_pdu.specs.declared.head.Head.{Head}
 use Rattle.iscsi_stream.specs.Canonical.{canon, canonical_bytes}
-use Rattle.iscsi_target.specs.Session.{message}
+use Rattle.iscsi_target_session.specs.Session.{message}
 use Rattle.iscsi_target.specs.Transfer.{desired}
 use Rattle.iscsi_target.specs.Execution.{response_head, sense_segment, command_answers, parts_given, data_ins}
 use Rattle.iscsi_target.specs.Command.{r2t_head}
 use Rattle.iscsi_target.specs.declared.due.Due.{Due}
 use Rattle.iscsi_target.specs.declared.due.Due.TheVariants.{Nothing, Unsolicited, Solicited}
 use Rattle.iscsi_target.specs.Staged.{IsAsked, asking_for}
-use Rattle.iscsi_target.proofs.Answering.{one_answer}
+use Rattle.iscsi_target_session.proofs.Answering.{one_answer}
 use Rattle.iscsi_target.specs.Inside.{Leaves}
 
 pub command_broken : (d : Device) (s : Machine) (disk : Disk) (m : Message) (h : ScsiCommand) (bytes : List ℕ) → breaks_burst_rules s.session.held h (length bytes) ≡ true

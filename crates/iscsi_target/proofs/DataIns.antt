@@ -8,7 +8,7 @@ use Rattle.scsi_disk.specs.declared.order.Order.{Order}
 use Rattle.iscsi_stream.specs.Segment.{segment_bytes}
 use Rattle.iscsi_stream.specs.Stream.{Message}
 use Rattle.iscsi_login.specs.Held.{Held, max_burst}
-use Rattle.iscsi_target.specs.Session.{Session, message}
+use Rattle.iscsi_target_session.specs.Session.{Session, message}
 use Rattle.iscsi_target.specs.State.{Machine, waiting}
 use Rattle.iscsi_stream.specs.Pieces.{Pieces, data_of, chunks, TilesFrom, data_pieces}
 use Rattle.iscsi_target.specs.Execution.{Device, execute, marked, run_given, parts_given, data_ins, response_head, sense_segment}

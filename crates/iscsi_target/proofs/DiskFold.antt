@@ -5,14 +5,15 @@ use Rattle.scsi_disk.specs.Effect.{effect}
 use Rattle.scsi_disk.specs.Runs.{disk_after}
 use Rattle.iscsi_stream.specs.Stream.{Message}
 use Rattle.iscsi_stream.specs.Pieces.{data_of}
-use Rattle.iscsi_target.specs.Session.{Session}
+use Rattle.iscsi_target_session.specs.Session.{Session}
 use Rattle.iscsi_target.specs.declared.tasks.Task.{Task}
 use Rattle.iscsi_target.specs.State.{Machine, Execution, Stepped}
 use Rattle.iscsi_target.specs.Execution.{Device, reliable, device_next, device_after}
 use Rattle.std.specs.Prelude.{◌||◌}
 use Rattle.iscsi_target.specs.Machine.{step, step_on, answers, begun, done_in_turn, done_first, stays, is_closed}
 use Rattle.iscsi_target.specs.Laws.{supplied}
-use Rattle.iscsi_target.proofs.Turns.{by_cases, Begins, begins, Turns, turns}
+use Rattle.iscsi_target_session.proofs.Cases.{by_cases}
+use Rattle.iscsi_target.proofs.Turns.{Begins, begins, Turns, turns}
 use Rattle.iscsi_target.proofs.StepParts.{Parts, step_parts}
 
 -- what was executed led from disk to disk as the store did it

@@ -1,5 +1,5 @@
 -- The steps of a session by the kind of PDU, case by case.
-use Rattle.std.proofs.Common.{◌≡◌, ◌<◌, ◌≤◌, ◌∙◌, ℕ, ◌^◌, List, Bool, true, false, not, length, Option, Some, None, refl, sym, ap, subst, rules}
+use Rattle.std.proofs.Common.{◌≡◌, ◌<◌, ◌≤◌, ◌∙◌, ℕ, ◌^◌, List, Bool, true, false, not, length, Option, Some, None, refl, sym, ap, rules}
 use Rattle.std.specs.Prelude.{◌==◌, ◌&&◌, nat_lt, if◌then◌else◌, ◌↔◌, IsTrue, Result}
 use Rattle.std.proofs.lemmas.Bool.{le-ltb}
 use Rattle.scsi_disk.specs.Disk.{Disk}
@@ -9,21 +9,19 @@ use Rattle.iscsi_pdu.specs.Serial.{distance, is_within}
 use Rattle.iscsi_pdu.specs.declared.head.Head.{Head}
 use Rattle.iscsi_pdu.specs.declared.head.Head.TheVariants as heads
 use Rattle.iscsi_pdu.specs.declared.head.Head.TheVariants.{LoginRequest, LoginResponse, NopOut, TaskRequest, TextRequest, LogoutRequest, ScsiCommand, DataOut}
-use Rattle.iscsi_pdu.specs.declared.head.nop_out.NopOut.{NopOut as Ping}
-use Rattle.iscsi_pdu.specs.declared.head.text_request.TextRequest.{TextRequest as TextPdu}
 use Rattle.iscsi_pdu.specs.declared.head.scsi_command.ScsiCommand.{ScsiCommand as Command}
 use Rattle.iscsi_pdu.specs.declared.head.data_out.DataOut.{DataOut as DataPdu}
 use Rattle.iscsi_stream.specs.Segment.{segment_if, segment_of, segment_bytes, text_or_bytes, is_last}
 use Rattle.iscsi_stream.specs.Stream.{Message, message}
 use Rattle.iscsi_login.specs.declared.phase.Phase.{Phase}
 use Rattle.iscsi_login.specs.declared.stage.Session.{Session as SessionType}
-use Rattle.iscsi_target.specs.Session.{Session, Reply, limit}
+use Rattle.iscsi_target_session.specs.Session.{Session, Reply, limit}
 use Rattle.iscsi_target.specs.State.{Machine, Stepped, on, unchanged, shut_down, waiting, max_cmd_sn}
 use Rattle.std.proofs.Common.{inl, inr, arith}
 use Rattle.std.specs.Prelude.{Ok, Err, OnOk, OnErr}
 use Rattle.iscsi_login.specs.declared.phase.Phase.TheVariants.{Login, Full}
 use Rattle.iscsi_target.specs.State.{closed}
-use Rattle.iscsi_target.specs.Login.{login_step}
+use Rattle.iscsi_target_session.specs.Login.{login_step}
 use Rattle.std.specs.Prelude.{◌+◌}
 use Rattle.iscsi_login.specs.Held.{first_burst}
 use Rattle.iscsi_target.specs.Write.{Write}
@@ -31,16 +29,14 @@ use Rattle.iscsi_target.specs.Transfer.{received, is_in_sequence, taken, with_da
 use Rattle.iscsi_target.specs.Machine.{Next, followed, full_step, write_of, with_write, data_taken, data_for}
 use Rattle.iscsi_target.specs.Laws.{joined_stepped}
 use Rattle.iscsi_target.specs.Feed.{Store}
-use Rattle.iscsi_target.proofs.Turns.{by_cases}
+use Rattle.iscsi_target_session.proofs.Cases.{by_cases}
 use Rattle.iscsi_target.proofs.Serving.{serves_same, leaves_serves, accepts_by, answered_follows}
-use Rattle.iscsi_target.specs.Inside.{Does, Leaves, refusal, Follows, Answers, store_of}
-use Rattle.iscsi_target.specs.Rejecting.{reject}
+use Rattle.iscsi_target.specs.Inside.{Leaves, refusal, Follows, Answers, store_of}
+use Rattle.iscsi_target_session.specs.Rejecting.{reject}
 use Rattle.iscsi_pdu.specs.Rules.{kind_not_due, segment_too_long, command_out_of_turn, too_many_immediate}
 use Rattle.scsi_disk.specs.Plan.{plan_of}
 use Rattle.scsi_disk.specs.declared.order.Plan.{Plan}
 use Rattle.scsi_disk.specs.declared.order.Plan.TheVariants.{Refuse, Take, Give}
-use Rattle.iscsi_target.specs.Discovery.{text_request}
-use Rattle.iscsi_target.specs.Requests.{nop_out}
 use Rattle.iscsi_login.specs.Held.{Held}
 use Rattle.iscsi_target.specs.declared.tasks.Task.TheVariants.{Data}
 use Rattle.iscsi_target.proofs.Sound.{immediate_fits}
@@ -54,20 +50,9 @@ use Rattle.iscsi_target.specs.State.{takes_place, joined_task}
 use Rattle.iscsi_target.specs.Transfer.{with_piece}
 use Rattle.iscsi_target.specs.Laws.{cmd_sn_of, cmd_sn_if}
 use Rattle.iscsi_target.proofs.OpenWrites.{data_of_one}
-use Rattle.iscsi_target.specs.Machine.{Dropped, Answered, Queued, broken, is_tag_of, tag_of, is_busy, is_due_kind, request_answered, handled, begun, immediate, advanced, admitted, in_turn, data_out, due_met, full_met, is_too_long, is_over_limit, phase_step, is_closed, step_on}
-
--- a PDU with no text means its bytes
-plain_at : (c : Bool) (hd : Head) (bytes : List ℕ) → is_last hd ≡ false → segment_bytes (message c hd bytes).segment ≡ bytes
-unfolding segment_of segment_bytes
-plain_at true hd bytes e = refl
-plain_at false hd bytes e = rw e refl
-
-plain : (c : Bool) (hd : Head) (bytes : List ℕ) (m : Message) (is : message c hd bytes ≡ m) → is_last hd ≡ false → segment_bytes m.segment ≡ bytes
-plain c hd bytes m is e = ap (λ (x : Message). segment_bytes x.segment) (sym is) ∙ plain_at c hd bytes e
-
--- a message has the head of its PDU
-pub head_of : (c : Bool) (hd : Head) (bytes : List ℕ) (m : Message) (is : message c hd bytes ≡ m) → m.head ≡ hd
-head_of c hd bytes m is = ap (λ (x : Message). x.head) (sym is)
+use Rattle.iscsi_target.specs.Machine.{Dropped, Answered, Queued, broken, is_tag_of, tag_of, is_busy, is_due_kind, handled, begun, immediate, advanced, admitted, in_turn, data_out, due_met, full_met, is_too_long, is_over_limit, phase_step, is_closed, step_on}
+use Rattle.iscsi_target_session.specs.Requests.{request_answered}
+use Rattle.iscsi_target_session.proofs.ByKind.{plain, head_of}
 
 -- ---- a request that is accepted
 
@@ -88,16 +73,6 @@ no_command d s disk m _ e = refl
 pub handles_other : (d : Device) (s : Machine) (disk : Disk) (c : Bool) (hd : Head) (bytes : List ℕ) (m : Message) (is : message c hd bytes ≡ m) → is_command hd ≡ false
     → handled d s disk m m.head ≡ on disk s.tasks (request_answered s.session (waiting s.tasks) m m.head)
 handles_other d s disk c hd bytes m is e = no_command d s disk m m.head (ap is_command (head_of c hd bytes m is) ∙ e)
-
--- the answer to a request by its kind
-pub answers_ping : (s : Session) (n : ℕ) (c : Bool) (hd : Head) (bytes : List ℕ) (m : Message) (is : message c hd bytes ≡ m) (h : Ping) → hd ≡ NopOut h → nop_out s n h bytes ≡ request_answered s n m m.head
-answers_ping s n c hd bytes m is h e = sym (ap (request_answered s n m) (head_of c hd bytes m is ∙ e) ∙ ap (λ (b : List ℕ). nop_out s n h b) (plain c hd bytes m is (ap is_last e)))
-
-pub answers_text_request : (s : Session) (n : ℕ) (c : Bool) (hd : Head) (bytes : List ℕ) (m : Message) (is : message c hd bytes ≡ m) (h : TextPdu) → hd ≡ TextRequest h → text_request s n m h bytes ≡ request_answered s n m m.head
-answers_text_request s n c hd bytes m is h e = sym (ap (request_answered s n m) (head_of c hd bytes m is ∙ e) ∙ ap (λ (b : List ℕ). text_request s n m h b) (plain c hd bytes m is (ap is_last e)))
-
-pub does_as : {E : Type 0} (result : Result (Option ℕ) E) (a b : Reply) (old new : Session) (before after : List ℕ) → a ≡ b → Does a result old new before after → Does b result old new before after
-does_as result a b old new before after e h = subst (λ (r : Reply). Does r result old new before after) e h
 
 -- ---- the order of requests
 

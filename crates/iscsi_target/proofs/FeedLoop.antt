@@ -13,7 +13,7 @@ use Rattle.iscsi_login.specs.declared.phase.Phase.{Phase}
 use Rattle.iscsi_target.specs.declared.fault.TargetFault.{TargetFault}
 use Rattle.iscsi_target.specs.declared.fault.TargetFault.TheVariants as faults
 use Rattle.iscsi_login.specs.declared.phase.Phase.TheVariants as phases
-use Rattle.iscsi_target.specs.Session.{Session, limit}
+use Rattle.iscsi_target_session.specs.Session.{Session, limit}
 use Rattle.iscsi_target.specs.declared.tasks.Task.{Task}
 use Rattle.iscsi_target.specs.State.{Machine, Stepped, unchanged, closed}
 use Rattle.iscsi_target.specs.State.{joined}

@@ -9,7 +9,7 @@ use Rattle.iscsi_pdu.specs.Meaning.{IsHeader, fault_of}
 use Rattle.iscsi_pdu.proofs.Headers.{IsHeader-unique}
 use Rattle.iscsi_stream.specs.declared.fault.StreamFault.{StreamFault}
 use Rattle.iscsi_stream.specs.declared.fault.StreamFault.TheVariants as stream
-use Rattle.iscsi_stream.specs.Segment.{Segment, Bytes, no_login, continues, segment_bytes}
+use Rattle.iscsi_stream.specs.Segment.{Segment, Bytes, no_login, continues}
 use Rattle.iscsi_stream.specs.Stream.{Message, ReadsAs, StreamMeans, after_all, longest_segment, Splits}
 use Rattle.iscsi_stream.specs.Canonical.{canon}
 use Rattle.iscsi_stream.specs.Framing.{Framing, HasTaken, FeedFails, is_ready, is_whole, IsBegun, length_at}
@@ -22,18 +22,19 @@ use Rattle.iscsi_login.specs.declared.phase.Phase.{Phase}
 use Rattle.iscsi_login.specs.declared.phase.Phase.TheVariants as phases
 use Rattle.iscsi_target.specs.declared.fault.TargetFault.{TargetFault}
 use Rattle.iscsi_target.specs.declared.fault.TargetFault.TheVariants as faults
-use Rattle.iscsi_target.specs.Configured.{Settings}
-use Rattle.iscsi_target.specs.Session.{Session, Reply, limit}
+use Rattle.iscsi_target_session.specs.Configured.{Settings}
+use Rattle.iscsi_target_session.specs.Session.{Session, Reply, limit}
 use Rattle.iscsi_target.specs.declared.tasks.Task.{Task}
 use Rattle.iscsi_target.specs.State.{Machine, Stepped, closed, opening, on, unchanged, shut_down, waiting}
 use Rattle.iscsi_target.specs.State.{joined}
-use Rattle.iscsi_target.specs.Login.{login_step}
+use Rattle.iscsi_target_session.specs.Login.{login_step}
 use Rattle.iscsi_target.specs.Execution.{Device, reliable}
 use Rattle.iscsi_pdu.specs.Rules.{data_out_of_order}
 use Rattle.iscsi_target.specs.Machine.{is_closed, is_over_limit, step, answers, begun, done_in_turn, then_stepped, first_rule}
 use Rattle.iscsi_target.specs.Laws.{joined_stepped}
 use Rattle.iscsi_target.specs.Feed.{Connection, Store, Answers, Stands, LeavesBy, Ends, Feeds, Fed, HasAnswered, GoesWell, FedAll, FedIf, Stays, Meets, opening_connection, Writes, Holds, Refuses, SameSession}
-use Rattle.iscsi_target.proofs.Turns.{by_cases, Begins, begins, Turns, turns, with_tasks}
+use Rattle.iscsi_target_session.proofs.Cases.{by_cases}
+use Rattle.iscsi_target.proofs.Turns.{Begins, begins, Turns, turns, with_tasks}
 use Rattle.iscsi_target.proofs.StepParts.{Parts, step_parts}
 use Rattle.iscsi_target.proofs.Replies.{login_logs, reject_reply, breach_reply, request_answered_reply}
 use Rattle.iscsi_login.specs.Stage.{is_closed_phase}

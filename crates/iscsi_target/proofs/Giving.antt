@@ -11,7 +11,7 @@ use Rattle.iscsi_stream.specs.Segment.{segment_bytes}
 use Rattle.iscsi_stream.specs.Stream.{Message}
 use Rattle.iscsi_stream.specs.Canonical.{canon, canonical_bytes}
 use Rattle.iscsi_login.specs.Held.{Held, max_burst}
-use Rattle.iscsi_target.specs.Session.{message}
+use Rattle.iscsi_target_session.specs.Session.{message}
 use Rattle.iscsi_target.specs.State.{Machine, waiting}
 use Rattle.iscsi_target.specs.Execution.{marked, run_given, parts_given, data_ins, data_in_head}
 use Rattle.iscsi_stream.specs.Pieces.{chunks_within, chunks}

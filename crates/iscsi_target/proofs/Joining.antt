@@ -7,7 +7,6 @@ use Rattle.scsi_disk.specs.declared.order.Order.{Order}
 use Rattle.scsi_disk.specs.declared.order.Plan.{Plan}
 use Rattle.scsi_disk.specs.declared.order.Plan.TheVariants.{Refuse, Take, Give}
 use Rattle.scsi_disk.specs.Plan.{plan_of}
-use Rattle.scsi_disk.specs.Effect.{Effect}
 use Rattle.iscsi_pdu.specs.declared.head.Head.{Head}
 use Rattle.iscsi_pdu.specs.declared.head.Head.TheVariants.{NopOut, ScsiCommand, TaskRequest, TextRequest, DataOut, LogoutRequest, ReadyToTransfer}
 use Rattle.iscsi_pdu.specs.declared.head.scsi_command.ScsiCommand.{ScsiCommand as Command}
@@ -17,7 +16,7 @@ use Rattle.iscsi_stream.specs.Stream.{Message}
 use Rattle.iscsi_login.specs.declared.phase.Phase.{Phase}
 use Rattle.iscsi_login.specs.declared.phase.Phase.TheVariants.{Login, Full, Closed}
 use Rattle.iscsi_login.specs.Held.{first_burst, max_burst}
-use Rattle.iscsi_target.specs.Session.{Session, Reply, message, counted, max_cmd_sn_with}
+use Rattle.iscsi_target_session.specs.Session.{Session, Reply, message, counted, max_cmd_sn_with}
 use Rattle.iscsi_target.specs.Write.{Write}
 use Rattle.iscsi_target.specs.declared.tasks.Task.{Task}
 use Rattle.iscsi_target.specs.declared.tasks.Task.TheVariants.{Request, Data}
@@ -26,18 +25,20 @@ use Rattle.iscsi_login.specs.Stage.{is_closed_phase}
 use Rattle.iscsi_stream.specs.Pieces.{Pieces, data_of}
 use Rattle.iscsi_pdu.specs.Serial.{is_within}
 use Rattle.iscsi_pdu.specs.Fields.{reserved_tag}
-use Rattle.iscsi_target.specs.Rejecting.{reject, breach, breaks}
+use Rattle.iscsi_target_session.specs.Rejecting.{reject, breach}
 use Rattle.iscsi_pdu.specs.Rules.{kind_not_due, segment_too_long, data_out_of_order, command_out_of_turn, too_many_immediate}
-use Rattle.iscsi_target.specs.Login.{login_step}
-use Rattle.iscsi_target.specs.Transfer.{with_piece, with_data, taken, is_in_sequence, received, is_idle, joined_write, is_unsolicited_piece, is_solicited_piece, unsolicited_end}
+use Rattle.iscsi_target_session.specs.Login.{login_step}
+use Rattle.iscsi_target.specs.Transfer.{with_piece, with_data, is_in_sequence, received, is_idle, joined_write, is_unsolicited_piece, is_solicited_piece, unsolicited_end}
 use Rattle.iscsi_target.specs.State.{joined_task, joined}
 use Rattle.iscsi_target.specs.declared.due.Due.{Due}
 use Rattle.iscsi_target.specs.declared.due.Due.TheVariants.{Nothing, Unsolicited, Solicited}
 use Rattle.iscsi_target.specs.Execution.{Device, device_next, device_after, execute, command_answers, parts_given, reliable}
 use Rattle.iscsi_target.specs.Command.{scsi_command, planned, proceed, order_of, opened, breaks_burst_rules, breaks_rules, ask, led_by, task_of}
-use Rattle.iscsi_target.specs.Machine.{Next, Met, Dropped, Answered, Queued, plainly, accepting, broken, followed, having_accepted, request_answered, begun, stays, is_busy, done_in_turn, done_first, step, answers, then_stepped, step_on, phase_step, full_step, full_met, due_met, request, immediate, in_turn, admitted, handled, advanced, write_of, with_write, data_for, data_taken, data_out, tag_of, task_tag, is_same_tag, is_tag_of, is_due_kind, is_too_long, is_over_limit, is_closed}
+use Rattle.iscsi_target.specs.Machine.{Next, Met, Dropped, Answered, Queued, plainly, accepting, broken, followed, having_accepted, begun, stays, is_busy, done_in_turn, done_first, step, answers, then_stepped, step_on, phase_step, full_step, full_met, due_met, request, admitted, handled, advanced, write_of, with_write, data_for, data_taken, data_out, tag_of, task_tag, is_same_tag, is_tag_of, is_due_kind, is_too_long, is_over_limit, is_closed}
+use Rattle.iscsi_target_session.specs.Requests.{request_answered}
 use Rattle.iscsi_target.specs.Laws.{joined_execution, joined_stepped}
-use Rattle.iscsi_target.proofs.Turns.{by_cases, with_tasks}
+use Rattle.iscsi_target_session.proofs.Cases.{by_cases}
+use Rattle.iscsi_target.proofs.Turns.{with_tasks}
 use Rattle.iscsi_target.proofs.OpenWrites.{data_of_one, data_with}
 
 -- ---- tasks and the same with the pieces of each write joined

@@ -8,8 +8,8 @@ use Rattle.iscsi_text.specs.Reading.{text_in}
 use Rattle.iscsi_pdu.specs.declared.head.nop_out.NopOut.{NopOut as Ping}
 use Rattle.iscsi_pdu.specs.declared.head.text_request.TextRequest.{TextRequest as TextPdu}
 use Rattle.iscsi_pdu.specs.declared.head.logout_request.LogoutRequest.{LogoutRequest as Logout}
-use Rattle.iscsi_target.specs.Discovery.{text_request, text_reply_to, reply_pairs}
-use Rattle.iscsi_target.specs.Requests.{nop_out, logout_request}
+use Rattle.iscsi_target_session.specs.Discovery.{text_request, text_reply_to, reply_pairs}
+use Rattle.iscsi_target_session.specs.Requests.{nop_out, logout_request}
 use Rattle.iscsi_pdu.specs.declared.head.Head.{Head}
 use Rattle.iscsi_pdu.specs.declared.head.Head.TheVariants.{LoginRequest, NopOut, TaskRequest, TextRequest, LogoutRequest, ScsiCommand, DataOut}
 use Rattle.iscsi_pdu.specs.declared.head.login_request.LoginRequest.{LoginRequest as Request}
@@ -17,15 +17,15 @@ use Rattle.iscsi_stream.specs.Segment.{Segment, segment_bytes}
 use Rattle.iscsi_stream.specs.Stream.{Message}
 use Rattle.iscsi_login.specs.declared.phase.Phase.{Phase}
 use Rattle.iscsi_login.specs.declared.phase.Phase.TheVariants as phases
-use Rattle.iscsi_target.specs.Session.{Session, Reply, ended, counted}
+use Rattle.iscsi_target_session.specs.Session.{Session, Reply, ended, counted}
 use Rattle.iscsi_target.specs.declared.tasks.Task.{Task}
 use Rattle.iscsi_target.specs.State.{Machine, Stepped, on, unchanged, waiting, max_cmd_sn}
-use Rattle.iscsi_target.specs.Rejecting.{breaks}
+use Rattle.iscsi_target.specs.State.{breaks}
 use Rattle.scsi_disk.specs.Plan.{first_of}
 use Rattle.iscsi_pdu.specs.Fields.{reserved_tag}
-use Rattle.iscsi_target.specs.declared.status.Status.{Status}
-use Rattle.iscsi_target.specs.LoginText.{text_refusals}
-use Rattle.iscsi_target.specs.Login.{login_in, login_request, refuse_or, segment_taken, whole_text, text_answered, text_ending, gather, numbered, entered, request_refusals}
+use Rattle.iscsi_target_session.specs.declared.status.Status.{Status}
+use Rattle.iscsi_target_session.specs.LoginText.{text_refusals}
+use Rattle.iscsi_target_session.specs.Login.{login_in, login_request, refuse_or, segment_taken, whole_text, text_answered, text_ending, gather, numbered, entered, request_refusals}
 use Rattle.iscsi_target.specs.Execution.{Device, device_after}
 use Rattle.iscsi_target.specs.Command.{breaks_rules}
 use Rattle.iscsi_target.specs.Write.{Write}
@@ -33,8 +33,10 @@ use Rattle.iscsi_target.specs.Transfer.{taken}
 use Rattle.iscsi_login.specs.Held.{first_burst}
 use Rattle.iscsi_pdu.specs.Serial.{is_within}
 use Rattle.iscsi_pdu.specs.declared.head.data_out.DataOut.{DataOut as DataPdu}
-use Rattle.iscsi_target.specs.Machine.{Next, Queued, MayStop, request_answered, step_on, begun, stays, is_closed, is_busy, done_in_turn, done_first, then_stepped, having_accepted, data_taken, data_for, write_of, is_tag_of, tag_of, admitted, advanced, request, due_met, is_due_kind, is_too_long, full_met}
-use Rattle.iscsi_target.proofs.Turns.{by_cases, Begins, begins, Turns, turns, with_tasks}
+use Rattle.iscsi_target.specs.Machine.{Next, Queued, MayStop, step_on, begun, stays, is_closed, is_busy, done_in_turn, done_first, then_stepped, having_accepted, data_taken, data_for, write_of, is_tag_of, tag_of, admitted, advanced, request, due_met, is_due_kind, is_too_long, full_met}
+use Rattle.iscsi_target_session.specs.Requests.{request_answered}
+use Rattle.iscsi_target_session.proofs.Cases.{by_cases}
+use Rattle.iscsi_target.proofs.Turns.{Begins, begins, Turns, turns, with_tasks}
 use Rattle.iscsi_target.proofs.StepParts.{Accepts, Immediately, InTurn, Parts, step_parts}
 
 refused_keeps : (s : Session) (r : Request) (why : Option Status) (reply : Reply) → reply.session.settings ≡ s.settings → (refuse_or why s r reply).session.settings ≡ s.settings

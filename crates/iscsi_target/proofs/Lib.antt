@@ -14,16 +14,11 @@ pub mod DiskFold
 pub mod OpenWrites
 pub mod Joining
 pub mod Appending
-pub mod Lengths
 pub mod Replies
-pub mod Answering
 pub mod Giving
-pub mod LoginTexts
 pub mod Serving
 pub mod Orders
 pub mod Commanding
-pub mod TextReading
-pub mod Logins
 pub mod Dispatching
 pub mod DataIns
 pub mod Window
@@ -37,8 +32,6 @@ pub mod Prefixes
 pub mod Feeding
 pub mod FeedLoop
 pub mod Keeping
-pub mod Discovering
-pub mod DiscoveringLoop
 pub mod Streaming
 pub mod OneOutcome
 pub mod Shutting

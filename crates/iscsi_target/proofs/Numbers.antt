@@ -1,5 +1,5 @@
 -- Numbers that count on, over any messages.
-use Rattle.std.proofs.Common.{◌≡◌, ◌<◌, ◌≤◌, ℕ, zero, suc, ◌+◌, ◌^◌, ◌%◌, List, [], ◌∷◌, ◌++◌, true, false, length, None, refl, sym, ap, ◌∙◌, subst, arith}
+use Rattle.std.proofs.Common.{◌≡◌, ◌<◌, ◌≤◌, ℕ, zero, suc, ◌+◌, ◌^◌, ◌%◌, List, [], ◌∷◌, ◌++◌, true, false, length, refl, sym, ap, ◌∙◌, subst, arith}
 use Rattle.std.specs.List.{AllByRecursion}
 use Rattle.std.proofs.lemmas.List.{map-append}
 use Rattle.std.proofs.lemmas.Grind.{flat_map-append}
@@ -10,14 +10,14 @@ use Rattle.iscsi_pdu.specs.declared.head.login_request.LoginRequest.{LoginReques
 use Rattle.iscsi_stream.specs.Stream.{Message}
 use Rattle.iscsi_login.specs.Negotiation.{IsInRange}
 use Rattle.iscsi_login.specs.Held.{IsHeld}
-use Rattle.iscsi_target.specs.Configured.{Settings}
-use Rattle.iscsi_target.specs.Session.{limit, opening_session}
+use Rattle.iscsi_target_session.specs.Configured.{Settings}
+use Rattle.iscsi_target_session.specs.Session.{limit, opening_session}
 use Rattle.iscsi_target.specs.State.{Machine, Execution, Stepped, on, unchanged, shut_down, opening}
 use Rattle.iscsi_pdu.specs.Serial.{next_sn}
-use Rattle.iscsi_target.specs.Login.{login_step, login_in, login_request, numbered}
+use Rattle.iscsi_target_session.specs.Login.{login_step, login_in, login_request, numbered}
 use Rattle.iscsi_target.specs.Machine.{step, answers, then_stepped, is_closed, is_over_limit}
 use Rattle.iscsi_target.specs.Laws.{stat_sns, stat_sn_of, given_number, response_tags, response_tag, cmd_sns, cmd_sn_of, HasCmdSn, CountOn}
-use Rattle.iscsi_target.proofs.Turns.{by_cases}
+use Rattle.iscsi_target_session.proofs.Cases.{by_cases}
 use Rattle.iscsi_target.proofs.Replies.{Count, IsReply, request_reply}
 use Rattle.iscsi_target.proofs.Telling.{StepTells, step_tells, tags_done, count_append}
 use Rattle.iscsi_target.specs.Execution.{reliable}

@@ -14,6 +14,7 @@ use Rattle.iscsi_target.specs.declared.due.Due.{Due}
 use Rattle.iscsi_target.specs.declared.due.Due.TheVariants.{Nothing, Unsolicited, Solicited}
 use Rattle.iscsi_target.specs.Transfer.{received, with_piece, with_data, taken, is_in_sequence, is_next, is_unsolicited_piece, is_solicited_piece, unsolicited_end, continued, desired, asking}
 use Rattle.iscsi_target.specs.Tiles.{Tiles, IsModest}
+use Rattle.iscsi_target_session.proofs.Cases.{and_left, and_right}
 
 -- What is due lies within what the write takes (section 11.8).
 abbrev pub DueFits : ℕ → Due → Type 0
@@ -50,14 +51,6 @@ tiles_append from (p ∷ pieces) n bytes e = (e.0, tiles_append (from + length p
 pub tiles_with : (pieces : Pieces) (n : ℕ) (bytes : List ℕ) → Tiles pieces n → Tiles (with_piece pieces n bytes) (n + length bytes)
 tiles_with pieces n [] e = subst (λ (x : ℕ). Tiles pieces x) (omega arith) e
 tiles_with pieces n (b ∷ bytes) e = tiles_append 0 pieces n (b ∷ bytes) e
-
-pub and_left : (a b : Bool) → (a && b) ≡ true → a ≡ true
-and_left true b e = refl
-and_left false b e = cc
-
-pub and_right : (a b : Bool) → (a && b) ≡ true → b ≡ true
-and_right true b e = e
-and_right false b e = cc
 
 -- a piece that is in sequence ends within its bound
 bounded_unsolicited : (reached end : ℕ) (last : Bool) → is_unsolicited_piece reached end last ≡ true → reached ≤ end

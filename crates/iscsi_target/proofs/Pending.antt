@@ -1,5 +1,5 @@
 -- Between two PDUs the first task is a write that waits for data, and no R2T went out for one behind it.
-use Rattle.std.proofs.Common.{◌≡◌, ◌⊎◌, inl, inr, ℕ, List, [], ◌∷◌, ◌++◌, length, Bool, true, false, Option, Some, None, refl, sym, ap, ◌∙◌, subst, ◌+◌, arith}
+use Rattle.std.proofs.Common.{◌≡◌, ◌⊎◌, inl, inr, ℕ, List, [], ◌∷◌, ◌++◌, length, Bool, true, false, Some, None, refl, sym, ap, ◌∙◌, subst, ◌+◌, arith}
 use Rattle.std.specs.Prelude.{◌==◌, nat_lt, if◌then◌else◌}
 use Rattle.std.proofs.lemmas.Bool.{ltb-true}
 use Rattle.std.specs.List.{AllByRecursion}
@@ -18,23 +18,24 @@ use Rattle.iscsi_stream.specs.Stream.{Message}
 use Rattle.iscsi_stream.proofs.Ready.{apart}
 use Rattle.iscsi_login.specs.Held.{first_burst}
 use Rattle.iscsi_login.specs.Stage.{is_closed_phase}
-use Rattle.iscsi_target.specs.Session.{Session, Reply}
+use Rattle.iscsi_target_session.specs.Session.{Session, Reply}
 use Rattle.iscsi_target.specs.Write.{Write}
 use Rattle.iscsi_target.specs.declared.tasks.Task.{Task}
 use Rattle.iscsi_target.specs.declared.tasks.Task.TheVariants.{Request, Data}
 use Rattle.iscsi_target.specs.State.{Machine, Stepped, on, unchanged, waiting}
-use Rattle.iscsi_target.specs.Rejecting.{reject, breach}
-use Rattle.iscsi_target.specs.Login.{login_step}
+use Rattle.iscsi_target_session.specs.Rejecting.{reject, breach}
+use Rattle.iscsi_target_session.specs.Login.{login_step}
 use Rattle.iscsi_target.specs.declared.due.Due.{Due}
 use Rattle.iscsi_target.specs.declared.due.Due.TheVariants.{Nothing, Unsolicited, Solicited}
 use Rattle.iscsi_target.specs.Transfer.{is_whole, is_idle, asking, taken, with_data, is_in_sequence, received, continued}
 use Rattle.iscsi_target.specs.Execution.{Device, execute}
 use Rattle.iscsi_target.specs.Command.{order_of, led_by, ask, task_of, task_by, task_planned}
-use Rattle.iscsi_target.specs.Machine.{begun, stays, is_closed, then_stepped, done_in_turn, having_accepted, write_of, with_write, step_on}
-use Rattle.iscsi_target.specs.Inside.{IsPending, is_unasked, IsUnasked, behind, AreKept}
-use Rattle.iscsi_target.proofs.Turns.{by_cases, Writes, Waits, Opens, Begins, begins, Turns, turns, with_tasks, stays_on}
+use Rattle.iscsi_target.specs.Machine.{begun, stays, is_closed, done_in_turn, write_of, with_write, step_on}
+use Rattle.iscsi_target.specs.Inside.{is_unasked, IsUnasked, behind, AreKept}
+use Rattle.iscsi_target_session.proofs.Cases.{by_cases}
+use Rattle.iscsi_target.proofs.Turns.{Begins, begins, Turns, turns, with_tasks, stays_on}
 use Rattle.iscsi_target.proofs.StepParts.{Accepts, Immediately, InTurn, Parts, step_parts}
-use Rattle.iscsi_target.proofs.Replies.{IsOver, on_ends}
+use Rattle.iscsi_target.proofs.Replies.{on_ends}
 use Rattle.iscsi_target.proofs.Accepted.{found_tag, taken_same}
 
 abbrev pub AreUnasked : List Task → Type 0

@@ -1,16 +1,15 @@
 -- Tasks as a program keeps them.
-use Rattle.std.proofs.Common.{◌≡◌, ◌<◌, ◌≤◌, inl, inr, ℕ, zero, suc, ◌+◌, List, [], ◌∷◌, ◌++◌, length, Bool, true, false, Option, Some, None, refl, sym, ap, ◌∙◌, subst, arith}
-use Rattle.std.specs.Prelude.{◌==◌, ◌||◌, not, map, drop, insert, remove, slice_index_or, if◌then◌else◌}
+use Rattle.std.proofs.Common.{◌≡◌, ◌<◌, inl, inr, ℕ, zero, suc, ◌+◌, List, [], ◌∷◌, length, Bool, true, false, Option, Some, None, refl, sym, ap, ◌∙◌, subst, arith}
+use Rattle.std.specs.Prelude.{◌==◌, ◌||◌, not, map, drop, insert, remove, slice_index_or}
 use Rattle.iscsi_target.specs.State.{takes_place, joined_task}
 use Rattle.iscsi_target.specs.Transfer.{joined_write}
 use Rattle.std.proofs.lemmas.Bool.{eqb-true, cases_lt}
-use Rattle.iscsi_stream.proofs.Ready.{apart}
 use Rattle.iscsi_target.specs.Write.{Write}
 use Rattle.iscsi_target.specs.declared.tasks.Task.{Task}
 use Rattle.iscsi_target.specs.declared.tasks.Task.TheVariants.{Request, Data}
 use Rattle.iscsi_target.specs.Machine.{is_write_with, write_of, with_write, is_same_tag, task_tag, is_tag_of}
 use Rattle.iscsi_target.specs.Inside.{IsWriteAt, TakePlaces, AreInPlace, behind}
-use Rattle.iscsi_target.proofs.Turns.{by_cases}
+use Rattle.iscsi_target_session.proofs.Cases.{by_cases}
 
 -- none of the first so many tasks is a write with the tag
 abbrev pub NoneBefore : ℕ → List Task → ℕ → Type 0

@@ -1,5 +1,5 @@
 -- What holds in each state that messages lead to from the opening state.
-use Rattle.std.proofs.Common.{◌≡◌, ◌<◌, ◌≤◌, ℕ, List, [], ◌∷◌, Bool, true, false, length, Some, refl, sym, ap, ◌∙◌, subst, arith}
+use Rattle.std.proofs.Common.{◌≡◌, ◌≤◌, ℕ, List, [], ◌∷◌, Bool, true, false, length, Some, refl, sym, ap, ◌∙◌, subst, arith}
 use Rattle.std.specs.Prelude.{nat_lt}
 use Rattle.std.proofs.lemmas.Bool.{ltb-false, ltb-true}
 use Rattle.scsi_disk.specs.Disk.{Disk}
@@ -10,21 +10,19 @@ use Rattle.iscsi_stream.specs.Stream.{Message}
 use Rattle.iscsi_login.specs.declared.key.NegKey.{NegKey}
 use Rattle.iscsi_login.specs.declared.key.NegKey.TheVariants as keys
 use Rattle.iscsi_login.specs.declared.phase.Phase.{Phase}
-use Rattle.iscsi_login.specs.declared.preferences.Answered.{Answered}
-use Rattle.iscsi_login.specs.declared.preferences.Answered.TheVariants as answered
 use Rattle.iscsi_login.specs.Key.{rule_of}
 use Rattle.iscsi_login.specs.Negotiation.{Allows, IsInRange}
-use Rattle.iscsi_login.specs.Held.{Held, IsHeld, defaults, held_value, number_of}
+use Rattle.iscsi_login.specs.Held.{IsHeld, defaults, held_value}
 use Rattle.iscsi_login.proofs.Agreement.{default_allowed}
-use Rattle.iscsi_target.specs.Configured.{Settings}
-use Rattle.iscsi_target.specs.Session.{limit}
+use Rattle.iscsi_target_session.specs.Configured.{Settings}
+use Rattle.iscsi_target_session.specs.Session.{limit}
 use Rattle.iscsi_target.specs.State.{Machine, Execution, Stepped, opening, unchanged, max_cmd_sn}
 use Rattle.iscsi_pdu.specs.Serial.{is_within}
 use Rattle.iscsi_target.specs.Machine.{Met, Dropped, plainly, followed, having_accepted, step, answers, is_closed, is_over_limit, full_step, full_met, phase_step, due_met, request}
 use Rattle.iscsi_login.specs.Stage.{is_closed_phase}
 use Rattle.iscsi_target.specs.Tiles.{TilesDataIn, GiveTiles, bytes_given}
 use Rattle.iscsi_target.specs.Laws.{IsOutside, cmd_sn_of, cmd_sn_if}
-use Rattle.iscsi_target.proofs.Turns.{by_cases}
+use Rattle.iscsi_target_session.proofs.Cases.{by_cases}
 use Rattle.iscsi_target.proofs.Telling.{StepTells, step_tells, Gives}
 use Rattle.iscsi_target.proofs.Numbers.{IsFit, answers_fit, answers_settings}
 use Rattle.iscsi_target.specs.Execution.{reliable}

@@ -20,27 +20,28 @@ use Rattle.iscsi_login.specs.Key.{IsWithin}
 use Rattle.iscsi_login.specs.Negotiation.{IsInRange, max_recv_range}
 use Rattle.iscsi_login.specs.Held.{IsHeld}
 use Rattle.iscsi_login.specs.Answer.{max_recv_key}
-use Rattle.iscsi_target.specs.Session.{Session, Reply, limit, nothing, shut}
+use Rattle.iscsi_target_session.specs.Session.{Session, Reply, limit, nothing, shut}
 use Rattle.scsi_disk.specs.Plan.{first_of}
 use Rattle.iscsi_pdu.specs.Serial.{next_sn}
 use Rattle.iscsi_pdu.specs.Fields.{reserved_tag}
-use Rattle.iscsi_target.specs.Rejecting.{reject, breach}
+use Rattle.iscsi_target_session.specs.Rejecting.{reject, breach}
 use Rattle.iscsi_pdu.specs.Rules.{kind_not_due}
-use Rattle.iscsi_target.specs.declared.status.Status.{Status}
-use Rattle.iscsi_target.specs.LoginText.{text_refusals, declared_length, is_operational, is_bad_length, value_for, session_for}
-use Rattle.iscsi_target.specs.Login.{login_step, login_in, login_request, refuse_or, refuse, numbered, entered, segment_taken, whole_text, text_answered, text_ending, request_refusals, gather}
-use Rattle.iscsi_target.specs.Discovery.{text_request, text_reply_to, reply_pairs}
-use Rattle.iscsi_target.specs.Requests.{nop_out, task_request, logout_request}
+use Rattle.iscsi_target_session.specs.declared.status.Status.{Status}
+use Rattle.iscsi_target_session.specs.LoginText.{text_refusals, declared_length, is_operational, is_bad_length, value_for, session_for}
+use Rattle.iscsi_target_session.specs.Login.{login_step, login_in, login_request, refuse_or, refuse, numbered, entered, segment_taken, whole_text, text_answered, text_ending, request_refusals, gather}
+use Rattle.iscsi_target_session.specs.Discovery.{text_request, text_reply_to, reply_pairs}
+use Rattle.iscsi_target_session.specs.Requests.{nop_out, task_request, logout_request}
 use Rattle.iscsi_login.specs.Stage.{is_closed_phase}
 use Rattle.scsi_disk.specs.Disk.{Disk}
 use Rattle.iscsi_target.specs.declared.tasks.Task.{Task}
 use Rattle.iscsi_target.specs.State.{Machine, on}
-use Rattle.iscsi_target.specs.Machine.{is_closed, request_answered}
+use Rattle.iscsi_target.specs.Machine.{is_closed}
+use Rattle.iscsi_target_session.specs.Requests.{request_answered}
 use Rattle.iscsi_target.specs.Tiles.{r2t_ranges}
 use Rattle.iscsi_stream.specs.Pieces.{data_pieces}
 use Rattle.iscsi_target.specs.Laws.{stat_sns, response_tags, FitsNumber, login_cmd_sn}
-use Rattle.iscsi_target.proofs.Turns.{by_cases}
-use Rattle.iscsi_target.proofs.Lengths.{declares_well, holds}
+use Rattle.iscsi_target_session.proofs.Cases.{by_cases}
+use Rattle.iscsi_target_session.proofs.Lengths.{declares_well, holds}
 
 -- each is the one after the one before, from the first on; the last argument is what comes then
 abbrev pub Count : ℕ → List ℕ → ℕ → Type 0

@@ -8,7 +8,7 @@ use Rattle.scsi_disk.specs.Effect.{Effect, Executes, effect}
 use Rattle.scsi_disk.specs.declared.order.Order.{Order}
 use Rattle.iscsi_stream.specs.Stream.{Message}
 use Rattle.iscsi_stream.specs.Canonical.{canon}
-use Rattle.iscsi_target.specs.Session.{Session, Reply, counted, ended}
+use Rattle.iscsi_target_session.specs.Session.{Session, Reply, counted, ended}
 use Rattle.iscsi_target.specs.State.{Machine, Stepped, Execution, on, unchanged, left, closed, waiting}
 use Rattle.iscsi_stream.specs.Pieces.{Pieces, data_of}
 use Rattle.iscsi_target.specs.State.{joined}
@@ -17,12 +17,10 @@ use Rattle.iscsi_target.specs.Machine.{Next, Dropped, Answered, Queued, followed
 use Rattle.iscsi_target.specs.Laws.{joined_execution, joined_stepped}
 use Rattle.iscsi_target.specs.Feed.{Store}
 use Rattle.iscsi_target.specs.declared.tasks.Task.{Task}
-use Rattle.iscsi_target.specs.Inside.{Serves, Does, Attempts, Leaves, Handles, Works, Follows, Halts, store_of}
+use Rattle.iscsi_target.specs.Inside.{Serves, Leaves, Handles, Works, Follows, Halts, store_of}
+use Rattle.iscsi_target_session.specs.Replies.{Does, Attempts}
 use Rattle.iscsi_target.proofs.OpenWrites.{data_of_one}
-
-pub by_ok : {E A : Type 0} (P Q : A → Type 0) (result : Result A E) → ((x : A) → P x → Q x) → IfOk result P → IfOk result Q
-by_ok P Q (Ok x) step h = step x h
-by_ok P Q (Err e) step h = tt
+use Rattle.iscsi_target_session.proofs.Cases.{by_ok}
 
 -- ---- what leaves the disk
 

@@ -1,16 +1,17 @@
 -- Where memory ran out at a message.
-use Rattle.std.proofs.Common.{◌≡◌, inl, inr, ℕ, zero, suc, List, [], ◌∷◌, Bool, true, false, refl, sym, ap, ◌∙◌, subst}
+use Rattle.std.proofs.Common.{◌≡◌, inl, inr, ℕ, zero, suc, List, [], ◌∷◌, false, refl, sym, ap, ◌∙◌}
 use Rattle.std.specs.Prelude.{◌||◌}
 use Rattle.scsi_disk.specs.Disk.{Disk}
 use Rattle.iscsi_stream.specs.Stream.{Message}
 use Rattle.iscsi_login.specs.declared.phase.Phase.TheVariants.{Full}
-use Rattle.iscsi_target.specs.Session.{Session}
+use Rattle.iscsi_target_session.specs.Session.{Session}
 use Rattle.iscsi_target.specs.declared.tasks.Task.{Task}
 use Rattle.iscsi_target.specs.State.{Machine, Stepped, closed}
 use Rattle.iscsi_target.specs.Execution.{Device, reliable, device_after}
-use Rattle.iscsi_target.specs.Machine.{Next, Dropped, Answered, Queued, begun, stays, done_first, full_met, followed, is_closed, is_over_limit, step_on}
-use Rattle.iscsi_target.specs.Inside.{GivesUp, Stops, Halts, HaltsAt}
-use Rattle.iscsi_target.proofs.Turns.{by_cases, with_tasks}
+use Rattle.iscsi_target.specs.Machine.{Next, Dropped, Answered, Queued, begun, stays, done_first, full_met, followed, is_closed, is_over_limit}
+use Rattle.iscsi_target.specs.Inside.{GivesUp, Halts, HaltsAt}
+use Rattle.iscsi_target_session.proofs.Cases.{by_cases}
+use Rattle.iscsi_target.proofs.Turns.{with_tasks}
 use Rattle.iscsi_target.proofs.Keeping.{begun_settings, done_settings, step_settings}
 use Rattle.iscsi_target.proofs.Dispatching.{live_step}
 

@@ -16,15 +16,15 @@ use Rattle.iscsi_stream.specs.Segment.{segment_bytes}
 use Rattle.iscsi_stream.specs.Stream.{Message}
 use Rattle.iscsi_login.specs.declared.key.NegKey.TheVariants as keys
 use Rattle.iscsi_login.specs.Held.{Held, first_burst, is_on, unasked}
-use Rattle.iscsi_target.specs.Configured.{Settings}
-use Rattle.iscsi_target.specs.Session.{Session, Reply, message}
+use Rattle.iscsi_target_session.specs.Configured.{Settings}
+use Rattle.iscsi_target_session.specs.Session.{Session, Reply, message}
 use Rattle.iscsi_target.specs.Write.{Write}
 use Rattle.iscsi_target.specs.declared.tasks.Task.{Task}
 use Rattle.iscsi_target.specs.declared.tasks.Task.TheVariants.{Request, Data}
 use Rattle.iscsi_target.specs.State.{Machine, Execution, Stepped, on, opening, waiting}
-use Rattle.iscsi_target.specs.Rejecting.{breaks}
+use Rattle.iscsi_target.specs.State.{breaks}
 use Rattle.iscsi_stream.specs.Pieces.{Pieces, data_of}
-use Rattle.iscsi_target.specs.Login.{login_step}
+use Rattle.iscsi_target_session.specs.Login.{login_step}
 use Rattle.iscsi_target.specs.declared.due.Due.TheVariants.{Nothing, Unsolicited}
 use Rattle.iscsi_target.specs.Transfer.{is_whole, received, with_piece, asking}
 use Rattle.iscsi_target.specs.Execution.{Device, device_after, execute, parts_given, data_ins, response_head, sense_segment, reliable}
@@ -35,7 +35,8 @@ use Rattle.iscsi_target.specs.Laws.{supplied}
 use Rattle.std.proofs.lemmas.Grind.{flat_map-append}
 use Rattle.iscsi_pdu.specs.declared.head.Head.{Head}
 use Rattle.iscsi_pdu.specs.declared.head.Head.TheVariants.{ScsiCommand}
-use Rattle.iscsi_target.proofs.Turns.{by_cases, Writes, Waits, Opens, Begins, begins, Turns, turns, with_tasks, stays_on}
+use Rattle.iscsi_target_session.proofs.Cases.{by_cases}
+use Rattle.iscsi_target.proofs.Turns.{Writes, Waits, Opens, Begins, begins, Turns, turns, with_tasks, stays_on}
 use Rattle.iscsi_target.proofs.StepParts.{Accepts, Immediately, InTurn, Parts, step_parts}
 use Rattle.iscsi_target.proofs.Replies.{IsOver, on_ends, login_logs, request_answered_reply}
 use Rattle.iscsi_target.proofs.OpenWrites.{DueFits, IsOpen, size_with, tiles_with, taken_open, asking_modest, asking_open}

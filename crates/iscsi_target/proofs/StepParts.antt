@@ -1,6 +1,6 @@
 -- What is shown of each part of a step holds of the step.
-use Rattle.std.proofs.Common.{◌≡◌, ℕ, [], ◌∷◌, ◌++◌, Bool, true, false, length, Option, Some, None, List, refl, sym, ap, subst, ◌∙◌, ◌⊎◌, inl, inr}
-use Rattle.std.specs.Prelude.{◌==◌, not}
+use Rattle.std.proofs.Common.{◌≡◌, ℕ, [], ◌∷◌, ◌++◌, Bool, true, false, length, Option, Some, None, List, refl, ap, subst, ◌∙◌, ◌⊎◌, inl, inr}
+use Rattle.std.specs.Prelude.{◌==◌}
 use Rattle.std.proofs.lemmas.Bool.{eqb-true}
 use Rattle.scsi_disk.specs.Disk.{Disk}
 use Rattle.iscsi_pdu.specs.declared.head.Head.{Head}
@@ -15,17 +15,18 @@ use Rattle.iscsi_target.specs.Write.{Write}
 use Rattle.iscsi_target.specs.declared.tasks.Task.{Task}
 use Rattle.iscsi_target.specs.State.{Machine, Stepped, on, unchanged, shut_down, waiting, max_cmd_sn}
 use Rattle.iscsi_pdu.specs.Serial.{is_within}
-use Rattle.iscsi_target.specs.Rejecting.{reject, breach, breaks}
+use Rattle.iscsi_target_session.specs.Rejecting.{reject, breach}
+use Rattle.iscsi_target.specs.State.{breaks}
 use Rattle.iscsi_pdu.specs.Rules.{kind_not_due, segment_too_long, data_out_of_order, command_out_of_turn, too_many_immediate}
-use Rattle.iscsi_target.specs.Login.{login_step}
+use Rattle.iscsi_target_session.specs.Login.{login_step}
 use Rattle.iscsi_target.specs.Transfer.{taken}
 use Rattle.iscsi_target.specs.Execution.{Device}
 use Rattle.iscsi_target.specs.Command.{task_of, breaks_rules}
-use Rattle.iscsi_target.specs.Machine.{Next, Met, Dropped, Answered, Queued, plainly, accepting, broken, followed, having_accepted, step_on, phase_step, full_step, full_met, due_met, request, admitted, data_for, data_taken, advanced, is_busy, is_due_kind, is_too_long, is_over_limit, is_closed, is_tag_of, tag_of, write_of, with_write, done_in_turn}
+use Rattle.iscsi_target.specs.Machine.{Met, plainly, accepting, followed, having_accepted, step_on, phase_step, full_step, due_met, request, admitted, data_for, data_taken, advanced, is_busy, is_due_kind, is_too_long, is_over_limit, is_closed, is_tag_of, tag_of, write_of, with_write, done_in_turn}
 use Rattle.iscsi_login.specs.Stage.{is_closed_phase}
 use Rattle.iscsi_target.specs.Tiles.{pdu_answers, data_answers}
 use Rattle.iscsi_target.specs.Laws.{cmd_sn_of, cmd_sn_if}
-use Rattle.iscsi_target.proofs.Turns.{by_cases}
+use Rattle.iscsi_target_session.proofs.Cases.{by_cases}
 
 -- A request that is accepted, immediate or in its turn, and the target that then goes on with it.
 pub data Accepts (s : Machine) (m : Message) : Machine → Type 0 where

@@ -1,5 +1,5 @@
 -- What each step tells: numbers, tags, and what is held.
-use Rattle.std.proofs.Common.{◌≡◌, ◌<◌, ◌≤◌, ◌⊎◌, inl, inr, ℕ, ◌+◌, ◌^◌, List, [], ◌∷◌, ◌++◌, Bool, true, length, Option, Some, None, refl, sym, ap, ◌∙◌, subst, arith, map, append_assoc}
+use Rattle.std.proofs.Common.{◌≡◌, ◌<◌, ◌≤◌, ℕ, ◌+◌, ◌^◌, List, [], ◌∷◌, ◌++◌, Bool, true, length, Option, refl, sym, ap, ◌∙◌, subst, arith, map, append_assoc}
 use Rattle.std.specs.List.{AllByRecursion}
 use Rattle.std.proofs.lemmas.List.{append-nil, map-append}
 use Rattle.std.proofs.lemmas.Grind.{flat_map-append}
@@ -16,21 +16,20 @@ use Rattle.iscsi_login.specs.declared.preferences.Answered.TheVariants as answer
 use Rattle.iscsi_login.specs.Key.{rule_of}
 use Rattle.iscsi_login.specs.Negotiation.{Allows, IsInRange}
 use Rattle.iscsi_login.specs.Held.{Held, IsHeld, held_value, number_of, max_burst}
-use Rattle.iscsi_target.specs.Configured.{Settings}
-use Rattle.iscsi_target.specs.Session.{Session, Reply, limit, message}
-use Rattle.iscsi_target.specs.Write.{Write}
+use Rattle.iscsi_target_session.specs.Configured.{Settings}
+use Rattle.iscsi_target_session.specs.Session.{Session, Reply, limit, message}
 use Rattle.iscsi_target.specs.declared.tasks.Task.{Task}
-use Rattle.iscsi_target.specs.State.{Machine, Execution, Stepped, on, unchanged, shut_down, waiting, max_cmd_sn}
+use Rattle.iscsi_target.specs.State.{Machine, Execution, Stepped, on, unchanged, shut_down, waiting}
 use Rattle.iscsi_stream.specs.Pieces.{Pieces, data_of, data_piece, data_pieces}
 use Rattle.iscsi_pdu.specs.Serial.{next_sn}
 use Rattle.iscsi_pdu.specs.Rules.{data_out_of_order}
-use Rattle.iscsi_target.specs.Rejecting.{breaks}
-use Rattle.iscsi_target.specs.Login.{login_step}
+use Rattle.iscsi_target.specs.State.{breaks}
+use Rattle.iscsi_target_session.specs.Login.{login_step}
 use Rattle.iscsi_target.specs.Execution.{Device, device_next, device_after, execute, parts_given, data_ins, response_head, sense_segment}
 use Rattle.iscsi_target.specs.Command.{order_of}
 use Rattle.iscsi_target.specs.Machine.{step_on, begun, done_in_turn, having_accepted, then_stepped}
 use Rattle.iscsi_target.specs.Tiles.{TileBytes, GivesTiles, data_in_tag, data_in_tags}
-use Rattle.iscsi_target.specs.Laws.{stat_sns, stat_sn_of, response_tag, response_tags, cmd_sns, cmd_sn_of, given_number, FitsNumber, login_cmd_sn, HasCmdSn}
+use Rattle.iscsi_target.specs.Laws.{stat_sns, stat_sn_of, response_tag, response_tags, cmd_sns, given_number, FitsNumber, login_cmd_sn, HasCmdSn}
 use Rattle.iscsi_target.proofs.Turns.{Begins, begins, Turns, turns}
 use Rattle.iscsi_target.proofs.StepParts.{Accepts, Immediately, InTurn, Parts, step_parts}
 use Rattle.iscsi_target.proofs.Replies.{Count, IsReply, Logs, login_logs, reject_reply, breach_reply, request_answered_reply}

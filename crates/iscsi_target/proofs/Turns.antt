@@ -12,21 +12,19 @@ use Rattle.iscsi_pdu.specs.declared.head.scsi_command.ScsiCommand.{ScsiCommand a
 use Rattle.iscsi_stream.specs.Segment.{segment_bytes}
 use Rattle.iscsi_stream.specs.Stream.{Message}
 use Rattle.iscsi_stream.proofs.Ready.{apart}
-use Rattle.iscsi_target.specs.Session.{Session}
+use Rattle.iscsi_target_session.specs.Session.{Session}
 use Rattle.iscsi_target.specs.Write.{Write}
 use Rattle.iscsi_target.specs.declared.tasks.Task.{Task}
 use Rattle.iscsi_target.specs.declared.tasks.Task.TheVariants.{Request, Data}
 use Rattle.iscsi_target.specs.State.{Machine, Execution, Stepped, on, unchanged, waiting}
-use Rattle.iscsi_target.specs.Rejecting.{breaks}
+use Rattle.iscsi_target.specs.State.{breaks}
 use Rattle.iscsi_target.specs.Transfer.{is_whole, is_idle}
 use Rattle.iscsi_target.specs.Execution.{Device, device_next, device_after, execute}
 use Rattle.iscsi_target.specs.Command.{order_of, breaks_burst_rules, led_by, ask, proceed, opened, planned, scsi_command}
-use Rattle.iscsi_target.specs.Machine.{request_answered, handled, begun, stays, is_busy, is_closed, then_stepped, done_in_turn, RunsIn}
+use Rattle.iscsi_target_session.specs.Requests.{request_answered}
+use Rattle.iscsi_target.specs.Machine.{handled, begun, stays, is_busy, is_closed, then_stepped, done_in_turn, RunsIn}
 use Rattle.iscsi_target.specs.Laws.{task_in}
-
-pub by_cases : {A : Type 0} (b : Bool) → (b ≡ true → A) → (b ≡ false → A) → A
-by_cases true yes_ no_ = yes_ refl
-by_cases false yes_ no_ = no_ refl
+use Rattle.iscsi_target_session.proofs.Cases.{by_cases}
 
 -- The first task is this write: it has waited, or its command opens it.
 pub data Writes (s : Machine) (disk : Disk) : Task → Write → Type 0 where

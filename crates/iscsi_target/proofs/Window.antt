@@ -1,9 +1,8 @@
 -- Room in a window of eight commands.
-use Rattle.std.proofs.Common.{◌≡◌, ◌<◌, ◌≤◌, ℕ, zero, suc, ◌+◌, ◌-◌, ◌^◌, ◌%◌, List, [], ◌∷◌, ◌++◌, length, Bool, true, false, refl, sym, ap, ◌∙◌, arith, rules}
+use Rattle.std.proofs.Common.{◌≡◌, ◌<◌, ◌≤◌, ℕ, suc, ◌+◌, ◌-◌, ◌^◌, ◌%◌, List, [], ◌∷◌, length, Bool, true, false, refl, ap, arith, rules}
 use Rattle.std.specs.Prelude.{◌↔◌, IsTrue, not, filter}
 use Rattle.iscsi_pdu.specs.Serial.{distance}
 use Rattle.iscsi_target.specs.declared.tasks.Task.{Task}
-use Rattle.iscsi_target.specs.declared.tasks.Task.TheVariants.{Request, Data}
 use Rattle.iscsi_target.specs.State.{Machine, takes_place, waiting, max_cmd_sn}
 use Rattle.iscsi_target.specs.Machine.{is_busy}
 use Rattle.iscsi_target.specs.Inside.{TakePlaces, behind}

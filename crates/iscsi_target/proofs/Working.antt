@@ -1,5 +1,5 @@
 -- Tasks in their turn over a store, one after another.
-use Rattle.std.proofs.Common.{◌≡◌, ◌≤◌, ◌⊎◌, inl, inr, ℕ, zero, suc, ◌+◌, List, [], ◌∷◌, ◌++◌, length, Bool, true, false, Option, Some, None, refl, sym, ap, ◌∙◌, subst, arith, append_assoc, map}
+use Rattle.std.proofs.Common.{◌≡◌, ◌≤◌, ◌⊎◌, inl, inr, ℕ, zero, suc, ◌+◌, List, [], ◌∷◌, ◌++◌, length, Bool, true, false, Option, Some, None, refl, sym, ap, ◌∙◌, subst, arith, append_assoc}
 use Rattle.std.specs.Prelude.{◌==◌, ◌||◌, nat_lt, if◌then◌else◌, Result, Ok, Err}
 use Rattle.std.proofs.lemmas.List.{append-nil}
 use Rattle.scsi_disk.specs.Disk.{Disk}
@@ -14,18 +14,18 @@ use Rattle.iscsi_stream.specs.Segment.{segment_bytes}
 use Rattle.iscsi_stream.specs.Stream.{Message}
 use Rattle.iscsi_stream.proofs.Ready.{apart}
 use Rattle.iscsi_login.specs.Stage.{is_closed_phase}
-use Rattle.iscsi_target.specs.Session.{Session, Reply}
+use Rattle.iscsi_target_session.specs.Session.{Session}
 use Rattle.iscsi_target.specs.Write.{Write}
 use Rattle.iscsi_target.specs.declared.tasks.Task.{Task}
 use Rattle.iscsi_target.specs.declared.tasks.Task.TheVariants.{Request, Data}
 use Rattle.iscsi_target.specs.State.{Machine, Execution, Stepped, on, unchanged, waiting, closed}
-use Rattle.iscsi_target.specs.Rejecting.{breaks}
-use Rattle.iscsi_target.specs.Transfer.{is_whole, is_idle}
-use Rattle.iscsi_target.specs.Execution.{Device, reliable, device_next, device_after, execute}
-use Rattle.iscsi_target.specs.Command.{order_of, opened, ask, led_by, planned, proceed, scsi_command, breaks_burst_rules, breaks_rules, task_of}
+use Rattle.iscsi_target.specs.State.{breaks}
+use Rattle.iscsi_target.specs.Execution.{Device, reliable, device_next, device_after}
+use Rattle.iscsi_target.specs.Command.{order_of, opened, planned, proceed, scsi_command, breaks_burst_rules, breaks_rules, task_of}
 use Rattle.iscsi_target.specs.State.{joined_task}
 use Rattle.iscsi_target.specs.Transfer.{joined_write}
-use Rattle.iscsi_target.specs.Machine.{Next, Dropped, Answered, Queued, with_write, request_answered, handled, begun, is_closed, stays, done_in_turn, done_first, then_stepped, first_rule, RunsIn}
+use Rattle.iscsi_target.specs.Machine.{Next, Dropped, Answered, Queued, with_write, handled, begun, is_closed, stays, done_in_turn, done_first, then_stepped, first_rule, RunsIn}
+use Rattle.iscsi_target_session.specs.Requests.{request_answered}
 use Rattle.iscsi_target.specs.State.{joined}
 use Rattle.iscsi_target.specs.Feed.{Store}
 use Rattle.iscsi_target.specs.Inside.{Serves, GivesUp, Handles, Halts, Stops, Works}
@@ -39,7 +39,8 @@ use Rattle.iscsi_target.proofs.Joining.{ones, idem, size_same, done_same, first_
 use Rattle.iscsi_target.proofs.Dispatching.{alone, session_of}
 use Rattle.iscsi_target.proofs.Serving.{runs_as, serves_same, unchanged_serves}
 use Rattle.iscsi_target.proofs.Turns.{done_alone, runs_append}
-use Rattle.iscsi_target.proofs.Turns.{by_cases, Writes, Waits, Opens, Begins, begins, with_tasks}
+use Rattle.iscsi_target_session.proofs.Cases.{by_cases}
+use Rattle.iscsi_target.proofs.Turns.{Writes, Waits, Opens, Begins, begins, with_tasks}
 use Rattle.iscsi_target.proofs.Replies.{request_answered_reply}
 
 -- ---- what a task looks at

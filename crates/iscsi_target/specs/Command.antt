@@ -12,14 +12,14 @@ use Rattle.iscsi_stream.specs.Segment.{segment_bytes}
 use Rattle.iscsi_stream.specs.Stream.{Message}
 use Rattle.iscsi_login.specs.declared.key.NegKey.TheVariants as keys
 use Rattle.iscsi_login.specs.Held.{Held, is_on, unasked}
-use Rattle.iscsi_target.specs.Session.{Session, message, max_cmd_sn_with}
+use Rattle.iscsi_target_session.specs.Session.{Session, message, max_cmd_sn_with}
 use Rattle.iscsi_target.specs.Write.{Write}
 use Rattle.iscsi_target.specs.declared.tasks.Task.{Task}
 use Rattle.iscsi_target.specs.declared.tasks.Task.TheVariants.{Request, Data}
 use Rattle.iscsi_target.specs.State.{Machine, Stepped, unchanged, waiting}
 use Rattle.iscsi_target.specs.declared.due.Due.TheVariants.{Nothing, Unsolicited}
 use Rattle.iscsi_pdu.specs.Rules.{data_out_of_order}
-use Rattle.iscsi_target.specs.Rejecting.{breaks}
+use Rattle.iscsi_target.specs.State.{breaks}
 use Rattle.iscsi_target.specs.Transfer.{received, with_piece, is_whole, asking, desired, is_idle}
 use Rattle.iscsi_target.specs.Execution.{Device, execute}
 

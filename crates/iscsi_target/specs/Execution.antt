@@ -14,7 +14,7 @@ use Rattle.iscsi_pdu.specs.declared.head.Head.{Head}
 use Rattle.iscsi_pdu.specs.declared.head.Head.TheVariants as heads
 use Rattle.iscsi_stream.specs.Stream.{Message}
 use Rattle.iscsi_login.specs.Held.{Held, max_burst}
-use Rattle.iscsi_target.specs.Session.{Session, message, counted, max_cmd_sn_with}
+use Rattle.iscsi_target_session.specs.Session.{Session, message, counted, max_cmd_sn_with}
 use Rattle.iscsi_target.specs.State.{Machine, Execution, Stepped, waiting}
 use Rattle.iscsi_stream.specs.Pieces.{Pieces, data_of, chunks}
 use Rattle.iscsi_pdu.specs.Fields.{reserved_tag}

@@ -13,8 +13,8 @@ use Rattle.iscsi_stream.specs.Framing.{Framing, Moves, FeedFails, FinishFails, H
 use Rattle.iscsi_login.specs.declared.phase.Phase.{Phase}
 use Rattle.iscsi_target.specs.declared.fault.TargetFault.{TargetFault}
 use Rattle.iscsi_target.specs.declared.fault.TargetFault.TheVariants as faults
-use Rattle.iscsi_target.specs.Configured.{Settings}
-use Rattle.iscsi_target.specs.Session.{limit}
+use Rattle.iscsi_target_session.specs.Configured.{Settings}
+use Rattle.iscsi_target_session.specs.Session.{limit}
 use Rattle.iscsi_target.specs.State.{Machine, Stepped, closed, opening, unchanged}
 use Rattle.iscsi_target.specs.State.{joined}
 use Rattle.iscsi_target.specs.Machine.{is_closed, answers, MayAnswer, MayStop}

@@ -1,22 +1,14 @@
 -- What the parts of a session do. No reader of its contract needs these.
-use Rattle.std.specs.Prelude.{◌≡◌, ◌≢◌, ◌⊎◌, ℕ, ◌+◌, ◌<◌, ◌≤◌, Option, Some, None, Bool, true, false, not, ◌&&◌, if◌then◌else◌, List, [], ◌∷◌, ◌++◌, length, map, insert, remove, slice_index_or, codes, Result, IfOk, OnOk, OnErr}
+use Rattle.std.specs.Prelude.{◌≡◌, ◌≢◌, ◌⊎◌, ℕ, ◌<◌, ◌≤◌, Option, Some, None, Bool, true, false, if◌then◌else◌, List, [], ◌∷◌, ◌++◌, length, map, insert, remove, slice_index_or, Result, IfOk, OnOk, OnErr}
 use Rattle.std.specs.List.{AllByRecursion}
-use Rattle.std.specs.Str.{bytes_eq}
 use Rattle.iscsi_stream.specs.Canonical.{canon}
 use Rattle.scsi_disk.specs.Disk.{Disk}
-use Rattle.scsi_disk.specs.Plan.{is_write, transfer}
-use Rattle.scsi_disk.specs.declared.order.Order.{Order}
-use Rattle.iscsi_text.specs.Text.{Pairs}
-use Rattle.iscsi_text.specs.declared.pair.Pair.{Pair}
-use Rattle.iscsi_text.specs.Inside.{shown}
-use Rattle.iscsi_pdu.specs.declared.head.login_response.LoginResponse.{LoginResponse}
-use Rattle.iscsi_target.specs.Session.{Session, Reply, ended, counted}
+use Rattle.iscsi_target_session.specs.Session.{Session}
 use Rattle.iscsi_target.specs.Write.{Write}
 use Rattle.iscsi_target.specs.declared.tasks.Task.{Task}
 use Rattle.iscsi_target.specs.declared.tasks.Task.TheVariants.{Request, Data}
 use Rattle.iscsi_target.specs.State.{Machine, Stepped, closed, takes_place}
-use Rattle.iscsi_target.specs.Login.{answered}
-use Rattle.iscsi_target.specs.Transfer.{received, is_whole, is_idle}
+use Rattle.iscsi_target.specs.Transfer.{is_whole, is_idle}
 use Rattle.iscsi_target.specs.State.{joined, joined_task}
 use Rattle.iscsi_target.specs.Execution.{Device, reliable}
 use Rattle.iscsi_pdu.specs.Rules.{kind_not_due, data_out_of_order}
@@ -34,7 +26,7 @@ use Rattle.iscsi_stream.specs.Framing.{Framing, Takes, FeedFails, is_ready, give
 use Rattle.iscsi_target.specs.declared.fault.TargetFault.{TargetFault}
 use Rattle.iscsi_target.specs.declared.fault.TargetFault.TheVariants as faults
 use Rattle.iscsi_target.specs.declared.due.Due.{Due}
-use Rattle.iscsi_target.specs.declared.due.Due.TheVariants.{Nothing, Unsolicited, Solicited}
+use Rattle.iscsi_target.specs.declared.due.Due.TheVariants.{Solicited}
 
 -- ---- tasks as a program keeps them
 
@@ -95,29 +87,6 @@ refusal s m =
     else None
 
 -- ---- a step
-
--- The session, the output and the rule that was broken, after a reply (own rule).
-pub record Replied (r : Reply) (broken : Option ℕ) (new : Session)
-    (before after : List ℕ) : Type 0 where
-  pub session : new ≡ r.session
-  pub output : after ≡ before ++ canon r.answers
-  pub rule_is : broken ≡ r.rule
-
--- What a session did with a message: it was answered so, or memory ran out; then nothing was
--- written, and the session is as it was (own rule).
-pub record Does {E : Type 0} (r : Reply) (result : Result (Option ℕ) E) (old new : Session)
-    (before after : List ℕ) : Type 0 where
-  pub ok : IfOk result (λ rule. Replied r rule new before after)
-  pub err : OnErr result (new ≡ old)
-  pub unwritten : OnErr result (after ≡ before)
-
--- The same where memory ran out with the session as it was but for what a closed one drops (own
--- rule).
-pub record Attempts {E : Type 0} (r : Reply) (result : Result (Option ℕ) E) (old new : Session)
-    (before after : List ℕ) : Type 0 where
-  pub ok : IfOk result (λ rule. Replied r rule new before after)
-  pub err : OnErr result (ended new ≡ ended old)
-  pub unwritten : OnErr result (after ≡ before)
 
 -- What was done with a message that leaves the disk: it was answered so, or memory ran out, with
 -- the target as it was but for what a closed one drops (own rule).
@@ -217,30 +186,6 @@ pub record Answers {E : Type 0} (m : Message) (result : Result (Option ℕ) E)
   pub err : OnErr result (HaltsAt before.failures after.failures old before.disk m
       new after.disk output written)
 
--- ---- the login
-
--- What a request says of the session before it is answered is taken back (own rule).
-abbrev pub left_by : Session → Session → Session
-left_by old new =
-    record new { begun = old.begun; exp_cmd_sn = old.exp_cmd_sn; stage = old.stage }
-
--- An answer of class 0 with this text (own rule).
-abbrev pub login_answer : Session → LoginResponse → Pairs → Reply
-login_answer s h pairs =
-    record { session = counted s; answers = answered s h pairs; rule = None }
-
--- ---- text requests
-
--- The first pair has this key (own rule).
-abbrev pub has_first : List ℕ → Pairs → Bool
-has_first key [] = false
-has_first key (p ∷ pairs) = bytes_eq p.0 key
-
--- The key has an answer of its own (own rule).
-abbrev pub has_reply : Bool → List ℕ → Bool
-has_reply asked key =
-    not (bytes_eq key (codes "SendTargets")) && not (asked && bytes_eq key (codes "TargetName"))
-
 -- ---- the next PDU
 
 -- The two parts of a target between two calls (own rule).
@@ -339,8 +284,3 @@ target_fault (stream.Head fault place) = faults.Stream (stream.Head fault place)
 target_fault (stream.OverLimit place) = faults.Stream (stream.OverLimit place)
 target_fault (stream.Truncated place) = faults.Stream (stream.Truncated place)
 target_fault stream.Failed = faults.Stream stream.Failed
-
--- A pair, if there is one (own rule).
-abbrev pub shown_option : Option Pair → Pairs
-shown_option None = []
-shown_option (Some p) = shown p ∷ []

@@ -1,14 +1,7 @@
-pub mod Configured
-pub mod Session
 pub mod Write
 pub mod Transfer
 pub mod Staged
 pub mod State
-pub mod Rejecting
-pub mod LoginText
-pub mod Login
-pub mod Discovery
-pub mod Requests
 pub mod Execution
 pub mod Command
 pub mod Machine

@@ -21,18 +21,17 @@ use Rattle.iscsi_login.specs.declared.phase.Phase.TheVariants as phases
 use Rattle.iscsi_login.specs.declared.stage.Session.{Session as SessionType}
 use Rattle.iscsi_login.specs.Held.{first_burst}
 use Rattle.iscsi_login.specs.Stage.{is_closed_phase}
-use Rattle.iscsi_target.specs.Session.{Session, Reply, limit}
+use Rattle.iscsi_target_session.specs.Session.{Session, Reply, limit}
 use Rattle.iscsi_target.specs.Write.{Write}
 use Rattle.iscsi_target.specs.declared.tasks.Task.{Task}
 use Rattle.iscsi_target.specs.declared.tasks.Task.TheVariants.{Request, Data}
 use Rattle.iscsi_target.specs.State.{Machine, Execution, Stepped, on, unchanged, shut_down, waiting, max_cmd_sn}
-use Rattle.iscsi_target.specs.Rejecting.{reject, breach}
-use Rattle.iscsi_target.specs.LoginText.{is_normal}
-use Rattle.iscsi_target.specs.Login.{login_step}
-use Rattle.iscsi_target.specs.Discovery.{text_request}
+use Rattle.iscsi_target_session.specs.Rejecting.{reject, breach}
+use Rattle.iscsi_target_session.specs.LoginText.{is_normal}
+use Rattle.iscsi_target_session.specs.Login.{login_step}
 use Rattle.iscsi_target.specs.Transfer.{taken}
 use Rattle.iscsi_target.specs.Execution.{Device, reliable, device_next, device_after}
-use Rattle.iscsi_target.specs.Requests.{nop_out, task_request, logout_request}
+use Rattle.iscsi_target_session.specs.Requests.{request_answered}
 use Rattle.iscsi_target.specs.Command.{scsi_command, proceed, task_of, breaks_rules}
 
 -- ---- requests
@@ -47,16 +46,6 @@ is_due_kind session (heads.ScsiCommand h) = is_normal session
 is_due_kind session (heads.DataOut h) = is_normal session
 is_due_kind session (heads.TaskRequest h) = is_normal session
 is_due_kind session _ = false
-
--- The answer to a request that is no command, by its kind, while so many commands wait (section
--- 4.2.4).
-abbrev pub request_answered : Session → ℕ → Message → Head → Reply
-request_answered s waiting m (heads.NopOut h) = nop_out s waiting h (segment_bytes m.segment)
-request_answered s waiting m (heads.TaskRequest h) = task_request s waiting h
-request_answered s waiting m (heads.TextRequest h) =
-    text_request s waiting m h (segment_bytes m.segment)
-request_answered s waiting m (heads.LogoutRequest h) = logout_request s waiting m h
-request_answered s waiting m _ = breach s waiting kind_not_due m
 
 -- A request that is the first task, with those behind it (section 4.2.4).
 abbrev pub handled : Device → Machine → Disk → Message → Head → Stepped

@@ -1,16 +1,17 @@
 -- A target between two PDUs: its session and its tasks, and what any message does (RFC 7143,
 -- section 4.2).
-use Rattle.std.specs.Prelude.{ℕ, Bool, true, not, List, [], ◌∷◌, length, map, filter, Option, None, if◌then◌else◌}
+use Rattle.std.specs.Prelude.{ℕ, Bool, true, not, List, [], length, map, filter, Option, None, if◌then◌else◌}
 use Rattle.scsi_disk.specs.Disk.{Disk}
 use Rattle.scsi_disk.specs.declared.order.Order.{Order}
 use Rattle.iscsi_stream.specs.Pieces.{Pieces}
 use Rattle.iscsi_stream.specs.Stream.{Message}
 use Rattle.iscsi_login.specs.Stage.{is_closed_phase}
-use Rattle.iscsi_target.specs.Configured.{Settings}
-use Rattle.iscsi_target.specs.Session.{Session, Reply, opening_session, ended, max_cmd_sn_with}
+use Rattle.iscsi_target_session.specs.Configured.{Settings}
+use Rattle.iscsi_target_session.specs.Session.{Session, Reply, opening_session, ended, max_cmd_sn_with}
 use Rattle.iscsi_target.specs.Transfer.{joined_write}
 use Rattle.iscsi_target.specs.declared.tasks.Task.{Task}
 use Rattle.iscsi_target.specs.declared.tasks.Task.TheVariants.{Request, Data}
+use Rattle.iscsi_target_session.specs.Rejecting.{breach}
 
 -- ---- tasks
 
@@ -100,3 +101,9 @@ unchanged s disk = record {
 -- The session is closed without an answer (own rule).
 abbrev pub shut_down : Machine → Disk → Stepped
 shut_down s disk = unchanged (closed s) disk
+
+-- ---- a broken rule
+
+-- The PDU broke the rule: it is rejected, and the session is closed (own rule).
+abbrev pub breaks : Machine → Disk → ℕ → Message → Stepped
+breaks s disk rule m = on disk s.tasks (breach s.session (waiting s.tasks) rule m)

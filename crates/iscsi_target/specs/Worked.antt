@@ -15,7 +15,7 @@ use Rattle.iscsi_login.specs.declared.stage.Stage.TheVariants as stages
 use Rattle.iscsi_login.specs.declared.preferences.Answered.TheVariants as answered
 use Rattle.iscsi_login.specs.Held.{Held}
 use Rattle.iscsi_login.specs.Negotiation.{standard}
-use Rattle.iscsi_target.specs.Configured.{Settings}
+use Rattle.iscsi_target_session.specs.Configured.{Settings}
 use Rattle.iscsi_target.specs.State.{Machine, opening}
 use Rattle.iscsi_target.specs.Machine.{answers}
 

@@ -2,8 +2,8 @@
 
 ghost use Rattle.std.specs.Prelude.{◌≡◌, IfOk};
 
-use crate::received::Received;
 use iscsi_pdu::{Head, NopOut, Pdu, RESERVED_TAG};
+use iscsi_target_session::Received;
 use std::alloc::{AllocError, Global};
 use std::marker::Model;
 

@@ -3,9 +3,10 @@
 ghost use Rattle.std.specs.Prelude.{◌≡◌, ◌<◌, ◌^◌, ◌≤◌, None, Some, length};
 ghost use Rattle.scsi_disk.specs.Disk.{Disk};
 ghost use Rattle.iscsi_target.specs.State.{opening, max_cmd_sn, closed, left, on, waiting};
-ghost use Rattle.iscsi_target.specs.Session.{counted};
+ghost use Rattle.iscsi_target_session.specs.Session.{counted};
 ghost use Rattle.iscsi_target.specs.State.{joined};
-ghost use Rattle.iscsi_target.specs.Rejecting.{reject, breaks};
+ghost use Rattle.iscsi_target_session.specs.Rejecting.{reject};
+ghost use Rattle.iscsi_target.specs.State.{breaks};
 ghost use Rattle.iscsi_target.specs.Machine.{is_closed};
 ghost use Rattle.iscsi_target.specs.Inside.{Leaves};
 
@@ -13,12 +14,9 @@ mod answering;
 mod command;
 mod writes;
 
-use crate::config::Config;
-use crate::received::Received;
-use crate::response::Numbers;
-use crate::session::Session;
 use crate::tasks::Tasks;
 use iscsi_login::{Params, Phase, Stage};
+use iscsi_target_session::{Config, Numbers, Received, Session};
 use std::alloc::{AllocError, Global};
 use std::marker::Model;
 

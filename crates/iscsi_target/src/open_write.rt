@@ -84,7 +84,7 @@ impl OpenWrite {
     }
 
     /// An R2T for so many bytes went out: its sequence is due.
-    pub fn ask(&mut self, desired: u32)
+    pub fn await_sequence(&mut self, desired: u32)
         requires idle { is_idle self.old.due ≡ true }
         requires some { 0 < desired }
         requires fits { received self.old + desired ≤ self.old.total }

@@ -2,23 +2,13 @@
 
 ghost use Rattle.std.specs.Prelude.{◌≡◌, ℕ};
 ghost use Rattle.iscsi_pdu.specs.Meaning.{Fits};
-ghost use Rattle.iscsi_target.specs.Session.{Session, max_cmd_sn_with};
+ghost use Rattle.iscsi_target_session.specs.Session.{Session, max_cmd_sn_with};
 ghost use Rattle.iscsi_target.specs.Execution.{response_head, residual_count};
 
 use iscsi_pdu::{Head, ScsiResponse};
+use iscsi_target_session::Numbers;
 use scsi_cdb::Residual;
 use scsi_disk::Outcome;
-
-/// What a response says of its number and of the window.
-#[derive(Clone, Copy, Debug, PartialEq, Eq)]
-pub struct Numbers {
-    /// The StatSN of the response.
-    pub stat_sn: u32,
-    /// The CmdSN that is due next.
-    pub exp_cmd_sn: u32,
-    /// The last CmdSN that is taken.
-    pub max_cmd_sn: u32,
-}
 
 /// The head of the response to a command whose data went out in so many PDUs.
 pub fn response_head(numbers: Numbers, tag: u32, outcome: &Outcome, count: u32) -> Head

@@ -2,21 +2,20 @@
 
 ghost use Rattle.std.specs.Prelude.{◌≡◌, ◌++◌, ℕ, List, false, IfOk, IfErr, OnOk, OnErr};
 ghost use Rattle.iscsi_stream.specs.Framing.{Takes, is_ready, stopped};
-ghost use Rattle.iscsi_target.specs.Session.{limit};
+ghost use Rattle.iscsi_target_session.specs.Session.{limit};
 ghost use Rattle.iscsi_target.specs.State.{closed};
 ghost use Rattle.iscsi_target.specs.Machine.{is_closed};
 ghost use Rattle.iscsi_target.specs.Feed.{opening_connection, Feeds, FeedsNext, Fed, FedNext, Finishes, HasAnswered};
-ghost use Rattle.iscsi_target.specs.Configured.{Settings};
+ghost use Rattle.iscsi_target_session.specs.Configured.{Settings};
 ghost use Rattle.scsi_disk.specs.Disk.{Disk};
 ghost use Rattle.iscsi_target.specs.Inside.{connection, store_of, target_fault, AnswersReady, ShutsReady, RestFails, TakesOne, FailsOne};
 
-use crate::config::Config;
 use crate::fault::TargetFault;
 use crate::machine::Machine;
-use crate::received::Received;
 use iscsi_login::{Params, Phase, Stage};
 use iscsi_pdu::LOGIN_SEGMENT;
 use iscsi_stream::{Framer, StreamFault};
+use iscsi_target_session::{Config, Received};
 use scsi_disk::BlockStore;
 use std::alloc::{AllocError, Global};
 use std::marker::Model;
@@ -37,7 +36,7 @@ pub struct Target {
 impl Model for Target {
     ghost use Rattle.std.specs.Prelude.{◌≡◌, false};
     ghost use Rattle.iscsi_stream.specs.Framing.{is_ready};
-    ghost use Rattle.iscsi_target.specs.Session.{limit};
+    ghost use Rattle.iscsi_target_session.specs.Session.{limit};
     ghost use Rattle.iscsi_target.specs.Feed.{Connection};
 
     ghost Value = { Connection };

@@ -4,20 +4,21 @@ ghost use Rattle.std.specs.Prelude.{◌≡◌, ◌≢◌, ◌⊎◌, ◌↔◌, 
 ghost use Rattle.iscsi_pdu.specs.Serial.{distance};
 ghost use Rattle.scsi_disk.specs.Disk.{Disk};
 ghost use Rattle.iscsi_target.specs.State.{max_cmd_sn, on, waiting};
-ghost use Rattle.iscsi_target.specs.Login.{login_step};
+ghost use Rattle.iscsi_target_session.specs.Login.{login_step};
 ghost use Rattle.iscsi_target.specs.Command.{breaks_rules, task_of};
-ghost use Rattle.iscsi_target.specs.Machine.{is_due_kind, is_tag_of, tag_of, advanced, request_answered, handled, begun, immediate, in_turn, due_met, full_met, is_closed, is_over_limit};
+ghost use Rattle.iscsi_target.specs.Machine.{is_due_kind, is_tag_of, tag_of, advanced, handled, begun, immediate, in_turn, due_met, full_met, is_closed, is_over_limit};
+ghost use Rattle.iscsi_target_session.specs.Requests.{request_answered};
 ghost use Rattle.iscsi_target.specs.Laws.{cmd_sn_of};
 ghost use Rattle.iscsi_target.specs.Inside.{Leaves, Handles, Works, Follows, Answers, TakePlaces, refusal, store_of};
 
 use super::Machine;
-use crate::received::Received;
 use crate::tasks::{Task, tag_of};
 use iscsi_login::{Phase, Session};
 use iscsi_pdu::rule::{
     COMMAND_OUT_OF_TURN, DATA_OUT_OF_ORDER, KIND_NOT_DUE, SEGMENT_TOO_LONG, TOO_MANY_IMMEDIATE,
 };
 use iscsi_pdu::{Head, Serial};
+use iscsi_target_session::Received;
 use scsi_disk::BlockStore;
 use std::alloc::AllocError;
 

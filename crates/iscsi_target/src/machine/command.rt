@@ -11,13 +11,13 @@ ghost use Rattle.iscsi_target.specs.Command.{order_of, breaks_burst_rules, scsi_
 ghost use Rattle.iscsi_target.specs.Inside.{Handles, TakePlaces, store_of};
 
 use super::Machine;
-use crate::received::Received;
 use crate::response::response_head;
 use crate::writing::append_response;
 use iscsi_login::{Answered, NegKey};
 use iscsi_pdu::rule::DATA_OUT_OF_ORDER;
 use iscsi_pdu::{DataIn, Head, RESERVED_TAG, ScsiCommand};
 use iscsi_stream::write_pdu;
+use iscsi_target_session::Received;
 use scsi_disk::{BlockStore, Order, Outcome, Plan, execute_planned, plan};
 use std::alloc::AllocError;
 
@@ -116,20 +116,20 @@ impl Machine {
             self.new (store_of (S.disk store.new) (S.failures store.new)) out.new.items }
     {
         let outcome = execute_planned(*out.allocator(), &order, planned, &[], store)?;
-        self.tell(tag, &outcome, out)?;
+        self.send_outcome(tag, &outcome, out)?;
         self.count();
         Ok(None)
     }
 
     // The data of an outcome, and the response.
-    fn tell(&self, tag: u32, outcome: &Outcome, out: &mut Vec<u8>) -> Result<(), AllocError>
+    fn send_outcome(&self, tag: u32, outcome: &Outcome, out: &mut Vec<u8>) -> Result<(), AllocError>
         requires { length outcome.now.bytes < 2 ^ 32 }
         ensures ok { OnOk result (out.new.items ≡ out.old.items ++ canon
             (command_answers self.now.session (waiting self.now.tasks) tag outcome.now (parts_given self.now.session.held outcome.now.bytes))) }
         ensures err { OnErr result (out.new.items ≡ out.old.items) }
     {
         let start = out.len();
-        let told = self.tell_all(tag, outcome, out);
+        let told = self.append_outcome(tag, outcome, out);
         if told.is_err() {
             out.truncate(start);
         }
@@ -137,19 +137,24 @@ impl Machine {
     }
 
     // The same, but a front may stand where memory ran out.
-    fn tell_all(&self, tag: u32, outcome: &Outcome, out: &mut Vec<u8>) -> Result<(), AllocError>
+    fn append_outcome(
+        &self,
+        tag: u32,
+        outcome: &Outcome,
+        out: &mut Vec<u8>,
+    ) -> Result<(), AllocError>
         requires { length outcome.now.bytes < 2 ^ 32 }
         ensures ok { OnOk result (out.new.items ≡ out.old.items ++ canon
             (command_answers self.now.session (waiting self.now.tasks) tag outcome.now (parts_given self.now.session.held outcome.now.bytes))) }
         ensures front { take (length out.old.items) out.new.items ≡ out.old.items }
     {
-        let count = self.give(tag, outcome.bytes.as_slice(), out)?;
+        let count = self.send_data_in(tag, outcome.bytes.as_slice(), out)?;
         let head = response_head(self.numbers(), tag, outcome, count);
         append_response(&head, outcome.sense, out)
     }
 
     // Data in runs of MaxBurstLength bytes. Answers how many Data-In PDUs went out.
-    fn give(&self, tag: u32, bytes: &[u8], out: &mut Vec<u8>) -> Result<u32, AllocError>
+    fn send_data_in(&self, tag: u32, bytes: &[u8], out: &mut Vec<u8>) -> Result<u32, AllocError>
         requires { length bytes.now < 2 ^ 32 }
         ensures ok { IfOk result (λ count. (count ≡ length (parts_given self.now.session.held bytes.now))
             × (out.new.items ≡ out.old.items
@@ -161,14 +166,14 @@ impl Machine {
         let mut rest = bytes;
         while !rest.is_empty() {
             let len = burst.min(rest.len());
-            sent = self.give_run(tag, sent, &rest[..len], out)?;
+            sent = self.send_data_in_run(tag, sent, &rest[..len], out)?;
             rest = &rest[len..];
         }
         Ok(sent.count)
     }
 
     // A run of data in parts, each of at most what the initiator takes in one segment.
-    fn give_run(
+    fn send_data_in_run(
         &self,
         tag: u32,
         before: Sent,

@@ -17,13 +17,13 @@ use super::command::order_of;
 use crate::due::Due;
 use crate::kept::Kept;
 use crate::open_write::OpenWrite;
-use crate::received::Received;
 use crate::response::response_head;
 use crate::tasks::Task;
 use crate::writing::append_response;
 use iscsi_pdu::rule::DATA_OUT_OF_ORDER;
 use iscsi_pdu::{DataOut, Head, ReadyToTransfer, ScsiCommand};
 use iscsi_stream::write_pdu;
+use iscsi_target_session::Received;
 use scsi_disk::{BlockStore, Plan, execute, plan};
 use std::alloc::{AllocError, Global};
 
@@ -71,7 +71,7 @@ impl Machine {
             return self.execute_write(&write, store, out);
         }
         if write.is_idle() {
-            return self.ask(write, out);
+            return self.send_r2t(write, out);
         }
         self.tasks.push_first(write);
         Ok(None)
@@ -102,7 +102,7 @@ impl Machine {
     }
 
     // An R2T goes out for the next bytes of a write (RFC 7143, section 11.8).
-    fn ask(&mut self, write: OpenWrite, out: &mut Vec<u8>) -> Result<Option<u8>, AllocError>
+    fn send_r2t(&mut self, write: OpenWrite, out: &mut Vec<u8>) -> Result<Option<u8>, AllocError>
         requires whole { is_whole write ≡ false }
         requires idle { is_idle write.due ≡ true }
         requires places { TakePlaces self.old.tasks }
@@ -115,7 +115,7 @@ impl Machine {
         let head = self.r2t_head(&write, desired);
         write_pdu(&head, &[], out)?;
         let _received = write.received();
-        write.ask(desired);
+        write.await_sequence(desired);
         self.tasks.push_first(write);
         Ok(None)
     }

@@ -1,6 +1,6 @@
 use Rattle.std.proofs.Common.{subst}
 use Rattle.iscsi_login.specs.Negotiation.{IsInRange}
-use Rattle.iscsi_target.specs.Configured.{Settings}
+use Rattle.iscsi_target_session.specs.Configured.{Settings}
 use Rattle.iscsi_service.proofs.SessionReads.{fault_served}
 use Rattle.iscsi_service.proofs.serving.serve_one.Goals as goal
 

@@ -1,6 +1,6 @@
 use Rattle.std.proofs.Common.{List, ℕ, drop, refl, sym, ap, ◌∙◌, subst}
 use Rattle.iscsi_stream.specs.Framing.{Framing}
-use Rattle.iscsi_target.specs.Session.{limit}
+use Rattle.iscsi_target_session.specs.Session.{limit}
 use Rattle.iscsi_target.specs.State.{Machine}
 use Rattle.iscsi_target.specs.Feed.{Connection, Store}
 use Rattle.iscsi_target.specs.Inside.{connection, store_of, AnswersReady}

@@ -1,4 +1,4 @@
-use Rattle.std.proofs.Common.{refl, sym, ◌∙◌}
+use Rattle.std.proofs.Common.{sym, ◌∙◌}
 use Rattle.iscsi_target.specs.Inside.{store_of}
 use Rattle.iscsi_target.proofs.Dispatching.{login_answers, full_answers}
 use Rattle.iscsi_target.proofs.machine.Machine.answer_pdu.Goals as goal

@@ -1,12 +1,12 @@
-use Rattle.std.proofs.Common.{◌≡◌, ℕ, ◌+◌, List, length, true, false, refl, sym, ap, ◌∙◌, subst, rules}
+use Rattle.std.proofs.Common.{◌≡◌, ℕ, ◌+◌, length, true, false, sym, ap, ◌∙◌, subst, rules}
 use Rattle.std.specs.Prelude.{Some, None, insert}
 use Rattle.iscsi_login.specs.Held.{first_burst}
 use Rattle.iscsi_pdu.specs.Rules.{data_out_of_order}
 use Rattle.iscsi_target.specs.Write.{Write}
-use Rattle.iscsi_target.specs.declared.tasks.Task.{Task}
 use Rattle.iscsi_target.specs.declared.tasks.Task.TheVariants.{Data}
 use Rattle.iscsi_target.specs.State.{Machine, closed, waiting}
-use Rattle.iscsi_target.specs.Rejecting.{breaks, breach}
+use Rattle.iscsi_target.specs.State.{breaks}
+use Rattle.iscsi_target_session.specs.Rejecting.{breach}
 use Rattle.iscsi_target.specs.Transfer.{received, is_in_sequence, with_data, joined_write}
 use Rattle.iscsi_target.specs.Machine.{data_out, write_of, with_write}
 use Rattle.iscsi_target.specs.Inside.{Leaves, Works, store_of}

@@ -1,7 +1,8 @@
 use Rattle.std.proofs.Common.{◌≡◌, refl, false, rules}
 use Rattle.iscsi_target.specs.State.{on, waiting}
 use Rattle.iscsi_target.specs.Execution.{Device}
-use Rattle.iscsi_target.specs.Machine.{handled, request_answered}
+use Rattle.iscsi_target.specs.Machine.{handled}
+use Rattle.iscsi_target_session.specs.Requests.{request_answered}
 use Rattle.iscsi_target.specs.Command.{scsi_command}
 use Rattle.iscsi_target.proofs.Serving.{serves_if, leaves_handles}
 use Rattle.iscsi_target.proofs.Dispatching.{handles_command, handles_other, is_command}

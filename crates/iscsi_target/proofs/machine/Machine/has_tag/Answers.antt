@@ -1,5 +1,5 @@
 use Rattle.std.proofs.Common.{ℕ, sym, ap, ◌∙◌}
-use Rattle.std.specs.Prelude.{Option, None}
+use Rattle.std.specs.Prelude.{Option}
 use Rattle.iscsi_target.specs.Machine.{is_tag_of}
 use Rattle.iscsi_target.proofs.Places.{none_tagged}
 use Rattle.iscsi_target.proofs.machine.Machine.has_tag.Goals as goal

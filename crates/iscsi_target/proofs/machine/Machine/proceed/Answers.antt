@@ -19,8 +19,8 @@ returns-then-is_whole g c = record {
 
 pub returns-then-is_idle : goal.returns-then-is_idle
 returns-then-is_idle g c =
-    leaves_handles c.ask.result (g.S.BlockStore.failures c.args.store.now) (ask c.args.self.now (g.S.BlockStore.disk c.args.store.now) c.args.write) (λ (d : Device). proceed d c.args.self.now (g.S.BlockStore.disk c.args.store.now) c.args.write) (g.S.BlockStore.disk c.args.store.now) c.args.self.now c.ask.new.self c.args.out.now.items c.ask.new.out.items
-    (λ (d : Device). proceeds_asking d c.args.self.now (g.S.BlockStore.disk c.args.store.now) c.args.write (sym c.is_whole.ensures ∙ c.if-is_whole.false) (sym c.is_idle.ensures ∙ c.if-is_idle.true)) refl refl (c.ask.ensures (g.S.BlockStore.disk c.args.store.now))
+    leaves_handles c.send_r2t.result (g.S.BlockStore.failures c.args.store.now) (ask c.args.self.now (g.S.BlockStore.disk c.args.store.now) c.args.write) (λ (d : Device). proceed d c.args.self.now (g.S.BlockStore.disk c.args.store.now) c.args.write) (g.S.BlockStore.disk c.args.store.now) c.args.self.now c.send_r2t.new.self c.args.out.now.items c.send_r2t.new.out.items
+    (λ (d : Device). proceeds_asking d c.args.self.now (g.S.BlockStore.disk c.args.store.now) c.args.write (sym c.is_whole.ensures ∙ c.if-is_whole.false) (sym c.is_idle.ensures ∙ c.if-is_idle.true)) refl refl (c.send_r2t.ensures (g.S.BlockStore.disk c.args.store.now))
 
 pub returns : goal.returns
 returns g c = record {

@@ -1,7 +1,7 @@
 use Rattle.std.proofs.Common.{refl, sym, ◌∙◌}
 use Rattle.iscsi_target.specs.Execution.{Device}
 use Rattle.iscsi_target.specs.Command.{scsi_command}
-use Rattle.iscsi_target.specs.Rejecting.{breaks}
+use Rattle.iscsi_target.specs.State.{breaks}
 use Rattle.iscsi_pdu.specs.Rules.{data_out_of_order}
 use Rattle.iscsi_target.proofs.Serving.{leaves_handles}
 use Rattle.iscsi_target.proofs.Commanding.{command_broken}

@@ -1,7 +1,7 @@
-use Rattle.std.proofs.Common.{◌≡◌, refl, sym, ap, ◌∙◌}
+use Rattle.std.proofs.Common.{sym, ap, ◌∙◌}
 use Rattle.iscsi_pdu.specs.Rules.{kind_not_due, segment_too_long}
 use Rattle.iscsi_target.specs.State.{waiting}
-use Rattle.iscsi_target.specs.Rejecting.{breach}
+use Rattle.iscsi_target_session.specs.Rejecting.{breach}
 use Rattle.iscsi_target.specs.Machine.{Met, due_met, full_met}
 use Rattle.iscsi_target.specs.Inside.{store_of}
 use Rattle.iscsi_target.proofs.Serving.{answered_follows, follows_as}

@@ -1,8 +1,8 @@
-use Rattle.std.proofs.Common.{◌≡◌, inl, List, [], ◌∷◌, ◌++◌, true, refl, sym, ap, ◌∙◌, arith, rules}
+use Rattle.std.proofs.Common.{◌≡◌, inl, [], ◌∷◌, ◌++◌, true, sym, ap, ◌∙◌, arith}
 use Rattle.std.specs.Prelude.{Some, None}
 use Rattle.iscsi_pdu.specs.Rules.{too_many_immediate}
 use Rattle.iscsi_target.specs.State.{Machine, waiting}
-use Rattle.iscsi_target.specs.Rejecting.{reject, breach}
+use Rattle.iscsi_target_session.specs.Rejecting.{reject, breach}
 use Rattle.iscsi_target.specs.Command.{task_of}
 use Rattle.iscsi_target.specs.Machine.{immediate, is_busy}
 use Rattle.iscsi_target.specs.Inside.{refusal, store_of}

@@ -1,7 +1,7 @@
-use Rattle.std.proofs.Common.{◌≡◌, false, refl, ap, ◌∙◌, rules}
+use Rattle.std.proofs.Common.{◌≡◌, false, rules}
 use Rattle.iscsi_pdu.specs.Rules.{kind_not_due}
 use Rattle.iscsi_target.specs.State.{waiting}
-use Rattle.iscsi_target.specs.Rejecting.{breach}
+use Rattle.iscsi_target_session.specs.Rejecting.{breach}
 use Rattle.iscsi_target.specs.Machine.{due_met, data_out}
 use Rattle.iscsi_target.specs.Inside.{store_of}
 use Rattle.iscsi_target.proofs.Serving.{answered_follows, follows_as}

@@ -1,10 +1,11 @@
-use Rattle.std.proofs.Common.{◌≡◌, ◌≤◌, ℕ, List, [], ◌∷◌, ◌++◌, true, false, refl, sym, ap, ◌∙◌, subst, arith, rules}
+use Rattle.std.proofs.Common.{◌≡◌, ◌≤◌, ℕ, [], ◌∷◌, ◌++◌, true, false, refl, sym, ap, ◌∙◌, subst, rules}
 use Rattle.std.specs.Prelude.{◌==◌, Some, None}
 use Rattle.iscsi_pdu.specs.Rules.{command_out_of_turn}
-use Rattle.iscsi_target.specs.Session.{Session}
+use Rattle.iscsi_target_session.specs.Session.{Session}
 use Rattle.iscsi_target.specs.State.{Machine, waiting}
 use Rattle.iscsi_target.proofs.Turns.{with_tasks}
-use Rattle.iscsi_target.specs.Rejecting.{breaks, breach}
+use Rattle.iscsi_target.specs.State.{breaks}
+use Rattle.iscsi_target_session.specs.Rejecting.{breach}
 use Rattle.iscsi_target.specs.Command.{task_of}
 use Rattle.iscsi_target.specs.Machine.{advanced, in_turn}
 use Rattle.iscsi_target.specs.Inside.{Leaves, Works, refusal, store_of}

@@ -1,7 +1,7 @@
-use Rattle.std.proofs.Common.{◌≡◌, ℕ, sym, ap, ◌∙◌, rules}
+use Rattle.std.proofs.Common.{◌≡◌, ap, ◌∙◌, rules}
 use Rattle.scsi_disk.specs.Plan.{plan_of}
 use Rattle.scsi_disk.specs.declared.order.Plan.TheVariants.{Take}
-use Rattle.iscsi_target.specs.Command.{order_of, opened}
+use Rattle.iscsi_target.specs.Command.{order_of}
 use Rattle.iscsi_target.specs.declared.tasks.Task.TheVariants.{Data}
 use Rattle.iscsi_target.proofs.Dispatching.{waits_fit, waits_as}
 use Rattle.iscsi_target.proofs.machine.Machine.task.Goals as goal

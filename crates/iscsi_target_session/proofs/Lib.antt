@@ -1,0 +1,9 @@
+pub mod Cases
+pub mod Answering
+pub mod LoginTexts
+pub mod TextReading
+pub mod Lengths
+pub mod Logins
+pub mod Discovering
+pub mod DiscoveringLoop
+pub mod ByKind

@@ -1,0 +1,38 @@
+-- What the parts of a session do. No reader of its contracts needs these.
+use Rattle.std.specs.Prelude.{Option, Some, None, Bool, false, not, ◌&&◌, ℕ, List, [], ◌∷◌, codes}
+use Rattle.std.specs.Str.{bytes_eq}
+use Rattle.iscsi_text.specs.Text.{Pairs}
+use Rattle.iscsi_text.specs.declared.pair.Pair.{Pair}
+use Rattle.iscsi_text.specs.Inside.{shown}
+use Rattle.iscsi_pdu.specs.declared.head.login_response.LoginResponse.{LoginResponse}
+use Rattle.iscsi_target_session.specs.Session.{Session, Reply, counted}
+use Rattle.iscsi_target_session.specs.Login.{answered}
+
+-- ---- the login
+
+-- What a request says of the session before it is answered is taken back (own rule).
+abbrev pub left_by : Session → Session → Session
+left_by old new =
+    record new { begun = old.begun; exp_cmd_sn = old.exp_cmd_sn; stage = old.stage }
+
+-- An answer of class 0 with this text (own rule).
+abbrev pub login_answer : Session → LoginResponse → Pairs → Reply
+login_answer s h pairs =
+    record { session = counted s; answers = answered s h pairs; rule = None }
+
+-- ---- text requests
+
+-- The first pair has this key (own rule).
+abbrev pub has_first : List ℕ → Pairs → Bool
+has_first key [] = false
+has_first key (p ∷ pairs) = bytes_eq p.0 key
+
+-- The key has an answer of its own (own rule).
+abbrev pub has_reply : Bool → List ℕ → Bool
+has_reply asked key =
+    not (bytes_eq key (codes "SendTargets")) && not (asked && bytes_eq key (codes "TargetName"))
+
+-- A pair, if there is one (own rule).
+abbrev pub shown_option : Option Pair → Pairs
+shown_option None = []
+shown_option (Some p) = shown p ∷ []

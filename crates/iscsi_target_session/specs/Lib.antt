@@ -1,0 +1,9 @@
+pub mod Configured
+pub mod Session
+pub mod Rejecting
+pub mod LoginText
+pub mod Login
+pub mod Discovery
+pub mod Requests
+pub mod Replies
+pub mod Inside

@@ -1,0 +1,208 @@
+-- The login of a target: what each Login Request leads to (RFC 7143, sections 6.3, 11.12 and
+-- 11.13).
+use Rattle.std.specs.Prelude.{ℕ, ◌+◌, Bool, true, false, not, ◌==◌, ◌&&◌, ◌||◌, nat_lt, nat_le, if◌then◌else◌, List, [], ◌∷◌, ◌++◌, length, Option, Some, None, unwrap_or}
+use Rattle.iscsi_text.specs.Text.{Pairs}
+use Rattle.iscsi_text.specs.Reading.{text_in}
+use Rattle.iscsi_pdu.specs.declared.head.login_request.LoginRequest.{LoginRequest}
+use Rattle.iscsi_pdu.specs.declared.head.login_response.LoginResponse.{LoginResponse}
+use Rattle.iscsi_pdu.specs.declared.head.Head.{Head}
+use Rattle.iscsi_pdu.specs.declared.head.Head.TheVariants as heads
+use Rattle.iscsi_stream.specs.Segment.{Segment, Bytes, Text, segment_bytes}
+use Rattle.iscsi_stream.specs.Stream.{Message}
+use Rattle.iscsi_login.specs.declared.phase.Phase.{Phase}
+use Rattle.iscsi_login.specs.declared.phase.Phase.TheVariants as phases
+use Rattle.iscsi_login.specs.declared.stage.Stage.{Stage}
+use Rattle.iscsi_login.specs.declared.stage.Stage.TheVariants as stages
+use Rattle.iscsi_login.specs.Stage.{may_move}
+use Rattle.iscsi_target_session.specs.Session.{Session, Reply, shut, ended, counted, max_cmd_sn_with}
+use Rattle.scsi_disk.specs.Plan.{first_of}
+use Rattle.iscsi_pdu.specs.Rules.{kind_not_due}
+use Rattle.iscsi_target_session.specs.declared.status.Status.{Status}
+use Rattle.iscsi_target_session.specs.LoginText.{initiator_error, unsupported_version, session_does_not_exist, out_of_resources, is_operational, known_keys, given_with, session_for, answer_pairs, held_after, text_refusals}
+
+-- ---- stages
+
+-- The stage that two bits of a login PDU name (sections 11.12.3 and 11.12.4).
+abbrev pub stage_named : ℕ → Option Stage
+stage_named n =
+    if n == 0 then Some stages.Security
+    else if n == 1 then Some stages.Operational
+    else if n == 3 then Some stages.Full
+    else None
+
+-- The stage is the one that is named (section 11.12.3).
+abbrev pub is_same_stage : Stage → Option Stage → Bool
+is_same_stage stages.Security (Some stages.Security) = true
+is_same_stage stages.Operational (Some stages.Operational) = true
+is_same_stage stages.Full (Some stages.Full) = true
+is_same_stage _ _ = false
+
+-- The login may move from the first to the second (section 11.12.3).
+abbrev pub is_move : Option Stage → Option Stage → Bool
+is_move (Some from) (Some to) = may_move from to
+is_move _ _ = false
+
+-- The stage that is asked for; none where the request doesn't move (section 11.12.3).
+abbrev pub stage_asked : LoginRequest → Option Stage
+stage_asked r = stage_named (unwrap_or r.next_stage 2)
+
+-- The stage after a request that isn't refused (section 11.12.3).
+abbrev pub stage_after : Session → LoginRequest → Stage
+stage_after s r = unwrap_or (stage_asked r) s.stage
+
+-- The first request may begin in each stage but the last; the others name the current one (section
+-- 11.12.3).
+abbrev pub is_due_stage : Session → LoginRequest → Bool
+is_due_stage s r =
+    if s.begun then is_same_stage s.stage (stage_named r.current_stage)
+    else nat_le r.current_stage 1
+
+-- The phase that goes with a stage (section 6.3).
+abbrev pub phase_at : Stage → Phase
+phase_at stages.Full = phases.Full
+phase_at _ = phases.Login
+
+-- ---- answers
+
+-- What each answer has of its request: no more is to come, and nothing moves (section 11.13).
+abbrev pub response : Session → LoginRequest → LoginResponse
+response s r = record {
+  transits = false;
+  continues = false;
+  current_stage = r.current_stage;
+  next_stage = None;
+  version_max = 0;
+  version_active = 0;
+  isid = r.isid;
+  tsih = 0;
+  initiator_task_tag = r.initiator_task_tag;
+  stat_sn = None;
+  exp_cmd_sn = s.exp_cmd_sn;
+  max_cmd_sn = max_cmd_sn_with s 0;
+  status_class = 0;
+  status_detail = 0;
+}
+
+-- A Login Response and its text (section 11.13).
+abbrev pub login_message : LoginResponse → Pairs → Message
+login_message h pairs = record { head = heads.LoginResponse h; segment = Text pairs }
+
+-- A refusal carries no StatSN, and closes the session (section 11.13.5).
+abbrev pub refuse : Session → LoginRequest → Status → Reply
+refuse s r why = record {
+  session = ended s;
+  answers =
+      login_message
+      (record (response s r) { status_class = why.class; status_detail = why.detail }) []
+      ∷ [];
+  rule = None;
+}
+
+-- The refusal, or the reply where there is no reason for one (section 11.13.5).
+abbrev pub refuse_or : Option Status → Session → LoginRequest → Reply → Reply
+refuse_or None s r reply = reply
+refuse_or (Some why) s r reply = refuse s r why
+
+-- An answer of class 0 carries StatSN (section 11.13.4).
+abbrev pub answered : Session → LoginResponse → Pairs → List Message
+answered s h pairs = login_message (record h { stat_sn = Some s.stat_sn }) pairs ∷ []
+
+-- ---- a whole text
+
+-- The session's number goes with the move to full feature phase (section 11.13.3).
+abbrev pub tsih_at : Session → Stage → ℕ
+tsih_at s stages.Full = s.settings.tsih
+tsih_at s _ = 0
+
+-- The head of the answer to a text: it moves where the request does (section 11.13).
+abbrev pub text_response : Session → LoginRequest → LoginResponse
+text_response s r = record (response s r) {
+  transits = r.transits;
+  next_stage = r.next_stage;
+  tsih = tsih_at s (stage_after s r);
+}
+
+-- The session after a text that isn't refused (section 6.3).
+abbrev pub after_text : Session → LoginRequest → Pairs → Session
+after_text s r pairs = record s {
+  stage = stage_after s r;
+  phase = phase_at (stage_after s r);
+  has_text = true;
+  has_operational_text = s.has_operational_text || is_operational s.stage;
+  session_type = session_for s pairs;
+  given = given_with known_keys s.given pairs;
+  held = held_after s pairs;
+}
+
+-- A text that isn't refused is answered (section 6.3).
+abbrev pub text_answered : Session → LoginRequest → Pairs → Reply
+text_answered s r pairs = record {
+  session = counted (after_text s r pairs);
+  answers = answered s (text_response s r) (answer_pairs s pairs);
+  rule = None;
+}
+
+-- The gathered bytes are a whole text, or not (section 6.1).
+abbrev pub whole_text : Session → LoginRequest → Option Pairs → Reply
+whole_text s r None = refuse s r initiator_error
+whole_text s r (Some pairs) =
+    refuse_or (first_of (text_refusals s pairs)) s r (text_answered s r pairs)
+
+-- ---- a request
+
+-- The text that ends with this segment (section 6.2).
+abbrev pub text_ending : List ℕ → Segment → Option Pairs
+text_ending gathered (Text pairs) = Some pairs
+text_ending gathered (Bytes bytes) = text_in (gathered ++ bytes)
+
+-- More of the text is to come: the answer is empty (section 11.12.2).
+abbrev pub gather : Session → LoginRequest → List ℕ → Reply
+gather s r bytes = record {
+  session = counted (record s { gathered = s.gathered ++ bytes });
+  answers = answered s (response s r) [];
+  rule = None;
+}
+
+-- A text has at most 16,384 bytes, in segments of which all but the last have the C bit (section
+-- 11.12.2; the limit is own rule).
+abbrev pub segment_taken : Session → LoginRequest → Segment → Reply
+segment_taken s r segment =
+    if nat_lt 16384 (length s.gathered + length (segment_bytes segment))
+    then refuse s r out_of_resources
+    else if r.continues then gather s r (segment_bytes segment)
+    else whole_text (record s { gathered = [] }) r (text_ending s.gathered segment)
+
+-- The reasons to refuse a request by its head, in their order (sections 11.12 and 11.13.5; the
+-- order is own rule): its version; a session to join; its stage; a text that goes on and a move at
+-- once; a move that is none.
+abbrev pub request_refusals : Session → LoginRequest → List (Bool × Status)
+request_refusals s r =
+    (nat_lt 0 r.version_min, unsupported_version)
+    ∷ (not (r.tsih == 0), session_does_not_exist)
+    ∷ (not (is_due_stage s r), initiator_error)
+    ∷ (r.transits && r.continues, initiator_error)
+    ∷ (r.transits && not (is_move (stage_named r.current_stage) (stage_asked r)), initiator_error)
+    ∷ []
+
+-- The first request settles the CmdSN that is due (section 11.12.8).
+abbrev pub numbered : Session → LoginRequest → Session
+numbered s r = if s.begun then s else record s { begun = true; exp_cmd_sn = r.cmd_sn }
+
+-- The session in the request's stage (section 11.12.3).
+abbrev pub entered : Session → LoginRequest → Session
+entered s r = record (numbered s r) { stage = unwrap_or (stage_named r.current_stage) s.stage }
+
+-- A Login Request (section 11.12).
+abbrev pub login_request : Session → LoginRequest → Segment → Reply
+login_request s r segment =
+    refuse_or (first_of (request_refusals s r)) (numbered s r) r
+    (segment_taken (entered s r) r segment)
+
+-- Before full feature phase any other PDU closes the session (section 6.3; own rule).
+abbrev pub login_in : Session → Head → Segment → Reply
+login_in s (heads.LoginRequest r) segment = login_request s r segment
+login_in s _ segment = shut s (Some kind_not_due)
+
+-- A message before full feature phase (section 6.3).
+abbrev pub login_step : Session → Message → Reply
+login_step s m = login_in s m.head m.segment

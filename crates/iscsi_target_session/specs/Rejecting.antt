@@ -1,0 +1,37 @@
+-- Rejected PDUs (RFC 7143, section 11.17). The first number is how many commands wait.
+use Rattle.std.specs.Prelude.{ℕ, List, Some}
+use Rattle.iscsi_pdu.specs.declared.head.Head.{Head}
+use Rattle.iscsi_pdu.specs.declared.head.Head.TheVariants as heads
+use Rattle.iscsi_stream.specs.Stream.{Message}
+use Rattle.iscsi_stream.specs.Canonical.{canonical_header}
+use Rattle.iscsi_target_session.specs.Session.{Session, Reply, say, counted, ended, max_cmd_sn_with}
+use Rattle.iscsi_pdu.specs.Rules.{protocol_error}
+
+-- The head of a Reject (section 11.17).
+abbrev pub reject_head : Session → ℕ → ℕ → Head
+reject_head s waiting reason = heads.Reject (record {
+  reason = reason;
+  stat_sn = s.stat_sn;
+  exp_cmd_sn = s.exp_cmd_sn;
+  max_cmd_sn = max_cmd_sn_with s waiting;
+})
+
+-- A Reject of a PDU with this header; the session goes on (section 11.17).
+abbrev pub rejected : Session → ℕ → ℕ → List ℕ → Reply
+rejected s waiting reason header = say s (reject_head s waiting reason) header
+
+-- A Reject carries the header of the PDU's canonical form (section 11.17; that form is own rule).
+abbrev pub reject : Session → ℕ → ℕ → Message → Reply
+reject s waiting reason m = rejected s waiting reason (canonical_header m)
+
+-- A PDU with this header broke the rule: it is rejected, and the session is closed (own rule).
+abbrev pub breached : Session → ℕ → ℕ → List ℕ → Reply
+breached s waiting rule header = record {
+  session = ended (counted s);
+  answers = (rejected s waiting protocol_error header).answers;
+  rule = Some rule;
+}
+
+-- A PDU broke the rule (own rule).
+abbrev pub breach : Session → ℕ → ℕ → Message → Reply
+breach s waiting rule m = breached s waiting rule (canonical_header m)

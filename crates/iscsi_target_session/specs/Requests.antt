@@ -1,0 +1,90 @@
+-- Requests with one answer: pings, task management and logouts (RFC 7143, sections 11.5, 11.6,
+-- 11.14, 11.15, 11.18 and 11.19). Their answers say how many commands wait.
+use Rattle.std.specs.Prelude.{ℕ, ◌==◌, nat_le, if◌then◌else◌, List, [], take, None}
+use Rattle.iscsi_pdu.specs.declared.head.nop_out.NopOut.{NopOut}
+use Rattle.iscsi_pdu.specs.declared.head.task_request.TaskRequest.{TaskRequest}
+use Rattle.iscsi_pdu.specs.declared.head.logout_request.LogoutRequest.{LogoutRequest}
+use Rattle.iscsi_pdu.specs.declared.head.Head.{Head}
+use Rattle.iscsi_pdu.specs.declared.head.Head.TheVariants as heads
+use Rattle.iscsi_stream.specs.Stream.{Message}
+use Rattle.iscsi_stream.specs.Canonical.{canonical_header}
+use Rattle.iscsi_target_session.specs.Session.{Session, Reply, nothing, say, ended, max_cmd_sn_with}
+use Rattle.iscsi_pdu.specs.Fields.{reserved_tag}
+use Rattle.iscsi_target_session.specs.Rejecting.{breach, breached}
+use Rattle.iscsi_target_session.specs.Discovery.{text_request}
+use Rattle.iscsi_pdu.specs.Rules.{kind_not_due, logout_reason}
+use Rattle.iscsi_stream.specs.Segment.{segment_bytes}
+
+-- The head of the answer to a ping (section 11.19).
+abbrev pub nop_in_head : Session → ℕ → NopOut → Head
+nop_in_head s waiting h = heads.NopIn (record {
+  lun = None;
+  initiator_task_tag = h.initiator_task_tag;
+  target_transfer_tag = reserved_tag;
+  stat_sn = s.stat_sn;
+  exp_cmd_sn = s.exp_cmd_sn;
+  max_cmd_sn = max_cmd_sn_with s waiting;
+})
+
+-- A ping is answered with as many of its bytes as the initiator takes; without a tag it asks for no
+-- answer (section 11.18).
+abbrev pub nop_out : Session → ℕ → NopOut → List ℕ → Reply
+nop_out s waiting h bytes =
+    if h.initiator_task_tag == reserved_tag then nothing s
+    else say s (nop_in_head s waiting h) (take s.held.initiator_max_recv bytes)
+
+-- The head of the answer that a function isn't supported (section 11.6.1).
+abbrev pub task_response_head : Session → ℕ → TaskRequest → Head
+task_response_head s waiting h = heads.TaskResponse (record {
+  response = 5;
+  initiator_task_tag = h.initiator_task_tag;
+  stat_sn = s.stat_sn;
+  exp_cmd_sn = s.exp_cmd_sn;
+  max_cmd_sn = max_cmd_sn_with s waiting;
+})
+
+-- No task management function is supported (section 11.5; own profile).
+abbrev pub task_request : Session → ℕ → TaskRequest → Reply
+task_request s waiting h = say s (task_response_head s waiting h) []
+
+-- The head of the answer that session or connection is closed (section 11.15).
+abbrev pub logout_head : Session → ℕ → LogoutRequest → Head
+logout_head s waiting h = heads.LogoutResponse (record {
+  response = 0;
+  initiator_task_tag = h.initiator_task_tag;
+  stat_sn = s.stat_sn;
+  exp_cmd_sn = s.exp_cmd_sn;
+  max_cmd_sn = max_cmd_sn_with s waiting;
+  time2wait = 0;
+  time2retain = 0;
+})
+
+-- A Logout Response goes out, and the session is closed (section 11.15).
+abbrev pub logged_out : Session → ℕ → LogoutRequest → Reply
+logged_out s waiting h = record {
+  session = ended (say s (logout_head s waiting h) []).session;
+  answers = (say s (logout_head s waiting h) []).answers;
+  rule = None;
+}
+
+-- The session or its connection may be closed, and nothing else be asked for (section 11.14.1; own
+-- rule).
+abbrev pub logout_answered : Session → ℕ → LogoutRequest → List ℕ → Reply
+logout_answered s waiting h header =
+    if nat_le h.reason 1 then logged_out s waiting h else breached s waiting logout_reason header
+
+-- A Logout Request (section 11.14).
+abbrev pub logout_request : Session → ℕ → Message → LogoutRequest → Reply
+logout_request s waiting m h = logout_answered s waiting h (canonical_header m)
+
+-- ---- any of them
+
+-- The answer to a request that is no command, by its kind, while so many commands wait (section
+-- 4.2.4).
+abbrev pub request_answered : Session → ℕ → Message → Head → Reply
+request_answered s waiting m (heads.NopOut h) = nop_out s waiting h (segment_bytes m.segment)
+request_answered s waiting m (heads.TaskRequest h) = task_request s waiting h
+request_answered s waiting m (heads.TextRequest h) =
+    text_request s waiting m h (segment_bytes m.segment)
+request_answered s waiting m (heads.LogoutRequest h) = logout_request s waiting m h
+request_answered s waiting m _ = breach s waiting kind_not_due m

@@ -1,0 +1,100 @@
+-- The session of a target between two PDUs, but for its commands: its login, its numbers and what is
+-- held; and what a message does that no command needs (RFC 7143, section 4.2).
+use Rattle.std.specs.Prelude.{ℕ, ◌+◌, ◌-◌, ◌^◌, ◌%◌, Bool, false, max, List, [], ◌∷◌, Option, None, replicate}
+use Rattle.iscsi_pdu.specs.Serial.{next_sn}
+use Rattle.iscsi_pdu.specs.declared.head.Head.{Head}
+use Rattle.iscsi_stream.specs.Segment.{Bytes}
+use Rattle.iscsi_stream.specs.Stream.{Message}
+use Rattle.iscsi_login.specs.declared.phase.Phase.{Phase}
+use Rattle.iscsi_login.specs.declared.phase.Phase.TheVariants as phases
+use Rattle.iscsi_login.specs.declared.stage.Session.{Session as SessionType}
+use Rattle.iscsi_login.specs.declared.stage.Session.TheVariants as session_types
+use Rattle.iscsi_login.specs.declared.stage.Stage.{Stage}
+use Rattle.iscsi_login.specs.declared.stage.Stage.TheVariants as stages
+use Rattle.iscsi_login.specs.Held.{Held, defaults}
+use Rattle.iscsi_target_session.specs.Configured.{Settings}
+
+-- ---- the session
+
+-- A session, which knows no disk and no command (sections 4.2 and 6.3).
+pub record Session : Type 0 where
+  pub settings : Settings
+  pub phase : Phase
+  -- of the login: where it is, and whether a request came
+  pub stage : Stage
+  pub begun : Bool
+  -- the bytes of a login text that is not whole
+  pub gathered : List ℕ
+  -- of each known key, whether a text of the login gave it
+  pub given : List Bool
+  -- whether a whole text came, and whether one came in the operational stage
+  pub has_text : Bool
+  pub has_operational_text : Bool
+  pub session_type : SessionType
+  pub held : Held
+  -- the CmdSN that is due, and the StatSN of the next answer that carries and advances it
+  pub exp_cmd_sn : ℕ
+  pub stat_sn : ℕ
+
+-- A session in which nothing came: none of the 27 known keys was given (section 6.3).
+abbrev pub opening_session : Settings → ℕ → Session
+opening_session settings first_stat_sn = record {
+  settings = settings;
+  phase = phases.Login;
+  stage = stages.Security;
+  begun = false;
+  gathered = [];
+  given = replicate 27 false;
+  has_text = false;
+  has_operational_text = false;
+  session_type = session_types.Normal;
+  held = defaults;
+  exp_cmd_sn = 0;
+  stat_sn = first_stat_sn;
+}
+
+-- The longest segment that the target's framer takes: any of a login fits (section 13.12; own
+-- rule).
+abbrev pub limit : Settings → ℕ
+limit settings = max 8192 settings.preferences.max_recv
+
+-- A session that is over; what was gathered is dropped (own rule).
+abbrev pub ended : Session → Session
+ended s = record s { phase = phases.Closed; gathered = [] }
+
+-- ---- numbers
+
+-- MaxCmdSN while so many tasks wait: the window is as wide as eight commands, less those (section
+-- 4.2.2.1; the width is own rule).
+abbrev pub max_cmd_sn_with : Session → ℕ → ℕ
+max_cmd_sn_with s waiting = (s.exp_cmd_sn + (2 ^ 32 + 7 - waiting)) % 2 ^ 32
+
+-- An answer went out that carries StatSN and advances it (section 4.2.2.2).
+abbrev pub counted : Session → Session
+counted s = record s { stat_sn = next_sn s.stat_sn }
+
+-- ---- answers
+
+-- What a message does that no command needs: the session after it, the answers, and the rule that
+-- it broke (own rule).
+pub record Reply : Type 0 where
+  pub session : Session
+  pub answers : List Message
+  pub rule : Option ℕ
+
+-- Nothing is answered, and nothing changes (own rule).
+abbrev pub nothing : Session → Reply
+nothing s = record { session = s; answers = []; rule = None }
+
+-- The session is closed without an answer (own rule).
+abbrev pub shut : Session → Option ℕ → Reply
+shut s rule = record { session = ended s; answers = []; rule = rule }
+
+-- An answer whose segment means its bytes (section 11).
+abbrev pub message : Head → List ℕ → Message
+message head bytes = record { head = head; segment = Bytes bytes }
+
+-- One answer that carries StatSN and advances it (section 4.2.2.2).
+abbrev pub say : Session → Head → List ℕ → Reply
+say s head bytes =
+    record { session = counted s; answers = message head bytes ∷ []; rule = None }

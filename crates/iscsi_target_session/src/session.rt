@@ -1,0 +1,218 @@
+//! A session between two PDUs: its login, its numbers, what is held, and its answers to requests that
+//! are no commands.
+
+ghost use Rattle.std.specs.Prelude.{◌≡◌, ◌<◌, ◌^◌, length};
+ghost use Rattle.iscsi_pdu.specs.Meaning.{Fits};
+ghost use Rattle.iscsi_login.specs.Stage.{is_closed_phase};
+ghost use Rattle.iscsi_target_session.specs.Session.{opening_session, max_cmd_sn_with, say, counted, ended};
+ghost use Rattle.iscsi_target_session.specs.Rejecting.{reject, breach};
+ghost use Rattle.iscsi_target_session.specs.Replies.{Does};
+
+mod discovery;
+mod login;
+mod login_text;
+mod requests;
+
+use crate::config::Config;
+use crate::numbers::Numbers;
+use crate::received::Received;
+use iscsi_login::{Params, Phase, Stage};
+use iscsi_pdu::rule::PROTOCOL_ERROR;
+use iscsi_pdu::{Head, Reject};
+use iscsi_stream::{canonical_head, write_pdu};
+use std::alloc::{AllocError, Global};
+use std::marker::Model;
+
+/// How many commands that aren't immediate may wait (RFC 7143, section 4.2.2.1; own rule).
+const WINDOW: u32 = 8;
+
+/// A session between two PDUs. It knows no disk and no command; what it says of the window it is told:
+/// how many tasks wait. Where a call runs out of memory it has written nothing, and what is left of
+/// the session is good for nothing but to be closed.
+#[derive(Drop)]
+pub struct Session {
+    config: Config,
+    phase: Phase,
+    stage: Stage,
+    begun: bool,
+    gathered: Vec<u8>,
+    given: [bool; 27],
+    has_text: bool,
+    has_operational_text: bool,
+    session_type: iscsi_login::Session,
+    held: Params,
+    exp_cmd_sn: u32,
+    stat_sn: u32,
+}
+
+impl Model for Session {
+    ghost use Rattle.iscsi_target_session.specs.Session.{Session};
+
+    ghost Value = { Session };
+
+    ghost view = { λ s. record {
+      settings = s.config;
+      phase = s.phase;
+      stage = s.stage;
+      begun = s.begun;
+      gathered = s.gathered.items;
+      given = s.given;
+      has_text = s.has_text;
+      has_operational_text = s.has_operational_text;
+      session_type = s.session_type;
+      held = s.held;
+      exp_cmd_sn = s.exp_cmd_sn;
+      stat_sn = s.stat_sn;
+    } };
+}
+
+impl Session {
+    /// A session in which nothing came. It takes no memory.
+    pub fn new(alloc: Global, config: Config, first_statsn: u32) -> Session
+        ensures { result ≡ opening_session config first_statsn }
+    {
+        Session {
+            config,
+            phase: Phase::Login,
+            stage: Stage::Security,
+            begun: false,
+            gathered: Vec::new(alloc),
+            given: [false; 27],
+            has_text: false,
+            has_operational_text: false,
+            session_type: iscsi_login::Session::Normal,
+            held: Params::defaults(),
+            exp_cmd_sn: 0,
+            stat_sn: first_statsn,
+        }
+    }
+
+    /// What is held of each key.
+    pub fn held(&self) -> &Params
+        ensures { result.now ≡ self.now.held }
+    {
+        &self.held
+    }
+
+    /// What the session is doing.
+    pub fn phase(&self) -> Phase
+        ensures { result ≡ self.now.phase }
+    {
+        self.phase
+    }
+
+    /// Whether the session is over.
+    pub fn is_closed(&self) -> bool
+        ensures { result ≡ is_closed_phase self.now.phase }
+    {
+        matches!(self.phase, Phase::Closed)
+    }
+
+    /// The stage of the login.
+    pub fn stage(&self) -> Stage
+        ensures { result ≡ self.now.stage }
+    {
+        self.stage
+    }
+
+    /// Whether the session is normal or of discovery.
+    pub fn session_type(&self) -> iscsi_login::Session
+        ensures { result ≡ self.now.session_type }
+    {
+        self.session_type
+    }
+
+    /// What an answer says of its number and of the window, while so many tasks wait.
+    pub fn numbers(&self, waiting: u32) -> Numbers
+        ensures stat_sn { result.stat_sn ≡ self.now.stat_sn }
+        ensures exp_cmd_sn { result.exp_cmd_sn ≡ self.now.exp_cmd_sn }
+        ensures max_cmd_sn { result.max_cmd_sn ≡ max_cmd_sn_with self.now waiting }
+    {
+        Numbers {
+            stat_sn: self.stat_sn,
+            exp_cmd_sn: self.exp_cmd_sn,
+            max_cmd_sn: self
+                .exp_cmd_sn
+                .wrapping_add(WINDOW - 1)
+                .wrapping_sub(waiting),
+        }
+    }
+
+    /// An answer went out that carries StatSN and advances it (RFC 7143, section 4.2.2.2).
+    pub fn count(&mut self)
+        ensures { self.new ≡ counted self.old }
+    {
+        self.stat_sn = self.stat_sn.wrapping_add(1);
+    }
+
+    /// This CmdSN is due.
+    pub fn expect(&mut self, cmd_sn: u32)
+        ensures { self.new ≡ record self.old { exp_cmd_sn = cmd_sn } }
+    {
+        self.exp_cmd_sn = cmd_sn;
+    }
+
+    /// Closes the session; what was gathered is dropped.
+    pub fn close(&mut self)
+        ensures { self.new ≡ ended self.old }
+    {
+        self.phase = Phase::Closed;
+        self.gathered.clear();
+    }
+
+    // One answer that carries StatSN and advances it. No rule is broken.
+    #[tactic(auto, using(crate::proofs::Answering::one_answer))]
+    fn send_response(
+        &mut self,
+        head: &Head,
+        bytes: &[u8],
+        out: &mut Vec<u8>,
+    ) -> Result<Option<u8>, AllocError>
+        requires fits { Fits head.now }
+        requires short { length bytes.now < 2 ^ 24 }
+        ensures { Does (say self.old head.now bytes.now) result
+            self.old self.new out.old.items out.new.items }
+    {
+        write_pdu(head, bytes, out)?;
+        self.count();
+        Ok(None)
+    }
+
+    /// Rejects a PDU for this reason, with the header of its canonical form (RFC 7143, section 11.17).
+    pub fn reject(
+        &mut self,
+        waiting: u32,
+        reason: u8,
+        received: &Received<'_>,
+        out: &mut Vec<u8>,
+    ) -> Result<Option<u8>, AllocError>
+        ensures { Does (reject self.old waiting reason received.now) result
+            self.old self.new out.old.items out.new.items }
+    {
+        let header = canonical_head(*out.allocator(), &received.pdu, received.continued)?;
+        let numbers = self.numbers(waiting);
+        let head = Head::Reject(Reject {
+            reason,
+            stat_sn: numbers.stat_sn,
+            exp_cmd_sn: numbers.exp_cmd_sn,
+            max_cmd_sn: numbers.max_cmd_sn,
+        });
+        self.send_response(&head, &header, out)
+    }
+
+    /// A PDU broke the rule: it is rejected, and the session is closed. Answers the rule.
+    pub fn breach(
+        &mut self,
+        waiting: u32,
+        rule: u8,
+        received: &Received<'_>,
+        out: &mut Vec<u8>,
+    ) -> Result<Option<u8>, AllocError>
+        ensures { Does (breach self.old waiting rule received.now) result
+            self.old self.new out.old.items out.new.items }
+    {
+        self.reject(waiting, PROTOCOL_ERROR, received, out)?;
+        self.close();
+        Ok(Some(rule))
+    }
+}

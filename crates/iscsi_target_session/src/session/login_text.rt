@@ -1,0 +1,287 @@
+//! What a login text says, and why it is refused (RFC 7143, sections 6.3, 11.13.5 and 13).
+
+ghost use Rattle.std.specs.Prelude.{◌≡◌, ◌<◌, ◌≤◌, not, ◌&&◌, ◌||◌, [], slice_index_or, false, None, Some, is_none, IfSome, length, codes};
+ghost use Rattle.std.specs.Option.{option_map};
+ghost use Rattle.std.specs.Str.{bytes_eq};
+ghost use Rattle.iscsi_text.specs.Key.{target_address};
+ghost use Rattle.iscsi_text.specs.Value.{Plain, typed};
+ghost use Rattle.iscsi_text.specs.Canonical.{canonical_text};
+ghost use Rattle.iscsi_text.specs.Reading.{has_key};
+ghost use Rattle.iscsi_login.specs.Answer.{DeclaresWell, max_recv_key};
+ghost use Rattle.scsi_disk.specs.Plan.{first_of};
+ghost use Rattle.iscsi_target_session.specs.LoginText.{known_keys, gives_again, given_with, is_name, value_for, is_bad_length, session_named, session_in, session_for, is_normal, names_target, demands_authentication, declared_tag, declared_length, answer_pairs, text_refusals};
+
+use super::Session;
+use crate::status::Status;
+use iscsi_login::{Answered, NegKey, Session as SessionType, Stage, declares_well, result};
+use iscsi_text::{Text, Value};
+
+/// The most bytes of an answer (own rule).
+const LONGEST_ANSWER: usize = 8192;
+
+impl Session {
+    // Why a text is refused that has this answer, if it is.
+    pub(super) fn text_refusal(&self, text: &Text<'_>, answer: &[u8]) -> Option<Status>
+        requires { answer.now ≡ canonical_text (answer_pairs self.now text.now) }
+        ensures refusal { result ≡ first_of (text_refusals self.now text.now) }
+        ensures class { IfSome result (λ why. 0 < why.class) }
+        ensures declares { result ≡ None → DeclaresWell text.now }
+        ensures short { result ≡ None → length answer.now ≤ 8192 }
+    {
+        if gives_again(&self.given, text) {
+            return Some(Status::INITIATOR_ERROR);
+        }
+        if self.lacks_initiator(text) {
+            return Some(Status::MISSING_PARAMETER);
+        }
+        if self.has_other_type(text) {
+            return Some(Status::UNSUPPORTED_SESSION_TYPE);
+        }
+        if self.lacks_target(text) {
+            return Some(Status::MISSING_PARAMETER);
+        }
+        if self.names_other_target(text) {
+            return Some(Status::TARGET_NOT_FOUND);
+        }
+        if self.demands_authentication(text) {
+            return Some(Status::AUTHENTICATION_FAILURE);
+        }
+        if has_bad_length(text) {
+            return Some(Status::INITIATOR_ERROR);
+        }
+        if answer.len() > LONGEST_ANSWER {
+            return Some(Status::OUT_OF_RESOURCES);
+        }
+        None
+    }
+
+    // Whether the first text has no initiator's name.
+    fn lacks_initiator(&self, text: &Text<'_>) -> bool
+        ensures { result ≡ (not self.now.has_text
+            && not (is_name (value_for (codes "InitiatorName") text.now))) }
+    {
+        !self.has_text && !has_initiator_name(text)
+    }
+
+    // Whether the first text names a session of neither type.
+    fn has_other_type(&self, text: &Text<'_>) -> bool
+        ensures { result ≡ (not self.now.has_text && is_none (session_in text.now)) }
+    {
+        !self.has_text && session_in(text).is_none()
+    }
+
+    // Whether the text is the first one of a normal session.
+    fn wants_target(&self, text: &Text<'_>) -> bool
+        ensures { result ≡ (not self.now.has_text && is_normal (session_for self.now text.now)) }
+    {
+        !self.has_text && matches!(self.session_for(text), SessionType::Normal)
+    }
+
+    // Whether the first text of a normal session has no target's name.
+    fn lacks_target(&self, text: &Text<'_>) -> bool
+        ensures { result ≡ ((not self.now.has_text && is_normal (session_for self.now text.now))
+            && is_none (value_for (codes "TargetName") text.now)) }
+    {
+        self.wants_target(text) && value_of(text, b"TargetName").is_none()
+    }
+
+    // Whether the first text of a normal session has another target's name.
+    fn names_other_target(&self, text: &Text<'_>) -> bool
+        ensures { result ≡ ((not self.now.has_text && is_normal (session_for self.now text.now))
+            && not (names_target self.now.settings.name
+            (value_for (codes "TargetName") text.now))) }
+    {
+        self.wants_target(text) && !names_target(self.config.name(), text)
+    }
+
+    // The type of session once this text is whole: the first text settles it.
+    pub(super) fn session_for(&self, text: &Text<'_>) -> SessionType
+        ensures { result ≡ session_for self.now text.now }
+    {
+        if self.has_text {
+            self.session_type
+        } else {
+            session_in(text).unwrap_or(SessionType::Normal)
+        }
+    }
+
+    // The tag of the portal group, which goes with the first text of a normal session.
+    pub(super) fn declared_tag(&self, text: &Text<'_>) -> Option<u16>
+        ensures { result ≡ declared_tag self.now text.now }
+    {
+        if self.wants_target(text) {
+            Some(self.config.group())
+        } else {
+            None
+        }
+    }
+
+    // What the target takes in one segment, which goes with the first text of the operational
+    // stage.
+    pub(super) fn declared_length(&self) -> Option<u32>
+        ensures { result ≡ declared_length self.now }
+    {
+        if matches!(self.stage, Stage::Operational) && !self.has_operational_text {
+            Some(self.config.preferences().max_recv)
+        } else {
+            None
+        }
+    }
+
+    // Whether AuthMethod is offered, and without `None`.
+    fn demands_authentication(&self, text: &Text<'_>) -> bool
+        ensures { result ≡ demands_authentication self.now.settings.preferences
+            (value_for (codes "AuthMethod") text.now) }
+    {
+        match value_of(text, b"AuthMethod") {
+            Some(offer) => matches!(
+                result(NegKey::AuthMethod, &offer, self.config.preferences()),
+                Answered::Reject
+            ),
+            None => false,
+        }
+    }
+}
+
+// The value that a text has of a key, if it has one.
+#[tactic(auto, using(crate::proofs::LoginTexts::first_is))]
+fn value_of<'a>(text: &Text<'a>, key: &[u8]) -> Option<Value<'a>>
+    ensures { option_map typed result ≡ value_for key.now text.now }
+{
+    text.get(key, 0)
+}
+
+// Whether the text has the key.
+#[tactic(auto, using(crate::proofs::LoginTexts::has_key_is))]
+fn has_key(text: &Text<'_>, key: &[u8]) -> bool
+    ensures { result ≡ has_key key.now text.now }
+{
+    value_of(text, key).is_some()
+}
+
+// Whether a length is declared that may not be.
+fn has_bad_length(text: &Text<'_>) -> bool
+    ensures value { result ≡ is_bad_length (value_for max_recv_key text.now) }
+    ensures declares { result ≡ false → DeclaresWell text.now }
+{
+    !declares_well(text)
+}
+
+// The known key at this place: those with numbers, booleans, lists and plain values, each in the
+// order of the standard; none past the 27 that there are.
+fn known_key(n: usize) -> &'static [u8]
+    ensures { result.now ≡ slice_index_or known_keys n [] }
+{
+    match n {
+        0 => b"MaxConnections",
+        1 => b"MaxBurstLength",
+        2 => b"FirstBurstLength",
+        3 => b"DefaultTime2Wait",
+        4 => b"DefaultTime2Retain",
+        5 => b"MaxOutstandingR2T",
+        6 => b"ErrorRecoveryLevel",
+        7 => b"MaxRecvDataSegmentLength",
+        8 => b"TargetPortalGroupTag",
+        9 => b"InitialR2T",
+        10 => b"ImmediateData",
+        11 => b"DataPDUInOrder",
+        12 => b"DataSequenceInOrder",
+        13 => b"IFMarker",
+        14 => b"OFMarker",
+        15 => b"HeaderDigest",
+        16 => b"DataDigest",
+        17 => b"AuthMethod",
+        18 => b"InitiatorName",
+        19 => b"TargetName",
+        20 => b"InitiatorAlias",
+        21 => b"TargetAlias",
+        22 => b"TargetAddress",
+        23 => b"SessionType",
+        24 => b"IFMarkInt",
+        25 => b"OFMarkInt",
+        26 => b"SendTargets",
+        _ => b"",
+    }
+}
+
+// Whether a known key that may stand once was given before, and is given again.
+fn gives_again(given: &[bool; 27], text: &Text<'_>) -> bool
+    ensures { result ≡ gives_again known_keys given.now text.now }
+{
+    for n in 0..27 {
+        if is_repeated(given[n], text, known_key(n)) {
+            return true;
+        }
+    }
+    false
+}
+
+// Whether a key may stand once, was given before and is given again.
+fn is_repeated(was: bool, text: &Text<'_>, key: &[u8]) -> bool
+    ensures { result ≡ (was && (not (bytes_eq key.now target_address)
+        && has_key key.now text.now)) }
+{
+    was && (key != b"TargetAddress".as_slice() && has_key(text, key))
+}
+
+// Of each known key, whether it was given before or is given now.
+pub fn given_with(given: &[bool; 27], text: &Text<'_>) -> [bool; 27]
+    ensures { result ≡ given_with known_keys given.now text.now }
+{
+    let mut now = *given;
+    for n in 0..27 {
+        now[n] = is_given(given[n], text, known_key(n));
+    }
+    now
+}
+
+// Whether a key was given before or is given now.
+fn is_given(was: bool, text: &Text<'_>, key: &[u8]) -> bool
+    ensures { result ≡ (was || has_key key.now text.now) }
+{
+    was || has_key(text, key)
+}
+
+// Whether there is an initiator's name that isn't empty.
+fn has_initiator_name(text: &Text<'_>) -> bool
+    ensures { result ≡ is_name (value_for (codes "InitiatorName") text.now) }
+{
+    match value_of(text, b"InitiatorName") {
+        Some(Value::Plain(name)) => !name.is_empty(),
+        _ => false,
+    }
+}
+
+// The type of session that a text names, which is normal where it names none.
+fn session_in(text: &Text<'_>) -> Option<SessionType>
+    ensures { result ≡ session_in text.now }
+{
+    match value_of(text, b"SessionType") {
+        None => Some(SessionType::Normal),
+        Some(Value::Plain(name)) => session_named(name),
+        Some(_) => None,
+    }
+}
+
+// The type of session of this name.
+fn session_named(name: &[u8]) -> Option<SessionType>
+    ensures { result ≡ session_named (Some (Plain name.now)) }
+{
+    if name == b"Normal".as_slice() {
+        Some(SessionType::Normal)
+    } else if name == b"Discovery".as_slice() {
+        Some(SessionType::Discovery)
+    } else {
+        None
+    }
+}
+
+// Whether the text names the target of this name.
+fn names_target(name: &[u8], text: &Text<'_>) -> bool
+    ensures { result ≡ names_target name.now (value_for (codes "TargetName") text.now) }
+{
+    match value_of(text, b"TargetName") {
+        Some(Value::Plain(other)) => name == other,
+        _ => false,
+    }
+}

@@ -1,0 +1,129 @@
+//! Requests with one answer: pings, task management, logouts.
+
+ghost use Rattle.std.specs.Prelude.{◌≡◌, ◌<◌, ◌^◌, length, false};
+ghost use Rattle.iscsi_target_session.specs.Requests.{nop_out, task_request, logout_request};
+ghost use Rattle.iscsi_target_session.specs.Requests.{request_answered};
+ghost use Rattle.iscsi_target_session.specs.Replies.{Does};
+
+use super::Session;
+use crate::received::Received;
+use iscsi_pdu::rule::{KIND_NOT_DUE, LOGOUT_REASON};
+use iscsi_pdu::{
+    Head, LogoutRequest, LogoutResponse, NopIn, NopOut, RESERVED_TAG, TaskRequest, TaskResponse,
+};
+use std::alloc::AllocError;
+
+impl Session {
+    /// Answers a request that is no command, while so many commands wait. Answers the rule that is
+    /// broken, if one is (RFC 7143, section 4.2.4).
+    pub fn answer_request(
+        &mut self,
+        waiting: u32,
+        received: &Received<'_>,
+        out: &mut Vec<u8>,
+    ) -> Result<Option<u8>, AllocError>
+        ensures { Does (request_answered self.old waiting received.now received.now.head) result
+            self.old self.new out.old.items out.new.items }
+    {
+        let bytes = received.pdu.bytes;
+        match &received.pdu.head {
+            Head::NopOut(head) => self.nop_out(waiting, head, bytes, out),
+            Head::TaskRequest(head) => self.task_request(waiting, head, out),
+            Head::TextRequest(head) => self.text_request(waiting, head, bytes, received, out),
+            Head::LogoutRequest(head) => self.logout_request(waiting, head, received, out),
+            Head::LoginRequest(_)
+            | Head::ScsiCommand(_)
+            | Head::DataOut(_)
+            | Head::NopIn(_)
+            | Head::ScsiResponse(_)
+            | Head::TaskResponse(_)
+            | Head::LoginResponse(_)
+            | Head::TextResponse(_)
+            | Head::DataIn(_)
+            | Head::LogoutResponse(_)
+            | Head::ReadyToTransfer(_)
+            | Head::AsyncMessage(_)
+            | Head::Reject(_) => self.breach(waiting, KIND_NOT_DUE, received, out),
+        }
+    }
+
+    // A ping, answered with as many of its bytes as the initiator takes. Without a tag it asks for
+    // no answer (RFC 7143, sections 11.18 and 11.19).
+    fn nop_out(
+        &mut self,
+        waiting: u32,
+        request: &NopOut,
+        bytes: &[u8],
+        out: &mut Vec<u8>,
+    ) -> Result<Option<u8>, AllocError>
+        requires { length bytes.now < 2 ^ 24 }
+        ensures { Does (nop_out self.old waiting request.now bytes.now) result
+            self.old self.new out.old.items out.new.items }
+    {
+        if request.initiator_task_tag == RESERVED_TAG {
+            return Ok(None);
+        }
+        let numbers = self.numbers(waiting);
+        let head = Head::NopIn(NopIn {
+            lun: None,
+            initiator_task_tag: request.initiator_task_tag,
+            target_transfer_tag: RESERVED_TAG,
+            stat_sn: numbers.stat_sn,
+            exp_cmd_sn: numbers.exp_cmd_sn,
+            max_cmd_sn: numbers.max_cmd_sn,
+        });
+        let len = bytes.len().min(self.held.initiator_max_recv as usize);
+        self.send_response(&head, &bytes[..len], out)
+    }
+
+    // No task management function is supported (RFC 7143, section 11.6.1).
+    fn task_request(
+        &mut self,
+        waiting: u32,
+        request: &TaskRequest,
+        out: &mut Vec<u8>,
+    ) -> Result<Option<u8>, AllocError>
+        ensures { Does (task_request self.old waiting request.now) result
+            self.old self.new out.old.items out.new.items }
+    {
+        let numbers = self.numbers(waiting);
+        let head = Head::TaskResponse(TaskResponse {
+            response: 5,
+            initiator_task_tag: request.initiator_task_tag,
+            stat_sn: numbers.stat_sn,
+            exp_cmd_sn: numbers.exp_cmd_sn,
+            max_cmd_sn: numbers.max_cmd_sn,
+        });
+        self.send_response(&head, &[], out)
+    }
+
+    // A session or its connection may be closed (RFC 7143, sections 11.14 and 11.15). Answers the
+    // rule that is broken, if one is.
+    fn logout_request(
+        &mut self,
+        waiting: u32,
+        request: &LogoutRequest,
+        received: &Received<'_>,
+        out: &mut Vec<u8>,
+    ) -> Result<Option<u8>, AllocError>
+        ensures { Does (logout_request self.old waiting received.now request.now) result
+            self.old self.new out.old.items out.new.items }
+    {
+        if request.reason > 1 {
+            return self.breach(waiting, LOGOUT_REASON, received, out);
+        }
+        let numbers = self.numbers(waiting);
+        let head = Head::LogoutResponse(LogoutResponse {
+            response: 0,
+            initiator_task_tag: request.initiator_task_tag,
+            stat_sn: numbers.stat_sn,
+            exp_cmd_sn: numbers.exp_cmd_sn,
+            max_cmd_sn: numbers.max_cmd_sn,
+            time2wait: 0,
+            time2retain: 0,
+        });
+        self.send_response(&head, &[], out)?;
+        self.close();
+        Ok(None)
+    }
+}
