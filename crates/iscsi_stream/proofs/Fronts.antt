@@ -1,5 +1,5 @@
 -- PDUs that were heard of one stream: those that are fewer are the front of the others.
-use Rattle.std.proofs.Common.{◌≡◌, ◌⊎◌, inl, inr, ◌<◌, ◌≤◌, ℕ, Bool, true, false, List, [], ◌∷◌, ◌++◌, length, take, min, Some, refl, sym, ap, subst, ◌∙◌, arith, append_assoc}
+use Rattle.std.proofs.Common.{◌≡◌, ◌⊎◌, inl, inr, ◌<◌, ◌≤◌, ℕ, Bool, true, false, List, [], ◌∷◌, ◌++◌, length, take, min, max, Some, refl, sym, ap, subst, ◌∙◌, arith, append_assoc}
 use Rattle.std.proofs.lemmas.List.{append-nil, append_cancel_left}
 use Rattle.iscsi_pdu.specs.declared.head.Head.{Head}
 use Rattle.iscsi_pdu.specs.Meaning.{IsHeader, fault_of}
@@ -9,7 +9,7 @@ use Rattle.iscsi_stream.specs.declared.fault.StreamFault.TheVariants as faults
 use Rattle.iscsi_stream.specs.declared.logins.Logins.{Logins}
 use Rattle.iscsi_stream.specs.Segment.{no_login, continues, after, segment_of}
 use Rattle.iscsi_stream.specs.Stream.{Message, ReadsAs, NoPdu, after_all}
-use Rattle.iscsi_stream.specs.Framing.{Framing, HasTaken, FeedFails, IsBegun, is_ready, is_whole, length_at, settled, last_place}
+use Rattle.iscsi_stream.specs.Framing.{Framing, HasTaken, FeedFails, IsBegun, is_ready, is_whole, length_at, begun_len, longest_of, settled, last_place}
 use Rattle.iscsi_stream.proofs.Heads.{bad_header}
 use Rattle.iscsi_stream.proofs.Settled.{settled-short, length-settled, is_whole-settled}
 use Rattle.iscsi_stream.proofs.Ready.{apart, unready_of}
@@ -62,11 +62,13 @@ pub record Course (R : Type 0) : Type 0 where
   pub over : R → Bool
   pub stays : (first more : List Message) → over (to first) ≡ true → to (first ++ more) ≡ to first
 
--- What was heard of a stream: the PDUs, where the next one stands, and the bytes from there on.
+-- What was heard of a stream: the PDUs, the longest of their segments, where the next one stands, and the bytes from there
+-- on.
 pub record Sight : Type 0 where
   pub limit : ℕ
   pub place : ℕ
   pub heard : List Message
+  pub longest : ℕ
   pub rest : List ℕ
 
 -- PDUs were heard of a stream, up to an end, or all that it has.
@@ -76,6 +78,7 @@ pub record HearsUpTo {R : Type 0} (c : Course R) (limit : ℕ) (stream : List �
   pub limit_is : x.limit ≡ limit
   pub place_is : x.place ≡ min (length given) last_place
   pub heard_is : x.heard ≡ before ++ more
+  pub longest_is : x.longest ≡ longest_of (before ++ more) given
   pub reads : ReadsAs limit no_login given (before ++ more)
   pub end : (c.over (c.to more) ≡ true) ⊎ NoPdu limit x.rest
 
@@ -106,6 +109,7 @@ all_alike c limit stream before ms ns x y a b none none' =
         limit = (b.limit_is ∙ sym a.limit_is) i;
         place = (b.place_is ∙ ap (λ (z : List ℕ). min (length z) last_place) (sym same.1) ∙ sym a.place_is) i;
         heard = (b.heard_is ∙ ap (λ (z : List Message). before ++ z) messages ∙ sym a.heard_is) i;
+        longest = (b.longest_is ∙ ap (λ (z : List Message). longest_of (before ++ z) b.given) messages ∙ ap (longest_of (before ++ ms)) (sym same.1) ∙ sym a.longest_is) i;
         rest = rest i;
       };
     }
@@ -185,7 +189,7 @@ begun_or_refused x faults.Failed begun r = absurd r
 
 -- what it came to, before these bytes
 pub sight : (s : List ℕ) (ms : List Message) (v : Framing) → HasTaken s ms v → List ℕ → Sight
-sight s ms v t behind = record { limit = v.limit; place = v.place; heard = ms; rest = t.rest ++ behind }
+sight s ms v t behind = record { limit = v.limit; place = v.place; heard = ms; longest = longest_of ms t.given; rest = t.rest ++ behind }
 
 pub framer_hears : {R : Type 0} (c : Course R) (limit : ℕ) (stream s behind : List ℕ) (before more : List Message) (v : Framing) (t : HasTaken s (before ++ more) v)
     → v.limit ≡ limit → stream ≡ s ++ behind → (let x = sight s (before ++ more) v t behind in (c.over (c.to more) ≡ true) ⊎ NoPdu x.limit x.rest → HearsUpTo c limit stream before more x)
@@ -196,6 +200,7 @@ framer_hears c limit stream s behind before more v t is whole end = record {
   limit_is = is;
   place_is = t.place;
   heard_is = refl;
+  longest_is = refl;
   reads = subst (λ (n : ℕ). ReadsAs n no_login t.given (before ++ more)) is t.reads;
   end = subst (λ (n : ℕ). (c.over (c.to more) ≡ true) ⊎ NoPdu n (t.rest ++ behind)) is end;
 }
@@ -229,7 +234,7 @@ framer_refuses s ms v piece faults.Failed t none fails = absurd (apart fails t.l
 
 -- a framer that came to this
 pub framer : Sight → Framing
-framer x = record { limit = x.limit; place = x.place; logins = after_all no_login x.heard; held = settled x.rest; failed = false }
+framer x = record { limit = x.limit; place = x.place; logins = after_all no_login x.heard; held = settled x.rest; room = max x.longest (begun_len x.rest); failed = false }
 
 -- Nothing is wrong with the rest, no PDU stands there, and the framer has it all.
 pub record IsLeft (x : Sight) (v : Framing) : Type 0 where
@@ -245,5 +250,5 @@ framer_leaves s ms v behind t unready nil =
     record {
       begun = subst (IsBegun v.limit) all t.begun;
       none = subst (NoPdu v.limit) all (no_pdu_begun v.limit t.rest t.begun part);
-      is = λ i. record { limit = v.limit; place = v.place; logins = t.logins i; held = (t.held ∙ ap settled all) i; failed = t.live i };
+      is = λ i. record { limit = v.limit; place = v.place; logins = t.logins i; held = (t.held ∙ ap settled all) i; room = (t.room ∙ ap (λ (x : List ℕ). max (longest_of ms t.given) (begun_len x)) all) i; failed = t.live i };
     }

@@ -1,6 +1,6 @@
 -- What a framer's parts keep.
-use Rattle.std.proofs.Common.{◌≡◌, ℕ, ◌+◌, ◌-◌, ◌<◌, ◌≤◌, true, List, [], ◌++◌, length, take, drop, replicate, sym, ap, subst, ◌∙◌, arith, inl, inr, append_assoc, append-nil}
-use Rattle.std.proofs.lemmas.Bool.{cases_lt}
+use Rattle.std.proofs.Common.{◌≡◌, ℕ, ◌+◌, ◌-◌, ◌<◌, ◌≤◌, true, max, List, [], ◌++◌, length, take, drop, replicate, sym, ap, subst, ◌∙◌, arith, inl, inr, append_assoc, append-nil, refl}
+use Rattle.std.proofs.lemmas.Bool.{cases_lt, lt-ltb, le-ltb}
 use Rattle.std.proofs.lemmas.Bool.Decides.{nat_tests}
 use Rattle.std.proofs.lemmas.List.{length-append, length-take, length-drop, length-replicate, take-take, take_all, take_at, drop_at, take-append-drop, nil_from_length, drop-take}
 use Rattle.iscsi_pdu.specs.declared.head.Head.{Head}
@@ -8,7 +8,7 @@ use Rattle.iscsi_pdu.specs.Meaning.{IsHeader, padding}
 use Rattle.iscsi_stream.specs.declared.fault.StreamFault.{StreamFault}
 use Rattle.iscsi_stream.specs.declared.fault.StreamFault.TheVariants as faults
 use Rattle.iscsi_stream.specs.Stream.{pdu_len}
-use Rattle.iscsi_stream.specs.Framing.{length_at, content_len, settled, is_whole, IsBegun, ReachesHeader}
+use Rattle.iscsi_stream.specs.Framing.{length_at, content_len, settled, is_whole, begun_len, IsBegun, ReachesHeader}
 use Rattle.iscsi_stream.specs.Gathering.{IsBody, Gathers, FillsBody, HeaderFails, GatherFails}
 use Rattle.iscsi_stream.proofs.Heads.{length_at-same, header-length}
 use Rattle.iscsi_stream.proofs.Settled.{settled-short}
@@ -35,6 +35,29 @@ pub length_at-front : (header rest : List ℕ) (h : Head) (len : ℕ) → length
 length_at-front header rest h len size r =
     let front : take 48 (header ++ rest) ≡ take 48 header = take_at header rest 48 size ∙ sym (take_all 48 header (omega arith)) in
     length_at-same (header ++ rest) header front ∙ sym (header-length header h len r)
+
+-- ---- the length that a begun PDU says
+
+pub begun_len-short : (bytes : List ℕ) → length bytes < 48 → begun_len bytes ≡ 0
+unfolding begun_len
+begun_len-short bytes lt = rw (lt-ltb (length bytes) 48 lt) refl
+
+pub begun_len-long : (bytes : List ℕ) → 48 ≤ length bytes → begun_len bytes ≡ length_at bytes
+unfolding begun_len
+begun_len-long bytes le = rw (le-ltb (length bytes) 48 le) refl
+
+pub begun_len-body : (header rest : List ℕ) (h : Head) (len : ℕ) → length header ≡ 48 → IsHeader header h len → begun_len (header ++ rest) ≡ len
+begun_len-body header rest h len size r = begun_len-long (header ++ rest) (omega (arith, length-append header rest, size)) ∙ length_at-front header rest h len size r
+
+-- a header that isn't whole asks for no room
+pub room-short : (room : ℕ) (bytes : List ℕ) → length bytes < 48 → room ≡ max room (begun_len bytes)
+room-short room bytes lt = omega (arith, begun_len-short bytes lt)
+
+-- nor does a body that has room
+pub room-body : (room : ℕ) (header rest : List ℕ) (h : Head) (len : ℕ) → length header ≡ 48 → IsHeader header h len → len ≤ room → room ≡ max room (begun_len (header ++ rest))
+room-body room header rest h len size r le = omega (arith, begun_len-body header rest h len size r, le)
+
+-- ---- more of a body
 
 -- bytes behind a header, of which those past the segment are told as 0
 pub settled-body : (header rest : List ℕ) (h : Head) (len : ℕ) → length header ≡ 48 → IsHeader header h len
@@ -164,14 +187,14 @@ header_front header header_new filled piece n size size_new short full bound tak
       record { before = omega arith; reached = omega (arith, length-append old piece) },
     )
 
-pub header_fails : (e : StreamFault) (limit place : ℕ) (header held piece : List ℕ) → header ≡ take 48 (held ++ piece) → ReachesHeader held piece → HeaderFails header limit place e → GatherFails limit place held piece e
-header_fails faults.NoMemory limit place header held piece is reaches h =
+pub header_fails : (e : StreamFault) (limit place room : ℕ) (header held piece : List ℕ) → header ≡ take 48 (held ++ piece) → ReachesHeader held piece → HeaderFails header limit place room e → GatherFails limit place room held piece e
+header_fails faults.NoMemory limit place room header held piece is reaches h =
     (h.0, h.1, record { reaches = reaches; header = subst (λ (b : List ℕ). IsHeader b h.0 h.1) is h.2 }, h.3, h.4)
-header_fails (faults.Head f p) limit place header held piece is reaches h = (reaches, rw (← is) h.0, h.1)
-header_fails (faults.OverLimit p) limit place header held piece is reaches h =
+header_fails (faults.Head f p) limit place room header held piece is reaches h = (reaches, rw (← is) h.0, h.1)
+header_fails (faults.OverLimit p) limit place room header held piece is reaches h =
     ((h.0.0, h.0.1, record { reaches = reaches; header = subst (λ (b : List ℕ). IsHeader b h.0.0 h.0.1) is h.0.2 }, h.0.3), h.1)
-header_fails (faults.Truncated p) limit place header held piece is reaches h = absurd h
-header_fails faults.Failed limit place header held piece is reaches h = absurd h
+header_fails (faults.Truncated p) limit place room header held piece is reaches h = absurd h
+header_fails faults.Failed limit place room header held piece is reaches h = absurd h
 
 -- a header that becomes whole, and then bytes of its body
 pub gathers_both : (limit : ℕ) (header header_new : List ℕ) (filled : ℕ) (piece rest : List ℕ) (n : ℕ) (h : Head) (len room m : ℕ) (segment_new : List ℕ) (room_new padded_new : ℕ)

@@ -87,6 +87,6 @@ pub unready_if : (v : Framing) → (IsTrue (is_ready v) → (let f : Bool = fals
 unready_if v f = false_if (is_ready v) (λ e. none_not (f e))
 
 -- what is left of a framer that gives a PDU up
-pub given_up-is : (v : Framing) (limit place : ℕ) (logins : Logins) (h : Head) → limit ≡ v.limit → place ≡ min (v.place + length v.held) last_place → logins ≡ after v.logins h → v.failed ≡ false
-    → (let w : Framing = record { limit = limit; place = place; logins = logins; held = []; failed = false } in w ≡ given_up v h)
-given_up-is v limit place logins h a b c d = rw (a, b, c, d) refl
+pub given_up-is : (v : Framing) (limit place : ℕ) (logins : Logins) (room : ℕ) (h : Head) → limit ≡ v.limit → place ≡ min (v.place + length v.held) last_place → logins ≡ after v.logins h → room ≡ v.room → v.failed ≡ false
+    → (let w : Framing = record { limit = limit; place = place; logins = logins; held = []; room = room; failed = false } in w ≡ given_up v h)
+given_up-is v limit place logins room h a b c d e = rw (a, b, c, d, e) refl

@@ -1,21 +1,77 @@
 -- A framer that takes bytes and gives PDUs up, whichever pieces the bytes came in.
-use Rattle.std.proofs.Common.{◌≡◌, ℕ, ◌≤◌, Bool, false, List, [], ◌∷◌, ◌++◌, length, take, drop, refl, sym, ap, subst, ◌∙◌, arith, append-nil, append_assoc}
-use Rattle.std.proofs.lemmas.List.{length-append, take-append-drop}
+use Rattle.std.proofs.Common.{◌≡◌, ℕ, ◌≤◌, Bool, false, List, [], ◌∷◌, ◌++◌, length, take, drop, refl, sym, ap, subst, ◌∙◌, arith, inl, inr, max, append-nil, append_assoc}
+use Rattle.std.proofs.lemmas.Bool.{cases_lt}
+use Rattle.std.proofs.lemmas.List.{length-append, take-append-drop, take-append-le, drop_at}
 use Rattle.iscsi_pdu.specs.declared.head.Head.{Head}
 use Rattle.iscsi_pdu.specs.Meaning.{Means}
 use Rattle.iscsi_stream.specs.declared.logins.Logins.{Logins}
 use Rattle.iscsi_stream.specs.Segment.{no_login, continues, after, segment_of}
-use Rattle.iscsi_stream.specs.Stream.{Message, ReadsAs, after_all, Splits}
-use Rattle.iscsi_stream.specs.Framing.{Framing, opening, settled, is_whole, IsBegun, Takes, HasTaken, Moves, given_up, message_of}
-use Rattle.iscsi_stream.proofs.Heads.{means-length}
-use Rattle.iscsi_stream.proofs.Settled.{settled-short, settled-append, length-settled, is_whole-settled, IsBegun-from_settled, Means-from_settled}
+use Rattle.iscsi_stream.specs.Stream.{Message, ReadsAs, after_all, Splits, pdu_len}
+use Rattle.iscsi_stream.specs.Framing.{Framing, opening, settled, is_whole, length_at, begun_len, longest_of, IsBegun, Takes, HasTaken, Moves, given_up, message_of}
+use Rattle.iscsi_stream.proofs.Heads.{length_at-same, means-length}
+use Rattle.iscsi_stream.proofs.Gathered.{begun_len-short, begun_len-long}
+use Rattle.iscsi_stream.proofs.Settled.{settled-short, settled-append, length-settled, length_at-settled, is_whole-settled, IsBegun-from_settled, Means-from_settled}
 use Rattle.iscsi_stream.proofs.Meaning.{reads_one_more, after_all-snoc, no_pdu_begun}
 
 settled-nil : settled [] ≡ []
 settled-nil = settled-short [] (omega arith)
 
+-- ---- the room of its buffer
+
+-- the padding says no other length
+begun_len-settled : (bytes : List ℕ) → begun_len (settled bytes) ≡ begun_len bytes
+begun_len-settled bytes =
+    elim (cases_lt (length bytes) 48) [
+      | inl lt ↦ begun_len-short (settled bytes) (omega (arith, length-settled bytes)) ∙ sym (begun_len-short bytes lt)
+      | inr ge ↦ begun_len-long (settled bytes) (omega (arith, length-settled bytes)) ∙ length_at-settled bytes ∙ sym (begun_len-long bytes ge)
+    ]
+
+-- the length that a front says is that of the whole
+length_at-front : (front rest : List ℕ) → 48 ≤ length front → length_at (front ++ rest) ≡ length_at front
+length_at-front front rest long = length_at-same (front ++ rest) front (take-append-le 48 front rest long)
+
+-- more bytes say no less
+begun_len-more : (bytes more : List ℕ) → begun_len bytes ≤ begun_len (bytes ++ more)
+begun_len-more bytes more =
+    elim (cases_lt (length bytes) 48) [
+      | inl lt ↦ omega (arith, begun_len-short bytes lt)
+      | inr ge ↦
+          omega (arith, begun_len-long bytes ge, begun_len-long (bytes ++ more) (omega (arith, length-append bytes more)), length_at-front bytes more ge)
+    ]
+
+-- room for a rest and then for more of it
+room-more : (room longest : ℕ) (held rest more : List ℕ) → room ≡ max longest (begun_len rest) → settled (held ++ more) ≡ settled (rest ++ more)
+    → max room (begun_len (settled (held ++ more))) ≡ max longest (begun_len (rest ++ more))
+room-more room longest held rest more is same =
+    omega (arith, is, ap begun_len same, begun_len-settled (rest ++ more), begun_len-more rest more)
+
+-- one more PDU
+longest-snoc : (limit : ℕ) (logins : Logins) (given : List ℕ) (ms : List Message) (rest : List ℕ) (m : Message) → ReadsAs limit logins given ms
+    → longest_of (ms ++ m ∷ []) (given ++ rest) ≡ max (longest_of ms given) (length_at rest)
+unfolding ReadsAs longest_of
+longest-snoc limit logins given [] rest m reads =
+    let same : length_at (given ++ rest) ≡ length_at rest = ap (λ (x : List ℕ). length_at (x ++ rest)) reads in
+    omega (arith, same)
+longest-snoc limit logins given (k ∷ ms) rest m reads =
+    let b = reads.3 in
+    let bytes = reads.0 in
+    let long : 48 ≤ length bytes = omega (arith, b.means.size) in
+    let n : length_at bytes ≡ length reads.1 = sym (means-length bytes k.head reads.1 b.means) in
+    let size : pdu_len (length_at bytes) ≡ length bytes = ap pdu_len n ∙ sym b.means.size in
+    let first : length_at given ≡ length_at bytes = ap length_at b.whole ∙ length_at-front bytes reads.2 long in
+    let whole : given ++ rest ≡ bytes ++ (reads.2 ++ rest) = ap (λ (x : List ℕ). x ++ rest) b.whole ∙ append_assoc bytes reads.2 rest in
+    let first' : length_at (given ++ rest) ≡ length_at bytes = ap length_at whole ∙ length_at-front bytes (reads.2 ++ rest) long in
+    let behind : drop (pdu_len (length_at given)) given ≡ reads.2 =
+    ap (λ (j : ℕ). drop (pdu_len j) given) first ∙ ap (λ (j : ℕ). drop j given) size ∙ ap (drop (length bytes)) b.whole ∙ drop_at bytes reads.2 (length bytes) refl in
+    let behind' : drop (pdu_len (length_at (given ++ rest))) (given ++ rest) ≡ reads.2 ++ rest =
+    ap (λ (j : ℕ). drop (pdu_len j) (given ++ rest)) first' ∙ ap (λ (j : ℕ). drop j (given ++ rest)) size ∙ ap (drop (length bytes)) whole ∙ drop_at bytes (reads.2 ++ rest) (length bytes) refl in
+    let more = longest-snoc limit (after logins k.head) reads.2 ms rest m reads.4 in
+    omega (arith, first, first', ap (longest_of ms) behind, ap (longest_of (ms ++ m ∷ [])) behind', more)
+
+-- ---- what it takes and gives up
+
 pub at_opening : (limit : ℕ) → HasTaken [] [] (opening limit)
-unfolding ReadsAs
+unfolding ReadsAs longest_of begun_len
 at_opening limit = record {
   given = [];
   rest = [];
@@ -24,6 +80,7 @@ at_opening limit = record {
   place = refl;
   logins = refl;
   held = sym settled-nil;
+  room = refl;
   begun = λ long. absurd (omega arith);
   live = refl;
 }
@@ -41,6 +98,7 @@ fed s ms v p n w h t =
       place = h.place;
       logins = h.logins;
       held = held;
+      room = room-more v.room (longest_of ms h.given) v.held h.rest q h.room held;
       begun = IsBegun-from_settled v.limit (h.rest ++ q) (subst (IsBegun v.limit) held (begun_at _ t.gathered));
       live = h.live;
     })
@@ -60,6 +118,7 @@ gave s ms v h d t m =
       place = omega (arith, t.place, held, length-append t.given t.rest);
       logins = ap (λ (x : Logins). after x h) t.logins ∙ sym (after_all-snoc no_login ms (message_of v h d));
       held = sym settled-nil;
+      room = omega (arith, t.room, begun_len-long t.rest (omega (arith, means.size)), longest-snoc v.limit no_login t.given ms t.rest (message_of v h d) t.reads, begun_len-short [] (omega arith));
       begun = λ long. absurd (omega arith);
       live = t.live;
     }

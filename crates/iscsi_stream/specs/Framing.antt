@@ -1,5 +1,5 @@
 -- What a framer holds, and what its calls do.
-use Rattle.std.specs.Prelude.{◌≡◌, ◌≤◌, ◌<◌, ℕ, ◌+◌, ◌-◌, ◌^◌, Bool, true, false, not, ◌&&◌, ◌==◌, nat_lt, List, [], ◌++◌, length, take, min, Some, replicate}
+use Rattle.std.specs.Prelude.{◌≡◌, ◌≤◌, ◌<◌, ℕ, ◌+◌, ◌-◌, ◌^◌, Bool, true, false, not, ◌&&◌, ◌==◌, nat_lt, if◌then◌else◌, List, [], ◌∷◌, ◌++◌, length, take, drop, min, max, Some, replicate}
 use Rattle.scsi_cdb.specs.Layout.{number_at}
 use Rattle.iscsi_pdu.specs.declared.head.Head.{Head}
 use Rattle.iscsi_pdu.specs.Meaning.{IsHeader, fault_of}
@@ -10,18 +10,19 @@ use Rattle.iscsi_stream.specs.Segment.{no_login, continues, after}
 use Rattle.iscsi_stream.specs.Stream.{pdu_len, Message, message, ReadsAs, after_all}
 
 -- A framer as its callers see it: the longest segment that it takes, the place of the PDU that is ready, begun or
--- next, what the login PDUs before it said, the bytes gathered of it, and whether there was a fault. Padding counts
--- as gathered, but its bytes are not kept: they stand as 0.
+-- next, what the login PDUs before it said, the bytes gathered of it, how long a segment its buffer has room for, and
+-- whether there was a fault. Padding counts as gathered, but its bytes are not kept: they stand as 0.
 pub record Framing : Type 0 where
   pub limit : ℕ
   pub place : ℕ
   pub logins : Logins
   pub held : List ℕ
+  pub room : ℕ
   pub failed : Bool
 
 -- a framer at the beginning of a stream
 abbrev pub opening : ℕ → Framing
-opening limit = record { limit = limit; place = 0; logins = no_login; held = []; failed = false }
+opening limit = record { limit = limit; place = 0; logins = no_login; held = []; room = 0; failed = false }
 
 -- the length of the segment, as bytes 5 to 7 say it
 abbrev pub length_at : List ℕ → ℕ
@@ -38,6 +39,14 @@ settled bytes = take (content_len bytes) bytes ++ replicate (length bytes - cont
 -- the bytes are as many as their header says
 unfoldable pub is_whole : List ℕ → Bool
 is_whole bytes = not (nat_lt (length bytes) 48) && (length bytes == pdu_len (length_at bytes))
+
+-- the length of the segment of a PDU that is begun, where its header is whole
+unfoldable pub begun_len : List ℕ → ℕ
+begun_len bytes = if nat_lt (length bytes) 48 then 0 else length_at bytes
+
+-- these bytes are gathered, and the buffer has room for their segment
+abbrev pub holding : Framing → List ℕ → Framing
+holding v bytes = record v { held = bytes; room = max v.room (begun_len bytes) }
 
 -- The bytes are a header within the limit, and as much of its segment and padding as has come.
 pub record IsGood (limit : ℕ) (bytes : List ℕ) (head : Head) : Type 0 where
@@ -60,7 +69,7 @@ last_place = 2 ^ 64 - 1
 pub record Takes (old : Framing) (piece : List ℕ) (n : ℕ) (new : Framing) : Type 0 where
   pub live : old.failed ≡ false
   pub bound : n ≤ length piece
-  pub gathered : new ≡ record old { held = settled (old.held ++ take n piece) }
+  pub gathered : new ≡ holding old (settled (old.held ++ take n piece))
   pub begun : IsBegun new.limit new.held
   pub stops : n < length piece → is_whole new.held ≡ true
 
@@ -74,9 +83,10 @@ pub record Completes (held piece : List ℕ) (head : Head) (len : ℕ) : Type 0 
   pub reaches : ReachesHeader held piece
   pub header : IsHeader (take 48 (held ++ piece)) head len
 
--- When feed answers each fault: want of memory where a header is whole, for its segment alone.
+-- When feed answers each fault: want of memory where a header is whole, for its segment alone, and where the buffer has no
+-- room for it.
 abbrev pub FeedFails : Framing → List ℕ → StreamFault → Type 0
-FeedFails old piece faults.NoMemory = (old.failed ≡ false) × ((head : Head) × (len : ℕ) × Completes old.held piece head len × (0 < len) × (len ≤ old.limit))
+FeedFails old piece faults.NoMemory = (old.failed ≡ false) × ((head : Head) × (len : ℕ) × Completes old.held piece head len × (old.room < len) × (len ≤ old.limit))
 FeedFails old piece (faults.Head fault place) = (old.failed ≡ false) × ReachesHeader old.held piece × (fault_of (take 48 (old.held ++ piece)) ≡ Some fault) × (place ≡ old.place)
 FeedFails old piece (faults.OverLimit place) = (old.failed ≡ false) × ((head : Head) × (len : ℕ) × Completes old.held piece head len × (old.limit < len)) × (place ≡ old.place)
 FeedFails old piece (faults.Truncated place) = ⊥
@@ -102,6 +112,11 @@ given_up v head = record v { place = min (v.place + length v.held) last_place; l
 abbrev pub message_of : Framing → Head → List ℕ → Message
 message_of v head segment = message (continues v.logins head) head segment
 
+-- the longest segment of the PDUs of these meanings that begin the bytes
+unfoldable pub longest_of : List Message → List ℕ → ℕ
+longest_of [] bytes = 0
+longest_of (m ∷ ms) bytes = max (length_at bytes) (longest_of ms (drop (pdu_len (length_at bytes)) bytes))
+
 -- A framer that has taken these bytes of a stream and given up PDUs of these meanings, whichever pieces the bytes came in.
 pub record HasTaken (stream : List ℕ) (ms : List Message) (v : Framing) : Type 0 where
   pub given : List ℕ
@@ -111,6 +126,7 @@ pub record HasTaken (stream : List ℕ) (ms : List Message) (v : Framing) : Type
   pub place : v.place ≡ min (length given) last_place
   pub logins : v.logins ≡ after_all no_login ms
   pub held : v.held ≡ settled rest
+  pub room : v.room ≡ max (longest_of ms given) (begun_len rest)
   pub begun : IsBegun v.limit rest
   pub live : v.failed ≡ false
 

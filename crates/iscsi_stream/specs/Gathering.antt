@@ -23,6 +23,10 @@ pub record IsBody (limit : ℕ) (header segment : List ℕ) (room : ℕ) (head :
   pub no_more_padding : padded ≤ padding len
   pub order : 0 < padded → length segment ≡ len
 
+-- a buffer of this capacity has room for a segment within the limit
+abbrev pub HasRoom : ℕ → ℕ → ℕ → Type 0
+HasRoom limit capacity room = (room ≤ limit) × (room ≤ capacity)
+
 -- this holds of what a framer keeps
 abbrev pub IsKept : ℕ → List ℕ → List ℕ → ℕ → Stage → Type 0
 IsKept limit header segment room (Header filled) = (length header ≡ 48) × (filled < 48) × (segment ≡ [])
@@ -48,17 +52,17 @@ pub record FillsBody (len : ℕ) (segment : List ℕ) (padded : ℕ) (piece : Li
   pub stops : n < length piece → (length segment_new ≡ len) × (padded_new ≡ padding len)
 
 -- when a whole header is refused
-abbrev pub HeaderFails : List ℕ → ℕ → ℕ → StreamFault → Type 0
-HeaderFails header limit place faults.NoMemory = (head : Head) × (len : ℕ) × IsHeader header head len × (0 < len) × (len ≤ limit)
-HeaderFails header limit place (faults.Head fault at) = (fault_of header ≡ Some fault) × (at ≡ place)
-HeaderFails header limit place (faults.OverLimit at) = ((head : Head) × (len : ℕ) × IsHeader header head len × (limit < len)) × (at ≡ place)
-HeaderFails header limit place (faults.Truncated at) = ⊥
-HeaderFails header limit place faults.Failed = ⊥
+abbrev pub HeaderFails : List ℕ → ℕ → ℕ → ℕ → StreamFault → Type 0
+HeaderFails header limit place room faults.NoMemory = (head : Head) × (len : ℕ) × IsHeader header head len × (room < len) × (len ≤ limit)
+HeaderFails header limit place room (faults.Head fault at) = (fault_of header ≡ Some fault) × (at ≡ place)
+HeaderFails header limit place room (faults.OverLimit at) = ((head : Head) × (len : ℕ) × IsHeader header head len × (limit < len)) × (at ≡ place)
+HeaderFails header limit place room (faults.Truncated at) = ⊥
+HeaderFails header limit place room faults.Failed = ⊥
 
 -- when bytes of a piece are refused
-abbrev pub GatherFails : ℕ → ℕ → List ℕ → List ℕ → StreamFault → Type 0
-GatherFails limit place held piece faults.NoMemory = (head : Head) × (len : ℕ) × Completes held piece head len × (0 < len) × (len ≤ limit)
-GatherFails limit place held piece (faults.Head fault at) = ReachesHeader held piece × (fault_of (take 48 (held ++ piece)) ≡ Some fault) × (at ≡ place)
-GatherFails limit place held piece (faults.OverLimit at) = ((head : Head) × (len : ℕ) × Completes held piece head len × (limit < len)) × (at ≡ place)
-GatherFails limit place held piece (faults.Truncated at) = ⊥
-GatherFails limit place held piece faults.Failed = ⊥
+abbrev pub GatherFails : ℕ → ℕ → ℕ → List ℕ → List ℕ → StreamFault → Type 0
+GatherFails limit place room held piece faults.NoMemory = (head : Head) × (len : ℕ) × Completes held piece head len × (room < len) × (len ≤ limit)
+GatherFails limit place room held piece (faults.Head fault at) = ReachesHeader held piece × (fault_of (take 48 (held ++ piece)) ≡ Some fault) × (at ≡ place)
+GatherFails limit place room held piece (faults.OverLimit at) = ((head : Head) × (len : ℕ) × Completes held piece head len × (limit < len)) × (at ≡ place)
+GatherFails limit place room held piece (faults.Truncated at) = ⊥
+GatherFails limit place room held piece faults.Failed = ⊥

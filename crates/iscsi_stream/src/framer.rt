@@ -7,21 +7,21 @@ ghost use Rattle.iscsi_stream.specs.Segment.{continues};
 ghost use Rattle.iscsi_stream.specs.Framing.{opening, is_ready, Takes, FeedFails, stopped, FinishFails, given_up};
 
 use crate::fault::StreamFault;
-use crate::gathering::{HEADER, Stage, gather};
+use crate::gathering::{Buffer, HEADER, Stage, gather};
 use crate::logins::Logins;
 use iscsi_pdu::{Pdu, pad};
 use std::alloc::Global;
 use std::marker::Model;
 
 /// Gathers the PDUs of a stream, one at a time, from pieces of any length. It has one buffer, which is kept from PDU to
-/// PDU: a segment no longer than an earlier one asks for no memory.
+/// PDU: a segment no longer than an earlier one asks for no memory, and a longer one for its own length.
 #[derive(Drop)]
 pub struct Framer {
     limit: u32,
     place: u64,
     logins: Logins,
     header: [u8; 48],
-    segment: Vec<u8>,
+    buffer: Buffer,
     stage: Stage,
     failed: bool,
 }
@@ -30,13 +30,13 @@ impl Model for Framer {
     ghost use Rattle.std.specs.Prelude.{◌≡◌, ◌<◌, ◌^◌, [], false, if◌then◌else◌, IsTrue};
     ghost use Rattle.std.specs.Vec.{vec_capacity};
     ghost use Rattle.iscsi_stream.specs.Framing.{Framing};
-    ghost use Rattle.iscsi_stream.specs.Gathering.{gathered, IsKept};
+    ghost use Rattle.iscsi_stream.specs.Gathering.{gathered, HasRoom, IsKept};
 
     ghost Value = { Framing };
 
-    ghost view = { λ f. record { limit = f.limit; place = f.place; logins = f.logins; held = if f.failed then [] else gathered f.header f.segment.items f.stage; failed = f.failed } };
+    ghost view = { λ f. record { limit = f.limit; place = f.place; logins = f.logins; held = if f.failed then [] else gathered f.header f.buffer.segment.items f.stage; room = f.buffer.room; failed = f.failed } };
 
-    ghost invariant = { λ f. (f.limit < 2 ^ 24) × (f.failed ≡ false → IsKept f.limit f.header f.segment.items (vec_capacity f.segment) f.stage) };
+    ghost invariant = { λ f. (f.limit < 2 ^ 24) × (f.failed ≡ false → IsKept f.limit f.header f.buffer.segment.items f.buffer.room f.stage) × HasRoom f.limit (vec_capacity f.buffer.segment) f.buffer.room };
 }
 
 impl Framer {
@@ -50,7 +50,10 @@ impl Framer {
             place: 0,
             logins: Logins::new(),
             header: [0; 48],
-            segment: Vec::new(alloc),
+            buffer: Buffer {
+                segment: Vec::new(alloc),
+                room: 0,
+            },
             stage: Stage::Header(0),
             failed: false,
         }
@@ -60,20 +63,21 @@ impl Framer {
     /// ready then; none while one is ready already.
     ///
     /// With the last byte of a header it answers `Head` where the header is refused, `OverLimit` where its segment is
-    /// longer than the limit, and `NoMemory` where there is no memory for it. After a fault it answers `Failed`, and
-    /// holds nothing.
+    /// longer than the limit, and `NoMemory` where it is longer than each before it and there is no memory for it. After
+    /// a fault it answers `Failed`, and holds nothing.
     pub fn feed(&mut self, piece: &[u8]) -> Result<usize, StreamFault>
         ensures ok { IfOk result (λ n. Takes self.old piece.now n self.new) }
         ensures err { IfErr result (FeedFails self.old piece.now) }
         ensures stopped { OnErr result (self.new ≡ stopped self.old) }
         ensures bound { length self.new.held ≤ 48 + self.new.limit + 3 }
+        ensures room { self.new.room ≤ self.new.limit }
     {
         if self.failed {
             return Err(StreamFault::Failed);
         }
         let result = gather(
             &mut self.header,
-            &mut self.segment,
+            &mut self.buffer,
             &mut self.stage,
             self.limit,
             self.place,
@@ -99,12 +103,12 @@ impl Framer {
         let Stage::Body(head, len, padded) = self.stage else {
             return None;
         };
-        if self.segment.len() < len as usize || padded < pad(len) {
+        if self.buffer.segment.len() < len as usize || padded < pad(len) {
             return None;
         }
         Some(Pdu {
             head,
-            bytes: &self.segment,
+            bytes: &self.buffer.segment,
         })
     }
 
@@ -137,7 +141,7 @@ impl Framer {
         }
         match self.stage {
             Stage::Header(filled) => filled,
-            Stage::Body(_, _, padded) => HEADER + self.segment.len() + padded as usize,
+            Stage::Body(_, _, padded) => HEADER + self.buffer.segment.len() + padded as usize,
         }
     }
 
@@ -154,7 +158,7 @@ impl Framer {
         let held = self.held();
         self.place = self.place.saturating_add(held as u64);
         self.logins = logins;
-        self.segment.clear();
+        self.buffer.segment.clear();
         self.stage = Stage::Header(0);
     }
 

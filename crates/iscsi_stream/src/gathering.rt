@@ -1,10 +1,11 @@
 //! The bytes of one PDU, gathered piece by piece.
 
-ghost use Rattle.std.specs.Prelude.{◌≡◌, ◌≤◌, ◌<◌, ◌^◌, ◌+◌, [], ◌++◌, length, take, IfOk, IfErr};
+ghost use Rattle.std.specs.Prelude.{◌≡◌, ◌≤◌, ◌<◌, ◌^◌, ◌+◌, [], ◌++◌, length, take, max, IfOk, IfErr, OnOk, OnErr};
 ghost use Rattle.std.specs.Vec.{vec_capacity};
 ghost use Rattle.iscsi_pdu.specs.Meaning.{IsHeader, Fits, padding};
 ghost use Rattle.iscsi_stream.specs.Stream.{pdu_len};
-ghost use Rattle.iscsi_stream.specs.Gathering.{gathered, IsBody, IsKept, Gathers, FillsBody, HeaderFails, GatherFails};
+ghost use Rattle.iscsi_stream.specs.Framing.{begun_len};
+ghost use Rattle.iscsi_stream.specs.Gathering.{gathered, HasRoom, IsBody, IsKept, Gathers, FillsBody, HeaderFails, GatherFails};
 
 use crate::fault::StreamFault;
 use iscsi_pdu::{Head, pad, read_head};
@@ -22,6 +23,13 @@ pub(crate) enum Stage {
     Body(Head, u32, u32),
 }
 
+/// The bytes of a segment, and the length of the longest one for which memory was asked. It is kept from PDU to PDU.
+#[derive(Drop)]
+pub(crate) struct Buffer {
+    pub(crate) segment: Vec<u8>,
+    pub(crate) room: u32,
+}
+
 // Takes bytes of the piece into the header, from this place on, and says how many.
 fn fill_header(header: &mut [u8; 48], filled: usize, piece: &[u8]) -> usize
     requires { filled < 48 }
@@ -36,18 +44,25 @@ fn fill_header(header: &mut [u8; 48], filled: usize, piece: &[u8]) -> usize
     taken
 }
 
-// The head that a whole header says, and the length of its segment, for which the buffer then has room.
+// The head that a whole header says, and the length of its segment, for which the buffer then has room: what it had, or
+// that length and no more.
 fn begin(
     header: &[u8; 48],
-    segment: &mut Vec<u8>,
+    buffer: &mut Buffer,
     limit: u32,
     place: u64,
 ) -> Result<(Head, u32), StreamFault>
-    requires { segment.old.items ≡ [] }
-    ensures ok { IfOk result (λ x. IsBody limit header.now segment.new.items
-        (vec_capacity segment.new) x.0 x.1 0) }
-    ensures err { IfErr result (HeaderFails header.now limit place) }
-    ensures kept { segment.new.items ≡ [] }
+    requires empty { buffer.old.segment.items ≡ [] }
+    requires room { HasRoom limit (vec_capacity buffer.old.segment) buffer.old.room }
+    ensures ok { IfOk result (λ x. IsBody limit header.now buffer.new.segment.items
+        buffer.new.room x.0 x.1 0) }
+    ensures room { IfOk result (λ x. buffer.new.room ≡ max buffer.old.room x.1) }
+    ensures exact { IfOk result (λ x. vec_capacity buffer.new.segment
+        ≡ max (vec_capacity buffer.old.segment) x.1) }
+    ensures err { IfErr result (HeaderFails header.now limit place buffer.old.room) }
+    ensures same_room { OnErr result (buffer.new.room ≡ buffer.old.room) }
+    ensures kept { buffer.new.segment.items ≡ [] }
+    ensures holds { HasRoom limit (vec_capacity buffer.new.segment) buffer.new.room }
 {
     let (head, len) = match read_head(header) {
         Ok(read) => read,
@@ -56,7 +71,8 @@ fn begin(
     if len > limit {
         return Err(StreamFault::OverLimit(place));
     }
-    segment.reserve(len as usize)?;
+    buffer.segment.reserve_exact(len as usize)?;
+    buffer.room = buffer.room.max(len);
     Ok((head, len))
 }
 
@@ -69,7 +85,7 @@ fn fill_body(segment: &mut Vec<u8>, len: u32, padded: u32, piece: &[u8]) -> (usi
     requires order { 0 < padded → length segment.old.items ≡ len }
     ensures fills { FillsBody len segment.old.items padded piece.now
         result.0 segment.new.items result.1 }
-    ensures room { len ≤ vec_capacity segment.new }
+    ensures grows { vec_capacity segment.old ≤ vec_capacity segment.new }
 {
     let data = piece.len().min(len as usize - segment.len());
     let Ok(()) = segment.extend_from_slice(&piece[..data]) else {
@@ -82,23 +98,29 @@ fn fill_body(segment: &mut Vec<u8>, len: u32, padded: u32, piece: &[u8]) -> (usi
 // Takes bytes of the piece until the PDU is whole, and says how many.
 pub(crate) fn gather(
     header: &mut [u8; 48],
-    segment: &mut Vec<u8>,
+    buffer: &mut Buffer,
     stage: &mut Stage,
     limit: u32,
     place: u64,
     piece: &[u8],
 ) -> Result<usize, StreamFault>
-    requires { IsKept limit header.old segment.old.items (vec_capacity segment.old) stage.old }
-    ensures ok { IfOk result (λ n. Gathers limit (gathered header.old segment.old.items stage.old)
-        piece.now n (gathered header.new segment.new.items stage.new)) }
-    ensures kept { IfOk result (λ _. IsKept limit header.new segment.new.items
-        (vec_capacity segment.new) stage.new) }
-    ensures err { IfErr result (GatherFails limit place
-        (gathered header.old segment.old.items stage.old) piece.now) }
+    requires kept { IsKept limit header.old buffer.old.segment.items buffer.old.room stage.old }
+    requires room { HasRoom limit (vec_capacity buffer.old.segment) buffer.old.room }
+    ensures ok { IfOk result (λ n. Gathers limit
+        (gathered header.old buffer.old.segment.items stage.old)
+        piece.now n (gathered header.new buffer.new.segment.items stage.new)) }
+    ensures kept { OnOk result (IsKept limit header.new buffer.new.segment.items
+        buffer.new.room stage.new) }
+    ensures room { OnOk result (buffer.new.room ≡ max buffer.old.room
+        (begun_len (gathered header.new buffer.new.segment.items stage.new))) }
+    ensures err { IfErr result (GatherFails limit place buffer.old.room
+        (gathered header.old buffer.old.segment.items stage.old) piece.now) }
+    ensures same_room { OnErr result (buffer.new.room ≡ buffer.old.room) }
+    ensures holds { HasRoom limit (vec_capacity buffer.new.segment) buffer.new.room }
 {
     match *stage {
         Stage::Body(head, len, padded) => {
-            let (taken, padded) = fill_body(segment, len, padded, piece);
+            let (taken, padded) = fill_body(&mut buffer.segment, len, padded, piece);
             *stage = Stage::Body(head, len, padded);
             Ok(taken)
         }
@@ -108,8 +130,8 @@ pub(crate) fn gather(
                 *stage = Stage::Header(filled + taken);
                 return Ok(taken);
             }
-            let (head, len) = begin(header, segment, limit, place)?;
-            let (more, padded) = fill_body(segment, len, 0, &piece[taken..]);
+            let (head, len) = begin(header, buffer, limit, place)?;
+            let (more, padded) = fill_body(&mut buffer.segment, len, 0, &piece[taken..]);
             *stage = Stage::Body(head, len, padded);
             Ok(taken + more)
         }
