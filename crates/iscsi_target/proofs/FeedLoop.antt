@@ -6,7 +6,7 @@ use Rattle.std.proofs.lemmas.List.Concat.{flat_map-append}
 use Rattle.scsi_disk.specs.Disk.{Disk}
 use Rattle.iscsi_stream.specs.Stream.{Message}
 use Rattle.iscsi_stream.specs.Canonical.{canon, canonical_bytes}
-use Rattle.iscsi_stream.specs.Framing.{Framing, Takes, Moves, FeedFails, is_ready, given_up, message_of, settled}
+use Rattle.iscsi_stream.specs.Framing.{Framing, Takes, Moves, FeedFails, is_ready, given_up, message_of, settled, holding}
 use Rattle.iscsi_stream.proofs.Taking.{moves_none, moves_gave, moves_then, taken_more, moves_taken}
 use Rattle.iscsi_stream.proofs.PassOn.{unready_after, takes_some}
 use Rattle.iscsi_login.specs.declared.phase.Phase.{Phase}
@@ -506,7 +506,7 @@ front_taken v w piece n t =
     record {
       live = t.live;
       bound = omega (arith, size);
-      gathered = t.gathered ∙ ap (λ (x : List ℕ). record v { held = settled (v.held ++ x) }) (sym (take_all n (take n piece) (omega (arith, size))));
+      gathered = t.gathered ∙ ap (λ (x : List ℕ). holding v (settled (v.held ++ x))) (sym (take_all n (take n piece) (omega (arith, size))));
       begun = t.begun;
       stops = λ lt. absurd (omega (arith, size, lt));
     }
