@@ -157,6 +157,100 @@ fn descriptor_blocks(rt: HostRuntime) {
     }
 }
 
+/// Each record: its code, with the service action where it has one, and the bits of its fields. All other bits
+/// behind the code are free.
+const FIELDS: &[([u32; 4], [u32; 4])] = &[
+    // TEST UNIT READY
+    ([0x00000000, 0, 0, 0], [0, 0x00ff0000, 0, 0]),
+    // INQUIRY
+    ([0x12000000, 0, 0, 0], [0x0001ffff, 0xffff0000, 0, 0]),
+    // READ CAPACITY(10)
+    ([0x25000000, 0, 0, 0], [0, 0, 0x00ff0000, 0]),
+    // READ(10), WRITE(10), SYNCHRONIZE CACHE(10)
+    (
+        [0x28000000, 0, 0, 0],
+        [0x00ffffff, 0xffff1fff, 0xffff0000, 0],
+    ),
+    (
+        [0x2a000000, 0, 0, 0],
+        [0x00ffffff, 0xffff1fff, 0xffff0000, 0],
+    ),
+    (
+        [0x35000000, 0, 0, 0],
+        [0x0006ffff, 0xffff1fff, 0xffff0000, 0],
+    ),
+    // READ(16), WRITE(16)
+    (
+        [0x88000000, 0, 0, 0],
+        [0x00ffffff, 0xffffffff, 0xffffffff, 0xffff1fff],
+    ),
+    (
+        [0x8a000000, 0, 0, 0],
+        [0x00ffffff, 0xffffffff, 0xffffffff, 0xffff1fff],
+    ),
+    // READ CAPACITY(16): with another service action the block is none of these, and stays as it is
+    (
+        [0x9e100000, 0, 0, 0],
+        [0x001f0000, 0, 0x0000ffff, 0xffff00ff],
+    ),
+    // REPORT LUNS
+    (
+        [0xa0000000, 0, 0, 0],
+        [0x0000ff00, 0x0000ffff, 0xffff00ff, 0],
+    ),
+    // codes of no record
+    (
+        [0x34000000, 0, 0, 0],
+        [0x00ffffff, 0xffffffff, 0xffffffff, 0xffffffff],
+    ),
+    (
+        [0x9e0f0000, 0, 0, 0],
+        [0x00ffffff, 0xffffffff, 0xffffffff, 0xffffffff],
+    ),
+];
+
+/// The words of a block with the bits that are set in others turned.
+fn turned(words: [u32; 4], bits: [u32; 4]) -> [u32; 4] {
+    let mut turned = words;
+    for (word, bits) in turned.iter_mut().zip(bits) {
+        *word ^= bits;
+    }
+    turned
+}
+
+/// A canonical block, of which one bit is turned in each word in turn: a free bit makes no difference.
+fn check_bits(rt: &impl Abort, base: [u32; 4], fields: [u32; 4]) {
+    for bit in 0..32u32 {
+        let mask = 1 << bit;
+        for (i, field) in fields.iter().enumerate() {
+            if i == 0 && bit >= 24 {
+                continue;
+            }
+            let mut bits = [0; 4];
+            bits[i] = mask;
+            let came = turned(base, bits);
+            let want = if field & mask == 0 { base } else { came };
+            same(
+                rt,
+                &Cdb::read(&block(came)).write(),
+                &block(want),
+                &(base, i, bit),
+            );
+        }
+    }
+}
+
+#[test]
+fn each_bit_of_each_record(rt: HostRuntime) {
+    for (code, fields) in FIELDS {
+        check_bits(&rt, *code, *fields);
+        // The fields filled, but for bits that may say the service action.
+        let [first, second, third, fourth] = *fields;
+        let filled = [first & 0x00e0ffff, second, third, fourth];
+        check_bits(&rt, turned(*code, filled), *fields);
+    }
+}
+
 #[test]
 fn sense_data(rt: HostRuntime) {
     let rows = [
