@@ -6,8 +6,8 @@ ghost use Rattle.scsi_disk.specs.Runs.{AreSupplied};
 
 use scsi_cdb::{Bytes, Cdb, Residual, Sense};
 use scsi_disk::{
-    BlockStore, FailAt, MemoryStore, Order, Outcome, Plan, SparseStore, StoreFault, execute, plan,
-    run_orders,
+    BlockStore, FailAt, MOST_BLOCKS, MemoryStore, Order, Outcome, Plan, SparseStore, StoreFault,
+    execute, plan, run_orders,
 };
 use std::alloc::{AllocError, Global};
 use std::fmt::Debug;
@@ -551,6 +551,82 @@ const OVER_AN_EXTENT: Rows = &[
     ),
 ];
 
+/// A write of the last block of 2^40, and reads over it, at the end and past it.
+const AT_THE_LAST_OF_MOST: Rows = &[
+    (
+        "WRITE of the last block",
+        [0x8a000000, 0x00ffffff, 0xffff0000, 0x00010000],
+        Data::Writes(512),
+        None,
+        &[],
+        Residual::Exact,
+    ),
+    (
+        "READ of the last two",
+        [0x88000000, 0x00ffffff, 0xfffe0000, 0x00020000],
+        Data::Reads(1024),
+        None,
+        &[0x00, 0x5a],
+        Residual::Exact,
+    ),
+    (
+        "two at the last block",
+        [0x88000000, 0x00ffffff, 0xffff0000, 0x00020000],
+        Data::Reads(1024),
+        Some(Sense::OutOfRange),
+        &[],
+        Residual::Under(1024),
+    ),
+    (
+        "WRITE of two at the last block",
+        [0x8a000000, 0x00ffffff, 0xffff0000, 0x00020000],
+        Data::Writes(1024),
+        Some(Sense::OutOfRange),
+        &[],
+        Residual::Under(1024),
+    ),
+    (
+        "none at the end",
+        [0x88000000, 0x01000000, 0, 0],
+        Data::Silent,
+        None,
+        &[],
+        Residual::Exact,
+    ),
+    (
+        "one at the end",
+        [0x88000000, 0x01000000, 0, 0x00010000],
+        Data::Reads(512),
+        Some(Sense::OutOfRange),
+        &[],
+        Residual::Under(512),
+    ),
+    (
+        "SYNCHRONIZE CACHE of 65,535 at 2^32 - 1",
+        [0x3500ffff, 0xffff00ff, 0xff000000, 0],
+        Data::Silent,
+        None,
+        &[],
+        Residual::Exact,
+    ),
+    (
+        "SYNCHRONIZE CACHE of all blocks",
+        [0x35000000, 0, 0, 0],
+        Data::Silent,
+        None,
+        &[],
+        Residual::Exact,
+    ),
+    (
+        "READ of the last block, after the flushes",
+        [0x88000000, 0x00ffffff, 0xffff0000, 0x00010000],
+        Data::Reads(512),
+        None,
+        &[0x5a],
+        Residual::Exact,
+    ),
+];
+
 /// Two equal reads, of which the first fails.
 const FAILING_READ: Rows = &[
     (
@@ -678,6 +754,14 @@ fn either_store(rt: HostRuntime) -> Result<(), Fail> {
     let mut sparse = SparseStore::new(rt.alloc(), 130);
     check_rows(&rt, rt.alloc(), OVER_AN_EXTENT, &mut sparse)?;
     Ok(())
+}
+
+/// The largest disk keeps what was written alone.
+#[test]
+fn the_largest_disk(rt: HostRuntime) -> Result<(), Fail> {
+    let mut store = SparseStore::new(rt.alloc(), MOST_BLOCKS);
+    same(&rt, &store.blocks(), &1_099_511_627_776, &"blocks");
+    Ok(check_rows(&rt, rt.alloc(), AT_THE_LAST_OF_MOST, &mut store)?)
 }
 
 #[test]

@@ -65,6 +65,18 @@ const DISKS: &[(&str, u64, &str, &str)] = &[
         good 512 a5a5a5a5a5a5a5a5a5a5a5a5a5a5a5a5\ngood 512 00000000000000000000000000000000\n\
         good 0\ncheck 5/21/00 under 512\ncheck 5/21/00\ncheck 5/21/00 under 512\ngood 0\n",
     ),
+    (
+        "writes on both sides of 2^32, 2^40 and 2^64",
+        1_099_511_627_776,
+        "write 4294967295 1 a1\nwrite 4294967296 1 a2\nread 4294967295 2\nread 4294967296 1\n\
+        write 1099511627775 2 a3\nwrite 1099511627775 1 a4\nread 1099511627775 1\n\
+        write 1099511627776 0 a5\nwrite 1099511627776 1 a5\nwrite 18446744073709551615 1 a6\n\
+        write 00000000000000000000007 1 a7\nread 7 1\n",
+        "login\ngood 0\ngood 0\ngood 1024 a1a1a1a1a1a1a1a1a1a1a1a1a1a1a1a1\n\
+        good 512 a2a2a2a2a2a2a2a2a2a2a2a2a2a2a2a2\ncheck 5/21/00 under 1024\ngood 0\n\
+        good 512 a4a4a4a4a4a4a4a4a4a4a4a4a4a4a4a4\ngood 0\ncheck 5/21/00 under 512\n\
+        check 5/21/00 under 512\ngood 0\ngood 512 a7a7a7a7a7a7a7a7a7a7a7a7a7a7a7a7\n",
+    ),
 ];
 
 /// Lines that are no command.
@@ -87,6 +99,8 @@ const REFUSED: &[&str] = &[
     "tur 0 0",
     "inquiry 0",
     "inquiry 0 65536",
+    "inquiry 0 18446744073709551617",
+    "inquiry 18446744073709551616 36",
     "inquiry 256 36",
     "capacity 0",
     "capacity ",
@@ -95,6 +109,10 @@ const REFUSED: &[&str] = &[
     "read 0 8193",
     "read 18446744073709551616 1",
     "read 99999999999999999999 1",
+    "read 36893488147419103232 1",
+    "read 184467440737095516160 1",
+    "read 0 18446744073709551617",
+    "read 0 4294967297",
     "read 0 1 5a",
     "write 0 8",
     "write 18446744073709551616 1 5a",
@@ -113,7 +131,9 @@ const REFUSED: &[&str] = &[
     "sync",
     "sync 0",
     "sync 4294967296 0",
+    "sync 18446744073709551616 0",
     "sync 0 65536",
+    "sync 0 18446744073709551616",
     "sync 0 0 0",
     "capacity16 0",
     "capacity10",

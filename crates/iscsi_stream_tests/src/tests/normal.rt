@@ -28,7 +28,7 @@ fn check_row(rt: &impl Abort, alloc: Global, row: &str) -> Result<(), Fail> {
 
 #[test]
 fn canonical_streams(rt: HostRuntime) -> Result<(), Fail> {
-    same(&rt, &rows().split("\n\n").count(), &28, &"rows");
+    same(&rt, &rows().split("\n\n").count(), &29, &"rows");
     for row in rows().split("\n\n") {
         check_row(&rt, rt.alloc(), row)?;
     }
