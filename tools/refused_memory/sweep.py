@@ -42,6 +42,15 @@ READ_BACK = """\
 = full"""
 
 
+# Sessions that must be among the dialogues: behind a write three tasks wait, eight do, and requests of each kind.
+WAITING = {
+    "4 in the queue",
+    "9 in the queue, the first immediate",
+    "a ping, a text and a logout that wait, and a command behind the logout",
+    "a read behind a write",
+    "eight commands, and one past the window",
+}
+
 # A script of each command, with a write that goes out in several PDUs.
 SCRIPT = b"""\
 tur 0
@@ -146,8 +155,13 @@ def sessions():
     """The name, whether it begins with a login of its own, and the lines of each session over a store that works."""
     for name in ("rows", "queues"):
         text = open(f"{TOP}/crates/iscsi_target_tests/src/tests/{name}.rt").read().split("pub const FAILING")[0]
+        # Each session says once whether it begins with a login of its own.
+        count = len(re.findall(r"\b(?:true|false),", text))
         named = dict(re.findall(r'pub const (\w+): &str =\s*"(.*?)";', text, re.S))
-        for session, fresh, lines, constant in re.findall(r'\(\s*"([^"]*)",\s*(true|false),\s*(?:"([^"]*)"|(\w+)),?\s*\)', text):
+        found = re.findall(r'\(\s*"([^"]*)",\s*(true|false),\s*(?:"([^"]*)"|(\w+)),?\s*\)', text)
+        if len(found) != count:
+            sys.exit(f"{name}.rt has {count} sessions, of which {len(found)} are understood")
+        for session, fresh, lines, constant in found:
             yield session, fresh == "true", unquoted(lines or named[constant])
 
 
@@ -156,6 +170,8 @@ def dialogues():
     rows = open(f"{TOP}/crates/iscsi_target_tests/src/tests/rows.rt").read()
     login = unquoted(re.search(r'LOGIN: &str =\s*"(.*?)";', rows, re.S)[1])
     found = [("login", True, login), *sessions()]
+    if missing := WAITING - {name for name, _, _ in found}:
+        sys.exit(f"there is no session {sorted(missing)}")
     writes = next(lines for name, _, lines in found if name == "writes")
     found.append(("reads back a write", False, f"{writes}\n{READ_BACK}"))
     for name, fresh, lines in found:
