@@ -18,7 +18,7 @@ use Rattle.iscsi_target.specs.Execution.{reliable}
 use Rattle.iscsi_target.specs.Machine.{answers, step}
 use Rattle.iscsi_target.specs.Tiles.{IsTiled, TilesPlan}
 use Rattle.iscsi_target.proofs.DiskFold.{Does, step_does}
-use Rattle.iscsi_target.proofs.Sound.{IsSound, KeepsWrites, step_count, step_goes}
+use Rattle.iscsi_target.proofs.Sound.{IsSound, step_count, step_goes}
 
 -- some bytes have these blocks
 pub record HasBlocks (disk : Disk) : Type 0 where
@@ -41,7 +41,8 @@ writes xs ys first count whole inside =
     let room : 512 * first + length ys ≤ length xs = omega (arith, whole, inside) in
     record {
       bytes = put_mid (512 * first) (length ys) xs ys;
-      is = same_disk _ _ (ap (λ (n : ℕ). n / 512) (length_put (512 * first) (length ys) xs ys refl room)) (cut-put 512 xs ys first count whole (omega (arith, room)));
+      is = same_disk _ _ (ap (λ (n : ℕ). n / 512) (length_put (512 * first) (length ys) xs ys refl room))
+          (cut-put 512 xs ys first count whole (omega (arith, room)));
     }
 
 -- ---- an order
@@ -83,11 +84,13 @@ does_blocks xs (e ∷ es) last d t =
 step_blocks : (s : Machine) (disk : Disk) (m : Message) → IsSound disk.count s.tasks → HasBlocks disk → HasBlocks (step s disk m).disk
 step_blocks s disk m o h =
     let r : Stepped = step s disk m in
-    does_blocks h.bytes r.executed r.disk (subst (λ (x : Disk). Does reliable x r.executed r.disk) (sym h.is) (step_does reliable s disk m).is) (step_goes disk s m o).tiled
+    does_blocks h.bytes r.executed r.disk (subst (λ (x : Disk). Does reliable x r.executed r.disk) (sym h.is) (step_does reliable s disk m).is)
+    (step_goes disk s m o).tiled
 
 pub answers_blocks : (s : Machine) (disk : Disk) (ms : List Message) → IsSound disk.count s.tasks → HasBlocks disk → HasBlocks (answers s disk ms).disk
 unfolding answers
 answers_blocks s disk [] o h = h
 answers_blocks s disk (m ∷ ms) o h =
     let r : Stepped = step s disk m in
-    answers_blocks r.machine r.disk ms (subst (λ (n : ℕ). IsSound n r.machine.tasks) (sym (step_count s disk m)) (step_goes disk s m o).sound) (step_blocks s disk m o h)
+    answers_blocks r.machine r.disk ms (subst (λ (n : ℕ). IsSound n r.machine.tasks) (sym (step_count s disk m)) (step_goes disk s m o).sound)
+    (step_blocks s disk m o h)

@@ -1,6 +1,6 @@
 -- One request after another: some run serves them all.
 use Rattle.std.specs.List.{AllByRecursion}
-use Rattle.std.proofs.Common.{◌≡◌, ◌≤◌, ◌⊎◌, inl, inr, ℕ, false, List, [], ◌∷◌, ◌++◌, length, Some, None, refl, sym, ap, ◌∙◌, subst, append_assoc, arith}
+use Rattle.std.proofs.Common.{◌≡◌, ◌≤◌, inl, inr, ℕ, false, List, [], ◌∷◌, ◌++◌, length, None, refl, sym, ap, ◌∙◌, subst, append_assoc, arith}
 use Rattle.std.proofs.lemmas.Bool.{le-ltb}
 use Rattle.std.proofs.lemmas.List.{append-nil}
 use Rattle.scsi_disk.specs.Disk.{Disk, disk_of}
@@ -19,13 +19,13 @@ use Rattle.iscsi_initiator.specs.State as initiator
 use Rattle.iscsi_initiator.specs.Machine.{taken}
 use Rattle.iscsi_initiator.specs.Submitted.{is_too_long, most_bytes, submitted}
 use Rattle.iscsi_pair.specs.World.{Opening}
-use Rattle.iscsi_pair.specs.LocalDisk.{AreAtRest, AreInStep, HasEnded, Local, Stand, local, local_disk, local_outcomes}
+use Rattle.iscsi_pair.specs.LocalDisk.{AreAtRest, AreInStep, Local, Stand, local, local_disk, local_outcomes}
 use Rattle.iscsi_pair.specs.Served.{IsAlwaysTaken, IsNormal, IsServed, SomeRunServes, disk_after, disk_outcomes}
 use Rattle.iscsi_pair.proofs.Courses.{Begins}
 use Rattle.iscsi_pair.proofs.Keeping.{History}
 use Rattle.iscsi_pair.proofs.LocalDisks.{accepts, begins, disk_more, outcomes_more}
 use Rattle.iscsi_pair.proofs.LoggingIn.{HasLoggedIn, logs_in}
-use Rattle.iscsi_pair.proofs.Serving.{HaveAgreed, hears_well, is_logout, most_back, most_out, none_asked, pinged, written_within}
+use Rattle.iscsi_pair.proofs.Serving.{HaveAgreed, hears_well, is_logout, most_out, pinged, written_within}
 use Rattle.iscsi_pair.proofs.Steps.{level}
 use Rattle.iscsi_pair.proofs.Turns.{Arrives, Stays, arrives, gives_out, hands_in, heard_all}
 
@@ -101,7 +101,8 @@ record HasOutcome (c : Opening) (past : List Request) (request : Request) : Type
   at_rest : AreAtRest held (local (pinged c) (disk_after c past) request).outcome initiator target
 
 -- a request is handed in, and so is its outcome
-one_done : (c : Opening) (past : List Request) (request : Request) → (r : Rests c past) → IsServed request → is_too_long r.initiator request ≡ false → HasOutcome c past request
+one_done : (c : Opening) (past : List Request) (request : Request) → (r : Rests c past) → IsServed request → is_too_long r.initiator request ≡ false
+    → HasOutcome c past request
 one_done c past request r served short =
     let i : initiator.Machine = r.initiator in
     let t : target.Machine = r.target in
@@ -113,18 +114,22 @@ one_done c past request r served short =
     let most : i.held.initiator_max_recv ≡ pinged c = ap (λ (x : Held). x.initiator_max_recv) r.same ∙ r.agreed.most in
     let now : HaveAgreed c i.held = subst (HaveAgreed c) (sym r.same) r.agreed in
     let b : Begins i.held i t disk request here.outcome here.disk =
-    subst (λ (n : ℕ). Begins i.held i t disk request (local n disk request).outcome (local n disk request).disk) most (begins i t disk request served r.in_step none) in
+    subst (λ (n : ℕ). Begins i.held i t disk request (local n disk request).outcome (local n disk request).disk) most
+    (begins i t disk request served r.in_step none) in
     let out : List Message = (submitted i request).output in
     let s : target.Stepped = answers t disk out in
     let sent : Stays c g (submitted i request).machine t disk out [] r.there r.here = hands_in c h i t disk r.there r.here request r.stays served none in
     let heard : Stays c g (submitted i request).machine s.machine s.disk [] s.answers (after_all r.there out) r.here =
-    heard_all out c g (submitted i request).machine t disk [] r.there r.here sent (written_within i.held.target_max_recv (most_out c) r.there out now.out (b.heard.written r.there))
+    heard_all out c g (submitted i request).machine t disk [] r.there r.here sent
+    (written_within i.held.target_max_recv (most_out c) r.there out now.out (b.heard.written r.there))
     (hears_well c i.held t disk r.here out now b.heard) in
     let last : Stand = b.ends.last in
-    let come : Arrives c g last = arrives b.ends.leads.0 c g i.held (submitted i request).machine s.machine s.disk s.answers (after_all r.there out) r.here last now heard b.ends.leads.1 in
+    let come : Arrives c g last = arrives b.ends.leads.0 c g i.held (submitted i request).machine s.machine s.disk s.answers
+    (after_all r.there out) r.here last now heard b.ends.leads.1 in
     let quiet : Stays c g last.initiator last.target last.disk [] [] come.there come.here =
     subst (λ (ms : List Message). Stays c g last.initiator last.target last.disk [] ms come.there come.here) b.ends.ended.silent come.stays in
-    let given : Stays c (record g { outcomes = disk_outcomes c past ++ here.outcome ∷ [] }) (taken last.initiator) last.target last.disk [] [] come.there come.here =
+    let given : Stays c (record g { outcomes = disk_outcomes c past ++ here.outcome ∷ [] })
+    (taken last.initiator) last.target last.disk [] [] come.there come.here =
     gives_out c g last.initiator last.target last.disk come.there come.here here.outcome quiet b.ends.ended.done_is in
     record {
       held = i.held;
@@ -132,9 +137,12 @@ one_done c past request r served short =
       target = last.target;
       there = come.there;
       here = come.here;
-      stays = subst (λ (d : Disk). Stays c (record { requests = past ++ request ∷ []; outcomes = disk_outcomes c (past ++ request ∷ []) }) (taken last.initiator) last.target d [] [] come.there come.here)
+      stays = subst
+          (λ (d : Disk). Stays c (record { requests = past ++ request ∷ []; outcomes = disk_outcomes c (past ++ request ∷ []) })
+          (taken last.initiator) last.target d [] [] come.there come.here)
           (b.ends.ended.disk_is ∙ sym (disk_more (pinged c) (disk_of c.blocks) past request))
-          (subst (λ (x : List Done). Stays c (record { requests = past ++ request ∷ []; outcomes = x }) (taken last.initiator) last.target last.disk [] [] come.there come.here)
+          (subst (λ (x : List Done). Stays c (record { requests = past ++ request ∷ []; outcomes = x })
+          (taken last.initiator) last.target last.disk [] [] come.there come.here)
           (sym (outcomes_more (pinged c) (disk_of c.blocks) past request)) given);
       agreed = now;
       at_rest = b.ends.ended.at_rest;
@@ -160,13 +168,15 @@ one_more c past request r a =
 
 all_more : (c : Opening) (past more : List Request) → Rests c past → AllByRecursion IsAlwaysTaken more → Rests c (past ++ more)
 all_more c past [] r a = subst (Rests c) (sym (append-nil past)) r
-all_more c past (request ∷ more) r a = subst (Rests c) (append_assoc past (request ∷ []) more) (all_more c (past ++ request ∷ []) more (one_more c past request r a.0) a.1)
+all_more c past (request ∷ more) r a = subst (Rests c) (append_assoc past (request ∷ []) more)
+    (all_more c (past ++ request ∷ []) more (one_more c past request r a.0) a.1)
 
 all_rest : (c : Opening) (all : List Request) → IsNormal c → AllByRecursion IsAlwaysTaken all → Rests c all
 all_rest c all o a = all_more c [] all (first_rests c (logs_in c o)) a
 
 -- such a run, where nothing is on its way
-some_run : (c : Opening) (h : History) (i : initiator.Machine) (t : target.Machine) (disk : Disk) (there here : Logins) → Stays c h i t disk [] [] there here → SomeRunServes c h.requests h.outcomes
+some_run : (c : Opening) (h : History) (i : initiator.Machine) (t : target.Machine) (disk : Disk) (there here : Logins)
+    → Stays c h i t disk [] [] there here → SomeRunServes c h.requests h.outcomes
 some_run c h i t disk there here s = record {
   events = s.events;
   world = level c i t s.blocks s.place s.place_back there here [] [];

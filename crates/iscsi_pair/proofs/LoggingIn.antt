@@ -1,12 +1,11 @@
 -- The login of two ends that suit each other comes to its end, where each hears what was sent.
 use Rattle.std.proofs.Common.{◌≡◌, ◌<◌, ◌≤◌, ◌⊎◌, inl, inr, ℕ, zero, suc, ◌-◌, true, false, List, [], ◌∷◌, length, drop, refl, sym, ap, ◌∙◌, subst, arith}
-use Rattle.std.proofs.lemmas.List.{append-nil, length-drop}
+use Rattle.std.proofs.lemmas.List.{length-drop}
 use Rattle.scsi_disk.specs.Disk.{Disk, disk_of}
 use Rattle.iscsi_pdu.specs.declared.head.login_request.LoginRequest.{LoginRequest}
 use Rattle.iscsi_stream.specs.declared.logins.Logins.{Logins}
 use Rattle.iscsi_stream.specs.Segment.{after, no_login}
-use Rattle.iscsi_stream.specs.Stream.{Message, after_all}
-use Rattle.iscsi_stream.specs.Canonical.{canon}
+use Rattle.iscsi_stream.specs.Stream.{Message}
 use Rattle.iscsi_login.specs.declared.stage.Stage.{Stage}
 use Rattle.iscsi_login.specs.declared.stage.Stage.TheVariants as stages
 use Rattle.iscsi_login.specs.Stage.{is_closed_phase}
@@ -21,7 +20,7 @@ use Rattle.iscsi_initiator.specs.State as initiator
 use Rattle.iscsi_initiator.specs.Steps.{Stepped}
 use Rattle.iscsi_initiator.specs.Login.{asked, asked_from, enters, login_request, offered, start_step}
 use Rattle.iscsi_initiator.specs.Machine.{step}
-use Rattle.iscsi_pair.specs.World.{Opening, new_pair}
+use Rattle.iscsi_pair.specs.World.{Opening}
 use Rattle.iscsi_pair.specs.Served.{IsNormal, RunsServed}
 use Rattle.iscsi_pair.proofs.Talk.{Asking, Asks_on, Round, first_asks, round}
 use Rattle.iscsi_pair.proofs.Going.{PartTurn, Suited, TextKeeps, Well, emptied, first_suited, goes_well, text_head, text_keeps, turns}
@@ -108,7 +107,8 @@ one_round c i t there here r o p =
     let s : Stepped = step i turn.answer in
     let w : Well c i now s next = goes_well c i t there next r disk o.opening o.suits p.asking p.suited turn in
     let meet : Meets c i now s disk next = meets c i t there next r disk o.opening o.suits o.session p.asking p.suited p.numbered turn in
-    let sends : Sends (most_out c) (most_back c) (Serves c) i (r ∷ []) t disk [] there here none_asked = login_sends c i (r ∷ []) t there here r o refl p.asking p.suited p.numbered p.whole in
+    let sends : Sends (most_out c) (most_back c) (Serves c) i (r ∷ []) t disk [] there here none_asked =
+    login_sends c i (r ∷ []) t there here r o refl p.asking p.suited p.numbered p.whole in
     let heard : Stays c none_asked i (answers t disk (r ∷ [])).machine (answers t disk (r ∷ [])).disk [] (answers t disk (r ∷ [])).answers next here =
     heard_all (r ∷ []) c none_asked i t disk [] there here p.stays sends.written sends.heard in
     let all : answers t disk (r ∷ []) ≡ now = one_step t disk r in
@@ -163,7 +163,8 @@ second_stage : (n : ℕ) (c : Opening) (i : initiator.Machine) (t : target.Machi
     → Waits c i t there here r → i.stage ≡ stages.Operational → length i.left ≤ n → HasLoggedIn c
 second_stage zero c i t there here r o p is few = second_by c i (one_round c i t there here r o p) is (λ x second less. absurd (omega (arith, few, less)))
 second_stage (suc n) c i t there here r o p is few =
-    second_by c i (one_round c i t there here r o p) is (λ x second less. second_stage n c x.initiator x.target x.there x.here x.request o x.waits second (omega (arith, few, less)))
+    second_by c i (one_round c i t there here r o p) is
+    (λ x second less. second_stage n c x.initiator x.target x.there x.here x.request o x.waits second (omega (arith, few, less)))
 
 first_by : (c : Opening) (i : initiator.Machine) → IsNormal c → HasLoggedIn c ⊎ WaitsOn c i → i.stage ≡ stages.Security
     → ((x : WaitsOn c i) → x.initiator.stage ≡ stages.Security → length x.initiator.left < length i.left → HasLoggedIn c) → HasLoggedIn c
@@ -178,7 +179,8 @@ first_stage : (n : ℕ) (c : Opening) (i : initiator.Machine) (t : target.Machin
     → Waits c i t there here r → i.stage ≡ stages.Security → length i.left ≤ n → HasLoggedIn c
 first_stage zero c i t there here r o p is few = first_by c i o (one_round c i t there here r o p) is (λ x first less. absurd (omega (arith, few, less)))
 first_stage (suc n) c i t there here r o p is few =
-    first_by c i o (one_round c i t there here r o p) is (λ x first less. first_stage n c x.initiator x.target x.there x.here x.request o x.waits first (omega (arith, few, less)))
+    first_by c i o (one_round c i t there here r o p) is
+    (λ x first less. first_stage n c x.initiator x.target x.there x.here x.request o x.waits first (omega (arith, few, less)))
 
 from_stage : (stage : Stage) (c : Opening) (i : initiator.Machine) (t : target.Machine) (there here : Logins) (r : Message) → IsNormal c
     → Waits c i t there here r → i.stage ≡ stage → HasLoggedIn c
@@ -188,7 +190,8 @@ from_stage stages.Full c i t there here r o p is = absurd (subst IsStart is p.as
 
 -- a new pair
 first_stays : (c : Opening)
-    → Stays c none_asked (begun c) (target.opening c.target c.first_stat_sn) (disk_of c.blocks) (start_step (initiator.opening c.initiator)).output [] no_login no_login
+    → Stays c none_asked (begun c) (target.opening c.target c.first_stat_sn) (disk_of c.blocks)
+    (start_step (initiator.opening c.initiator)).output [] no_login no_login
 unfolding RunsServed
 first_stays c = record {
   events = [];
@@ -208,7 +211,9 @@ logs_in c o =
     let a : Asks_on c (start_step (initiator.opening c.initiator)) (target.opening c.target c.first_stat_sn) no_login = first_asks c o.opening in
     from_stage (begun c).stage c (begun c) (target.opening c.target c.first_stat_sn) no_login no_login a.request o
     (record {
-      stays = subst (λ (ms : List Message). Stays c none_asked (begun c) (target.opening c.target c.first_stat_sn) (disk_of c.blocks) ms [] no_login no_login) a.is (first_stays c);
+      stays = subst
+          (λ (ms : List Message). Stays c none_asked (begun c) (target.opening c.target c.first_stat_sn) (disk_of c.blocks) ms [] no_login no_login) a.is
+          (first_stays c);
       asking = a.asking;
       suited = first_suited c o.opening;
       numbered = first_numbered c o.opening;

@@ -1,7 +1,6 @@
 -- A block that is written is read, and two ends that suit each other.
-use Rattle.std.specs.List.{AllByRecursion}
-use Rattle.std.specs.Prelude.{All, codes, nat_le, nat_lt, not, ◌&&◌, ◌==◌, ◌^◌, ◌<◌}
-use Rattle.std.proofs.Common.{◌≡◌, ◌≤◌, inl, inr, ℕ, zero, suc, ◌+◌, ◌/◌, Bool, true, false, List, [], ◌∷◌, ◌++◌, length, take, drop, refl, sym, ap, ◌∙◌, subst, arith}
+use Rattle.std.specs.Prelude.{All, codes, nat_le, nat_lt, not, ◌&&◌, ◌==◌, ◌<◌}
+use Rattle.std.proofs.Common.{◌≡◌, ◌≤◌, inl, inr, ℕ, zero, suc, ◌/◌, Bool, true, false, List, [], ◌∷◌, length, take, refl, ap, ◌∙◌, subst, arith}
 use Rattle.std.proofs.lemmas.Bool.{le-ltb, lt-ltb, leb-true, ltb-true}
 use Rattle.std.proofs.lemmas.List.{append-nil, take_all}
 use Rattle.std.proofs.lemmas.List.Elements.{All-cons, All-nil}
@@ -19,8 +18,6 @@ use Rattle.iscsi_login.specs.Name.{IsName}
 use Rattle.iscsi_login.specs.Negotiation.{IsInRange, standard}
 use Rattle.iscsi_target_session.proofs.Cases.{and_left, and_right}
 use Rattle.iscsi_initiator.specs.Block.{record_of}
-use Rattle.iscsi_initiator.specs.declared.request.Done.{Done}
-use Rattle.iscsi_initiator.specs.declared.request.Request.{Request}
 use Rattle.iscsi_pair.specs.World.{Opening}
 use Rattle.iscsi_pair.specs.LocalDisk.{local, local_outcomes, reading_order, told, writing_order}
 use Rattle.iscsi_pair.specs.Served.{IsAlwaysTaken, IsNormal, SomeRunServes, disk_outcomes}
@@ -66,7 +63,8 @@ one_read = record {
 
 write_order : (bytes : List ℕ) → length bytes ≡ 512 → writing_order 0 write_cdb bytes ≡ one_write
 write_order bytes e =
-    ap (λ (x : Cdb). (let order : Order = record { cdb = x; lun = 0; read = false; write = not (length bytes == 0); expected = length bytes } in order)) write_is
+    ap (λ (x : Cdb). (let order : Order = record { cdb = x; lun = 0; read = false; write = not (length bytes == 0); expected = length bytes } in order))
+    write_is
     ∙ ap (λ (n : ℕ). (let order : Order = record { cdb = one_write.cdb; lun = 0; read = false; write = not (n == 0); expected = n } in order)) e
 
 read_order : reading_order 0 read_cdb 512 ≡ one_read
@@ -92,7 +90,8 @@ front_is bytes disk e =
 write_outcome : (most : ℕ) (disk : Disk) (bytes : List ℕ) → nat_lt disk.count 1 ≡ false → nat_lt disk.count 0 ≡ false → length bytes ≡ 512
     → (local most disk (write_first bytes)).outcome ≡ good []
 write_outcome most disk bytes one none e =
-    ap (λ (x : Order). told (effect disk x bytes).outcome) (write_order bytes e) ∙ ap (λ (p : Plan). told (outcome_by p disk one_write)) (write_plan disk.count one none)
+    ap (λ (x : Order). told (effect disk x bytes).outcome) (write_order bytes e)
+    ∙ ap (λ (p : Plan). told (outcome_by p disk one_write)) (write_plan disk.count one none)
 
 write_disk : (most : ℕ) (disk : Disk) (bytes : List ℕ) → nat_lt disk.count 1 ≡ false → nat_lt disk.count 0 ≡ false → length bytes ≡ 512
     → (local most disk (write_first bytes)).disk ≡ written 0 bytes disk
@@ -116,7 +115,8 @@ outcomes_are c bytes some e =
     let none : nat_lt (length c.blocks / 512) 0 ≡ false = le-ltb (length c.blocks / 512) 0 (omega arith) in
     let first : (local most disk (write_first bytes)).outcome ≡ good [] = write_outcome most disk bytes one none e in
     let second : (local most (local most disk (write_first bytes)).disk read_first).outcome ≡ good bytes =
-    ap (λ (d : Disk). (local most d read_first).outcome) (write_disk most disk bytes one none e) ∙ read_outcome most (written 0 bytes disk) one none ∙ ap good (front_is bytes disk e) in
+    ap (λ (d : Disk). (local most d read_first).outcome) (write_disk most disk bytes one none e) ∙ read_outcome most (written 0 bytes disk) one none
+    ∙ ap good (front_is bytes disk e) in
     λ j. first j ∷ second j ∷ []
 
 -- ---- the requests
@@ -156,7 +156,8 @@ each_named : (name : List ℕ) → are_named name ≡ true → All (λ (byte : �
 each_named [] e = All-nil (λ (byte : ℕ). (0x21 ≤ byte) × (byte ≤ 0x7e))
 each_named (x ∷ xs) e =
     let here : (nat_le 0x21 x && nat_le x 0x7e) ≡ true = and_left (nat_le 0x21 x && nat_le x 0x7e) (are_named xs) e in
-    All-cons (λ (byte : ℕ). (0x21 ≤ byte) × (byte ≤ 0x7e)) x xs (leb-true 0x21 x (and_left (nat_le 0x21 x) (nat_le x 0x7e) here), leb-true x 0x7e (and_right (nat_le 0x21 x) (nat_le x 0x7e) here))
+    All-cons (λ (byte : ℕ). (0x21 ≤ byte) × (byte ≤ 0x7e)) x xs
+    (leb-true 0x21 x (and_left (nat_le 0x21 x) (nat_le x 0x7e) here), leb-true x 0x7e (and_right (nat_le 0x21 x) (nat_le x 0x7e) here))
     (each_named xs (and_right (nat_le 0x21 x && nat_le x 0x7e) (are_named xs) e))
 
 a_name : (name : List ℕ) → nat_lt 0 (length name) ≡ true → nat_le (length name) 223 ≡ true → are_named name ≡ true → IsName name

@@ -142,21 +142,28 @@ target_hears c i t blocks place place_back there here m ms back after_blocks ope
     let new : World = level c i a.machine after_blocks (place_after place bytes) place_back (after_all there out) here [] (back ++ canon a.answers) in
     let all : take (length bytes) bytes ≡ bytes = take_all (length bytes) bytes (omega arith) in
     let v : Framing = clean limit (place_after place bytes) (after_all there out) in
-    let feeds : target_calls.Feeds old.target (store_of blocks) back bytes (Ok r.machine.session.phase) new.target (store_of after_blocks) (back ++ canon a.answers) = record {
+    let feeds : target_calls.Feeds old.target (store_of blocks) back bytes (Ok r.machine.session.phase) new.target (store_of after_blocks)
+    (back ++ canon a.answers) = record {
       framing = v;
       count = length bytes;
       some = omega arith;
       messages = out;
       stepped = r;
       answered = record {
-        taken = subst (λ (x : List ℕ). Moves (clean limit place there) v x out) (sym all) (clean_moves limit place there bytes out (written_reads limit there out written));
+        taken = subst (λ (x : List ℕ). Moves (clean limit place there) v x out) (sym all)
+            (clean_moves limit place there bytes out (written_reads limit there out written));
         limit = refl;
         ready = not_whole-nil;
         failures = 0;
         may = reliable_answers (joined t) (disk_of blocks) out;
         works = λ well. refl;
       };
-      leaves = record { failures = refl; disk = disk ∙ sym (ap (λ (x : target.Stepped). x.disk) same); output_is = ap (λ (x : target.Stepped). back ++ canon x.answers) (sym same) };
+      leaves = record {
+        failures = refl;
+        disk = disk ∙ sym (ap (λ (x : target.Stepped). x.disk) same);
+        output_is =
+            ap (λ (x : target.Stepped). back ++ canon x.answers) (sym same);
+      };
       ends = (
         ap (λ (x : target.Stepped). x.rule) same ∙ rule,
         sym (ap (λ (x : target.Stepped). x.machine) same),
@@ -166,7 +173,9 @@ target_hears c i t blocks place place_back there here m ms back after_blocks ope
     } in
     let hears : TargetHears bytes old new = record {
       result = Ok r.machine.session.phase;
-      fed = subst (λ (b : Bool). target_calls.FedIf b old.target (store_of blocks) back bytes (Ok r.machine.session.phase) new.target (store_of after_blocks) (back ++ canon a.answers)) (sym open_) feeds;
+      fed = subst
+          (λ (b : Bool). target_calls.FedIf b old.target (store_of blocks) back bytes (Ok r.machine.session.phase) new.target (store_of after_blocks)
+          (back ++ canon a.answers)) (sym open_) feeds;
       dropped = sym (drop-length bytes);
       initiator = refl;
       fault = refl;
@@ -207,19 +216,29 @@ initiator_ends : (shut : Bool) (old new : calls.Connection) (bytes : List ℕ) (
 initiator_ends true old new bytes h before written is count ready machine framing output fault =
     inr (record { closes = is; machine = machine; output = output; cause = fault }, closed_is (heard_steps old bytes h).machine.phase is)
 initiator_ends false old new bytes h before written is count ready machine framing output fault =
-    inl (record { all = count; live = is; unready = ready; connection = λ j. record { machine = machine j; framing = framing j }; output = output; answered = refl })
+    inl (record {
+      all = count;
+      live = is;
+      unready = ready;
+      connection = λ j. record { machine = machine j; framing = framing j };
+      output =
+          output;
+      answered = refl;
+    })
 
 -- the next of those that are queued for it
 pub initiator_hears : (c : Opening) (i : initiator.Machine) (t : target.Machine) (blocks : List ℕ) (place place_back : ℕ) (there here : Logins)
     (out : List ℕ) (m : Message) (more : List Message)
     → is_closed i ≡ false → (step i m).fault ≡ None → IsWritten (calls.limit c.initiator) here m
     → Happens (level c i t blocks place place_back there here out (canon (m ∷ more))) (ToInitiator (length (canon (m ∷ []))))
-    (level c (step i m).machine t blocks place (place_after place_back (canon (m ∷ []))) there (after here m.head) (out ++ canon (step i m).output) (canon more))
+    (level c (step i m).machine t blocks place (place_after place_back (canon (m ∷ []))) there (after here m.head) (out ++ canon (step i m).output)
+    (canon more))
 initiator_hears c i t blocks place place_back there here out m more live well written =
     let limit : ℕ = calls.limit c.initiator in
     let bytes : List ℕ = canon (m ∷ []) in
     let old : World = level c i t blocks place place_back there here out (canon (m ∷ more)) in
-    let new : World = level c (step i m).machine t blocks place (place_after place_back bytes) there (after here m.head) (out ++ canon (step i m).output) (canon more) in
+    let new : World = level c (step i m).machine t blocks place (place_after place_back bytes) there (after here m.head) (out ++ canon (step i m).output)
+    (canon more) in
     let both : canon (m ∷ more) ≡ bytes ++ canon more = canon_append (m ∷ []) more in
     let first : take (length bytes) (canon (m ∷ more)) ≡ bytes = ap (take (length bytes)) both ∙ take_at bytes (canon more) (length bytes) refl in
     let one : OneStep i m = one_step (is_closed (step i m).machine) i m refl well in
@@ -238,7 +257,11 @@ initiator_hears c i t blocks place place_back there here out m more live well wr
       result = Ok (steps i (m ∷ [])).machine.phase;
       fed = (
         live,
-        (h, initiator_ends (is_closed (steps i (m ∷ [])).machine) old.initiator new.initiator bytes h out new.to_target refl refl not_whole-nil (sym one.machine) refl output one.fault),
+        (
+          h,
+          initiator_ends (is_closed (steps i (m ∷ [])).machine) old.initiator new.initiator bytes h out new.to_target refl refl not_whole-nil
+              (sym one.machine) refl output one.fault,
+        ),
       );
       dropped = sym (ap (drop (length bytes)) both ∙ drop-append_seam bytes (canon more));
       target = refl;

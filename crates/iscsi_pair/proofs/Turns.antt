@@ -1,5 +1,5 @@
 -- Messages between two ends of which neither has a begun PDU: each end hears what was sent, and a run that was served goes on.
-use Rattle.std.proofs.Common.{◌≡◌, ◌<◌, ◌≤◌, ◌⊎◌, inl, inr, ℕ, zero, suc, ◌-◌, Bool, true, false, List, [], ◌∷◌, ◌++◌, length, drop, Option, Some, None, refl, sym, ap, ◌∙◌, subst, append_assoc, arith}
+use Rattle.std.proofs.Common.{◌≡◌, ℕ, zero, suc, false, List, [], ◌∷◌, ◌++◌, length, Option, Some, None, refl, sym, ap, ◌∙◌, subst}
 use Rattle.std.proofs.lemmas.List.{append-nil}
 use Rattle.scsi_disk.specs.Disk.{Disk, disk_of}
 use Rattle.iscsi_stream.specs.declared.logins.Logins.{Logins}
@@ -30,7 +30,8 @@ use Rattle.iscsi_pair.proofs.Steps.{asked_append, initiator_asked, initiator_hea
 
 -- A run that was served has come to a world with these ends, in which no PDU is begun, and with these messages on their way to
 -- the target and to the initiator.
-pub record Stays (c : Opening) (h : History) (i : initiator.Machine) (t : target.Machine) (disk : Disk) (out back : List Message) (there here : Logins) : Type 0 where
+pub record Stays (c : Opening) (h : History) (i : initiator.Machine) (t : target.Machine) (disk : Disk) (out back : List Message)
+    (there here : Logins) : Type 0 where
   pub events : List Event
   pub blocks : List ℕ
   pub place : ℕ
@@ -58,14 +59,17 @@ some_heard c h i t m ms back there here events blocks place place_back asked_are
     let old : World = level c i t blocks place place_back there here (canon out) (canon back) in
     let new : World = level c i r.machine b.bytes (place_after place (canon out)) place_back (after_all there out) here [] (canon back ++ canon r.answers) in
     let on : RunsServed (new_pair c) (events ++ event ∷ []) new (h.outcomes ++ []) =
-    served_more (new_pair c) events old h.outcomes event new runs (target_hears c i t blocks place place_back there here m ms (canon back) b.bytes heard.open_.0 sent heard.rule b.is) tt refl in
+    served_more (new_pair c) events old h.outcomes event new runs
+    (target_hears c i t blocks place place_back there here m ms (canon back) b.bytes heard.open_.0 sent heard.rule b.is) tt refl in
     record {
       events = events ++ event ∷ [];
       blocks = b.bytes;
       place = place_after place (canon out);
       place_back = place_back;
       asked_are = asked_append events (event ∷ []) ∙ append-nil (asked events) ∙ asked_are;
-      runs = subst (λ (x : List ℕ). RunsServed (new_pair c) (events ++ event ∷ []) (level c i r.machine b.bytes (place_after place (canon out)) place_back (after_all there out) here [] x) h.outcomes)
+      runs = subst
+          (λ (x : List ℕ). RunsServed (new_pair c) (events ++ event ∷ [])
+          (level c i r.machine b.bytes (place_after place (canon out)) place_back (after_all there out) here [] x) h.outcomes)
           (sym (canon_append back r.answers))
           (subst (λ (x : List Done). RunsServed (new_pair c) (events ++ event ∷ []) new x) (append-nil h.outcomes) on);
       disk_is = b.is;
@@ -95,9 +99,11 @@ heard_one c h i t disk m more there here s live well =
     let event : Event = ToInitiator (length (canon (m ∷ []))) in
     let bytes : List ℕ = canon (m ∷ []) in
     let old : World = level c i t s.blocks s.place s.place_back there here [] (canon (m ∷ more)) in
-    let new : World = level c (step i m).machine t s.blocks s.place (place_after s.place_back bytes) there (after here m.head) (canon (step i m).output) (canon more) in
+    let new : World = level c (step i m).machine t s.blocks s.place (place_after s.place_back bytes) there (after here m.head) (canon (step i m).output)
+    (canon more) in
     let on : RunsServed (new_pair c) (s.events ++ event ∷ []) new (h.outcomes ++ []) =
-    served_more (new_pair c) s.events old h.outcomes event new s.runs (initiator_hears c i t s.blocks s.place s.place_back there here [] m more live well s.written.0) tt refl in
+    served_more (new_pair c) s.events old h.outcomes event new s.runs
+    (initiator_hears c i t s.blocks s.place s.place_back there here [] m more live well s.written.0) tt refl in
     record {
       events = s.events ++ event ∷ [];
       blocks = s.blocks;
@@ -121,7 +127,8 @@ hands_in c h i t disk there here request s served none =
     let old : World = level c i t s.blocks s.place s.place_back there here [] [] in
     let new : World = level c (submitted i request).machine t s.blocks s.place s.place_back there here (canon (submitted i request).output) [] in
     let on : RunsServed (new_pair c) (s.events ++ event ∷ []) new (h.outcomes ++ []) =
-    served_more (new_pair c) s.events old h.outcomes event new s.runs (initiator_asked c i t s.blocks s.place s.place_back there here [] [] request none) (served, none) refl in
+    served_more (new_pair c) s.events old h.outcomes event new s.runs (initiator_asked c i t s.blocks s.place s.place_back there here [] [] request none)
+    (served, none) refl in
     record {
       events = s.events ++ event ∷ [];
       blocks = s.blocks;
@@ -140,7 +147,8 @@ pub gives_out : (c : Opening) (h : History) (i : initiator.Machine) (t : target.
 gives_out c h i t disk there here d s is =
     let old : World = level c i t s.blocks s.place s.place_back there here [] [] in
     let new : World = level c (taken i) t s.blocks s.place s.place_back there here [] [] in
-    let on : RunsServed (new_pair c) (s.events ++ Takes ∷ []) new (h.outcomes ++ listed i.done) = served_more (new_pair c) s.events old h.outcomes Takes new s.runs refl tt refl in
+    let on : RunsServed (new_pair c) (s.events ++ Takes ∷ []) new (h.outcomes ++ listed i.done) =
+    served_more (new_pair c) s.events old h.outcomes Takes new s.runs refl tt refl in
     record {
       events = s.events ++ Takes ∷ [];
       blocks = s.blocks;
@@ -169,8 +177,10 @@ arrives (suc n) c h held i t disk [] there here x a s l = absurd l
 arrives (suc n) c h held i t disk (m ∷ more) there here x a s l =
     let out : List Message = (step i m).output in
     let r : target.Stepped = answers t disk out in
-    let one : Stays c h (step i m).machine t disk out more there (after here m.head) = heard_one c h i t disk m more there here s (ap is_closed_phase l.0.full) l.0.fault in
+    let one : Stays c h (step i m).machine t disk out more there (after here m.head) =
+    heard_one c h i t disk m more there here s (ap is_closed_phase l.0.full) l.0.fault in
     let on : Stays c h (step i m).machine r.machine r.disk [] (more ++ r.answers) (after_all there out) (after here m.head) =
-    heard_all out c h (step i m).machine t disk more there (after here m.head) one (written_within held.target_max_recv (most_out c) there out a.out (l.0.sends_.written there))
+    heard_all out c h (step i m).machine t disk more there (after here m.head) one
+    (written_within held.target_max_recv (most_out c) there out a.out (l.0.sends_.written there))
     (hears_well c held t disk (after_all (after here m.head) more) out a l.0.sends_) in
     arrives n c h held (step i m).machine r.machine r.disk (more ++ r.answers) (after_all there out) (after here m.head) x a on l.1
