@@ -1,15 +1,15 @@
 -- The blocks of a target's disk are those of some bytes, whatever it executed.
 use Rattle.std.specs.List.{AllByRecursion}
 use Rattle.std.proofs.Common.{◌≡◌, ◌≤◌, ℕ, ◌+◌, ◌-◌, ◌*◌, ◌/◌, List, [], ◌∷◌, ◌++◌, length, take, drop, refl, sym, ap, ◌∙◌, subst, arith}
-use Rattle.std.proofs.lemmas.List.{length-append, length-drop, length-take-le}
+use Rattle.std.proofs.lemmas.List.{drop_at, length-append, length-drop, length-take-le, take_at}
 use borrow.Rule.Slice.PartMut.{put_mid}
-use Rattle.scsi_disk.specs.Disk.{Disk, disk_of, written}
+use Rattle.scsi_disk.specs.Disk.{Disk, disk_of, joined, written}
 use Rattle.scsi_disk.specs.Effect.{disk_by, effect}
 use Rattle.scsi_disk.specs.Plan.{plan_of, transfer}
 use Rattle.scsi_disk.specs.declared.order.Order.{Order}
 use Rattle.scsi_disk.specs.declared.order.Plan.{Plan}
 use Rattle.scsi_disk.specs.declared.order.Plan.TheVariants.{Refuse, Take, Give}
-use Rattle.scsi_disk.proofs.Blocks.{cut-put, same_disk}
+use Rattle.scsi_disk.proofs.Blocks.{cut-put, joined-cut, same_disk}
 use Rattle.scsi_disk.proofs.Planned.{IsTaken, taken}
 use Rattle.iscsi_stream.specs.Pieces.{Pieces, TilesFrom, data_of}
 use Rattle.iscsi_stream.specs.Stream.{Message}
@@ -44,6 +44,18 @@ writes xs ys first count whole inside =
       is = same_disk _ _ (ap (λ (n : ℕ). n / 512) (length_put (512 * first) (length ys) xs ys refl room))
           (cut-put 512 xs ys first count whole (omega (arith, room)));
     }
+
+-- what is written there is read there
+pub joined_back : (xs ys : List ℕ) (first count : ℕ) → length ys ≡ 512 * count → first + count ≤ length xs / 512
+    → joined (written first ys (disk_of xs)).block first count ≡ ys
+joined_back xs ys first count whole inside =
+    let a : ℕ = 512 * first in
+    let tail : List ℕ = drop (length ys) (drop a xs) in
+    let room : a ≤ length xs = omega (arith, inside) in
+    ap (λ (block : ℕ → List ℕ). joined block first count) (sym (cut-put 512 xs ys first count whole room))
+    ∙ joined-cut 512 (put_mid a (length ys) xs ys) first count
+    ∙ ap (take (512 * count)) (drop_at (take a xs) (ys ++ tail) a (length-take-le a xs room))
+    ∙ take_at ys tail (512 * count) whole
 
 -- ---- an order
 

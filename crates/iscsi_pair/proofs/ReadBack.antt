@@ -1,14 +1,17 @@
--- A block that is written is read, and two ends that suit each other.
-use Rattle.std.specs.Prelude.{All, codes, nat_le, nat_lt, not, ◌&&◌, ◌==◌, ◌<◌}
-use Rattle.std.proofs.Common.{◌≡◌, ◌≤◌, inl, inr, ℕ, zero, suc, ◌/◌, Bool, true, false, List, [], ◌∷◌, length, take, refl, ap, ◌∙◌, subst, arith}
-use Rattle.std.proofs.lemmas.Bool.{le-ltb, lt-ltb, leb-true, ltb-true}
-use Rattle.std.proofs.lemmas.List.{append-nil, take_all}
+-- What is written is read, and two ends that suit each other.
+use Rattle.std.specs.Prelude.{All, bit_and, codes, min, nat_le, nat_lt, not, ◌&&◌, ◌==◌, ◌<◌}
+use Rattle.std.proofs.Common.{◌≡◌, ◌≤◌, inl, inr, ℕ, zero, suc, ◌+◌, ◌*◌, ◌/◌, Bool, true, false, List, [], ◌∷◌, length, take, refl, ap, ◌∙◌, subst, arith}
+use Rattle.std.proofs.lemmas.Bool.{eq-eqb, le-ltb, leb-true, ltb-true, ne_eqb}
+use Rattle.std.proofs.lemmas.List.{take_all}
 use Rattle.std.proofs.lemmas.List.Elements.{All-cons, All-nil}
 use Rattle.scsi_cdb.specs.Layout.{number_at, bits_at}
 use Rattle.scsi_cdb.specs.declared.block.Cdb.{Cdb}
 use Rattle.scsi_cdb.specs.declared.block.Cdb.TheVariants.{Read10, Write10}
-use Rattle.scsi_disk.specs.Disk.{Disk, cut, disk_of, joined, overlaid, written}
-use Rattle.scsi_disk.specs.Effect.{disk_by, effect, outcome_by}
+use Rattle.scsi_cdb.specs.declared.block.Transfer10.{Transfer10}
+use Rattle.scsi_cdb.specs.declared.residual.Residual.{Residual}
+use Rattle.scsi_cdb.specs.declared.residual.Residual.TheVariants.{Exact}
+use Rattle.scsi_disk.specs.Disk.{Disk, disk_of, joined, written}
+use Rattle.scsi_disk.specs.Effect.{disk_by, effect, outcome_by, residual_of}
 use Rattle.scsi_disk.specs.Plan.{plan_of}
 use Rattle.scsi_disk.specs.declared.order.Order.{Order}
 use Rattle.scsi_disk.specs.declared.order.Plan.{Plan}
@@ -18,108 +21,123 @@ use Rattle.iscsi_login.specs.Name.{IsName}
 use Rattle.iscsi_login.specs.Negotiation.{IsInRange, standard}
 use Rattle.iscsi_target_session.proofs.Cases.{and_left, and_right}
 use Rattle.iscsi_initiator.specs.Block.{record_of}
+use Rattle.iscsi_initiator.specs.declared.request.Done.TheVariants as done
+use Rattle.iscsi_initiator.specs.declared.request.Request.{Request}
+use Rattle.iscsi_initiator.specs.declared.request.Request.TheVariants as requests
 use Rattle.iscsi_pair.specs.World.{Opening}
 use Rattle.iscsi_pair.specs.LocalDisk.{local, local_outcomes, reading_order, told, writing_order}
-use Rattle.iscsi_pair.specs.Served.{IsAlwaysTaken, IsNormal, SomeRunServes, disk_outcomes}
-use Rattle.iscsi_pair.specs.Example.{good, read_first, standard_opening, write_first}
+use Rattle.iscsi_pair.specs.Served.{IsNormal, SomeRunServes, disk_outcomes}
+use Rattle.iscsi_pair.specs.Example.{NameSame, first_read, first_written, good, standard_opening}
+use Rattle.iscsi_pair.proofs.Blocks.{joined_back}
 use Rattle.iscsi_pair.proofs.Lists.{serves_all}
 
 -- ---- the orders
 
-abbrev write_cdb : List ℕ
-write_cdb = 0x2a ∷ 0 ∷ 0 ∷ 0 ∷ 0 ∷ 0 ∷ 0 ∷ 0 ∷ 1 ∷ 0 ∷ 0 ∷ 0 ∷ 0 ∷ 0 ∷ 0 ∷ 0 ∷ []
+abbrev a_write : Transfer10 → Order
+a_write t = record { cdb = Write10 t; lun = 0; read = false; write = true; expected = 512 * t.blocks }
 
-abbrev read_cdb : List ℕ
-read_cdb = 0x28 ∷ 0 ∷ 0 ∷ 0 ∷ 0 ∷ 0 ∷ 0 ∷ 0 ∷ 1 ∷ 0 ∷ 0 ∷ 0 ∷ 0 ∷ 0 ∷ 0 ∷ 0 ∷ []
+abbrev a_read : Transfer10 → Order
+a_read t = record { cdb = Read10 t; lun = 0; read = true; write = false; expected = 512 * t.blocks }
 
--- the two blocks say these commands
-write_is : record_of write_cdb
-    ≡ Write10 (record { options = 0; logical_block_address = 0; group_number = 0; blocks = 1; control = 0 })
-unfolding record_of number_at bits_at
-write_is = refl
+-- so many bytes are some
+not_none : (n : ℕ) → 0 < n → not (512 * n == 0) ≡ true
+not_none n some = ap not (ne_eqb (512 * n) 0 (λ none. omega (arith, some, none)))
 
-read_is : record_of read_cdb
-    ≡ Read10 (record { options = 0; logical_block_address = 0; group_number = 0; blocks = 1; control = 0 })
-unfolding record_of number_at bits_at
-read_is = refl
-
-abbrev one_write : Order
-one_write = record {
-  cdb = Write10 (record { options = 0; logical_block_address = 0; group_number = 0; blocks = 1; control = 0 });
-  lun = 0;
-  read = false;
-  write = true;
-  expected = 512;
-}
-
-abbrev one_read : Order
-one_read = record {
-  cdb = Read10 (record { options = 0; logical_block_address = 0; group_number = 0; blocks = 1; control = 0 });
-  lun = 0;
-  read = true;
-  write = false;
-  expected = 512;
-}
-
-write_order : (bytes : List ℕ) → length bytes ≡ 512 → writing_order 0 write_cdb bytes ≡ one_write
-write_order bytes e =
+write_order : (c : Opening) (write_cdb read_cdb bytes : List ℕ) → (p : NameSame c write_cdb read_cdb bytes) → writing_order 0 write_cdb bytes ≡ a_write p.named
+write_order c write_cdb read_cdb bytes p =
     ap (λ (x : Cdb). (let order : Order = record { cdb = x; lun = 0; read = false; write = not (length bytes == 0); expected = length bytes } in order))
-    write_is
-    ∙ ap (λ (n : ℕ). (let order : Order = record { cdb = one_write.cdb; lun = 0; read = false; write = not (n == 0); expected = n } in order)) e
+    p.writes
+    ∙ ap (λ (n : ℕ). (let order : Order = record { cdb = Write10 p.named; lun = 0; read = false; write = not (n == 0); expected = n } in order)) p.size
+    ∙ ap (λ (b : Bool). (let order : Order = record { cdb = Write10 p.named; lun = 0; read = false; write = b; expected = 512 * p.named.blocks } in order))
+    (not_none p.named.blocks p.some)
 
-read_order : reading_order 0 read_cdb 512 ≡ one_read
-read_order = ap (λ (x : Cdb). (let order : Order = record { cdb = x; lun = 0; read = true; write = false; expected = 512 } in order)) read_is
+read_order : (c : Opening) (write_cdb read_cdb bytes : List ℕ) → (p : NameSame c write_cdb read_cdb bytes)
+    → reading_order 0 read_cdb (length bytes) ≡ a_read p.named
+read_order c write_cdb read_cdb bytes p =
+    ap (λ (x : Cdb). (let order : Order = record { cdb = x; lun = 0; read = not (length bytes == 0); write = false; expected = length bytes } in order)) p.reads
+    ∙ ap (λ (n : ℕ). (let order : Order = record { cdb = Read10 p.named; lun = 0; read = not (n == 0); write = false; expected = n } in order)) p.size
+    ∙ ap (λ (b : Bool). (let order : Order = record { cdb = Read10 p.named; lun = 0; read = b; write = false; expected = 512 * p.named.blocks } in order))
+    (not_none p.named.blocks p.some)
 
--- on a disk with a block the one is taken, and the other given
-write_plan : (n : ℕ) → nat_lt n 1 ≡ false → nat_lt n 0 ≡ false → plan_of one_write n ≡ Take 512
-write_plan n one none = rw (one, none) refl
+-- what no disk of so many blocks refuses
+record AreFine (t : Transfer10) (n : ℕ) : Type 0 where
+  plain : bit_and t.options 0xe0 ≡ 0
+  few : nat_lt 8192 t.blocks ≡ false
+  inside : nat_lt n (t.logical_block_address + t.blocks) ≡ false
+  none : nat_lt n 0 ≡ false
 
-read_plan : (n : ℕ) → nat_lt n 1 ≡ false → nat_lt n 0 ≡ false → plan_of one_read n ≡ Give 512
-read_plan n one none = rw (one, none) refl
+are_fine : (c : Opening) (write_cdb read_cdb bytes : List ℕ) → (p : NameSame c write_cdb read_cdb bytes) → AreFine p.named (length c.blocks / 512)
+are_fine c write_cdb read_cdb bytes p = record {
+  plain = p.plain;
+  few = le-ltb 8192 p.named.blocks p.few;
+  inside = le-ltb (length c.blocks / 512) (p.named.logical_block_address + p.named.blocks) p.inside;
+  none = le-ltb (length c.blocks / 512) 0 (omega arith);
+}
 
--- ---- the bytes
+-- the one is taken, and the other given
+write_plan : (t : Transfer10) (n : ℕ) → AreFine t n → plan_of (a_write t) n ≡ Take (512 * t.blocks)
+write_plan t n f =
+    (let same : (512 * t.blocks == 512 * t.blocks) ≡ true = eq-eqb (512 * t.blocks) (512 * t.blocks) refl in rw (f.plain, f.few, f.inside, same, f.none) refl)
 
--- what a read gives of the block that was written
-front_is : (bytes : List ℕ) (disk : Disk) → length bytes ≡ 512 → take 512 (joined (written 0 bytes disk).block 0 1) ≡ bytes
-unfolding joined overlaid cut
-front_is bytes disk e =
-    let some : nat_lt 0 (length bytes) ≡ true = lt-ltb 0 (length bytes) (omega (arith, e)) in
-    rw some (ap (take 512) (append-nil (take 512 bytes)) ∙ ap (take 512) (take_all 512 bytes (omega (arith, e))) ∙ take_all 512 bytes (omega (arith, e)))
+read_plan : (t : Transfer10) (n : ℕ) → AreFine t n → plan_of (a_read t) n ≡ Give (512 * t.blocks)
+read_plan t n f = rw (f.plain, f.few, f.inside, f.none) (ap Give (let least : min (512 * t.blocks) (512 * t.blocks) ≡ 512 * t.blocks = omega arith in least))
+
+-- as many bytes as were expected
+none_over : (n : ℕ) → residual_of n n ≡ Exact
+none_over n = (let same : nat_lt n n ≡ false = le-ltb n n (omega arith) in rw same refl)
 
 -- the write is told to be good, and leaves its bytes
-write_outcome : (most : ℕ) (disk : Disk) (bytes : List ℕ) → nat_lt disk.count 1 ≡ false → nat_lt disk.count 0 ≡ false → length bytes ≡ 512
-    → (local most disk (write_first bytes)).outcome ≡ good []
-write_outcome most disk bytes one none e =
-    ap (λ (x : Order). told (effect disk x bytes).outcome) (write_order bytes e)
-    ∙ ap (λ (p : Plan). told (outcome_by p disk one_write)) (write_plan disk.count one none)
+write_outcome : (most : ℕ) (c : Opening) (write_cdb read_cdb bytes : List ℕ) → NameSame c write_cdb read_cdb bytes
+    → (local most (disk_of c.blocks) (requests.Out 0 write_cdb bytes)).outcome ≡ good []
+write_outcome most c write_cdb read_cdb bytes p =
+    let disk : Disk = disk_of c.blocks in
+    ap (λ (x : Order). told (effect disk x bytes).outcome) (write_order c write_cdb read_cdb bytes p)
+    ∙ ap (λ (x : Plan). told (outcome_by x disk (a_write p.named))) (write_plan p.named (length c.blocks / 512) (are_fine c write_cdb read_cdb bytes p))
+    ∙ ap (λ (x : Residual). done.Command 0 0x00 [] [] x) (none_over (512 * p.named.blocks))
 
-write_disk : (most : ℕ) (disk : Disk) (bytes : List ℕ) → nat_lt disk.count 1 ≡ false → nat_lt disk.count 0 ≡ false → length bytes ≡ 512
-    → (local most disk (write_first bytes)).disk ≡ written 0 bytes disk
-write_disk most disk bytes one none e =
-    ap (λ (x : Order). (effect disk x bytes).disk) (write_order bytes e) ∙ ap (λ (p : Plan). disk_by p disk one_write bytes) (write_plan disk.count one none)
+write_disk : (most : ℕ) (c : Opening) (write_cdb read_cdb bytes : List ℕ) → (p : NameSame c write_cdb read_cdb bytes)
+    → (local most (disk_of c.blocks) (requests.Out 0 write_cdb bytes)).disk ≡ written p.named.logical_block_address bytes (disk_of c.blocks)
+write_disk most c write_cdb read_cdb bytes p =
+    let disk : Disk = disk_of c.blocks in
+    ap (λ (x : Order). (effect disk x bytes).disk) (write_order c write_cdb read_cdb bytes p)
+    ∙ ap (λ (x : Plan). disk_by x disk (a_write p.named) bytes) (write_plan p.named (length c.blocks / 512) (are_fine c write_cdb read_cdb bytes p))
 
--- the read gives the first block
-read_outcome : (most : ℕ) (disk : Disk) → nat_lt disk.count 1 ≡ false → nat_lt disk.count 0 ≡ false
-    → (local most disk read_first).outcome ≡ good (take 512 (joined disk.block 0 1))
-read_outcome most disk one none =
-    ap (λ (x : Order). told (effect disk x []).outcome) read_order ∙ ap (λ (p : Plan). told (outcome_by p disk one_read)) (read_plan disk.count one none)
+-- the read gives them
+read_outcome : (most : ℕ) (c : Opening) (write_cdb read_cdb bytes : List ℕ) → (p : NameSame c write_cdb read_cdb bytes)
+    → (local most (written p.named.logical_block_address bytes (disk_of c.blocks)) (requests.In 0 read_cdb (length bytes))).outcome ≡ good bytes
+read_outcome most c write_cdb read_cdb bytes p =
+    let first : ℕ = p.named.logical_block_address in
+    let disk : Disk = written first bytes (disk_of c.blocks) in
+    let size : ℕ = 512 * p.named.blocks in
+    let all : take size (joined disk.block first p.named.blocks) ≡ bytes =
+    ap (take size) (joined_back c.blocks bytes first p.named.blocks p.size p.inside) ∙ take_all size bytes (let same = p.size in omega (arith, same)) in
+    ap (λ (x : Order). told (effect disk x []).outcome) (read_order c write_cdb read_cdb bytes p)
+    ∙ ap (λ (x : Plan). told (outcome_by x disk (a_read p.named))) (read_plan p.named (length c.blocks / 512) (are_fine c write_cdb read_cdb bytes p))
+    ∙ ap (λ (x : Residual). done.Command 0 0x00 [] (take size (joined disk.block first p.named.blocks)) x) (none_over size)
+    ∙ ap good all
 
 -- both outcomes
-outcomes_are : (c : Opening) (bytes : List ℕ) → 512 ≤ length c.blocks → length bytes ≡ 512
-    → disk_outcomes c (write_first bytes ∷ read_first ∷ []) ≡ good [] ∷ good bytes ∷ []
+outcomes_are : (c : Opening) (write_cdb read_cdb bytes : List ℕ) → NameSame c write_cdb read_cdb bytes
+    → disk_outcomes c (requests.Out 0 write_cdb bytes ∷ requests.In 0 read_cdb (length bytes) ∷ []) ≡ good [] ∷ good bytes ∷ []
 unfolding local_outcomes
-outcomes_are c bytes some e =
+outcomes_are c write_cdb read_cdb bytes p =
     let most : ℕ = c.initiator.proposal.prefs.max_recv in
     let disk : Disk = disk_of c.blocks in
-    let one : nat_lt (length c.blocks / 512) 1 ≡ false = le-ltb (length c.blocks / 512) 1 (omega (arith, some)) in
-    let none : nat_lt (length c.blocks / 512) 0 ≡ false = le-ltb (length c.blocks / 512) 0 (omega arith) in
-    let first : (local most disk (write_first bytes)).outcome ≡ good [] = write_outcome most disk bytes one none e in
-    let second : (local most (local most disk (write_first bytes)).disk read_first).outcome ≡ good bytes =
-    ap (λ (d : Disk). (local most d read_first).outcome) (write_disk most disk bytes one none e) ∙ read_outcome most (written 0 bytes disk) one none
-    ∙ ap good (front_is bytes disk e) in
-    λ j. first j ∷ second j ∷ []
+    let wrote : (local most disk (requests.Out 0 write_cdb bytes)).outcome ≡ good [] = write_outcome most c write_cdb read_cdb bytes p in
+    let gave : (local most (local most disk (requests.Out 0 write_cdb bytes)).disk (requests.In 0 read_cdb (length bytes))).outcome ≡ good bytes =
+    ap (λ (d : Disk). (local most d (requests.In 0 read_cdb (length bytes))).outcome) (write_disk most c write_cdb read_cdb bytes p)
+    ∙ read_outcome most c write_cdb read_cdb bytes p in
+    λ j. wrote j ∷ gave j ∷ []
 
--- ---- the requests
+-- some run serves both
+pub reads_back : (c : Opening) (write_cdb read_cdb bytes : List ℕ) → IsNormal c → NameSame c write_cdb read_cdb bytes
+    → SomeRunServes c (requests.Out 0 write_cdb bytes ∷ requests.In 0 read_cdb (length bytes) ∷ []) (good [] ∷ good bytes ∷ [])
+reads_back c write_cdb read_cdb bytes o p =
+    let all : List Request = requests.Out 0 write_cdb bytes ∷ requests.In 0 read_cdb (length bytes) ∷ [] in
+    let most : length bytes ≤ 4194304 = (let few = p.few in let size = p.size in omega (arith, few, size)) in
+    subst (SomeRunServes c all) (outcomes_are c write_cdb read_cdb bytes p) (serves_all c all o ((p.write_room, most), ((p.read_room, most), tt)))
+
+-- ---- the first block
 
 abbrev are_bytes : List ℕ → Bool
 are_bytes [] = true
@@ -133,18 +151,30 @@ bytes_are : (b : List ℕ) → are_bytes b ≡ true → AreBytes b
 bytes_are [] e = λ i. omega arith
 bytes_are (x ∷ xs) e = byte_more x xs (ltb-true x 256 (and_left (nat_lt x 256) (are_bytes xs) e)) (bytes_are xs (and_right (nat_lt x 256) (are_bytes xs) e))
 
-write_taken : (bytes : List ℕ) → length bytes ≡ 512 → IsAlwaysTaken (write_first bytes)
-write_taken bytes e = ((omega arith, refl, bytes_are write_cdb refl), omega (arith, e))
+abbrev first_block : Transfer10
+first_block = record { options = 0; logical_block_address = 0; group_number = 0; blocks = 1; control = 0 }
 
-read_taken : IsAlwaysTaken read_first
-read_taken = ((omega arith, refl, bytes_are read_cdb refl), omega arith)
+write_is : record_of first_written ≡ Write10 first_block
+unfolding record_of number_at bits_at
+write_is = refl
 
--- some run serves both
-pub reads_back : (c : Opening) (bytes : List ℕ) → IsNormal c → 512 ≤ length c.blocks → length bytes ≡ 512
-    → SomeRunServes c (write_first bytes ∷ read_first ∷ []) (good [] ∷ good bytes ∷ [])
-reads_back c bytes o some e =
-    subst (SomeRunServes c (write_first bytes ∷ read_first ∷ [])) (outcomes_are c bytes some e)
-    (serves_all c (write_first bytes ∷ read_first ∷ []) o (write_taken bytes e, (read_taken, tt)))
+read_is : record_of first_read ≡ Read10 first_block
+unfolding record_of number_at bits_at
+read_is = refl
+
+pub first_same : (c : Opening) (bytes : List ℕ) → 512 ≤ length c.blocks → length bytes ≡ 512 → NameSame c first_written first_read bytes
+first_same c bytes some e = record {
+  named = first_block;
+  writes = write_is;
+  reads = read_is;
+  plain = refl;
+  some = omega arith;
+  few = omega arith;
+  inside = omega (arith, some);
+  size = e;
+  write_room = (omega arith, refl, bytes_are first_written refl);
+  read_room = (omega arith, refl, bytes_are first_read refl);
+}
 
 -- ---- two ends that suit each other
 

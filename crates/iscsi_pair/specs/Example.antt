@@ -1,6 +1,8 @@
--- A write and a read of one block, and two ends that are configured as the standard preferences say
+-- A write and a read of the same blocks, and two ends with the standard preferences
 -- (RFC 7143, section 13; SBC-3; own rule).
-use Rattle.std.specs.Prelude.{ℕ, List, [], ◌∷◌, codes}
+use Rattle.std.specs.Prelude.{◌≡◌, ℕ, ◌+◌, ◌*◌, ◌/◌, ◌<◌, ◌≤◌, List, [], ◌∷◌, length, bit_and, codes}
+use Rattle.scsi_cdb.specs.declared.block.Cdb.TheVariants.{Read10, Write10}
+use Rattle.scsi_cdb.specs.declared.block.Transfer10.{Transfer10}
 use Rattle.scsi_cdb.specs.declared.residual.Residual.TheVariants.{Exact}
 use Rattle.iscsi_login.specs.Negotiation.{standard}
 use Rattle.iscsi_login.specs.declared.stage.Stage.TheVariants as stages
@@ -8,19 +10,31 @@ use Rattle.iscsi_login.specs.declared.stage.Session.TheVariants as sessions
 use Rattle.iscsi_login.specs.declared.offers.Auth.TheVariants as auths
 use Rattle.iscsi_initiator.specs.declared.request.Done.{Done}
 use Rattle.iscsi_initiator.specs.declared.request.Done.TheVariants as done
-use Rattle.iscsi_initiator.specs.declared.request.Request.{Request}
-use Rattle.iscsi_initiator.specs.declared.request.Request.TheVariants as requests
+use Rattle.iscsi_initiator.specs.Block.{record_of}
 use Rattle.iscsi_pair.specs.World.{Opening}
+use Rattle.iscsi_pair.specs.Served.{HasRoom}
 
--- WRITE(10) of the first block of unit 0 (SBC-3).
-abbrev pub write_first : List ℕ → Request
-write_first bytes =
-    requests.Out 0 (0x2a ∷ 0 ∷ 0 ∷ 0 ∷ 0 ∷ 0 ∷ 0 ∷ 0 ∷ 1 ∷ 0 ∷ 0 ∷ 0 ∷ 0 ∷ 0 ∷ 0 ∷ 0 ∷ []) bytes
+-- A WRITE(10) and a READ(10) of the same blocks, which the disk has, at most as many as one command
+-- may name and without protection, and as many bytes (SBC-3; the most is own profile).
+pub record NameSame (c : Opening) (write_cdb read_cdb bytes : List ℕ) : Type 0 where
+  pub named : Transfer10
+  pub writes : record_of write_cdb ≡ Write10 named
+  pub reads : record_of read_cdb ≡ Read10 named
+  pub plain : bit_and named.options 0xe0 ≡ 0
+  pub some : 0 < named.blocks
+  pub few : named.blocks ≤ 8192
+  pub inside : named.logical_block_address + named.blocks ≤ length c.blocks / 512
+  pub size : length bytes ≡ 512 * named.blocks
+  pub write_room : HasRoom 0 write_cdb
+  pub read_room : HasRoom 0 read_cdb
 
--- READ(10) of it, which expects 512 bytes (SBC-3).
-abbrev pub read_first : Request
-read_first =
-    requests.In 0 (0x28 ∷ 0 ∷ 0 ∷ 0 ∷ 0 ∷ 0 ∷ 0 ∷ 0 ∷ 1 ∷ 0 ∷ 0 ∷ 0 ∷ 0 ∷ 0 ∷ 0 ∷ 0 ∷ []) 512
+-- WRITE(10) of the first block (SBC-3).
+abbrev pub first_written : List ℕ
+first_written = 0x2a ∷ 0 ∷ 0 ∷ 0 ∷ 0 ∷ 0 ∷ 0 ∷ 0 ∷ 1 ∷ 0 ∷ 0 ∷ 0 ∷ 0 ∷ 0 ∷ 0 ∷ 0 ∷ []
+
+-- READ(10) of it (SBC-3).
+abbrev pub first_read : List ℕ
+first_read = 0x28 ∷ 0 ∷ 0 ∷ 0 ∷ 0 ∷ 0 ∷ 0 ∷ 0 ∷ 1 ∷ 0 ∷ 0 ∷ 0 ∷ 0 ∷ 0 ∷ 0 ∷ 0 ∷ []
 
 -- GOOD, with these bytes, no sense and no residual (sections 11.4.1 and 11.4.2).
 abbrev pub good : List ℕ → Done

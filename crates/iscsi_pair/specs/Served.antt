@@ -66,10 +66,10 @@ RunsServed old (event ∷ events) new outcomes =
 
 -- Some run is served in which these requests are handed in and these outcomes taken, and after which
 -- nothing is on its way (own rule).
-pub record SomeRunServes (c : Opening) (requests : List Request) (outcomes : List Done) : Type 0 where
+pub record SomeRunServes (c : Opening) (all : List Request) (outcomes : List Done) : Type 0 where
   pub events : List Event
   pub world : World
-  pub asked_are : asked events ≡ requests
+  pub asked_are : asked events ≡ all
   pub runs : RunsServed (new_pair c) events world outcomes
   pub none_out : world.to_target ≡ []
   pub none_back : world.to_initiator ≡ []

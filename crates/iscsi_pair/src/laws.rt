@@ -17,7 +17,7 @@ ghost use Rattle.iscsi_initiator.specs.Machine.{taken};
 ghost use Rattle.iscsi_initiator.specs.State as initiator;
 ghost use Rattle.iscsi_initiator.specs.Submitted.{is_too_long, submitted};
 ghost use Rattle.iscsi_pair.specs.LocalDisk.{AreInStep, ComesTo, handed_in, local};
-ghost use Rattle.iscsi_pair.specs.Example.{good, read_first, standard_opening, write_first};
+ghost use Rattle.iscsi_pair.specs.Example.{NameSame, first_read, first_written, good, standard_opening};
 ghost use Rattle.iscsi_pair.specs.Served.{AreAtEnd, IsAlwaysTaken, IsNormal, IsServed, RunsServed, SomeRunServes, asked, disk_after, disk_outcomes};
 ghost use Rattle.iscsi_pair.specs.World.{Event, IsOpening, LooksAlike, Opening, Reached, RunsCalmly, RunsInTime, Suits, World, keeps_no_memory, new_pair};
 ghost use Rattle.iscsi_pair.specs.Traffic.{Traffic, Traces, first_traffic, TargetStands, InitiatorStands};
@@ -168,13 +168,17 @@ pub fn lists_are_served()
         SomeRunServes c all (disk_outcomes c all) }
 {}
 
-/// What is written is read: some run is served in which a WRITE(10) of the first block is handed in and
-/// a READ(10) of it, and whose outcomes are GOOD for both, for the read with the bytes that were
-/// written (SBC-3).
+/// What is written is read: some run is served in which a WRITE(10) and a READ(10) of the same blocks
+/// are handed in, and whose outcomes are GOOD for both, for the read with the bytes that were written
+/// (SBC-3).
 pub fn what_is_written_is_read()
-    ensures read { (c : Opening) (bytes : List ℕ) → IsNormal c → 512 ≤ length c.blocks
-        → length bytes ≡ 512
-        → SomeRunServes c (write_first bytes ∷ read_first ∷ []) (good [] ∷ good bytes ∷ []) }
-    // Ends of the standard preferences, with names that suit, are such ends.
+    ensures read { (c : Opening) (write_cdb read_cdb bytes : List ℕ) → IsNormal c
+        → NameSame c write_cdb read_cdb bytes → SomeRunServes c
+        (requests.Out 0 write_cdb bytes ∷ requests.In 0 read_cdb (length bytes) ∷ [])
+        (good [] ∷ good bytes ∷ []) }
+    // These descriptor blocks name the first block of a disk that has one,
+    ensures first { (c : Opening) (bytes : List ℕ) → 512 ≤ length c.blocks → length bytes ≡ 512
+        → NameSame c first_written first_read bytes }
+    // and ends of the standard preferences, with names that suit, are normal ones.
     ensures normal { (blocks : List ℕ) → IsNormal (standard_opening blocks) }
 {}
