@@ -20,6 +20,7 @@ use Rattle.iscsi_initiator.specs.State as initiator
 use Rattle.iscsi_initiator.specs.Steps.{Stepped}
 use Rattle.iscsi_initiator.specs.Login.{asked, asked_from, enters, login_request, offered, start_step}
 use Rattle.iscsi_initiator.specs.Machine.{step}
+use Rattle.iscsi_pair.proofs.Steps.{first_spot}
 use Rattle.iscsi_pair.specs.World.{Opening}
 use Rattle.iscsi_pair.specs.Served.{IsNormal, RunsServed}
 use Rattle.iscsi_pair.proofs.Talk.{Asking, Asks_on, Round, first_asks, round}
@@ -196,8 +197,8 @@ unfolding RunsServed
 first_stays c = record {
   events = [];
   blocks = c.blocks;
-  place = 0;
-  place_back = 0;
+  place = first_spot;
+  place_back = first_spot;
   asked_are = refl;
   runs = (refl, refl);
   disk_is = refl;

@@ -1,13 +1,15 @@
 -- Events between two ends of which neither has a begun PDU: where each leads.
-use Rattle.std.proofs.Common.{◌≡◌, ◌<◌, ◌⊎◌, inl, inr, ℕ, ◌+◌, min, Bool, true, false, List, [], ◌∷◌, ◌++◌, length, take, drop, None, Ok, refl, sym, ap, ◌∙◌, subst, append_assoc, arith}
+use Rattle.std.proofs.Common.{◌≡◌, ◌<◌, ◌≤◌, ◌⊎◌, inl, inr, ℕ, ◌+◌, min, max, Bool, true, false, List, [], ◌∷◌, ◌++◌, length, take, drop, None, Ok, refl, sym, ap, ◌∙◌, subst, append_assoc, arith}
 use Rattle.std.proofs.Math.Seq.{drop-append_seam, drop-length}
-use Rattle.std.proofs.lemmas.List.{append-nil, length-append, nil_from_length, take_all, take_at}
+use Rattle.std.proofs.lemmas.List.{append-nil, drop_at, length-append, nil_from_length, take-append-le, take_all, take_at}
 use Rattle.scsi_disk.specs.Disk.{Disk, disk_of}
 use Rattle.iscsi_stream.specs.declared.logins.Logins.{Logins}
 use Rattle.iscsi_stream.specs.Segment.{no_login, after}
-use Rattle.iscsi_stream.specs.Stream.{Message, ReadsAs, after_all}
+use Rattle.iscsi_stream.specs.Stream.{Message, ReadsAs, after_all, pdu_len}
 use Rattle.iscsi_stream.specs.Canonical.{canon, canonical_bytes}
-use Rattle.iscsi_stream.specs.Framing.{Framing, Moves, is_ready, last_place, settled}
+use Rattle.iscsi_stream.specs.Framing.{Framing, Moves, begun_len, is_ready, last_place, length_at, longest_of, settled}
+use Rattle.iscsi_stream.proofs.Heads.{length_at-same, means-length}
+use Rattle.iscsi_stream.proofs.Gathered.{begun_len-short}
 use Rattle.iscsi_stream.proofs.Settled.{settled-short, length-settled}
 use Rattle.iscsi_stream.proofs.Ready.{not_whole-nil}
 use Rattle.iscsi_stream.proofs.Writing.{canon_append}
@@ -38,33 +40,80 @@ use Rattle.iscsi_pair.proofs.Unread.{after_all_append, reads_joined, written_rea
 
 -- ---- framers that hold nothing
 
--- a framer with no begun PDU
-abbrev pub clean : ℕ → ℕ → Logins → Framing
-clean limit place logins = record { limit = limit; place = place; logins = logins; held = []; failed = false }
+-- where a framer with no begun PDU is: its place, and the room of its buffer
+pub record Spot : Type 0 where
+  pub place : ℕ
+  pub room : ℕ
 
--- the place behind these bytes
-abbrev pub place_after : ℕ → List ℕ → ℕ
-place_after place bytes = min (place + length bytes) last_place
+-- the beginning of a stream
+abbrev pub first_spot : Spot
+first_spot = record { place = 0; room = 0 }
+
+-- a framer with no begun PDU
+abbrev pub clean : ℕ → Spot → Logins → Framing
+clean limit at logins =
+    record { limit = limit; place = at.place; logins = logins; held = []; room = at.room; failed = false }
+
+-- where it is behind these messages
+abbrev pub spot_after : Spot → List Message → Spot
+spot_after at ms = record {
+  place = min (at.place + length (canon ms)) last_place;
+  room = max at.room (longest_of ms (canon ms));
+}
 
 place_sum : (place given bytes last : ℕ) → place ≡ min given last → min (place + bytes) last ≡ min (given + bytes) last
 place_sum place given bytes last e = omega (arith, e)
+
+-- the length that a front says is that of the whole
+length_at-front : (front rest : List ℕ) → 48 ≤ length front → length_at (front ++ rest) ≡ length_at front
+length_at-front front rest long = length_at-same (front ++ rest) front (take-append-le 48 front rest long)
+
+-- the longest segment of PDUs and of those behind them
+longest_more : (limit : ℕ) (logins : Logins) (given : List ℕ) (ms : List Message) (bytes : List ℕ) (more : List Message)
+    → ReadsAs limit logins given ms
+    → longest_of (ms ++ more) (given ++ bytes) ≡ max (longest_of ms given) (longest_of more bytes)
+unfolding ReadsAs longest_of
+longest_more limit logins given [] bytes more reads =
+    let same : longest_of more (given ++ bytes) ≡ longest_of more bytes = ap (λ (x : List ℕ). longest_of more (x ++ bytes)) reads in
+    omega (arith, same)
+longest_more limit logins given (k ∷ ms) bytes more reads =
+    let b = reads.3 in
+    let pdu = reads.0 in
+    let long : 48 ≤ length pdu = omega (arith, b.means.size) in
+    let n : length_at pdu ≡ length reads.1 = sym (means-length pdu k.head reads.1 b.means) in
+    let size : pdu_len (length_at pdu) ≡ length pdu = ap pdu_len n ∙ sym b.means.size in
+    let first : length_at given ≡ length_at pdu = ap length_at b.whole ∙ length_at-front pdu reads.2 long in
+    let whole : given ++ bytes ≡ pdu ++ (reads.2 ++ bytes) = ap (λ (x : List ℕ). x ++ bytes) b.whole ∙ append_assoc pdu reads.2 bytes in
+    let first' : length_at (given ++ bytes) ≡ length_at pdu = ap length_at whole ∙ length_at-front pdu (reads.2 ++ bytes) long in
+    let behind : drop (pdu_len (length_at given)) given ≡ reads.2 =
+    ap (λ (j : ℕ). drop (pdu_len j) given) first ∙ ap (λ (j : ℕ). drop j given) size
+    ∙ ap (drop (length pdu)) b.whole ∙ drop_at pdu reads.2 (length pdu) refl in
+    let behind' : drop (pdu_len (length_at (given ++ bytes))) (given ++ bytes) ≡ reads.2 ++ bytes =
+    ap (λ (j : ℕ). drop (pdu_len j) (given ++ bytes)) first' ∙ ap (λ (j : ℕ). drop j (given ++ bytes)) size
+    ∙ ap (drop (length pdu)) whole ∙ drop_at pdu (reads.2 ++ bytes) (length pdu) refl in
+    let later = longest_more limit (after logins k.head) reads.2 ms bytes more reads.4 in
+    omega (arith, first, first', ap (longest_of ms) behind, ap (longest_of (ms ++ more)) behind', later)
 
 none_rests : (rest : List ℕ) → [] ≡ settled rest → rest ≡ []
 none_rests rest e = nil_from_length rest (sym (ap length e ∙ length-settled rest))
 
 -- it takes whole PDUs, and holds nothing then
-clean_moves : (limit place : ℕ) (logins : Logins) (bytes : List ℕ) (ms : List Message) → ReadsAs limit logins bytes ms
-    → Moves (clean limit place logins) (clean limit (place_after place bytes) (after_all logins ms)) bytes ms
-clean_moves limit place logins bytes ms r = λ stream heard t.
-    let all : stream ≡ t.given = t.whole ∙ ap (λ (x : List ℕ). t.given ++ x) (none_rests t.rest t.held) ∙ append-nil t.given in
+clean_moves : (limit : ℕ) (at : Spot) (logins : Logins) (ms : List Message) → ReadsAs limit logins (canon ms) ms
+    → Moves (clean limit at logins) (clean limit (spot_after at ms) (after_all logins ms)) (canon ms) ms
+clean_moves limit at logins ms r = λ stream heard t.
+    let bytes : List ℕ = canon ms in
+    let none : t.rest ≡ [] = none_rests t.rest t.held in
+    let all : stream ≡ t.given = t.whole ∙ ap (λ (x : List ℕ). t.given ++ x) none ∙ append-nil t.given in
+    let nothing : begun_len [] ≡ 0 = begun_len-short [] (omega arith) in
     record {
       given = t.given ++ bytes;
       rest = [];
       whole = ap (λ (x : List ℕ). x ++ bytes) all ∙ sym (append-nil (t.given ++ bytes));
       reads = reads_joined limit no_login t.given heard bytes ms t.reads (subst (λ (l : Logins). ReadsAs limit l bytes ms) t.logins r);
-      place = place_sum place (length t.given) (length bytes) last_place t.place ∙ ap (λ (n : ℕ). min n last_place) (sym (length-append t.given bytes));
+      place = place_sum at.place (length t.given) (length bytes) last_place t.place ∙ ap (λ (n : ℕ). min n last_place) (sym (length-append t.given bytes));
       logins = ap (λ (l : Logins). after_all l ms) t.logins ∙ sym (after_all_append no_login heard ms);
       held = sym (settled-short [] (omega arith));
+      room = omega (arith, t.room, ap begun_len none, nothing, longest_more limit no_login t.given heard bytes ms t.reads);
       begun = λ long. absurd (omega (arith, long));
       live = refl;
     }
@@ -72,7 +121,7 @@ clean_moves limit place logins bytes ms r = λ stream heard t.
 -- ---- worlds
 
 -- a world in which no end has failed and none has a begun PDU
-abbrev pub level : Opening → initiator.Machine → target.Machine → List ℕ → ℕ → ℕ → Logins → Logins → List ℕ → List ℕ → World
+abbrev pub level : Opening → initiator.Machine → target.Machine → List ℕ → Spot → Spot → Logins → Logins → List ℕ → List ℕ → World
 level c i t blocks place place_back there here out back = record {
   target = record { machine = joined t; framing = clean (target_session.limit c.target) place there };
   blocks = blocks;
@@ -124,12 +173,12 @@ ends_by true bytes v r new is same = inl is
 ends_by false bytes v r new is same = inr (record { live = is; all = refl; framing_is = same })
 
 -- all that is queued for it comes at once
-pub target_hears : (c : Opening) (i : initiator.Machine) (t : target.Machine) (blocks : List ℕ) (place place_back : ℕ) (there here : Logins)
+pub target_hears : (c : Opening) (i : initiator.Machine) (t : target.Machine) (blocks : List ℕ) (place place_back : Spot) (there here : Logins)
     (m : Message) (ms : List Message) (back after_blocks : List ℕ)
     → target_machine.is_closed t ≡ false → AreWritten (target_session.limit c.target) there (m ∷ ms) → (answers t (disk_of blocks) (m ∷ ms)).rule ≡ None
     → disk_of after_blocks ≡ (answers t (disk_of blocks) (m ∷ ms)).disk
     → Happens (level c i t blocks place place_back there here (canon (m ∷ ms)) back) (ToTarget (length (canon (m ∷ ms))))
-    (level c i (answers t (disk_of blocks) (m ∷ ms)).machine after_blocks (place_after place (canon (m ∷ ms))) place_back (after_all there (m ∷ ms)) here []
+    (level c i (answers t (disk_of blocks) (m ∷ ms)).machine after_blocks (spot_after place (m ∷ ms)) place_back (after_all there (m ∷ ms)) here []
     (back ++ canon (answers t (disk_of blocks) (m ∷ ms)).answers))
 target_hears c i t blocks place place_back there here m ms back after_blocks open_ written rule disk =
     let limit : ℕ = target_session.limit c.target in
@@ -139,9 +188,9 @@ target_hears c i t blocks place place_back there here m ms back after_blocks ope
     let r : target.Stepped = answers (joined t) (disk_of blocks) out in
     let same : joined_stepped r ≡ joined_stepped a = answers_joined t (disk_of blocks) out in
     let old : World = level c i t blocks place place_back there here bytes back in
-    let new : World = level c i a.machine after_blocks (place_after place bytes) place_back (after_all there out) here [] (back ++ canon a.answers) in
+    let new : World = level c i a.machine after_blocks (spot_after place out) place_back (after_all there out) here [] (back ++ canon a.answers) in
     let all : take (length bytes) bytes ≡ bytes = take_all (length bytes) bytes (omega arith) in
-    let v : Framing = clean limit (place_after place bytes) (after_all there out) in
+    let v : Framing = clean limit (spot_after place out) (after_all there out) in
     let feeds : target_calls.Feeds old.target (store_of blocks) back bytes (Ok r.machine.session.phase) new.target (store_of after_blocks)
     (back ++ canon a.answers) = record {
       framing = v;
@@ -151,7 +200,7 @@ target_hears c i t blocks place place_back there here m ms back after_blocks ope
       stepped = r;
       answered = record {
         taken = subst (λ (x : List ℕ). Moves (clean limit place there) v x out) (sym all)
-            (clean_moves limit place there bytes out (written_reads limit there out written));
+            (clean_moves limit place there out (written_reads limit there out written));
         limit = refl;
         ready = not_whole-nil;
         failures = 0;
@@ -227,29 +276,29 @@ initiator_ends false old new bytes h before written is count ready machine frami
     })
 
 -- the next of those that are queued for it
-pub initiator_hears : (c : Opening) (i : initiator.Machine) (t : target.Machine) (blocks : List ℕ) (place place_back : ℕ) (there here : Logins)
+pub initiator_hears : (c : Opening) (i : initiator.Machine) (t : target.Machine) (blocks : List ℕ) (place place_back : Spot) (there here : Logins)
     (out : List ℕ) (m : Message) (more : List Message)
     → is_closed i ≡ false → (step i m).fault ≡ None → IsWritten (calls.limit c.initiator) here m
     → Happens (level c i t blocks place place_back there here out (canon (m ∷ more))) (ToInitiator (length (canon (m ∷ []))))
-    (level c (step i m).machine t blocks place (place_after place_back (canon (m ∷ []))) there (after here m.head) (out ++ canon (step i m).output)
+    (level c (step i m).machine t blocks place (spot_after place_back (m ∷ [])) there (after here m.head) (out ++ canon (step i m).output)
     (canon more))
 initiator_hears c i t blocks place place_back there here out m more live well written =
     let limit : ℕ = calls.limit c.initiator in
     let bytes : List ℕ = canon (m ∷ []) in
     let old : World = level c i t blocks place place_back there here out (canon (m ∷ more)) in
-    let new : World = level c (step i m).machine t blocks place (place_after place_back bytes) there (after here m.head) (out ++ canon (step i m).output)
+    let new : World = level c (step i m).machine t blocks place (spot_after place_back (m ∷ [])) there (after here m.head) (out ++ canon (step i m).output)
     (canon more) in
     let both : canon (m ∷ more) ≡ bytes ++ canon more = canon_append (m ∷ []) more in
     let first : take (length bytes) (canon (m ∷ more)) ≡ bytes = ap (take (length bytes)) both ∙ take_at bytes (canon more) (length bytes) refl in
     let one : OneStep i m = one_step (is_closed (step i m).machine) i m refl well in
-    let v : Framing = clean limit (place_after place_back bytes) (after here m.head) in
+    let v : Framing = clean limit (spot_after place_back (m ∷ [])) (after here m.head) in
     let h : calls.Heard old.initiator bytes = record {
       count = length bytes;
       some = omega arith;
       messages = m ∷ [];
       framing = v;
       moves = subst (λ (x : List ℕ). Moves (clean limit place_back here) v x (m ∷ [])) (sym (take_all (length bytes) bytes (omega arith)))
-          (clean_moves limit place_back here bytes (m ∷ []) (written_reads limit here (m ∷ []) (written, tt)));
+          (clean_moves limit place_back here (m ∷ []) (written_reads limit here (m ∷ []) (written, tt)));
       limit = refl;
     } in
     let output : out ++ canon (step i m).output ≡ out ++ canon (steps i (m ∷ [])).output = ap (λ (x : List Message). out ++ canon x) (sym one.output) in
@@ -273,7 +322,7 @@ initiator_hears c i t blocks place place_back there here out m more live well wr
 
 -- ---- a request is handed in
 
-pub initiator_asked : (c : Opening) (i : initiator.Machine) (t : target.Machine) (blocks : List ℕ) (place place_back : ℕ) (there here : Logins)
+pub initiator_asked : (c : Opening) (i : initiator.Machine) (t : target.Machine) (blocks : List ℕ) (place place_back : Spot) (there here : Logins)
     (out back : List ℕ) (request : Request)
     → (submitted i request).refusal ≡ None
     → Happens (level c i t blocks place place_back there here out back) (Submits request)

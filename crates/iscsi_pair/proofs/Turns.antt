@@ -26,7 +26,7 @@ use Rattle.iscsi_pair.proofs.Blocks.{HasBlocks, answers_blocks}
 use Rattle.iscsi_pair.proofs.Courses.{Leads}
 use Rattle.iscsi_pair.proofs.Keeping.{AreWritten, HearsWell, History, written_append}
 use Rattle.iscsi_pair.proofs.Serving.{HaveAgreed, hears_well, most_back, most_out, written_within}
-use Rattle.iscsi_pair.proofs.Steps.{asked_append, initiator_asked, initiator_hears, level, place_after, served_more, target_hears}
+use Rattle.iscsi_pair.proofs.Steps.{asked_append, initiator_asked, initiator_hears, level, served_more, Spot, spot_after, target_hears}
 
 -- A run that was served has come to a world with these ends, in which no PDU is begun, and with these messages on their way to
 -- the target and to the initiator.
@@ -34,8 +34,8 @@ pub record Stays (c : Opening) (h : History) (i : initiator.Machine) (t : target
     (there here : Logins) : Type 0 where
   pub events : List Event
   pub blocks : List ℕ
-  pub place : ℕ
-  pub place_back : ℕ
+  pub place : Spot
+  pub place_back : Spot
   pub asked_are : asked events ≡ h.requests
   pub runs : RunsServed (new_pair c) events (level c i t blocks place place_back there here (canon out) (canon back)) h.outcomes
   pub disk_is : disk_of blocks ≡ disk
@@ -45,7 +45,7 @@ pub record Stays (c : Opening) (h : History) (i : initiator.Machine) (t : target
 -- ---- the target hears what was sent
 
 some_heard : (c : Opening) (h : History) (i : initiator.Machine) (t : target.Machine) (m : Message) (ms back : List Message) (there here : Logins)
-    (events : List Event) (blocks : List ℕ) (place place_back : ℕ)
+    (events : List Event) (blocks : List ℕ) (place place_back : Spot)
     → asked events ≡ h.requests → RunsServed (new_pair c) events (level c i t blocks place place_back there here (canon (m ∷ ms)) (canon back)) h.outcomes
     → IsSound (disk_of blocks).count t.tasks → AreWritten (most_back c) here back
     → AreWritten (most_out c) there (m ∷ ms) → HearsWell (most_back c) t (disk_of blocks) (after_all here back) (m ∷ ms)
@@ -57,19 +57,19 @@ some_heard c h i t m ms back there here events blocks place place_back asked_are
     let b : HasBlocks r.disk = answers_blocks t d out sound (record { bytes = blocks; is = refl }) in
     let event : Event = ToTarget (length (canon out)) in
     let old : World = level c i t blocks place place_back there here (canon out) (canon back) in
-    let new : World = level c i r.machine b.bytes (place_after place (canon out)) place_back (after_all there out) here [] (canon back ++ canon r.answers) in
+    let new : World = level c i r.machine b.bytes (spot_after place out) place_back (after_all there out) here [] (canon back ++ canon r.answers) in
     let on : RunsServed (new_pair c) (events ++ event ∷ []) new (h.outcomes ++ []) =
     served_more (new_pair c) events old h.outcomes event new runs
     (target_hears c i t blocks place place_back there here m ms (canon back) b.bytes heard.open_.0 sent heard.rule b.is) tt refl in
     record {
       events = events ++ event ∷ [];
       blocks = b.bytes;
-      place = place_after place (canon out);
+      place = spot_after place out;
       place_back = place_back;
       asked_are = asked_append events (event ∷ []) ∙ append-nil (asked events) ∙ asked_are;
       runs = subst
           (λ (x : List ℕ). RunsServed (new_pair c) (events ++ event ∷ [])
-          (level c i r.machine b.bytes (place_after place (canon out)) place_back (after_all there out) here [] x) h.outcomes)
+          (level c i r.machine b.bytes (spot_after place out) place_back (after_all there out) here [] x) h.outcomes)
           (sym (canon_append back r.answers))
           (subst (λ (x : List Done). RunsServed (new_pair c) (events ++ event ∷ []) new x) (append-nil h.outcomes) on);
       disk_is = b.is;
@@ -97,9 +97,8 @@ pub heard_one : (c : Opening) (h : History) (i : initiator.Machine) (t : target.
     → is_closed i ≡ false → (step i m).fault ≡ None → Stays c h (step i m).machine t disk (step i m).output more there (after here m.head)
 heard_one c h i t disk m more there here s live well =
     let event : Event = ToInitiator (length (canon (m ∷ []))) in
-    let bytes : List ℕ = canon (m ∷ []) in
     let old : World = level c i t s.blocks s.place s.place_back there here [] (canon (m ∷ more)) in
-    let new : World = level c (step i m).machine t s.blocks s.place (place_after s.place_back bytes) there (after here m.head) (canon (step i m).output)
+    let new : World = level c (step i m).machine t s.blocks s.place (spot_after s.place_back (m ∷ [])) there (after here m.head) (canon (step i m).output)
     (canon more) in
     let on : RunsServed (new_pair c) (s.events ++ event ∷ []) new (h.outcomes ++ []) =
     served_more (new_pair c) s.events old h.outcomes event new s.runs
@@ -108,7 +107,7 @@ heard_one c h i t disk m more there here s live well =
       events = s.events ++ event ∷ [];
       blocks = s.blocks;
       place = s.place;
-      place_back = place_after s.place_back bytes;
+      place_back = spot_after s.place_back (m ∷ []);
       asked_are = asked_append s.events (event ∷ []) ∙ append-nil (asked s.events) ∙ s.asked_are;
       runs = subst (λ (x : List Done). RunsServed (new_pair c) (s.events ++ event ∷ []) new x) (append-nil h.outcomes) on;
       disk_is = s.disk_is;
