@@ -31,10 +31,6 @@ target_settings = record {
   preferences = standard;
 }
 
--- The device of no store of a type fails (own rule).
-abbrev pub NeverFails : {S : Type 0} → (S → ℕ) → Type 0
-NeverFails failures = (s : _) → failures s ≡ 0
-
 -- Commands that were executed, one after another, lead from one disk to another (own rule).
 abbrev pub HasExecuted : Disk → Disk → Type 0
 HasExecuted before after = (executed : List Execution) × Leads before executed after

@@ -1,7 +1,8 @@
 -- What the parts of a session do: bytes that came are fed, and their answers are written or wait. No
 -- reader of its contract needs these.
-use Rattle.std.specs.Prelude.{◌≡◌, ℕ, List, [], ◌++◌, Option, Err}
+use Rattle.std.specs.Prelude.{◌≡◌, ◌≤◌, ℕ, List, [], ◌++◌, Option, Err}
 use Rattle.std.specs.Io.KnownBytes.{Appends}
+use Rattle.iscsi_pdu.specs.Meaning.{AreBytes}
 use Rattle.iscsi_target.specs.declared.fault.TargetFault.TheVariants as faults
 use Rattle.iscsi_target_session.specs.Configured.{Settings}
 use Rattle.iscsi_target.specs.Feed.{Connection, Store, FedAll, opening_connection, stream_of}
@@ -10,15 +11,17 @@ use Rattle.iscsi_service.specs.declared.session.SessionFault.{SessionFault}
 use Rattle.iscsi_service.specs.declared.session.SessionFault.TheVariants as session
 
 -- This stream was fed in pieces, from the first store on; of the answers some were sent, and the
--- others wait. Steady says that no device fails (own rule).
-pub record ServedUpTo (steady : Type 0) (settings : Settings) (first : Store) (stream : List ℕ)
+-- others wait. What is said of them holds where no failure was counted (own rule).
+pub record ServedUpTo (settings : Settings) (first : Store) (stream : List ℕ)
     (target : Connection) (store : Store) (start contents : Option (List ℕ))
     (waiting : List ℕ) : Type 0 where
   pub pieces : List (List ℕ)
   pub whole : stream ≡ stream_of pieces
   pub sent : List ℕ
   pub appended : Appends start contents sent
-  pub fed : steady →
+  pub bytes : AreBytes sent
+  pub rises : first.failures ≤ store.failures
+  pub fed : store.failures ≡ first.failures →
       FedAll (opening_connection settings 1) first [] pieces target store (sent ++ waiting)
   pub executed : HasExecuted first.disk store.disk
 
@@ -39,48 +42,51 @@ service target store contents waiting = record {
 }
 
 -- What was served up to here is served with these bytes more (own rule).
-abbrev pub Goes : Type 0 → Service → List ℕ → Service → Type 0
-Goes steady old bytes new =
+abbrev pub Goes : Service → List ℕ → Service → Type 0
+Goes old bytes new =
     (settings : Settings) (first : Store) (stream : List ℕ) (start : Option (List ℕ))
-    → ServedUpTo steady settings first stream old.target old.store start old.contents old.waiting
-    → ServedUpTo steady settings first (stream ++ bytes) new.target new.store start new.contents new.waiting
+    → ServedUpTo settings first stream old.target old.store start old.contents old.waiting
+    → ServedUpTo settings first (stream ++ bytes) new.target new.store start new.contents new.waiting
 
--- These bytes close the session (own rule).
-abbrev pub ClosesBy : Type 0 → Service → List ℕ → Type 0
-ClosesBy steady old bytes =
+-- These bytes close the session, where no failure was counted up to this store (own rule).
+abbrev pub ClosesBy : Service → List ℕ → Store → Type 0
+ClosesBy old bytes after =
     (settings : Settings) (first : Store) (stream : List ℕ) (start : Option (List ℕ))
-    → ServedUpTo steady settings first stream old.target old.store start old.contents old.waiting
-    → steady → IsOver settings first.disk (stream ++ bytes)
+    → ServedUpTo settings first stream old.target old.store start old.contents old.waiting
+    → after.failures ≡ first.failures → IsOver settings first.disk (stream ++ bytes)
 
 -- Something was sent, and the blocks are those that commands left (own rule).
-abbrev pub Loses : Type 0 → Service → Service → Type 0
-Loses steady old new =
+abbrev pub Loses : Service → Service → Type 0
+Loses old new =
     (settings : Settings) (first : Store) (stream : List ℕ) (start : Option (List ℕ))
-    → ServedUpTo steady settings first stream old.target old.store start old.contents old.waiting
-    → (sent : List ℕ) × Appends start new.contents sent × HasExecuted first.disk new.store.disk
+    → ServedUpTo settings first stream old.target old.store start old.contents old.waiting
+    → (sent : List ℕ) × Appends start new.contents sent × AreBytes sent
+    × HasExecuted first.disk new.store.disk
 
--- These bytes are why the session ends so (own rule).
-abbrev pub Tells : Type 0 → Service → List ℕ → SessionFault → Type 0
-Tells steady old bytes fault =
+-- These bytes are why the session ends so, where no failure was counted up to this store (own rule).
+abbrev pub Tells : Service → List ℕ → SessionFault → Store → Type 0
+Tells old bytes fault after =
     (settings : Settings) (first : Store) (stream : List ℕ) (start : Option (List ℕ))
-    → ServedUpTo steady settings first stream old.target old.store start old.contents old.waiting
-    → steady → EndsBy settings first.disk (Err fault) (stream ++ bytes)
+    → ServedUpTo settings first stream old.target old.store start old.contents old.waiting
+    → after.failures ≡ first.failures → EndsBy settings first.disk (Err fault) (stream ++ bytes)
 
 -- The answers to some first PDUs were sent, and the blocks are those that commands left (own rule).
-abbrev pub RunsOut : Type 0 → Service → List ℕ → Service → Type 0
-RunsOut steady old bytes new =
+abbrev pub RunsOut : Service → List ℕ → Service → Type 0
+RunsOut old bytes new =
     (settings : Settings) (first : Store) (stream : List ℕ) (start : Option (List ℕ))
-    → ServedUpTo steady settings first stream old.target old.store start old.contents old.waiting
-    → (sent : List ℕ) × Appends start new.contents sent × HasExecuted first.disk new.store.disk
-    × (steady → ServesFirst settings first.disk (stream ++ bytes) new.store.disk sent)
+    → ServedUpTo settings first stream old.target old.store start old.contents old.waiting
+    → (sent : List ℕ) × Appends start new.contents sent × AreBytes sent
+    × HasExecuted first.disk new.store.disk
+    × (new.store.failures ≡ first.failures
+    → ServesFirst settings first.disk (stream ++ bytes) new.store.disk sent)
 
 -- What is left where a session ends by a fault at these bytes (own rule).
-abbrev pub Breaks : Type 0 → Service → List ℕ → SessionFault → Service → Type 0
-Breaks steady old bytes (session.Target faults.NoMemory) new = RunsOut steady old bytes new
-Breaks steady old bytes (session.Target (faults.Stream fault)) new =
-    Goes steady old bytes new × Tells steady old bytes (session.Target (faults.Stream fault))
-Breaks steady old bytes (session.Target (faults.Protocol rule)) new =
-    Goes steady old bytes new × Tells steady old bytes (session.Target (faults.Protocol rule))
-Breaks steady old bytes (session.Target faults.Closed) new = ⊥
-Breaks steady old bytes session.Read new = ⊥
-Breaks steady old bytes session.Write new = Loses steady old new
+abbrev pub Breaks : Service → List ℕ → SessionFault → Service → Type 0
+Breaks old bytes (session.Target faults.NoMemory) new = RunsOut old bytes new
+Breaks old bytes (session.Target (faults.Stream fault)) new =
+    Goes old bytes new × Tells old bytes (session.Target (faults.Stream fault)) new.store
+Breaks old bytes (session.Target (faults.Protocol rule)) new =
+    Goes old bytes new × Tells old bytes (session.Target (faults.Protocol rule)) new.store
+Breaks old bytes (session.Target faults.Closed) new = ⊥
+Breaks old bytes session.Read new = ⊥
+Breaks old bytes session.Write new = Loses old new

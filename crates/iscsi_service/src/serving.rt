@@ -2,7 +2,7 @@
 
 ghost use Rattle.std.specs.Prelude.{◌≡◌, ◌<◌, ◌≤◌, ◌⊎◌, ℕ, List, IfErr};
 ghost use Rattle.scsi_disk.specs.Disk.{most_blocks};
-ghost use Rattle.iscsi_service.specs.Session.{HasExecuted, NeverFails};
+ghost use Rattle.iscsi_service.specs.Session.{HasExecuted};
 ghost use Rattle.iscsi_service.specs.Serving.{ServesOne, EndsService};
 
 use crate::serve_fault::ServeFault;
@@ -31,7 +31,8 @@ pub fn serve_one<S: BlockStore>(
     config: Config,
 ) -> Result<(), ServeFault>
     // What a connection gives and takes is not known beforehand.
-    ensures serves { (read : List ℕ) × (written : List ℕ) × (NeverFails S.failures
+    ensures serves { (read : List ℕ) × (written : List ℕ)
+        × (S.failures store.new ≡ S.failures store.old
         → ServesOne config (S.disk store.old) result read (S.disk store.new) written) }
     // Whatever comes of it, the blocks are those that commands left.
     ensures blocks { HasExecuted (S.disk store.old) (S.disk store.new) }

@@ -2,12 +2,13 @@
 
 ghost use Rattle.std.specs.Prelude.{◌≡◌, ◌≤◌, ◌<◌, ℕ, List, [], true, false, length, take, Ok, IfOk, IfErr, OnOk};
 ghost use Rattle.std.specs.Io.KnownBytes.{Appends, Consumes};
+ghost use Rattle.iscsi_pdu.specs.Meaning.{AreBytes};
 ghost use Rattle.iscsi_login.specs.Negotiation.{IsInRange};
 ghost use Rattle.iscsi_login.specs.Stage.{is_closed_phase};
 ghost use Rattle.iscsi_stream.specs.Normalising.{WroteFront};
 ghost use Rattle.iscsi_target.specs.Machine.{is_closed};
 ghost use Rattle.iscsi_target.specs.Inside.{store_of};
-ghost use Rattle.iscsi_service.specs.Session.{target_settings, EndsBy, EndsWell, HasExecuted, NeverFails, Serves};
+ghost use Rattle.iscsi_service.specs.Session.{target_settings, EndsBy, EndsWell, HasExecuted, Serves};
 ghost use Rattle.iscsi_service.specs.SessionSteps.{Goes, ClosesBy, Breaks, service};
 
 use iscsi_login::{Phase, Preferences};
@@ -57,8 +58,8 @@ pub enum SessionFault {
 /// the end of each read. It stops where the session is closed, by a logout or a refused login, and
 /// where the stream ends.
 ///
-/// What is written are the answers to all PDUs of what was read, and the store has the blocks that
-/// they leave; after want of memory those of some first PDUs, whole, and of some first tasks of the
+/// Where the store counted no failure, what is written are the answers to all PDUs of what was read,
+/// and the store has the blocks that they leave; after want of memory those of some first PDUs, whole, and of some first tasks of the
 /// next one. Of a failed write nothing is said. Answers `Ok` where the stream ends behind a PDU or
 /// the session was closed and no rule broken; `Target` with the rule that the last PDU broke, or
 /// with the fault and the place of what follows the PDUs where that is refused, or begun and not
@@ -77,13 +78,13 @@ pub fn serve_stream<S: BlockStore, R: Read, W: Write>(
     // The preferences of each configuration are in range.
     ensures serves { (read : List ℕ) × (written : List ℕ)
         × Consumes (R.remaining r.old) (R.remaining r.new) read
-        × Appends (W.contents w.old) (W.contents w.new) written
-        × (IsInRange config.preferences → NeverFails S.failures
+        × Appends (W.contents w.old) (W.contents w.new) written × AreBytes written
+        × (IsInRange config.preferences → S.failures store.new ≡ S.failures store.old
         → Serves config (S.disk store.old) result read (S.disk store.new) written
         × EndsBy config (S.disk store.old) result read) }
     // Whatever comes of it, the blocks are those that commands left.
     ensures blocks { HasExecuted (S.disk store.old) (S.disk store.new) }
-    ensures end { NeverFails S.failures → OnOk result
+    ensures end { S.failures store.new ≡ S.failures store.old → OnOk result
         (EndsWell config (S.disk store.old) (R.remaining r.old) (R.remaining r.new)) }
 {
     let mut target = Target::new(alloc, config, FIRST_STAT_SN);
@@ -117,14 +118,14 @@ fn serve_piece<S: BlockStore, W: Write>(
 ) -> Result<bool, SessionFault>
     requires live { is_closed target.old.machine ≡ false }
     ensures open { result ≡ Ok false → is_closed target.new.machine ≡ false }
-    ensures goes { OnOk result (Goes (NeverFails S.failures)
+    ensures goes { OnOk result (Goes
         (service target.old (store_of (S.disk store.old) (S.failures store.old)) (W.contents w.old) [])
         piece.now
         (service target.new (store_of (S.disk store.new) (S.failures store.new)) (W.contents w.new) [])) }
-    ensures closes { result ≡ Ok true → ClosesBy (NeverFails S.failures)
+    ensures closes { result ≡ Ok true → ClosesBy
         (service target.old (store_of (S.disk store.old) (S.failures store.old)) (W.contents w.old) [])
-        piece.now }
-    ensures err { IfErr result (λ fault. Breaks (NeverFails S.failures)
+        piece.now (store_of (S.disk store.new) (S.failures store.new)) }
+    ensures err { IfErr result (λ fault. Breaks
         (service target.old (store_of (S.disk store.old) (S.failures store.old)) (W.contents w.old) [])
         piece.now fault
         (service target.new (store_of (S.disk store.new) (S.failures store.new)) (W.contents w.new) [])) }
@@ -157,15 +158,15 @@ fn serve_next<S: BlockStore, W: Write>(
         → is_closed target.new.machine ≡ false) }
     ensures bound { IfOk result (λ done. (done.0 ≤ length piece.now)
         × (0 < length piece.now → 0 < done.0)) }
-    ensures goes { IfOk result (λ done. Goes (NeverFails S.failures)
+    ensures goes { IfOk result (λ done. Goes
         (service target.old (store_of (S.disk store.old) (S.failures store.old)) (W.contents w.old) out.old.items)
         (take done.0 piece.now)
         (service target.new (store_of (S.disk store.new) (S.failures store.new)) (W.contents w.new) out.new.items)) }
     ensures closes { IfOk result (λ done. is_closed_phase done.1 ≡ true
-        → (is_closed target.new.machine ≡ true) × ClosesBy (NeverFails S.failures)
+        → (is_closed target.new.machine ≡ true) × ClosesBy
         (service target.old (store_of (S.disk store.old) (S.failures store.old)) (W.contents w.old) out.old.items)
-        (take done.0 piece.now)) }
-    ensures err { IfErr result (λ fault. Breaks (NeverFails S.failures)
+        (take done.0 piece.now) (store_of (S.disk store.new) (S.failures store.new))) }
+    ensures err { IfErr result (λ fault. Breaks
         (service target.old (store_of (S.disk store.old) (S.failures store.old)) (W.contents w.old) out.old.items)
         piece.now fault
         (service target.new (store_of (S.disk store.new) (S.failures store.new)) (W.contents w.new) [])) }
@@ -186,6 +187,7 @@ fn serve_next<S: BlockStore, W: Write>(
 
 // Writes the answers that wait.
 fn write_out<W: Write>(out: &mut Vec<u8>, w: &mut W) -> Result<(), SessionFault>
+    ensures bytes { AreBytes out.old.items }
     ensures ok { OnOk result (Appends (W.contents w.old) (W.contents w.new) out.old.items) }
     ensures none { OnOk result (out.new.items ≡ []) }
     ensures err { IfErr result (λ fault. (fault ≡ SessionFault.Write)

@@ -1,14 +1,13 @@
 use Rattle.std.proofs.Common.{◌≡◌, false, length, []}
 use Rattle.iscsi_target.specs.Machine.{is_closed}
 use Rattle.iscsi_target.specs.Inside.{store_of}
-use Rattle.iscsi_service.specs.Session.{NeverFails}
 use Rattle.iscsi_service.specs.SessionSteps.{service}
 use Rattle.iscsi_service.proofs.SessionReads.{PieceUpTo}
 use Rattle.iscsi_service.proofs.session.serve_piece.Given as goal
 
 abbrev pub invariant-loop-rest : goal.invariant-loop-rest
 invariant-loop-rest g l =
-    (is_closed l.target.machine ≡ false) × PieceUpTo (NeverFails g.S.BlockStore.failures)
+    (is_closed l.target.machine ≡ false) × PieceUpTo
     (service l.fn.target (store_of (g.S.BlockStore.disk l.fn.store) (g.S.BlockStore.failures l.fn.store)) (g.W.Write.contents l.fn.w) []) l.fn.piece l.rest
     (service l.target (store_of (g.S.BlockStore.disk l.store) (g.S.BlockStore.failures l.store)) (g.W.Write.contents l.w) l.out.items)
 

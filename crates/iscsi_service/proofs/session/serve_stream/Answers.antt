@@ -2,44 +2,39 @@ use Rattle.std.proofs.Common.{List, ℕ, take, refl, ◌∙◌}
 use Rattle.std.proofs.lemmas.Result.{err_from_is_err_and}
 use Rattle.iscsi_target.specs.Feed.{Store}
 use Rattle.iscsi_target.specs.Inside.{store_of}
-use Rattle.iscsi_service.specs.Session.{NeverFails}
 use Rattle.iscsi_service.proofs.SessionReads.{read_start, read_stops, reads_stop, end_stops, over_stops, finish_stops, read_more, fault_stops, fault_executed, over_ends, ok_is, ok_open, ReadUpTo}
 use Rattle.iscsi_service.proofs.session.serve_stream.Goals as goal
 
 pub loop-init : goal.loop-init
 loop-init g c =
-    rw c.new-target.ensures.opening (refl, read_start (NeverFails g.S.BlockStore.failures) c.args.config (store_of (g.S.BlockStore.disk c.args.store.now) (g.S.BlockStore.failures c.args.store.now)) (g.R.Read.remaining c.args.r.now) (g.W.Write.contents c.args.w.now))
+    rw c.new-target.ensures.opening (refl, read_start c.args.config (store_of (g.S.BlockStore.disk c.args.store.now) (g.S.BlockStore.failures c.args.store.now)) (g.R.Read.remaining c.args.r.now) (g.W.Write.contents c.args.w.now))
 
 pub returns-in-Err-clause-serves : goal.returns-in-Err-clause-serves
 returns-in-Err-clause-serves g c =
-    let steady : Type 0 = NeverFails g.S.BlockStore.failures in
     let first : Store = store_of (g.S.BlockStore.disk c.args.store.now) (g.S.BlockStore.failures c.args.store.now) in
     let store : Store = store_of (g.S.BlockStore.disk c.loop.store) (g.S.BlockStore.failures c.loop.store) in
     let r0 = g.R.Read.remaining c.args.r.now in
     let w0 = g.W.Write.contents c.args.w.now in
-    read_stops steady c.args.config first c.loop.target store r0 (g.R.Read.remaining c.loop.r) (g.R.Read.remaining c.read.new.self) w0 (g.W.Write.contents c.loop.w) c.loop.invariant.1 c.loop.invariant.0 c.in-Err.ensures.bytes
+    read_stops c.args.config first c.loop.target store r0 (g.R.Read.remaining c.loop.r) (g.R.Read.remaining c.read.new.self) w0 (g.W.Write.contents c.loop.w) c.loop.invariant.1 c.loop.invariant.0 c.in-Err.ensures.bytes
 
 pub returns-in-Err-finish-clause-serves : goal.returns-in-Err-finish-clause-serves
 returns-in-Err-finish-clause-serves g c =
-    let steady : Type 0 = NeverFails g.S.BlockStore.failures in
     let first : Store = store_of (g.S.BlockStore.disk c.args.store.now) (g.S.BlockStore.failures c.args.store.now) in
     let store : Store = store_of (g.S.BlockStore.disk c.loop.store) (g.S.BlockStore.failures c.loop.store) in
     let r0 = g.R.Read.remaining c.args.r.now in
     let w0 = g.W.Write.contents c.args.w.now in
-    finish_stops steady c.args.config c.in-Err-finish.fault first c.loop.target c.finish.new.self store r0 (g.R.Read.remaining c.loop.r) (g.R.Read.remaining c.read.new.self) w0 (g.W.Write.contents c.loop.w) c.loop.invariant.1 c.loop.invariant.0 c.in-Err-finish.ensures.finishes (rw c.if-n-eq0.true at c.in-Ok.ensures.bytes.0)
+    finish_stops c.args.config c.in-Err-finish.fault first c.loop.target c.finish.new.self store r0 (g.R.Read.remaining c.loop.r) (g.R.Read.remaining c.read.new.self) w0 (g.W.Write.contents c.loop.w) c.loop.invariant.1 c.loop.invariant.0 c.in-Err-finish.ensures.finishes (rw c.if-n-eq0.true at c.in-Ok.ensures.bytes.0)
 
 pub returns-then-n-eq0-clause-serves : goal.returns-then-n-eq0-clause-serves
 returns-then-n-eq0-clause-serves g c =
-    let steady : Type 0 = NeverFails g.S.BlockStore.failures in
     let first : Store = store_of (g.S.BlockStore.disk c.args.store.now) (g.S.BlockStore.failures c.args.store.now) in
     let store : Store = store_of (g.S.BlockStore.disk c.loop.store) (g.S.BlockStore.failures c.loop.store) in
     let r0 = g.R.Read.remaining c.args.r.now in
     let w0 = g.W.Write.contents c.args.w.now in
-    end_stops steady c.args.config first c.loop.target c.finish.new.self store r0 (g.R.Read.remaining c.loop.r) (g.R.Read.remaining c.read.new.self) w0 (g.W.Write.contents c.loop.w) c.loop.invariant.1 c.loop.invariant.0 c.in_default.ensures.finishes (rw c.if-n-eq0.true at c.in-Ok.ensures.bytes.0)
+    end_stops c.args.config first c.loop.target c.finish.new.self store r0 (g.R.Read.remaining c.loop.r) (g.R.Read.remaining c.read.new.self) w0 (g.W.Write.contents c.loop.w) c.loop.invariant.1 c.loop.invariant.0 c.in_default.ensures.finishes (rw c.if-n-eq0.true at c.in-Ok.ensures.bytes.0)
 
 pub returns-in_err-serve_piece-clause-serves : goal.returns-in_err-serve_piece-clause-serves
 returns-in_err-serve_piece-clause-serves g c =
-    let steady : Type 0 = NeverFails g.S.BlockStore.failures in
     let first : Store = store_of (g.S.BlockStore.disk c.args.store.now) (g.S.BlockStore.failures c.args.store.now) in
     let store : Store = store_of (g.S.BlockStore.disk c.loop.store) (g.S.BlockStore.failures c.loop.store) in
     let after : Store = store_of (g.S.BlockStore.disk c.serve_piece.new.store) (g.S.BlockStore.failures c.serve_piece.new.store) in
@@ -51,11 +46,10 @@ returns-in_err-serve_piece-clause-serves g c =
     let w2 = g.W.Write.contents c.serve_piece.new.w in
     let piece : List ℕ = take c.in-Ok.n c.read.new.buf in
     let p = err_from_is_err_and c.from_residual.result c.from_residual.ensures.1 in
-    rw (p.1, p.2) (fault_stops steady c.args.config c.in_err-serve_piece.field-0.0 first c.loop.target c.serve_piece.new.target store after r0 r1 r2 w0 w1 w2 piece c.loop.invariant.1 c.in-Ok.ensures.bytes.0 c.in_err-serve_piece.ensures.err)
+    rw (p.1, p.2) (fault_stops c.args.config c.in_err-serve_piece.field-0.0 first c.loop.target c.serve_piece.new.target store after r0 r1 r2 w0 w1 w2 piece c.loop.invariant.1 c.in-Ok.ensures.bytes.0 c.in_err-serve_piece.ensures.err)
 
 pub returns-in_err-serve_piece-clause-blocks : goal.returns-in_err-serve_piece-clause-blocks
 returns-in_err-serve_piece-clause-blocks g c =
-    let steady : Type 0 = NeverFails g.S.BlockStore.failures in
     let first : Store = store_of (g.S.BlockStore.disk c.args.store.now) (g.S.BlockStore.failures c.args.store.now) in
     let store : Store = store_of (g.S.BlockStore.disk c.loop.store) (g.S.BlockStore.failures c.loop.store) in
     let after : Store = store_of (g.S.BlockStore.disk c.serve_piece.new.store) (g.S.BlockStore.failures c.serve_piece.new.store) in
@@ -66,11 +60,10 @@ returns-in_err-serve_piece-clause-blocks g c =
     let w1 = g.W.Write.contents c.loop.w in
     let w2 = g.W.Write.contents c.serve_piece.new.w in
     let piece : List ℕ = take c.in-Ok.n c.read.new.buf in
-    fault_executed steady c.args.config c.in_err-serve_piece.field-0.0 first c.loop.target c.serve_piece.new.target store after r0 r1 w0 w1 w2 piece c.loop.invariant.1 c.in_err-serve_piece.ensures.err
+    fault_executed c.args.config c.in_err-serve_piece.field-0.0 first c.loop.target c.serve_piece.new.target store after r0 r1 w0 w1 w2 piece c.loop.invariant.1 c.in_err-serve_piece.ensures.err
 
 pub returns-then-branch-clause-serves : goal.returns-then-branch-clause-serves
 returns-then-branch-clause-serves g c =
-    let steady : Type 0 = NeverFails g.S.BlockStore.failures in
     let first : Store = store_of (g.S.BlockStore.disk c.args.store.now) (g.S.BlockStore.failures c.args.store.now) in
     let store : Store = store_of (g.S.BlockStore.disk c.loop.store) (g.S.BlockStore.failures c.loop.store) in
     let after : Store = store_of (g.S.BlockStore.disk c.serve_piece.new.store) (g.S.BlockStore.failures c.serve_piece.new.store) in
@@ -81,12 +74,11 @@ returns-then-branch-clause-serves g c =
     let w1 = g.W.Write.contents c.loop.w in
     let w2 = g.W.Write.contents c.serve_piece.new.w in
     let piece : List ℕ = take c.in-Ok.n c.read.new.buf in
-    over_stops steady c.args.config first c.loop.target c.serve_piece.new.target store after r0 r1 r2 w0 w1 w2 piece c.loop.invariant.1 c.in-Ok.ensures.bytes.0 c.in_ok-serve_piece.ensures.goes
+    over_stops c.args.config first c.loop.target c.serve_piece.new.target store after r0 r1 r2 w0 w1 w2 piece c.loop.invariant.1 c.in-Ok.ensures.bytes.0 c.in_ok-serve_piece.ensures.goes
     (c.serve_piece.ensures.closes (c.in_ok-serve_piece.was ∙ ok_is c.in_ok-serve_piece.field-0 c.if-branch.true))
 
 pub returns-then-branch-clause-blocks : goal.returns-then-branch-clause-blocks
 returns-then-branch-clause-blocks g c =
-    let steady : Type 0 = NeverFails g.S.BlockStore.failures in
     let first : Store = store_of (g.S.BlockStore.disk c.args.store.now) (g.S.BlockStore.failures c.args.store.now) in
     let store : Store = store_of (g.S.BlockStore.disk c.loop.store) (g.S.BlockStore.failures c.loop.store) in
     let after : Store = store_of (g.S.BlockStore.disk c.serve_piece.new.store) (g.S.BlockStore.failures c.serve_piece.new.store) in
@@ -97,13 +89,12 @@ returns-then-branch-clause-blocks g c =
     let w1 = g.W.Write.contents c.loop.w in
     let w2 = g.W.Write.contents c.serve_piece.new.w in
     let piece : List ℕ = take c.in-Ok.n c.read.new.buf in
-    let more : ReadUpTo steady c.args.config first c.serve_piece.new.target after r0 r2 w0 w2 =
-    read_more steady c.args.config first c.loop.target c.serve_piece.new.target store after r0 r1 r2 w0 w1 w2 piece c.loop.invariant.1 c.in-Ok.ensures.bytes.0 c.in_ok-serve_piece.ensures.goes in
+    let more : ReadUpTo c.args.config first c.serve_piece.new.target after r0 r2 w0 w2 =
+    read_more c.args.config first c.loop.target c.serve_piece.new.target store after r0 r1 r2 w0 w1 w2 piece c.loop.invariant.1 c.in-Ok.ensures.bytes.0 c.in_ok-serve_piece.ensures.goes in
     more.served.executed
 
 pub returns-then-branch-clause-end : goal.returns-then-branch-clause-end
 returns-then-branch-clause-end g c = λ h.
-    let steady : Type 0 = NeverFails g.S.BlockStore.failures in
     let first : Store = store_of (g.S.BlockStore.disk c.args.store.now) (g.S.BlockStore.failures c.args.store.now) in
     let store : Store = store_of (g.S.BlockStore.disk c.loop.store) (g.S.BlockStore.failures c.loop.store) in
     let after : Store = store_of (g.S.BlockStore.disk c.serve_piece.new.store) (g.S.BlockStore.failures c.serve_piece.new.store) in
@@ -114,11 +105,10 @@ returns-then-branch-clause-end g c = λ h.
     let w1 = g.W.Write.contents c.loop.w in
     let w2 = g.W.Write.contents c.serve_piece.new.w in
     let piece : List ℕ = take c.in-Ok.n c.read.new.buf in
-    over_ends steady c.args.config first c.loop.target store r0 r1 r2 w0 w1 piece c.loop.invariant.1 c.in-Ok.ensures.bytes.0 (c.serve_piece.ensures.closes (c.in_ok-serve_piece.was ∙ ok_is c.in_ok-serve_piece.field-0 c.if-branch.true)) h
+    over_ends c.args.config first c.loop.target store after r0 r1 r2 w0 w1 piece c.loop.invariant.1 c.in-Ok.ensures.bytes.0 (c.serve_piece.ensures.closes (c.in_ok-serve_piece.was ∙ ok_is c.in_ok-serve_piece.field-0 c.if-branch.true)) h
 
 pub loop-preserved : goal.loop-preserved
 loop-preserved g c =
-    let steady : Type 0 = NeverFails g.S.BlockStore.failures in
     let first : Store = store_of (g.S.BlockStore.disk c.args.store.now) (g.S.BlockStore.failures c.args.store.now) in
     let store : Store = store_of (g.S.BlockStore.disk c.loop.store) (g.S.BlockStore.failures c.loop.store) in
     let after : Store = store_of (g.S.BlockStore.disk c.serve_piece.new.store) (g.S.BlockStore.failures c.serve_piece.new.store) in
@@ -129,15 +119,14 @@ loop-preserved g c =
     let w1 = g.W.Write.contents c.loop.w in
     let w2 = g.W.Write.contents c.serve_piece.new.w in
     let piece : List ℕ = take c.in-Ok.n c.read.new.buf in
-    let more : ReadUpTo steady c.args.config first c.serve_piece.new.target after r0 r2 w0 w2 =
-    read_more steady c.args.config first c.loop.target c.serve_piece.new.target store after r0 r1 r2 w0 w1 w2 piece c.loop.invariant.1 c.in-Ok.ensures.bytes.0 c.in_ok-serve_piece.ensures.goes in
+    let more : ReadUpTo c.args.config first c.serve_piece.new.target after r0 r2 w0 w2 =
+    read_more c.args.config first c.loop.target c.serve_piece.new.target store after r0 r1 r2 w0 w1 w2 piece c.loop.invariant.1 c.in-Ok.ensures.bytes.0 c.in_ok-serve_piece.ensures.goes in
     (c.serve_piece.ensures.open (c.in_ok-serve_piece.was ∙ ok_open c.in_ok-serve_piece.field-0 c.if-branch.false), more)
 
 pub returns-clause-serves : goal.returns-clause-serves
 returns-clause-serves g c =
-    let steady : Type 0 = NeverFails g.S.BlockStore.failures in
     let first : Store = store_of (g.S.BlockStore.disk c.args.store.now) (g.S.BlockStore.failures c.args.store.now) in
     let store : Store = store_of (g.S.BlockStore.disk c.loop.store) (g.S.BlockStore.failures c.loop.store) in
     let r0 = g.R.Read.remaining c.args.r.now in
     let w0 = g.W.Write.contents c.args.w.now in
-    reads_stop steady c.args.config first c.loop.target store r0 (g.R.Read.remaining c.loop.r) w0 (g.W.Write.contents c.loop.w) c.loop.invariant.1 c.loop.invariant.0
+    reads_stop c.args.config first c.loop.target store r0 (g.R.Read.remaining c.loop.r) w0 (g.W.Write.contents c.loop.w) c.loop.invariant.1 c.loop.invariant.0
