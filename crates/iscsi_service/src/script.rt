@@ -11,7 +11,7 @@ ghost use Rattle.iscsi_service.specs.Script.{AreCommands, IsTooLongAt, LinesFail
 use crate::command::Command;
 use crate::serve_fault::ServeFault;
 use hex::{FromHex, FromHexError};
-use iscsi_stream::{PIECE, READS};
+use iscsi_stream::{ToolFault, read_within};
 use iscsi_text::split_at_byte;
 use scsi_cdb::Bytes;
 use std::alloc::{AllocError, Global};
@@ -74,22 +74,16 @@ fn read_lines<R: Read>(alloc: Global, r: &mut R) -> Result<Vec<u8>, ServeFault>
     ensures err { IfErr result (λ fault. (script : List ℕ)
         × Consumes (R.remaining r.old) (R.remaining r.new) script × ScriptFails fault script) }
 {
-    let mut script = Vec::new(alloc);
-    let mut buffer = [0u8; PIECE];
-    for _ in 0..READS {
-        let n = match r.read(&mut buffer) {
-            Ok(n) => n,
-            Err(_) => return Err(ServeFault::Read),
-        };
-        if n == 0 {
-            return Ok(script);
-        }
-        script.extend_from_slice(&buffer[..n])?;
-        if script.len() > LONGEST_SCRIPT {
-            return Err(ServeFault::Script(too_long_at(&script)));
-        }
+    let script = match read_within(alloc, r, LONGEST_SCRIPT) {
+        Ok(script) => script,
+        Err(ToolFault::NoMemory) => return Err(ServeFault::NoMemory),
+        // Nothing else is answered.
+        Err(_) => return Err(ServeFault::Read),
+    };
+    if script.len() > LONGEST_SCRIPT {
+        return Err(ServeFault::Script(too_long_at(&script)));
     }
-    Err(ServeFault::Read)
+    Ok(script)
 }
 
 // The number of the line that has the first byte too many.

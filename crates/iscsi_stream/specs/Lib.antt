@@ -2,7 +2,6 @@ pub mod Canonical
 pub mod Faults
 pub mod Framing
 pub mod Gathering
-pub mod Input
 pub mod Normalising
 pub mod Passing
 pub mod Pieces

@@ -56,9 +56,10 @@ pub fn normalise_text<R: Read, W: Write>(
         × NormalisesText result read written }
     ensures end { TextAtEnd result (IsAtEnd (R.remaining r.new)) }
 {
-    let Some(bytes) = read_within(alloc, r, LONGEST_TEXT)? else {
+    let bytes = read_within(alloc, r, LONGEST_TEXT)?;
+    if bytes.len() > LONGEST_TEXT {
         return Err(ToolFault::TextTooLong);
-    };
+    }
     let text = canonical_text(alloc, &bytes)?;
     write_fully(w, &text)?;
     Ok(())

@@ -34,9 +34,10 @@ pub fn read_bytes<R: Read>(alloc: Global, r: &mut R) -> Result<Vec<u8>, ToolFaul
     ensures err { IfErr result (λ fault. (read : List ℕ)
         × Consumes (R.remaining r.old) (R.remaining r.new) read × HexTextFails fault read) }
 {
-    let Some(text) = read_within(alloc, r, LONGEST_TEXT)? else {
+    let text = read_within(alloc, r, LONGEST_TEXT)?;
+    if text.len() > LONGEST_TEXT {
         return Err(ToolFault::NotHex);
-    };
+    }
     let digits = digits(alloc, &text)?;
     match hex::decode(alloc, digits) {
         Ok(bytes) => Ok(bytes),

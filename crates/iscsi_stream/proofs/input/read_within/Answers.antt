@@ -1,15 +1,7 @@
-use Rattle.std.proofs.Common.{◌<◌, ◌++◌, length, take, inl, refl, arith}
+use Rattle.std.proofs.Common.{◌++◌, take, inl, refl}
 use Rattle.std.proofs.KnownBytes.{Consumes-trans}
-use Rattle.std.proofs.lemmas.List.{length-append, length-take}
 use Rattle.std.proofs.lemmas.Result.{err_from_is_err_and}
 use Rattle.iscsi_stream.proofs.input.read_within.Goals as goal
-
-pub returns-then-len-n-clause-ok : goal.returns-then-len-n-clause-ok
-returns-then-len-n-clause-ok g c =
-    let piece = take c.in-Ok.n c.read.new.buf in
-    let all = c.loop.bytes.items ++ piece in
-    let long : c.args.limit < length all = omega (arith, length-append c.loop.bytes.items piece, length-take c.in-Ok.n c.read.new.buf, c.in-Ok.ensures.bound.0, c.in-Ok.ensures.bound.1, c.len.ensures, c.loop.bytes.ok.0, c.if-len-n.true) in
-    (all, Consumes-trans _ _ _ c.loop.bytes.items piece c.loop.invariant.0 c.in-Ok.ensures.bytes.0, long)
 
 pub returns-in_err-extend_from_slice-clause-err : goal.returns-in_err-extend_from_slice-clause-err
 returns-in_err-extend_from_slice-clause-err g c =
