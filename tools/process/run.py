@@ -5,7 +5,7 @@
 
 PROGRAM is crates/lanthovur/out/lanthovur if none is named; `./lanthovur </dev/null` builds it. Each row has its words,
 its input, and what is due on standard output and standard error, worked out by hand from docs/FORMATS.md; of help and
-usage it is a word that stands there. The last line is 'N passed, M failed'. It takes some seconds.
+usage it is a word that stands there. It needs gcc. The last line is 'N passed, M failed'. It takes some seconds.
 """
 import os
 import socket
@@ -52,6 +52,14 @@ REFUSAL = of_hex(
     "23000000 00000000 40000001 00000000 00000000 00000000 00000000 00000001",
     "00000008 02070000 00000000 00000000",
 )
+
+# A login in one request and a command whose number is not the one that is due; the login's answer, and a Reject.
+ENDS = b"InitiatorName=iqn.2026-01.example:host\0TargetName=iqn.2026-01.example:disk\0"
+TURN = of_hex("01810000 00000000 00000000 00000000 00000001 00000000 00000003 00000002", "00000000" * 4)
+OUT_OF_TURN = of_hex("43870000 0000004b 40000001 00000000 00000000 00000000 00000001 00000000", "00000000" * 4) + ENDS + b"\0" + TURN
+SETTLED = b"MaxRecvDataSegmentLength=8192\0TargetPortalGroupTag=1\0"
+LOGGED_IN = of_hex("23870000 00000035 40000001 00000001 00000000 00000000 00000001 00000001 00000008", "00000000" * 3) + SETTLED
+REJECTED = of_hex("3f800400 00000030 00000000 00000000 ffffffff 00000000 00000002 00000001 00000008", "00000000" * 3) + TURN
 
 # The script of the README, and what comes of it over 2,048 blocks.
 SCRIPT = b"write 0 8 5a\nread 0 1\ncapacity\nread 2047 2\nlogout\n"
@@ -101,6 +109,7 @@ ROWS = [
     Row("a repeated key", ["normalise", "--text"], b"A=5\0A=5\0", b"", b"text: repeated key at 4\n", 1),
     Row("a text that is too long", ["normalise", "--text"], b"\0" * 16385, b"", b"text: over 16384 bytes\n", 1),
     Row("a ping before the login", ANSWER, CANONICAL, b"", b"protocol: rule 1\n", 1),
+    Row("a command out of its turn", ANSWER, OUT_OF_TURN, LOGGED_IN + bytes(3) + REJECTED, b"protocol: rule 9\n", 1),
     Row("a line that is none", LOOP, b"capacity\nread 0\n", b"", b"script: line 2\n", 1),
     # Words that are no job.
     Row("help", ["--help"], says=b"Usage: lanthovur", status=2),
@@ -178,23 +187,63 @@ def check_taken_port(program):
     look("a port that is taken", is_well, (ran.stdout, ran.stderr, ran.returncode))
 
 
-def check_two_sessions(program):
-    """Two connections: one breaks a rule, whose line goes to standard error, and one ends at once."""
+def served(program, given, **streams):
+    """What a service of so many connections writes, one after another, and how it ends."""
     with socket.create_server(("127.0.0.1", 0)) as other:
         port = other.getsockname()[1]
-    words = ["serve", "--port", str(port), "--blocks", "1", "--sessions", "2"]
-    streams = {"stdout": subprocess.PIPE, "stderr": subprocess.PIPE}
+    words = ["serve", "--port", str(port), "--blocks", "1", "--sessions", str(len(given))]
+    streams = {"stdout": subprocess.PIPE, "stderr": subprocess.PIPE, **streams}
     with subprocess.Popen([program, *words], stdin=subprocess.DEVNULL, **streams) as service:
         told = service.stdout.readline()
-        for given in (CANONICAL, b""):
+        for stream in given:
             with socket.create_connection(("127.0.0.1", port), timeout=SECONDS) as peer:
-                peer.sendall(given)
+                peer.sendall(stream)
                 peer.shutdown(socket.SHUT_WR)
-                while peer.recv(4096):
+                try:
+                    while peer.recv(4096):
+                        pass
+                except ConnectionResetError:
+                    # the service closed the connection before it had read all
                     pass
         rest, line = service.communicate(timeout=SECONDS)
-    is_well = (told + rest, line, service.returncode) == (b"listening\n", b"protocol: rule 1\n", 0)
-    look("two sessions", is_well, (told + rest, line, service.returncode))
+    return told + rest, line, service.returncode
+
+
+def check_two_sessions(program):
+    """Two connections: one breaks a rule, whose line goes to standard error, and one ends at once."""
+    seen = served(program, (CANONICAL, b""))
+    look("two sessions", seen == (b"listening\n", b"protocol: rule 1\n", 0), seen)
+
+
+# The call that is interrupted, the row, and how the program ends then. Where a connection is made or accepted, and
+# where a loop reads a piece of known length, the standard library tries again.
+INTERRUPTED = [
+    ("read", "a canonical stream", (b"", b"read failed\n", 4)),
+    ("read", "a script", (b"", b"read failed\n", 4)),
+    ("write", "a canonical stream", (b"", b"write failed\n", 4)),
+    ("connect", "a script", (REPORT, b"", 0)),
+    ("accept4", "a script", (REPORT, b"", 0)),
+    ("recv", "a script", (REPORT, b"", 0)),
+    ("send", "a script", (b"", b"network failed\n", 4)),
+]
+
+
+def check_calls(program):
+    """Calls of the C library that are interrupted, and a stranger at the port of a loop, who finds it first."""
+    rows = {row.name: row for row in ROWS}
+    with tempfile.TemporaryDirectory() as room:
+        source, library = f"{TOP}/tools/process/calls.c", f"{room}/calls.so"
+        subprocess.run(["gcc", "-shared", "-fPIC", "-O1", "-o", library, source, "-ldl"], check=True)
+        for call, name, due in INTERRUPTED:
+            ran = run(program, rows[name], env={**os.environ, "LD_PRELOAD": library, "INTERRUPT": call})
+            seen = (ran.stdout, ran.stderr, ran.returncode)
+            look(f"{name}, an interrupted {call}", seen == due, seen)
+        for call, line in (("recv", b"read failed\n"), ("send", b"write failed\n"), ("accept4", b"")):
+            seen = served(program, (NAMELESS, NAMELESS), env={**os.environ, "LD_PRELOAD": library, "INTERRUPT": call})
+            look(f"two sessions, an interrupted {call}", seen == (b"listening\n", line, 0), seen)
+        ran = run(program, rows["a script"], env={**os.environ, "LD_PRELOAD": library, "STRANGER": "1"})
+        seen = (ran.stdout, ran.stderr, ran.returncode)
+        look("a stranger at the port of a loop", seen == (REPORT, b"", 0), seen)
 
 
 def main(words):
@@ -203,7 +252,7 @@ def main(words):
         sys.exit(f"there is no program {program}: `./lanthovur </dev/null` builds it")
     for row in ROWS:
         check(program, row)
-    for more in (check_full_device, check_closed_reader, check_failed_read, check_taken_port, check_two_sessions):
+    for more in (check_full_device, check_closed_reader, check_failed_read, check_taken_port, check_two_sessions, check_calls):
         more(program)
     print(f"{len(PASSED)} passed, {len(FAILED)} failed")
     return 1 if FAILED else 0
