@@ -4,9 +4,10 @@
     tools/memory/reads.py [PROGRAM]
 
 PROGRAM is crates/lanthovur/out/lanthovur if none is named; `./lanthovur </dev/null` builds it. A login and then READ(10)
-of 8,192 blocks each go to `answer` over a pipe and to `serve` over a socket, 85 of them in one piece of 4,080 bytes, and
-what comes back is read and counted. Each line has the most resident memory of the process, in MiB, and what it may be.
-The exit status is 1 where a limit is passed or an answer has not the bytes that are due. It takes some seconds.
+of 8,192 blocks each go to `answer` over a pipe and to `serve` over a socket, 85 of them in one piece of 4,080 bytes; and
+eight that wait behind an immediate write of one block, with the data that end it, so that one PDU leads to the answers
+of all. What comes back is read and counted. Each line has the most resident memory of the process, in MiB, and what it
+may be. The exit status is 1 where a limit is passed or an answer has not the bytes that are due. It takes some seconds.
 """
 import os
 import socket
@@ -21,13 +22,12 @@ READS = 85
 LENGTH = 8192 * 512
 # Data-In carry at most 8,192 bytes each, with a header of 48, and a SCSI Response of 48 bytes follows them; the login
 # is answered with one PDU of a short text.
-DUE = READS * (LENGTH + LENGTH // 8192 * 48 + 48)
-MOST = 16
+DUE = LENGTH + LENGTH // 8192 * 48 + 48
 
 
-def login():
-    """A login in one request, straight to full feature phase."""
-    text = b"InitiatorName=iqn.2026-01.example:host\0TargetName=iqn.2026-01.example:disk\0SessionType=Normal\0"
+def login_of(keys=b""):
+    """A login in one request, straight to full feature phase, with some keys more."""
+    text = b"InitiatorName=iqn.2026-01.example:host\0TargetName=iqn.2026-01.example:disk\0SessionType=Normal\0" + keys
     head = bytes.fromhex("43870000 00") + len(text).to_bytes(3, "big")
     head += bytes.fromhex("400000010000 0000 00000000 00000000 00000001 00000000") + bytes(16)
     return head + text + bytes(-len(text) % 4)
@@ -40,7 +40,25 @@ def read(number):
     return head + bytes.fromhex("2800 00000000 00 2000 00") + bytes(6)
 
 
-REQUESTS = b"".join(read(number) for number in range(1, READS + 1))
+def write():
+    """An immediate WRITE(10) of the first block, whose data are asked for, and those data."""
+    head = bytes.fromhex("41a10000 00000000 0000000000000000 00000100 00000200 00000001 00000000")
+    data = bytes.fromhex("05800000 00000200 0000000000000000 00000100") + bytes(28) + bytes(512)
+    return head + bytes.fromhex("2a00 00000000 00 0001 00") + bytes(6), data
+
+
+def reads(count):
+    return b"".join(read(number) for number in range(1, count + 1))
+
+
+def behind(count):
+    """So many reads behind a write, which its data end."""
+    command, data = write()
+    return command + reads(count) + data
+
+
+# A name, what is sent, how many bytes come back beside the answer to the login, and the most memory in MiB.
+CASES = [("85 reads in one piece", reads(READS), READS * DUE, 16), ("8 reads that wait", behind(8), 8 * DUE + 96, 72)]
 
 
 def counted(source):
@@ -58,13 +76,13 @@ def most_of(process):
     return process.returncode, used.ru_maxrss / 1024
 
 
-def of_answer(program):
-    """`answer`: the login's bytes first, then all reads in one piece."""
+def of_answer(program, requests):
+    """`answer`: the login's bytes first, then the others in one piece."""
     words = [program, "answer", "--blocks", str(BLOCKS)]
     process = subprocess.Popen(words, stdin=subprocess.PIPE, stdout=subprocess.PIPE)
 
     def send():
-        for piece in (login(), REQUESTS):
+        for piece in (login_of(), requests):
             process.stdin.write(piece)
             process.stdin.flush()
             time.sleep(0.2)
@@ -77,7 +95,7 @@ def of_answer(program):
     return total, *most_of(process)
 
 
-def of_serve(program):
+def of_serve(program, requests):
     """`serve`: the same over a socket, which is closed for writing at the end."""
     with socket.socket() as free:
         free.bind(("127.0.0.1", 0))
@@ -86,9 +104,9 @@ def of_serve(program):
     process = subprocess.Popen(words, stdout=subprocess.PIPE)
     process.stdout.readline()
     with socket.create_connection(("127.0.0.1", port)) as it:
-        it.sendall(login())
+        it.sendall(login_of())
         time.sleep(0.2)
-        it.sendall(REQUESTS)
+        it.sendall(requests)
         it.shutdown(socket.SHUT_WR)
         total = counted(it.recv)
     return total, *most_of(process)
@@ -97,12 +115,14 @@ def of_serve(program):
 def main():
     program = sys.argv[1] if len(sys.argv) > 1 else f"{TOP}/crates/lanthovur/out/lanthovur"
     well = True
-    for name, run in (("answer", of_answer), ("serve", of_serve)):
-        total, status, most = run(program)
-        # (the login's answer is a header and a text of some hundred bytes)
-        is_well = status == 0 and DUE < total < DUE + 1024 and most <= MOST
-        well = well and is_well
-        print(f"{name}: {total} bytes, status {status}, {most:.1f} MiB of {MOST}{'' if is_well else '  FAILED'}")
+    for case, requests, due, limit in CASES:
+        for name, run in (("answer", of_answer), ("serve", of_serve)):
+            total, status, most = run(program, requests)
+            # (the login's answer is a header and a text of some hundred bytes)
+            is_well = status == 0 and due < total < due + 1024 and most <= limit
+            well = well and is_well
+            said = f"{total} bytes, status {status}, {most:.1f} MiB of {limit}"
+            print(f"{name}, {case}: {said}{'' if is_well else '  FAILED'}")
     return 0 if well else 1
 
 
