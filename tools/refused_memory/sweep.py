@@ -16,8 +16,10 @@ memory was refused for: no R2T and no response comes for it or after it, and no 
 eight blocks are then all old or all new is a clause: `fed` of `Target::feed`, by which such a task leaves the blocks as
 they were.
 """
+import atexit
 import os
 import re
+import shutil
 import socket
 import subprocess
 import sys
@@ -26,6 +28,7 @@ import tempfile
 TOP = os.path.dirname(os.path.dirname(os.path.dirname(os.path.abspath(__file__))))
 PROGRAM = f"{TOP}/crates/lanthovur/out/lanthovur"
 ROOM = tempfile.mkdtemp()
+atexit.register(shutil.rmtree, ROOM, ignore_errors=True)
 # A process that takes longer hangs.
 SECONDS = 60
 # No run asks for memory so often.
