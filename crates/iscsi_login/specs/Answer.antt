@@ -5,7 +5,7 @@ use Rattle.std.specs.Option.{option_map, option_map_or}
 use Rattle.iscsi_text.specs.Key.{is_among, kind_of}
 use Rattle.iscsi_text.specs.Value.{Typed}
 use Rattle.iscsi_text.specs.Value as values
-use Rattle.iscsi_text.specs.Text.{Pairs, values_of, key_le}
+use Rattle.iscsi_text.specs.Text.{Pairs, values_of}
 use Rattle.iscsi_login.specs.declared.key.NegKey.{NegKey}
 use Rattle.iscsi_login.specs.declared.stage.Session.{Session}
 use Rattle.iscsi_login.specs.declared.preferences.Answered.{Answered}

@@ -1,9 +1,12 @@
 //! The negotiated keys, and the table of their rules and defaults (RFC 7143, sections 13 and 12.1).
 
-ghost use Rattle.std.specs.Prelude.{◌≡◌, ◌↔◌, ◌<◌, IsTrue};
-ghost use Rattle.iscsi_login.specs.Key.{rule_of, name_of, key_named, default_of, is_irrelevant, IsWithin};
+ghost use Rattle.std.specs.Prelude.{◌≡◌, ◌↔◌, ◌<◌, true, false, IsTrue};
+ghost use Rattle.iscsi_login.specs.Key.{rule_of, name_of, key_named, default_of, is_irrelevant, row, IsWithin};
 ghost use Rattle.iscsi_login.specs.Held.{place_of};
+ghost use Rattle.iscsi_login.specs.declared.key.Rule.TheVariants as rules;
+ghost use Rattle.iscsi_login.specs.declared.preferences.Answered.TheVariants as answers;
 
+use crate::key::Rule::{And, Maximum, Minimum, Or};
 use crate::preferences::Answered;
 use crate::stage::Session;
 
@@ -88,6 +91,9 @@ pub(crate) const BYTES: Range = Range {
 // Seconds (RFC 7143, sections 13.15 and 13.16).
 pub(crate) const SECONDS: Range = Range { low: 0, high: 3600 };
 
+// Recovery levels (RFC 7143, section 13.20).
+const LEVEL: Range = Range { low: 0, high: 2 };
+
 // Connections, and requests for data (RFC 7143, sections 13.2 and 13.17).
 const COUNT: Range = Range {
     low: 1,
@@ -117,22 +123,7 @@ impl NegKey {
     pub fn name(self) -> &'static [u8]
         ensures name { result.now ≡ name_of self }
     {
-        match self {
-            NegKey::MaxConnections => b"MaxConnections",
-            NegKey::InitialR2T => b"InitialR2T",
-            NegKey::ImmediateData => b"ImmediateData",
-            NegKey::MaxBurstLength => b"MaxBurstLength",
-            NegKey::FirstBurstLength => b"FirstBurstLength",
-            NegKey::DefaultTime2Wait => b"DefaultTime2Wait",
-            NegKey::DefaultTime2Retain => b"DefaultTime2Retain",
-            NegKey::MaxOutstandingR2T => b"MaxOutstandingR2T",
-            NegKey::DataPDUInOrder => b"DataPDUInOrder",
-            NegKey::DataSequenceInOrder => b"DataSequenceInOrder",
-            NegKey::ErrorRecoveryLevel => b"ErrorRecoveryLevel",
-            NegKey::HeaderDigest => b"HeaderDigest",
-            NegKey::DataDigest => b"DataDigest",
-            NegKey::AuthMethod => b"AuthMethod",
-        }
+        self.row().name
     }
 
     /// The negotiated key of this name, and `None` for every other key. Case counts.
@@ -146,35 +137,14 @@ impl NegKey {
     pub fn rule(self) -> Rule
         ensures rule { result ≡ rule_of self }
     {
-        match self {
-            NegKey::MaxConnections | NegKey::MaxOutstandingR2T => Rule::Minimum(COUNT),
-            NegKey::MaxBurstLength | NegKey::FirstBurstLength => Rule::Minimum(BYTES),
-            NegKey::DefaultTime2Wait => Rule::Maximum(SECONDS),
-            NegKey::DefaultTime2Retain => Rule::Minimum(SECONDS),
-            NegKey::ErrorRecoveryLevel => Rule::Minimum(Range { low: 0, high: 2 }),
-            NegKey::InitialR2T | NegKey::DataPDUInOrder | NegKey::DataSequenceInOrder => Rule::Or,
-            NegKey::ImmediateData => Rule::And,
-            NegKey::HeaderDigest | NegKey::DataDigest | NegKey::AuthMethod => Rule::NoneItem,
-        }
+        self.row().rule
     }
 
     /// The value that is held where none was agreed.
     pub fn default_value(self) -> Answered
         ensures default { result ≡ default_of self }
     {
-        match self {
-            NegKey::MaxConnections | NegKey::MaxOutstandingR2T => Answered::Number(1),
-            NegKey::MaxBurstLength => Answered::Number(262144),
-            NegKey::FirstBurstLength => Answered::Number(65536),
-            NegKey::DefaultTime2Wait => Answered::Number(2),
-            NegKey::DefaultTime2Retain => Answered::Number(20),
-            NegKey::ErrorRecoveryLevel => Answered::Number(0),
-            NegKey::InitialR2T
-            | NegKey::ImmediateData
-            | NegKey::DataPDUInOrder
-            | NegKey::DataSequenceInOrder => Answered::Flag(true),
-            NegKey::HeaderDigest | NegKey::DataDigest | NegKey::AuthMethod => Answered::NoneItem,
-        }
+        self.row().default
     }
 
     /// Whether the session answers an offer of the key by `Irrelevant`: a discovery session does so
@@ -183,11 +153,7 @@ impl NegKey {
     pub fn is_irrelevant(self, session: Session) -> bool
         ensures irrelevant { result ≡ is_irrelevant session self }
     {
-        session == Session::Discovery
-            && !matches!(
-                self,
-                NegKey::HeaderDigest | NegKey::DataDigest | NegKey::AuthMethod
-            )
+        session == Session::Discovery && self.row().irrelevant
     }
 
     // The key's place in `ALL`.
@@ -195,21 +161,89 @@ impl NegKey {
         ensures value { result ≡ place_of self }
         ensures bound { result < 14 }
     {
+        self as usize
+    }
+
+    // The table: name, values and result function, default, and whether a discovery session
+    // answers it by `Irrelevant` (RFC 7143, sections 13 and 12.1).
+    fn row(self) -> Row
+        ensures name { result.name.now ≡ name_of self }
+        ensures rule { result.rule ≡ rule_of self }
+        ensures default { result.default ≡ default_of self }
+        ensures irrelevant { result.irrelevant ≡ (row self).irrelevant }
+    {
         match self {
-            NegKey::MaxConnections => 0,
-            NegKey::InitialR2T => 1,
-            NegKey::ImmediateData => 2,
-            NegKey::MaxBurstLength => 3,
-            NegKey::FirstBurstLength => 4,
-            NegKey::DefaultTime2Wait => 5,
-            NegKey::DefaultTime2Retain => 6,
-            NegKey::MaxOutstandingR2T => 7,
-            NegKey::DataPDUInOrder => 8,
-            NegKey::DataSequenceInOrder => 9,
-            NegKey::ErrorRecoveryLevel => 10,
-            NegKey::HeaderDigest => 11,
-            NegKey::DataDigest => 12,
-            NegKey::AuthMethod => 13,
+            NegKey::MaxConnections => Row::number(b"MaxConnections", Minimum(COUNT), 1),
+            NegKey::InitialR2T => Row::flag(b"InitialR2T", Or),
+            NegKey::ImmediateData => Row::flag(b"ImmediateData", And),
+            NegKey::MaxBurstLength => Row::number(b"MaxBurstLength", Minimum(BYTES), 262144),
+            NegKey::FirstBurstLength => Row::number(b"FirstBurstLength", Minimum(BYTES), 65536),
+            NegKey::DefaultTime2Wait => Row::number(b"DefaultTime2Wait", Maximum(SECONDS), 2),
+            NegKey::DefaultTime2Retain => Row::number(b"DefaultTime2Retain", Minimum(SECONDS), 20),
+            NegKey::MaxOutstandingR2T => Row::number(b"MaxOutstandingR2T", Minimum(COUNT), 1),
+            NegKey::DataPDUInOrder => Row::flag(b"DataPDUInOrder", Or),
+            NegKey::DataSequenceInOrder => Row::flag(b"DataSequenceInOrder", Or),
+            NegKey::ErrorRecoveryLevel => Row::number(b"ErrorRecoveryLevel", Minimum(LEVEL), 0),
+            NegKey::HeaderDigest => Row::list(b"HeaderDigest"),
+            NegKey::DataDigest => Row::list(b"DataDigest"),
+            NegKey::AuthMethod => Row::list(b"AuthMethod"),
+        }
+    }
+}
+
+// What the table has for a key.
+#[derive(Clone, Copy)]
+struct Row {
+    name: &'static [u8],
+    rule: Rule,
+    default: Answered,
+    // whether a discovery session answers the key by `Irrelevant`
+    irrelevant: bool,
+}
+
+impl Row {
+    // A key with a number.
+    fn number(name: &'static [u8], rule: Rule, default: u32) -> Row
+        ensures name { result.name.now ≡ name.entry.now }
+        ensures rule { result.rule ≡ rule }
+        ensures default { result.default ≡ answers.Number default }
+        ensures irrelevant { result.irrelevant ≡ true }
+    {
+        Row {
+            name,
+            rule,
+            default: Answered::Number(default),
+            irrelevant: true,
+        }
+    }
+
+    // A key that is `Yes` or `No`, by default `Yes`.
+    fn flag(name: &'static [u8], rule: Rule) -> Row
+        ensures name { result.name.now ≡ name.entry.now }
+        ensures rule { result.rule ≡ rule }
+        ensures default { result.default ≡ answers.Flag true }
+        ensures irrelevant { result.irrelevant ≡ true }
+    {
+        Row {
+            name,
+            rule,
+            default: Answered::Flag(true),
+            irrelevant: true,
+        }
+    }
+
+    // A key with a list of which `None` alone is taken here.
+    fn list(name: &'static [u8]) -> Row
+        ensures name { result.name.now ≡ name.entry.now }
+        ensures rule { result.rule ≡ rules.NoneItem }
+        ensures default { result.default ≡ answers.NoneItem }
+        ensures irrelevant { result.irrelevant ≡ false }
+    {
+        Row {
+            name,
+            rule: Rule::NoneItem,
+            default: Answered::NoneItem,
+            irrelevant: false,
         }
     }
 }

@@ -164,22 +164,7 @@ impl Params {
         ensures { result ≡
             map (value_after_offers session preferences.now text.now self.now) all_keys }
     {
-        [
-            self.after_offers(NegKey::MaxConnections, text, preferences, session),
-            self.after_offers(NegKey::InitialR2T, text, preferences, session),
-            self.after_offers(NegKey::ImmediateData, text, preferences, session),
-            self.after_offers(NegKey::MaxBurstLength, text, preferences, session),
-            self.after_offers(NegKey::FirstBurstLength, text, preferences, session),
-            self.after_offers(NegKey::DefaultTime2Wait, text, preferences, session),
-            self.after_offers(NegKey::DefaultTime2Retain, text, preferences, session),
-            self.after_offers(NegKey::MaxOutstandingR2T, text, preferences, session),
-            self.after_offers(NegKey::DataPDUInOrder, text, preferences, session),
-            self.after_offers(NegKey::DataSequenceInOrder, text, preferences, session),
-            self.after_offers(NegKey::ErrorRecoveryLevel, text, preferences, session),
-            self.after_offers(NegKey::HeaderDigest, text, preferences, session),
-            self.after_offers(NegKey::DataDigest, text, preferences, session),
-            self.after_offers(NegKey::AuthMethod, text, preferences, session),
-        ]
+        NegKey::ALL.map(|key| self.after_offers(key, text, preferences, session))
     }
 
     // What the target holds of a key once it has answered this text.
@@ -205,22 +190,7 @@ impl Params {
     fn values_after_answer(&self, answer: &Text) -> [Answered; 14]
         ensures { result ≡ map (value_after_answer answer.now self.now) all_keys }
     {
-        [
-            self.after_answer(NegKey::MaxConnections, answer),
-            self.after_answer(NegKey::InitialR2T, answer),
-            self.after_answer(NegKey::ImmediateData, answer),
-            self.after_answer(NegKey::MaxBurstLength, answer),
-            self.after_answer(NegKey::FirstBurstLength, answer),
-            self.after_answer(NegKey::DefaultTime2Wait, answer),
-            self.after_answer(NegKey::DefaultTime2Retain, answer),
-            self.after_answer(NegKey::MaxOutstandingR2T, answer),
-            self.after_answer(NegKey::DataPDUInOrder, answer),
-            self.after_answer(NegKey::DataSequenceInOrder, answer),
-            self.after_answer(NegKey::ErrorRecoveryLevel, answer),
-            self.after_answer(NegKey::HeaderDigest, answer),
-            self.after_answer(NegKey::DataDigest, answer),
-            self.after_answer(NegKey::AuthMethod, answer),
-        ]
+        NegKey::ALL.map(|key| self.after_answer(key, answer))
     }
 
     // What the initiator holds of a key once it has this answer.
