@@ -8,9 +8,9 @@ ghost use Rattle.iscsi_initiator.specs.Calls.{opening_connection, Starts, Feeds,
 ghost use Rattle.iscsi_initiator.specs.Inside.{connection, initiator_fault, HearsReady, ShutsReady, RestFails, FedUntil, has_run_out};
 
 use crate::config::Config;
-use crate::course::Course;
 use crate::fault::InitiatorFault;
 use crate::request::{Done, Refused, Request};
+use crate::session::Session;
 use iscsi_login::{Params, Phase, Stage};
 use iscsi_pdu::LOGIN_SEGMENT;
 use iscsi_stream::{Framer, StreamFault};
@@ -27,7 +27,7 @@ use std::marker::Model;
 /// | `Closed` | each call answers `Closed`; an outcome can still be taken |
 #[derive(Drop)]
 pub struct Initiator {
-    course: Course,
+    session: Session,
     framer: Framer,
 }
 
@@ -38,7 +38,7 @@ impl Model for Initiator {
 
     ghost Value = { Connection };
 
-    ghost view = { λ i. record { machine = i.course; framing = i.framer } };
+    ghost view = { λ i. record { machine = i.session; framing = i.framer } };
 
     ghost invariant = { λ i. is_ready i.framer ≡ false };
 }
@@ -50,7 +50,7 @@ impl Initiator {
     {
         let limit = config.preferences().max_recv.max(LOGIN_SEGMENT);
         Initiator {
-            course: Course::new(alloc, config),
+            session: Session::new(alloc, config),
             framer: Framer::new(alloc, limit),
         }
     }
@@ -62,14 +62,14 @@ impl Initiator {
     pub fn start(&mut self, out: &mut Vec<u8>) -> Result<(), InitiatorFault>
         ensures starts { Starts result self.old self.new out.old.items out.new.items }
     {
-        if self.course.is_closed() {
+        if self.session.is_closed() {
             return Err(InitiatorFault::Closed);
         }
-        match self.course.start(out) {
+        match self.session.start(out) {
             Ok(None) => Ok(()),
             Ok(Some(fault)) => Err(fault),
             Err(_) => {
-                self.course.close();
+                self.session.close();
                 Err(InitiatorFault::NoMemory)
             }
         }
@@ -85,11 +85,11 @@ impl Initiator {
     pub fn feed(&mut self, piece: &[u8], out: &mut Vec<u8>) -> Result<Phase, InitiatorFault>
         ensures feeds { Feeds result self.old piece.now self.new out.old.items out.new.items }
     {
-        if self.course.is_closed() {
+        if self.session.is_closed() {
             return Err(InitiatorFault::Closed);
         }
         let held = out.len();
-        let result = feed_all(&mut self.course, &mut self.framer, piece, out);
+        let result = feed_all(&mut self.session, &mut self.framer, piece, out);
         if has_run_out(&result) {
             out.truncate(held);
             return result;
@@ -104,7 +104,7 @@ impl Initiator {
     pub fn submit(&mut self, request: Request, out: &mut Vec<u8>) -> Result<(), Refused>
         ensures submits { Submits result self.old request self.new out.old.items out.new.items }
     {
-        self.course.submit(request, out)
+        self.session.submit(request, out)
     }
 
     /// Takes the outcome of the last request, once it is there.
@@ -112,21 +112,21 @@ impl Initiator {
         ensures outcome { result ≡ self.old.machine.done }
         ensures taken { self.new ≡ after_taking self.old }
     {
-        self.course.outcome()
+        self.session.outcome()
     }
 
     /// What the session holds of its login (RFC 7143, section 13).
     pub fn params(&self) -> &Params
         ensures held { result.now ≡ self.now.machine.held }
     {
-        self.course.params()
+        self.session.params()
     }
 
     /// What the session is doing.
     pub fn phase(&self) -> Phase
         ensures phase { result ≡ self.now.machine.phase }
     {
-        self.course.phase()
+        self.session.phase()
     }
 
     /// Where the login is: the stage where it starts, then the one that the last good answer moved to.
@@ -134,7 +134,7 @@ impl Initiator {
     pub fn stage(&self) -> Stage
         ensures stage { result ≡ self.now.machine.stage }
     {
-        self.course.stage()
+        self.session.stage()
     }
 
     /// Ends the stream. Answers `Stream` with `Truncated` where it ends within a PDU, which closes the
@@ -142,13 +142,13 @@ impl Initiator {
     pub fn finish(&mut self) -> Result<(), InitiatorFault>
         ensures finishes { Finishes result self.old self.new }
     {
-        if self.course.is_closed() {
+        if self.session.is_closed() {
             return Err(InitiatorFault::Closed);
         }
         match self.framer.finish() {
             Ok(()) => Ok(()),
             Err(fault) => {
-                self.course.close();
+                self.session.close();
                 Err(InitiatorFault::Stream(fault))
             }
         }
@@ -165,48 +165,48 @@ fn has_run_out(fed: &Result<Phase, InitiatorFault>) -> bool
 // Takes a piece of the stream in a session that isn't closed. Where memory runs out the end of `out`
 // is not as it was.
 fn feed_all(
-    course: &mut Course,
+    session: &mut Session,
     framer: &mut Framer,
     piece: &[u8],
     out: &mut Vec<u8>,
 ) -> Result<Phase, InitiatorFault>
     requires unready { is_ready framer.old ≡ false }
-    requires live { is_closed course.old ≡ false }
-    ensures fed { FedUntil result (connection course.old framer.old) piece.now
-        (connection course.new framer.new) out.old.items out.new.items }
+    requires live { is_closed session.old ≡ false }
+    ensures fed { FedUntil result (connection session.old framer.old) piece.now
+        (connection session.new framer.new) out.old.items out.new.items }
     ensures unready { is_ready framer.new ≡ false }
 {
     let mut rest = piece;
     while !rest.is_empty() {
-        let taken = take_bytes(course, framer, rest)?;
+        let taken = take_bytes(session, framer, rest)?;
         rest = &rest[taken..];
-        let fault = hear_ready(course, framer, out)?;
-        if course.is_closed() {
+        let fault = hear_ready(session, framer, out)?;
+        if session.is_closed() {
             return match fault {
                 Some(fault) => Err(fault),
                 None => Ok(Phase::Closed),
             };
         }
     }
-    Ok(course.phase())
+    Ok(session.phase())
 }
 
 // Takes bytes up to the end of a PDU. A fault closes the session.
 fn take_bytes(
-    course: &mut Course,
+    session: &mut Session,
     framer: &mut Framer,
     piece: &[u8],
 ) -> Result<usize, InitiatorFault>
     ensures ok { IfOk result (λ n. Takes framer.old piece.now n framer.new) }
-    ensures kept { OnOk result (course.new ≡ course.old) }
+    ensures kept { OnOk result (session.new ≡ session.old) }
     ensures err { IfErr result (RestFails framer.old piece.now) }
-    ensures shut { OnErr result (course.new ≡ closed course.old) }
+    ensures shut { OnErr result (session.new ≡ closed session.old) }
     ensures stopped { OnErr result (framer.new ≡ stopped framer.old) }
 {
     match framer.feed(piece) {
         Ok(taken) => Ok(taken),
         Err(fault) => {
-            course.close();
+            session.close();
             Err(stream_fault(fault))
         }
     }
@@ -225,26 +225,26 @@ fn stream_fault(fault: StreamFault) -> InitiatorFault
 // Takes the PDU that is ready, if one is, and gives it up. Says which fault it led to, if it led to
 // one. Want of memory closes the session.
 fn hear_ready(
-    course: &mut Course,
+    session: &mut Session,
     framer: &mut Framer,
     out: &mut Vec<u8>,
 ) -> Result<Option<InitiatorFault>, AllocError>
-    requires live { is_closed course.old ≡ false }
-    ensures ok { IfOk result (λ fault. HearsReady (connection course.old framer.old) fault
-        (connection course.new framer.new) out.old.items out.new.items) }
-    ensures err { OnErr result (ShutsReady (connection course.old framer.old)
-        (connection course.new framer.new) out.old.items out.new.items) }
+    requires live { is_closed session.old ≡ false }
+    ensures ok { IfOk result (λ fault. HearsReady (connection session.old framer.old) fault
+        (connection session.new framer.new) out.old.items out.new.items) }
+    ensures err { OnErr result (ShutsReady (connection session.old framer.old)
+        (connection session.new framer.new) out.old.items out.new.items) }
 {
     let Some(pdu) = framer.pdu() else {
         return Ok(None);
     };
-    match course.step(&pdu, framer.continued(), out) {
+    match session.step(&pdu, framer.continued(), out) {
         Ok(fault) => {
             framer.take();
             Ok(fault)
         }
         Err(error) => {
-            course.close();
+            session.close();
             framer.take();
             Err(error)
         }

@@ -2,12 +2,12 @@
 #![tactic(auto)]
 
 mod config;
-mod course;
 mod fault;
 mod initiator;
 pub mod laws;
 mod open;
 mod request;
+mod session;
 
 pub use config::Config;
 pub use fault::{InitiatorFault, Key};

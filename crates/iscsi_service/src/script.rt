@@ -1,4 +1,4 @@
-//! Scripts: one command a line.
+//! Scripts: one command a line. One file: the script, its lines, their words and numbers.
 
 ghost use Rattle.std.specs.Prelude.{◌≡◌, ◌≤◌, ◌<◌, ◌∷◌, ℕ, List, length, codes, false, IfOk, IfErr, IfSome, IfNone, option_map};
 ghost use Rattle.std.specs.Str.{bytes_eq};

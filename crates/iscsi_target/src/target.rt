@@ -1,4 +1,5 @@
-//! A target's session over a stream.
+//! A target's session over a stream. One file, since the calls share the steps by which a piece is
+//! taken.
 
 ghost use Rattle.std.specs.Prelude.{◌≡◌, ◌++◌, ℕ, List, false, IfOk, IfErr, OnOk, OnErr};
 ghost use Rattle.iscsi_stream.specs.Framing.{Takes, is_ready, stopped};

@@ -73,7 +73,7 @@ pub fn key_kind(key: &[u8]) -> Option<KeyKind>
     }
 }
 
-// Whether the bytes may stand as a key.
+/// Whether the bytes may stand as a key (RFC 7143, section 6.1).
 pub fn is_key(key: &[u8]) -> bool
     ensures { IsTrue result ↔ IsKey key.now }
 {

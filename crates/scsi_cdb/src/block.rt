@@ -1,4 +1,5 @@
-//! Descriptor blocks and their records.
+//! Descriptor blocks and their records. One file, so that a record's fields, reading and writing
+//! stand beside those of the others.
 
 ghost use Rattle.std.specs.Prelude.{◌≡◌, ◌↔◌, ◌<◌, ◌∷◌, [], replicate};
 ghost use Rattle.scsi_cdb.specs.declared.block.Cdb.{Cdb};

@@ -1,4 +1,5 @@
-//! The fields of a head as text: a blank, the name, `=` and the value in lower hex, for each field that has a value.
+//! The fields of a head as text: a blank, the name, `=` and the value in lower hex, for each field
+//! that has a value. One file, since it is one table: a function for each kind of head.
 
 ghost use Rattle.std.specs.Prelude.{◌≤◌, length};
 ghost use Rattle.iscsi_pdu.specs.Meaning.{Fits};

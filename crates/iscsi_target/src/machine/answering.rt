@@ -1,4 +1,5 @@
-//! What a target makes of a PDU.
+//! What a target makes of a PDU (RFC 7143, sections 4.2 and 11). One file: what is judged of each
+//! PDU, in the order in which it is judged.
 
 ghost use Rattle.std.specs.Prelude.{◌≡◌, ◌≢◌, ◌⊎◌, ◌↔◌, ◌<◌, ◌≤◌, ◌^◌, ◌++◌, ◌∷◌, [], None, Some, length, nat_lt, IsTrue, IfOk, true, false};
 ghost use Rattle.iscsi_pdu.specs.Serial.{distance};

@@ -1,4 +1,5 @@
-//! The login (RFC 7143, sections 6.3, 11.12 and 11.13).
+//! The login (RFC 7143, sections 6.3, 11.12 and 11.13). One file, since each step of a login hands
+//! on to the next.
 
 ghost use Rattle.std.specs.Prelude.{◌≡◌, ◌↔◌, ◌<◌, ◌+◌, ◌^◌, ◌++◌, [], length, IsTrue, OnErr, OnOk, IfOk, IfSome, Some, false};
 ghost use Rattle.iscsi_text.specs.Text.{Pairs};

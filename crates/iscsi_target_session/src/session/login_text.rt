@@ -224,7 +224,7 @@ fn is_repeated(was: bool, text: &Text<'_>, key: &[u8]) -> bool
     was && (key != b"TargetAddress".as_slice() && has_key(text, key))
 }
 
-// Of each known key, whether it was given before or is given now.
+/// Of each known key, whether it was given before or is given now.
 pub fn given_with(given: &[bool; 27], text: &Text<'_>) -> [bool; 27]
     ensures { result ≡ given_with known_keys given.now text.now }
 {

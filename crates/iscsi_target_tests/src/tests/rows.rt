@@ -8,6 +8,7 @@
 //! keys more, from `K000=1` on. A line with `#` says how many of the first 16 blocks are of 5a when these
 //! PDUs were answered, while those behind them are of 00. A line with `=` says what the call
 //! answers that takes the PDUs since the last one: a phase, a broken rule, or that it was closed.
+//! One file, since it is one table of dialogues.
 
 /// A session: its name, whether it begins without a login, and its lines.
 pub type Dialogue = (&'static str, bool, &'static str);

@@ -4,7 +4,7 @@ use Rattle.iscsi_initiator.proofs.Hearing.{GoesUpTo}
 use Rattle.iscsi_initiator.proofs.initiator.feed_all.Given as goal
 
 abbrev pub invariant-loop-rest : goal.invariant-loop-rest
-invariant-loop-rest l = GoesUpTo (connection l.initial.course l.initial.framer) l.piece l.rest (connection l.course l.framer) l.initial.out.items l.out.items
+invariant-loop-rest l = GoesUpTo (connection l.initial.session l.initial.framer) l.piece l.rest (connection l.session l.framer) l.initial.out.items l.out.items
 
 abbrev pub decreases-loop-rest : goal.decreases-loop-rest
 decreases-loop-rest l = length l.rest

@@ -1,0 +1,181 @@
+//! Full feature phase (RFC 7143, sections 4.2 and 11).
+
+ghost use Rattle.std.specs.Prelude.{◌≡◌, ℕ, List, Some, OnErr, IfOk};
+ghost use Rattle.iscsi_pdu.specs.Meaning.{Fits};
+ghost use Rattle.iscsi_pdu.specs.declared.head.Head.TheVariants as heads;
+ghost use Rattle.iscsi_initiator.specs.Full.{Asked, Notice, Refusal, tag_of, nop_answer, takes, full_step};
+ghost use Rattle.iscsi_initiator.specs.Inside.{Did, uncounted, broken, passed_by};
+
+use super::Session;
+use crate::fault::InitiatorFault;
+use iscsi_pdu::rule::{KIND_NOT_DUE, REJECTED, SEGMENT_TOO_LONG, STATUS_OUT_OF_ORDER};
+use iscsi_pdu::{AsyncMessage, Head, NopIn, NopOut, Pdu, RESERVED_TAG, Reject, Serial};
+use iscsi_stream::write_pdu;
+use std::alloc::AllocError;
+
+impl Session {
+    /// Takes a message in full feature phase.
+    pub(super) fn full_step(
+        &mut self,
+        pdu: &Pdu<'_>,
+        out: &mut Vec<u8>,
+    ) -> Result<Option<InitiatorFault>, AllocError>
+        requires fits { Fits pdu.now.head }
+        ensures ok { IfOk result (λ fault. Did (full_step self.old pdu.now.head pdu.now.bytes.now)
+            fault self.new out.old.items out.new.items) }
+        ensures err { OnErr result (self.new ≡ self.old) }
+        ensures unwritten { OnErr result (out.new.items ≡ out.old.items) }
+    {
+        let (exp_stat_sn, window) = (self.exp_stat_sn, self.window);
+        let result = self.on_message(&pdu.head, pdu.bytes, out);
+        if result.is_err() {
+            self.exp_stat_sn = exp_stat_sn;
+            self.window = window;
+        }
+        result
+    }
+
+    // The same, but where memory runs out the message's numbers are counted.
+    fn on_message(
+        &mut self,
+        head: &Head,
+        bytes: &[u8],
+        out: &mut Vec<u8>,
+    ) -> Result<Option<InitiatorFault>, AllocError>
+        requires fits { Fits head.now }
+        ensures ok { IfOk result (λ fault. Did (full_step self.old head.now bytes.now)
+            fault self.new out.old.items out.new.items) }
+        ensures err { OnErr result (uncounted self.old self.new ≡ self.old) }
+        ensures unwritten { OnErr result (out.new.items ≡ out.old.items) }
+    {
+        match head {
+            Head::NopIn(head) if head.initiator_task_tag == RESERVED_TAG => self.on_asked(
+                head, bytes, out,
+            ),
+            Head::AsyncMessage(head) => self.on_notice(head, bytes, out),
+            Head::Reject(head) => self.on_refusal(head, bytes, out),
+            _ if tag_of(head) == self.initiator_task_tag => self.on_answer(head, bytes, out),
+            _ => Ok(self.breaks(KIND_NOT_DUE)),
+        }
+    }
+
+    // A NOP-In that answers no ping; one with a transfer tag is answered.
+    #[tactic(auto, using(crate::proofs::Passing::takes_broken, crate::proofs::Passing::takes_passed, crate::proofs::Writing::one_message))]
+    fn on_asked(
+        &mut self,
+        head: &NopIn,
+        bytes: &[u8],
+        out: &mut Vec<u8>,
+    ) -> Result<Option<InitiatorFault>, AllocError>
+        requires fits { Fits (heads.NopIn head.now) }
+        ensures ok { IfOk result (λ fault. Did (takes (Some (Asked head.now)) self.old bytes.now)
+            fault self.new out.old.items out.new.items) }
+        ensures err { OnErr result (uncounted self.old self.new ≡ self.old) }
+        ensures unwritten { OnErr result (out.new.items ≡ out.old.items) }
+    {
+        if let Some(rule) = self.broken(bytes.len(), None) {
+            return Ok(self.breaks(rule));
+        }
+        self.pass(None, head.exp_cmd_sn, head.max_cmd_sn);
+        if head.target_transfer_tag == RESERVED_TAG {
+            return Ok(None);
+        }
+        write_pdu(&Head::NopOut(self.nop_answer(head)), &[], out)?;
+        Ok(None)
+    }
+
+    // The head of a NOP-Out that answers and asks for nothing.
+    fn nop_answer(&self, head: &NopIn) -> NopOut
+        requires { Fits (heads.NopIn head.now) }
+        ensures value { result ≡ nop_answer self.now head.now }
+        ensures fits { Fits (heads.NopOut result) }
+    {
+        NopOut {
+            immediate: true,
+            lun: head.lun,
+            initiator_task_tag: RESERVED_TAG,
+            target_transfer_tag: head.target_transfer_tag,
+            cmd_sn: self.cmd_sn,
+            exp_stat_sn: self.sent_exp_stat_sn(),
+        }
+    }
+
+    // An asynchronous message is counted, and asks for nothing.
+    #[tactic(auto, using(crate::proofs::Passing::takes_broken, crate::proofs::Passing::takes_passed))]
+    fn on_notice(
+        &mut self,
+        head: &AsyncMessage,
+        bytes: &[u8],
+        out: &mut Vec<u8>,
+    ) -> Result<Option<InitiatorFault>, AllocError>
+        ensures ok { IfOk result (λ fault. Did (takes (Some (Notice head.now)) self.old bytes.now)
+            fault self.new out.old.items out.new.items) }
+        ensures err { OnErr result (uncounted self.old self.new ≡ self.old) }
+        ensures unwritten { OnErr result (out.new.items ≡ out.old.items) }
+    {
+        if let Some(rule) = self.broken(bytes.len(), Some(head.stat_sn)) {
+            return Ok(self.breaks(rule));
+        }
+        self.pass(Some(head.stat_sn), head.exp_cmd_sn, head.max_cmd_sn);
+        Ok(None)
+    }
+
+    // A Reject breaks a rule.
+    #[tactic(auto, using(crate::proofs::Passing::takes_broken, crate::proofs::Passing::takes_passed))]
+    fn on_refusal(
+        &mut self,
+        head: &Reject,
+        bytes: &[u8],
+        out: &mut Vec<u8>,
+    ) -> Result<Option<InitiatorFault>, AllocError>
+        ensures ok { IfOk result (λ fault. Did (takes (Some (Refusal head.now)) self.old bytes.now)
+            fault self.new out.old.items out.new.items) }
+        ensures err { OnErr result (uncounted self.old self.new ≡ self.old) }
+        ensures unwritten { OnErr result (out.new.items ≡ out.old.items) }
+    {
+        if let Some(rule) = self.broken(bytes.len(), Some(head.stat_sn)) {
+            return Ok(self.breaks(rule));
+        }
+        self.pass(Some(head.stat_sn), head.exp_cmd_sn, head.max_cmd_sn);
+        Ok(self.breaks(REJECTED))
+    }
+
+    // The rule that a message breaks that is due: its segment is too long, or its StatSN, if it
+    // counts, is not the expected one.
+    pub(super) fn broken(&self, len: usize, stat_sn: Option<u32>) -> Option<u8>
+        ensures { result ≡ broken self.now len stat_sn }
+    {
+        if len > self.held.initiator_max_recv as usize {
+            return Some(SEGMENT_TOO_LONG);
+        }
+        match stat_sn {
+            Some(stat_sn) if !self.is_expected(stat_sn) => Some(STATUS_OUT_OF_ORDER),
+            _ => None,
+        }
+    }
+
+    // A message has passed: its StatSN, if it counts, and its window are counted.
+    pub(super) fn pass(&mut self, stat_sn: Option<u32>, exp_cmd_sn: u32, max_cmd_sn: u32)
+        ensures { self.new ≡ passed_by self.old stat_sn exp_cmd_sn max_cmd_sn }
+    {
+        if let Some(stat_sn) = stat_sn {
+            self.exp_stat_sn = Some(stat_sn.wrapping_add(1));
+        }
+        self.window.update(Serial(exp_cmd_sn), Serial(max_cmd_sn));
+    }
+}
+
+// The task tag of the kinds that answer a request.
+fn tag_of(head: &Head) -> u32
+    ensures { result ≡ tag_of head.now }
+{
+    match head {
+        Head::NopIn(head) => head.initiator_task_tag,
+        Head::DataIn(head) => head.initiator_task_tag,
+        Head::ScsiResponse(head) => head.initiator_task_tag,
+        Head::ReadyToTransfer(head) => head.initiator_task_tag,
+        Head::TextResponse(head) => head.initiator_task_tag,
+        Head::LogoutResponse(head) => head.initiator_task_tag,
+        _ => RESERVED_TAG,
+    }
+}

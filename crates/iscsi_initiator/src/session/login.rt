@@ -1,0 +1,325 @@
+//! The login (RFC 7143, sections 6.3, 11.12 and 11.13). One file, since each step of a login hands
+//! on to the next.
+
+ghost use Rattle.std.specs.Prelude.{◌≡◌, ◌≢◌, ℕ, List, ◌≤◌, ◌<◌, ◌^◌, ◌++◌, [], length, take, drop, None, Some, OnOk, OnErr, IfOk};
+ghost use Rattle.std.specs.Option.{option_map};
+ghost use Rattle.iscsi_pdu.specs.Meaning.{Fits, whole};
+ghost use Rattle.iscsi_pdu.specs.declared.head.Head.TheVariants as heads;
+ghost use Rattle.iscsi_stream.specs.Segment.{Text as Whole, segment_of, text_or_bytes};
+ghost use Rattle.iscsi_login.specs.Answer.{DeclaresWell, initiator_holds};
+ghost use Rattle.iscsi_initiator.specs.Login.{asked, asked_from, login_request, fits_segment, sends_text, sends_more, is_expected, counted, enters, text_answered, is_empty_segment, goes_on, moves_on, in_turn, answered, login_step, start_step};
+ghost use Rattle.iscsi_initiator.specs.Inside.{Did, uncounted};
+
+use super::Session;
+use crate::fault::InitiatorFault;
+use iscsi_login::{Phase, Stage};
+use iscsi_pdu::rule::{KIND_NOT_DUE, LOGIN_OUT_OF_TURN, STATUS_OUT_OF_ORDER, TEXT_AT_FAULT};
+use iscsi_pdu::{Head, LoginRequest, LoginResponse, Pdu, Serial};
+use iscsi_stream::{drop_front, text_of, write_pdu};
+use iscsi_text::Text;
+use std::alloc::AllocError;
+
+impl Session {
+    /// Starts the login: its first text goes out, or a part of it. A second start breaks a rule.
+    pub fn start(&mut self, out: &mut Vec<u8>) -> Result<Option<InitiatorFault>, AllocError>
+        ensures ok { IfOk result (λ fault. Did (start_step self.old) fault
+            self.new out.old.items out.new.items) }
+        ensures err { OnErr result (self.new ≡ self.old) }
+        ensures unwritten { OnErr result (out.new.items ≡ out.old.items) }
+    {
+        if self.started {
+            return Ok(self.breaks(KIND_NOT_DUE));
+        }
+        self.send_text(out)?;
+        self.started = true;
+        Ok(None)
+    }
+
+    /// Takes a message in the login.
+    pub(super) fn login_step(
+        &mut self,
+        pdu: &Pdu<'_>,
+        continued: bool,
+        out: &mut Vec<u8>,
+    ) -> Result<Option<InitiatorFault>, AllocError>
+        ensures ok { IfOk result (λ fault. Did (login_step self.old pdu.now.head
+            (segment_of continued pdu.now.head pdu.now.bytes.now)) fault
+            self.new out.old.items out.new.items) }
+        ensures err { OnErr result (self.new ≡ self.old) }
+        ensures unwritten { OnErr result (out.new.items ≡ out.old.items) }
+    {
+        let Head::LoginResponse(response) = &pdu.head else {
+            return Ok(self.breaks(KIND_NOT_DUE));
+        };
+        if response.initiator_task_tag != 0 {
+            return Ok(self.breaks(KIND_NOT_DUE));
+        }
+        let text = text_of(*out.allocator(), pdu, continued)?;
+        self.answered(response, text.as_ref(), pdu.bytes, out)
+    }
+
+    // An answer: a refusal, a wrong StatSN, or one in turn.
+    fn answered(
+        &mut self,
+        response: &LoginResponse,
+        text: Option<&Text<'_>>,
+        bytes: &[u8],
+        out: &mut Vec<u8>,
+    ) -> Result<Option<InitiatorFault>, AllocError>
+        ensures ok { IfOk result (λ fault. Did (answered self.old response.now
+            (text_or_bytes (option_map (λ t. t.now) text.entry) bytes.now)) fault
+            self.new out.old.items out.new.items) }
+        ensures err { OnErr result (self.new ≡ self.old) }
+        ensures unwritten { OnErr result (out.new.items ≡ out.old.items) }
+    {
+        if response.status_class != 0 {
+            return Ok(self.fails(InitiatorFault::Refused(
+                response.status_class,
+                response.status_detail,
+            )));
+        }
+        if !self.is_expected(response.stat_sn.unwrap_or(0)) {
+            return Ok(self.breaks(STATUS_OUT_OF_ORDER));
+        }
+        if self.left.is_empty() {
+            self.on_last(response, text, out)
+        } else {
+            self.on_part(response, text, bytes, out)
+        }
+    }
+
+    // An answer in the midst of a text: its next segment goes out.
+    fn on_part(
+        &mut self,
+        response: &LoginResponse,
+        text: Option<&Text<'_>>,
+        bytes: &[u8],
+        out: &mut Vec<u8>,
+    ) -> Result<Option<InitiatorFault>, AllocError>
+        requires { self.old.left ≢ [] }
+        ensures ok { IfOk result (λ fault. Did (in_turn self.old.left self.old response.now
+            (text_or_bytes (option_map (λ t. t.now) text.entry) bytes.now)) fault
+            self.new out.old.items out.new.items) }
+        ensures err { OnErr result (self.new ≡ self.old) }
+        ensures unwritten { OnErr result (out.new.items ≡ out.old.items) }
+    {
+        if !self.goes_on(response, text, bytes) {
+            return Ok(self.breaks(LOGIN_OUT_OF_TURN));
+        }
+        let (exp_stat_sn, window) = (self.exp_stat_sn, self.window);
+        self.count(response);
+        if let Err(error) = self.send_more(out) {
+            self.exp_stat_sn = exp_stat_sn;
+            self.window = window;
+            return Err(error);
+        }
+        Ok(None)
+    }
+
+    // An answer to the last segment of a text.
+    fn on_last(
+        &mut self,
+        response: &LoginResponse,
+        text: Option<&Text<'_>>,
+        out: &mut Vec<u8>,
+    ) -> Result<Option<InitiatorFault>, AllocError>
+        requires { self.old.left ≡ [] }
+        ensures ok { IfOk result (λ fault. (bytes : List ℕ) → Did (in_turn self.old.left self.old
+            response.now (text_or_bytes (option_map (λ t. t.now) text.entry) bytes)) fault
+            self.new out.old.items out.new.items) }
+        ensures err { OnErr result (self.new ≡ self.old) }
+        ensures unwritten { OnErr result (out.new.items ≡ out.old.items) }
+    {
+        if !self.moves_on(response) {
+            return Ok(self.breaks(LOGIN_OUT_OF_TURN));
+        }
+        match text {
+            Some(answer) => self.on_text(response, answer, out),
+            None => Ok(self.breaks(TEXT_AT_FAULT)),
+        }
+    }
+
+    // The text that answers the present one: a good one settles what is held.
+    fn on_text(
+        &mut self,
+        response: &LoginResponse,
+        answer: &Text<'_>,
+        out: &mut Vec<u8>,
+    ) -> Result<Option<InitiatorFault>, AllocError>
+        ensures ok { IfOk result (λ fault. Did (text_answered self.old response.now
+            (Whole answer.now)) fault self.new out.old.items out.new.items) }
+        ensures err { OnErr result (self.new ≡ self.old) }
+        ensures unwritten { OnErr result (out.new.items ≡ out.old.items) }
+    {
+        if let Some(key) = self.config.bad_key(self.stage, answer) {
+            return Ok(self.fails(InitiatorFault::BadAnswer(key)));
+        }
+        let next = asked_from(self.stage);
+        let (exp_stat_sn, window) = (self.exp_stat_sn, self.window);
+        self.count(response);
+        if let Err(error) = self.enter(next, out) {
+            self.exp_stat_sn = exp_stat_sn;
+            self.window = window;
+            return Err(error);
+        }
+        self.hold(answer);
+        Ok(None)
+    }
+
+    // Holds what an answer settles.
+    fn hold(&mut self, answer: &Text<'_>)
+        requires { DeclaresWell answer.now }
+        ensures { self.new
+            ≡ record self.old { held = initiator_holds None answer.now self.old.held } }
+    {
+        self.held.hold_answer(answer, None);
+    }
+
+    // The stage moves, and the next text goes out, if there is one.
+    fn enter(&mut self, stage: Stage, out: &mut Vec<u8>) -> Result<(), AllocError>
+        ensures ok { OnOk result (Did (enters stage self.old) None
+            self.new out.old.items out.new.items) }
+        ensures err { OnErr result (self.new ≡ self.old) }
+        ensures unwritten { OnErr result (out.new.items ≡ out.old.items) }
+    {
+        let before = self.stage;
+        self.stage = stage;
+        match stage {
+            Stage::Full => self.phase = Phase::Full,
+            Stage::Security | Stage::Operational => {
+                if let Err(error) = self.send_text(out) {
+                    self.stage = before;
+                    return Err(error);
+                }
+            }
+        }
+        Ok(())
+    }
+
+    // The StatSN and the window of an answer are counted.
+    fn count(&mut self, response: &LoginResponse)
+        ensures { self.new ≡ counted self.old response.now }
+    {
+        let stat_sn = response.stat_sn.unwrap_or(0);
+        self.exp_stat_sn = Some(stat_sn.wrapping_add(1));
+        self.window
+            .update(Serial(response.exp_cmd_sn), Serial(response.max_cmd_sn));
+    }
+
+    // Whether the number is the expected one; the first sets it.
+    pub(super) fn is_expected(&self, stat_sn: u32) -> bool
+        ensures { result ≡ is_expected self.now.exp_stat_sn stat_sn }
+    {
+        match self.exp_stat_sn {
+            None => true,
+            Some(expected) => stat_sn == expected,
+        }
+    }
+
+    // Whether the flags and the stage are those of an answer in the midst of a text.
+    fn goes_on(&self, response: &LoginResponse, text: Option<&Text<'_>>, bytes: &[u8]) -> bool
+        ensures { result ≡ goes_on self.now response.now
+            (text_or_bytes (option_map (λ t. t.now) text.entry) bytes.now) }
+    {
+        !response.transits
+            && !response.continues
+            && response.current_stage == self.stage.number()
+            && is_empty_segment(text, bytes)
+    }
+
+    // Whether the flags and stages are those of an answer to the last segment of a text.
+    fn moves_on(&self, response: &LoginResponse) -> bool
+        ensures { result ≡ moves_on self.now response.now }
+    {
+        response.transits
+            && !response.continues
+            && response.current_stage == self.stage.number()
+            && response.next_stage.unwrap_or(0) == asked_from(self.stage).number()
+    }
+
+    // The present text goes out whole, or its first segment does.
+    #[tactic(auto, using(crate::proofs::Sending::sent_text))]
+    fn send_text(&mut self, out: &mut Vec<u8>) -> Result<(), AllocError>
+        ensures ok { OnOk result (Did (sends_text self.old) None
+            self.new out.old.items out.new.items) }
+        ensures err { OnErr result (self.new ≡ self.old) }
+        ensures unwritten { OnErr result (out.new.items ≡ out.old.items) }
+    {
+        let mut text = Vec::new(*out.allocator());
+        self.config.write_text(self.stage, &mut text)?;
+        let len = self.write_segment(&text, out)?;
+        drop_front(&mut text, len);
+        self.left = text;
+        Ok(())
+    }
+
+    // The next segment of the present text goes out.
+    #[tactic(auto, using(crate::proofs::Sending::sent_more))]
+    fn send_more(&mut self, out: &mut Vec<u8>) -> Result<(), AllocError>
+        ensures ok { OnOk result (Did (sends_more self.old) None
+            self.new out.old.items out.new.items) }
+        ensures err { OnErr result (self.new ≡ self.old) }
+        ensures unwritten { OnErr result (out.new.items ≡ out.old.items) }
+    {
+        let len = self.write_segment(&self.left, out)?;
+        drop_front(&mut self.left, len);
+        Ok(())
+    }
+
+    // Writes as many bytes of the text as one segment takes, and says how many.
+    fn write_segment(&self, text: &[u8], out: &mut Vec<u8>) -> Result<usize, AllocError>
+        ensures count { IfOk result (λ n. (n ≤ length text.now)
+            × (drop n text.now ≡ drop self.now.settings.login_segment text.now)) }
+        ensures ok { OnOk result (out.new.items ≡ out.old.items
+            ++ whole (heads.LoginRequest (login_request self.now (fits_segment self.now text.now)))
+            (take self.now.settings.login_segment text.now)) }
+        ensures err { OnErr result (out.new.items ≡ out.old.items) }
+    {
+        let most = self.config.login_segment() as usize;
+        let len = text.len().min(most);
+        let head = Head::LoginRequest(self.login_request(text.len() <= most));
+        write_pdu(&head, &text[..len], out)?;
+        Ok(len)
+    }
+
+    // The head of a login PDU, which is the last of its text or is not.
+    fn login_request(&self, is_last: bool) -> LoginRequest
+        ensures value { result ≡ login_request self.now is_last }
+        ensures fits { Fits (heads.LoginRequest result) }
+    {
+        LoginRequest {
+            transits: is_last,
+            continues: !is_last,
+            current_stage: self.stage.number(),
+            next_stage: is_last.then_some(asked_from(self.stage).number()),
+            version_max: 0,
+            version_min: 0,
+            isid: self.config.isid(),
+            tsih: 0,
+            initiator_task_tag: 0,
+            connection_id: 0,
+            cmd_sn: self.config.first_cmd_sn(),
+            exp_stat_sn: self.sent_exp_stat_sn(),
+        }
+    }
+}
+
+// The stage that a text of this stage asks for.
+fn asked_from(stage: Stage) -> Stage
+    ensures { result ≡ asked_from stage }
+{
+    match stage {
+        Stage::Security => Stage::Operational,
+        Stage::Operational | Stage::Full => Stage::Full,
+    }
+}
+
+// Whether there is nothing in the segment.
+fn is_empty_segment(text: Option<&Text<'_>>, bytes: &[u8]) -> bool
+    ensures { result ≡ is_empty_segment (text_or_bytes (option_map (λ t. t.now) text.entry) bytes.now) }
+{
+    match text {
+        Some(text) => text.len() == 0,
+        None => bytes.is_empty(),
+    }
+}
