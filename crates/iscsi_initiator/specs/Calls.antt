@@ -121,7 +121,7 @@ pub record MemoryEnds (old : Connection) (piece : List ℕ) (heard : Heard old p
   pub machine : new.machine ≡ closed (heard_steps old piece heard).machine
   pub output : after ≡ before
 
--- No fault of the stream is want of memory (own rule).
+-- No fault of the stream is `NoMemory` (own rule).
 abbrev pub StreamFails : StreamFault → (old : Connection) (piece : List ℕ) → Connection → List ℕ → List ℕ → Type 0
 StreamFails stream.NoMemory old piece new before after = ⊥
 StreamFails fault old piece new before after =
@@ -153,7 +153,7 @@ pub record Accepts (old : Connection) (request : Request) (new : Connection)
   pub connection : new ≡ record old { machine = (submitted old.machine request).machine }
   pub output : after ≡ before ++ canon (submitted old.machine request).output
 
--- What the machine refuses the request for; want of memory comes last (own rule).
+-- What the machine refuses the request for; `NoMemory` comes last (own rule).
 abbrev pub refused_for : SubmitFault → Option SubmitFault
 refused_for refusals.NoMemory = None
 refused_for fault = Some fault
@@ -206,7 +206,7 @@ pub record CalledAlike {R : Type 0} (result other : R) (a b : Connection)
   pub alike : Alike a b
   pub output : rewritten ≡ written
 
--- The request wasn't refused for want of memory (own rule).
+-- The request wasn't refused when out of memory (own rule).
 abbrev pub HadMemory : Result (Unit {0}) Refused → Type 0
 HadMemory (Ok done) = Unit {0}
 HadMemory (Err refused) = refused.fault ≢ refusals.NoMemory

@@ -122,7 +122,7 @@ RestFails framing rest (faults.Stream fault) =
     (fault ≢ stream.NoMemory) × FeedFails framing rest fault
 RestFails framing rest _ = ⊥
 
--- A stream's want of memory is the initiator's own (own rule).
+-- A stream's `NoMemory` is the initiator's own (own rule).
 abbrev pub initiator_fault : StreamFault → InitiatorFault
 initiator_fault stream.NoMemory = faults.NoMemory
 initiator_fault (stream.Head fault place) = faults.Stream (stream.Head fault place)

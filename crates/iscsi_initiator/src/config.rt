@@ -68,7 +68,7 @@ impl Config {
     /// `Operational`), the ISID, the first CmdSN, and the most bytes of one segment of a login text,
     /// 64 to 8192 (RFC 7143, sections 6.3 and 11.12; the segment is own rule).
     ///
-    /// A bad name is refused first, then a number or stage out of its range; want of memory comes
+    /// A bad name is refused first, then a number or stage out of its range; `NoMemory` comes
     /// last.
     pub fn new(
         alloc: Global,
@@ -165,7 +165,7 @@ impl Config {
         }
     }
 
-    // Appends the text of this stage. After want of memory `out` is unchanged.
+    // Appends the text of this stage. When out of memory, `out` is unchanged.
     pub(crate) fn write_text(&self, stage: Stage, out: &mut Vec<u8>) -> Result<(), AllocError>
         ensures ok { OnOk result (out.new.items ≡ out.old.items
             ++ text_of (offers_at self.now.proposal self.now.start stage)) }

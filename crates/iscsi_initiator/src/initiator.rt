@@ -212,7 +212,7 @@ fn take_bytes(
     }
 }
 
-// A stream's want of memory is the initiator's own.
+// A stream's `NoMemory` is the initiator's own.
 fn stream_fault(fault: StreamFault) -> InitiatorFault
     ensures { result ≡ initiator_fault fault }
 {
@@ -223,7 +223,7 @@ fn stream_fault(fault: StreamFault) -> InitiatorFault
 }
 
 // Takes the PDU that is ready, if one is, and gives it up. Says which fault it led to, if it led to
-// one. Want of memory closes the session.
+// one. Being out of memory closes the session.
 fn hear_ready(
     session: &mut Session,
     framer: &mut Framer,

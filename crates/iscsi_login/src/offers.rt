@@ -63,7 +63,7 @@ impl Offers<'_> {
     /// text of a login that starts in the operational stage, or the operational text behind the
     /// security stage (RFC 7143, section 6.3).
     ///
-    /// After want of memory `out` is unchanged.
+    /// When out of memory, `out` is unchanged.
     pub fn write_text(
         &self,
         start: Stage,
@@ -86,7 +86,7 @@ impl Offers<'_> {
     /// Appends the text of the security stage: `AuthMethod`, `InitiatorName`, `SessionType`, and in
     /// a normal session `TargetName` (RFC 7143, sections 6.3.2, 12.1, 13.4, 13.5 and 13.21).
     ///
-    /// After want of memory `out` is unchanged.
+    /// When out of memory, `out` is unchanged.
     pub fn security_text(&self, out: &mut Vec<u8>) -> Result<(), AllocError>
         ensures ok { OnOk result (out.new.items ≡
             out.old.items ++ text_of (security_offers (proposed self.now))) }
@@ -98,7 +98,7 @@ impl Offers<'_> {
     /// Appends the text of the operational stage: the preference for each negotiated key but
     /// `AuthMethod`, and `MaxRecvDataSegmentLength` (RFC 7143, sections 6.3.3 and 13).
     ///
-    /// After want of memory `out` is unchanged.
+    /// When out of memory, `out` is unchanged.
     pub fn operational_text(&self, out: &mut Vec<u8>) -> Result<(), AllocError>
         ensures ok { OnOk result (out.new.items ≡
             out.old.items ++ text_of (operational_offers (proposed self.now))) }
@@ -110,7 +110,7 @@ impl Offers<'_> {
     /// Appends the one text of a login that starts in the operational stage: all pairs of both
     /// texts but `AuthMethod` (RFC 7143, section 6.3; that it is one text is own rule).
     ///
-    /// After want of memory `out` is unchanged.
+    /// When out of memory, `out` is unchanged.
     pub fn single_text(&self, out: &mut Vec<u8>) -> Result<(), AllocError>
         ensures ok { OnOk result (out.new.items ≡
             out.old.items ++ text_of (single_offers (proposed self.now))) }

@@ -4,7 +4,7 @@ use Rattle.iscsi_stream.specs.declared.fault.StreamFault.TheVariants as stream
 use Rattle.iscsi_stream.specs.declared.fault.ToolFault.{ToolFault}
 use Rattle.iscsi_stream.specs.declared.fault.ToolFault.TheVariants as tool
 
--- a stream's want of memory is the tool's own
+-- a stream's `NoMemory` is the tool's own
 abbrev pub tool_fault : StreamFault → ToolFault
 tool_fault stream.NoMemory = tool.NoMemory
 tool_fault (stream.Head fault place) = tool.Stream (stream.Head fault place)

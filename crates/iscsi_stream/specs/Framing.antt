@@ -83,7 +83,7 @@ pub record Completes (held piece : List ℕ) (head : Head) (len : ℕ) : Type 0 
   pub reaches : ReachesHeader held piece
   pub header : IsHeader (take 48 (held ++ piece)) head len
 
--- When feed answers each fault: want of memory where a header is whole, for its segment alone, and where the buffer has no
+-- When feed answers each fault: `NoMemory` where a header is whole, for its segment alone, and where the buffer has no
 -- room for it.
 abbrev pub FeedFails : Framing → List ℕ → StreamFault → Type 0
 FeedFails old piece faults.NoMemory = (old.failed ≡ false) × ((head : Head) × (len : ℕ) × Completes old.held piece head len × (old.room < len) × (len ≤ old.limit))

@@ -8,7 +8,7 @@ use Rattle.iscsi_text.specs.Fault.{IsFirstFault}
 use Rattle.iscsi_stream.specs.declared.fault.ToolFault.{ToolFault}
 use Rattle.iscsi_stream.specs.declared.fault.ToolFault.TheVariants as tool
 
--- a text's want of memory is the tool's own
+-- a text's `NoMemory` is the tool's own
 abbrev pub text_fault : TextFault → ToolFault
 text_fault text.NoMemory = tool.NoMemory
 text_fault (text.Unterminated at) = tool.Text (text.Unterminated at)
@@ -24,7 +24,7 @@ longest_text = 16384
 abbrev pub CanonicalOf : List ℕ → List ℕ → Type 0
 CanonicalOf bytes canonical = (pairs : Pairs) × TextMeans bytes pairs × (canonical ≡ canonical_text pairs)
 
--- why bytes have no canonical text: their first fault, or want of memory
+-- why bytes have no canonical text: their first fault, or that memory is out
 abbrev pub TextRefused : List ℕ → ToolFault → Type 0
 TextRefused bytes tool.NoMemory = Unit {0}
 TextRefused bytes (tool.Stream fault) = ⊥

@@ -277,7 +277,7 @@ FailsOne old before output piece fault new after written =
     AreRefused old before output piece fault new after written
     ⊎ RunsOut old before output piece fault new after written
 
--- A stream's want of memory is the target's own (own rule).
+-- A stream's `NoMemory` is the target's own (own rule).
 abbrev pub target_fault : StreamFault → TargetFault
 target_fault stream.NoMemory = faults.NoMemory
 target_fault (stream.Head fault place) = faults.Stream (stream.Head fault place)

@@ -260,7 +260,7 @@ fn take_bytes(
     }
 }
 
-// A stream's want of memory is the target's own.
+// A stream's `NoMemory` is the target's own.
 fn stream_fault(fault: StreamFault) -> TargetFault
     ensures { result ≡ target_fault fault }
 {
@@ -271,7 +271,7 @@ fn stream_fault(fault: StreamFault) -> TargetFault
 }
 
 // Answers the PDU that is ready, if one is, and gives it up. Says which rule it broke, if it broke
-// one. Want of memory closes the session.
+// one. Being out of memory closes the session.
 fn answer_ready<S: BlockStore>(
     machine: &mut Machine,
     framer: &mut Framer,

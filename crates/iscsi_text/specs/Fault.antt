@@ -49,10 +49,10 @@ IsFaulty pairs rest (Unterminated at) = IsUnended rest
 IsFaulty pairs rest (NoEquals at) = LacksEquals rest
 IsFaulty pairs rest (BadKey at) = HasBadKey rest
 IsFaulty pairs rest (Repeated at) = Repeats pairs rest
--- want of memory is no fault of a text
+-- being out of memory is no fault of a text
 IsFaulty pairs rest NoMemory = ⊥
 
--- The place that a fault names; want of memory names none (own profile).
+-- The place that a fault names; being out of memory names none (own profile).
 abbrev pub place_of : TextFault → ℕ
 place_of (Unterminated at) = at
 place_of (NoEquals at) = at

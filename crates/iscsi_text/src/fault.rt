@@ -6,7 +6,7 @@ ghost use Rattle.iscsi_text.specs.declared.fault.TextFault.TheVariants.{NoMemory
 use std::alloc::{AllocError, AllocFailed};
 use thiserror::Error;
 
-/// Want of memory, or the first fault of a text.
+/// Being out of memory, or the first fault of a text.
 ///
 /// A fault names its place, the number of bytes of the text before the faulty pair. It is that of
 /// the first faulty pair, and of the faults of that pair the first in the order of the variants.

@@ -45,7 +45,7 @@ fn value_of(text: &[u8], radix: u32) -> Option<u64>
 /// Appends the canonical numeral of a number, which is at most 18 bytes.
 ///
 /// It is the shorter of the decimal and of `0x` with the least lower-case hexadecimal digits, the
-/// decimal on a tie, so below 10^12 the decimal. After want of memory `out` is unchanged. Both forms
+/// decimal on a tie, so below 10^12 the decimal. When out of memory, `out` is unchanged. Both forms
 /// are those of RFC 7143, section 6.1; the choice is own profile.
 pub fn write_number(n: u64, out: &mut Vec<u8>) -> Result<(), AllocError>
     ensures ok { OnOk result (out.new.items ≡ out.old.items ++ canonical_number n) }

@@ -114,7 +114,7 @@ impl<'a> Text<'a> {
     /// Appends the canonical text, of `canonical_len` bytes: `key=value` and one byte 0 for each
     /// pair, in the byte order of the keys, with canonical numerals.
     ///
-    /// After want of memory `out` is unchanged. The form is that of RFC 7143, section 6.1; that
+    /// When out of memory, `out` is unchanged. The form is that of RFC 7143, section 6.1; that
     /// it is this one of a map's texts is own profile.
     pub fn write(&self, out: &mut Vec<u8>) -> Result<(), AllocError>
         ensures ok { OnOk result (out.new.items ≡ out.old.items ++ canonical_text self.now) }

@@ -12,7 +12,7 @@ use iscsi_stream::write_pdu;
 use std::alloc::AllocError;
 
 /// Appends one sequence of Data-Out PDUs that carry the bytes, in pieces of at most `most`, behind
-/// the first one's offset and DataSN. After want of memory `out` is unchanged.
+/// the first one's offset and DataSN. When out of memory, `out` is unchanged.
 pub fn write_sequence(
     first: DataOut,
     most: u32,

@@ -78,7 +78,7 @@ impl Machine {
     }
 
     // Executes a write whose bytes are all there, and its response goes out. The room for the
-    // response is there before a block changes, so that want of memory changes none.
+    // response is there before a block changes, so that a call that is out of memory changes none.
     fn execute_write<S: BlockStore>(
         &mut self,
         write: &OpenWrite,

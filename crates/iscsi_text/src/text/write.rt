@@ -23,8 +23,8 @@ pub fn pairs_len(pairs: &[Pair]) -> usize
 /// Appends the canonical text of these pairs: each as `key=value` and one byte 0, in their order,
 /// with canonical numerals (RFC 7143, section 6.1).
 ///
-/// Pairs in the byte order of their keys, no key twice, have the canonical text of their map. After
-/// want of memory `out` is unchanged.
+/// Pairs in the byte order of their keys, no key twice, have the canonical text of their map. When
+/// out of memory, `out` is unchanged.
 pub fn write_pairs(pairs: &[Pair], out: &mut Vec<u8>) -> Result<(), AllocError>
     ensures ok { OnOk result (out.new.items ≡
         out.old.items ++ canonical_text (all_shown pairs.now)) }
@@ -38,7 +38,7 @@ pub fn write_pairs(pairs: &[Pair], out: &mut Vec<u8>) -> Result<(), AllocError>
     written
 }
 
-// The same, but after want of memory some of it may be there.
+// The same, but when out of memory, some of it may be there.
 fn append_pairs(pairs: &[Pair], out: &mut Vec<u8>) -> Result<(), AllocError>
     ensures ok { OnOk result (out.new.items ≡
         out.old.items ++ canonical_text (all_shown pairs.now)) }
