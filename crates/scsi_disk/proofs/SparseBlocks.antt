@@ -1,9 +1,10 @@
 -- Blocks in extents.
-use Rattle.std.proofs.Common.{◌≡◌, ℕ, zero, suc, ◌+◌, ◌-◌, ◌*◌, ◌/◌, ◌%◌, ◌^◌, ◌<◌, ◌≤◌, Bool, true, false, cond, nat_lt, List, [], ◌∷◌, ◌++◌, length, take, replicate, Option, Some, None, refl, sym, ◌∙◌, ap, ◌⊎◌, inl, inr, arith, rules, is_some, IsSome}
+use Rattle.std.proofs.Common.{subst, drop, All, ◌≡◌, ℕ, zero, suc, ◌+◌, ◌-◌, ◌*◌, ◌/◌, ◌%◌, ◌^◌, ◌<◌, ◌≤◌, Bool, true, false, cond, nat_lt, List, [], ◌∷◌, ◌++◌, length, take, replicate, Option, Some, None, refl, sym, ◌∙◌, ap, ◌⊎◌, inl, inr, arith, rules, is_some, IsSome}
 use Rattle.std.proofs.lemmas.Bool.Decides.{nat_tests}
 use mathlib.Core.Path.{fun_ext}
 use Rattle.std.specs.Ordering.{nat_cmp}
 use Rattle.std.specs.Cmp.{nat_cmp_total}
+use Rattle.std.proofs.lemmas.List.Elements.{All-take, All-drop}
 use Rattle.std.specs.FinMap.{FinMap, get, find, from_entries, get-from_entries, empty, get-empty}
 use Rattle.std.specs.Map.{lookup}
 use Rattle.std.specs.BTreeMap.{is_at}
@@ -235,3 +236,35 @@ some_at es k some = rw (get_at es k) at some
 pub never_none : (o : Option (List ℕ)) → None ≡ o → IsSome o → ⊥
 never_none None e some = search rules
 never_none (Some x) e some = (let h : None ≡ Some x = e in cc)
+
+-- a key that is found in a list is found in a longer one, and the first key in any case
+found_behind : (q : ℕ) (e : ℕ × List ℕ) (es : List (ℕ × List ℕ)) → IsSome (find nat_cmp q es) → IsSome (find nat_cmp q (e ∷ es))
+found_behind q e es some = stays (is_at (nat_cmp q) e.0) e.1 (find nat_cmp q es) (find nat_cmp q (e ∷ es)) refl some
+
+found_first : (e : ℕ × List ℕ) (es : List (ℕ × List ℕ)) → IsSome (find nat_cmp e.0 (e ∷ es))
+found_first e es = is_there (find nat_cmp e.0 (e ∷ es)) e.1 (ap (λ b. cond b (Some e.1) (find nat_cmp e.0 es)) (at_itself e.0))
+
+keys_found : (es rest : List (ℕ × List ℕ)) → ((q : ℕ) → IsSome (find nat_cmp q rest) → IsSome (find nat_cmp q es)) → All (λ e. IsSome (find nat_cmp e.0 es)) rest
+keys_found es [] more k d lt = absurd (omega (arith, lt))
+keys_found es (e ∷ rest) more zero d lt = more e.0 (found_first e rest)
+keys_found es (e ∷ rest) more (suc k) d lt = keys_found es rest (λ q some. more q (found_behind q e rest some)) k d (omega (arith, lt))
+
+-- the keys of a run of a map's entries are there
+pub run_is_there : (es run : List (ℕ × List ℕ)) (a n : ℕ) → run ≡ take n (drop a es) → All (λ e. IsSome (get (from_entries {R = nat_cmp} es) e.0)) run
+run_is_there es run a n is =
+    let P : ℕ × List ℕ → Type 0 = λ e. IsSome (get (from_entries {R = nat_cmp} es) e.0) in
+    let all : All P es = subst (λ (f : ℕ → Option (List ℕ)). All (λ (e : ℕ × List ℕ). IsSome (f e.0)) es)
+    (fun_ext (λ q. sym (get-from_entries nat_cmp_total es q))) (keys_found es es (λ q some. some)) in
+    subst (All P) (sym is) (All-take P n (drop a es) (All-drop P a es all))
+
+-- one extent more is there, and those behind the first of a list
+pub next_there : (extents : FinMap nat_cmp (List ℕ)) (first next key : ℕ) → ((k : ℕ) → first ≤ k → k < next → IsSome (get extents k)) → key ≡ next → IsSome (get extents key)
+    → (k : ℕ) → first ≤ k → k < next + 1 → IsSome (get extents k)
+next_there extents first next key before is some k low high = elim (cases_order k next) [
+  | inl same ↦ subst (λ (n : ℕ). IsSome (get extents n)) (is ∙ sym same) some
+  | inr (inl less) ↦ before k low less
+  | inr (inr more) ↦ absurd (omega (arith, more, high))
+]
+
+pub behind_there : (extents : FinMap nat_cmp (List ℕ)) (e : ℕ × List ℕ) (es : List (ℕ × List ℕ)) → All (λ e. IsSome (get extents e.0)) (e ∷ es) → All (λ e. IsSome (get extents e.0)) es
+behind_there extents e es all k d lt = all (suc k) d (omega (arith, lt))

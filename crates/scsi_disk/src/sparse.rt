@@ -1,6 +1,6 @@
 //! A store that keeps only what was written.
 
-ghost use Rattle.std.specs.Prelude.{◌≡◌, ◌+◌, ◌*◌, ◌/◌, ◌%◌, ◌^◌, ◌<◌, ◌≤◌, length, ℕ, IsOk, IfOk, IsSome, OnOk, IsErrOf};
+ghost use Rattle.std.specs.Prelude.{◌≡◌, ◌+◌, ◌*◌, ◌/◌, ◌%◌, ◌^◌, ◌<◌, ◌≤◌, length, ℕ, true, IsOk, IfOk, IsSome, OnOk, IsErrOf};
 ghost use Rattle.std.specs.FinMap.{get};
 ghost use Rattle.scsi_disk.specs.Disk.{Disk, most_blocks, zeros, blocks_from, written, cut, overlaid};
 ghost use Rattle.scsi_disk.specs.Sparse.{disk_in, IsBlank, HasBlocks};
@@ -57,9 +57,10 @@ pub const MOST_BLOCKS: u64 = 1_099_511_627_776;
 
 /// A store of 1 to 2^40 blocks. A block that was never written is 00.
 ///
-/// It keeps extents of 64 blocks in an ordered map. A read looks up each extent that it reaches into
-/// once, and takes no memory. A write does so twice: it takes memory for all its extents, of 00,
-/// before it changes a byte, so after `NoMemory` no block has changed. The device does not fail.
+/// It keeps extents of 64 blocks in an ordered map. A transfer looks up each extent that it reaches
+/// into once. A read takes no memory. A write first goes over its extents, from the first of them;
+/// where not all are there, it takes memory for the others, of 00, before it changes a byte, so
+/// after `NoMemory` no block has changed. The device does not fail.
 #[derive(Drop)]
 pub struct SparseStore {
     blocks: u64,
@@ -137,6 +138,25 @@ impl SparseStore {
         }
     }
 
+    /// Whether the extents of some blocks are all there. It looks up the first, and goes on from it.
+    fn has_all(&self, first: u64, count: u64) -> bool
+        requires { first + count ≤ self.now.count }
+        ensures there { result ≡ true → HasBlocks self.now.extents first count }
+    {
+        prove!(first <= self.blocks);
+        if count == 0 {
+            return true;
+        }
+        let mut next = first / EXTENT_BLOCKS;
+        let end = (first + count - 1) / EXTENT_BLOCKS + 1;
+        for (extent, _) in self.extents.range(next..end) {
+            if *extent == next && next < end {
+                next += 1;
+            }
+        }
+        next == end
+    }
+
     /// Makes room for the extents of some blocks. Nothing is seen of it.
     fn reserve_all(&mut self, first: u64, count: u64) -> Result<(), AllocError>
         requires { first + count ≤ self.old.count }
@@ -206,7 +226,10 @@ impl BlockStore for SparseStore {
 
     fn write(&mut self, lba: u64, bytes: &[u8]) -> Result<(), StoreFault> {
         prove!(lba <= self.blocks);
-        self.reserve_all(lba, bytes.len() as u64 / 512)?;
+        let blocks = bytes.len() as u64 / 512;
+        if !self.has_all(lba, blocks) {
+            self.reserve_all(lba, blocks)?;
+        }
         self.write_all(lba, bytes);
         Ok(())
     }
