@@ -1,5 +1,5 @@
 #!/usr/bin/env python3
-"""Holds the documents against the tree, in a second. It proves nothing and is no part of the gate.
+"""Holds documents and wrong bodies against the tree, in a second. It proves nothing and is no part of the gate.
 
     tools/check_docs/check_docs.py
 
@@ -9,7 +9,8 @@ It looks at:
 - Rust between fences: it stands so in a file of crates/;
 - each row of docs/THEOREMS.md: the call stands in a file of its row, and a call of the row has each clause;
 - the tables of docs/FORMATS.md: the fields of each kind of PDU against specs/Fields.antt, specs/Meaning.antt and the
-  words of `show`; the text keys against both specs/Key.antt.
+  words of `show`; the text keys against both specs/Key.antt;
+- wrong bodies, in the gate and beside it: each old text stands in its file once.
 
 Each fault is a line. The last line is 'N looked at, M not so'; the status is 1 where M is not 0.
 """
@@ -130,19 +131,19 @@ def check_claims():
 # ---- tables of FORMATS
 
 def documented_kinds():
-    """For each kind: its opcode, its name in `show`, and its rows: field, place, whether on a condition, name."""
+    """For each kind: its opcode, its name in `show`, and its rows: field, place, condition, name."""
     kinds = {}
     for section in re.split(r"^### ", read("docs/FORMATS.md"), flags=re.M):
         head = re.search(r"^Opcode (\w\w), .*Code: `\w+` in `iscsi_pdu/src/head/(\w+)\.rt`\. `show` prints `([^`]+)`", section, re.M)
         if head:
             rows = [cells_of(line) for line in section.split("\n") if line.startswith("| `")]
             kinds[head.group(2)] = (int(head.group(1), 16), head.group(3),
-                                    [(r[0].strip("`"), r[1], r[2] != "", r[3].strip("`")) for r in rows])
+                                    [(r[0].strip("`"), r[1], r[2], r[3].strip("`")) for r in rows])
     return kinds
 
 
 def defined_rows(text, kind):
-    """The rows of a kind in specs/Fields.antt: field, place, whether on a condition."""
+    """The rows of a kind in specs/Fields.antt: field, place, condition."""
     body = re.search(rf"^{kind} h =\n(.*?)\n\n", text + "\n\n", re.M | re.S).group(1)
     for word, first, second, value in re.findall(r"(bit|bits|bytes|raw) (\w+) (\w+) (\(.*\))(?=\n|$)", body):
         field = re.search(r"h\.(\w+)\)+$", value).group(1)
@@ -150,7 +151,18 @@ def defined_rows(text, kind):
             place = f"{first}:{int(second, 16):02x}"
         else:
             place = first if first == second else f"{first}-{second}"
-        yield field, place, value.startswith("(only_if")
+        condition = re.match(r"\(only_if (.*) h\.\w+\)$", value)
+        yield field, place, in_words(condition.group(1)) if condition else ""
+
+
+def in_words(condition):
+    """A condition of specs/Fields.antt as FORMATS writes it."""
+    words = re.sub(r"^\((.*)\)$", r"\1", condition)
+    words = re.sub(r"^is_tag (h\.\w+)$", r"\1 is not ffffffff", words)
+    words = re.sub(r"^not \((h\.\w+) == (\w+)\)$", r"\1 is not \2", words)
+    words = re.sub(r"^(h\.\w+) == (\w+) \|\| \1 == (\w+)$", r"\1 is \2 or \3", words)
+    words = re.sub(r"^(h\.\w+) == (\w+)$", r"\1 is \2", words)
+    return re.sub(r"h\.(\w+)", r"`\1`", words.replace("||", "or"))
 
 
 def shown_words(text, kind):
@@ -213,6 +225,25 @@ def check_keys():
             look(row.group(1) == due, where, f"specs/Key says {row.group(1)}")
 
 
+# ---- wrong bodies
+
+def check_edits():
+    for folder in ("crates/*/must-fail", "tools/wrong_bodies/*"):
+        for edit in sorted(TOP.glob(f"{folder}/*.edit")):
+            crate = edit.parent.parent.name if "crates" in folder else edit.parent.name
+            texts, where = {}, edit.relative_to(TOP)
+            for word, rest in re.findall(r"^(file|old|new): (.*)$", edit.read_text(encoding="utf8"), re.M):
+                if word == "file":
+                    path = CRATES / crate / rest
+                    look(path.is_file(), where, f"no file {rest}")
+                    texts.setdefault(path, path.read_text(encoding="utf8") if path.is_file() else "")
+                elif word == "old":
+                    old = rest
+                    look(texts[path].count(old) == 1, where, f"stands {texts[path].count(old)} times: {old.strip()}")
+                else:
+                    texts[path] = texts[path].replace(old, rest)
+
+
 def main():
     pages = [TOP / "README.md", TOP / "CONTRIBUTING.md"]
     for pattern in ("docs/**/*.md", "crates/*/README.md", "crates/*/proofs/README.md", "tools/**/*.md"):
@@ -223,6 +254,7 @@ def main():
     check_claims()
     check_kinds()
     check_keys()
+    check_edits()
     for fault in faults:
         print(fault)
     print(f"{looked_at} looked at, {len(faults)} not so")
