@@ -1,6 +1,6 @@
 //! Sessions as dialogues: what an initiator sends, and what the target answers. Headers and statuses
 //! are worked out by hand from the tables of RFC 7143, section 11; the bytes of some were laid out by a
-//! script.
+//! script. The file is long for its rows, and has nothing else.
 //!
 //! A line with `>` is a PDU that comes, one with `<` a PDU that is answered: the header in hex, and
 //! what the segment has, without padding: nothing, bytes in hex, `5a*512` for so many of a byte, or
