@@ -2,6 +2,7 @@
 pub mod TargetStep
 pub mod InitiatorStep
 pub mod RoundAgrees
+pub mod Exchange
 pub mod AgreementLaw
 pub mod IdleLaw
 pub mod Compatible

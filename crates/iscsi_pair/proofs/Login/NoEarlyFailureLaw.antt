@@ -92,7 +92,7 @@ use Rattle.iscsi_pair.proofs.Ends.TargetRun.{TargetFront, front_output, TargetEn
 use Rattle.iscsi_pair.proofs.Ends.InitiatorRun.{InitiatorFront, InitiatorEnded, InitiatorBroken, InitiatorFailed, begun, all_sent}
 use Rattle.iscsi_pair.proofs.Ends.BothRuns.{Sides}
 use Rattle.iscsi_pair.proofs.Login.RoundAgrees.{Asks_on, first_asks}
-use Rattle.iscsi_pair.proofs.Login.AgreementLaw.{first_reached}
+use Rattle.iscsi_pair.proofs.Login.Exchange.{Way, first_reached}
 use Rattle.iscsi_pair.proofs.Login.RoundProgress.{first_suited}
 use Rattle.iscsi_pair.proofs.Login.NoFailure.{Waits, AreWell, stay_well}
 
@@ -147,9 +147,30 @@ all_well : (c : Opening) (inputs : List Input) (ms : List Message) (l k : ℕ) (
     → ReadsAs k no_login taken_ (coming inputs) → taken_ ++ y ≡ canon (said c ms).answers → AreWell (after_all (begun c) inputs) (said c ms) x y
 all_well c inputs ms l k given x taken_ y o suits p e q f =
     let a : Asks_on c (start_step (initiator.opening c.initiator)) (target.opening c.target c.first_stat_sn) no_login = first_asks c o in
-    stay_well inputs c (begun c) (target.opening c.target c.first_stat_sn) no_login no_login a.request (disk_of c.blocks) ms l k given x taken_ y o suits
-    a.asking (first_suited c o) refl (first_reached c) p
-    (e ∙ ap (λ (m : List Message). canon (m ++ sent (begun c) inputs)) a.is) q f
+    let way : Way = record {
+      opening = c;
+      extra = [];
+      target_limit = l;
+      initiator_limit = k;
+      left_there = x;
+      left_here = y;
+    } in
+    stay_well inputs way (begun c) (target.opening c.target c.first_stat_sn) (disk_of c.blocks) ms o suits refl (first_suited c o)
+    (record {
+      there = no_login;
+      here = no_login;
+      request = a.request;
+      asking = a.asking;
+      first = refl;
+      reached = first_reached c;
+      given = given;
+      reads = p;
+      sends = e ∙ ap (λ (m : List Message). canon (m ++ sent (begun c) inputs)) a.is;
+      heard = taken_;
+      hears = q;
+      answered = f ∙ ap canon (sym (append-nil (said c ms).answers));
+      only = inl refl;
+    })
 
 -- what was queued begins with what was read of what was moved
 read_first : (moved queue queued given rest lost whole : List ℕ) → moved ≡ given ++ rest → moved ++ queue ≡ queued → queued ++ lost ≡ whole

@@ -1,33 +1,26 @@
 -- No end closes before its login is completed, where both suit each other.
-use Rattle.std.proofs.Common.{◌≡◌, ◌≤◌, ◌⊎◌, inl, inr, ℕ, false, List, [], ◌∷◌, ◌++◌, length, Option, refl, sym, ap, ◌∙◌, subst}
+use Rattle.std.proofs.Common.{◌≡◌, ◌≤◌, ◌⊎◌, inl, inr, ℕ, false, List, [], ◌∷◌, ◌++◌, length, refl, sym, ap, ◌∙◌, subst}
 use Rattle.std.proofs.lemmas.List.{append-nil}
 use Rattle.scsi_disk.specs.Disk.{Disk}
 use Rattle.iscsi_stream.specs.declared.logins.Logins.{Logins}
 use Rattle.iscsi_stream.specs.Segment.{segment_bytes, after as logins_after}
 use Rattle.iscsi_stream.specs.Stream.{Message, ReadsAs}
 use Rattle.iscsi_stream.specs.Canonical.{canon, canonical_bytes}
-use Rattle.iscsi_login.specs.declared.phase.Phase.TheVariants as phases
 use Rattle.iscsi_login.specs.declared.stage.Stage.TheVariants as stages
 use Rattle.iscsi_target.specs.State as target
 use Rattle.iscsi_target.specs.Machine as target_machine
 use Rattle.iscsi_target.specs.Machine.{answers}
-use Rattle.iscsi_initiator.specs.declared.request.Done.{Done}
-use Rattle.iscsi_initiator.specs.declared.request.SubmitFault.TheVariants as refusals
 use Rattle.iscsi_initiator.specs.State as initiator
 use Rattle.iscsi_initiator.specs.State.{is_closed}
 use Rattle.iscsi_login.specs.Stage.{is_closed_phase}
-use Rattle.iscsi_initiator.specs.Steps.{Stepped}
-use Rattle.iscsi_initiator.specs.Machine.{step, taken}
-use Rattle.iscsi_initiator.specs.Submitted.{Submitted}
+use Rattle.iscsi_initiator.specs.Machine.{step}
 use Rattle.iscsi_pair.specs.World.{Opening, IsOpening, Suits}
-use Rattle.iscsi_pair.specs.Traffic.{after_all, sent, coming}
-use Rattle.iscsi_initiator.specs.Laws.{Input, Comes, Asks, Takes}
+use Rattle.iscsi_pair.specs.Traffic.{after_all}
+use Rattle.iscsi_initiator.specs.Laws.{Input}
 use Rattle.iscsi_pair.proofs.Wire.PrefixLemmas.{Readable, IsFirst, first_is}
 use Rattle.iscsi_pair.proofs.Login.RoundAgrees.{Asking, Round, asking_readable, asking_short, round}
 use Rattle.iscsi_pair.proofs.Login.RoundProgress.{Suited, Well, goes_well}
-use Rattle.iscsi_target.proofs.Keeping.{Stays, IsLater}
-use Rattle.iscsi_pair.proofs.Ends.TargetHeldStays.{held_stays as target_stays}
-use Rattle.iscsi_pair.proofs.Login.AgreementLaw.{IsReached, reached_more, refused, nothing_read, not_empty, full_stays}
+use Rattle.iscsi_pair.proofs.Login.Exchange.{Ended, Exchange, Turns, Way, Waiting, Closing, Agreeing, exchange_ends, not_empty, nothing_read}
 
 -- a message stands at the front of these bytes as it was written
 pub record Stands (bytes : List ℕ) : Type 0 where
@@ -105,53 +98,34 @@ last_heard (n ∷ ms) c i t out back r disk l given x y o suits a s b p e f =
     } in
     subst (λ (z : target.Stepped). AreWell i z x y) (sym all) there
 
-pub stay_well : (inputs : List Input) (c : Opening) (i : initiator.Machine) (t : target.Machine) (out back : Logins) (r : Message) (disk : Disk)
-    (ms : List Message) (l k : ℕ) (given x taken_ y : List ℕ)
-    → IsOpening c → Suits c → Asking c i t out r → Suited c i t → back.response ≡ false → IsReached c i
-    → ReadsAs l out given ms → given ++ x ≡ canonical_bytes r ++ canon (sent i inputs)
-    → ReadsAs k back taken_ (coming inputs) → taken_ ++ y ≡ canon (answers t disk ms).answers
-    → AreWell (after_all i inputs) (answers t disk ms) x y
-unfolding answers
-stay_well [] c i t out back r disk ms l k given x taken_ y o suits a s b reach p e q f =
-    last_heard ms c i t out back r disk l given x y o suits a s b p e (ap (λ (z : List ℕ). z ++ y) (sym (nothing_read k back taken_ q)) ∙ f)
-stay_well (Takes ∷ inputs) c i t out back r disk ms l k given x taken_ y o suits a s b reach p e q f =
-    let same : taken i ≡ i = ap (λ (d : Option Done). record i { done = d }) (sym a.no_outcome) in
-    subst (λ (m : initiator.Machine). AreWell (after_all m inputs) (answers t disk ms) x y) (sym same)
-    (stay_well inputs c i t out back r disk ms l k given x taken_ y o suits a s b reach p
-    (e ∙ ap (λ (m : initiator.Machine). canonical_bytes r ++ canon (sent m inputs)) same) q f)
-stay_well (Asks request ∷ inputs) c i t out back r disk ms l k given x taken_ y o suits a s b reach p e q f =
-    let same = refused phases.Login i request refusals.NotReady a.phase refl in
-    subst (λ (m : Submitted). AreWell (after_all m.machine inputs) (answers t disk ms) x y) (sym same)
-    (stay_well inputs c i t out back r disk ms l k given x taken_ y o suits a s b reach p
-    (e ∙ ap (λ (m : Submitted). canonical_bytes r ++ canon (m.output ++ sent m.machine inputs)) same) q f)
-stay_well (Comes m ∷ inputs) c i t out back r disk [] l k given x taken_ y o suits a s b reach p e q f =
-    absurd (not_empty k back taken_ y m (coming inputs) q f)
-stay_well (Comes m ∷ inputs) c i t out back r disk (n ∷ ms) l k given x taken_ y o suits a s b reach p e q f =
-    let one : IsFirst l out x (canon (sent i (Comes m ∷ inputs))) n r ms = first_is l out given x (canon (sent i (Comes m ∷ inputs))) n r ms
-    (asking_readable c i t out r o a) p e in
-    let turn : Round c i (target_machine.step t disk r) (logins_after out r.head) = round c i t out r disk o a in
-    let w : Well c i (target_machine.step t disk r) (step i turn.answer) (logins_after out r.head) =
-    goes_well c i t out (logins_after out r.head) r disk o suits a s turn in
-    let now : target.Stepped = target_machine.step t disk r in
-    let later : target.Stepped = answers now.machine now.disk ms in
-    let said_ : canon (answers t disk (n ∷ ms)).answers ≡ canonical_bytes turn.answer ++ canon later.answers =
-    ap (λ (v : Message). canon (answers t disk (v ∷ ms)).answers) one.same ∙ ap (λ (xs : List Message). canon (xs ++ later.answers)) turn.is in
-    let two : IsFirst k back y (canon later.answers) m turn.answer (coming inputs) =
-    first_is k back taken_ y (canon later.answers) m turn.answer (coming inputs) (turn.readable back b) q (f ∙ said_) in
-    let h : Stepped = step i turn.answer in
-    let sent_is : one.given ++ x ≡ canon (h.output ++ sent h.machine inputs) = one.rest ∙ ap (λ (v : Message). canon (sent i (Comes v ∷ inputs))) two.same in
-    let reach_ : IsReached c h.machine = reached_more c i turn.answer reach in
-    let core : AreWell (after_all h.machine inputs) later x y = elim w.on [
-      | inl agreed ↦ (let keeps : Stays now.machine later.machine = target_stays now.machine now.disk ms (subst IsLater (sym agreed.target_phase) tt) in
-          record {
-            target = inl (keeps.stage ∙ agreed.target_stage);
-            initiator = inl (full_stays c h.machine inputs o reach_ agreed.stage).0;
-          })
-      | inr next ↦ stay_well inputs c h.machine now.machine (logins_after out r.head) (logins_after back turn.answer.head) next.0.request now.disk ms l k
-          one.given x two.given y
-          o suits next.0.asking next.1 (turn.last back b) reach_ one.reads (sent_is ∙ ap (λ (xs : List Message). canon (xs ++ sent h.machine inputs)) next.0.is)
-          two.reads two.rest
-    ] in
-    subst (λ (v : Message). AreWell (after_all i (Comes m ∷ inputs)) (answers t disk (v ∷ ms)) x y) (sym one.same)
-    (subst (λ (v : Message). AreWell (after_all i (Comes v ∷ inputs)) (answers t disk (r ∷ ms)) x y) (sym two.same)
-    (record { target = core.target; initiator = core.initiator }))
+-- where both ends suit each other, no answer closes the session
+suited_turns : (c : Opening) → IsOpening c → Suits c → Turns c ⊥ (Suited c)
+suited_turns c o suits i t there r disk a s turn =
+    elim (goes_well c i t there (logins_after there r.head) r disk o suits a s turn).on [
+      | inl agreed ↦ inr (inl agreed)
+      | inr next ↦ inr (inr next)
+    ]
+
+-- an exchange that has ended so
+ended_well : (w : Way) (r : target.Stepped) (m : initiator.Machine) → IsOpening w.opening → Suits w.opening → w.extra ≡ []
+    → Ended w ⊥ (Suited w.opening) r.machine m → AreWell m r w.left_there w.left_here
+ended_well w r m o suits none (Waiting t disk ms s x is) =
+    let q : AreWell m (answers t disk ms) w.left_there w.left_here =
+    last_heard ms w.opening m t x.there x.here x.request disk w.target_limit x.given w.left_there w.left_here o suits x.asking s x.first x.reads x.sends
+    (ap (λ (z : List ℕ). z ++ w.left_here) (sym (nothing_read w.initiator_limit x.here x.heard x.hears)) ∙ x.answered
+    ∙ ap (λ (e : List Message). canon ((answers t disk ms).answers ++ e)) none ∙ ap canon (append-nil (answers t disk ms).answers)) in
+    record {
+      target = subst
+          (λ (z : target.Machine). (z.session.stage ≡ stages.Full) ⊎ ((target_machine.is_closed z ≡ false) × Waits w.left_there)) (sym is) q.target;
+      initiator = q.initiator;
+    }
+ended_well w r m o suits none (Closing may closed start) = absurd may
+ended_well w r m o suits none (Agreeing stage held own) = record { target = inl stage; initiator = inl own }
+
+-- so no end closes before its login is completed
+pub stay_well : (inputs : List Input) (w : Way) (i : initiator.Machine) (t : target.Machine) (disk : Disk) (ms : List Message) → IsOpening w.opening
+    → Suits w.opening → w.extra ≡ [] → Suited w.opening i t → Exchange w inputs i t disk ms
+    → AreWell (after_all i inputs) (answers t disk ms) w.left_there w.left_here
+stay_well inputs w i t disk ms o suits none s x =
+    ended_well w (answers t disk ms) (after_all i inputs) o suits none
+    (exchange_ends inputs w ⊥ (Suited w.opening) i t disk ms o (suited_turns w.opening o suits) s x)

@@ -138,8 +138,8 @@ talk_on most_out most P i t disk out more back there here h heard s =
     }
 
 -- what holds where the target has heard the first of them
-record HasHeard (most : ℕ) (P : Relation) (i : initiator.Machine) (r : target.Stepped) (out back : List Message) (there here : Logins) (h : History) : Type
-    0 where
+record HasHeard (most : ℕ) (P : Relation) (i : initiator.Machine) (r : target.Stepped) (out back : List Message) (there here : Logins) (h : History)
+    : Type 0 where
   rule : r.rule ≡ None
   written : AreWritten most here r.answers
   talks : Talks most P i r.machine r.disk out (back ++ r.answers) there (after_all here r.answers) h

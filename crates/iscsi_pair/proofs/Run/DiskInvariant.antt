@@ -81,8 +81,8 @@ none_asked = record { requests = []; outcomes = [] }
 -- ---- the relation
 
 -- the answer to a login request is on its way
-pub record LogsOn (c : Opening) (i : initiator.Machine) (t : target.Machine) (disk : Disk) (back : List Message) (there here : Logins) (h : History) : Type
-    0 where
+pub record LogsOn (c : Opening) (i : initiator.Machine) (t : target.Machine) (disk : Disk) (back : List Message) (there here : Logins) (h : History)
+    : Type 0 where
   pub before : target.Machine
   pub said : Logins
   pub request : Message
@@ -129,8 +129,8 @@ pub record IsServing (c : Opening) (i : initiator.Machine) (t : target.Machine) 
   pub ended : (let here = local (pinged c) (disk_after c past) request in HasEnded held here.outcome here.disk last)
 
 -- what both ends keep
-pub data Serves (c : Opening) (i : initiator.Machine) (t : target.Machine) (disk : Disk) (back : List Message) (there here : Logins) (h : History) : Type
-    0 where
+pub data Serves (c : Opening) (i : initiator.Machine) (t : target.Machine) (disk : Disk) (back : List Message) (there here : Logins) (h : History)
+    : Type 0 where
   Logs : LogsOn c i t disk back there here h → Serves c i t disk back there here h
   Rest : Rests c i t disk back h → Serves c i t disk back there here h
   Serve : IsServing c i t disk back h → Serves c i t disk back there here h
@@ -353,8 +353,8 @@ settles c held h past request i t all rest =
     ]
 
 -- the outcome that is there is the last request's, and no answer is on its way
-record IsDone (c : Opening) (held : Held) (i : initiator.Machine) (t : target.Machine) (disk : Disk) (back : List Message) (h : History) (d : Done) : Type
-    0 where
+record IsDone (c : Opening) (held : Held) (i : initiator.Machine) (t : target.Machine) (disk : Disk) (back : List Message) (h : History) (d : Done)
+    : Type 0 where
   silent : back ≡ []
   settled : AreSettled held h (taken i) t
   disk_is : disk ≡ disk_after c h.requests
