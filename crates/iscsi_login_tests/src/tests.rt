@@ -1,5 +1,4 @@
-//! The table of keys, worked logins and the offer texts, by example. One file, since it is tables
-//! of rows.
+//! The table of keys, worked logins and the offer texts, by example.
 
 use iscsi_login::{
     Answered, Auth, ConfigFault, NegKey, Offers, Params, Preferences, Session, Stage, answer_text,

@@ -40,8 +40,9 @@ first_read = 0x28 ∷ 0 ∷ 0 ∷ 0 ∷ 0 ∷ 0 ∷ 0 ∷ 0 ∷ 1 ∷ 0 ∷ 0 �
 abbrev pub good : List ℕ → Done
 good bytes = done.Command 0 0x00 [] bytes Exact
 
--- Two ends of these names over these blocks, both with the standard preferences, in a normal session
--- that offers no authentication and starts with its operational stage (sections 6.3 and 13).
+-- Two ends of these names over these blocks, both with the standard preferences, in a normal
+-- session that offers no authentication and starts with its operational stage (sections 6.3 and
+-- 13).
 abbrev pub standard_opening : List ℕ → Opening
 standard_opening blocks = record {
   initiator = record {

@@ -95,8 +95,8 @@ window_of_eight cmd_sn = record {
   max = initiator.serial ((cmd_sn + 7) % 2 ^ 32);
 }
 
--- Both ends are in full feature phase of a normal session, hold the same, wait for the same numbers,
--- and have nothing open (sections 4.2 and 6.3).
+-- Both ends are in full feature phase of a normal session, hold the same, wait for the same
+-- numbers, and have nothing open (sections 4.2 and 6.3).
 pub record AreInStep (m : initiator.Machine) (t : target.Machine) : Type 0 where
   pub initiator_phase : m.phase ≡ phases.Full
   pub target_phase : t.session.phase ≡ phases.Full

@@ -64,8 +64,8 @@ RunsServed old (event ∷ events) new outcomes =
     × (keeps_no_memory mid ≡ false) × (outcomes ≡ given_in event old ++ later)
     × RunsServed mid events new later
 
--- Some run is served in which these requests are handed in and these outcomes taken, and after which
--- nothing is on its way (own rule).
+-- Some run is served in which these requests are handed in and these outcomes taken, and after
+-- which nothing is on its way (own rule).
 pub record SomeRunServes (c : Opening) (all : List Request) (outcomes : List Done) : Type 0 where
   pub events : List Event
   pub world : World
@@ -80,8 +80,8 @@ pub record IsNormal (c : Opening) : Type 0 where
   pub suits : Suits c
   pub session : c.initiator.proposal.session ≡ sessions.Normal
 
--- The outcomes that requests have on one local disk: that of the pair at first, with pings of as many
--- bytes as the initiator takes (own rule).
+-- The outcomes that requests have on one local disk: that of the pair at first, with pings of as
+-- many bytes as the initiator takes (own rule).
 abbrev pub disk_outcomes : Opening → List Request → List Done
 disk_outcomes c = local_outcomes c.initiator.proposal.prefs.max_recv (disk_of c.blocks)
 

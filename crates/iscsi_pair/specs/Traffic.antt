@@ -109,10 +109,10 @@ demanded (input ∷ inputs) = demanded_in input ++ demanded inputs
 abbrev pub said : Opening → List Message → Stepped
 said c messages = answers (opening c.target c.first_stat_sn) (disk_of c.blocks) messages
 
--- The target is where its machine goes with these PDUs, which are the first of what was moved to it,
--- and so are the blocks; its answers are all that was queued for the initiator. While its session
--- goes on it has taken all that was moved; behind the end of its session the rest is dropped (own
--- rule).
+-- The target is where its machine goes with these PDUs, which are the first of what was moved to
+-- it, and so are the blocks; its answers are all that was queued for the initiator. While its
+-- session goes on it has taken all that was moved; behind the end of its session the rest is
+-- dropped (own rule).
 pub record TargetStands (c : Opening) (t : Traffic) (w : World) : Type 0 where
   pub messages : List Message
   pub given : List ℕ
@@ -128,17 +128,19 @@ pub record TargetStands (c : Opening) (t : Traffic) (w : World) : Type 0 where
   pub none_waits : target_machine.is_closed w.target.machine ≡ false →
       is_ready w.target.framing ≡ false
 
--- The initiator is where its machine goes with these inputs: the PDUs that are the first of what was
--- moved to it, the requests handed in and the outcomes taken. What it sent is all that was queued for
--- the target. While its session goes on it has taken all that was moved (own rule).
-pub record InitiatorStands (c : Opening) (inputs : List Input) (t : Traffic) (w : World) : Type 0 where
+-- The initiator is where its machine goes with these inputs: the PDUs that are the first of what
+-- was moved to it, the requests handed in and the outcomes taken. What it sent is all that was
+-- queued for the target. While its session goes on it has taken all that was moved (own rule).
+pub record InitiatorStands (c : Opening) (inputs : List Input) (t : Traffic) (w : World)
+    : Type 0 where
   pub given : List ℕ
   pub rest : List ℕ
   pub whole : t.moved_to_initiator ≡ given ++ rest
   pub reads : ReadsAs (initiator_calls.limit c.initiator) no_login given (coming inputs)
   pub demands : demanded inputs ≡ t.demands
   pub machine : w.initiator.machine ≡ after_all (started c).machine inputs
-  pub output : t.queued_for_target ≡ (new_pair c).to_target ++ canon (sent (started c).machine inputs)
+  pub output : t.queued_for_target
+      ≡ (new_pair c).to_target ++ canon (sent (started c).machine inputs)
   pub taken : is_closed w.initiator.machine ≡ false →
       HasTaken t.moved_to_initiator (coming inputs) w.initiator.framing
   -- and no whole PDU waits

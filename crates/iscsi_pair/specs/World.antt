@@ -26,8 +26,8 @@ use Rattle.iscsi_pair.specs.declared.step.EndFault.TheVariants as ends
 use Rattle.iscsi_pair.specs.declared.step.Step.{Step}
 use Rattle.iscsi_pair.specs.declared.step.Step.TheVariants as steps
 
--- Both ends, the bytes of the target's blocks, the bytes queued for each end, and the first fault of
--- each end, if it has failed (own rule).
+-- Both ends, the bytes of the target's blocks, the bytes queued for each end, and the first fault
+-- of each end, if it has failed (own rule).
 pub record World : Type 0 where
   pub target : target.Connection
   pub blocks : List ℕ
@@ -213,8 +213,8 @@ RunsInTime old (event ∷ events) new =
 
 -- ---- runs in which memory is there
 
--- Events, one after another, in which no growth is refused: none leaves an end that keeps that memory
--- ran out (own rule).
+-- Events, one after another, in which no growth is refused: none leaves an end that keeps that
+-- memory ran out (own rule).
 unfoldable pub RunsCalmly : World → List Event → World → Type 0
 RunsCalmly old [] new = new ≡ old
 RunsCalmly old (event ∷ events) new =

@@ -1,8 +1,8 @@
 //! Laws of a pair: functions with no work, whose contracts are of the definitions alone.
 //!
 //! They hold over every configuration and every list of events, however the bytes are cut, and
-//! wherever memory runs out but where a law says that no growth was refused. `one_request` is of any
-//! two ends that are in step, over whole messages.
+//! wherever memory runs out but where a law says that no growth was refused. `one_request` is of
+//! any two ends that are in step, over whole messages.
 
 ghost use Rattle.std.specs.Prelude.{◌≡◌, ◌≤◌, ◌⊎◌, ◌++◌, ◌∷◌, [], ℕ, List, None, false, length};
 ghost use Rattle.std.specs.List.{AllByRecursion};
@@ -39,9 +39,9 @@ pub fn queues()
         → t.moved_to_initiator ++ w.to_initiator ≡ t.queued_for_initiator }
 {}
 
-/// While an end hasn't failed, it is where its machine goes with the PDUs that were moved to it, for
-/// the initiator with the requests handed in and the outcomes taken too, in the order of the events,
-/// and what its machine sends is what was queued for the other end.
+/// While an end hasn't failed, it is where its machine goes with the PDUs that were moved to it,
+/// for the initiator with the requests handed in and the outcomes taken too, in the order of the
+/// events, and what its machine sends is what was queued for the other end.
 pub fn ends()
     ensures target { (c : Opening) (events : List Event) (w : World) (t : Traffic)
         → Traces (first_traffic c) (new_pair c) events w t → w.target_fault ≡ None
@@ -49,8 +49,8 @@ pub fn ends()
     ensures initiator { (c : Opening) (events : List Event) (w : World) (t : Traffic)
         → Traces (first_traffic c) (new_pair c) events w t → w.initiator_fault ≡ None
         → (inputs : List Input) × InitiatorStands c inputs t w }
-    // In the order of the events: however far they had come, what the initiator had met by then is the
-    // first of what it has met after them all.
+    // In the order of the events: however far they had come, what the initiator had met by then is
+    // the first of what it has met after them all.
     ensures order { (c : Opening) (past more : List Event) (mid w : World) (u t : Traffic)
         (inputs : List Input) → Traces (first_traffic c) (new_pair c) past mid u
         → InitiatorStands c inputs u mid → Traces u mid more w t → w.initiator_fault ≡ None
@@ -76,8 +76,8 @@ pub fn login_agreement()
         → w.target.machine.session.held ≡ w.initiator.machine.held }
 {}
 
-/// An idle pair has completed its login: where nothing is on its way and neither end has failed, both
-/// are in full feature phase, or were until they parted (RFC 7143, section 6.3).
+/// An idle pair has completed its login: where nothing is on its way and neither end has failed,
+/// both are in full feature phase, or were until they parted (RFC 7143, section 6.3).
 pub fn idle_pair()
     ensures initiator { (c : Opening) (events : List Event) (w : World) → IsOpening c
         → Reached c events w → w.to_target ≡ [] → w.to_initiator ≡ []
@@ -101,10 +101,10 @@ pub fn no_early_failure()
         → (w.initiator_fault ≡ None) ⊎ (w.initiator.machine.stage ≡ stages.Full) }
 {}
 
-/// A request is that of a local disk: where both ends are in step, a command, a ping or a logout that
-/// is accepted has the outcome that it has on the target's disk, leaves the disk that it leaves there,
-/// and both ends in step, or parted, after some answers (RFC 7143, sections 11.3, 11.4, 11.7, 11.8,
-/// 11.14 and 11.18).
+/// A request is that of a local disk: where both ends are in step, a command, a ping or a logout
+/// that is accepted has the outcome that it has on the target's disk, leaves the disk that it
+/// leaves there, and both ends in step, or parted, after some answers (RFC 7143, sections 11.3,
+/// 11.4, 11.7, 11.8, 11.14 and 11.18).
 pub fn one_request()
     ensures ends { (m : initiator.Machine) (t : target.Machine) (disk : Disk) (request : Request)
         → IsServed request → AreInStep m t → (submitted m request).refusal ≡ None
@@ -116,8 +116,8 @@ pub fn one_request()
 {}
 
 /// The end of a run shows that it was served: where no end keeps that memory ran out, and the
-/// initiator keeps no fault, no growth was refused in it, and each request was accepted. They are to
-/// be commands, pings and logouts.
+/// initiator keeps no fault, no growth was refused in it, and each request was accepted. They are
+/// to be commands, pings and logouts.
 pub fn served_runs()
     ensures served { (c : Opening) (events : List Event) (w : World) → Reached c events w
         → AllByRecursion IsServed (asked events) → keeps_no_memory w ≡ false
@@ -155,10 +155,10 @@ pub fn one_local_disk()
         → AreAtEnd (asked events) (taken w.initiator.machine) w.target.machine }
 {}
 
-/// Every list of commands and pings can be served: where each is one that any target takes, there are
-/// events that hand in these, one after another, such that the run is served and has taken all their
-/// outcomes on one local disk, with nothing on its way then. So the premises of `one_local_disk` are
-/// met (RFC 7143, section 4.2).
+/// Every list of commands and pings can be served: where each is one that any target takes, there
+/// are events that hand in these, one after another, such that the run is served and has taken all
+/// their outcomes on one local disk, with nothing on its way then. So the premises of
+/// `one_local_disk` are met (RFC 7143, section 4.2).
 pub fn lists_are_served()
     ensures served { (c : Opening) (all : List Request) → IsNormal c
         → AllByRecursion IsAlwaysTaken all → SomeRunServes c all (disk_outcomes c all) }
@@ -168,9 +168,9 @@ pub fn lists_are_served()
         SomeRunServes c all (disk_outcomes c all) }
 {}
 
-/// What is written is read: some run is served in which a WRITE(10) and a READ(10) of the same blocks
-/// are handed in, and whose outcomes are GOOD for both, for the read with the bytes that were written
-/// (SBC-3).
+/// What is written is read: some run is served in which a WRITE(10) and a READ(10) of the same
+/// blocks are handed in, and whose outcomes are GOOD for both, for the read with the bytes that
+/// were written (SBC-3).
 pub fn what_is_written_is_read()
     ensures read { (c : Opening) (write_cdb read_cdb bytes : List ℕ) → IsNormal c
         → NameSame c write_cdb read_cdb bytes → SomeRunServes c

@@ -46,8 +46,8 @@ impl Model for Pair {
 }
 
 impl Pair {
-    /// A pair whose initiator has started its login. On a fault what was handed in is dropped; memory
-    /// alone can be wanting.
+    /// A pair whose initiator has started its login. On a fault what was handed in is dropped;
+    /// memory alone can be wanting.
     pub fn new(
         alloc: Global,
         initiator: iscsi_initiator::Config,
@@ -192,11 +192,11 @@ impl Pair {
     }
 
     /// Takes these steps, one after another. Where memory runs out in a step, its end keeps that.
-    #[tactic(auto, using(crate::proofs::Calm::calm))]
+    #[tactic(auto, using(crate::proofs::Run::MemoryLemmas::calm))]
     pub fn run(&mut self, steps: Vec<Step>)
         ensures ran { Runs self.old (map event_of steps.items) self.new }
-        // Where no end keeps that memory ran out, no growth was refused: then the steps alone say to
-        // which world they lead (`laws::one_world`).
+        // Where no end keeps that memory ran out, no growth was refused: then the steps alone say
+        // to which world they lead (`laws::one_world`).
         ensures calm { keeps_no_memory self.new ≡ false
             → RunsCalmly self.old (map event_of steps.items) self.new }
     {

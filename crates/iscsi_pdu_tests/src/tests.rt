@@ -1,5 +1,5 @@
-//! Headers whose bytes were worked out by hand from the tables of RFC 7143, section 11. One file,
-//! since it is a row for each kind of header.
+//! Headers whose bytes were worked out by hand from the tables of RFC 7143, section 11. The file is
+//! long for its rows: each kind has some.
 
 use iscsi_pdu::{
     AsyncMessage, DataIn, DataOut, Head, HeadFault, LoginRequest, LoginResponse, LogoutRequest,

@@ -1,5 +1,4 @@
-//! Runs of the filters, the words, and the lines and statuses of faults. One file, since its tests
-//! share their rows and fake writers.
+//! Runs of the filters, the words, and the lines and statuses of faults.
 
 mod answers;
 mod session;

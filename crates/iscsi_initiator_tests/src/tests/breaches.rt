@@ -1,6 +1,6 @@
-//! Rules that are broken, as dialogues; the rules are those of `docs/FORMATS.md`. The bytes were
-//! laid out by a script from the tables of RFC 7143, section 11. One file, since it is one table of
-//! dialogues.
+//! Rules that are broken, as dialogues; the rules are those of `docs/FORMATS.md`.
+//! The bytes were laid out by a script from the tables of RFC 7143, section 11. The file is long for
+//! its rows, and has nothing else.
 
 /// What closes a session.
 pub const BREACHES: &str = "# standard, logged in: a reject\n\

@@ -1,5 +1,4 @@
-//! Loops of both ends over a socket: scripts, and the lines that they write. One file, since it is
-//! tables of scripts and what runs them.
+//! Loops of both ends over a socket: scripts, and the lines that they write.
 
 use super::{Broken, Full, same};
 use iscsi_service::{LONGEST_PIECE, ServeFault, run_loop};

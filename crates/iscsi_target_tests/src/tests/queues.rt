@@ -1,6 +1,6 @@
-//! Sessions in which requests wait, as lines of the form that `rows` tells: each begins behind the
-//! login there but the one that says so. The bytes were laid out by a script from the tables of RFC
-//! 7143, section 11, and the rules of the window. One file, since it is one table of dialogues.
+//! Sessions in which requests wait, as lines of the form that `rows` tells: each begins behind the login there
+//! but the one that says so. The bytes were laid out by a script from the tables of RFC 7143, section 11, and
+//! the rules of the window. The file is long for its rows, and has nothing else.
 
 use super::rows::Dialogue;
 

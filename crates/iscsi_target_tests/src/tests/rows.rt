@@ -1,6 +1,6 @@
 //! Sessions as dialogues: what an initiator sends, and what the target answers. Headers and statuses
 //! are worked out by hand from the tables of RFC 7143, section 11; the bytes of some were laid out by a
-//! script.
+//! script. The file is long for its rows, and has nothing else.
 //!
 //! A line with `>` is a PDU that comes, one with `<` a PDU that is answered: the header in hex, and
 //! what the segment has, without padding: nothing, bytes in hex, `5a*512` for so many of a byte, or
@@ -8,7 +8,6 @@
 //! keys more, from `K000=1` on. A line with `#` says how many of the first 16 blocks are of 5a when these
 //! PDUs were answered, while those behind them are of 00. A line with `=` says what the call
 //! answers that takes the PDUs since the last one: a phase, a broken rule, or that it was closed.
-//! One file, since it is one table of dialogues.
 
 /// A session: its name, whether it begins without a login, and its lines.
 pub type Dialogue = (&'static str, bool, &'static str);

@@ -1,5 +1,5 @@
-use Rattle.iscsi_pair.proofs.Sides.{reached_sides}
-use Rattle.iscsi_pair.proofs.Standing.{target_stands, initiator_stands, goes_on}
+use Rattle.iscsi_pair.proofs.Ends.BothRuns.{reached_sides}
+use Rattle.iscsi_pair.proofs.Ends.EndsLaw.{target_stands, initiator_stands, goes_on}
 use Rattle.iscsi_pair.proofs.laws.ends.Goals as goal
 
 pub returns : goal.returns

@@ -1,8 +1,8 @@
 use Rattle.iscsi_pair.specs.World.{new_pair}
 use Rattle.iscsi_pair.specs.Traffic.{first_traffic}
-use Rattle.iscsi_pair.proofs.Sides.{traced, reached_sides}
-use Rattle.iscsi_pair.proofs.Agreeing.{world_agrees}
-use Rattle.iscsi_pair.proofs.Idle.{world_idle}
+use Rattle.iscsi_pair.proofs.Ends.BothRuns.{traced, reached_sides}
+use Rattle.iscsi_pair.proofs.Login.AgreementLaw.{world_agrees}
+use Rattle.iscsi_pair.proofs.Login.IdleLaw.{world_idle}
 use Rattle.iscsi_pair.proofs.laws.idle_pair.Goals as goal
 
 pub returns : goal.returns

@@ -1,4 +1,4 @@
-use Rattle.iscsi_pair.proofs.Lists.{serves_all, serves_to_end}
+use Rattle.iscsi_pair.proofs.Lists.ListsAreServedLaw.{serves_all, serves_to_end}
 use Rattle.iscsi_pair.proofs.laws.lists_are_served.Goals as goal
 
 pub returns : goal.returns

@@ -1,7 +1,7 @@
 use Rattle.iscsi_pair.specs.World.{new_pair}
 use Rattle.iscsi_pair.specs.Traffic.{first_traffic}
-use Rattle.iscsi_pair.proofs.Sides.{traced, reached_sides}
-use Rattle.iscsi_pair.proofs.InTime.{in_time, none_fails}
+use Rattle.iscsi_pair.proofs.Ends.BothRuns.{traced, reached_sides}
+use Rattle.iscsi_pair.proofs.Login.NoEarlyFailureLaw.{in_time, none_fails}
 use Rattle.iscsi_pair.proofs.laws.no_early_failure.Goals as goal
 
 pub returns : goal.returns

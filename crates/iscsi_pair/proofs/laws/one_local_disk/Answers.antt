@@ -1,4 +1,4 @@
-use Rattle.iscsi_pair.proofs.OneDisk.{idle_none, idle_rests, idle_whole, served, taken_first}
+use Rattle.iscsi_pair.proofs.Run.OneDiskLaw.{idle_none, idle_rests, idle_whole, served, taken_first}
 use Rattle.iscsi_pair.proofs.laws.one_local_disk.Goals as goal
 
 pub returns : goal.returns

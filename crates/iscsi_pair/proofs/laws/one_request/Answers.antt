@@ -1,4 +1,4 @@
-use Rattle.iscsi_pair.proofs.LocalDisks.{accepts, comes_to}
+use Rattle.iscsi_pair.proofs.Request.OneRequestLaw.{accepts, comes_to}
 use Rattle.iscsi_pair.proofs.laws.one_request.Goals as goal
 
 pub returns : goal.returns

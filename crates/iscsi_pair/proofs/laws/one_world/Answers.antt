@@ -1,4 +1,4 @@
-use Rattle.iscsi_pair.proofs.OneWorld.{one_world}
+use Rattle.iscsi_pair.proofs.Ends.OneWorldLaw.{one_world}
 use Rattle.iscsi_pair.proofs.laws.one_world.Goals as goal
 
 pub returns : goal.returns

@@ -1,4 +1,4 @@
-use Rattle.iscsi_pair.proofs.Sides.{reached_sides}
+use Rattle.iscsi_pair.proofs.Ends.BothRuns.{reached_sides}
 use Rattle.iscsi_pair.proofs.laws.queues.Goals as goal
 
 pub returns : goal.returns

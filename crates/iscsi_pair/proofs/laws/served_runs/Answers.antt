@@ -1,5 +1,5 @@
 use Rattle.iscsi_pair.specs.World.{new_pair}
-use Rattle.iscsi_pair.proofs.Observed.{was_served}
+use Rattle.iscsi_pair.proofs.Run.ServedRunsLaw.{was_served}
 use Rattle.iscsi_pair.proofs.laws.served_runs.Goals as goal
 
 pub returns : goal.returns

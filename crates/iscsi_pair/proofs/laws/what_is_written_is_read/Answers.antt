@@ -1,4 +1,4 @@
-use Rattle.iscsi_pair.proofs.ReadBack.{first_same, reads_back, standard_normal}
+use Rattle.iscsi_pair.proofs.Lists.ReadBackLaw.{first_same, reads_back, standard_normal}
 use Rattle.iscsi_pair.proofs.laws.what_is_written_is_read.Goals as goal
 
 pub returns : goal.returns

@@ -2,7 +2,7 @@ use Rattle.std.proofs.Common.{◌≡◌, ℕ, min, length, drop, sym, ap, ◌∙
 use Rattle.std.proofs.lemmas.List.{length-take-le}
 use Rattle.iscsi_pair.specs.World.{World, Happens, ToInitiator}
 use Rattle.iscsi_pair.specs.contracts.pair.Pair.{the_view}
-use Rattle.iscsi_pair.proofs.Moving.{initiator_took, is_none}
+use Rattle.iscsi_pair.proofs.Run.MoveLemmas.{initiator_took, is_none}
 use Rattle.iscsi_pair.proofs.pair.Pair.move_to_initiator.Goals as goal
 
 pub returns : goal.returns
@@ -22,7 +22,8 @@ returns c =
     (record {
       result = c.feed-fed.result;
       fed = rw c.deref.ensures.value at c.feed-fed.ensures.feeds;
-      dropped = c.drop_front-2.ensures ∙ ap (λ (i : ℕ). drop i c.self.inside.to_initiator.items) (sym (length-take-le c.min-n.result c.self.inside.to_initiator.items (omega arith)));
+      dropped = c.drop_front-2.ensures ∙ ap (λ (i : ℕ). drop i c.self.inside.to_initiator.items)
+          (sym (length-take-le c.min-n.result c.self.inside.to_initiator.items (omega arith)));
       target = refl;
       blocks = refl;
       fault = c.feed_fault-self-inside.ensures;

@@ -1,4 +1,4 @@
-use Rattle.iscsi_pair.proofs.Moving.{runs_none, step_more}
+use Rattle.iscsi_pair.proofs.Run.MoveLemmas.{runs_none, step_more}
 use Rattle.iscsi_pair.proofs.pair.Pair.run.Goals as goal
 
 pub loop-step-init : goal.loop-step-init

@@ -1,0 +1,222 @@
+-- The login of two ends that suit each other comes to its end, where each hears what was sent.
+use Rattle.std.proofs.Common.{◌≡◌, ◌<◌, ◌≤◌, ◌⊎◌, inl, inr, ℕ, zero, suc, ◌-◌, true, false, List, [], ◌∷◌, length, drop, refl, sym, ap, ◌∙◌, subst, arith}
+use Rattle.std.proofs.lemmas.List.{length-drop}
+use Rattle.scsi_disk.specs.Disk.{Disk, disk_of}
+use Rattle.iscsi_pdu.specs.declared.head.login_request.LoginRequest.{LoginRequest}
+use Rattle.iscsi_stream.specs.declared.logins.Logins.{Logins}
+use Rattle.iscsi_stream.specs.Segment.{after, no_login}
+use Rattle.iscsi_stream.specs.Stream.{Message}
+use Rattle.iscsi_login.specs.declared.stage.Stage.{Stage}
+use Rattle.iscsi_login.specs.declared.stage.Stage.TheVariants as stages
+use Rattle.iscsi_login.specs.Stage.{is_closed_phase}
+use Rattle.iscsi_target_session.specs.Session as target_session
+use Rattle.iscsi_target_session.specs.LoginText.{answer_pairs}
+use Rattle.iscsi_target.specs.State as target
+use Rattle.iscsi_target.specs.Machine as target_machine
+use Rattle.iscsi_target.specs.Machine.{answers}
+use Rattle.iscsi_target.proofs.Continuing.{then_nothing}
+use Rattle.iscsi_initiator.specs.Configured.{IsStart}
+use Rattle.iscsi_initiator.specs.State as initiator
+use Rattle.iscsi_initiator.specs.Steps.{Stepped}
+use Rattle.iscsi_initiator.specs.Login.{asked, asked_from, enters, login_request, offered, start_step}
+use Rattle.iscsi_initiator.specs.Machine.{step}
+use Rattle.iscsi_pair.proofs.Lists.StepLemmas.{first_spot}
+use Rattle.iscsi_pair.specs.World.{Opening}
+use Rattle.iscsi_pair.specs.Served.{IsNormal, RunsServed}
+use Rattle.iscsi_pair.proofs.Login.RoundAgrees.{Asking, Asks_on, Round, first_asks, round}
+use Rattle.iscsi_pair.proofs.Login.RoundProgress.{PartTurn, Suited, TextKeeps, Well, emptied, first_suited, goes_well, text_head, text_keeps, turns}
+use Rattle.iscsi_pair.proofs.Login.LoginEndsInStep.{HasMet, Meets, Numbered, first_numbered, meets}
+use Rattle.iscsi_pair.proofs.Login.InitiatorStep.{with_answer}
+use Rattle.iscsi_pair.proofs.Ends.InitiatorRun.{begun}
+use Rattle.iscsi_pair.proofs.Request.Invariant.{Sends}
+use Rattle.iscsi_pair.proofs.Run.DiskInvariant.{Serves, login_sends, most_back, most_out, none_asked}
+use Rattle.iscsi_pair.proofs.Lists.RoundLemmas.{Stays, heard_all, heard_one}
+
+-- a login request is on its way
+record Waits (c : Opening) (i : initiator.Machine) (t : target.Machine) (there here : Logins) (r : Message) : Type 0 where
+  stays : Stays c none_asked i t (disk_of c.blocks) (r ∷ []) [] there here
+  asking : Asking c i t there r
+  suited : Suited c i t
+  numbered : Numbered c i t
+  whole : here.response ≡ false
+
+-- the login is completed
+pub record HasLoggedIn (c : Opening) : Type 0 where
+  pub initiator : initiator.Machine
+  pub target : target.Machine
+  pub there : Logins
+  pub here : Logins
+  pub stays : Stays c none_asked initiator target (disk_of c.blocks) [] [] there here
+  pub met : HasMet c initiator target
+
+-- the login has gone on: with less of the text left, or with the text of the second stage
+abbrev IsNearer : initiator.Machine → initiator.Machine → Type 0
+IsNearer i j = ((j.stage ≡ i.stage) × (length j.left < length i.left)) ⊎ ((i.stage ≡ stages.Security) × (j.stage ≡ stages.Operational))
+
+record WaitsOn (c : Opening) (i : initiator.Machine) : Type 0 where
+  initiator : initiator.Machine
+  target : target.Machine
+  there : Logins
+  here : Logins
+  request : Message
+  waits : Waits c initiator target there here request
+  nearer : IsNearer i initiator
+
+-- the initiator with the answer to a whole text
+abbrev after_text : initiator.Machine → target.Machine → initiator.Machine
+after_text i t =
+    let h : LoginRequest = login_request i true in
+    let e : target_session.Session = emptied t.session h in
+    with_answer i (text_head e h) (answer_pairs e (offered i))
+
+-- a text that ends leads to the second stage, or to the end of the login
+ends_text : (stage : Stage) (i w : initiator.Machine) (s : Stepped) → i.stage ≡ stage → IsStart i.stage → IsStart s.machine.stage
+    → s ≡ enters (asked i) w → IsNearer i s.machine
+ends_text stages.Security i w s is start on e =
+    let m : initiator.Machine = record w { stage = stages.Operational } in
+    let now : s ≡ enters stages.Operational w = e ∙ ap (λ (x : Stage). enters (asked_from x) w) is in
+    let k : TextKeeps m (enters stages.Operational w) = text_keeps m in
+    inr (is, ap (λ (x : Stepped). x.machine.stage) now ∙ k.stage)
+ends_text stages.Operational i w s is start on e =
+    let now : s ≡ enters stages.Full w = e ∙ ap (λ (x : Stage). enters (asked_from x) w) is in
+    absurd (subst IsStart (ap (λ (x : Stepped). x.machine.stage) now) on)
+ends_text stages.Full i w s is start on e = absurd (subst IsStart is start)
+
+-- one that goes on leaves less of it
+less_left : (c : Opening) (i : initiator.Machine) (t : target.Machine) (r answer : Message) (disk : Disk) → i.settings ≡ c.initiator
+    → 64 ≤ c.initiator.login_segment → PartTurn i t disk r answer → IsNearer i (step i answer).machine
+less_left c i t r answer disk same least q =
+    let left : (step i answer).machine.left ≡ drop i.settings.login_segment i.left = ap (λ (x : Stepped). x.machine.left) q.now in
+    let size : length (drop i.settings.login_segment i.left) ≡ length i.left - i.settings.login_segment = length-drop i.settings.login_segment i.left in
+    let most : i.settings.login_segment ≡ c.initiator.login_segment = ap (λ (x : initiator.Settings). x.login_segment) same in
+    let some = q.some in
+    inl (ap (λ (x : Stepped). x.machine.stage) q.now, subst (λ (x : List ℕ). length x < length i.left) (sym left) (omega (arith, size, most, least, some)))
+
+-- one message is one step
+one_step : (t : target.Machine) (disk : Disk) (r : Message) → answers t disk (r ∷ []) ≡ target_machine.step t disk r
+unfolding answers
+one_step t disk r = then_nothing (target_machine.step t disk r)
+
+-- the target hears a login request, and the initiator its answer
+one_round : (c : Opening) (i : initiator.Machine) (t : target.Machine) (there here : Logins) (r : Message) → IsNormal c → Waits c i t there here r
+    → HasLoggedIn c ⊎ WaitsOn c i
+one_round c i t there here r o p =
+    let disk : Disk = disk_of c.blocks in
+    let next : Logins = after there r.head in
+    let now : target.Stepped = target_machine.step t disk r in
+    let turn : Round c i now next = round c i t there r disk o.opening p.asking in
+    let s : Stepped = step i turn.answer in
+    let w : Well c i now s next = goes_well c i t there next r disk o.opening o.suits p.asking p.suited turn in
+    let meet : Meets c i now s disk next = meets c i t there next r disk o.opening o.suits o.session p.asking p.suited p.numbered turn in
+    let sends : Sends (most_out c) (most_back c) (Serves c) i (r ∷ []) t disk [] there here none_asked =
+    login_sends c i (r ∷ []) t there here r o refl p.asking p.suited p.numbered p.whole in
+    let heard : Stays c none_asked i (answers t disk (r ∷ [])).machine (answers t disk (r ∷ [])).disk [] (answers t disk (r ∷ [])).answers next here =
+    heard_all (r ∷ []) c none_asked i t disk [] there here p.stays sends.written sends.heard in
+    let all : answers t disk (r ∷ []) ≡ now = one_step t disk r in
+    let answered : Stays c none_asked i now.machine disk [] (turn.answer ∷ []) next here =
+    subst (λ (d : Disk). Stays c none_asked i now.machine d [] (turn.answer ∷ []) next here) meet.disk_is
+    (subst (λ (ms : List Message). Stays c none_asked i now.machine now.disk [] ms next here) turn.is
+    (subst (λ (x : target.Stepped). Stays c none_asked i x.machine x.disk [] x.answers next here) all heard)) in
+    let on : Stays c none_asked s.machine now.machine disk s.output [] next (after here turn.answer.head) =
+    heard_one c none_asked i now.machine disk turn.answer [] next here answered (ap is_closed_phase p.asking.phase) w.fault in
+    elim w.on [
+      | inl agreed ↦ inl (record {
+        initiator = s.machine;
+        target = now.machine;
+        there = next;
+        here = after here turn.answer.head;
+        stays = subst (λ (ms : List Message). Stays c none_asked s.machine now.machine disk ms [] next (after here turn.answer.head)) agreed.silent on;
+        met = meet.met agreed;
+      })
+      | inr asks ↦ inr (record {
+        initiator = s.machine;
+        target = now.machine;
+        there = next;
+        here = after here turn.answer.head;
+        request = asks.0.request;
+        waits = record {
+          stays = subst (λ (ms : List Message). Stays c none_asked s.machine now.machine disk ms [] next (after here turn.answer.head)) asks.0.is on;
+          asking = asks.0.asking;
+          suited = asks.1;
+          numbered = meet.goes_on asks.0;
+          whole = turn.last here p.whole;
+        };
+        nearer = elim (turns c i t there next r disk o.opening o.suits p.asking p.suited turn) [
+          | inl q ↦ ends_text i.stage i (after_text i t) s refl p.asking.stage asks.0.asking.stage q.now
+          | inr q ↦ less_left c i t r turn.answer disk p.asking.settings o.opening.initiator.in_range.least q
+        ];
+      })
+    ]
+
+-- ---- until it is completed
+
+-- by where a round leads
+second_by : (c : Opening) (i : initiator.Machine) → HasLoggedIn c ⊎ WaitsOn c i → i.stage ≡ stages.Operational
+    → ((x : WaitsOn c i) → x.initiator.stage ≡ stages.Operational → length x.initiator.left < length i.left → HasLoggedIn c) → HasLoggedIn c
+second_by c i (inl done) is more = done
+second_by c i (inr x) is more = elim x.nearer [
+  | inl less ↦ more x (less.0 ∙ is) less.1
+  | inr second ↦ absurd (let bad : stages.Security ≡ stages.Operational = sym second.0 ∙ is in cc)
+]
+
+-- in the second stage
+second_stage : (n : ℕ) (c : Opening) (i : initiator.Machine) (t : target.Machine) (there here : Logins) (r : Message) → IsNormal c
+    → Waits c i t there here r → i.stage ≡ stages.Operational → length i.left ≤ n → HasLoggedIn c
+second_stage zero c i t there here r o p is few = second_by c i (one_round c i t there here r o p) is (λ x second less. absurd (omega (arith, few, less)))
+second_stage (suc n) c i t there here r o p is few =
+    second_by c i (one_round c i t there here r o p) is
+    (λ x second less. second_stage n c x.initiator x.target x.there x.here x.request o x.waits second (omega (arith, few, less)))
+
+first_by : (c : Opening) (i : initiator.Machine) → IsNormal c → HasLoggedIn c ⊎ WaitsOn c i → i.stage ≡ stages.Security
+    → ((x : WaitsOn c i) → x.initiator.stage ≡ stages.Security → length x.initiator.left < length i.left → HasLoggedIn c) → HasLoggedIn c
+first_by c i o (inl done) is more = done
+first_by c i o (inr x) is more = elim x.nearer [
+  | inl less ↦ more x (less.0 ∙ is) less.1
+  | inr second ↦ second_stage (length x.initiator.left) c x.initiator x.target x.there x.here x.request o x.waits second.1 (omega arith)
+]
+
+-- and from the first one on
+first_stage : (n : ℕ) (c : Opening) (i : initiator.Machine) (t : target.Machine) (there here : Logins) (r : Message) → IsNormal c
+    → Waits c i t there here r → i.stage ≡ stages.Security → length i.left ≤ n → HasLoggedIn c
+first_stage zero c i t there here r o p is few = first_by c i o (one_round c i t there here r o p) is (λ x first less. absurd (omega (arith, few, less)))
+first_stage (suc n) c i t there here r o p is few =
+    first_by c i o (one_round c i t there here r o p) is
+    (λ x first less. first_stage n c x.initiator x.target x.there x.here x.request o x.waits first (omega (arith, few, less)))
+
+from_stage : (stage : Stage) (c : Opening) (i : initiator.Machine) (t : target.Machine) (there here : Logins) (r : Message) → IsNormal c
+    → Waits c i t there here r → i.stage ≡ stage → HasLoggedIn c
+from_stage stages.Security c i t there here r o p is = first_stage (length i.left) c i t there here r o p is (omega arith)
+from_stage stages.Operational c i t there here r o p is = second_stage (length i.left) c i t there here r o p is (omega arith)
+from_stage stages.Full c i t there here r o p is = absurd (subst IsStart is p.asking.stage)
+
+-- a new pair
+first_stays : (c : Opening)
+    → Stays c none_asked (begun c) (target.opening c.target c.first_stat_sn) (disk_of c.blocks)
+    (start_step (initiator.opening c.initiator)).output [] no_login no_login
+unfolding RunsServed
+first_stays c = record {
+  events = [];
+  blocks = c.blocks;
+  place = first_spot;
+  place_back = first_spot;
+  asked_are = refl;
+  runs = (refl, refl);
+  disk_is = refl;
+  sound = tt;
+  written = tt;
+}
+
+-- some run of it completes the login
+pub logs_in : (c : Opening) → IsNormal c → HasLoggedIn c
+logs_in c o =
+    let a : Asks_on c (start_step (initiator.opening c.initiator)) (target.opening c.target c.first_stat_sn) no_login = first_asks c o.opening in
+    from_stage (begun c).stage c (begun c) (target.opening c.target c.first_stat_sn) no_login no_login a.request o
+    (record {
+      stays = subst
+          (λ (ms : List Message). Stays c none_asked (begun c) (target.opening c.target c.first_stat_sn) (disk_of c.blocks) ms [] no_login no_login) a.is
+          (first_stays c);
+      asking = a.asking;
+      suited = first_suited c o.opening;
+      numbered = first_numbered c o.opening;
+      whole = refl;
+    }) refl

@@ -1,0 +1,185 @@
+-- Messages between two ends of which neither has a begun PDU: each end hears what was sent, and a run that was served goes on.
+use Rattle.std.proofs.Common.{◌≡◌, ℕ, zero, suc, false, List, [], ◌∷◌, ◌++◌, length, Option, Some, None, refl, sym, ap, ◌∙◌, subst}
+use Rattle.std.proofs.lemmas.List.{append-nil}
+use Rattle.scsi_disk.specs.Disk.{Disk, disk_of}
+use Rattle.iscsi_stream.specs.declared.logins.Logins.{Logins}
+use Rattle.iscsi_stream.specs.Segment.{after}
+use Rattle.iscsi_stream.specs.Stream.{Message, after_all}
+use Rattle.iscsi_stream.specs.Canonical.{canon}
+use Rattle.iscsi_stream.proofs.Writing.{canon_append}
+use Rattle.iscsi_login.specs.Held.{Held}
+use Rattle.iscsi_login.specs.Stage.{is_closed_phase}
+use Rattle.iscsi_target.specs.State as target
+use Rattle.iscsi_target.specs.Machine.{answers}
+use Rattle.iscsi_target.proofs.Sound.{IsSound, answers_count, answers_sound}
+use Rattle.iscsi_initiator.specs.declared.request.Done.{Done}
+use Rattle.iscsi_initiator.specs.declared.request.Request.{Request}
+use Rattle.iscsi_initiator.specs.Laws.{listed}
+use Rattle.iscsi_initiator.specs.State as initiator
+use Rattle.iscsi_initiator.specs.State.{is_closed}
+use Rattle.iscsi_initiator.specs.Machine.{step, taken}
+use Rattle.iscsi_initiator.specs.Submitted.{submitted}
+use Rattle.iscsi_pair.specs.World.{World, Opening, Event, ToTarget, ToInitiator, Submits, Takes, new_pair}
+use Rattle.iscsi_pair.specs.Served.{IsServed, RunsServed, asked}
+use Rattle.iscsi_pair.specs.LocalDisk.{Stand}
+use Rattle.iscsi_pair.proofs.Lists.BlockLemmas.{HasBlocks, answers_blocks}
+use Rattle.iscsi_pair.proofs.Request.AnswersInOrder.{Leads}
+use Rattle.iscsi_pair.proofs.Request.Invariant.{AreWritten, HearsWell, History, written_append}
+use Rattle.iscsi_pair.proofs.Run.DiskInvariant.{HaveAgreed, hears_well, most_back, most_out, written_within}
+use Rattle.iscsi_pair.proofs.Lists.StepLemmas.{asked_append, initiator_asked, initiator_hears, level, served_more, Spot, spot_after, target_hears}
+
+-- A run that was served has come to a world with these ends, in which no PDU is begun, and with these messages on their way to
+-- the target and to the initiator.
+pub record Stays (c : Opening) (h : History) (i : initiator.Machine) (t : target.Machine) (disk : Disk) (out back : List Message)
+    (there here : Logins) : Type 0 where
+  pub events : List Event
+  pub blocks : List ℕ
+  pub place : Spot
+  pub place_back : Spot
+  pub asked_are : asked events ≡ h.requests
+  pub runs : RunsServed (new_pair c) events (level c i t blocks place place_back there here (canon out) (canon back)) h.outcomes
+  pub disk_is : disk_of blocks ≡ disk
+  pub sound : IsSound disk.count t.tasks
+  pub written : AreWritten (most_back c) here back
+
+-- ---- the target hears what was sent
+
+some_heard : (c : Opening) (h : History) (i : initiator.Machine) (t : target.Machine) (m : Message) (ms back : List Message) (there here : Logins)
+    (events : List Event) (blocks : List ℕ) (place place_back : Spot)
+    → asked events ≡ h.requests → RunsServed (new_pair c) events (level c i t blocks place place_back there here (canon (m ∷ ms)) (canon back)) h.outcomes
+    → IsSound (disk_of blocks).count t.tasks → AreWritten (most_back c) here back
+    → AreWritten (most_out c) there (m ∷ ms) → HearsWell (most_back c) t (disk_of blocks) (after_all here back) (m ∷ ms)
+    → (let r = answers t (disk_of blocks) (m ∷ ms) in Stays c h i r.machine r.disk [] (back ++ r.answers) (after_all there (m ∷ ms)) here)
+some_heard c h i t m ms back there here events blocks place place_back asked_are runs sound written sent heard =
+    let out : List Message = m ∷ ms in
+    let d : Disk = disk_of blocks in
+    let r : target.Stepped = answers t d out in
+    let b : HasBlocks r.disk = answers_blocks t d out sound (record { bytes = blocks; is = refl }) in
+    let event : Event = ToTarget (length (canon out)) in
+    let old : World = level c i t blocks place place_back there here (canon out) (canon back) in
+    let new : World = level c i r.machine b.bytes (spot_after place out) place_back (after_all there out) here [] (canon back ++ canon r.answers) in
+    let on : RunsServed (new_pair c) (events ++ event ∷ []) new (h.outcomes ++ []) =
+    served_more (new_pair c) events old h.outcomes event new runs
+    (target_hears c i t blocks place place_back there here m ms (canon back) b.bytes heard.open_.0 sent heard.rule b.is) tt refl in
+    record {
+      events = events ++ event ∷ [];
+      blocks = b.bytes;
+      place = spot_after place out;
+      place_back = place_back;
+      asked_are = asked_append events (event ∷ []) ∙ append-nil (asked events) ∙ asked_are;
+      runs = subst
+          (λ (x : List ℕ). RunsServed (new_pair c) (events ++ event ∷ [])
+          (level c i r.machine b.bytes (spot_after place out) place_back (after_all there out) here [] x) h.outcomes)
+          (sym (canon_append back r.answers))
+          (subst (λ (x : List Done). RunsServed (new_pair c) (events ++ event ∷ []) new x) (append-nil h.outcomes) on);
+      disk_is = b.is;
+      sound = subst (λ (n : ℕ). IsSound n r.machine.tasks) (sym (answers_count t d out)) (answers_sound t d out sound);
+      written = written_append (most_back c) here back r.answers written heard.answered;
+    }
+
+pub heard_all : (out : List Message) (c : Opening) (h : History) (i : initiator.Machine) (t : target.Machine) (disk : Disk) (back : List Message)
+    (there here : Logins) → Stays c h i t disk out back there here
+    → AreWritten (most_out c) there out → HearsWell (most_back c) t disk (after_all here back) out
+    → (let r = answers t disk out in Stays c h i r.machine r.disk [] (back ++ r.answers) (after_all there out) here)
+unfolding answers
+heard_all [] c h i t disk back there here s sent heard =
+    subst (λ (x : List Message). Stays c h i t disk [] x there here) (sym (append-nil back)) s
+heard_all (m ∷ ms) c h i t disk back there here s sent heard =
+    subst (λ (d : Disk). (let r = answers t d (m ∷ ms) in Stays c h i r.machine r.disk [] (back ++ r.answers) (after_all there (m ∷ ms)) here)) s.disk_is
+    (some_heard c h i t m ms back there here s.events s.blocks s.place s.place_back s.asked_are s.runs
+    (subst (λ (d : Disk). IsSound d.count t.tasks) (sym s.disk_is) s.sound) s.written sent
+    (subst (λ (d : Disk). HearsWell (most_back c) t d (after_all here back) (m ∷ ms)) (sym s.disk_is) heard))
+
+-- ---- the initiator hears an answer
+
+pub heard_one : (c : Opening) (h : History) (i : initiator.Machine) (t : target.Machine) (disk : Disk) (m : Message) (more : List Message)
+    (there here : Logins) → Stays c h i t disk [] (m ∷ more) there here
+    → is_closed i ≡ false → (step i m).fault ≡ None → Stays c h (step i m).machine t disk (step i m).output more there (after here m.head)
+heard_one c h i t disk m more there here s live well =
+    let event : Event = ToInitiator (length (canon (m ∷ []))) in
+    let old : World = level c i t s.blocks s.place s.place_back there here [] (canon (m ∷ more)) in
+    let new : World = level c (step i m).machine t s.blocks s.place (spot_after s.place_back (m ∷ [])) there (after here m.head) (canon (step i m).output)
+    (canon more) in
+    let on : RunsServed (new_pair c) (s.events ++ event ∷ []) new (h.outcomes ++ []) =
+    served_more (new_pair c) s.events old h.outcomes event new s.runs
+    (initiator_hears c i t s.blocks s.place s.place_back there here [] m more live well s.written.0) tt refl in
+    record {
+      events = s.events ++ event ∷ [];
+      blocks = s.blocks;
+      place = s.place;
+      place_back = spot_after s.place_back (m ∷ []);
+      asked_are = asked_append s.events (event ∷ []) ∙ append-nil (asked s.events) ∙ s.asked_are;
+      runs = subst (λ (x : List Done). RunsServed (new_pair c) (s.events ++ event ∷ []) new x) (append-nil h.outcomes) on;
+      disk_is = s.disk_is;
+      sound = s.sound;
+      written = s.written.1;
+    }
+
+-- ---- a request, and its outcome
+
+pub hands_in : (c : Opening) (h : History) (i : initiator.Machine) (t : target.Machine) (disk : Disk) (there here : Logins) (request : Request)
+    → Stays c h i t disk [] [] there here → IsServed request
+    → (submitted i request).refusal ≡ None
+    → Stays c (record h { requests = h.requests ++ request ∷ [] }) (submitted i request).machine t disk (submitted i request).output [] there here
+hands_in c h i t disk there here request s served none =
+    let event : Event = Submits request in
+    let old : World = level c i t s.blocks s.place s.place_back there here [] [] in
+    let new : World = level c (submitted i request).machine t s.blocks s.place s.place_back there here (canon (submitted i request).output) [] in
+    let on : RunsServed (new_pair c) (s.events ++ event ∷ []) new (h.outcomes ++ []) =
+    served_more (new_pair c) s.events old h.outcomes event new s.runs (initiator_asked c i t s.blocks s.place s.place_back there here [] [] request none)
+    (served, none) refl in
+    record {
+      events = s.events ++ event ∷ [];
+      blocks = s.blocks;
+      place = s.place;
+      place_back = s.place_back;
+      asked_are = asked_append s.events (event ∷ []) ∙ ap (λ (x : List Request). x ++ request ∷ []) s.asked_are;
+      runs = subst (λ (x : List Done). RunsServed (new_pair c) (s.events ++ event ∷ []) new x) (append-nil h.outcomes) on;
+      disk_is = s.disk_is;
+      sound = s.sound;
+      written = tt;
+    }
+
+pub gives_out : (c : Opening) (h : History) (i : initiator.Machine) (t : target.Machine) (disk : Disk) (there here : Logins) (d : Done)
+    → Stays c h i t disk [] [] there here → i.done ≡ Some d
+    → Stays c (record h { outcomes = h.outcomes ++ d ∷ [] }) (taken i) t disk [] [] there here
+gives_out c h i t disk there here d s is =
+    let old : World = level c i t s.blocks s.place s.place_back there here [] [] in
+    let new : World = level c (taken i) t s.blocks s.place s.place_back there here [] [] in
+    let on : RunsServed (new_pair c) (s.events ++ Takes ∷ []) new (h.outcomes ++ listed i.done) =
+    served_more (new_pair c) s.events old h.outcomes Takes new s.runs refl tt refl in
+    record {
+      events = s.events ++ Takes ∷ [];
+      blocks = s.blocks;
+      place = s.place;
+      place_back = s.place_back;
+      asked_are = asked_append s.events (Takes ∷ []) ∙ append-nil (asked s.events) ∙ s.asked_are;
+      runs = subst (λ (o : Option Done). RunsServed (new_pair c) (s.events ++ Takes ∷ []) new (h.outcomes ++ listed o)) is on;
+      disk_is = s.disk_is;
+      sound = s.sound;
+      written = tt;
+    }
+
+-- ---- answers, one by one
+
+-- where some answers lead, a run leads
+pub record Arrives (c : Opening) (h : History) (x : Stand) : Type 0 where
+  pub there : Logins
+  pub here : Logins
+  pub stays : Stays c h x.initiator x.target x.disk [] x.answers there here
+
+pub arrives : (n : ℕ) (c : Opening) (h : History) (held : Held) (i : initiator.Machine) (t : target.Machine) (disk : Disk) (back : List Message)
+    (there here : Logins) (x : Stand) → HaveAgreed c held
+    → Stays c h i t disk [] back there here → Leads held n i t disk back x → Arrives c h x
+arrives zero c h held i t disk back there here x a s l = subst (Arrives c h) l (record { there = there; here = here; stays = s })
+arrives (suc n) c h held i t disk [] there here x a s l = absurd l
+arrives (suc n) c h held i t disk (m ∷ more) there here x a s l =
+    let out : List Message = (step i m).output in
+    let r : target.Stepped = answers t disk out in
+    let one : Stays c h (step i m).machine t disk out more there (after here m.head) =
+    heard_one c h i t disk m more there here s (ap is_closed_phase l.0.full) l.0.fault in
+    let on : Stays c h (step i m).machine r.machine r.disk [] (more ++ r.answers) (after_all there out) (after here m.head) =
+    heard_all out c h (step i m).machine t disk more there (after here m.head) one
+    (written_within held.target_max_recv (most_out c) there out a.out (l.0.sends_.written there))
+    (hears_well c held t disk (after_all (after here m.head) more) out a l.0.sends_) in
+    arrives n c h held (step i m).machine r.machine r.disk (more ++ r.answers) (after_all there out) (after here m.head) x a on l.1

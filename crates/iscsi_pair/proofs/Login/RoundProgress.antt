@@ -1,0 +1,679 @@
+-- One request of a login and its answer, where both ends suit each other: the login goes on.
+use Rattle.std.proofs.Common.{
+  ◌≡◌,
+  ◌≢◌,
+  ◌<◌,
+  ◌≤◌,
+  ◌⊎◌,
+  inl,
+  inr,
+  ℕ,
+  ◌+◌,
+  Bool,
+  true,
+  false,
+  List,
+  [],
+  ◌∷◌,
+  ◌++◌,
+  length,
+  Option,
+  Some,
+  None,
+  refl,
+  sym,
+  ap,
+  ◌∙◌,
+  subst,
+  arith,
+  replicate,
+}
+use Rattle.std.specs.Prelude.{not, ◌&&◌, ◌==◌, nat_lt, nat_le, IfSome, ◌^◌, if◌then◌else◌, unwrap_or}
+use Rattle.std.specs.Bool.{then_some}
+use Rattle.std.proofs.lemmas.Bool.{and_from, cond_both, cond-true, cond-false, le-ltb, eq-eqb}
+use Rattle.scsi_disk.specs.Disk.{Disk}
+use Rattle.iscsi_text.specs.Text.{Pairs}
+use Rattle.iscsi_text.specs.Canonical.{canonical_text}
+use Rattle.iscsi_text.specs.Reading.{text_in, in_order}
+use Rattle.std.proofs.lemmas.List.{append-nil, length-append}
+use Rattle.iscsi_pdu.specs.declared.head.login_request.LoginRequest.{LoginRequest}
+use Rattle.iscsi_pdu.specs.declared.head.login_response.LoginResponse.{LoginResponse}
+use Rattle.iscsi_stream.specs.declared.logins.Logins.{Logins}
+use Rattle.iscsi_login.specs.declared.phase.Phase.TheVariants as phases
+use Rattle.iscsi_login.specs.Check.{bad_key, IsOffer}
+use Rattle.iscsi_login.specs.Key.{IsWithin}
+use Rattle.iscsi_login.proofs.Judged.{good_is_taken}
+use Rattle.iscsi_login.proofs.Texts.{good_answer}
+use Rattle.iscsi_login.proofs.OfferMeaning.{security_is_offer, operational_is_offer, single_is_offer}
+use Rattle.iscsi_stream.specs.Segment.{Segment, Text, Bytes, segment_bytes}
+use Rattle.iscsi_stream.specs.Stream.{Message}
+use Rattle.iscsi_stream.proofs.Ready.{apart}
+use Rattle.iscsi_login.specs.declared.stage.Stage.{Stage}
+use Rattle.iscsi_login.specs.declared.stage.Stage.TheVariants as stages
+use Rattle.iscsi_login.specs.declared.stage.Session.TheVariants as sessions
+use Rattle.iscsi_login.specs.declared.offers.Auth.TheVariants as auths
+use Rattle.iscsi_login.specs.declared.preferences.Preferences.{Preferences}
+use Rattle.iscsi_login.specs.Negotiation.{IsInRange, max_recv_range}
+use Rattle.iscsi_login.specs.Stage.{stage_number, is_closed_phase}
+use Rattle.iscsi_login.specs.Offers.{Proposal, offers_at, security_offers, operational_offers, single_offers}
+use Rattle.iscsi_initiator.specs.Configured.{IsStart}
+use Rattle.iscsi_initiator.specs.State as initiator
+use Rattle.iscsi_initiator.specs.State.{is_closed}
+use Rattle.iscsi_initiator.specs.Steps.{Stepped, sends}
+use Rattle.iscsi_initiator.specs.Login.{
+  offered,
+  asked,
+  asked_from,
+  login_request,
+  login_message,
+  is_expected,
+  goes_on,
+  moves_on,
+  in_turn,
+  judged,
+  enters,
+  counted,
+  sends_more,
+  sends_text,
+  sends_cut,
+  fits_segment,
+  start_step,
+}
+use Rattle.iscsi_initiator.specs.Machine.{step}
+use Rattle.iscsi_target_session.specs.declared.status.Status.{Status}
+use Rattle.iscsi_target_session.specs.Configured as target_settings
+use Rattle.iscsi_target_session.specs.Session as target_session
+use Rattle.iscsi_target.specs.State as target
+use Rattle.scsi_disk.specs.Plan.{first_of}
+use Rattle.iscsi_target_session.specs.LoginText.{known_keys, gives_again, given_with, text_refusals, answer_pairs, session_for, declared_tag, declared_length}
+use Rattle.iscsi_target_session.specs.Login as login
+use Rattle.iscsi_target_session.specs.Login.{
+  request_refusals,
+  is_same_stage,
+  stage_named,
+  stage_asked,
+  is_move,
+  numbered,
+  entered,
+  gather,
+  text_answered,
+  text_ending,
+}
+use Rattle.iscsi_pair.specs.World.{Opening, IsOpening, Suits}
+use Rattle.iscsi_target.specs.Machine as target_machine
+use Rattle.iscsi_target.specs.Machine.{is_over_limit}
+use Rattle.iscsi_pair.proofs.Login.TargetStep.{login_step_is, some_if}
+use Rattle.iscsi_pair.proofs.Login.InitiatorStep.{answering, with_answer, hears}
+use Rattle.iscsi_pair.proofs.Login.RoundAgrees.{Agreed, Asking, Asks_on, Leads, Round, IsWhole, IsPart, is_sent, fits_limit, offered_read}
+use Rattle.iscsi_pair.proofs.Wire.TextSizes.{answer_is_short}
+use Rattle.iscsi_pair.proofs.Login.Compatible.{
+  IsFew,
+  offers_few,
+  few_fits,
+  none_of,
+  says_security,
+  says_single,
+  second_gives,
+  security_auth,
+  operational_auth,
+  single_auth,
+  security_length,
+  operational_length,
+  single_length,
+  first_text,
+  second_text,
+}
+use Rattle.iscsi_pdu.specs.Serial.{next_sn}
+
+-- ---- where the login is, beside what the initiator asks
+
+-- the target has no text yet
+pub record HasNone (c : Opening) (i : initiator.Machine) (t : target.Machine) : Type 0 where
+  pub none : t.session.has_text ≡ false
+  pub given : t.session.given ≡ replicate 27 false
+  pub stage : i.stage ≡ c.initiator.start
+
+-- it has the text of the security stage
+pub record HasFirst (c : Opening) (i : initiator.Machine) (t : target.Machine) : Type 0 where
+  pub one : t.session.has_text ≡ true
+  pub given : t.session.given ≡ given_with known_keys (replicate 27 false) (in_order (security_offers c.initiator.proposal))
+  pub start : c.initiator.start ≡ stages.Security
+  pub stage : i.stage ≡ stages.Operational
+
+-- both ends expect of each other what will come
+pub record Suited (c : Opening) (i : initiator.Machine) (t : target.Machine) : Type 0 where
+  pub expected : is_expected i.exp_stat_sn t.session.stat_sn ≡ true
+  pub due : (if t.session.begun then is_same_stage t.session.stage (stage_named (stage_number i.stage)) else nat_le (stage_number i.stage) 1) ≡ true
+  pub texts : HasNone c i t ⊎ HasFirst c i t
+
+-- ---- no reason to refuse a request
+
+last_or_not : (b : Bool) → (b && not b) ≡ false
+last_or_not true = refl
+last_or_not false = refl
+
+moves : (last : Bool) (stage : Stage) → IsStart stage
+    → (last && not (is_move (stage_named (stage_number stage)) (stage_named (unwrap_or (then_some last (stage_number (asked_from stage))) 2)))) ≡ false
+moves true stages.Security is = refl
+moves true stages.Operational is = refl
+moves true stages.Full is = absurd is
+moves false stage is = refl
+
+not_refused : (c : Opening) (i : initiator.Machine) (t : target.Machine) (last : Bool) → IsStart i.stage → Suited c i t
+    → first_of (request_refusals t.session (login_request i last)) ≡ None
+not_refused c i t last is s = none_of (request_refusals t.session (login_request i last)) (
+  refl,
+  (refl, (ap not s.due, (last_or_not last, (moves last i.stage is, tt)))),
+)
+
+-- ---- no reason to refuse its text
+
+-- what taking a request's stage and number keeps
+record SameText (s e : target_session.Session) : Type 0 where
+  has_text : e.has_text ≡ s.has_text
+  given : e.given ≡ s.given
+  settings : e.settings ≡ s.settings
+
+-- the same, with the numbers and the text so far
+pub record SameState (s e : target_session.Session) : Type 0 where
+  pub has_text : e.has_text ≡ s.has_text
+  pub given : e.given ≡ s.given
+  pub settings : e.settings ≡ s.settings
+  pub stat_sn : e.stat_sn ≡ s.stat_sn
+  pub gathered : e.gathered ≡ s.gathered
+
+pub entered_same : (s : target_session.Session) (h : LoginRequest) → SameState s (entered s h)
+entered_same s h =
+    let k : SameState s (numbered s h) = cond_both s.begun s (record s { begun = true; exp_cmd_sn = h.cmd_sn }) (SameState s)
+    (λ is. record { has_text = refl; given = refl; settings = refl; stat_sn = refl; gathered = refl }) (λ is. record {
+      has_text = refl;
+      given = refl;
+      settings =
+          refl;
+      stat_sn = refl;
+      gathered = refl;
+    }) in
+    record { has_text = k.has_text; given = k.given; settings = k.settings; stat_sn = k.stat_sn; gathered = k.gathered }
+
+-- the answer to an offer fits its segment
+answer_fits : (c : Opening) (e : target_session.Session) (pairs : Pairs) → IsOpening c → e.settings ≡ c.target → IsFew pairs
+    → nat_lt 8192 (length (canonical_text (answer_pairs e pairs))) ≡ false
+answer_fits c e pairs o same few =
+    let range : IsInRange e.settings.preferences = subst (λ (x : target_settings.Settings). IsInRange x.preferences) (sym same) o.preferences in
+    let group : e.settings.group < 2 ^ 16 = subst (λ (x : target_settings.Settings). x.group < 2 ^ 16) (sym same) o.group in
+    le-ltb 8192 (length (canonical_text (answer_pairs e pairs)))
+    (answer_is_short (session_for e pairs) e.settings.preferences (declared_tag e pairs) (declared_length e) pairs range
+    (some_if _ e.settings.group (2 ^ 64) (omega (arith, group))) (some_if _ e.settings.preferences.max_recv (2 ^ 64) (omega (arith, range.max_recv.1)))
+    few.short few.few)
+
+-- the target's name, as the target has it
+suited_name : (c : Opening) (e : target_session.Session) → Suits c → e.settings ≡ c.target
+    → (c.initiator.proposal.session ≡ sessions.Discovery) ⊎ (c.initiator.proposal.target ≡ e.settings.name)
+suited_name c e suits same = elim suits.name [
+  | inl d ↦ inl d
+  | inr n ↦ inr (n ∙ ap (λ (x : target_settings.Settings). x.name) (sym same))
+]
+
+demands_chap : (c : Opening) → Suits c → c.initiator.start ≡ stages.Security → c.initiator.proposal.auth ≢ auths.Chap
+demands_chap c suits started = elim suits.auth [
+  | inl s ↦ absurd (let bad : stages.Security ≡ stages.Operational = sym started ∙ s in cc)
+  | inr n ↦ n
+]
+
+-- the text that a stage has, by where the login started
+text_at : (start stage : Stage) (c : Opening) (i : initiator.Machine) (t : target.Machine) (e : target_session.Session) → IsOpening c → Suits c
+    → c.initiator.start ≡ start → i.stage ≡ stage → SameText t.session e → t.session.settings ≡ c.target
+    → HasNone c i t ⊎ HasFirst c i t → IsStart stage
+    → first_of (text_refusals e (in_order (offers_at c.initiator.proposal start stage))) ≡ None
+text_at stages.Security stages.Security c i t e o suits started is same settings (inl f) ok =
+    let p : Proposal = c.initiator.proposal in
+    let there : e.settings ≡ c.target = same.settings ∙ settings in
+    first_text e p (in_order (security_offers p)) (same.has_text ∙ f.none) (same.given ∙ f.given) o.initiator.names.initiator (says_security p.session p refl)
+    (suited_name c e suits there)
+    (security_auth p.session p.auth p e.settings.preferences refl refl (demands_chap c suits started)) (security_length p.session p refl)
+    (answer_fits c e (in_order (security_offers p)) o there (offers_few stages.Security stages.Security p o.initiator.names.initiator o.initiator.names.target
+    o.initiator.in_range.preferences tt))
+text_at stages.Security stages.Security c i t e o suits started is same settings (inr g) ok = absurd (let bad : stages.Security ≡ stages.Operational =
+    sym is ∙ g.stage in cc)
+text_at stages.Security stages.Operational c i t e o suits started is same settings (inl f) ok = absurd (let bad : stages.Operational ≡ stages.Security =
+    sym is ∙ f.stage ∙ started in cc)
+text_at stages.Security stages.Operational c i t e o suits started is same settings (inr g) ok =
+    let p : Proposal = c.initiator.proposal in
+    let there : e.settings ≡ c.target = same.settings ∙ settings in
+    second_text e (in_order (operational_offers p)) (same.has_text ∙ g.one)
+    (ap (λ (x : List Bool). gives_again known_keys x (in_order (operational_offers p))) (same.given ∙ g.given) ∙ second_gives p.session p refl)
+    (operational_auth p e.settings.preferences) (operational_length p o.initiator.in_range.preferences)
+    (answer_fits c e (in_order (operational_offers p)) o there (offers_few stages.Security stages.Operational p o.initiator.names.initiator
+    o.initiator.names.target o.initiator.in_range.preferences tt))
+text_at stages.Operational stages.Security c i t e o suits started is same settings (inl f) ok = absurd (let bad : stages.Security ≡ stages.Operational =
+    sym is ∙ f.stage ∙ started in cc)
+text_at stages.Operational stages.Security c i t e o suits started is same settings (inr g) ok = absurd (let bad : stages.Operational ≡ stages.Security =
+    sym started ∙ g.start in cc)
+text_at stages.Operational stages.Operational c i t e o suits started is same settings (inl f) ok =
+    let p : Proposal = c.initiator.proposal in
+    let there : e.settings ≡ c.target = same.settings ∙ settings in
+    first_text e p (in_order (single_offers p)) (same.has_text ∙ f.none) (same.given ∙ f.given) o.initiator.names.initiator (says_single p.session p refl)
+    (suited_name c e suits there)
+    (single_auth p.session p e.settings.preferences refl) (single_length p.session p o.initiator.in_range.preferences refl)
+    (answer_fits c e (in_order (single_offers p)) o there (offers_few stages.Operational stages.Operational p o.initiator.names.initiator
+    o.initiator.names.target o.initiator.in_range.preferences tt))
+text_at stages.Operational stages.Operational c i t e o suits started is same settings (inr g) ok = absurd (let bad : stages.Operational ≡ stages.Security =
+    sym started ∙ g.start in cc)
+text_at stages.Full stage c i t e o suits started is same settings texts ok = absurd (subst IsStart started o.initiator.in_range.start)
+text_at stages.Security stages.Full c i t e o suits started is same settings texts ok = absurd ok
+text_at stages.Operational stages.Full c i t e o suits started is same settings texts ok = absurd ok
+
+-- ---- what the target does
+
+-- a part of the text is gathered
+gathers_well : (t : target_session.Session) (h : LoginRequest) (bytes : List ℕ) → first_of (request_refusals t h) ≡ None
+    → length (entered t h).gathered + length bytes ≤ 16384 → h.continues ≡ true
+    → login.login_request t h (Bytes bytes) ≡ gather (entered t h) h bytes
+unfolding segment_bytes
+gathers_well t h bytes none short more =
+    let e : target_session.Session = entered t h in
+    ap (λ (o : Option Status). login.refuse_or o (numbered t h) h (login.segment_taken e h (Bytes bytes))) none
+    ∙ cond-false (nat_lt 16384 (length e.gathered + length bytes)) _ _ (le-ltb 16384 (length e.gathered + length bytes) short)
+    ∙ cond-true h.continues _ _ more
+
+-- a whole text is answered
+answers_well : (t : target_session.Session) (h : LoginRequest) (segment : Segment) (pairs : Pairs) → first_of (request_refusals t h) ≡ None
+    → length (entered t h).gathered + length (segment_bytes segment) ≤ 16384 → h.continues ≡ false
+    → text_ending (entered t h).gathered segment ≡ Some pairs → first_of (text_refusals (record (entered t h) { gathered = [] }) pairs) ≡ None
+    → login.login_request t h segment ≡ text_answered (record (entered t h) { gathered = [] }) h pairs
+answers_well t h segment pairs none short last read good =
+    let e : target_session.Session = entered t h in
+    let f : target_session.Session = record e { gathered = [] } in
+    ap (λ (o : Option Status). login.refuse_or o (numbered t h) h (login.segment_taken e h segment)) none
+    ∙ cond-false (nat_lt 16384 (length e.gathered + length (segment_bytes segment))) _ _ (le-ltb 16384 (length e.gathered + length (segment_bytes segment))
+    short)
+    ∙ cond-false h.continues _ _ last
+    ∙ ap (login.whole_text f h) read
+    ∙ ap (λ (o : Option Status). login.refuse_or o f h (text_answered f h pairs)) good
+
+-- ---- what the initiator does
+
+hears_more_well : (m : initiator.Machine) (h : LoginResponse) (byte : ℕ) (bytes : List ℕ) → m.phase ≡ phases.Login → m.started ≡ true → h.initiator_task_tag ≡ 0
+    → h.status_class ≡ 0
+    → is_expected m.exp_stat_sn (unwrap_or h.stat_sn 0) ≡ true → m.left ≡ byte ∷ bytes → goes_on m h (Text []) ≡ true
+    → step m (answering h []) ≡ sends_more (counted m h)
+hears_more_well m h byte bytes p s tag class number left on =
+    hears m h [] p s tag
+    ∙ cond-false (not (h.status_class == 0)) _ _ (ap (λ (n : ℕ). not (n == 0)) class)
+    ∙ cond-false (not (is_expected m.exp_stat_sn (unwrap_or h.stat_sn 0))) _ _ (ap not number)
+    ∙ ap (λ (l : List ℕ). in_turn l m h (Text [])) left
+    ∙ cond-true (goes_on m h (Text [])) _ _ on
+
+hears_last_well : (m : initiator.Machine) (h : LoginResponse) (pairs : Pairs) → m.phase ≡ phases.Login → m.started ≡ true → h.initiator_task_tag ≡ 0
+    → h.status_class ≡ 0
+    → is_expected m.exp_stat_sn (unwrap_or h.stat_sn 0) ≡ true → m.left ≡ [] → moves_on m h ≡ true → bad_key (offered m) pairs ≡ None
+    → step m (answering h pairs) ≡ enters (asked m) (with_answer m h pairs)
+hears_last_well m h pairs p s tag class number left on good =
+    hears m h pairs p s tag
+    ∙ cond-false (not (h.status_class == 0)) _ _ (ap (λ (n : ℕ). not (n == 0)) class)
+    ∙ cond-false (not (is_expected m.exp_stat_sn (unwrap_or h.stat_sn 0))) _ _ (ap not number)
+    ∙ ap (λ (l : List ℕ). in_turn l m h (Text pairs)) left
+    ∙ cond-true (moves_on m h) _ _ on
+    ∙ ap (λ (o : Option (List ℕ)). judged o m h pairs) good
+
+-- ---- the login goes on
+
+-- neither end closes, and both expect of each other what comes next
+pub record Well (c : Opening) (i : initiator.Machine) (t : target.Stepped) (s : Stepped) (logins : Logins) : Type 0 where
+  pub on : Agreed s t.machine ⊎ (Asks_on c s t.machine logins × Suited c s.machine t.machine)
+  pub open_ : target_machine.is_closed t.machine ≡ false
+  pub rule : t.rule ≡ None
+  pub live : is_closed s.machine ≡ false
+  pub fault : s.fault ≡ None
+
+-- a step that goes on
+record GoesOn (s : Stepped) : Type 0 where
+  live : is_closed s.machine ≡ false
+  fault : s.fault ≡ None
+
+text_on : (m : initiator.Machine) → m.phase ≡ phases.Login → GoesOn (sends_text m)
+text_on m p =
+    cond_both (fits_segment m (canonical_text (offered m))) (sends (record m { left = [] }) (login_message m true (Text (offered m)) ∷ []))
+    (sends_cut m (canonical_text (offered m)) false) GoesOn
+    (λ is. record { live = ap is_closed_phase p; fault = refl }) (λ is. record { live = ap is_closed_phase p; fault = refl })
+
+enters_on : (stage : Stage) (m : initiator.Machine) → m.phase ≡ phases.Login → GoesOn (enters stage m)
+enters_on stages.Security m p = text_on (record m { stage = stages.Security }) p
+enters_on stages.Operational m p = text_on (record m { stage = stages.Operational }) p
+enters_on stages.Full m p = record { live = refl; fault = refl }
+
+-- what a text that goes out leaves
+pub record TextKeeps (m : initiator.Machine) (s : Stepped) : Type 0 where
+  pub stage : s.machine.stage ≡ m.stage
+  pub number : s.machine.exp_stat_sn ≡ m.exp_stat_sn
+
+pub text_keeps : (m : initiator.Machine) → TextKeeps m (sends_text m)
+text_keeps m =
+    cond_both (fits_segment m (canonical_text (offered m))) (sends (record m { left = [] }) (login_message m true (Text (offered m)) ∷ []))
+    (sends_cut m (canonical_text (offered m)) false) (TextKeeps m)
+    (λ is. record { stage = refl; number = refl }) (λ is. record { stage = refl; number = refl })
+
+entered_phase : (t : target_session.Session) (h : LoginRequest) → (entered t h).phase ≡ t.phase
+entered_phase t h = phase_if t.begun t h.cmd_sn
+  where
+    phase_if : (b : Bool) (s : target_session.Session) (n : ℕ) → (if b then s else record s { begun = true; exp_cmd_sn = n }).phase ≡ s.phase
+    phase_if true s n = refl
+    phase_if false s n = refl
+
+begun_if : (b : Bool) (s : target_session.Session) (n : ℕ) → s.begun ≡ b → (if b then s else record s { begun = true; exp_cmd_sn = n }).begun ≡ true
+begun_if true s n e = e
+begun_if false s n e = refl
+
+-- a request that was taken has begun the login, in its stage
+entered_begun : (t : target_session.Session) (h : LoginRequest) → (entered t h).begun ≡ true
+entered_begun t h = begun_if t.begun t h.cmd_sn refl
+
+in_stage : (stage other : Stage) → unwrap_or (stage_named (stage_number stage)) other ≡ stage
+in_stage stages.Security other = refl
+in_stage stages.Operational other = refl
+in_stage stages.Full other = refl
+
+same_stage : (stage : Stage) → is_same_stage stage (stage_named (stage_number stage)) ≡ true
+same_stage stages.Security = refl
+same_stage stages.Operational = refl
+same_stage stages.Full = refl
+
+-- the next request names the stage where the target is
+due_at : (b : Bool) (here there : Stage) (n : ℕ) → b ≡ true → there ≡ here → (if b then is_same_stage there (stage_named (stage_number here)) else nat_le n 1)
+    ≡ true
+due_at true here there n e f = ap (λ (x : Stage). is_same_stage x (stage_named (stage_number here))) f ∙ same_stage here
+due_at false here there n e f = absurd (cc e)
+
+phase_open : (stage : Stage) → is_closed_phase (login.phase_at stage) ≡ false
+phase_open stages.Security = refl
+phase_open stages.Operational = refl
+phase_open stages.Full = refl
+
+offers_offer : (start stage : Stage) (o : Proposal) → IsStart stage → IsOffer (in_order (offers_at o start stage))
+offers_offer start stages.Security o is = security_is_offer o
+offers_offer stages.Security stages.Operational o is = operational_is_offer o
+offers_offer stages.Operational stages.Operational o is = single_is_offer o
+offers_offer stages.Full stages.Operational o is = operational_is_offer o
+offers_offer start stages.Full o is = absurd is
+
+within_if : (b : Bool) (p : Preferences) → IsInRange p → IfSome (if b then Some p.max_recv else None) (IsWithin max_recv_range)
+within_if true p r = r.max_recv
+within_if false p r = tt
+
+-- the initiator finds no fault in the answer
+takes : (c : Opening) (i : initiator.Machine) (e : target_session.Session) → IsOpening c → i.settings ≡ c.initiator → IsStart i.stage → e.settings ≡ c.target
+    → bad_key (offered i) (answer_pairs e (offered i)) ≡ None
+takes c i e o there is here =
+    let range : IsInRange e.settings.preferences = subst (λ (x : target_settings.Settings). IsInRange x.preferences) (sym here) o.preferences in
+    good_is_taken (offered i) (answer_pairs e (offered i))
+    (good_answer (session_for e (offered i)) e.settings.preferences range (declared_tag e (offered i)) (declared_length e)
+    (within_if _ e.settings.preferences range) (offered i)
+    (offers_offer i.settings.start i.stage i.settings.proposal is))
+
+-- where the answer leads, since it leads on
+leads_on : (c : Opening) (i : initiator.Machine) (s : Stepped) (t : target.Machine) (logins : Logins) → Leads c i s t logins → is_closed s.machine ≡ false
+    → (Asks_on c s t logins → Suited c s.machine t)
+    → Agreed s t ⊎ (Asks_on c s t logins × Suited c s.machine t)
+leads_on c i s t logins leads live suited = elim leads [
+  | inl closes ↦ absurd (apart (ap is_closed_phase closes.phase) live)
+  | inr on ↦ elim on [
+    | inl agreed ↦ inl agreed
+    | inr asks ↦ inr (asks, suited asks)
+  ]
+]
+
+one_answer : (a b : Message) → a ∷ [] ≡ b ∷ [] → a ≡ b
+one_answer a b e = cc e
+
+-- ---- one round
+
+-- the target without what it gathered
+abbrev pub emptied : target_session.Session → LoginRequest → target_session.Session
+emptied t h = record (entered t h) { gathered = [] }
+
+-- the head of the answer to a text
+abbrev pub text_head : target_session.Session → LoginRequest → LoginResponse
+text_head e h = record (login.text_response e h) { stat_sn = Some e.stat_sn }
+
+-- the head of the answer to a part of a text
+abbrev pub part_head : target_session.Session → LoginRequest → LoginResponse
+part_head e h = record (login.response e h) { stat_sn = Some e.stat_sn }
+
+-- both ends behind a request that ends its text
+pub record LastTurn (i : initiator.Machine) (t : target.Machine) (disk : Disk) (r answer : Message) : Type 0 where
+  pub there : target_machine.step t disk r ≡ target.on disk t.tasks (text_answered (emptied t.session (login_request i true)) (login_request i true)
+      (offered i))
+  pub now : step i answer ≡ enters (asked i) (with_answer i (text_head (emptied t.session (login_request i true)) (login_request i true))
+      (answer_pairs (emptied t.session (login_request i true)) (offered i)))
+
+-- both ends behind a request whose text goes on
+pub record PartTurn (i : initiator.Machine) (t : target.Machine) (disk : Disk) (r answer : Message) : Type 0 where
+  -- some of it is left
+  pub some : 0 < length i.left
+  pub bytes : List ℕ
+  pub there : target_machine.step t disk r ≡ target.on disk t.tasks (gather (entered t.session (login_request i false)) (login_request i false) bytes)
+  pub now : step i answer ≡ sends_more (counted i (part_head (entered t.session (login_request i false)) (login_request i false)))
+
+-- a request that ends its text is answered, and the answer is taken
+last_turn : (c : Opening) (i : initiator.Machine) (t : target.Machine) (logins next : Logins) (r : Message) (disk : Disk) (segment : Segment) → IsOpening c
+    → Suits c → Asking c i t logins r → Suited c i t
+    → i.left ≡ [] → is_over_limit t segment ≡ false → text_ending t.session.gathered segment ≡ Some (offered i)
+    → length t.session.gathered + length (segment_bytes segment) ≤ 16384
+    → (turn : Round c i (target_machine.step t disk (login_message i true segment)) next) → LastTurn i t disk (login_message i true segment) turn.answer
+last_turn c i t logins next r disk segment o suits a s left fits read size turn =
+    let h : LoginRequest = login_request i true in
+    let e : target_session.Session = emptied t.session h in
+    let same : SameState t.session (entered t.session h) = entered_same t.session h in
+    let given : Pairs = offered i in
+    let pairs_are : in_order (offers_at c.initiator.proposal c.initiator.start i.stage) ≡ given =
+    ap (λ (x : initiator.Settings). in_order (offers_at x.proposal x.start i.stage)) (sym a.settings) in
+    let good : first_of (text_refusals e given) ≡ None =
+    subst (λ (x : Pairs). first_of (text_refusals e x) ≡ None) pairs_are
+    (text_at c.initiator.start i.stage c i t e o suits refl refl (record { has_text = same.has_text; given = same.given; settings = same.settings })
+    a.target_settings s.texts a.stage) in
+    let q : login.login_request t.session h segment ≡ text_answered e h given =
+    answers_well t.session h segment given (not_refused c i t true a.stage s) (subst (λ (x : List ℕ). length x + length (segment_bytes segment) ≤ 16384)
+    (sym same.gathered) size) refl
+    (ap (λ (x : List ℕ). text_ending x segment) same.gathered ∙ read) good in
+    let there : target_machine.step t disk (login_message i true segment) ≡ target.on disk t.tasks (text_answered e h given) =
+    login_step_is t disk h segment a.logs_in.phase fits ∙ ap (target.on disk t.tasks) q in
+    let is : turn.answer ≡ answering (text_head e h) (answer_pairs e given) =
+    one_answer turn.answer (answering (text_head e h) (answer_pairs e given)) (sym turn.is ∙ ap (λ (x : target.Stepped). x.answers) there) in
+    record {
+      there = there;
+      now = ap (step i) is ∙ hears_last_well i (text_head e h) (answer_pairs e given) a.phase a.started refl refl (ap (is_expected i.exp_stat_sn) same.stat_sn
+          ∙ s.expected) left
+          (and_from _ _ (eq-eqb (stage_number i.stage) (stage_number i.stage) refl) (eq-eqb (stage_number (asked i)) (stage_number (asked i)) refl))
+          (takes c i e o a.settings a.stage (same.settings ∙ a.target_settings));
+    }
+
+-- a request whose text goes on is answered, and the next part goes
+part_turn : (c : Opening) (i : initiator.Machine) (t : target.Machine) (logins next : Logins) (r : Message) (disk : Disk) (segment : Segment) (bytes : List ℕ)
+    (byte : ℕ) (more : List ℕ) → Asking c i t logins r → Suited c i t
+    → i.left ≡ byte ∷ more → segment ≡ Bytes bytes → is_over_limit t segment ≡ false → length t.session.gathered + length bytes ≤ 16384
+    → (turn : Round c i (target_machine.step t disk (login_message i false segment)) next) → PartTurn i t disk (login_message i false segment) turn.answer
+part_turn c i t logins next r disk segment bytes byte more a s left part fits size turn =
+    let h : LoginRequest = login_request i false in
+    let e : target_session.Session = entered t.session h in
+    let same : SameState t.session e = entered_same t.session h in
+    let q : login.login_request t.session h segment ≡ gather e h bytes =
+    ap (login.login_request t.session h) part ∙ gathers_well t.session h bytes (not_refused c i t false a.stage s)
+    (subst (λ (x : List ℕ). length x + length bytes ≤ 16384) (sym same.gathered) size) refl in
+    let there : target_machine.step t disk (login_message i false segment) ≡ target.on disk t.tasks (gather e h bytes) =
+    login_step_is t disk h segment a.logs_in.phase fits ∙ ap (target.on disk t.tasks) q in
+    let is : turn.answer ≡ answering (part_head e h) [] = one_answer turn.answer (answering (part_head e h) [])
+    (sym turn.is ∙ ap (λ (x : target.Stepped). x.answers) there) in
+    record {
+      some = subst (λ (x : List ℕ). 0 < length x) (sym left) (omega arith);
+      bytes = bytes;
+      there = there;
+      now = ap (step i) is ∙ hears_more_well i (part_head e h) byte more a.phase a.started refl refl (ap (is_expected i.exp_stat_sn) same.stat_sn ∙ s.expected)
+          left (and_from _ _ (eq-eqb (stage_number i.stage) (stage_number i.stage) refl) refl);
+    }
+
+text_fits : (c : Opening) (i : initiator.Machine) → IsOpening c → i.settings ≡ c.initiator → IsStart i.stage → length (canonical_text (offered i)) ≤ 8192
+text_fits c i o same is =
+    subst (λ (x : initiator.Settings). length (canonical_text (in_order (offers_at x.proposal x.start i.stage))) ≤ 8192) (sym same)
+    (few_fits (in_order (offers_at c.initiator.proposal c.initiator.start i.stage))
+    (offers_few c.initiator.start i.stage c.initiator.proposal o.initiator.names.initiator o.initiator.names.target o.initiator.in_range.preferences is))
+
+-- a part of a text and what was gathered are no more than the text
+part_fits : (gathered bytes left text : List ℕ) → gathered ++ (bytes ++ left) ≡ text → length text ≤ 8192 → length gathered + length bytes ≤ 16384
+part_fits gathered bytes left text e le =
+    let f = ap length e in
+    let a = length-append gathered (bytes ++ left) in
+    let b = length-append bytes left in
+    omega (arith, f, a, b, le)
+
+-- the message that is on its way, by what is left behind it
+turns_at : (left : List ℕ) (c : Opening) (i : initiator.Machine) (t : target.Machine) (logins next : Logins) (r : Message) (disk : Disk) → IsOpening c → Suits c
+    → Asking c i t logins r → Suited c i t → i.left ≡ left
+    → (segment : Segment) → (IsWhole i t logins segment ⊎ IsPart i t logins segment)
+    → (turn : Round c i (target_machine.step t disk (login_message i (is_sent left) segment)) next)
+    → LastTurn i t disk (login_message i (is_sent left) segment) turn.answer ⊎ PartTurn i t disk (login_message i (is_sent left) segment) turn.answer
+unfolding segment_bytes
+turns_at [] c i t logins next r disk o suits a s left segment (inl w) turn =
+    inl (last_turn c i t logins next r disk segment o suits a s left (ap (is_over_limit t) w.is) (ap (text_ending t.session.gathered) w.is)
+    (subst (λ (x : Segment). length t.session.gathered + length (segment_bytes x) ≤ 16384) (sym w.is) (let g = ap length w.gathered in let le = w.short in
+    omega (arith, g, le))) turn)
+turns_at [] c i t logins next r disk o suits a s left segment (inr p) turn =
+    inl (last_turn c i t logins next r disk segment o suits a s left (ap (is_over_limit t) p.is ∙ fits_limit t p.bytes p.short)
+    (ap (text_ending t.session.gathered) p.is ∙ ap text_in (ap (λ (x : List ℕ). t.session.gathered ++ x) (sym (append-nil p.bytes)
+    ∙ ap (λ (x : List ℕ). p.bytes ++ x) (sym left)) ∙ p.text) ∙ offered_read c i o a.settings a.stage)
+    (subst (λ (x : Segment). length t.session.gathered + length (segment_bytes x) ≤ 16384) (sym p.is)
+    (part_fits t.session.gathered p.bytes i.left (canonical_text (offered i)) p.text (text_fits c i o a.settings a.stage))) turn)
+turns_at (byte ∷ more) c i t logins next r disk o suits a s left segment (inl w) turn = absurd (let bad : [] ≡ byte ∷ more = sym w.left ∙ left in cc)
+turns_at (byte ∷ more) c i t logins next r disk o suits a s left segment (inr p) turn =
+    inr (part_turn c i t logins next r disk segment p.bytes byte more a s left p.is (ap (is_over_limit t) p.is ∙ fits_limit t p.bytes p.short)
+    (part_fits t.session.gathered p.bytes i.left (canonical_text (offered i)) p.text (text_fits c i o a.settings a.stage)) turn)
+
+-- a round ends a text, or its text goes on
+pub turns : (c : Opening) (i : initiator.Machine) (t : target.Machine) (logins next : Logins) (r : Message) (disk : Disk) → IsOpening c → Suits c
+    → Asking c i t logins r → Suited c i t
+    → (turn : Round c i (target_machine.step t disk r) next) → LastTurn i t disk r turn.answer ⊎ PartTurn i t disk r turn.answer
+turns c i t logins next r disk o suits a s =
+    subst (λ (x : Message). (turn : Round c i (target_machine.step t disk x) next) → LastTurn i t disk x turn.answer ⊎ PartTurn i t disk x turn.answer)
+    (sym a.request)
+    (turns_at i.left c i t logins next r disk o suits a s refl a.segment a.how)
+
+-- ---- behind it both suit
+
+-- the next text goes out, behind the one of the security stage
+next_suited : (c : Opening) (i : initiator.Machine) (t : target.Machine) (disk : Disk) (h : LoginRequest) → (g : LoginResponse) (answer : Pairs)
+    → i.settings ≡ c.initiator → Suited c i t → i.stage ≡ stages.Security
+    → h ≡ login_request i true → let e : target_session.Session = emptied t.session h in g.stat_sn ≡ Some e.stat_sn
+    → Suited c (enters stages.Operational (with_answer i g answer)).machine (target.on disk t.tasks (text_answered e h (offered i))).machine
+next_suited c i t disk h g answer there s is hs number =
+    let e : target_session.Session = emptied t.session h in
+    let m : initiator.Machine = record (with_answer i g answer) { stage = stages.Operational } in
+    let k : TextKeeps m (sends_text m) = text_keeps m in
+    let same : SameState t.session (entered t.session h) = entered_same t.session h in
+    let asked_is : stage_asked h ≡ Some stages.Operational = ap stage_asked hs ∙ ap (λ (x : Stage). stage_named (stage_number (asked_from x))) is in
+    record {
+      expected = ap (λ (n : Option ℕ). is_expected n (next_sn e.stat_sn)) (k.number ∙ ap (λ (o : Option ℕ). Some (next_sn (unwrap_or o 0))) number)
+          ∙ eq-eqb (next_sn e.stat_sn) (next_sn e.stat_sn) refl;
+      due = due_at (entered t.session h).begun (sends_text m).machine.stage _ _ (entered_begun t.session h)
+          (ap (λ (o : Option Stage). unwrap_or o e.stage) asked_is ∙ sym k.stage);
+      texts = elim s.texts [
+        | inl f ↦ inr (record {
+          one = refl;
+          given = ap (λ (x : List Bool). given_with known_keys x (offered i)) (same.given ∙ f.given)
+              ∙ ap (λ (x : Stage). given_with known_keys (replicate 27 false) (in_order (offers_at i.settings.proposal i.settings.start x))) is
+              ∙ ap (λ (x : initiator.Settings). given_with known_keys (replicate 27 false) (in_order (security_offers x.proposal))) there;
+          start = sym f.stage ∙ is;
+          stage = k.stage;
+        })
+        | inr f ↦ absurd (let bad : stages.Security ≡ stages.Operational = sym is ∙ f.stage in cc)
+      ];
+    }
+
+-- behind the text of the security stage the next one suits too; behind another there is none
+suited_by : (c : Opening) (i : initiator.Machine) (t : target.Machine) (logins next : Logins) (r answer : Message) (disk : Disk) → Asking c i t logins r
+    → Suited c i t → LastTurn i t disk r answer
+    → (stage : Stage) → i.stage ≡ stage → Asks_on c (step i answer) (target_machine.step t disk r).machine next
+    → Suited c (step i answer).machine (target_machine.step t disk r).machine
+suited_by c i t logins next r answer disk a s q stages.Security is asks =
+    let h : LoginRequest = login_request i true in
+    let e : target_session.Session = emptied t.session h in
+    let w : initiator.Machine = with_answer i (text_head e h) (answer_pairs e (offered i)) in
+    subst (λ (x : Stepped). Suited c x.machine (target_machine.step t disk r).machine) (sym (q.now ∙ ap (λ (x : Stage). enters (asked_from x) w) is))
+    (subst (λ (x : target.Stepped). Suited c (enters stages.Operational w).machine x.machine) (sym q.there)
+    (next_suited c i t disk h (text_head e h) (answer_pairs e (offered i)) a.settings s is refl refl))
+suited_by c i t logins next r answer disk a s q stages.Operational is asks =
+    absurd (subst IsStart (ap (λ (x : Stepped). x.machine.stage) q.now
+    ∙ ap (λ (x : Stage). (enters (asked_from x) (with_answer i (text_head (emptied t.session (login_request i true)) (login_request i true))
+    (answer_pairs (emptied t.session (login_request i true)) (offered i)))).machine.stage) is) asks.asking.stage)
+suited_by c i t logins next r answer disk a s q stages.Full is asks = absurd (subst IsStart is a.stage)
+
+-- behind a request that ends its text
+last_well : (c : Opening) (i : initiator.Machine) (t : target.Machine) (logins next : Logins) (r : Message) (disk : Disk) → Asking c i t logins r → Suited c i t
+    → (turn : Round c i (target_machine.step t disk r) next) → LastTurn i t disk r turn.answer
+    → Well c i (target_machine.step t disk r) (step i turn.answer) next
+last_well c i t logins next r disk a s turn q =
+    let h : LoginRequest = login_request i true in
+    let e : target_session.Session = emptied t.session h in
+    let w : initiator.Machine = with_answer i (text_head e h) (answer_pairs e (offered i)) in
+    let on_ : GoesOn (enters (asked i) w) = enters_on (asked i) w a.phase in
+    let live : is_closed (step i turn.answer).machine ≡ false = ap (λ (x : Stepped). is_closed x.machine) q.now ∙ on_.live in
+    record {
+      on = leads_on c i (step i turn.answer) (target_machine.step t disk r).machine next turn.leads live (suited_by c i t logins next r turn.answer disk a s q
+          i.stage refl);
+      open_ = ap (λ (x : target.Stepped). target_machine.is_closed x.machine) q.there ∙ phase_open (login.stage_after e h);
+      rule = ap (λ (x : target.Stepped). x.rule) q.there;
+      live = live;
+      fault = ap (λ (x : Stepped). x.fault) q.now ∙ on_.fault;
+    }
+
+-- behind a request whose text goes on
+part_well : (c : Opening) (i : initiator.Machine) (t : target.Machine) (logins next : Logins) (r : Message) (disk : Disk) → Asking c i t logins r → Suited c i t
+    → (turn : Round c i (target_machine.step t disk r) next) → PartTurn i t disk r turn.answer
+    → Well c i (target_machine.step t disk r) (step i turn.answer) next
+part_well c i t logins next r disk a s turn q =
+    let h : LoginRequest = login_request i false in
+    let e : target_session.Session = entered t.session h in
+    let same : SameState t.session e = entered_same t.session h in
+    let n : Stepped = sends_more (counted i (part_head e h)) in
+    let live : is_closed (step i turn.answer).machine ≡ false = ap (λ (x : Stepped). is_closed x.machine) q.now ∙ ap is_closed_phase a.phase in
+    let begun : Suited c n.machine (target.on disk t.tasks (gather e h q.bytes)).machine = record {
+      expected = eq-eqb (next_sn e.stat_sn) (next_sn e.stat_sn) refl;
+      due = due_at e.begun i.stage _ _ (entered_begun t.session h) (in_stage i.stage t.session.stage);
+      texts = elim s.texts [
+        | inl f ↦ inl (record { none = same.has_text ∙ f.none; given = same.given ∙ f.given; stage = f.stage })
+        | inr f ↦ inr (record { one = same.has_text ∙ f.one; given = same.given ∙ f.given; start = f.start; stage = f.stage })
+      ];
+    } in
+    let suited : Suited c (step i turn.answer).machine (target_machine.step t disk r).machine =
+    subst (λ (x : Stepped). Suited c x.machine (target_machine.step t disk r).machine) (sym q.now)
+    (subst (λ (x : target.Stepped). Suited c n.machine x.machine) (sym q.there) begun) in
+    record {
+      on = leads_on c i (step i turn.answer) (target_machine.step t disk r).machine next turn.leads live (λ asks. suited);
+      open_ = ap (λ (x : target.Stepped). target_machine.is_closed x.machine) q.there ∙ ap is_closed_phase (entered_phase t.session h ∙ a.logs_in.phase);
+      rule = ap (λ (x : target.Stepped). x.rule) q.there;
+      live = live;
+      fault = ap (λ (x : Stepped). x.fault) q.now;
+    }
+
+-- where both ends suit each other the login goes on
+pub goes_well : (c : Opening) (i : initiator.Machine) (t : target.Machine) (logins next : Logins) (r : Message) (disk : Disk) → IsOpening c → Suits c
+    → Asking c i t logins r → Suited c i t
+    → (turn : Round c i (target_machine.step t disk r) next) → Well c i (target_machine.step t disk r) (step i turn.answer) next
+goes_well c i t logins next r disk o suits a s turn = elim (turns c i t logins next r disk o suits a s turn) [
+  | inl q ↦ last_well c i t logins next r disk a s turn q
+  | inr q ↦ part_well c i t logins next r disk a s turn q
+]
+
+stage_at_most : (stage : Stage) → IsStart stage → nat_le (stage_number stage) 1 ≡ true
+stage_at_most stages.Security is = refl
+stage_at_most stages.Operational is = refl
+stage_at_most stages.Full is = absurd is
+
+-- a new pair suits
+pub first_suited : (c : Opening) → IsOpening c → Suited c (start_step (initiator.opening c.initiator)).machine (target.opening c.target c.first_stat_sn)
+first_suited c o =
+    let m : initiator.Machine = record (initiator.opening c.initiator) { started = true } in
+    let k : TextKeeps m (sends_text m) = text_keeps m in
+    record {
+      expected = ap (λ (n : Option ℕ). is_expected n c.first_stat_sn) k.number;
+      due = ap (λ (x : Stage). nat_le (stage_number x) 1) k.stage ∙ stage_at_most c.initiator.start o.initiator.in_range.start;
+      texts = inl (record { none = refl; given = refl; stage = k.stage });
+    }

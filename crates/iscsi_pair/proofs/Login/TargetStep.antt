@@ -1,0 +1,361 @@
+-- What a target answers to a Login Request of its initiator.
+use Rattle.std.proofs.Common.{
+  ◌≡◌,
+  ◌<◌,
+  ◌≤◌,
+  ◌⊎◌,
+  inl,
+  inr,
+  ℕ,
+  ◌+◌,
+  Bool,
+  true,
+  false,
+  List,
+  [],
+  ◌∷◌,
+  ◌++◌,
+  length,
+  Option,
+  Some,
+  None,
+  refl,
+  sym,
+  ap,
+  ◌∙◌,
+  subst,
+  arith,
+}
+use Rattle.std.specs.Prelude.{◌==◌, nat_lt, is_some, IfSome, ◌^◌, if◌then◌else◌, unwrap_or}
+use Rattle.std.specs.List.{AllByRecursion}
+use Rattle.std.proofs.Math.Nat.{mod-lt}
+use Rattle.std.proofs.lemmas.Bool.{cond_both, ltb-false}
+use Rattle.scsi_disk.specs.Disk.{Disk}
+use Rattle.iscsi_text.specs.Text.{Pairs}
+use Rattle.iscsi_text.specs.Canonical.{canonical_text}
+use Rattle.iscsi_pdu.specs.declared.head.Head.TheVariants as heads
+use Rattle.iscsi_pdu.specs.declared.head.login_request.LoginRequest.{LoginRequest}
+use Rattle.iscsi_pdu.specs.declared.head.login_response.LoginResponse.{LoginResponse}
+use Rattle.iscsi_stream.specs.Segment.{Segment, Bytes, segment_bytes}
+use Rattle.iscsi_stream.specs.Stream.{Message}
+use Rattle.iscsi_stream.proofs.Ready.{apart}
+use Rattle.iscsi_login.specs.declared.phase.Phase.{Phase}
+use Rattle.iscsi_login.specs.declared.phase.Phase.TheVariants as phases
+use Rattle.iscsi_login.specs.declared.stage.Stage.{Stage}
+use Rattle.iscsi_login.specs.declared.stage.Stage.TheVariants as stages
+use Rattle.iscsi_login.specs.declared.stage.Session.{Session as SessionType}
+use Rattle.iscsi_login.specs.Held.{Held}
+use Rattle.iscsi_login.specs.Negotiation.{IsInRange}
+use Rattle.iscsi_login.specs.Answer as login
+use Rattle.iscsi_login.specs.Answer.{target_holds}
+use Rattle.iscsi_target_session.specs.declared.status.Status.{Status}
+use Rattle.iscsi_target_session.specs.Configured.{Settings}
+use Rattle.iscsi_target_session.specs.Session.{Session, Reply}
+use Rattle.iscsi_target.specs.State.{Machine, on}
+use Rattle.scsi_disk.specs.Plan.{first_of}
+use Rattle.iscsi_target_session.specs.LoginText.{out_of_resources, text_refusals, session_for, declared_tag, declared_length, answer_pairs}
+use Rattle.iscsi_target_session.specs.Login.{
+  login_request,
+  request_refusals,
+  refuse,
+  refuse_or,
+  response,
+  login_message,
+  numbered,
+  entered,
+  segment_taken,
+  gather,
+  whole_text,
+  text_ending,
+  text_answered,
+  text_response,
+  stage_asked,
+  stage_after,
+  phase_at,
+  tsih_at,
+}
+use Rattle.iscsi_target.specs.Machine.{step, is_closed, is_over_limit, phase_step}
+use Rattle.iscsi_login.specs.Stage.{is_closed_phase}
+use Rattle.iscsi_pair.proofs.Wire.PrefixLemmas.{RequestFits, ResponseFits}
+use Rattle.iscsi_target.specs.Execution.{reliable}
+
+-- ---- a request comes in a login
+
+-- a login that goes on, whose numbers have room
+pub record LogsIn (s : Session) : Type 0 where
+  pub phase : s.phase ≡ phases.Login
+  pub stat_sn : s.stat_sn < 2 ^ 32
+  pub cmd_sn : s.exp_cmd_sn < 2 ^ 32
+
+pub login_step_is : (s : Machine) (disk : Disk) (h : LoginRequest) (segment : Segment) → s.session.phase ≡ phases.Login → is_over_limit s segment ≡ false
+    → step s disk (record { head = heads.LoginRequest h; segment = segment }) ≡ on disk s.tasks (login_request s.session h segment)
+login_step_is s disk h segment p short =
+    let m : Message = record { head = heads.LoginRequest h; segment = segment } in
+    let open_ : is_closed s ≡ false = ap is_closed_phase p in
+    rw (open_, short) (ap (λ (x : Phase). phase_step reliable x s disk m) p)
+
+-- ---- refusals
+
+-- a status that refuses
+abbrev IsRefusal : Status → Type 0
+IsRefusal why = ((why.class == 0) ≡ false) × ((why.class < 256) × (why.detail < 256))
+
+refusal_if : (b : Bool) (row : Bool × Status) (rows : List (Bool × Status)) (why : Status) → IsRefusal row.1 → (first_of rows ≡ Some why → IsRefusal why)
+    → (if b then Some row.1 else first_of rows) ≡ Some why → IsRefusal why
+refusal_if true row rows why this others e = subst IsRefusal (cc e) this
+refusal_if false row rows why this others e = others e
+
+refusal_of : (rows : List (Bool × Status)) (why : Status) → AllByRecursion (λ row. IsRefusal row.1) rows → first_of rows ≡ Some why → IsRefusal why
+refusal_of [] why all e = absurd (cc e)
+refusal_of (row ∷ rows) why all e = refusal_if row.0 row rows why all.0 (refusal_of rows why all.1) e
+
+request_refusal : (s : Session) (h : LoginRequest) (why : Status) → first_of (request_refusals s h) ≡ Some why → IsRefusal why
+request_refusal s h why e =
+    refusal_of (request_refusals s h) why (
+      (refl, (omega arith, omega arith)),
+      (
+        (refl, (omega arith, omega arith)),
+        ((refl, (omega arith, omega arith)), ((refl, (omega arith, omega arith)), ((refl, (omega arith, omega arith)), tt))),
+      ),
+    ) e
+
+text_refusal : (s : Session) (pairs : Pairs) (why : Status) → first_of (text_refusals s pairs) ≡ Some why → IsRefusal why
+text_refusal s pairs why e =
+    refusal_of (text_refusals s pairs) why (
+      (refl, (omega arith, omega arith)),
+      (
+        (refl, (omega arith, omega arith)),
+        (
+          (refl, (omega arith, omega arith)),
+          (
+            (refl, (omega arith, omega arith)),
+            (
+              (refl, (omega arith, omega arith)),
+              (
+                (refl, (omega arith, omega arith)),
+                ((refl, (omega arith, omega arith)), ((refl, (omega arith, omega arith)), tt)),
+              ),
+            ),
+          ),
+        ),
+      ),
+    ) e
+
+-- where there is no reason, none of them holds
+none_if : (b : Bool) (row : Bool × Status) (o : Option Status) → (if b then Some row.1 else o) ≡ None → (b ≡ false) × (o ≡ None)
+none_if true row o e = absurd (cc e)
+none_if false row o e = (refl, e)
+
+none_holds : (rows : List (Bool × Status)) → first_of rows ≡ None → AllByRecursion (λ row. row.0 ≡ false) rows
+none_holds [] e = tt
+none_holds (row ∷ rows) e =
+    let n = none_if row.0 row (first_of rows) e in
+    (n.0, none_holds rows n.1)
+
+-- ---- what is sent
+
+fits_response : (s : Session) (h : LoginRequest) → s.exp_cmd_sn < 2 ^ 32 → RequestFits h → (o : Option ℕ)
+    → (class detail tsih : ℕ) (transits : Bool) (next : Option ℕ)
+    → is_some next ≡ transits → IfSome next (λ n. n ≤ 3) → tsih < 2 ^ 16 → is_some o ≡ (class == 0) → IfSome o (λ n. n < 2 ^ 32) → class < 256 → detail < 256
+    → ResponseFits (record (response s h) { transits = transits; next_stage = next; tsih = tsih; stat_sn = o; status_class = class; status_detail = detail })
+fits_response s h sn f o class detail tsih transits next has range tsih_is has_sn sn_is class_is detail_is = record {
+  current_stage = f.current_stage;
+  has_next = has;
+  next_stage = range;
+  version_max = omega arith;
+  version_active = omega arith;
+  isid = f.isid;
+  tsih = tsih_is;
+  initiator_task_tag = f.initiator_task_tag;
+  has_stat_sn = has_sn;
+  stat_sn = sn_is;
+  exp_cmd_sn = sn;
+  max_cmd_sn = mod-lt _ (omega arith);
+  status_class = class_is;
+  status_detail = detail_is;
+}
+
+-- the login is refused
+pub record Refuses (h : LoginRequest) (r : Reply) : Type 0 where
+  pub answer : LoginResponse
+  pub is : r.answers ≡ login_message answer [] ∷ []
+  pub class : (answer.status_class == 0) ≡ false
+  pub tag : answer.initiator_task_tag ≡ h.initiator_task_tag
+  pub last : answer.continues ≡ false
+  pub fits : ResponseFits answer
+
+refuses : (s : Session) (h : LoginRequest) (why : Status) → s.exp_cmd_sn < 2 ^ 32 → RequestFits h → IsRefusal why → Refuses h (refuse s h why)
+refuses s h why sn f is = record {
+  answer = record (response s h) { status_class = why.class; status_detail = why.detail };
+  is = refl;
+  class = is.0;
+  tag = refl;
+  last = refl;
+  fits = fits_response s h sn f None why.class why.detail 0 false None refl tt (omega arith) (sym is.0) tt is.1.0 is.1.1;
+}
+
+-- a part of the text is gathered
+pub record Gathers (s : Session) (h : LoginRequest) (bytes : List ℕ) (r : Reply) : Type 0 where
+  pub answer : LoginResponse
+  pub is : r.answers ≡ login_message answer [] ∷ []
+  pub class : answer.status_class ≡ 0
+  pub tag : answer.initiator_task_tag ≡ h.initiator_task_tag
+  pub last : answer.continues ≡ false
+  pub fits : ResponseFits answer
+  pub logs_in : LogsIn r.session
+  pub settings : r.session.settings ≡ s.settings
+  pub held : r.session.held ≡ s.held
+  pub gathered : r.session.gathered ≡ s.gathered ++ bytes
+
+-- a whole text is answered
+pub record Tells (s : Session) (h : LoginRequest) (pairs : Pairs) (r : Reply) : Type 0 where
+  pub session : SessionType
+  pub group : Option ℕ
+  pub group_fits : IfSome group (λ n. n < 2 ^ 64)
+  pub most : Option ℕ
+  pub most_fits : IfSome most (λ n. n < 2 ^ 64)
+  pub answer : LoginResponse
+  pub is : r.answers ≡ login_message answer (login.answer session s.settings.preferences group most pairs) ∷ []
+  pub short : length (canonical_text (login.answer session s.settings.preferences group most pairs)) ≤ 8192
+  pub class : answer.status_class ≡ 0
+  pub tag : answer.initiator_task_tag ≡ h.initiator_task_tag
+  pub last : answer.continues ≡ false
+  pub fits : ResponseFits answer
+  pub settings : r.session.settings ≡ s.settings
+  pub held : r.session.held ≡ target_holds session s.settings.preferences most pairs s.held
+  pub gathered : r.session.gathered ≡ []
+  pub stage : (to : Stage) → stage_asked h ≡ Some to → r.session.stage ≡ to
+  pub phase : (to : Stage) → stage_asked h ≡ Some to → r.session.phase ≡ phase_at to
+  pub stat_sn : r.session.stat_sn < 2 ^ 32
+  pub cmd_sn : r.session.exp_cmd_sn < 2 ^ 32
+
+-- what taking a request's stage and number keeps
+record Keeps (s e : Session) : Type 0 where
+  phase : e.phase ≡ s.phase
+  settings : e.settings ≡ s.settings
+  held : e.held ≡ s.held
+  gathered : e.gathered ≡ s.gathered
+  stat_sn : e.stat_sn ≡ s.stat_sn
+  cmd_sn : e.exp_cmd_sn < 2 ^ 32
+
+numbered_keeps : (s : Session) (h : LoginRequest) → s.exp_cmd_sn < 2 ^ 32 → RequestFits h → Keeps s (numbered s h)
+numbered_keeps s h sn f =
+    cond_both s.begun s (record s { begun = true; exp_cmd_sn = h.cmd_sn }) (Keeps s)
+    (λ is. record { phase = refl; settings = refl; held = refl; gathered = refl; stat_sn = refl; cmd_sn = sn })
+    (λ is. record { phase = refl; settings = refl; held = refl; gathered = refl; stat_sn = refl; cmd_sn = f.cmd_sn })
+
+entered_keeps : (s : Session) (h : LoginRequest) → s.exp_cmd_sn < 2 ^ 32 → RequestFits h → Keeps s (entered s h)
+entered_keeps s h sn f =
+    let k : Keeps s (numbered s h) = numbered_keeps s h sn f in
+    record { phase = k.phase; settings = k.settings; held = k.held; gathered = k.gathered; stat_sn = k.stat_sn; cmd_sn = k.cmd_sn }
+
+gathers : (s e : Session) (h : LoginRequest) (bytes : List ℕ) → Keeps s e → LogsIn s → RequestFits h → Gathers s h bytes (gather e h bytes)
+gathers s e h bytes k l f = record {
+  answer = record (response e h) { stat_sn = Some e.stat_sn };
+  is = refl;
+  class = refl;
+  tag = refl;
+  last = refl;
+  fits = fits_response e h k.cmd_sn f (Some e.stat_sn) 0 0 0 false None refl tt (omega arith) refl (omega (arith, k.stat_sn, l.stat_sn)) (omega arith)
+      (omega arith);
+  logs_in = record { phase = k.phase ∙ l.phase; stat_sn = mod-lt _ (omega arith); cmd_sn = k.cmd_sn };
+  settings = k.settings;
+  held = k.held;
+  gathered = ap (λ (x : List ℕ). x ++ bytes) k.gathered;
+}
+
+by_reason : (o : Option Status) (P : Reply → Type 0) (s : Session) (h : LoginRequest) (r : Reply) → ((why : Status) → o ≡ Some why → P (refuse s h why))
+    → (o ≡ None → P r) → P (refuse_or o s h r)
+by_reason None P s h r p q = q refl
+by_reason (Some why) P s h r p q = p why refl
+
+-- a request whose text goes on is refused, or its part is gathered
+pub gathers_more : (s : Session) (h : LoginRequest) (bytes : List ℕ) → LogsIn s → RequestFits h → h.continues ≡ true
+    → Refuses h (login_request s h (Bytes bytes)) ⊎ Gathers s h bytes (login_request s h (Bytes bytes))
+unfolding segment_bytes
+gathers_more s h bytes l f more =
+    let P : Reply → Type 0 = λ r. Refuses h r ⊎ Gathers s h bytes r in
+    let k : Keeps s (entered s h) = entered_keeps s h l.cmd_sn f in
+    let now : Session = entered s h in
+    let part : Reply = gather now h (segment_bytes (Bytes bytes)) in
+    let whole : Reply = whole_text (record now { gathered = [] }) h (text_ending now.gathered (Bytes bytes)) in
+    let long : Bool = nat_lt 16384 (length now.gathered + length (segment_bytes (Bytes bytes))) in
+    by_reason (first_of (request_refusals s h)) P (numbered s h) h (segment_taken (entered s h) h (Bytes bytes))
+    (λ why is. inl (refuses (numbered s h) h why (numbered_keeps s h l.cmd_sn f).cmd_sn f (request_refusal s h why is)))
+    (λ none. cond_both long (refuse now h out_of_resources) (if h.continues then part else whole) P
+    (λ over. inl (refuses (entered s h) h out_of_resources k.cmd_sn f (refl, (omega arith, omega arith))))
+    (λ short. cond_both h.continues part whole P (λ is. inr (gathers s (entered s h) h bytes k l f)) (λ is. absurd (apart more is))))
+
+-- ---- a whole text
+
+-- what a target's settings have
+pub record SettingsFit (settings : Settings) : Type 0 where
+  pub preferences : IsInRange settings.preferences
+  pub group : settings.group < 2 ^ 16
+  pub tsih : settings.tsih < 2 ^ 16
+
+-- a number that there may be is below a bound
+pub some_if : (b : Bool) (n bound : ℕ) → n < bound → IfSome (if b then Some n else None) (λ x. x < bound)
+some_if true n bound lt = lt
+some_if false n bound lt = tt
+
+tsih_fits : (s : Session) (stage : Stage) → s.settings.tsih < 2 ^ 16 → tsih_at s stage < 2 ^ 16
+tsih_fits s stages.Security lt = omega arith
+tsih_fits s stages.Operational lt = omega arith
+tsih_fits s stages.Full lt = lt
+
+tells : (s e : Session) (h : LoginRequest) (pairs : Pairs) → Keeps s e → SettingsFit s.settings → LogsIn s → RequestFits h
+    → nat_lt 8192 (length (canonical_text (answer_pairs e pairs))) ≡ false → Tells s h pairs (text_answered (record e { gathered = [] }) h pairs)
+tells s e h pairs k fit l f short =
+    let session : SessionType = session_for e pairs in
+    let group : Option ℕ = declared_tag e pairs in
+    let most : Option ℕ = declared_length e in
+    let text : (p : Settings) → Pairs = λ p. login.answer session p.preferences group most pairs in
+    let fits : SettingsFit e.settings = subst SettingsFit (sym k.settings) fit in
+    record {
+      session = session;
+      group = group;
+      group_fits = some_if _ e.settings.group (2 ^ 64) (omega (arith, fits.group));
+      most = most;
+      most_fits = some_if _ e.settings.preferences.max_recv (2 ^ 64) (omega (arith, fits.preferences.max_recv.1));
+      answer = record (text_response e h) { stat_sn = Some e.stat_sn };
+      is = ap (λ (p : Settings). login_message (record (text_response e h) { stat_sn = Some e.stat_sn }) (text p) ∷ []) k.settings;
+      short = subst (λ (p : Settings). length (canonical_text (text p)) ≤ 8192) k.settings
+          (omega (arith, ltb-false 8192 (length (canonical_text (answer_pairs e pairs))) short));
+      class = refl;
+      tag = refl;
+      last = refl;
+      fits = fits_response e h k.cmd_sn f (Some e.stat_sn) 0 0 (tsih_at e (stage_after e h)) h.transits h.next_stage f.has_next f.next_stage
+          (tsih_fits e (stage_after e h) fits.tsih) refl
+          (omega (arith, k.stat_sn, l.stat_sn)) (omega arith) (omega arith);
+      settings = k.settings;
+      held = ap (λ (p : Settings). target_holds session p.preferences most pairs e.held) k.settings
+          ∙ ap (λ (x : Held). target_holds session s.settings.preferences most pairs x) k.held;
+      gathered = refl;
+      stage = λ to asked. ap (λ (o : Option Stage). unwrap_or o e.stage) asked;
+      phase = λ to asked. ap (λ (o : Option Stage). phase_at (unwrap_or o e.stage)) asked;
+      stat_sn = mod-lt _ (omega arith);
+      cmd_sn = k.cmd_sn;
+    }
+
+-- a request that ends a text is refused, or the text is answered
+pub tells_text : (s : Session) (h : LoginRequest) (segment : Segment) (pairs : Pairs) → SettingsFit s.settings → LogsIn s → RequestFits h → h.continues ≡ false
+    → text_ending s.gathered segment ≡ Some pairs
+    → Refuses h (login_request s h segment) ⊎ Tells s h pairs (login_request s h segment)
+tells_text s h segment pairs fit l f last read =
+    let P : Reply → Type 0 = λ r. Refuses h r ⊎ Tells s h pairs r in
+    let k : Keeps s (entered s h) = entered_keeps s h l.cmd_sn f in
+    let now : Session = entered s h in
+    let part : Reply = gather now h (segment_bytes segment) in
+    let whole : Reply = whole_text (record now { gathered = [] }) h (text_ending now.gathered segment) in
+    let long : Bool = nat_lt 16384 (length now.gathered + length (segment_bytes segment)) in
+    let e : Session = record (entered s h) { gathered = [] } in
+    by_reason (first_of (request_refusals s h)) P (numbered s h) h (segment_taken (entered s h) h segment)
+    (λ why is. inl (refuses (numbered s h) h why (numbered_keeps s h l.cmd_sn f).cmd_sn f (request_refusal s h why is)))
+    (λ none. cond_both long (refuse now h out_of_resources) (if h.continues then part else whole) P
+    (λ over. inl (refuses (entered s h) h out_of_resources k.cmd_sn f (refl, (omega arith, omega arith))))
+    (λ short. cond_both h.continues part whole P (λ is. absurd (apart is last))
+    (λ is. subst (λ (o : Option Pairs). P (whole_text e h o)) (sym (ap (λ (g : List ℕ). text_ending g segment) k.gathered ∙ read))
+    (by_reason (first_of (text_refusals e pairs)) P e h (text_answered e h pairs)
+    (λ why is2. inl (refuses e h why k.cmd_sn f (text_refusal e pairs why is2)))
+    (λ none2. inr (tells s (entered s h) h pairs k fit l f (none_holds (text_refusals e pairs) none2).1.1.1.1.1.1.1.0))))))

@@ -1,0 +1,167 @@
+-- Where the answers on their way lead both ends, where the target hears at once all that is sent.
+use Rattle.std.proofs.Common.{◌≡◌, ◌≤◌, ℕ, zero, suc, Bool, true, false, List, [], ◌∷◌, ◌++◌, length, None, refl, sym, ap, ◌∙◌, subst}
+use Rattle.std.specs.Prelude.{is_some}
+use Rattle.std.proofs.lemmas.List.{append-nil}
+use Rattle.scsi_disk.specs.Disk.{Disk}
+use Rattle.iscsi_pdu.specs.declared.head.Head.{Head}
+use Rattle.iscsi_stream.specs.declared.logins.Logins.{Logins}
+use Rattle.iscsi_stream.specs.Segment.{after, segment_bytes}
+use Rattle.iscsi_stream.specs.Stream.{Message}
+use Rattle.iscsi_stream.proofs.Ready.{apart}
+use Rattle.iscsi_login.specs.declared.phase.Phase.TheVariants as phases
+use Rattle.iscsi_login.specs.Held.{Held}
+use Rattle.iscsi_target_session.specs.Session as target_session
+use Rattle.iscsi_target.specs.State as target
+use Rattle.iscsi_target.specs.Machine as target_machine
+use Rattle.iscsi_target.specs.Machine.{answers}
+use Rattle.iscsi_target.proofs.Numbers.{closed_answers}
+use Rattle.iscsi_initiator.specs.declared.request.Done.{Done}
+use Rattle.iscsi_initiator.specs.declared.request.Request.{Request}
+use Rattle.iscsi_initiator.specs.State as initiator
+use Rattle.iscsi_initiator.specs.Steps.{Stepped, quiet, sends}
+use Rattle.iscsi_initiator.specs.Machine.{step}
+use Rattle.iscsi_initiator.specs.Submitted.{submitted}
+use Rattle.iscsi_pair.specs.LocalDisk.{HasEnded, Stand, after_answers}
+use Rattle.iscsi_pair.proofs.Wire.PrefixLemmas.{Readable}
+use Rattle.iscsi_pair.proofs.Request.Invariant.{AreWritten, IsOpenFor}
+
+-- ---- messages that are read as they were written, whatever the login PDUs before them said
+
+-- each of these is, and has a segment of at most so many bytes
+abbrev pub ArePlain : ℕ → List Message → Type 0
+ArePlain most ms = (logins : Logins) → AreWritten most logins ms
+
+pub plain_one : (most : ℕ) (m : Message) → ((logins : Logins) → Readable logins m) → length (segment_bytes m.segment) ≤ most → ArePlain most (m ∷ [])
+plain_one most m readable short = λ logins. (record { readable = readable logins; short = short }, tt)
+
+pub plain_more : (most : ℕ) (m : Message) (ms : List Message) → ((logins : Logins) → Readable logins m) → length (segment_bytes m.segment) ≤ most
+    → ArePlain most ms → ArePlain most (m ∷ ms)
+plain_more most m ms readable short more = λ logins. (record { readable = readable logins; short = short }, more (after logins m.head))
+
+-- the segment of a message with bytes
+pub short_message : (head : Head) (bytes : List ℕ) (most : ℕ) → length bytes ≤ most → length (segment_bytes (target_session.message head bytes).segment) ≤ most
+unfolding segment_bytes
+short_message head bytes most le = le
+
+-- ---- what the target hears
+
+was_open : (b : Bool) (t : target.Machine) (disk : Disk) (ms : List Message) → target_machine.is_closed t ≡ b
+    → target_machine.is_closed (answers t disk ms).machine ≡ false → b ≡ false
+was_open true t disk ms shut live = absurd (apart (ap (λ (r : target.Stepped). target_machine.is_closed r.machine) (closed_answers t disk ms shut) ∙ shut) live)
+was_open false t disk ms e live = refl
+
+-- where it is open in the end, it was when each message came
+pub open_all : (t : target.Machine) (disk : Disk) (ms : List Message) → target_machine.is_closed (answers t disk ms).machine ≡ false → IsOpenFor t disk ms
+unfolding answers
+open_all t disk [] live = tt
+open_all t disk (m ∷ ms) live =
+    let s : target.Stepped = target_machine.step t disk m in
+    (was_open (target_machine.is_closed t) t disk (m ∷ ms) refl live, open_all s.machine s.disk ms live)
+
+-- These go out and are heard: both they and the answers are read as they were written, the session is open when each comes, and
+-- none breaks a rule.
+pub record AreHeard (held : Held) (t : target.Machine) (disk : Disk) (out : List Message) : Type 0 where
+  pub written : ArePlain held.target_max_recv out
+  pub open_ : IsOpenFor t disk out
+  pub rule : (answers t disk out).rule ≡ None
+  pub answered : ArePlain held.initiator_max_recv (answers t disk out).answers
+
+-- by where they lead
+pub heard_by : (held : Held) (t : target.Machine) (disk : Disk) (out : List Message) (r : target.Stepped) → answers t disk out ≡ r
+    → ArePlain held.target_max_recv out
+    → target_machine.is_closed r.machine ≡ false → r.rule ≡ None → ArePlain held.initiator_max_recv r.answers → AreHeard held t disk out
+heard_by held t disk out r e written live rule answered = record {
+  written = written;
+  open_ = open_all t disk out (ap (λ (x : target.Stepped). target_machine.is_closed x.machine) e ∙ live);
+  rule = ap (λ (x : target.Stepped). x.rule) e ∙ rule;
+  answered = subst (λ (x : target.Stepped). ArePlain held.initiator_max_recv x.answers) (sym e) answered;
+}
+
+none_heard : (held : Held) (t : target.Machine) (disk : Disk) → AreHeard held t disk []
+unfolding answers
+none_heard held t disk = record { written = λ logins. tt; open_ = tt; rule = refl; answered = λ logins. tt }
+
+-- ---- what the initiator hears
+
+-- the initiator has a request open when it hears this answer, finds no fault in it, and what it sends then is heard
+pub record HearsOne (held : Held) (i : initiator.Machine) (t : target.Machine) (disk : Disk) (m : Message) : Type 0 where
+  pub full : i.phase ≡ phases.Full
+  pub busy : is_some i.open_request ≡ true
+  pub none_done : i.done ≡ None
+  pub fault : (step i m).fault ≡ None
+  pub sends_ : AreHeard held t disk (step i m).output
+
+-- so many answers are heard, and then both ends stand so
+abbrev pub Leads : Held → ℕ → initiator.Machine → target.Machine → Disk → List Message → Stand → Type 0
+Leads held zero i t disk back x = record { initiator = i; target = t; disk = disk; answers = back } ≡ x
+Leads held (suc n) i t disk [] x = ⊥
+Leads held (suc n) i t disk (m ∷ more) x =
+    HearsOne held i t disk m
+    × (let s = step i m in let r = answers t disk s.output in Leads held n s.machine r.machine r.disk (more ++ r.answers) x)
+
+-- some answers are heard, and then both ends stand so
+abbrev pub LeadsTo : Held → initiator.Machine → target.Machine → Disk → List Message → Stand → Type 0
+LeadsTo held i t disk back x = (n : ℕ) × Leads held n i t disk back x
+
+-- an answer that is heard, and to which nothing is said
+pub hears_quiet : (held : Held) (i n : initiator.Machine) (t : target.Machine) (disk : Disk) (m : Message) (more : List Message) (x : Stand)
+    → step i m ≡ quiet n → i.phase ≡ phases.Full → is_some i.open_request ≡ true → i.done ≡ None
+    → LeadsTo held n t disk more x → LeadsTo held i t disk (m ∷ more) x
+unfolding answers
+hears_quiet held i n t disk m more x e full busy none l = (
+  suc l.0,
+  (
+    record {
+      full = full;
+      busy = busy;
+      none_done = none;
+      fault = ap (λ (s : Stepped). s.fault) e;
+      sends_ = subst (λ (s : Stepped). AreHeard held t disk s.output) (sym e) (none_heard held t disk);
+    },
+    subst (λ (s : Stepped). let r = answers t disk s.output in Leads held l.0 s.machine r.machine r.disk (more ++ r.answers) x) (sym e)
+        (subst (λ (ms : List Message). Leads held l.0 n t disk ms x) (sym (append-nil more)) l.1),
+  ),
+)
+
+-- the last answer on its way, to which these are said
+pub hears_sends : (held : Held) (i n : initiator.Machine) (t : target.Machine) (disk : Disk) (m : Message) (out : List Message) (r : target.Stepped) (x : Stand)
+    → step i m ≡ sends n out → i.phase ≡ phases.Full → is_some i.open_request ≡ true
+    → i.done ≡ None → AreHeard held t disk out → answers t disk out ≡ r → LeadsTo held n r.machine r.disk r.answers x → LeadsTo held i t disk (m ∷ []) x
+hears_sends held i n t disk m out r x e full busy none heard is l = (
+  suc l.0,
+  (
+    record {
+      full = full;
+      busy = busy;
+      none_done = none;
+      fault = ap (λ (s : Stepped). s.fault) e;
+      sends_ = subst (λ (s : Stepped). AreHeard held t disk s.output) (sym e) heard;
+    },
+    subst (λ (s : Stepped). let r' = answers t disk s.output in Leads held l.0 s.machine r'.machine r'.disk ([] ++ r'.answers) x) (sym e)
+        (subst (λ (r' : target.Stepped). Leads held l.0 n r'.machine r'.disk ([] ++ r'.answers) x) (sym is) l.1),
+  ),
+)
+
+-- ---- a request
+
+-- from here, with these answers on their way, it comes to that
+pub record Ends (held : Held) (i : initiator.Machine) (r : target.Stepped) (outcome : Done) (disk_now : Disk) : Type 0 where
+  pub last : Stand
+  pub leads : LeadsTo held i r.machine r.disk r.answers last
+  pub ended : HasEnded held outcome disk_now last
+
+-- What a request that is handed in sends is heard, and it comes to this outcome.
+pub record Begins (held : Held) (m : initiator.Machine) (t : target.Machine) (disk : Disk) (request : Request) (outcome : Done) (disk_now : Disk) : Type 0 where
+  pub heard : AreHeard held t disk (submitted m request).output
+  pub ends : Ends held (submitted m request).machine (answers t disk (submitted m request).output) outcome disk_now
+
+-- where answers lead is where they lead one by one
+pub leads_after : (n : ℕ) (held : Held) (i : initiator.Machine) (t : target.Machine) (disk : Disk) (back : List Message) (x : Stand)
+    → Leads held n i t disk back x
+    → after_answers n (record { initiator = i; target = t; disk = disk; answers = back }) ≡ x
+leads_after zero held i t disk back x l = l
+leads_after (suc n) held i t disk [] x l = absurd l
+leads_after (suc n) held i t disk (m ∷ more) x l =
+    let s : Stepped = step i m in
+    let r : target.Stepped = answers t disk s.output in
+    leads_after n held s.machine r.machine r.disk (more ++ r.answers) x l.1

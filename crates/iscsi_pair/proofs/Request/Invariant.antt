@@ -1,0 +1,89 @@
+-- What both ends keep on whole messages, where the target hears at once all that is sent.
+use Rattle.std.proofs.Common.{◌≡◌, ◌≤◌, ℕ, false, List, [], ◌∷◌, ◌++◌, length, Some, None}
+use Rattle.scsi_disk.specs.Disk.{Disk}
+use Rattle.iscsi_stream.specs.declared.logins.Logins.{Logins}
+use Rattle.iscsi_stream.specs.Segment.{after, segment_bytes}
+use Rattle.iscsi_stream.specs.Stream.{Message, after_all}
+use Rattle.iscsi_target.specs.State as target
+use Rattle.iscsi_target.specs.Machine as target_machine
+use Rattle.iscsi_target.specs.Machine.{answers}
+use Rattle.iscsi_initiator.specs.declared.request.Done.{Done}
+use Rattle.iscsi_initiator.specs.declared.request.Request.{Request}
+use Rattle.iscsi_initiator.specs.State as initiator
+use Rattle.iscsi_initiator.specs.State.{is_closed}
+use Rattle.iscsi_initiator.specs.Machine.{step, taken}
+use Rattle.iscsi_initiator.specs.Submitted.{submitted}
+use Rattle.iscsi_pair.specs.Served.{IsServed}
+use Rattle.iscsi_pair.proofs.Wire.PrefixLemmas.{Readable}
+
+-- ---- what is sent
+
+-- The message is read as it was written behind login PDUs that said this, and its segment has at most so many bytes.
+pub record IsWritten (most : ℕ) (logins : Logins) (m : Message) : Type 0 where
+  pub readable : Readable logins m
+  pub short : length (segment_bytes m.segment) ≤ most
+
+-- so it is of all of these, one behind the other
+abbrev pub AreWritten : ℕ → Logins → List Message → Type 0
+AreWritten most logins [] = Unit {0}
+AreWritten most logins (m ∷ ms) = IsWritten most logins m × AreWritten most (after logins m.head) ms
+
+-- two parts are written so where each is
+pub written_append : (most : ℕ) (logins : Logins) (a b : List Message) → AreWritten most logins a → AreWritten most (after_all logins a) b
+    → AreWritten most logins (a ++ b)
+written_append most logins [] b p q = q
+written_append most logins (m ∷ a) b p q = (p.0, written_append most (after logins m.head) a b p.1 q)
+
+-- the target's session is open when each of these comes
+abbrev pub IsOpenFor : target.Machine → Disk → List Message → Type 0
+IsOpenFor t disk [] = Unit {0}
+IsOpenFor t disk (m ∷ ms) =
+    (target_machine.is_closed t ≡ false) × IsOpenFor (target_machine.step t disk m).machine (target_machine.step t disk m).disk ms
+
+-- The target hears these well: its session is open when each comes, none breaks a rule, and the answers are read as they
+-- were written.
+pub record HearsWell (most : ℕ) (t : target.Machine) (disk : Disk) (logins : Logins) (ms : List Message) : Type 0 where
+  pub open_ : IsOpenFor t disk ms
+  pub rule : (answers t disk ms).rule ≡ None
+  pub answered : AreWritten most logins (answers t disk ms).answers
+
+-- ---- what is kept
+
+-- what was asked of the initiator and what was taken from it, in their order
+pub record History : Type 0 where
+  pub requests : List Request
+  pub outcomes : List Done
+
+-- What holds of both ends and the disk once the target has heard all that was sent: of the answers that the initiator has
+-- not yet heard, of what the login PDUs said on the way out and back, and of the history.
+abbrev pub Relation : Type 1
+Relation = initiator.Machine → target.Machine → Disk → List Message → Logins → Logins → History → Type 0
+
+-- The initiator sends these: they are read as they were written, the target hears them well, and the relation holds then.
+pub record Sends (most_out most_back : ℕ) (P : Relation) (i : initiator.Machine) (out : List Message) (t : target.Machine)
+    (disk : Disk) (back : List Message) (there here : Logins) (h : History) : Type 0 where
+  pub written : AreWritten most_out there out
+  pub heard : HearsWell most_back t disk here out
+  pub kept : P i (answers t disk out).machine (answers t disk out).disk (back ++ (answers t disk out).answers)
+      (after_all there out) (after_all here (answers t disk out).answers) h
+
+-- the initiator hears an answer well
+pub record Goes (most_out most_back : ℕ) (P : Relation) (i : initiator.Machine) (t : target.Machine) (disk : Disk) (m : Message)
+    (back : List Message) (there here : Logins) (h : History) : Type 0 where
+  pub live : is_closed i ≡ false
+  pub fault : (step i m).fault ≡ None
+  pub sends : Sends most_out most_back P (step i m).machine (step i m).output t disk back there here h
+
+-- The relation is kept by all that can happen.
+pub record IsKept (most_out most_back : ℕ) (P : Relation) : Type 1 where
+  -- the next answer comes
+  pub hears : (i : initiator.Machine) (t : target.Machine) (disk : Disk) (m : Message) (back : List Message) (there here : Logins) (h : History)
+      → P i t disk (m ∷ back) there here h → Goes most_out most_back P i t disk m back there here h
+  -- a request is accepted
+  pub asks : (i : initiator.Machine) (t : target.Machine) (disk : Disk) (back : List Message) (there here : Logins) (h : History) (request : Request)
+      → P i t disk back there here h → IsServed request → (submitted i request).refusal ≡ None
+      → Sends most_out most_back P (submitted i request).machine (submitted i request).output t disk back there here
+      (record h { requests = h.requests ++ request ∷ [] })
+  -- an outcome is taken
+  pub takes : (i : initiator.Machine) (t : target.Machine) (disk : Disk) (back : List Message) (there here : Logins) (h : History) (d : Done)
+      → P i t disk back there here h → i.done ≡ Some d → P (taken i) t disk back there here (record h { outcomes = h.outcomes ++ d ∷ [] })

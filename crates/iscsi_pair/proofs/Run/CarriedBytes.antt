@@ -1,0 +1,428 @@
+-- A world of a served run, and the bytes that reach its target.
+use Rattle.std.proofs.Common.{
+  ◌≡◌,
+  ◌≢◌,
+  inl,
+  inr,
+  ℕ,
+  Bool,
+  true,
+  false,
+  List,
+  [],
+  ◌∷◌,
+  ◌++◌,
+  length,
+  take,
+  drop,
+  Option,
+  Some,
+  None,
+  Result,
+  Ok,
+  Err,
+  refl,
+  sym,
+  ap,
+  ◌∙◌,
+  subst,
+  append_assoc,
+  arith,
+}
+use Rattle.std.specs.Result.{result_err}
+use Rattle.std.proofs.lemmas.List.{append-nil, length-take, take-append-drop, drop_min, nil_from_length}
+use Rattle.std.proofs.Math.Seq.{drop-length}
+use Rattle.scsi_disk.specs.Disk.{Disk, disk_of}
+use Rattle.iscsi_stream.specs.declared.fault.StreamFault.{StreamFault}
+use Rattle.iscsi_stream.specs.declared.fault.StreamFault.TheVariants as stream
+use Rattle.iscsi_stream.specs.declared.logins.Logins.{Logins}
+use Rattle.iscsi_stream.specs.Segment.{no_login}
+use Rattle.iscsi_stream.specs.Stream.{Message, ReadsAs, after_all}
+use Rattle.iscsi_stream.specs.Canonical.{canon}
+use Rattle.iscsi_stream.specs.Framing.{Framing, HasTaken, FeedFails}
+use Rattle.iscsi_stream.proofs.Ready.{apart}
+use Rattle.iscsi_login.specs.declared.phase.Phase.{Phase}
+use Rattle.iscsi_target.specs.declared.fault.TargetFault.{TargetFault}
+use Rattle.iscsi_target.specs.declared.fault.TargetFault.TheVariants as target_faults
+use Rattle.iscsi_target_session.specs.Session as target_session
+use Rattle.iscsi_target.specs.State as target
+use Rattle.iscsi_target.specs.State.{joined}
+use Rattle.iscsi_target.specs.Machine as target_machine
+use Rattle.iscsi_target.specs.Machine.{answers, then_stepped, first_rule}
+use Rattle.iscsi_target.specs.Laws.{joined_stepped}
+use Rattle.iscsi_target.specs.Feed as target_calls
+use Rattle.iscsi_target.proofs.Appending.{answers_append}
+use Rattle.iscsi_target.proofs.Joining.{answers_joined}
+use Rattle.iscsi_target.proofs.Feeding.{stands}
+use Rattle.iscsi_initiator.specs.State as initiator
+use Rattle.iscsi_initiator.specs.State.{is_closed}
+use Rattle.iscsi_initiator.specs.Steps as initiator_steps
+use Rattle.iscsi_initiator.specs.Machine.{step, steps}
+use Rattle.iscsi_initiator.specs.Calls as calls
+use Rattle.iscsi_pair.specs.World.{World, Opening, TargetHears, MovesToTarget, store_of, target_ran_out}
+use Rattle.iscsi_pair.proofs.Request.Invariant.{AreWritten, IsOpenFor, HearsWell, History, Relation, Sends, Goes, IsKept, written_append}
+use Rattle.iscsi_pair.proofs.Login.NoFailure.{both_none}
+use Rattle.iscsi_pair.proofs.Run.QueueReading.{
+  after_all_append,
+  written_parts,
+  refuses_nothing,
+  Unread,
+  Way,
+  MovesOn,
+  moves_on,
+  still_unread,
+  none_more,
+  way_sends,
+}
+
+-- ---- whole messages
+
+-- no rule is broken in two parts where none is in each
+rules_none : (a b : Option ℕ) → a ≡ None → b ≡ None → first_rule a b ≡ None
+rules_none None b p q = q
+rules_none (Some k) b p q = p
+
+-- and in each where none is in both
+rule_parts : (a b : Option ℕ) → first_rule a b ≡ None → (a ≡ None) × (b ≡ None)
+rule_parts None b e = (refl, e)
+rule_parts (Some k) b e = absurd (cc e)
+
+-- the session is open for two parts
+open_joined : (t : target.Machine) (disk : Disk) (ms more : List Message) → IsOpenFor t disk ms
+    → IsOpenFor (answers t disk ms).machine (answers t disk ms).disk more → IsOpenFor t disk (ms ++ more)
+unfolding answers
+open_joined t disk [] more p q = q
+open_joined t disk (m ∷ ms) more p q = (p.0, open_joined (target_machine.step t disk m).machine (target_machine.step t disk m).disk ms more p.1 q)
+
+-- and for the second of them
+open_later : (t : target.Machine) (disk : Disk) (ms more : List Message) → IsOpenFor t disk (ms ++ more)
+    → IsOpenFor (answers t disk ms).machine (answers t disk ms).disk more
+unfolding answers
+open_later t disk [] more p = p
+open_later t disk (m ∷ ms) more p = open_later (target_machine.step t disk m).machine (target_machine.step t disk m).disk ms more p.1
+
+-- a session that is over hears none of them
+pub open_none : (t : target.Machine) (disk : Disk) (ms : List Message) → IsOpenFor t disk ms → target_machine.is_closed t ≡ true → ms ≡ []
+open_none t disk [] p over = refl
+open_none t disk (m ∷ ms) p over = absurd (apart over p.0)
+
+-- What both ends keep, where the target has yet to hear these messages and the initiator those.
+pub record Talks (most : ℕ) (P : Relation) (i : initiator.Machine) (t : target.Machine) (disk : Disk) (out back : List Message) (there here : Logins)
+    (h : History) : Type 0 where
+  pub heard : HearsWell most t disk here out
+  pub kept : P i (answers t disk out).machine (answers t disk out).disk (back ++ (answers t disk out).answers) there
+      (after_all here (answers t disk out).answers) h
+
+-- the initiator sends more
+pub talk_on : (most_out most : ℕ) (P : Relation) (i : initiator.Machine) (t : target.Machine) (disk : Disk) (out more back : List Message) (there here : Logins)
+    (h : History) → HearsWell most t disk here out
+    → Sends most_out most P i more (answers t disk out).machine (answers t disk out).disk (back ++ (answers t disk out).answers) there
+    (after_all here (answers t disk out).answers) h
+    → Talks most P i t disk (out ++ more) back (after_all there more) here h
+talk_on most_out most P i t disk out more back there here h heard s =
+    let a : target.Stepped = answers t disk out in
+    let b : target.Stepped = answers a.machine a.disk more in
+    let e : answers t disk (out ++ more) ≡ then_stepped a b = answers_append t disk out more in
+    record {
+      heard = record {
+        open_ = open_joined t disk out more heard.open_ s.heard.open_;
+        rule = ap (λ (r : target.Stepped). r.rule) e ∙ rules_none a.rule b.rule heard.rule s.heard.rule;
+        answered = subst (λ (r : target.Stepped). AreWritten most here r.answers) (sym e) (written_append most here a.answers b.answers heard.answered
+            s.heard.answered);
+      };
+      kept = subst (λ (r : target.Stepped). P i r.machine r.disk (back ++ r.answers) (after_all there more) (after_all here r.answers) h) (sym e)
+          (subst (λ (x : List Message). P i b.machine b.disk x (after_all there more) (after_all here (a.answers ++ b.answers)) h)
+          (append_assoc back a.answers b.answers)
+          (subst (λ (l : Logins). P i b.machine b.disk ((back ++ a.answers) ++ b.answers) (after_all there more) l h)
+          (sym (after_all_append here a.answers b.answers)) s.kept));
+    }
+
+-- what holds where the target has heard the first of them
+record HasHeard (most : ℕ) (P : Relation) (i : initiator.Machine) (r : target.Stepped) (out back : List Message) (there here : Logins) (h : History)
+    : Type 0 where
+  rule : r.rule ≡ None
+  written : AreWritten most here r.answers
+  talks : Talks most P i r.machine r.disk out (back ++ r.answers) there (after_all here r.answers) h
+
+-- the target hears the first of them
+target_heard : (most : ℕ) (P : Relation) (i : initiator.Machine) (t : target.Machine) (disk : Disk) (new left back : List Message) (there here : Logins)
+    (h : History)
+    → Talks most P i t disk (new ++ left) back there here h → HasHeard most P i (answers t disk new) left back there here h
+target_heard most P i t disk new left back there here h s =
+    let a : target.Stepped = answers t disk new in
+    let b : target.Stepped = answers a.machine a.disk left in
+    let e : answers t disk (new ++ left) ≡ then_stepped a b = answers_append t disk new left in
+    let rule = rule_parts a.rule b.rule (ap (λ (r : target.Stepped). r.rule) (sym e) ∙ s.heard.rule) in
+    let written = written_parts most here a.answers b.answers (subst (λ (r : target.Stepped). AreWritten most here r.answers) e s.heard.answered) in
+    record {
+      rule = rule.0;
+      written = written.0;
+      talks = record {
+        heard = record { open_ = open_later t disk new left s.heard.open_; rule = rule.1; answered = written.1 };
+        kept = subst (λ (l : Logins). P i b.machine b.disk ((back ++ a.answers) ++ b.answers) there l h) (after_all_append here a.answers b.answers)
+            (subst (λ (x : List Message). P i b.machine b.disk x there (after_all here (a.answers ++ b.answers)) h)
+            (sym (append_assoc back a.answers b.answers))
+            (subst (λ (r : target.Stepped). P i r.machine r.disk (back ++ r.answers) there (after_all here r.answers) h) e s.kept));
+      };
+    }
+
+-- to an initiator whose session is over nothing comes
+none_comes : (most_out most : ℕ) (P : Relation) → IsKept most_out most P
+    → (i : initiator.Machine) (t : target.Machine) (disk : Disk) (back : List Message) (there here : Logins) (h : History)
+    → P i t disk back there here h → is_closed i ≡ true → back ≡ []
+none_comes most_out most P k i t disk [] there here h p over = refl
+none_comes most_out most P k i t disk (m ∷ back) there here h p over = absurd (apart over (k.hears i t disk m back there here h p).live)
+
+-- nothing is on its way to an initiator whose session is over, nor will be
+pub over_none : (most_out most : ℕ) (P : Relation) → IsKept most_out most P
+    → (i : initiator.Machine) (t : target.Machine) (disk : Disk) (out back : List Message) (there here : Logins) (h : History)
+    → Talks most P i t disk out back there here h → is_closed i ≡ true → back ≡ []
+over_none most_out most P k i t disk out back there here h s over =
+    let a : target.Stepped = answers t disk out in
+    (both_none back a.answers (none_comes most_out most P k i a.machine a.disk (back ++ a.answers) there (after_all here a.answers) h s.kept over)).0
+
+-- what holds where the initiator has heard some of them
+pub record HearsOn (most_out most : ℕ) (P : Relation) (r : initiator_steps.Stepped) (t : target.Machine) (disk : Disk) (out left : List Message)
+    (there here : Logins) (h : History) : Type 0 where
+  pub fault : r.fault ≡ None
+  pub written : AreWritten most_out there r.output
+  pub talks : Talks most P r.machine t disk (out ++ r.output) left (after_all there r.output) here h
+
+-- one message more in front, by whether it closes the session
+hears_if : (over : Bool) (most_out most : ℕ) (P : Relation) → IsKept most_out most P
+    → (i : initiator.Machine) (t : target.Machine) (disk : Disk) (out : List Message) (m : Message) (new left : List Message) (there here : Logins)
+    (h : History)
+    → is_closed (step i m).machine ≡ over → (step i m).fault ≡ None → AreWritten most_out there (step i m).output
+    → Talks most P (step i m).machine t disk (out ++ (step i m).output) (new ++ left) (after_all there (step i m).output) here h
+    → HearsOn most_out most P (steps (step i m).machine new) t disk (out ++ (step i m).output) left (after_all there (step i m).output) here h
+    → HearsOn most_out most P (steps i (m ∷ new)) t disk out left there here h
+unfolding steps
+hears_if true most_out most P k i t disk out m new left there here h is fault written one r =
+    let none : new ++ left ≡ [] = over_none most_out most P k (step i m).machine t disk (out ++ (step i m).output) (new ++ left)
+    (after_all there (step i m).output) here h one is in
+    rw is (record {
+      fault = fault;
+      written = written;
+      talks = subst (λ (x : List Message). Talks most P (step i m).machine t disk (out ++ (step i m).output) x (after_all there (step i m).output) here h)
+          (none ∙ sym (both_none new left none).1) one;
+    })
+hears_if false most_out most P k i t disk out m new left there here h is fault written one r =
+    let first : List Message = (step i m).output in
+    let s : initiator_steps.Stepped = steps (step i m).machine new in
+    rw is (record {
+      fault = r.fault;
+      written = written_append most_out there first s.output written r.written;
+      talks = subst (λ (x : List Message). Talks most P s.machine t disk x left (after_all there (first ++ s.output)) here h) (append_assoc out first s.output)
+          (subst (λ (l : Logins). Talks most P s.machine t disk ((out ++ first) ++ s.output) left l here h) (sym (after_all_append there first s.output))
+          r.talks);
+    })
+
+-- the initiator hears the first of them
+pub initiator_heard : (most_out most : ℕ) (P : Relation) → IsKept most_out most P
+    → (i : initiator.Machine) (t : target.Machine) (disk : Disk) (out new left : List Message) (there here : Logins) (h : History)
+    → Talks most P i t disk out (new ++ left) there here h → HearsOn most_out most P (steps i new) t disk out left there here h
+unfolding steps
+initiator_heard most_out most P k i t disk out [] left there here h s =
+    record { fault = refl; written = tt; talks = subst (λ (x : List Message). Talks most P i t disk x left there here h) (sym (append-nil out)) s }
+initiator_heard most_out most P k i t disk out (m ∷ new) left there here h s =
+    let a : target.Stepped = answers t disk out in
+    let g : Goes most_out most P i a.machine a.disk m ((new ++ left) ++ a.answers) there (after_all here a.answers) h =
+    k.hears i a.machine a.disk m ((new ++ left) ++ a.answers) there (after_all here a.answers) h s.kept in
+    let one : Talks most P (step i m).machine t disk (out ++ (step i m).output) (new ++ left) (after_all there (step i m).output) here h =
+    talk_on most_out most P (step i m).machine t disk out (step i m).output (new ++ left) there here h s.heard g.sends in
+    hears_if (is_closed (step i m).machine) most_out most P k i t disk out m new left there here h refl g.fault g.sends.written one
+    (initiator_heard most_out most P k (step i m).machine t disk (out ++ (step i m).output) new left (after_all there (step i m).output) here h one)
+
+-- ---- worlds
+
+-- how a world of a served run stands
+pub record Stands (c : Opening) (P : Relation) (h : History) (w : World) : Type 0 where
+  pub target_well : w.target_fault ≡ None
+  pub initiator_well : w.initiator_fault ≡ None
+  -- the target's session, its writes in the pieces that came
+  pub session : target.Machine
+  pub disk : Disk
+  -- what the target has yet to hear, and the initiator
+  pub out : List Message
+  pub back : List Message
+  -- what the login PDUs said, those included that are on their way
+  pub there : Logins
+  pub here : Logins
+  pub machine : w.target.machine ≡ joined session
+  pub disk_is : disk_of w.blocks ≡ disk
+  pub to_target : Way (target_machine.is_closed session) (target_session.limit c.target) w.target.framing w.to_target out there
+  pub to_initiator : Way (is_closed w.initiator.machine) (calls.limit c.initiator) w.initiator.framing w.to_initiator back here
+  pub heard : HearsWell (calls.limit c.initiator) session disk here out
+  pub kept : P w.initiator.machine (answers session disk out).machine (answers session disk out).disk (back ++ (answers session disk out).answers) there
+      (after_all here (answers session disk out).answers) h
+
+-- the relation is kept between such ends
+abbrev pub Keeps : Opening → Relation → Type 1
+Keeps c P = IsKept (target_session.limit c.target) (calls.limit c.initiator) P
+
+-- what both ends keep in such a world
+pub talks_of : (c : Opening) (P : Relation) (h : History) (w : World) → (s : Stands c P h w)
+    → Talks (calls.limit c.initiator) P w.initiator.machine s.session s.disk s.out s.back s.there s.here h
+talks_of c P h w s = record { heard = s.heard; kept = s.kept }
+
+-- all bytes that moved were read
+pub no_bytes : (n : ℕ) (moved behind : List ℕ) → n ≡ length moved → drop n moved ++ behind ≡ behind
+no_bytes n moved behind e = ap (λ (i : ℕ). drop i moved ++ behind) e ∙ ap (λ (x : List ℕ). x ++ behind) (drop-length moved)
+
+-- the bytes that moved stood at the front
+pub front_moves : (k n : ℕ) (queue moved : List ℕ) → moved ≡ take k queue → queue ≡ take n moved ++ (drop n moved ++ drop (length moved) queue)
+front_moves k n queue moved e =
+    sym (take-append-drop k queue)
+    ∙ ap (λ (x : List ℕ). take k queue ++ x) (sym (ap (λ (i : ℕ). drop i queue) (ap length e ∙ length-take k queue) ∙ drop_min k queue))
+    ∙ ap (λ (x : List ℕ). x ++ drop (length moved) queue) (sym e ∙ sym (take-append-drop n moved))
+    ∙ append_assoc (take n moved) (drop n moved) (drop (length moved) queue)
+
+-- of an empty queue nothing moves
+pub some_moves : (k : ℕ) (queue moved : List ℕ) → moved ≡ take k queue → queue ≡ [] → moved ≡ []
+some_moves k queue moved e none = nil_from_length moved (let n = ap length e in let m = length-take k queue in let l = ap length none in omega (arith, n, m, l))
+
+-- ---- bytes reach the target
+
+-- what a call of the target read, and how the rest stands
+record TargetTurn (c : Opening) (P : Relation) (h : History) (old : World) (v : Framing) (unheard more : List ℕ) (r : target.Stepped) : Type 0 where
+  now : target.Stepped
+  same : joined_stepped r ≡ joined_stepped now
+  rule : now.rule ≡ None
+  left : List Message
+  back : List Message
+  there : Logins
+  here : Logins
+  talks : Talks (calls.limit c.initiator) P old.initiator.machine now.machine now.disk left back there here h
+  unread : Unread (target_session.limit c.target) v (unheard ++ more) left there
+  none : left ≡ [] → unheard ++ more ≡ []
+  refuses : (fault : StreamFault) → fault ≢ stream.NoMemory → FeedFails v unheard fault → ⊥
+  to_initiator : Way (is_closed old.initiator.machine) (calls.limit c.initiator) old.initiator.framing (old.to_initiator ++ canon now.answers) back here
+
+-- a call of the target is such a turn
+target_turn : (c : Opening) (P : Relation) (h : History) (old new : World) (k : ℕ) (moved : List ℕ) (result : Result Phase TargetFault) → Keeps c P
+    → (s : Stands c P h old)
+    → Unread (target_session.limit c.target) old.target.framing old.to_target s.out s.there → moved ≡ take k old.to_target
+    → (f : target_calls.Feeds old.target (store_of old.blocks) old.to_initiator moved result new.target (store_of new.blocks) new.to_initiator)
+    → TargetTurn c P h old f.framing (drop f.count moved) (drop (length moved) old.to_target) f.stepped
+target_turn c P h old new k moved result kept s u m f =
+    let a : target.Stepped = answers s.session s.disk f.messages in
+    let piece : List ℕ = take f.count moved in
+    let more : List ℕ = drop f.count moved ++ drop (length moved) old.to_target in
+    let q : old.to_target ≡ piece ++ more = front_moves k f.count old.to_target moved m in
+    let t : HasTaken (u.stream ++ piece) (u.heard ++ f.messages) f.framing = f.answered.taken u.stream u.heard u.taken in
+    let bound : f.framing.limit ≡ target_session.limit c.target = f.answered.limit ∙ u.limit_is in
+    let on : MovesOn (target_session.limit c.target) u.heard s.out f.messages t.rest more =
+    moves_on (target_session.limit c.target) old.target.framing old.to_target s.out s.there piece more f.messages f.framing u q t bound in
+    let talks : Talks (calls.limit c.initiator) P old.initiator.machine s.session s.disk (f.messages ++ on.left) s.back s.there s.here h =
+    subst (λ (x : List Message). Talks (calls.limit c.initiator) P old.initiator.machine s.session s.disk x s.back s.there s.here h) on.whole
+    (talks_of c P h old s) in
+    let has : HasHeard (calls.limit c.initiator) P old.initiator.machine a on.left s.back s.there s.here h =
+    target_heard (calls.limit c.initiator) P old.initiator.machine s.session s.disk f.messages on.left s.back s.there s.here h talks in
+    record {
+      now = a;
+      same = ap joined_stepped (f.answered.works refl) ∙ ap (λ (x : target.Machine). joined_stepped (answers x (disk_of old.blocks) f.messages)) s.machine
+          ∙ ap (λ (d : Disk). joined_stepped (answers (joined s.session) d f.messages)) s.disk_is ∙ answers_joined s.session s.disk f.messages;
+      rule = has.rule;
+      left = on.left;
+      back = s.back ++ a.answers;
+      there = s.there;
+      here = after_all s.here a.answers;
+      talks = has.talks;
+      unread = still_unread (target_session.limit c.target) old.target.framing old.to_target s.out s.there piece more f.messages on.left f.framing u q t bound
+          f.answered.ready on.whole;
+      none = none_more (target_session.limit c.target) u.heard s.out f.messages t.rest more on;
+      refuses = λ fault some fails. refuses_nothing fault f.framing (u.stream ++ piece) (u.heard ++ f.messages) (drop f.count moved) (t.rest ++ more)
+          (drop (length moved) old.to_target)
+          (after_all no_login (u.heard ++ f.messages)) on.left t some fails refl
+          (subst (λ (n : ℕ). ReadsAs n (after_all no_login (u.heard ++ f.messages)) (t.rest ++ more) on.left) (sym bound) on.reads);
+      to_initiator = way_sends (is_closed old.initiator.machine) (calls.limit c.initiator) old.initiator.framing old.to_initiator s.back s.here a.answers
+          s.to_initiator has.written
+          (λ over. (both_none s.back a.answers (over_none (target_session.limit c.target) (calls.limit c.initiator) P kept old.initiator.machine a.machine
+          a.disk on.left (s.back ++ a.answers) s.there (after_all s.here a.answers) h
+          has.talks over)).1);
+    }
+
+-- the target's session is where its turn has led
+target_stands : (c : Opening) (P : Relation) (h : History) (old new : World) (v : Framing) (unheard more : List ℕ) (r : target.Stepped)
+    → (t : TargetTurn c P h old v unheard more r)
+    → new.target_fault ≡ None → new.initiator_fault ≡ None → new.target.machine ≡ joined r.machine → disk_of new.blocks ≡ r.disk → new.initiator ≡ old.initiator
+    → new.to_initiator ≡ old.to_initiator ++ canon r.answers
+    → Way (target_machine.is_closed t.now.machine) (target_session.limit c.target) new.target.framing new.to_target t.left t.there → Stands c P h new
+target_stands c P h old new v unheard more r t well other machine disk initiator_ output way = record {
+  target_well = well;
+  initiator_well = other;
+  session = t.now.machine;
+  disk = t.now.disk;
+  out = t.left;
+  back = t.back;
+  there = t.there;
+  here = t.here;
+  machine = machine ∙ ap (λ (x : target.Stepped). x.machine) t.same;
+  disk_is = disk ∙ ap (λ (x : target.Stepped). x.disk) t.same;
+  to_target = way;
+  to_initiator = subst (λ (i : calls.Connection). Way (is_closed i.machine) (calls.limit c.initiator) i.framing new.to_initiator t.back t.here) (sym initiator_)
+      (subst (λ (x : List ℕ). Way (is_closed old.initiator.machine) (calls.limit c.initiator) old.initiator.framing x t.back t.here)
+      (ap (λ (x : target.Stepped). old.to_initiator ++ canon x.answers) (sym t.same) ∙ sym output) t.to_initiator);
+  heard = t.talks.heard;
+  kept = subst (λ (i : calls.Connection). P i.machine (answers t.now.machine t.now.disk t.left).machine (answers t.now.machine t.now.disk t.left).disk
+      (t.back ++ (answers t.now.machine t.now.disk t.left).answers) t.there (after_all t.here (answers t.now.machine t.now.disk t.left).answers) h)
+      (sym initiator_) t.talks.kept;
+}
+
+-- however the call ends
+target_ends : (result : Result Phase TargetFault) (c : Opening) (P : Relation) (h : History) (old new : World) (v : Framing) (n : ℕ) (moved more : List ℕ)
+    (r : target.Stepped)
+    → TargetTurn c P h old v (drop n moved) more r → target_calls.Ends moved result v n r new.target
+    → new.target_fault ≡ result_err result → target_ran_out new.target_fault ≡ false → new.initiator_fault ≡ None → disk_of new.blocks ≡ r.disk
+    → new.initiator ≡ old.initiator
+    → new.to_initiator ≡ old.to_initiator ++ canon r.answers → new.to_target ≡ more → Stands c P h new
+target_ends (Ok phase) c P h old new v n moved more r t e fault memory other disk initiator_ output dropped =
+    target_stands c P h old new v (drop n moved) more r t fault other e.1 disk initiator_ output
+    (elim e.3 [
+      | inl closes ↦
+          (let over : target_machine.is_closed t.now.machine ≡ true = sym (ap (λ (x : target.Stepped). target_machine.is_closed x.machine) t.same) ∙ closes in
+          let left : t.left ≡ [] = open_none t.now.machine t.now.disk t.left t.talks.heard.open_ over in
+          inr (over, dropped ∙ (both_none (drop n moved) more (t.none left)).1, left))
+      | inr on ↦
+          inl (
+            sym (ap (λ (x : target.Stepped). target_machine.is_closed x.machine) t.same) ∙ on.live,
+            subst (λ (x : Framing). Unread (target_session.limit c.target) x new.to_target t.left t.there) (sym on.framing_is)
+                (subst (λ (x : List ℕ). Unread (target_session.limit c.target) v x t.left t.there) (no_bytes n moved more on.all ∙ sym dropped) t.unread),
+          )
+    ])
+target_ends (Err target_faults.NoMemory) c P h old new v n moved more r t e fault memory other disk initiator_ output dropped =
+    absurd (apart (ap target_ran_out fault) memory)
+target_ends (Err (target_faults.Stream f)) c P h old new v n moved more r t e fault memory other disk initiator_ output dropped = absurd (t.refuses f e.1 e.2)
+target_ends (Err (target_faults.Protocol rule)) c P h old new v n moved more r t e fault memory other disk initiator_ output dropped =
+    absurd (let bad : None ≡ Some rule = sym t.rule ∙ sym (ap (λ (x : target.Stepped). x.rule) t.same) ∙ e.0 in cc)
+target_ends (Err target_faults.Closed) c P h old new v n moved more r t e fault memory other disk initiator_ output dropped = absurd e
+
+-- bytes reached the target
+target_hears : (c : Opening) (P : Relation) (h : History) (old new : World) (k : ℕ) (byte : ℕ) (bytes : List ℕ) → Keeps c P → Stands c P h old
+    → byte ∷ bytes ≡ take k old.to_target
+    → TargetHears (byte ∷ bytes) old new → target_ran_out new.target_fault ≡ false → Stands c P h new
+target_hears c P h old new k byte bytes kept s m e memory =
+    elim s.to_target [
+      | inl on ↦
+          (let f : target_calls.Feeds old.target (store_of old.blocks) old.to_initiator (byte ∷ bytes) e.result new.target (store_of new.blocks)
+          new.to_initiator =
+          subst (λ (b : Bool). target_calls.FedIf b old.target (store_of old.blocks) old.to_initiator (byte ∷ bytes) e.result new.target (store_of new.blocks)
+          new.to_initiator)
+          (ap target_machine.is_closed s.machine ∙ on.0) e.fed in
+          let stood : target_calls.Stands old.to_initiator f.stepped f.answered.failures (store_of new.blocks) new.to_initiator =
+          stands old.to_initiator f.framing (drop f.count (byte ∷ bytes)) f.stepped f.answered.failures e.result new.target.machine (store_of new.blocks)
+          new.to_initiator
+          (λ short. apart (ap target_ran_out (e.fault ∙ ap result_err short)) memory) f.leaves in
+          target_ends e.result c P h old new f.framing f.count (byte ∷ bytes) (drop (length (byte ∷ bytes)) old.to_target) f.stepped
+          (target_turn c P h old new k (byte ∷ bytes) e.result kept s on.1 m f) f.ends e.fault memory (e.other_fault ∙ s.initiator_well) stood.disk e.initiator
+          stood.output_is e.dropped)
+      | inr over ↦ absurd (let none : byte ∷ bytes ≡ [] = some_moves k old.to_target (byte ∷ bytes) m over.1 in cc)
+    ]
+
+-- bytes moved to the target
+pub to_target : (fault : Option TargetFault) (moved : List ℕ) (c : Opening) (P : Relation) (h : History) (old new : World) (k : ℕ) → Keeps c P
+    → Stands c P h old → fault ≡ None → moved ≡ take k old.to_target
+    → MovesToTarget fault moved old new → target_ran_out new.target_fault ≡ false → Stands c P h new
+to_target fault [] c P h old new k kept s none m e memory = subst (Stands c P h) (sym e) s
+to_target None (byte ∷ bytes) c P h old new k kept s none m e memory = target_hears c P h old new k byte bytes kept s m e memory
+to_target (Some fault) (byte ∷ bytes) c P h old new k kept s none m e memory = absurd (cc none)

@@ -1,0 +1,265 @@
+#!/usr/bin/env python3
+"""Holds documents and wrong bodies against the tree, in a second. It proves nothing and is no part of the gate.
+
+    tools/check_docs/check_docs.py
+
+It looks at:
+- links of all pages: the file is there, and has the heading;
+- files that pages name between backquotes: they are there, below the top, crates/, the page's folder or some crate;
+- Rust between fences: it stands so in a file of crates/;
+- each row of docs/THEOREMS.md: the call stands in a file of its row, and a call of the row has each clause;
+- the tables of docs/FORMATS.md: the fields of each kind of PDU against specs/Fields.antt, specs/Meaning.antt and the
+  words of `show`; the text keys against both specs/Key.antt;
+- wrong bodies, in the gate and beside it: each old text stands in its file once.
+
+Each fault is a line. The last line is 'N looked at, M not so'; the status is 1 where M is not 0.
+"""
+import re
+import sys
+from pathlib import Path
+
+TOP = Path(__file__).resolve().parents[2]
+CRATES = TOP / "crates"
+# Names that stand for others: crates/NAME/src/THING.rt.
+PLACEHOLDER = re.compile(r"\b(NAME|KIND|THING|MODULE|TYPE|CRATE|NN|F)\b")
+# Pages of the toolchain, which `rt doc` leads to.
+TOOLCHAIN = {"FIRST_PROOFS.md", "CONTRACTS.md", "GUIDELINES.md", "CONTRACT_STYLE.md"}
+
+looked_at = 0
+faults = []
+
+
+def look(holds, where, what):
+    global looked_at
+    looked_at += 1
+    if not holds:
+        faults.append(f"{where}: {what}")
+
+
+def read(path):
+    return (TOP / path).read_text(encoding="utf8")
+
+
+def without_code(text):
+    return re.sub(r"```.*?```", lambda m: "\n" * m.group(0).count("\n"), text, flags=re.S)
+
+
+def cells_of(line):
+    return [cell.strip() for cell in line.strip().strip("|").split("|")]
+
+
+def is_row(line):
+    return line.startswith("|") and not set(line) <= set("|- :")
+
+
+# ---- links and files
+
+def anchors(page):
+    headings = re.findall(r"^#+ (.*)$", without_code(page.read_text(encoding="utf8")), re.M)
+    plain = (re.sub(r"[^\w\- ]", "", re.sub(r"[`*]", "", h).strip().lower()) for h in headings)
+    return {h.replace(" ", "-") for h in plain}
+
+
+def check_page(page):
+    for number, line in enumerate(without_code(page.read_text(encoding="utf8")).split("\n"), 1):
+        where = f"{page.relative_to(TOP)}:{number}"
+        for link in re.findall(r"\]\(([^)\s]+)\)", line):
+            if link.startswith("http"):
+                continue
+            path, _, anchor = link.partition("#")
+            target = page.parent / path if path else page
+            look(target.exists(), where, f"no file {path}")
+            if anchor and target.is_file():
+                look(anchor in anchors(target), where, f"no heading {link}")
+        for name in re.findall(r"`([\w./\-]+)`", line):
+            is_file = re.search(r"\.(rt|antt|md|py|c)$", name)
+            if is_file and not PLACEHOLDER.search(name) and name not in TOOLCHAIN:
+                look(file_is_there(page, name), where, f"no file {name}")
+
+
+def file_is_there(page, name):
+    if any((folder / name).exists() for folder in (TOP, CRATES, page.parent)):
+        return True
+    return any(True for _ in CRATES.glob(f"*/{name}")) or any(True for _ in CRATES.glob(f"*/*/**/{name}"))
+
+
+def check_snippets(pages):
+    code = "\n".join(squeezed(path.read_text(encoding="utf8")) for path in sorted(CRATES.glob("*/src/**/*.rt")))
+    for page in pages:
+        for snippet in re.findall(r"^```rust\n(.*?)^```", page.read_text(encoding="utf8"), re.M | re.S):
+            look(squeezed(snippet) in code, page.relative_to(TOP), f"no code {snippet.split(chr(10))[0]}")
+
+
+def squeezed(text):
+    return " ".join(text.split())
+
+
+# ---- claims
+
+def contracts(text, function):
+    """The text from each function of this name to its body."""
+    for start in re.finditer(rf"\bfn {function}\b", text):
+        rest = text[start.end():]
+        body = re.search(r"\n\s*\{\s*(\n|\})", rest)
+        yield rest[:body.start()] if body else rest
+
+
+def check_claims():
+    for number, line in enumerate(read("docs/THEOREMS.md").split("\n"), 1):
+        cells = cells_of(line)
+        if not is_row(line) or len(cells) < 4 or cells[2].startswith("File"):
+            continue
+        where = f"docs/THEOREMS.md:{number}"
+        files = re.findall(r"`([\w/]+\.rt)`", cells[2])
+        for file in files:
+            look((CRATES / file).is_file(), where, f"no file {file}")
+        text = "\n".join(read(CRATES / f) for f in files if (CRATES / f).is_file())
+        calls = [c.split("::")[-1] for c in re.findall(r"`([\w:]+)`", cells[1])]
+        found = []
+        for call in calls:
+            if call == "laws":
+                found.append(text)
+            elif not call.startswith("iscsi_"):
+                here = list(contracts(text, call))
+                named = here or re.search(rf"\b(struct|enum|trait) {call}\b", text)
+                look(named, where, f"no {call} in {', '.join(files)}")
+                found += here
+        for clause in re.findall(r"`([a-z_]+)`", re.split(r", with|, over|; of", cells[3])[0]):
+            look(re.search(rf"ensures\*? {clause} ", "\n".join(found)), where, f"no clause {clause}")
+
+
+# ---- tables of FORMATS
+
+def documented_kinds():
+    """For each kind: its opcode, its name in `show`, and its rows: field, place, condition, name."""
+    kinds = {}
+    for section in re.split(r"^### ", read("docs/FORMATS.md"), flags=re.M):
+        head = re.search(r"^Opcode (\w\w), .*Code: `\w+` in `iscsi_pdu/src/head/(\w+)\.rt`\. `show` prints `([^`]+)`", section, re.M)
+        if head:
+            rows = [cells_of(line) for line in section.split("\n") if line.startswith("| `")]
+            kinds[head.group(2)] = (int(head.group(1), 16), head.group(3),
+                                    [(r[0].strip("`"), r[1], r[2], r[3].strip("`")) for r in rows])
+    return kinds
+
+
+def defined_rows(text, kind):
+    """The rows of a kind in specs/Fields.antt: field, place, condition."""
+    body = re.search(rf"^{kind} h =\n(.*?)\n\n", text + "\n\n", re.M | re.S).group(1)
+    for word, first, second, value in re.findall(r"(bit|bits|bytes|raw) (\w+) (\w+) (\(.*\))(?=\n|$)", body):
+        field = re.search(r"h\.(\w+)\)+$", value).group(1)
+        if word in ("bit", "bits"):
+            place = f"{first}:{int(second, 16):02x}"
+        else:
+            place = first if first == second else f"{first}-{second}"
+        condition = re.match(r"\(only_if (.*) h\.\w+\)$", value)
+        yield field, place, in_words(condition.group(1)) if condition else ""
+
+
+def in_words(condition):
+    """A condition of specs/Fields.antt as FORMATS writes it."""
+    words = re.sub(r"^\((.*)\)$", r"\1", condition)
+    words = re.sub(r"^is_tag (h\.\w+)$", r"\1 is not ffffffff", words)
+    words = re.sub(r"^not \((h\.\w+) == (\w+)\)$", r"\1 is not \2", words)
+    words = re.sub(r"^(h\.\w+) == (\w+) \|\| \1 == (\w+)$", r"\1 is \2 or \3", words)
+    words = re.sub(r"^(h\.\w+) == (\w+)$", r"\1 is \2", words)
+    return re.sub(r"h\.(\w+)", r"`\1`", words.replace("||", "or"))
+
+
+def shown_words(text, kind):
+    """The fields of a kind in the code of `show`, in their order: field, name."""
+    body = re.search(rf"^fn {kind}\(.*?^\}}", text, re.M | re.S).group(0)
+    for call, words in re.findall(r"^    (\w+)\(out, (.*?)\)[?]?;?$", body, re.M):
+        fields = re.findall(r"h\.(\w+)", words)
+        name = re.match(r'"(\w+)"', words)
+        if call == "window":
+            yield from zip(fields, ("expcmdsn", "maxcmdsn"))
+        else:
+            yield fields[0], name.group(1) if name else "lun"
+
+
+def camel(kind):
+    return "".join(word.capitalize() for word in kind.split("_"))
+
+
+def check_kinds():
+    fields, meaning = read("crates/iscsi_pdu/specs/Fields.antt"), read("crates/iscsi_pdu/specs/Meaning.antt")
+    show = read("crates/iscsi_stream/src/lines/fields.rt")
+    kinds = documented_kinds()
+    look(len(kinds) == 17, "docs/FORMATS.md", f"{len(kinds)} kinds of PDU")
+    for kind, (opcode, name, rows) in kinds.items():
+        where = f"docs/FORMATS.md, {name}"
+        look(f"opcode ({camel(kind)} h) = 0x{opcode:02x}" in meaning, where, f"opcode {opcode:02x} is not that of specs/Meaning")
+        look(f'Head::{camel(kind)}(_) => "{name}"' in show, where, f"`show` does not print {name}")
+        # a command's block, bytes 32 to 47, has a table of its own
+        due = [row[:3] for row in rows if row[0] != "cdb"]
+        look(due == list(defined_rows(fields, kind)), where, "the rows are not those of specs/Fields")
+        look([(r[0], r[3]) for r in rows] == list(shown_words(show, kind)), where, "the names are not those of `show`")
+
+
+def check_keys():
+    text, table = read("crates/iscsi_text/specs/Key.antt"), read("crates/iscsi_login/specs/Key.antt")
+    types = {}
+    for word, of in (("number_keys", "Number"), ("boolean_keys", "Boolean"), ("items_keys", "Items"), ("plain_keys", "Plain")):
+        body = re.search(rf"^{word} = (.*?)\n\n", text + "\n\n", re.M | re.S).group(1)
+        types |= {key: of for key in re.findall(r'codes "(\w+)"', body)}
+        if "target_address" in body:
+            types["TargetAddress"] = of
+    section = re.search(r"^## 8\. .*?^## 9\. ", read("docs/FORMATS.md"), re.M | re.S).group(0)
+    rows = [cells_of(line) for line in section.split("\n") if line.startswith("| `")]
+    named = [(key, row) for row in rows for key in re.findall(r"`(\w+)`", row[0])]
+    look(sorted(key for key, _ in named) == sorted(types), "docs/FORMATS.md, keys", "not the known keys of iscsi_text")
+    results = {"minimum": "Minimum", "maximum": "Maximum", "OR": "Or", "AND": "And", "first common item": "NoneItem"}
+    values = {"Yes": "answers.Flag true", "None": "answers.NoneItem"}
+    for key, (first, kind, result, span, default) in named:
+        where = f"docs/FORMATS.md, {key}"
+        look(types.get(key) == kind, where, f"its type is {types.get(key)}")
+        row = re.search(rf'^row keys\.{key} = line \(codes "{key}"\) (.*)$', table, re.M)
+        look((row is not None) == (result in results), where, "negotiated here or there alone")
+        if row and result in results:
+            rule = results[result]
+            if span:
+                rule = f"({rule} (between {span.replace('..', ' ')}))"
+            held = values.get(default.split(" ")[0], f"answers.Number {default}")
+            held = held if held == "answers.NoneItem" else f"({held})"
+            due = f"{rule} {held} {'true' if first.endswith('*') else 'false'}"
+            look(row.group(1) == due, where, f"specs/Key says {row.group(1)}")
+
+
+# ---- wrong bodies
+
+def check_edits():
+    for folder in ("crates/*/must-fail", "tools/wrong_bodies/*"):
+        for edit in sorted(TOP.glob(f"{folder}/*.edit")):
+            crate = edit.parent.parent.name if "crates" in folder else edit.parent.name
+            texts, where = {}, edit.relative_to(TOP)
+            for word, rest in re.findall(r"^(file|old|new): (.*)$", edit.read_text(encoding="utf8"), re.M):
+                if word == "file":
+                    path = CRATES / crate / rest
+                    look(path.is_file(), where, f"no file {rest}")
+                    texts.setdefault(path, path.read_text(encoding="utf8") if path.is_file() else "")
+                elif word == "old":
+                    old = rest
+                    look(texts[path].count(old) == 1, where, f"stands {texts[path].count(old)} times: {old.strip()}")
+                else:
+                    texts[path] = texts[path].replace(old, rest)
+
+
+def main():
+    pages = [TOP / "README.md", TOP / "CONTRIBUTING.md"]
+    for pattern in ("docs/**/*.md", "crates/*/README.md", "crates/*/proofs/README.md", "tools/**/*.md"):
+        pages += sorted(TOP.glob(pattern))
+    for page in pages:
+        check_page(page)
+    check_snippets(pages)
+    check_claims()
+    check_kinds()
+    check_keys()
+    check_edits()
+    for fault in faults:
+        print(fault)
+    print(f"{looked_at} looked at, {len(faults)} not so")
+    sys.exit(1 if faults else 0)
+
+
+if __name__ == "__main__":
+    main()
