@@ -55,9 +55,9 @@ impl<W: Write> Write for HexWriter<W> {
         if self.is_cut {
             return Ok(0);
         }
-        let (n, is_cut) = write_digits(&mut self.inner, buf)?;
+        let (written, is_cut) = write_digits(&mut self.inner, buf)?;
         self.is_cut = is_cut;
-        Ok(n)
+        Ok(written)
     }
 
     fn flush(&mut self) -> io::Result<()> {
