@@ -1,5 +1,6 @@
 -- What `answer` writes for what it has read (RFC 7143, sections 6 and 11; own rule).
-use Rattle.std.specs.Prelude.{◌≡◌, ℕ, List, Result, Ok, Err}
+use Rattle.std.specs.Prelude.{◌≡◌, ◌⊎◌, ℕ, Bool, false, List, [], ◌∷◌, ◌++◌, Some, Result, Ok, Err, OnOk}
+use Rattle.hex.specs.Hex.{encode_lower}
 use Rattle.scsi_disk.specs.Disk.{Disk, zeros}
 use Rattle.iscsi_stream.specs.declared.fault.ToolFault.{ToolFault}
 use Rattle.iscsi_stream.specs.declared.fault.ToolFault.TheVariants as tool
@@ -10,7 +11,8 @@ use Rattle.iscsi_target.specs.State.{opening}
 use Rattle.iscsi_target.specs.Machine.{answers}
 use Rattle.iscsi_service.specs.declared.session.SessionFault.{SessionFault}
 use Rattle.iscsi_service.specs.declared.session.SessionFault.TheVariants as session
-use Rattle.iscsi_service.specs.Session.{target_settings, ServesFirst, EndsBy}
+use Rattle.iscsi_service.specs.Session.{target_settings, ServesFirst, EndsBy, EndsWell}
+use Rattle.iscsi_tool.specs.HexText.{BytesOf, IsNotHex}
 
 -- The fault of a filter for that of its session (own rule).
 abbrev pub filter_fault : SessionFault → ToolFault
@@ -50,3 +52,46 @@ AnswersBytes blocks (Err tool.Write) read written = Unit {0}
 AnswersBytes blocks (Err (tool.Text fault)) read written = ⊥
 AnswersBytes blocks (Err tool.TextTooLong) read written = ⊥
 AnswersBytes blocks (Err tool.NotHex) read written = ⊥
+
+-- ---- hex text
+
+-- The line end that is due behind the digits of answers: where the session ended, well or by a fault
+-- of its own (own rule).
+abbrev pub line_end : Result (Unit {0}) ToolFault → List ℕ
+line_end (Ok done) = 0x0a ∷ []
+line_end (Err (tool.Stream fault)) = 0x0a ∷ []
+line_end (Err (tool.Protocol rule)) = 0x0a ∷ []
+line_end (Err fault) = []
+
+-- The target has taken a front of these bytes; its answers are written as lower hex, with the line
+-- end that is due (own rule).
+pub record SpellsAnswers (blocks : ℕ) (outcome : Result (Unit {0}) ToolFault) (bytes written : List ℕ)
+    : Type 0 where
+  pub taken : List ℕ
+  pub rest : List ℕ
+  pub whole : bytes ≡ taken ++ rest
+  pub answered : List ℕ
+  pub answers : AnswersBytes blocks outcome taken answered
+  pub ends : OnOk outcome (EndsWell target_settings (zeros blocks) (Some bytes) (Some rest))
+  pub spelled : written ≡ encode_lower answered ++ line_end outcome
+
+-- The answers to the bytes that hex text means are written so (own rule).
+abbrev pub AnswersText : ℕ → Result (Unit {0}) ToolFault → List ℕ → List ℕ → Type 0
+AnswersText blocks outcome read written =
+    (bytes : List ℕ) × BytesOf read bytes × SpellsAnswers blocks outcome bytes written
+
+-- What is written where answering hex text ends: nothing where the text is not hex, or could not be
+-- read; where a write failed, nothing is said of it (own rule).
+abbrev pub AnswersHex : ℕ → Result (Unit {0}) ToolFault → List ℕ → List ℕ → Type 0
+AnswersHex blocks (Err tool.NotHex) read written = IsNotHex read × (written ≡ [])
+AnswersHex blocks (Err tool.NoMemory) read written =
+    (written ≡ []) ⊎ AnswersText blocks (Err tool.NoMemory) read written
+AnswersHex blocks (Err tool.Read) read written =
+    (written ≡ []) ⊎ AnswersText blocks (Err tool.Read) read written
+AnswersHex blocks (Err tool.Write) read written = Unit {0}
+AnswersHex blocks outcome read written = AnswersText blocks outcome read written
+
+-- The last step behind answers: the line end that is due is written, or a write failed (own rule).
+abbrev pub Finishes : Result (Unit {0}) ToolFault → Bool → Result (Unit {0}) ToolFault → List ℕ → Type 0
+Finishes outcome is_cut result ending = (result ≡ Err tool.Write)
+    ⊎ ((is_cut ≡ false) × (result ≡ outcome) × (ending ≡ line_end outcome))

@@ -16,7 +16,7 @@ use Rattle.iscsi_tool.specs.declared.filter.Work.{Work}
 use Rattle.iscsi_tool.specs.declared.filter.Work.TheVariants.{Show, Normalise, Text, Answer}
 use Rattle.iscsi_tool.specs.declared.words.Job.{Job}
 use Rattle.iscsi_tool.specs.declared.words.Job.TheVariants as job
-use Rattle.iscsi_tool.specs.Answering.{AnswersBytes}
+use Rattle.iscsi_tool.specs.Answering.{AnswersBytes, AnswersHex}
 use Rattle.iscsi_tool.specs.HexText.{BytesOf, IsNotHex, hex_line}
 
 -- How a filter ends: done, or why not (own rule).
@@ -114,11 +114,11 @@ Reads (Answer blocks) false before after =
     EndsWell target_settings (zeros blocks) before after
 Reads _ _ before after = IsAtEnd after
 
--- What a work writes; of hex text the lines that Show writes, and answers, are not stated (own rule).
+-- What a work writes; the lines that Show writes of hex text are not stated (own rule).
 abbrev pub Does : Work → Bool → Outcome → List ℕ → List ℕ → Type 0
 Does Show true outcome read written = Unit {0}
 Does Show false outcome read written = ShowsBytes outcome read written
-Does (Answer blocks) true outcome read written = Unit {0}
+Does (Answer blocks) true outcome read written = AnswersHex blocks outcome read written
 Does (Answer blocks) false outcome read written = AnswersBytes blocks outcome read written
 Does Normalise true outcome read written = NormalisesHex false outcome read written
 Does Normalise false outcome read written = NormalisesBytes outcome read written

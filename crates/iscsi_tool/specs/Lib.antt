@@ -1,3 +1,4 @@
 pub mod HexText
+pub mod Spelling
 pub mod Answering
 pub mod Filtering

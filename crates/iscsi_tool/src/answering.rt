@@ -1,13 +1,17 @@
 //! The answers of a target to a stream.
 
-ghost use Rattle.std.specs.Prelude.{◌≡◌, ◌<◌, ◌≤◌, ℕ, List, OnOk};
-ghost use Rattle.std.specs.Io.KnownBytes.{Appends, Consumes};
+ghost use Rattle.std.specs.Prelude.{◌≡◌, ◌⊎◌, ◌<◌, ◌≤◌, ℕ, List, Err, OnOk};
+ghost use Rattle.std.specs.Io.KnownBytes.{Appends, Consumes, IsAtEnd};
+ghost use Rattle.hex.specs.Hex.{IsBytes};
 ghost use Rattle.scsi_disk.specs.Disk.{zeros, most_blocks};
+ghost use Rattle.iscsi_stream.specs.declared.fault.ToolFault.TheVariants as tool;
 ghost use Rattle.iscsi_service.specs.Session.{target_settings, EndsWell};
-ghost use Rattle.iscsi_tool.specs.Answering.{filter_fault, AnswersBytes};
+ghost use Rattle.iscsi_tool.specs.Answering.{filter_fault, AnswersBytes, AnswersHex, Finishes, SpellsAnswers};
 
+use crate::hex_text::read_bytes;
+use crate::hex_writer::{HexWriter, LentWriter};
 use iscsi_service::{SessionFault, configuration, serve_stream};
-use iscsi_stream::ToolFault;
+use iscsi_stream::{ToolFault, write_fully};
 use iscsi_target::TargetFault;
 use scsi_disk::SparseStore;
 use std::alloc::Global;
@@ -33,7 +37,7 @@ pub fn answer<R: Read, W: Write>(
     requires few { blocks ≤ most_blocks }
     ensures answers { (read : List ℕ) × (written : List ℕ)
         × Consumes (R.remaining r.old) (R.remaining r.new) read
-        × Appends (W.contents w.old) (W.contents w.new) written
+        × Appends (W.contents w.old) (W.contents w.new) written × IsBytes written
         × AnswersBytes blocks result read written }
     ensures end { OnOk result
         (EndsWell target_settings (zeros blocks) (R.remaining r.old) (R.remaining r.new)) }
@@ -44,6 +48,69 @@ pub fn answer<R: Read, W: Write>(
         Ok(()) => Ok(()),
         Err(fault) => Err(filter_fault(fault)),
     }
+}
+
+/// Writes the answers to a stream that comes as hex text, as `answer` does, in lower hex, as they
+/// come. The text is read to its end first.
+///
+/// A line end follows them where `answer` answers `Ok`, `Stream` or `Protocol`. After `NotHex`, and
+/// where memory or the reader was wanting before the text was whole, nothing is written; after want
+/// of memory the digits of those answers that `answer` writes then. Of a failed write nothing is
+/// said.
+pub fn answer_hex<R: Read, W: Write>(
+    alloc: Global,
+    blocks: u64,
+    r: &mut R,
+    w: &mut W,
+) -> Result<(), ToolFault>
+    requires some { 0 < blocks }
+    requires few { blocks ≤ most_blocks }
+    ensures answers { (read : List ℕ) × (written : List ℕ)
+        × Consumes (R.remaining r.old) (R.remaining r.new) read
+        × Appends (W.contents w.old) (W.contents w.new) written
+        × AnswersHex blocks result read written }
+    ensures end { OnOk result (IsAtEnd (R.remaining r.new)) }
+{
+    let bytes = read_bytes(alloc, r)?;
+    answer_digits(alloc, blocks, &bytes, w)
+}
+
+// Writes the answers to the stream that bytes are, in lower hex.
+fn answer_digits<W: Write>(
+    alloc: Global,
+    blocks: u64,
+    bytes: &[u8],
+    w: &mut W,
+) -> Result<(), ToolFault>
+    requires some { 0 < blocks }
+    requires few { blocks ≤ most_blocks }
+    ensures spells { (written : List ℕ) × Appends (W.contents w.old) (W.contents w.new) written
+        × ((result ≡ Err tool.Write) ⊎ SpellsAnswers blocks result bytes.now written) }
+{
+    let mut source = bytes;
+    let mut digits = HexWriter::new(LentWriter { writer: w });
+    let outcome = answer(alloc, blocks, &mut source, &mut digits);
+    let is_cut = digits.is_cut();
+    let LentWriter { writer } = digits.into_inner();
+    finish(outcome, is_cut, writer)
+}
+
+// Writes the line end that is due. A byte that was cut between its digits is a failed write.
+fn finish<W: Write>(
+    outcome: Result<(), ToolFault>,
+    is_cut: bool,
+    w: &mut W,
+) -> Result<(), ToolFault>
+    ensures finishes { (ending : List ℕ) × Appends (W.contents w.old) (W.contents w.new) ending
+        × Finishes outcome is_cut result ending }
+{
+    if is_cut {
+        return Err(ToolFault::Write);
+    }
+    if let Ok(()) | Err(ToolFault::Stream(_) | ToolFault::Protocol(_)) = outcome {
+        write_fully(w, b"\n")?;
+    }
+    outcome
 }
 
 // The fault of a filter. A closed session is not fed, and would be read no more.

@@ -7,7 +7,7 @@ ghost use Rattle.iscsi_stream.specs.declared.fault.ToolFault.TheVariants as tool
 ghost use Rattle.iscsi_stream.specs.Texts.{NormalisesText};
 ghost use Rattle.iscsi_tool.specs.Filtering.{exit_status, Filters, HasDisk, IsLine, NormalisesBytes, NormalisesHex, ReadsOn, ShowsBytes};
 
-use crate::answering::answer;
+use crate::answering::{answer, answer_hex};
 use crate::hex_text::{line, read_bytes};
 use iscsi_stream::{ToolFault, normalise, normalise_text, show, write_fully};
 use std::alloc::Global;
@@ -40,7 +40,8 @@ pub struct Filter {
 /// Without hex its faults are those of `normalise`, `normalise_text` and `show`. With hex the whole
 /// input is read first; `NotHex` comes before any output, and so do `Read` and `NoMemory` of
 /// `Normalise` and `Text`, whose line is written where the input is in the profile and also where
-/// its stream or text has a fault.
+/// its stream or text has a fault. Answers are written as they come; `answer_hex` says where their
+/// line ends.
 pub fn run_filter<R: Read, W: Write>(
     alloc: Global,
     filter: Filter,
@@ -101,31 +102,6 @@ pub fn status(fault: &ToolFault) -> u8
         ToolFault::NoMemory => 3,
         ToolFault::Read | ToolFault::Write => 4,
     }
-}
-
-// A target's answers to a stream that comes as hex text, as a line of hex.
-fn answer_hex<R: Read, W: Write>(
-    alloc: Global,
-    blocks: u64,
-    r: &mut R,
-    w: &mut W,
-) -> Result<(), ToolFault>
-    requires some { 0 < blocks }
-    requires few { blocks ≤ most_blocks }
-    ensures moves { (read : List ℕ) × (written : List ℕ)
-        × Consumes (R.remaining r.old) (R.remaining r.new) read
-        × Appends (W.contents w.old) (W.contents w.new) written }
-    ensures end { OnOk result (IsAtEnd (R.remaining r.new)) }
-{
-    let bytes = read_bytes(alloc, r)?;
-    let mut source = bytes.as_slice();
-    let mut out = Vec::new(alloc);
-    let outcome = answer(alloc, blocks, &mut source, &mut out);
-    if let Err(ToolFault::NoMemory | ToolFault::Read | ToolFault::Write) = outcome {
-        return Err(ToolFault::NoMemory);
-    }
-    write_fully(w, &line(alloc, &out)?)?;
-    outcome
 }
 
 // The lines of a stream of bytes.

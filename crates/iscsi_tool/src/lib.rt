@@ -4,6 +4,7 @@
 mod answering;
 mod filter;
 mod hex_text;
+mod hex_writer;
 mod words;
 
 pub use filter::{Filter, Work, run_filter, status};

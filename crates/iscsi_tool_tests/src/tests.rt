@@ -1,6 +1,7 @@
 //! Runs of the filters, the words, and the lines and statuses of faults.
 
 mod answers;
+mod digits;
 mod session;
 mod words;
 

@@ -18,16 +18,16 @@ const FIRST_ANSWER: &str =
     "23810000 00000027 40000001 00000000 00000000 00000000 00000001 00000001 00000008 00000000 00000000 00000000 'AuthMethod=None|TargetPortalGroupTag=1|";
 
 // A login.
-const LOGIN: &str =
+pub const LOGIN: &str =
     "43810000 0000006e 40000001 00000000 00000000 00000000 00000001 00000000 00000000 00000000 00000000 00000000 'AuthMethod=None|InitiatorName=iqn.2026-01.example:host|SessionType=Normal|TargetName=iqn.2026-01.example:disk|\n\
     43870000 0000006e 40000001 00000000 00000000 00000000 00000001 00000002 00000000 00000000 00000000 00000000 'HeaderDigest=CRC32C,None|IFMarker=No|InitialR2T=No|MaxBurstLength=1024|MaxRecvDataSegmentLength=4096|X-test=1|";
 
-const LOGGED_IN: &str =
+pub const LOGGED_IN: &str =
     "23810000 00000027 40000001 00000000 00000000 00000000 00000001 00000001 00000008 00000000 00000000 00000000 'AuthMethod=None|TargetPortalGroupTag=1|\n\
     23870000 00000073 40000001 00000001 00000000 00000000 00000002 00000001 00000008 00000000 00000000 00000000 'HeaderDigest=None|IFMarker=No|InitialR2T=No|MaxBurstLength=1024|MaxRecvDataSegmentLength=8192|X-test=NotUnderstood|";
 
 // The answer to a ping behind the login.
-const PONG: &str =
+pub const PONG: &str =
     "20800000 00000000 00000000 00000000 00000001 ffffffff 00000003 00000001 00000008 00000000 00000000 00000000";
 
 // A first request without the initiator's name, and a ping.
@@ -38,7 +38,7 @@ const NAMELESS: &str =
 const REFUSAL: &str =
     "23000000 00000000 40000001 00000000 00000000 00000000 00000000 00000001 00000008 02070000 00000000 00000000";
 
-const PING: &str =
+pub const PING: &str =
     "40800000 00000000 00000000 00000000 00000001 ffffffff 00000001 00000003 00000000 00000000 00000000 00000000";
 
 // A write that takes its data, and a read behind it.
@@ -117,7 +117,7 @@ fn add_line(alloc: Global, line: &str, stream: &mut Vec<u8>) -> Result<(), Fail>
     Ok(())
 }
 
-fn bytes_of(alloc: Global, parts: &[&str]) -> Result<Vec<u8>, Fail> {
+pub fn bytes_of(alloc: Global, parts: &[&str]) -> Result<Vec<u8>, Fail> {
     let mut stream = Vec::new(alloc);
     for part in parts {
         for line in part.lines() {
@@ -174,7 +174,7 @@ fn answer(alloc: Global, hex: bool, input: &[u8]) -> (Result<(), ToolFault>, Vec
 }
 
 // The line of bytes in hex.
-fn line_of(alloc: Global, bytes: &[u8]) -> Result<Vec<u8>, Fail> {
+pub fn line_of(alloc: Global, bytes: &[u8]) -> Result<Vec<u8>, Fail> {
     let mut line = hex::encode(alloc, bytes)?.into_bytes();
     line.push(b'\n')?;
     Ok(line)

@@ -1,0 +1,120 @@
+//! Answers as hex text, which are written as they come.
+
+use super::answers::{LOGGED_IN, LOGIN, PING, PONG, bytes_of, line_of};
+use super::same;
+use iscsi_stream::ToolFault;
+use iscsi_tool::{Filter, Work, run_filter};
+use std::alloc::Global;
+use std::io;
+use std::io::Write;
+use std::process::Abort;
+use std::test::Fail;
+
+const ANSWER: Filter = Filter {
+    work: Work::Answer(8),
+    hex: true,
+};
+
+/// Takes one byte of each write, and fails once it has so many.
+#[derive(Drop)]
+struct Narrow {
+    taken: Vec<u8>,
+    room: usize,
+}
+
+impl Write for Narrow {
+    fn write(&mut self, buf: &[u8]) -> io::Result<usize> {
+        if self.taken.len() >= self.room {
+            return Err(io::Error::from(io::ErrorKind::Other));
+        }
+        let n = buf.len().min(1);
+        self.taken.extend_from_slice(&buf[..n])?;
+        Ok(n)
+    }
+
+    fn flush(&mut self) -> io::Result<()> {
+        Ok(())
+    }
+}
+
+// The hex text of a login and a ping.
+fn requests(alloc: Global) -> Result<String, Fail> {
+    let stream = bytes_of(alloc, &[LOGIN, PING])?;
+    Ok(hex::encode(alloc, &stream)?)
+}
+
+// The line of their answers.
+fn answers(alloc: Global) -> Result<Vec<u8>, Fail> {
+    let stream = bytes_of(alloc, &[LOGGED_IN, PONG])?;
+    line_of(alloc, &stream)
+}
+
+// A writer that takes a byte at a time has the first digits of what is due, as many as it has room
+// for, and all of it where it has room.
+fn check_narrow(
+    rt: &impl Abort,
+    alloc: Global,
+    text: &str,
+    due: &[u8],
+    room: usize,
+) -> Result<(), Fail> {
+    let mut source = text.as_bytes();
+    let mut out = Narrow {
+        taken: Vec::new(alloc),
+        room,
+    };
+    let result = run_filter(alloc, ANSWER, &mut source, &mut out);
+    let is_whole = room >= due.len();
+    let want = if is_whole {
+        Ok(())
+    } else {
+        Err(ToolFault::Write)
+    };
+    same(rt, &result, &want, &room);
+    let front = due.get(..room).unwrap_or(due);
+    same(rt, &out.taken.as_slice(), &front, &room);
+    Ok(())
+}
+
+#[test]
+fn a_writer_that_takes_one_byte(rt: HostRuntime) -> Result<(), Fail> {
+    let text = requests(rt.alloc())?;
+    let due = answers(rt.alloc())?;
+    // Between two digits of a byte; between two bytes; within the second answer; before the line end.
+    for room in [0, 1, 2, 3, 192, 193, due.len().saturating_sub(1), due.len()] {
+        check_narrow(&rt, rt.alloc(), text.as_str(), &due, room)?;
+    }
+    Ok(())
+}
+
+// The hex text of a login without the initiator's name, and the line of its refusal.
+const NAMELESS: &[u8] =
+    b"4381000000000047400000010000000000000000000000000000000100000000000000000000000000000000\
+    00000000417574684d6574686f643d4e6f6e650053657373696f6e547970653d4e6f726d616c005461726765\
+    744e616d653d69716e2e323032362d30312e6578616d706c653a6469736b0000";
+
+const REFUSAL: &[u8] =
+    b"230000000000000040000001000000000000000000000000000000000000000100000008020700000000000000000000\n";
+
+/// For `rt try --test --fail-alloc`: want of memory leaves no digit of an answer that was not made,
+/// and no line end.
+#[test]
+fn refused_memory_leaves_no_line(rt: HostRuntime) {
+    let mut room = [0u8; 128];
+    let mut source = NAMELESS;
+    let mut out = room.as_mut_slice();
+    let result = run_filter(rt.alloc(), ANSWER, &mut source, &mut out);
+    let left = out.len();
+    if result.is_err() {
+        same(&rt, &result, &Err(ToolFault::NoMemory), &"fault");
+        same(&rt, &left, &128, &"room left");
+        return;
+    }
+    same(&rt, &room.get(..REFUSAL.len()), &Some(REFUSAL), &"line");
+    same(
+        &rt,
+        &left,
+        &128usize.saturating_sub(REFUSAL.len()),
+        &"room left",
+    );
+}
