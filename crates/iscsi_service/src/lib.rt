@@ -2,6 +2,7 @@
 //! (RFC 7143).
 #![tactic(auto)]
 
+mod carrier;
 mod command;
 mod looping;
 mod report;
@@ -11,7 +12,8 @@ mod serving;
 mod session;
 mod wire;
 
-pub use looping::{LONGEST_PIECE, run_loop};
+pub use carrier::{Carrier, Channel};
+pub use looping::{LONGEST_PIECE, run_loop, run_over};
 pub use serve_fault::ServeFault;
 pub use serving::{serve, serve_one};
 pub use session::{SessionFault, configuration, serve_stream};

@@ -14,6 +14,7 @@ ghost use Rattle.iscsi_stream.specs.Normalising.{WroteFront};
 ghost use Rattle.iscsi_service.specs.Looping.{initiator_settings, Loops, ReadsFirst};
 ghost use Rattle.iscsi_service.specs.LoopSteps.{Continues, Fails, IsOfSession, Runs, Stops, refusal_fault};
 
+use crate::carrier::Carrier;
 use crate::command::Command;
 use crate::report::report;
 use crate::script::read_script;
@@ -72,8 +73,29 @@ pub fn run_loop<R: Read, W: Write>(
         × Appends (W.contents w.old) (W.contents w.new) written
         × Loops result script written × ReadsFirst result written (R.remaining r.new) }
 {
+    run_over::<Wire, R, W>(rt, blocks, piece, r, w)
+}
+
+/// `run_loop` over any connection of this kind: the engine of both ends. It opens the connection
+/// once the script is read, and closes it at the end.
+pub fn run_over<C: Carrier, R: Read, W: Write>(
+    rt: &HostRuntime,
+    blocks: u64,
+    piece: u32,
+    r: &mut R,
+    w: &mut W,
+) -> Result<(), ServeFault>
+    requires some { 0 < blocks }
+    requires few { blocks ≤ most_blocks }
+    requires moves { 0 < piece }
+    requires short { piece ≤ 4096 }
+    ensures loops { (script : List ℕ) × (written : List ℕ)
+        × Consumes (R.remaining r.old) (R.remaining r.new) script
+        × Appends (W.contents w.old) (W.contents w.new) written
+        × Loops result script written × ReadsFirst result written (R.remaining r.new) }
+{
     let commands = read_script(rt.alloc(), r)?;
-    let mut ends = Ends::open(rt, blocks, piece as usize)?;
+    let mut ends = Ends::<C>::open(rt, blocks, piece as usize)?;
     ends.log_in()?;
     write_line(w, b"login\n")?;
     run_commands(&mut ends, commands, w)?;
@@ -81,8 +103,8 @@ pub fn run_loop<R: Read, W: Write>(
 }
 
 // Does the commands up to the first logout, with a line for each.
-fn run_commands<W: Write>(
-    ends: &mut Ends,
+fn run_commands<C: Carrier, W: Write>(
+    ends: &mut Ends<C>,
     commands: Vec<Command>,
     w: &mut W,
 ) -> Result<(), ServeFault>
@@ -102,7 +124,11 @@ fn run_commands<W: Write>(
 }
 
 // Does a command, and writes the line of its outcome.
-fn run_command<W: Write>(ends: &mut Ends, command: Command, w: &mut W) -> Result<(), ServeFault>
+fn run_command<C: Carrier, W: Write>(
+    ends: &mut Ends<C>,
+    command: Command,
+    w: &mut W,
+) -> Result<(), ServeFault>
     ensures ok { OnOk result ((done : Done)
         × Continues ends.old.initiator.machine (request_of command ∷ []) (done ∷ [])
         ends.new.initiator.machine
@@ -129,21 +155,21 @@ fn write_line<W: Write>(w: &mut W, line: &[u8]) -> Result<(), ServeFault>
 
 /// Both ends of a session, and the connection between them.
 #[derive(Drop)]
-struct Ends {
+struct Ends<C> {
     alloc: Global,
     initiator: Initiator,
     target: Target,
     store: SparseStore,
-    wire: Wire,
+    carrier: C,
     /// The most bytes of a piece, 1 to 4096.
     piece: usize,
     ghost moves: { 0 < piece },
     ghost short: { piece ≤ 4096 },
 }
 
-impl Ends {
+impl<C: Carrier> Ends<C> {
     // Both ends of a session that is not started.
-    fn open(rt: &HostRuntime, blocks: u64, piece: usize) -> Result<Ends, ServeFault>
+    fn open(rt: &HostRuntime, blocks: u64, piece: usize) -> Result<Ends<C>, ServeFault>
         requires some { 0 < blocks }
         requires few { blocks ≤ most_blocks }
         requires moves { 0 < piece }
@@ -158,7 +184,7 @@ impl Ends {
             initiator: Initiator::new(alloc, initiator_configuration(alloc)?),
             target: Target::new(alloc, configuration(alloc)?, FIRST_STAT_SN),
             store: SparseStore::new(alloc, blocks),
-            wire: Wire::open(rt)?,
+            carrier: C::open(rt)?,
             piece,
         })
     }
@@ -226,7 +252,7 @@ impl Ends {
         while !rest.is_empty() {
             let len = rest.len().min(self.piece);
             let read = &mut buffer[..len];
-            self.wire.to_target(&rest[..len], read)?;
+            self.carrier.to_target(&rest[..len], read)?;
             self.target.feed(read, &mut self.store, &mut answers)?;
             rest = &rest[len..];
         }
@@ -245,7 +271,7 @@ impl Ends {
         while !rest.is_empty() {
             let len = rest.len().min(self.piece);
             let read = &mut buffer[..len];
-            self.wire.to_initiator(&rest[..len], read)?;
+            self.carrier.to_initiator(&rest[..len], read)?;
             self.initiator.feed(read, &mut requests)?;
             rest = &rest[len..];
         }
@@ -258,10 +284,10 @@ impl Ends {
     {
         let Ends {
             mut target,
-            wire,
+            carrier,
             ..
         } = self;
-        wire.close()?;
+        carrier.close()?;
         if target.phase() != Phase::Closed {
             target.finish()?;
         }

@@ -3,6 +3,7 @@
 ghost use Rattle.std.specs.Prelude.{IfErr};
 ghost use Rattle.iscsi_service.specs.LoopSteps.{IsOfSession};
 
+use crate::carrier::Carrier;
 use crate::serve_fault::ServeFault;
 use iscsi_stream::write_fully;
 use std::io;
@@ -20,17 +21,6 @@ pub struct Wire {
 }
 
 impl Wire {
-    /// A connection over 127.0.0.1, at a port that the system picks. Answers `Network` where a
-    /// socket fails.
-    pub fn open(rt: &HostRuntime) -> Result<Wire, ServeFault>
-        ensures err { IfErr result IsOfSession }
-    {
-        match Wire::try_open(rt) {
-            Ok(wire) => Ok(wire),
-            Err(_) => Err(ServeFault::Network),
-        }
-    }
-
     fn try_open(rt: &HostRuntime) -> io::Result<Wire> {
         let listener = TcpListener::bind(rt, (Ipv4Addr::LOCALHOST, 0))?;
         let initiator = TcpStream::connect(rt, listener.local_addr()?)?;
@@ -40,28 +30,30 @@ impl Wire {
         target.set_nodelay(true)?;
         Ok(Wire { initiator, target })
     }
+}
 
-    /// Writes a piece at the initiator's socket and reads it at the target's. Answers `Network`
-    /// where a socket fails.
-    pub fn to_target(&self, piece: &[u8], read: &mut [u8]) -> Result<(), ServeFault>
-        ensures err { IfErr result IsOfSession }
-    {
+/// Over 127.0.0.1, at a port that the system picks. Each call answers `Network` where a socket fails.
+impl Carrier for Wire {
+    // No contract can say what a socket gives.
+    ghost carries = { λ written read. Unit {0} };
+
+    fn open(rt: &HostRuntime) -> Result<Wire, ServeFault> {
+        match Wire::try_open(rt) {
+            Ok(wire) => Ok(wire),
+            Err(_) => Err(ServeFault::Network),
+        }
+    }
+
+    fn to_target(&mut self, piece: &[u8], read: &mut [u8]) -> Result<(), ServeFault> {
         carry(&self.initiator, &self.target, piece, read)
     }
 
-    /// Writes a piece at the target's socket and reads it at the initiator's. Answers `Network`
-    /// where a socket fails.
-    pub fn to_initiator(&self, piece: &[u8], read: &mut [u8]) -> Result<(), ServeFault>
-        ensures err { IfErr result IsOfSession }
-    {
+    fn to_initiator(&mut self, piece: &[u8], read: &mut [u8]) -> Result<(), ServeFault> {
         carry(&self.target, &self.initiator, piece, read)
     }
 
-    /// Closes the initiator's socket and waits for the target's to end. Answers `Network` where a
-    /// socket fails or has more bytes.
-    pub fn close(self) -> Result<(), ServeFault>
-        ensures err { IfErr result IsOfSession }
-    {
+    /// Answers `Network` too where the target's socket has more bytes.
+    fn close(self) -> Result<(), ServeFault> {
         let Wire { initiator, target } = self;
         drop(initiator);
         match (&target).read(&mut [0]) {

@@ -1,7 +1,7 @@
-//! Loops of both ends over a socket: scripts, and the lines that they write.
+//! Loops of both ends over a socket and in memory: scripts, and the lines that they write.
 
 use super::{Broken, Full, same};
-use iscsi_service::{LONGEST_PIECE, ServeFault, run_loop};
+use iscsi_service::{Channel, LONGEST_PIECE, ServeFault, run_loop, run_over};
 use scsi_disk::MOST_BLOCKS;
 use std::alloc::{AllocError, Global};
 use std::test::Fail;
@@ -142,11 +142,11 @@ const REFUSED: &[&str] = &[
 // How a script ends with a disk of 2048 blocks, in pieces of at most so many bytes, and what it
 // writes.
 fn run(rt: &HostRuntime, script: &[u8], most: u32) -> (Result<(), ServeFault>, Vec<u8>) {
-    run_over(rt, 2048, script, most)
+    run_on(rt, 2048, script, most)
 }
 
 // The same with a disk of so many blocks.
-fn run_over(
+fn run_on(
     rt: &HostRuntime,
     blocks: u64,
     script: &[u8],
@@ -157,6 +157,21 @@ fn run_over(
     let mut out = Vec::new(rt.alloc());
     let blocks = blocks.max(1).min(MOST_BLOCKS);
     let result = run_loop(rt, blocks, piece, &mut source, &mut out);
+    (result, out)
+}
+
+// The same with both ends joined in memory.
+fn run_in_memory(
+    rt: &HostRuntime,
+    blocks: u64,
+    script: &[u8],
+    most: u32,
+) -> (Result<(), ServeFault>, Vec<u8>) {
+    let piece = most.max(1).min(LONGEST_PIECE);
+    let mut source = script;
+    let mut out = Vec::new(rt.alloc());
+    let blocks = blocks.max(1).min(MOST_BLOCKS);
+    let result = run_over::<Channel, _, _>(rt, blocks, piece, &mut source, &mut out);
     (result, out)
 }
 
@@ -193,7 +208,36 @@ fn loops_over_a_socket(rt: HostRuntime) -> Result<(), Fail> {
 fn loops_over_disks(rt: HostRuntime) -> Result<(), Fail> {
     for (name, blocks, script, want) in DISKS {
         for piece in [1, 47, 48, 4096] {
-            let (result, out) = run_over(&rt, *blocks, script.as_bytes(), piece);
+            let (result, out) = run_on(&rt, *blocks, script.as_bytes(), piece);
+            same(&rt, &result.is_ok(), &true, name);
+            same(&rt, &out.as_slice(), &want.as_bytes(), name);
+        }
+    }
+    Ok(())
+}
+
+#[test]
+fn loops_in_memory(rt: HostRuntime) -> Result<(), Fail> {
+    for piece in [1, 47, 48, 4096] {
+        let (result, out) = run_in_memory(&rt, 2048, BLOCKS.as_bytes(), piece);
+        same(&rt, &result.is_ok(), &true, &piece);
+        same(&rt, &out.as_slice(), &BLOCKS_LINES.as_bytes(), &piece);
+    }
+    for (name, script, want) in SCRIPTS {
+        for piece in [1, 47, 48, 4096] {
+            let (result, out) = run_in_memory(&rt, 2048, script.as_bytes(), piece);
+            same(&rt, &result.is_ok(), &true, name);
+            same(&rt, &out.as_slice(), &want.as_bytes(), name);
+        }
+    }
+    Ok(())
+}
+
+#[test]
+fn loops_over_disks_in_memory(rt: HostRuntime) -> Result<(), Fail> {
+    for (name, blocks, script, want) in DISKS {
+        for piece in [1, 47, 48, 4096] {
+            let (result, out) = run_in_memory(&rt, *blocks, script.as_bytes(), piece);
             same(&rt, &result.is_ok(), &true, name);
             same(&rt, &out.as_slice(), &want.as_bytes(), name);
         }

@@ -3,7 +3,7 @@ use Rattle.iscsi_service.specs.LoopSteps.{Continues}
 use Rattle.iscsi_service.proofs.looping.Ends.hear.Given as goal
 
 abbrev pub invariant-loop-rest : goal.invariant-loop-rest
-invariant-loop-rest l = Continues l.initial.self.initiator.machine [] [] l.self.initiator.machine
+invariant-loop-rest g l = Continues l.initial.self.initiator.machine [] [] l.self.initiator.machine
 
 abbrev pub decreases-loop-rest : goal.decreases-loop-rest
-decreases-loop-rest l = length l.rest
+decreases-loop-rest g l = length l.rest

@@ -6,7 +6,7 @@ use Rattle.iscsi_service.proofs.Histories.{submits, takes, then_continues}
 use Rattle.iscsi_service.proofs.looping.Ends.perform.Goals as goal
 
 pub returns-in-Some : goal.returns-in-Some
-returns-in-Some c =
+returns-in-Some g c =
     let before = c.args.self.now.initiator in
     let after = c.settle.new.self.initiator in
     let handed : Continues before.machine (c.in_ok-request.request ∷ []) [] c.submit.new.self.machine = submits before c.submit.new.self c.in_ok-request.request _ _ c.in-Ok.ensures.submits in

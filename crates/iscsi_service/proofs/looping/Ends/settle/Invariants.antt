@@ -3,4 +3,4 @@ use Rattle.iscsi_service.specs.LoopSteps.{Continues}
 use Rattle.iscsi_service.proofs.looping.Ends.settle.Given as goal
 
 abbrev pub invariant-loop : goal.invariant-loop
-invariant-loop l = Continues l.initial.self.initiator.machine [] [] l.self.initiator.machine
+invariant-loop g l = Continues l.initial.self.initiator.machine [] [] l.self.initiator.machine

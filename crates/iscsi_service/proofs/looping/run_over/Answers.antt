@@ -2,7 +2,7 @@ use Rattle.std.proofs.Common.{[]}
 use Rattle.std.proofs.KnownBytes.{Appends-nil}
 use Rattle.std.proofs.lemmas.Result.{err_from_is_err_and}
 use Rattle.iscsi_service.proofs.Histories.{script_stops, script_read, session_ends, login_stops, commands_stop, commands_end}
-use Rattle.iscsi_service.proofs.looping.run_loop.Goals as goal
+use Rattle.iscsi_service.proofs.looping.run_over.Goals as goal
 
 pub returns-in_err-commands : goal.returns-in_err-commands
 returns-in_err-commands g c =
