@@ -1,5 +1,5 @@
 #!/usr/bin/env python3
-"""Holds documents and wrong bodies against the tree, in a second. It proves nothing and is no part of the gate.
+"""Holds documents and wrong bodies against the tree, in two seconds. It proves nothing and is no part of the gate.
 
     tools/check_docs/check_docs.py
 
@@ -10,11 +10,13 @@ It looks at:
 - each row of docs/THEOREMS.md: the call stands in a file of its row, and a call of the row has each clause;
 - the tables of docs/FORMATS.md: the fields of each kind of PDU against specs/Fields.antt, specs/Meaning.antt and the
   words of `show`; the text keys against both specs/Key.antt;
+- the figures of docs/TRUST.md: they are those that tools/reach counts;
 - wrong bodies, in the gate and beside it: each old text stands in its file once.
 
 Each fault is a line. The last line is 'N looked at, M not so'; the status is 1 where M is not 0.
 """
 import re
+import subprocess
 import sys
 from pathlib import Path
 
@@ -225,6 +227,13 @@ def check_keys():
             look(row.group(1) == due, where, f"specs/Key says {row.group(1)}")
 
 
+# ---- figures
+
+def check_figures():
+    tables = subprocess.run([sys.executable, TOP / "tools/reach/reach.py"], capture_output=True, text=True).stdout.strip()
+    look(tables and tables in read("docs/TRUST.md"), "docs/TRUST.md", "its figures are old: tools/reach/reach.py --write")
+
+
 # ---- wrong bodies
 
 def check_edits():
@@ -254,6 +263,7 @@ def main():
     check_claims()
     check_kinds()
     check_keys()
+    check_figures()
     check_edits()
     for fault in faults:
         print(fault)

@@ -164,6 +164,26 @@ pub data Ended (w : Way) (MayClose : Type 0) (P : Kept) (r : target.Machine) (m 
   Closing : MayClose → m.phase ≡ phases.Closed → IsStart m.stage → Ended w MayClose P r m
   Agreeing : r.session.stage ≡ stages.Full → r.session.held ≡ m.held → m.stage ≡ stages.Full → Ended w MayClose P r m
 
+-- an input that is no message, and at which nothing is sent, makes no difference
+skipped : (w : Way) (input : Input) (inputs : List Input) (i : initiator.Machine) (t : target.Machine) (disk : Disk) (ms : List Message)
+    → Exchange w (input ∷ inputs) i t disk ms → coming (input ∷ inputs) ≡ coming inputs → canon (sent i (input ∷ inputs)) ≡ canon (sent i inputs)
+    → Exchange w inputs i t disk ms
+skipped w input inputs i t disk ms x come same = record {
+  there = x.there;
+  here = x.here;
+  request = x.request;
+  asking = x.asking;
+  first = x.first;
+  reached = x.reached;
+  given = x.given;
+  reads = x.reads;
+  sends = x.sends ∙ ap (λ (xs : List ℕ). canonical_bytes x.request ++ xs) same;
+  heard = x.heard;
+  hears = subst (ReadsAs w.initiator_limit x.here x.heard) come x.hears;
+  answered = x.answered;
+  only = x.only;
+}
+
 -- so it ends
 pub exchange_ends : (inputs : List Input) (w : Way) (MayClose : Type 0) (P : Kept) (i : initiator.Machine) (t : target.Machine) (disk : Disk)
     (ms : List Message) → IsOpening w.opening → Turns w.opening MayClose P → P i t → Exchange w inputs i t disk ms
@@ -173,39 +193,13 @@ exchange_ends [] w MayClose P i t disk ms o turns p x = Waiting t disk ms p x re
 exchange_ends (Takes ∷ inputs) w MayClose P i t disk ms o turns p x =
     let same : taken i ≡ i = ap (λ (d : Option Done). record i { done = d }) (sym x.asking.no_outcome) in
     subst (λ (m : initiator.Machine). Ended w MayClose P (answers t disk ms).machine (after_all m inputs)) (sym same)
-    (exchange_ends inputs w MayClose P i t disk ms o turns p (record {
-      there = x.there;
-      here = x.here;
-      request = x.request;
-      asking = x.asking;
-      first = x.first;
-      reached = x.reached;
-      given = x.given;
-      reads = x.reads;
-      sends = x.sends ∙ ap (λ (m : initiator.Machine). canonical_bytes x.request ++ canon (sent m inputs)) same;
-      heard = x.heard;
-      hears = x.hears;
-      answered = x.answered;
-      only = x.only;
-    }))
+    (exchange_ends inputs w MayClose P i t disk ms o turns p
+    (skipped w Takes inputs i t disk ms x refl (ap (λ (m : initiator.Machine). canon (sent m inputs)) same)))
 exchange_ends (Asks request ∷ inputs) w MayClose P i t disk ms o turns p x =
     let s = refused phases.Login i request refusals.NotReady x.asking.phase refl in
     subst (λ (m : Submitted). Ended w MayClose P (answers t disk ms).machine (after_all m.machine inputs)) (sym s)
-    (exchange_ends inputs w MayClose P i t disk ms o turns p (record {
-      there = x.there;
-      here = x.here;
-      request = x.request;
-      asking = x.asking;
-      first = x.first;
-      reached = x.reached;
-      given = x.given;
-      reads = x.reads;
-      sends = x.sends ∙ ap (λ (m : Submitted). canonical_bytes x.request ++ canon (m.output ++ sent m.machine inputs)) s;
-      heard = x.heard;
-      hears = x.hears;
-      answered = x.answered;
-      only = x.only;
-    }))
+    (exchange_ends inputs w MayClose P i t disk ms o turns p
+    (skipped w (Asks request) inputs i t disk ms x refl (ap (λ (m : Submitted). canon (m.output ++ sent m.machine inputs)) s)))
 exchange_ends (Comes m ∷ inputs) w MayClose P i t disk [] o turns p x =
     absurd (none_said w.initiator_limit x.here x.heard w.left_here m (coming inputs) w.extra t x.asking.logs_in.phase x.only x.hears x.answered)
 exchange_ends (Comes m ∷ inputs) w MayClose P i t disk (n ∷ ms) o turns p x =
