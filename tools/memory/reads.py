@@ -6,8 +6,9 @@
 PROGRAM is crates/lanthovur/out/lanthovur if none is named; `./lanthovur </dev/null` builds it. A login and then READ(10)
 of 8,192 blocks each go to `answer` over a pipe and to `serve` over a socket, 85 of them in one piece of 4,080 bytes; and
 eight that wait behind an immediate write of one block, with the data that end it, so that one PDU leads to the answers
-of all. What comes back is read and counted. Each line has the most resident memory of the process, in MiB, and what it
-may be. The exit status is 1 where a limit is passed or an answer has not the bytes that are due. It takes some seconds.
+of all. A login and 1,000 such reads go to `answer --hex` as hex text. What comes back is read and counted. Each line has the most resident memory of the process, in MiB, and what it
+may be. The exit status is 1 where a limit is passed or an answer has not the bytes that are due. It takes a minute or
+two, most of it for the digits of 4 GiB.
 """
 import os
 import socket
@@ -76,14 +77,14 @@ def most_of(process):
     return process.returncode, used.ru_maxrss / 1024
 
 
-def of_answer(program, requests):
-    """`answer`: the login's bytes first, then the others in one piece."""
-    words = [program, "answer", "--blocks", str(BLOCKS)]
+def of_answer(program, requests, is_hex=False):
+    """`answer`: the login's bytes first, then the others in one piece; with `--hex` their digits."""
+    words = [program, "answer", "--blocks", str(BLOCKS), *(["--hex"] if is_hex else [])]
     process = subprocess.Popen(words, stdin=subprocess.PIPE, stdout=subprocess.PIPE)
 
     def send():
         for piece in (login_of(), requests):
-            process.stdin.write(piece)
+            process.stdin.write(piece.hex().encode() if is_hex else piece)
             process.stdin.flush()
             time.sleep(0.2)
         process.stdin.close()
@@ -112,17 +113,23 @@ def of_serve(program, requests):
     return total, *most_of(process)
 
 
+def of_hex(program, requests):
+    return of_answer(program, requests, True)
+
+
 def main():
     program = sys.argv[1] if len(sys.argv) > 1 else f"{TOP}/crates/lanthovur/out/lanthovur"
     well = True
-    for case, requests, due, limit in CASES:
-        for name, run in (("answer", of_answer), ("serve", of_serve)):
-            total, status, most = run(program, requests)
-            # (the login's answer is a header and a text of some hundred bytes)
-            is_well = status == 0 and due < total < due + 1024 and most <= limit
-            well = well and is_well
-            said = f"{total} bytes, status {status}, {most:.1f} MiB of {limit}"
-            print(f"{name}, {case}: {said}{'' if is_well else '  FAILED'}")
+    runs = [(name, run, *case) for case in CASES for name, run in (("answer", of_answer), ("serve", of_serve))]
+    # two digits for a byte, and a line end
+    runs.append(("answer --hex", of_hex, "1000 reads as hex text", reads(1000), 2 * 1000 * DUE + 1, 32))
+    for name, run, case, requests, due, limit in runs:
+        total, status, most = run(program, requests)
+        # (the login's answer is a header and a text of some hundred bytes)
+        is_well = status == 0 and due < total < due + 1024 and most <= limit
+        well = well and is_well
+        said = f"{total} bytes, status {status}, {most:.1f} MiB of {limit}"
+        print(f"{name}, {case}: {said}{'' if is_well else '  FAILED'}", flush=True)
     return 0 if well else 1
 
 

@@ -2,8 +2,8 @@
 """Refuses each allocation of the built program in turn, and looks at what it answers and has written then.
 
 Each run ends as with ample memory, or with status 3, the line `memory`, and less than the output that is due: whole
-PDUs or lines, of `answer` all answers to some first PDUs and to some first tasks of the next one, and nothing of a line
-of hex or a text. The whole output is there with that line only where nothing is due to the last PDUs, or where none is
+PDUs or lines, of `answer` all answers to some first PDUs and to some first tasks of the next one, with `--hex` their
+digits without a line end, and nothing of a line of hex else or a text. The whole output is there with that line only where nothing is due to the last PDUs, or where none is
 due at all. A run that met no refusal ends as with ample memory, and that not for want of it. Two runs are of `loop`,
 with a script of each command and one that is refused. The segment buffer is kept from PDU to PDU: a run over 1,000 PDUs
 of 4,096 bytes ends well where each allocation is refused that a run over one does not ask for.
@@ -259,7 +259,7 @@ def main():
             print(f"answer, {name}: not the answers of the dialogue")
         failed += sweep(f"answer, {name}", answer, came, stops)
         if name in ("login", "reads back a write"):
-            failed += sweep(f"answer --hex, {name}", [*answer, "--hex"], came.hex().encode())
+            failed += sweep(f"answer --hex, {name}", [*answer, "--hex"], came.hex().encode(), {2 * stop for stop in stops})
             failed += sweep(f"serve, {name}", ["serve", "--blocks", "2048", "--sessions", "1"], came, stops, run_service)
     failed += kept_buffer(ping)
     print(f"{failed} runs of the program ended wrongly")

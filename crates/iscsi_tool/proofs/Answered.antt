@@ -11,7 +11,8 @@ use Rattle.iscsi_target.specs.Machine.{answers}
 use Rattle.iscsi_service.specs.declared.session.SessionFault.{SessionFault}
 use Rattle.iscsi_service.specs.declared.session.SessionFault.TheVariants as session
 use Rattle.iscsi_service.specs.Session.{target_settings, ServesAll, Serves, EndsBy, EndsWell}
-use Rattle.iscsi_tool.specs.Answering.{filter_fault, AnswersAll, AnswersFirst, AnswersBytes, AnswersHex, Finishes, SpellsAnswers, line_end}
+use Rattle.iscsi_tool.specs.Answering.{filter_fault, AnswersAll, AnswersFirst, AnswersBytes, AnswersHex, SpellsAnswers, line_end}
+use Rattle.iscsi_tool.specs.Spelling.{Finishes}
 use Rattle.iscsi_tool.specs.HexText.{BytesOf, HexTextFails}
 use Rattle.iscsi_tool.proofs.Spelled.{lent_took}
 

@@ -1,5 +1,6 @@
 -- Digits that were written, and the bytes that they spell.
-use Rattle.std.proofs.Common.{true, false, ◌≡◌, ℕ, zero, suc, ◌+◌, ◌-◌, ◌*◌, ◌/◌, ◌%◌, ◌<◌, ◌≤◌, Bool, List, [], ◌∷◌, ◌++◌, length, take, drop, Option, Some, None, Result, Ok, Err, refl, sym, ap, subst, ◌∙◌, append_assoc, arith, slice_index, slice_index_or, ltb}
+use Rattle.std.proofs.Common.{true, false, ◌≡◌, ℕ, zero, suc, ◌+◌, ◌-◌, ◌*◌, ◌/◌, ◌%◌, ◌<◌, ◌≤◌, Bool, List, [], ◌∷◌, ◌++◌}
+use Rattle.std.proofs.Common.{length, take, drop, Option, Some, None, Result, Ok, Err, refl, sym, ap, subst, ◌∙◌, append_assoc, arith, slice_index, slice_index_or, ltb}
 use Rattle.std.specs.Prelude.{if◌then◌else◌}
 use Rattle.std.specs.Option.{option_map}
 use Rattle.std.specs.Str.{bytes_eq}
@@ -50,7 +51,8 @@ if_spelled-is text (Ok found) bytes d e = go (bytes_eq (encode_lower found) text
     go : (b : Bool) → bytes_eq (encode_lower found) text ≡ b → (if b then Some found else None) ≡ Some bytes → (encode_lower bytes ≡ text) × IsBytes bytes
     go true same is =
         let one : found ≡ bytes = cc is in
-        (subst (λ (x : List ℕ). encode_lower x ≡ text) one ((bytes_eq-Decides (encode_lower found) text).0 same), subst (λ (x : List ℕ). IsBytes x) one (decode_of-ok text found d).3)
+        let digits : encode_lower found ≡ text = (bytes_eq-Decides (encode_lower found) text).0 same in
+        (subst (λ (x : List ℕ). encode_lower x ≡ text) one digits, subst (λ (x : List ℕ). IsBytes x) one (decode_of-ok text found d).3)
     go false same is = absurd (cc is)
 if_spelled-is text (Err fault) bytes d e = absurd (cc e)
 
@@ -109,7 +111,8 @@ spelled-more text bytes h = go (spelled_by text) refl
     go : (r : Option (List ℕ)) → spelled_by text ≡ r → spelled_by (text ++ encode_lower bytes) ≡ spelled_more bytes r
     go (Some front) e =
         let p = spelled-is text front e in
-        let all : text ++ encode_lower bytes ≡ encode_lower (front ++ bytes) = ap (λ (x : List ℕ). x ++ encode_lower bytes) (sym p.0) ∙ sym (encode-append front bytes) in
+        let all : text ++ encode_lower bytes ≡ encode_lower (front ++ bytes) =
+        ap (λ (x : List ℕ). x ++ encode_lower bytes) (sym p.0) ∙ sym (encode-append front bytes) in
         ap spelled_by all ∙ spelled-encode (front ++ bytes) (bytes_both front bytes p.1 h)
     go None e = at_none e (spelled_by (text ++ encode_lower bytes)) refl
 
@@ -180,13 +183,16 @@ marked_grew (Some x) (Some y) bytes h p =
 
 -- ---- the digits of a piece
 
-pub even_digits : (k n : ℕ) (bytes digits : List ℕ) → digits ≡ encode_lower (take k bytes) → n ≤ length digits → n % 2 ≡ 0 → take n digits ≡ encode_lower (take (n / 2) bytes)
+pub even_digits : (k n : ℕ) (bytes digits : List ℕ) → digits ≡ encode_lower (take k bytes) → n ≤ length digits → n % 2 ≡ 0
+    → take n digits ≡ encode_lower (take (n / 2) bytes)
 even_digits k n bytes digits is fits even =
     let twice : n ≡ 2 * (n / 2) = omega arith in
     let half : n / 2 ≤ length (take k bytes) = omega (arith, encode-length (take k bytes), ap length is) in
-    ap (take n) is ∙ ap (λ (m : ℕ). take m (encode_lower (take k bytes))) twice ∙ encode-take (n / 2) (take k bytes) ∙ ap encode_lower (take_within (n / 2) k bytes half)
+    ap (take n) is ∙ ap (λ (m : ℕ). take m (encode_lower (take k bytes))) twice ∙ encode-take (n / 2) (take k bytes)
+    ∙ ap encode_lower (take_within (n / 2) k bytes half)
 
-pub odd_digits : (k n : ℕ) (bytes digits : List ℕ) → digits ≡ encode_lower (take k bytes) → n ≤ length digits → n % 2 ≡ 1 → take n digits ++ slice_index_or digits n 0 ∷ [] ≡ encode_lower (take (n / 2 + 1) bytes)
+pub odd_digits : (k n : ℕ) (bytes digits : List ℕ) → digits ≡ encode_lower (take k bytes) → n ≤ length digits → n % 2 ≡ 1
+    → take n digits ++ slice_index_or digits n 0 ∷ [] ≡ encode_lower (take (n / 2 + 1) bytes)
 odd_digits k n bytes digits is fits odd =
     let len = encode-length (take k bytes) in
     let same = ap length is in
@@ -195,7 +201,8 @@ odd_digits k n bytes digits is fits odd =
     sym (take_more digits n 0 below) ∙ even_digits k (n + 1) bytes digits is (omega arith) (omega arith) ∙ ap (λ (m : ℕ). encode_lower (take m bytes)) half
 
 -- an even number of digits was written
-pub even_written : (a b : Option (List ℕ)) (k n : ℕ) (bytes digits : List ℕ) → Appends a b (take n digits) → digits ≡ encode_lower (take k bytes) → n ≤ length digits → n % 2 ≡ 0
+pub even_written : (a b : Option (List ℕ)) (k n : ℕ) (bytes digits : List ℕ) → Appends a b (take n digits)
+    → digits ≡ encode_lower (take k bytes) → n ≤ length digits → n % 2 ≡ 0
     → Appends a b (encode_lower (take (n / 2) bytes))
 even_written a b k n bytes digits p is fits even = subst (λ (l : List ℕ). Appends a b l) (even_digits k n bytes digits is fits even) p
 
@@ -264,7 +271,8 @@ lent_grew m n (Some x) (Some (c ∷ y)) true digits p =
 
 -- the bytes that a writer of digits took are digits, and perhaps a cut one, that the writer took which
 -- is lent to it; and what was written to that one then comes behind them
-pub through_lent : {W : Type 0} (contents : W → Option (List ℕ)) (start after : HexWriter (LentWriter W)) (a z last : Option (List ℕ)) (bytes ending : List ℕ) → IsBytes bytes
+pub through_lent : {W : Type 0} (contents : W → Option (List ℕ)) (start after : HexWriter (LentWriter W)) (a z last : Option (List ℕ))
+    (bytes ending : List ℕ) → IsBytes bytes
     → start.is_cut ≡ false → contents start.inner.writer.now ≡ a
     → Appends (hex_contents (lent_contents contents) start) (hex_contents (lent_contents contents) after) bytes
     → (after.inner.writer.ghost_name ≡ start.inner.writer.ghost_name → z ≡ last)

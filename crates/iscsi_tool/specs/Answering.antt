@@ -1,5 +1,5 @@
 -- What `answer` writes for what it has read (RFC 7143, sections 6 and 11; own rule).
-use Rattle.std.specs.Prelude.{◌≡◌, ◌⊎◌, ℕ, Bool, false, List, [], ◌∷◌, ◌++◌, Some, Result, Ok, Err, OnOk}
+use Rattle.std.specs.Prelude.{◌≡◌, ◌⊎◌, ℕ, List, [], ◌∷◌, ◌++◌, Some, Result, Ok, Err, OnOk}
 use Rattle.hex.specs.Hex.{encode_lower}
 use Rattle.scsi_disk.specs.Disk.{Disk, zeros}
 use Rattle.iscsi_stream.specs.declared.fault.ToolFault.{ToolFault}
@@ -90,8 +90,3 @@ AnswersHex blocks (Err tool.Read) read written =
     (written ≡ []) ⊎ AnswersText blocks (Err tool.Read) read written
 AnswersHex blocks (Err tool.Write) read written = Unit {0}
 AnswersHex blocks outcome read written = AnswersText blocks outcome read written
-
--- The last step behind answers: the line end that is due is written, or a write failed (own rule).
-abbrev pub Finishes : Result (Unit {0}) ToolFault → Bool → Result (Unit {0}) ToolFault → List ℕ → Type 0
-Finishes outcome is_cut result ending = (result ≡ Err tool.Write)
-    ⊎ ((is_cut ≡ false) × (result ≡ outcome) × (ending ≡ line_end outcome))

@@ -1,4 +1,4 @@
 pub mod HexText
-pub mod Spelling
 pub mod Answering
+pub mod Spelling
 pub mod Filtering

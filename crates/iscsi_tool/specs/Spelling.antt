@@ -1,46 +1,56 @@
 -- What a writer holds that spells bytes as lower-case hex digits (own rule).
-use Rattle.std.specs.Prelude.{ℕ, ◌+◌, ◌-◌, Bool, true, false, length, take, List, [], ◌∷◌, Option, Some, None, Result, Ok, Err, if◌then◌else◌}
+use Rattle.std.specs.Prelude.{◌≡◌, ◌⊎◌, ℕ, ◌+◌, ◌-◌, Bool, true, false, length, take, List, [], ◌∷◌, Option, Some, None, Result, Ok, Err, if◌then◌else◌}
 use Rattle.std.specs.Option.{option_map}
 use Rattle.std.specs.Str.{bytes_eq}
 use Rattle.hex.specs.Hex.{decode_of, encode_lower}
 use Rattle.hex.specs.declared.error.FromHexError.{FromHexError}
+use Rattle.iscsi_stream.specs.declared.fault.ToolFault.{ToolFault}
+use Rattle.iscsi_stream.specs.declared.fault.ToolFault.TheVariants as tool
+use Rattle.iscsi_tool.specs.Answering.{line_end}
 use Rattle.iscsi_tool.specs.declared.hex_writer.HexWriter.{HexWriter}
 use Rattle.iscsi_tool.specs.declared.hex_writer.LentWriter.{LentWriter}
 
--- these bytes, if the text is their lower-case digits (own rule)
+-- These bytes, if the text is their lower-case digits (own rule).
 abbrev pub if_spelled : List ℕ → Result (List ℕ) FromHexError → Option (List ℕ)
 if_spelled text (Ok bytes) = if bytes_eq (encode_lower bytes) text then Some bytes else None
 if_spelled text (Err e) = None
 
--- the bytes whose lower-case digits the text is, if it is such (own rule)
+-- The bytes whose lower-case digits the text is, if it is such (own rule).
 abbrev pub spelled_by : List ℕ → Option (List ℕ)
 spelled_by text = if_spelled text (decode_of text)
 
--- the bytes that a text spells, or else its first character, marked, and what the others stand for (own rule)
+-- The bytes that a text spells, or else its first character, marked, and what the others stand for
+-- (own rule).
 abbrev pub marked_from : ℕ → List ℕ → Option (List ℕ) → List ℕ
 marked_from c others (Some bytes) = bytes
 marked_from c others None = (256 + c) ∷ others
 
--- the longest tail of digits as the bytes that it spells, and 256 added to each character before it
--- (own rule)
+-- The longest tail of digits as the bytes that it spells, and 256 added to each character before it
+-- (own rule).
 unfoldable pub marked : List ℕ → List ℕ
 marked [] = []
 marked (c ∷ text) = marked_from c (marked text) (spelled_by (c ∷ text))
 
--- a text without its last character (own rule)
+-- A text without its last character (own rule).
 abbrev pub without_last : List ℕ → List ℕ
 without_last text = take (length text - 1) text
 
--- the digits but for the last one, where it is the first of a byte (own rule)
+-- The digits but for the last one, where it is the first of a byte (own rule).
 abbrev pub whole_digits : Bool → Option (List ℕ) → Option (List ℕ)
 whole_digits true text = option_map without_last text
 whole_digits false text = text
 
--- what a writer of digits holds: what the writer behind it holds, the digits at its end as the bytes
--- that they spell (own rule)
+-- What a writer of digits holds: what the writer behind it holds, the digits at its end as the bytes
+-- that they spell (own rule).
 abbrev pub hex_contents : {W : Type 0} → (W → Option (List ℕ)) → HexWriter W → Option (List ℕ)
 hex_contents contents h = option_map marked (whole_digits h.is_cut (contents h.inner))
 
--- what a lent writer holds: the name of its loan, and what the writer behind it holds (own rule)
+-- What a lent writer holds: the name of its loan, and what the writer behind it holds (own rule).
 abbrev pub lent_contents : {W : Type 0} → (W → Option (List ℕ)) → LentWriter W → Option (List ℕ)
 lent_contents contents l = option_map (λ c. l.writer.ghost_name ∷ c) (contents l.writer.now)
+
+-- Behind the answers the line end that is due is written, where no byte was cut, or a write failed
+-- (own rule).
+abbrev pub Finishes : Result (Unit {0}) ToolFault → Bool → Result (Unit {0}) ToolFault → List ℕ → Type 0
+Finishes outcome is_cut result ending = (result ≡ Err tool.Write)
+    ⊎ ((is_cut ≡ false) × (result ≡ outcome) × (ending ≡ line_end outcome))

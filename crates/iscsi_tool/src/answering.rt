@@ -6,7 +6,8 @@ ghost use Rattle.hex.specs.Hex.{IsBytes};
 ghost use Rattle.scsi_disk.specs.Disk.{zeros, most_blocks};
 ghost use Rattle.iscsi_stream.specs.declared.fault.ToolFault.TheVariants as tool;
 ghost use Rattle.iscsi_service.specs.Session.{target_settings, EndsWell};
-ghost use Rattle.iscsi_tool.specs.Answering.{filter_fault, AnswersBytes, AnswersHex, Finishes, SpellsAnswers};
+ghost use Rattle.iscsi_tool.specs.Answering.{filter_fault, AnswersBytes, AnswersHex, SpellsAnswers};
+ghost use Rattle.iscsi_tool.specs.Spelling.{Finishes};
 
 use crate::hex_text::read_bytes;
 use crate::hex_writer::{HexWriter, LentWriter};
@@ -53,10 +54,10 @@ pub fn answer<R: Read, W: Write>(
 /// Writes the answers to a stream that comes as hex text, as `answer` does, in lower hex, as they
 /// come. The text is read to its end first.
 ///
-/// A line end follows them where `answer` answers `Ok`, `Stream` or `Protocol`. After `NotHex`, and
-/// where memory or the reader was wanting before the text was whole, nothing is written; after want
-/// of memory the digits of those answers that `answer` writes then. Of a failed write nothing is
-/// said.
+/// Answers what `answer` does for the bytes that the text means, and `NotHex` as `read_bytes`. A line
+/// end follows the answers behind `Ok`, `Stream` and `Protocol`. After `NotHex`, and where memory or
+/// the reader was wanting before the text was whole, nothing is written; after want of memory later
+/// the digits of those answers that `answer` writes then. Of a failed write nothing is said.
 pub fn answer_hex<R: Read, W: Write>(
     alloc: Global,
     blocks: u64,

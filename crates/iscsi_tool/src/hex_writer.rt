@@ -12,7 +12,7 @@ use std::io::Write;
 const PIECE: usize = 256;
 
 /// Writes the lower-case hex digits of what it is given, two for each byte, to another writer. Where
-/// that writer takes the first digit of a byte and not the second, no byte is taken any more.
+/// that one takes the first digit of a byte and not the second, no byte is taken any more.
 #[derive(Drop)]
 pub struct HexWriter<W> {
     inner: W,
@@ -107,8 +107,8 @@ fn write_digit<W: Write>(w: &mut W, digit: u8) -> bool
     }
 }
 
-/// A writer that is lent. What it holds begins, for proofs, with the name of the loan: so a writer in
-/// front of it that grew still writes to the same one.
+/// A writer that is lent. What it holds begins, for proofs, with the name of the loan: so what is
+/// written to a writer in front of it has gone to this one and to no other.
 #[derive(Drop)]
 pub struct LentWriter<'a, W> {
     /// The writer behind.

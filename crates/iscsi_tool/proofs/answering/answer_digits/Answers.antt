@@ -1,5 +1,5 @@
 use Rattle.std.proofs.Common.{rules, ap, subst}
-use Rattle.iscsi_tool.specs.Answering.{Finishes}
+use Rattle.iscsi_tool.specs.Spelling.{Finishes}
 use Rattle.iscsi_tool.specs.declared.hex_writer.LentWriter.{LentWriter}
 use Rattle.iscsi_tool.proofs.Answered.{spells}
 use Rattle.iscsi_tool.proofs.Spelled.{through_lent}
@@ -18,7 +18,9 @@ returns g c =
     record {
       spells = (
         _,
-        through_lent held c.new-digits.result after _ _ (held c.finish.new.w) s.1 f.0 s.4 c.new-digits.ensures.whole begin s.3 (λ h. search rules) more,
-        spells c.args.blocks c.args.bytes.now s.0 c.answer-outcome.new.r.now s.1 f.0 c.answer-outcome.result c.finish.result after.is_cut (held after.inner.writer.now) s.2 s.5 c.answer-outcome.ensures.end cut,
+        through_lent held c.new-digits.result after _ _ (held c.finish.new.w) s.1 f.0 s.4 c.new-digits.ensures.whole begin s.3
+            (λ h. search rules) more,
+        spells c.args.blocks c.args.bytes.now s.0 c.answer-outcome.new.r.now s.1 f.0 c.answer-outcome.result c.finish.result
+            after.is_cut (held after.inner.writer.now) s.2 s.5 c.answer-outcome.ensures.end cut,
       );
     }
