@@ -12,6 +12,8 @@ ghost use Rattle.iscsi_service.specs.Reports.{report};
 ghost use Rattle.iscsi_service.specs.Commands.{request_of};
 ghost use Rattle.iscsi_stream.specs.Normalising.{WroteFront};
 ghost use Rattle.iscsi_service.specs.Looping.{initiator_settings, Loops, ReadsFirst};
+ghost use Rattle.scsi_disk.specs.Sparse.{disk_in};
+ghost use Rattle.iscsi_service.specs.LoopPairs.{GoOn, IsFaithful, ends_of};
 ghost use Rattle.iscsi_service.specs.LoopSteps.{Continues, Fails, IsOfSession, Runs, Stops, refusal_fault};
 
 use crate::carrier::Carrier;
@@ -26,7 +28,7 @@ use iscsi_login::{Auth, Offers, Phase, Preferences, Session, Stage};
 use iscsi_pdu::LOGIN_SEGMENT;
 use iscsi_stream::write_fully;
 use iscsi_target::Target;
-use scsi_disk::SparseStore;
+use scsi_disk::{BlockStore, SparseStore};
 use std::alloc::{AllocError, Global};
 use std::io::{Read, Write};
 
@@ -228,6 +230,9 @@ impl<C: Carrier> Ends<C> {
     fn settle(&mut self, requests: Vec<u8>) -> Result<(), ServeFault>
         ensures continues { OnOk result
             (Continues self.old.initiator.machine [] [] self.new.initiator.machine) }
+        ensures served { IsFaithful C.carries → OnOk result (GoOn
+            (ends_of self.old.initiator self.old.target (disk_in self.old.store) requests.items [])
+            (ends_of self.new.initiator self.new.target (disk_in self.new.store) [] [])) }
         ensures err { IfErr result IsOfSession }
     {
         let mut requests = requests;
@@ -244,6 +249,9 @@ impl<C: Carrier> Ends<C> {
     // Carries requests to the target, and gives its answers.
     fn ask(&mut self, requests: &[u8]) -> Result<Vec<u8>, ServeFault>
         ensures kept { self.new.initiator ≡ self.old.initiator }
+        ensures served { IsFaithful C.carries → IfOk result (λ answers. GoOn
+            (ends_of self.old.initiator self.old.target (disk_in self.old.store) requests.now [])
+            (ends_of self.new.initiator self.new.target (disk_in self.new.store) [] answers.items)) }
         ensures err { IfErr result IsOfSession }
     {
         let mut answers = Vec::new(self.alloc);
@@ -254,6 +262,8 @@ impl<C: Carrier> Ends<C> {
             let read = &mut buffer[..len];
             self.carrier.to_target(&rest[..len], read)?;
             self.target.feed(read, &mut self.store, &mut answers)?;
+            // Whatever was written, the store is a disk.
+            let _blocks = self.store.blocks();
             rest = &rest[len..];
         }
         Ok(answers)
@@ -263,6 +273,9 @@ impl<C: Carrier> Ends<C> {
     fn hear(&mut self, answers: &[u8]) -> Result<Vec<u8>, ServeFault>
         ensures continues { OnOk result
             (Continues self.old.initiator.machine [] [] self.new.initiator.machine) }
+        ensures served { IsFaithful C.carries → IfOk result (λ requests. GoOn
+            (ends_of self.old.initiator self.old.target (disk_in self.old.store) [] answers.now)
+            (ends_of self.new.initiator self.new.target (disk_in self.new.store) requests.items [])) }
         ensures err { IfErr result IsOfSession }
     {
         let mut requests = Vec::new(self.alloc);
