@@ -5,3 +5,4 @@ pub mod Reported
 pub mod Histories
 pub mod PairSteps
 pub mod Requests
+pub mod OnDisk

@@ -27,7 +27,7 @@ use Rattle.iscsi_pair.proofs.ReadBack.{standard_normal}
 use Rattle.iscsi_pair.proofs.Steps.{asked_append, served_more}
 use Rattle.iscsi_service.specs.Looping.{initiator_settings}
 use Rattle.iscsi_service.specs.Session.{target_settings}
-use Rattle.iscsi_service.specs.LoopPairs.{AreOneDisk, Ends, GoOn, HaveServed, Performs, ends_of, loop_opening, outcome_on, outcomes_on, world_of}
+use Rattle.iscsi_service.specs.LoopPairs.{AreOneDisk, Ends, GoOn, HaveServed, Performs, ends_of, loop_opening, new_ends, outcome_on, outcomes_on, world_of}
 
 -- ---- bytes of blocks
 
@@ -270,3 +270,25 @@ takes_on i t disk request done blocks past is h =
   where
     first_is : (a b : Done) → a ∷ [] ≡ b ∷ [] → a ≡ b
     first_is a b e = cc
+
+-- a request and its outcome, with what was carried between
+pub performs : (old handed settled : initiator.Connection) (t u : target.Connection) (before after : Disk) (out : List ℕ) (request : Request) (done : Done)
+    → initiator.Submits (Ok tt) old request handed [] out → IsServed request → GoOn (ends_of handed t before out []) (ends_of settled u after [] [])
+    → settled.machine.done ≡ Some done
+    → Performs (ends_of old t before [] []) request done (ends_of (initiator.after_taking settled) u after [] [])
+performs old handed settled t u before after out request done s is on given = λ blocks past h.
+    takes_on settled u after request done blocks past given
+    (on blocks (past ++ request ∷ []) (outcomes_on blocks past) (submits_on old handed t before out request s is blocks past (outcomes_on blocks past) h))
+
+-- a login
+pub logs_in : (old started_ settled : initiator.Connection) (t u : target.Connection) (before after : Disk) (out : List ℕ) (blocks : ℕ)
+    → ends_of old t before [] [] ≡ new_ends blocks → initiator.Starts (Ok tt) old started_ [] out
+    → GoOn (ends_of started_ t before out []) (ends_of settled u after [] []) → AreOneDisk blocks [] (ends_of settled u after [] [])
+logs_in old started_ settled t u before after out blocks new s on =
+    let first : initiator.Starts (Ok tt) (initiator.opening_connection initiator_settings) started_ [] out =
+        subst (λ (i : initiator.Connection). initiator.Starts (Ok tt) i started_ [] out) (ap (λ (e : Ends). e.initiator) new) s in
+    let here : AreOneDisk blocks [] (ends_of started_ t before out []) =
+        subst (λ (d : Disk). AreOneDisk blocks [] (ends_of started_ t d out [])) (sym (ap (λ (e : Ends). e.disk) new))
+        (subst (λ (x : target.Connection). AreOneDisk blocks [] (ends_of started_ x (zeros blocks) out [])) (sym (ap (λ (e : Ends). e.target) new))
+        (starts blocks started_ out first)) in
+    on blocks [] (outcomes_on blocks []) here

@@ -2,7 +2,7 @@
 -- 7143, section 4.2; own rule).
 use Rattle.std.specs.Prelude.{◌≡◌, ◌⊎◌, ℕ, ◌*◌, List, [], ◌∷◌, ◌++◌, map, replicate, take, None, Option, Result, Ok, Err}
 use Rattle.std.specs.Io.KnownBytes.{Appends}
-use Rattle.scsi_disk.specs.Disk.{Disk, disk_of}
+use Rattle.scsi_disk.specs.Disk.{Disk, disk_of, zeros}
 use Rattle.iscsi_stream.specs.Normalising.{WroteFront}
 use Rattle.iscsi_target.specs.Feed as target
 use Rattle.iscsi_initiator.specs.Calls as initiator
@@ -48,6 +48,11 @@ pub record Ends : Type 0 where
 abbrev pub ends_of : initiator.Connection → target.Connection → Disk → List ℕ → List ℕ → Ends
 ends_of initiator target disk out back =
     record { initiator = initiator; target = target; disk = disk; out = out; back = back }
+
+-- Both ends before the login, over so many blocks of 00 (own rule).
+abbrev pub new_ends : ℕ → Ends
+new_ends blocks = ends_of (initiator.opening_connection initiator_settings)
+    (target.opening_connection target_settings 1) (zeros blocks) [] []
 
 -- These ends as a pair of which none has failed, with the bytes of its blocks (own rule).
 abbrev pub world_of : Ends → List ℕ → World
@@ -96,6 +101,16 @@ AreOneDisk blocks requests ends = HaveServed blocks requests (outcomes_on blocks
 abbrev pub Performs : Ends → Request → Done → Ends → Type 0
 Performs old request done new = (blocks : ℕ) (past : List Request) → AreOneDisk blocks past old
     → (done ≡ outcome_on blocks past request) × AreOneDisk blocks (past ++ request ∷ []) new
+
+-- The line of a request's outcome on one local disk is written, and the ends have served it; before a
+-- fault a front of that line is (own rule).
+abbrev pub WritesLine : Result (Unit {0}) ServeFault → ℕ → List Request → Request → Ends
+    → Option (List ℕ) → Option (List ℕ) → Type 0
+WritesLine (Ok done) blocks past request ends contents_old contents_new =
+    AreOneDisk blocks (past ++ request ∷ []) ends
+    × Appends contents_old contents_new (report (outcome_on blocks past request))
+WritesLine (Err fault) blocks past request ends contents_old contents_new =
+    WroteFront contents_old contents_new (report (outcome_on blocks past request))
 
 -- What the commands up to the first logout lead to on one local disk of so many blocks (own rule).
 abbrev pub command_outcomes : ℕ → List Command → List Done
