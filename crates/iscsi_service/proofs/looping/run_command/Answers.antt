@@ -27,3 +27,9 @@ returns-clause-served g c = λ faithful blocks past one.
     (ends_of after.initiator after.target (disk_in after.store) [] []) contents_old contents_new (c.in_ok-done.ensures.served faithful) one
     (subst (λ (x : List ℕ). OnOk c.write_line.result (Appends contents_old contents_new x)) line c.write_line.ensures.ok)
     (subst (λ (x : List ℕ). IfErr c.write_line.result (λ fault. (fault ≡ serve.Write) × WroteFront contents_old contents_new x)) line c.write_line.ensures.err)
+
+pub returns-in_err-done-clause-served : goal.returns-in_err-done-clause-served
+returns-in_err-done-clause-served g c = λ faithful blocks past one.
+    let p = err_from_is_err_and c.from_residual.result c.from_residual.ensures.1 in
+    let after = c.perform.new.self in
+    rw p.1 (no_line p.0 blocks past (request_of c.args.command) (ends_of after.initiator after.target (disk_in after.store) [] []) (g.W.Write.contents c.args.w.now))
