@@ -1,7 +1,7 @@
 -- What a loop writes, command by command, where its ends are one local disk.
 use Rattle.std.specs.Prelude.{IfErr, OnOk}
 use Rattle.std.specs.Io.KnownBytes.{Appends}
-use Rattle.std.proofs.Common.{◌≡◌, ◌≤◌, inl, inr, ℕ, min, List, [], ◌∷◌, ◌++◌, length, map, take, Option, Result, Ok, Err, refl, sym, ap, ◌∙◌, subst, append_assoc, append-nil, arith}
+use Rattle.std.proofs.Common.{◌≡◌, inr, ℕ, min, List, [], ◌∷◌, ◌++◌, length, map, take, Option, Result, Ok, Err, refl, sym, ap, ◌∙◌, subst, append_assoc, append-nil, arith}
 use Rattle.std.proofs.KnownBytes.{Appends-trans, Appends-nil}
 use Rattle.std.proofs.lemmas.List.{map-append, take-append-le, take_all, take_min}
 use Rattle.std.proofs.lemmas.List.Concat.{flat_map-append, flat_map-cons}
@@ -71,10 +71,10 @@ on_more blocks all rest more command old new contents_old contents_now contents_
     let w = does past d.one in
     let both : map request_of (d.front ++ command ∷ []) ≡ past ++ request_of command ∷ [] = map-append request_of d.front (command ∷ []) in
     let each : outcomes_on blocks (past ++ request_of command ∷ []) ≡ outcomes_on blocks past ++ next ∷ [] =
-        outcomes_more initiator_settings.proposal.prefs.max_recv (disk_of (loop_opening blocks).blocks) past (request_of command) in
+    outcomes_more initiator_settings.proposal.prefs.max_recv (disk_of (loop_opening blocks).blocks) past (request_of command) in
     let lines : reports (outcomes_on blocks (map request_of (d.front ++ command ∷ []))) ≡ reports (outcomes_on blocks past) ++ report next =
-        ap (λ (rs : List Request). reports (outcomes_on blocks rs)) both ∙ ap reports each ∙ flat_map-append report (outcomes_on blocks past) (next ∷ [])
-        ∙ ap (λ (x : List ℕ). reports (outcomes_on blocks past) ++ x) (append-nil (report next)) in
+    ap (λ (rs : List Request). reports (outcomes_on blocks rs)) both ∙ ap reports each ∙ flat_map-append report (outcomes_on blocks past) (next ∷ [])
+    ∙ ap (λ (x : List ℕ). reports (outcomes_on blocks past) ++ x) (append-nil (report next)) in
     record {
       front = d.front ++ command ∷ [];
       one = subst (λ (rs : List Request). AreOneDisk blocks rs new) (sym both) w.0;
@@ -106,15 +106,15 @@ on_stops fault blocks all rest more command old new contents_old contents_now co
     let next : Done = outcome_on blocks past (request_of command) in
     let tail : List Done = local_outcomes most (local most (local_disk most disk past) (request_of command)).disk later in
     let whole : up_to_logout all ≡ d.front ++ command ∷ up_to_logout left =
-        d.runs ∙ ap (λ (cs : List Command). d.front ++ up_to_logout cs) is
-        ∙ ap (λ (cs : List Command). d.front ++ cs) (left_at (is_logout command) command more refl) in
+    d.runs ∙ ap (λ (cs : List Command). d.front ++ up_to_logout cs) is
+    ∙ ap (λ (cs : List Command). d.front ++ cs) (left_at (is_logout command) command more refl) in
     let asked : map request_of (up_to_logout all) ≡ past ++ request_of command ∷ later =
-        ap (λ (cs : List Command). map request_of cs) whole ∙ map-append request_of d.front (command ∷ up_to_logout left) in
+    ap (λ (cs : List Command). map request_of cs) whole ∙ map-append request_of d.front (command ∷ up_to_logout left) in
     let lines : reports (command_outcomes blocks all) ≡ reports (outcomes_on blocks past) ++ (report next ++ reports tail) =
-        ap (λ (rs : List Request). reports (outcomes_on blocks rs)) asked
-        ∙ ap reports (parts most disk past (request_of command ∷ later))
-        ∙ flat_map-append report (outcomes_on blocks past) (next ∷ tail)
-        ∙ ap (λ (x : List ℕ). reports (outcomes_on blocks past) ++ x) (flat_map-cons report next tail) in
+    ap (λ (rs : List Request). reports (outcomes_on blocks rs)) asked
+    ∙ ap reports (parts most disk past (request_of command ∷ later))
+    ∙ flat_map-append report (outcomes_on blocks past) (next ∷ tail)
+    ∙ ap (λ (x : List ℕ). reports (outcomes_on blocks past) ++ x) (flat_map-cons report next tail) in
     subst (λ (x : List ℕ). WroteFront contents_old contents_new x) (sym lines)
     (front_then contents_old contents_now contents_new (reports (outcomes_on blocks past)) (report next ++ reports tail) d.written
     (front_more contents_now contents_new (report next) (reports tail) (does past d.one)))

@@ -1,25 +1,20 @@
 -- What the steps of a loop lead its pair to.
 use Rattle.std.specs.Prelude.{replicate}
-use Rattle.std.proofs.Common.{◌≡◌, ◌<◌, ◌≤◌, inl, inr, ℕ, zero, suc, ◌+◌, ◌-◌, ◌*◌, ◌/◌, List, [], ◌∷◌, ◌++◌, length, take, drop, Option, Some, None, Result, Ok, Err, refl, sym, ap, ◌∙◌, subst, append-nil, arith}
+use Rattle.std.proofs.Common.{◌≡◌, ◌<◌, ◌≤◌, inl, inr, ℕ, zero, suc, ◌+◌, ◌-◌, ◌*◌, List, [], ◌∷◌, ◌++◌, length, take, drop, Option, Some, None, Ok, refl, sym, ap, ◌∙◌, subst, append-nil, arith}
 use mathlib.Core.Path.{fun_ext}
 use Rattle.std.proofs.lemmas.Bool.{cases_lt}
 use Rattle.std.proofs.lemmas.List.{append_cancel_left, drop-drop, drop_at, length-append, length-drop, length-take-le, take_all, take_at}
 use Rattle.scsi_disk.specs.Disk.{Disk, IsDisk, cut, disk_of, joined, zeros}
 use Rattle.scsi_disk.proofs.Blocks.{cut_past, disk_of-zeros, same_disk}
 use Rattle.iscsi_login.specs.declared.phase.Phase.{Phase}
-use Rattle.iscsi_target.specs.declared.fault.TargetFault.{TargetFault}
 use Rattle.iscsi_target.specs.Feed as target
-use Rattle.iscsi_initiator.specs.declared.fault.InitiatorFault.{InitiatorFault}
 use Rattle.iscsi_initiator.specs.declared.request.Done.{Done}
 use Rattle.iscsi_initiator.specs.declared.request.Request.{Request}
-use Rattle.iscsi_initiator.specs.declared.request.Refused.{Refused}
 use Rattle.iscsi_initiator.specs.Calls as initiator
 use Rattle.iscsi_initiator.specs.Laws.{listed}
-use Rattle.iscsi_initiator.specs.State.{opening}
-use Rattle.iscsi_pair.specs.World.{World, Opening, Event, ToTarget, ToInitiator, Submits, Takes, TargetHears, InitiatorHears, InitiatorIsAsked, MovesToTarget, MovesToInitiator, Happens, IsOpening, new_pair, started, store_of}
+use Rattle.iscsi_pair.specs.World.{World, Opening, Event, ToTarget, ToInitiator, Submits, Takes, TargetHears, InitiatorHears, InitiatorIsAsked, MovesToTarget, MovesToInitiator, Happens, new_pair, store_of}
 use Rattle.iscsi_pair.specs.LocalDisk.{local_outcomes}
 use Rattle.iscsi_pair.specs.Served.{IsNormal, IsServed, IsAccepted, RunsServed, asked, disk_outcomes, given_in}
-use Rattle.iscsi_pair.specs.Example.{standard_opening}
 use Rattle.iscsi_pair.proofs.Blocks.{HasBlocks}
 use Rattle.iscsi_pair.proofs.LocalDisks.{outcomes_more}
 use Rattle.iscsi_pair.proofs.OneDisk.{idle_whole}
@@ -119,8 +114,8 @@ asks_on i old new before after out back written piece n phase fed is front size 
       other_fault = refl;
     } in
     let happens : Happens (world_of here h.bytes) (ToTarget n) (world_of there b.bytes) =
-        subst (λ (x : List ℕ). MovesToTarget None x (world_of here h.bytes) (world_of there b.bytes)) (sym front)
-        (moves_there piece (world_of here h.bytes) (world_of there b.bytes) (omega (arith, size, some)) hears) in
+    subst (λ (x : List ℕ). MovesToTarget None x (world_of here h.bytes) (world_of there b.bytes)) (sym front)
+    (moves_there piece (world_of here h.bytes) (world_of there b.bytes) (omega (arith, size, some)) hears) in
     quiet blocks requests outcomes there (more blocks requests outcomes here there b.bytes (ToTarget n) h happens tt b.is)
 
 -- a piece reaches the initiator
@@ -140,8 +135,8 @@ hears_on old new t disk out back written piece n phase fed front size some = λ 
       other_fault = refl;
     } in
     let happens : Happens (world_of here h.bytes) (ToInitiator n) (world_of there h.bytes) =
-        subst (λ (x : List ℕ). MovesToInitiator None x (world_of here h.bytes) (world_of there h.bytes)) (sym front)
-        (moves_here piece (world_of here h.bytes) (world_of there h.bytes) (omega (arith, size, some)) hears) in
+    subst (λ (x : List ℕ). MovesToInitiator None x (world_of here h.bytes) (world_of there h.bytes)) (sym front)
+    (moves_here piece (world_of here h.bytes) (world_of there h.bytes) (omega (arith, size, some)) hears) in
     quiet blocks requests outcomes there (more blocks requests outcomes here there h.bytes (ToInitiator n) h happens tt h.disk_is)
 
 -- what is left of bytes behind the first
@@ -255,13 +250,13 @@ takes_on i t disk request done blocks past is h =
     let c : Opening = loop_opening blocks in
     let all : List Request = past ++ request ∷ [] in
     let whole : outcomes_on blocks past ++ listed i.machine.done ≡ disk_outcomes c (asked h.events) =
-        (idle_whole c h.events (world_of here h.bytes) (outcomes_on blocks past) (is_normal blocks) h.runs refl refl).0 in
+    (idle_whole c h.events (world_of here h.bytes) (outcomes_on blocks past) (is_normal blocks) h.runs refl refl).0 in
     let these : outcomes_on blocks past ++ listed i.machine.done ≡ outcomes_on blocks all = whole ∙ ap (disk_outcomes c) h.asked_are in
     let each : outcomes_on blocks all ≡ outcomes_on blocks past ++ outcome_on blocks past request ∷ [] =
-        outcomes_more initiator_settings.proposal.prefs.max_recv (disk_of c.blocks) past request in
+    outcomes_more initiator_settings.proposal.prefs.max_recv (disk_of c.blocks) past request in
     let one : done ∷ [] ≡ outcome_on blocks past request ∷ [] =
-        append_cancel_left (outcomes_on blocks past) (done ∷ []) (outcome_on blocks past request ∷ [])
-        (ap (λ (o : Option Done). outcomes_on blocks past ++ listed o) (sym is) ∙ these ∙ each) in (
+    append_cancel_left (outcomes_on blocks past) (done ∷ []) (outcome_on blocks past request ∷ [])
+    (ap (λ (o : Option Done). outcomes_on blocks past ++ listed o) (sym is) ∙ these ∙ each) in (
       first_is done (outcome_on blocks past request) one,
       subst (λ (x : List Done). HaveServed blocks all x there) these
           (subst (λ (x : List Request). HaveServed blocks x (outcomes_on blocks past ++ listed i.machine.done) there) (append-nil all)
@@ -286,9 +281,9 @@ pub logs_in : (old started_ settled : initiator.Connection) (t u : target.Connec
     → GoOn (ends_of started_ t before out []) (ends_of settled u after [] []) → AreOneDisk blocks [] (ends_of settled u after [] [])
 logs_in old started_ settled t u before after out blocks new s on =
     let first : initiator.Starts (Ok tt) (initiator.opening_connection initiator_settings) started_ [] out =
-        subst (λ (i : initiator.Connection). initiator.Starts (Ok tt) i started_ [] out) (ap (λ (e : Ends). e.initiator) new) s in
+    subst (λ (i : initiator.Connection). initiator.Starts (Ok tt) i started_ [] out) (ap (λ (e : Ends). e.initiator) new) s in
     let here : AreOneDisk blocks [] (ends_of started_ t before out []) =
-        subst (λ (d : Disk). AreOneDisk blocks [] (ends_of started_ t d out [])) (sym (ap (λ (e : Ends). e.disk) new))
-        (subst (λ (x : target.Connection). AreOneDisk blocks [] (ends_of started_ x (zeros blocks) out [])) (sym (ap (λ (e : Ends). e.target) new))
-        (starts blocks started_ out first)) in
+    subst (λ (d : Disk). AreOneDisk blocks [] (ends_of started_ t d out [])) (sym (ap (λ (e : Ends). e.disk) new))
+    (subst (λ (x : target.Connection). AreOneDisk blocks [] (ends_of started_ x (zeros blocks) out [])) (sym (ap (λ (e : Ends). e.target) new))
+    (starts blocks started_ out first)) in
     on blocks [] (outcomes_on blocks []) here

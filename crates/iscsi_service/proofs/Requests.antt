@@ -1,7 +1,7 @@
 -- The requests of commands are those that a pair serves.
 use Rattle.std.specs.List.{AllByRecursion}
 use Rattle.std.specs.Prelude.{if◌then◌else◌, nat_lt, replicate}
-use Rattle.std.proofs.Common.{◌≡◌, ◌<◌, ℕ, ◌*◌, ◌^◌, Bool, true, false, List, length, refl, arith}
+use Rattle.std.proofs.Common.{◌≡◌, ◌<◌, ℕ, ◌*◌, ◌^◌, Bool, true, false, length, refl, arith}
 use Rattle.std.proofs.lemmas.Bool.{ltb-true}
 use Rattle.scsi_cdb.specs.Layout.{HaveRoom}
 use Rattle.scsi_cdb.specs.Blocks.{IsUnlisted, canonical, rows}

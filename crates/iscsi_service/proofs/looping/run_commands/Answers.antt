@@ -5,9 +5,7 @@ use Rattle.iscsi_service.specs.declared.command.Command.{Command}
 use Rattle.iscsi_service.specs.Looping.{up_to_logout}
 use Rattle.iscsi_service.proofs.Histories.{DoneSoFar, done_none, done_more, done_all, done_stops, goes_on, ends_at}
 use Rattle.scsi_disk.specs.Sparse.{disk_in}
-use Rattle.iscsi_initiator.specs.declared.request.Request.{Request}
-use Rattle.iscsi_service.specs.Commands.{request_of}
-use Rattle.iscsi_service.specs.LoopPairs.{AreOneDisk, WritesLine, WritesOnDisk, ends_of}
+use Rattle.iscsi_service.specs.LoopPairs.{ends_of}
 use Rattle.iscsi_service.proofs.OnDisk.{OnDiskSoFar, on_none, on_more, on_stops, on_all}
 use Rattle.iscsi_service.proofs.looping.run_commands.Goals as goal
 

@@ -1,8 +1,7 @@
-use Rattle.std.proofs.Common.{◌≡◌, Some, [], ◌∷◌, subst, sym}
+use Rattle.std.proofs.Common.{[], ◌∷◌, subst, sym}
 use Rattle.scsi_disk.specs.Sparse.{disk_in}
-use Rattle.iscsi_initiator.specs.declared.request.Done.{Done}
 use Rattle.iscsi_initiator.specs.declared.request.Request.{Request}
-use Rattle.iscsi_initiator.specs.Calls.{Connection, Submits, after_taking}
+use Rattle.iscsi_initiator.specs.Calls.{Connection}
 use Rattle.iscsi_pair.specs.Served.{IsServed}
 use Rattle.iscsi_service.specs.Commands.{request_of}
 use Rattle.iscsi_service.specs.LoopPairs.{Performs, ends_of}
@@ -26,8 +25,8 @@ returns-in-Some g c =
       continues = then_continues before.machine after.machine _ _ [] [] _ settled given;
       served = λ faithful.
           let done_on = performs before c.submit.new.self after c.args.self.now.target c.settle.new.self.target (disk_in c.args.self.now.store) (disk_in c.settle.new.self.store)
-              c.submit.new.out.items c.in_ok-request.request done (rw c.new-out.ensures.items at c.in-Ok.ensures.submits) (subst IsServed (sym c.in_ok-request.ensures.request) served)
-              (c.in_ok-settle.ensures.served faithful) (sym c.in-Some.ensures.outcome) in
+          c.submit.new.out.items c.in_ok-request.request done (rw c.new-out.ensures.items at c.in-Ok.ensures.submits) (subst IsServed (sym c.in_ok-request.ensures.request) served)
+          (c.in_ok-settle.ensures.served faithful) (sym c.in-Some.ensures.outcome) in
           subst (λ (r : Request). Performs (ends_of before c.args.self.now.target (disk_in c.args.self.now.store) [] []) r done
           (ends_of c.outcome.new.self c.settle.new.self.target (disk_in c.settle.new.self.store) [] [])) c.in_ok-request.ensures.request
           (subst (λ (i : Connection). Performs (ends_of before c.args.self.now.target (disk_in c.args.self.now.store) [] []) c.in_ok-request.request done
