@@ -276,7 +276,8 @@ impl<C: Carrier> Ends<C> {
         ensures kept { self.new.initiator ≡ self.old.initiator }
         ensures served { IsFaithful C.carries → IfOk result (λ answers. GoOn
             (ends_of self.old.initiator self.old.target (disk_in self.old.store) requests.now [])
-            (ends_of self.new.initiator self.new.target (disk_in self.new.store) [] answers.items)) }
+            (ends_of self.new.initiator self.new.target (disk_in self.new.store) []
+            answers.items)) }
         ensures err { IfErr result IsOfSession }
     {
         let mut answers = Vec::new(self.alloc);
@@ -287,7 +288,7 @@ impl<C: Carrier> Ends<C> {
             let read = &mut buffer[..len];
             self.carrier.to_target(&rest[..len], read)?;
             self.target.feed(read, &mut self.store, &mut answers)?;
-            // Whatever was written, the store is a disk.
+            // Its contract says that these are the blocks of a disk, whatever was written.
             let _blocks = self.store.blocks();
             rest = &rest[len..];
         }
@@ -300,7 +301,8 @@ impl<C: Carrier> Ends<C> {
             (Continues self.old.initiator.machine [] [] self.new.initiator.machine) }
         ensures served { IsFaithful C.carries → IfOk result (λ requests. GoOn
             (ends_of self.old.initiator self.old.target (disk_in self.old.store) [] answers.now)
-            (ends_of self.new.initiator self.new.target (disk_in self.new.store) requests.items [])) }
+            (ends_of self.new.initiator self.new.target (disk_in self.new.store)
+            requests.items [])) }
         ensures err { IfErr result IsOfSession }
     {
         let mut requests = Vec::new(self.alloc);
