@@ -205,15 +205,15 @@ stops_at fault is all rest m contents_old contents_now contents_new d w =
     (is, (d.outcomes, done_first all rest m contents_old contents_now d, subst (λ (x : List ℕ). Appends contents_old contents_new x) (append-nil (reports d.outcomes)) (Appends-trans contents_old contents_now contents_new (reports d.outcomes) [] d.written w)))
 
 -- a front of what follows some bytes
-front_then : (a b c : Option (List ℕ)) (xs ys : List ℕ) → Appends a b xs → WroteFront b c ys → WroteFront a c (xs ++ ys)
+pub front_then : (a b c : Option (List ℕ)) (xs ys : List ℕ) → Appends a b xs → WroteFront b c ys → WroteFront a c (xs ++ ys)
 front_then a b c xs ys first w = (length xs + w.0, subst (λ (x : List ℕ). Appends a c x) (sym (take-append-add xs ys w.0)) (Appends-trans a b c xs (take w.0 ys) first w.1))
 
 -- what a command leaves to be done
-abbrev left_by : Bool → List Command → List Command
+abbrev pub left_by : Bool → List Command → List Command
 left_by true more = []
 left_by false more = more
 
-left_at : (b : Bool) (command : Command) (more : List Command) → is_logout command ≡ b → up_to_logout (command ∷ more) ≡ command ∷ up_to_logout (left_by b more)
+pub left_at : (b : Bool) (command : Command) (more : List Command) → is_logout command ≡ b → up_to_logout (command ∷ more) ≡ command ∷ up_to_logout (left_by b more)
 left_at true command more is = ends_at command more is
 left_at false command more is = goes_on command more is
 
@@ -307,7 +307,7 @@ abbrev pub Leaves : Result (Unit {0}) ServeFault → List ℕ → Option (List �
 Leaves result script contents_old contents_new left =
     (written : List ℕ) × Appends contents_old contents_new written × Loops result script written × ReadsFirst result written left
 
-abbrev login_line : List ℕ
+abbrev pub login_line : List ℕ
 login_line = codes "login" ++ 0x0a ∷ []
 
 -- the line of the login was written in part

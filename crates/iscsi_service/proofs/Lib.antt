@@ -3,3 +3,6 @@ pub mod SessionReads
 pub mod Scripts
 pub mod Reported
 pub mod Histories
+pub mod PairSteps
+pub mod Requests
+pub mod OnDisk

@@ -1,5 +1,5 @@
 -- The requests that the commands of a script are (SPC-4 and SBC-3; which there are is own rule).
-use Rattle.std.specs.Prelude.{ℕ, ◌*◌, ◌^◌, Bool, true, false, nat_lt, if◌then◌else◌, replicate}
+use Rattle.std.specs.Prelude.{ℕ, ◌*◌, ◌^◌, ◌<◌, Bool, true, false, nat_lt, if◌then◌else◌, replicate}
 use Rattle.scsi_cdb.specs.declared.block.Cdb.{Cdb}
 use Rattle.scsi_cdb.specs.declared.block.Cdb.TheVariants as cdb
 use Rattle.scsi_cdb.specs.declared.block.Transfer10.{Transfer10}
@@ -82,6 +82,22 @@ request_of (Write logical_block_address blocks byte) = written logical_block_add
 request_of (Sync logical_block_address blocks) = asked 0 (flush logical_block_address blocks) 0
 request_of (Ping bytes) = requests.Ping bytes
 request_of Logout = requests.Logout
+
+-- The numbers of a command are those of their fields (own rule).
+abbrev pub HasNumbers : Command → Type 0
+HasNumbers (TestUnitReady unit) = unit < 256
+HasNumbers (Inquiry unit allocation_length) = (unit < 256) × (allocation_length < 2 ^ 16)
+HasNumbers Capacity = Unit {0}
+HasNumbers Capacity16 = Unit {0}
+HasNumbers Luns = Unit {0}
+HasNumbers (Read logical_block_address blocks) =
+    (logical_block_address < 2 ^ 64) × (blocks < 2 ^ 16)
+HasNumbers (Write logical_block_address blocks byte) =
+    (logical_block_address < 2 ^ 64) × (blocks < 2 ^ 16)
+HasNumbers (Sync logical_block_address blocks) =
+    (logical_block_address < 2 ^ 32) × (blocks < 2 ^ 16)
+HasNumbers (Ping bytes) = Unit {0}
+HasNumbers Logout = Unit {0}
 
 -- The command ends the session (RFC 7143, section 11.14).
 abbrev pub is_logout : Command → Bool

@@ -6,3 +6,4 @@ pub mod Script
 pub mod Reports
 pub mod Looping
 pub mod LoopSteps
+pub mod LoopPairs

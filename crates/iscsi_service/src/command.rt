@@ -3,7 +3,7 @@
 ghost use Rattle.std.specs.Prelude.{◌≡◌, false, IfOk};
 ghost use Rattle.scsi_cdb.specs.declared.block.Cdb.TheVariants as cdb;
 ghost use Rattle.scsi_cdb.specs.Blocks.{Fits};
-ghost use Rattle.iscsi_service.specs.Commands.{request_of, is_logout, asked, written, reading, writing, flush, transfer, long_transfer};
+ghost use Rattle.iscsi_service.specs.Commands.{HasNumbers, request_of, is_logout, asked, written, reading, writing, flush, transfer, long_transfer};
 
 use iscsi_initiator::Request;
 use scsi_cdb::{Bytes, Cdb, Synchronize10, Transfer10, Transfer16};
@@ -74,6 +74,7 @@ impl Command {
     /// give (SPC-4 and SBC-3). The unit's number is byte 1 of the LUN (SAM-5, section 4.7).
     pub fn into_request(self, alloc: Global) -> Result<Request, AllocError>
         ensures request { IfOk result (λ request. request ≡ request_of self) }
+        ensures numbers { HasNumbers self }
     {
         match self {
             Command::TestUnitReady { unit } => {

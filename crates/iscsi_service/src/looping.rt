@@ -7,11 +7,14 @@ ghost use Rattle.iscsi_initiator.specs.State.{opening};
 ghost use Rattle.iscsi_initiator.specs.Calls.{opening_connection};
 ghost use Rattle.iscsi_initiator.specs.declared.fault.InitiatorFault.TheVariants as faults;
 ghost use Rattle.iscsi_initiator.specs.declared.request.Done.{Done};
+ghost use Rattle.iscsi_initiator.specs.declared.request.Request.{Request};
 ghost use Rattle.iscsi_service.specs.declared.serve_fault.ServeFault.TheVariants as serve;
 ghost use Rattle.iscsi_service.specs.Reports.{report};
 ghost use Rattle.iscsi_service.specs.Commands.{request_of};
 ghost use Rattle.iscsi_stream.specs.Normalising.{WroteFront};
 ghost use Rattle.iscsi_service.specs.Looping.{initiator_settings, Loops, ReadsFirst};
+ghost use Rattle.scsi_disk.specs.Sparse.{disk_in};
+ghost use Rattle.iscsi_service.specs.LoopPairs.{AreOneDisk, GoOn, IsFaithful, LoopsOnDisk, Performs, WritesLine, WritesOnDisk, ends_of, new_ends};
 ghost use Rattle.iscsi_service.specs.LoopSteps.{Continues, Fails, IsOfSession, Runs, Stops, refusal_fault};
 
 use crate::carrier::Carrier;
@@ -26,7 +29,7 @@ use iscsi_login::{Auth, Offers, Phase, Preferences, Session, Stage};
 use iscsi_pdu::LOGIN_SEGMENT;
 use iscsi_stream::write_fully;
 use iscsi_target::Target;
-use scsi_disk::SparseStore;
+use scsi_disk::{BlockStore, SparseStore};
 use std::alloc::{AllocError, Global};
 use std::io::{Read, Write};
 
@@ -93,6 +96,11 @@ pub fn run_over<C: Carrier, R: Read, W: Write>(
         × Consumes (R.remaining r.old) (R.remaining r.new) script
         × Appends (W.contents w.old) (W.contents w.new) written
         × Loops result script written × ReadsFirst result written (R.remaining r.new) }
+    // Over a connection that gives what was written to it, the lines are those of one local disk.
+    ensures on_disk { IsFaithful C.carries → (script : List ℕ) × (written : List ℕ)
+        × Consumes (R.remaining r.old) (R.remaining r.new) script
+        × Appends (W.contents w.old) (W.contents w.new) written
+        × LoopsOnDisk blocks result script written }
 {
     let commands = read_script(rt.alloc(), r)?;
     let mut ends = Ends::<C>::open(rt, blocks, piece as usize)?;
@@ -112,6 +120,9 @@ fn run_commands<C: Carrier, W: Write>(
     ensures runs { OnOk result (Runs commands.items (W.contents w.old) (W.contents w.new)) }
     ensures err { IfErr result (λ fault.
         Stops fault commands.items (W.contents w.old) (W.contents w.new)) }
+    ensures served { IsFaithful C.carries → (blocks : ℕ) → AreOneDisk blocks []
+        (ends_of ends.old.initiator ends.old.target (disk_in ends.old.store) [] [])
+        → WritesOnDisk blocks commands.items result (W.contents w.old) (W.contents w.new) }
 {
     for command in commands {
         let is_logout = command.is_logout();
@@ -135,6 +146,12 @@ fn run_command<C: Carrier, W: Write>(
         × Appends (W.contents w.old) (W.contents w.new) (report done)) }
     ensures err { IfErr result (λ fault. Fails fault ends.old.initiator.machine command
         ends.new.initiator.machine (W.contents w.old) (W.contents w.new)) }
+    ensures served { IsFaithful C.carries → (blocks : ℕ) (past : List Request)
+        → AreOneDisk blocks past
+        (ends_of ends.old.initiator ends.old.target (disk_in ends.old.store) [] [])
+        → WritesLine result blocks past (request_of command)
+        (ends_of ends.new.initiator ends.new.target (disk_in ends.new.store) [] [])
+        (W.contents w.old) (W.contents w.new) }
 {
     let alloc = ends.alloc;
     let done = ends.perform(command)?;
@@ -176,6 +193,8 @@ impl<C: Carrier> Ends<C> {
         requires short { piece ≤ 4096 }
         ensures opening { IfOk result (λ ends.
             ends.initiator ≡ opening_connection initiator_settings) }
+        ensures new { IfOk result (λ ends.
+            ends_of ends.initiator ends.target (disk_in ends.store) [] [] ≡ new_ends blocks) }
         ensures err { IfErr result IsOfSession }
     {
         let alloc = rt.alloc();
@@ -193,6 +212,10 @@ impl<C: Carrier> Ends<C> {
     fn log_in(&mut self) -> Result<(), ServeFault>
         ensures continues { OnOk result
             (Continues self.old.initiator.machine [] [] self.new.initiator.machine) }
+        ensures served { IsFaithful C.carries → (blocks : ℕ)
+            → ends_of self.old.initiator self.old.target (disk_in self.old.store) [] []
+            ≡ new_ends blocks → OnOk result (AreOneDisk blocks []
+            (ends_of self.new.initiator self.new.target (disk_in self.new.store) [] [])) }
         ensures err { IfErr result IsOfSession }
     {
         let mut out = Vec::new(self.alloc);
@@ -208,6 +231,10 @@ impl<C: Carrier> Ends<C> {
     fn perform(&mut self, command: Command) -> Result<Done, ServeFault>
         ensures continues { IfOk result (λ done. Continues self.old.initiator.machine
             (request_of command ∷ []) (done ∷ []) self.new.initiator.machine) }
+        ensures served { IsFaithful C.carries → IfOk result (λ done. Performs
+            (ends_of self.old.initiator self.old.target (disk_in self.old.store) [] [])
+            (request_of command) done
+            (ends_of self.new.initiator self.new.target (disk_in self.new.store) [] [])) }
         ensures err { IfErr result IsOfSession }
     {
         let request = command.into_request(self.alloc)?;
@@ -228,6 +255,9 @@ impl<C: Carrier> Ends<C> {
     fn settle(&mut self, requests: Vec<u8>) -> Result<(), ServeFault>
         ensures continues { OnOk result
             (Continues self.old.initiator.machine [] [] self.new.initiator.machine) }
+        ensures served { IsFaithful C.carries → OnOk result (GoOn
+            (ends_of self.old.initiator self.old.target (disk_in self.old.store) requests.items [])
+            (ends_of self.new.initiator self.new.target (disk_in self.new.store) [] [])) }
         ensures err { IfErr result IsOfSession }
     {
         let mut requests = requests;
@@ -244,6 +274,10 @@ impl<C: Carrier> Ends<C> {
     // Carries requests to the target, and gives its answers.
     fn ask(&mut self, requests: &[u8]) -> Result<Vec<u8>, ServeFault>
         ensures kept { self.new.initiator ≡ self.old.initiator }
+        ensures served { IsFaithful C.carries → IfOk result (λ answers. GoOn
+            (ends_of self.old.initiator self.old.target (disk_in self.old.store) requests.now [])
+            (ends_of self.new.initiator self.new.target (disk_in self.new.store) []
+            answers.items)) }
         ensures err { IfErr result IsOfSession }
     {
         let mut answers = Vec::new(self.alloc);
@@ -254,6 +288,8 @@ impl<C: Carrier> Ends<C> {
             let read = &mut buffer[..len];
             self.carrier.to_target(&rest[..len], read)?;
             self.target.feed(read, &mut self.store, &mut answers)?;
+            // Its contract says that these are the blocks of a disk, whatever was written.
+            let _blocks = self.store.blocks();
             rest = &rest[len..];
         }
         Ok(answers)
@@ -263,6 +299,10 @@ impl<C: Carrier> Ends<C> {
     fn hear(&mut self, answers: &[u8]) -> Result<Vec<u8>, ServeFault>
         ensures continues { OnOk result
             (Continues self.old.initiator.machine [] [] self.new.initiator.machine) }
+        ensures served { IsFaithful C.carries → IfOk result (λ requests. GoOn
+            (ends_of self.old.initiator self.old.target (disk_in self.old.store) [] answers.now)
+            (ends_of self.new.initiator self.new.target (disk_in self.new.store)
+            requests.items [])) }
         ensures err { IfErr result IsOfSession }
     {
         let mut requests = Vec::new(self.alloc);

@@ -32,7 +32,8 @@ impl Wire {
     }
 }
 
-/// Over 127.0.0.1, at a port that the system picks. Each call answers `Network` where a socket fails.
+/// Over 127.0.0.1, at a port that the system picks. Each call answers `Network` where a socket
+/// fails.
 impl Carrier for Wire {
     // No contract can say what a socket gives.
     ghost carries = { λ written read. Unit {0} };

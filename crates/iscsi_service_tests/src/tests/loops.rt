@@ -14,6 +14,7 @@ const BLOCKS_LINES: &str = "login\ngood 0\ngood 512 5a5a5a5a5a5a5a5a5a5a5a5a5a5a
 
 /// Scripts, and the lines that they write: a name, the script, the lines.
 const SCRIPTS: &[(&str, &str, &str)] = &[
+    ("blocks", BLOCKS, BLOCKS_LINES),
     (
         "units",
         "inquiry 0 5\ninquiry 1 36\ntur 1\nluns\nping 6162\nlogout\n",
@@ -218,11 +219,6 @@ fn loops_over_disks(rt: HostRuntime) -> Result<(), Fail> {
 
 #[test]
 fn loops_in_memory(rt: HostRuntime) -> Result<(), Fail> {
-    for piece in [1, 47, 48, 4096] {
-        let (result, out) = run_in_memory(&rt, 2048, BLOCKS.as_bytes(), piece);
-        same(&rt, &result.is_ok(), &true, &piece);
-        same(&rt, &out.as_slice(), &BLOCKS_LINES.as_bytes(), &piece);
-    }
     for (name, script, want) in SCRIPTS {
         for piece in [1, 47, 48, 4096] {
             let (result, out) = run_in_memory(&rt, 2048, script.as_bytes(), piece);
