@@ -1,4 +1,5 @@
-//! The table of keys, worked logins and the offer texts, by example.
+//! The table of keys, worked logins and the offer texts, by example. One file, since it is tables
+//! of rows.
 
 use iscsi_login::{
     Answered, Auth, ConfigFault, NegKey, Offers, Params, Preferences, Session, Stage, answer_text,

@@ -23,14 +23,14 @@ exit_status serve.Network = 4
 exit_status serve.Read = 4
 exit_status serve.Write = 4
 
--- A target's fault; its want of memory is the session's own (own rule).
+-- A target's fault; its `NoMemory` is the session's own (own rule).
 abbrev pub target_fault : TargetFault → ServeFault
 target_fault target.NoMemory = serve.NoMemory
 target_fault (target.Stream fault) = serve.Target (target.Stream fault)
 target_fault (target.Protocol rule) = serve.Target (target.Protocol rule)
 target_fault target.Closed = serve.Target target.Closed
 
--- An initiator's fault; its want of memory is the session's own (own rule).
+-- An initiator's fault; its `NoMemory` is the session's own (own rule).
 abbrev pub initiator_fault : InitiatorFault → ServeFault
 initiator_fault initiator.NoMemory = serve.NoMemory
 initiator_fault (initiator.Stream fault) = serve.Initiator (initiator.Stream fault)
@@ -40,7 +40,7 @@ initiator_fault (initiator.Refused status detail) =
 initiator_fault (initiator.BadAnswer key) = serve.Initiator (initiator.BadAnswer key)
 initiator_fault initiator.Closed = serve.Initiator initiator.Closed
 
--- A session's fault over a stream; its want of memory is the session's own (own rule).
+-- A session's fault over a stream; its `NoMemory` is the session's own (own rule).
 abbrev pub session_fault : SessionFault → ServeFault
 session_fault (session.Target fault) = target_fault fault
 session_fault session.Read = serve.Read

@@ -50,7 +50,7 @@ pub fn serve_one<S: BlockStore>(
 /// over one store of so many blocks of 00. Port 0 is one that the system picks.
 ///
 /// A session that ends with a fault has the fault's line on standard error, and the next one is
-/// served. Only want of memory and a fault of the network end the service; `Write` is answered
+/// served. Only being out of memory and a fault of the network end the service; `Write` is answered
 /// where `listening` cannot be printed (own rule).
 pub fn serve(rt: &HostRuntime, port: u16, blocks: u64, sessions: u16) -> Result<(), ServeFault>
     requires some { 0 < blocks }

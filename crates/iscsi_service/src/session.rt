@@ -59,7 +59,7 @@ pub enum SessionFault {
 /// where the stream ends.
 ///
 /// Where the store counted no failure, what is written are the answers to all PDUs of what was read,
-/// and the store has the blocks that they leave; after want of memory those of some first PDUs, whole, and of some first tasks of the
+/// and the store has the blocks that they leave; when out of memory those of some first PDUs, whole, and of some first tasks of the
 /// next one. Of a failed write nothing is said. Answers `Ok` where the stream ends behind a PDU or
 /// the session was closed and no rule broken; `Target` with the rule that the last PDU broke, or
 /// with the fault and the place of what follows the PDUs where that is refused, or begun and not

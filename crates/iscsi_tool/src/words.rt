@@ -1,4 +1,5 @@
-//! The words of the command line.
+//! The words of the command line. One file, since the words, their help and what they mean stand
+//! together.
 
 ghost use Rattle.std.specs.Prelude.{◌≡◌, ◌<◌, ◌≤◌, [], true, Ok, IfOk, IfSome};
 ghost use Rattle.scsi_disk.specs.Disk.{most_blocks};

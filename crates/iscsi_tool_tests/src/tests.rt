@@ -1,4 +1,5 @@
-//! Runs of the filters, the words, and the lines and statuses of faults.
+//! Runs of the filters, the words, and the lines and statuses of faults. One file, since its tests
+//! share their rows and fake writers.
 
 mod answers;
 mod digits;

@@ -1,4 +1,5 @@
-//! Blocks and data whose bytes were worked out by hand from the tables of SPC-4 and SBC-3.
+//! Blocks and data whose bytes were worked out by hand from the tables of SPC-4 and SBC-3. One
+//! file, since it is tables of rows.
 
 use scsi_cdb::{
     Bytes, Cdb, Sense, Synchronize10, Transfer10, Transfer16, capacity10, capacity16,

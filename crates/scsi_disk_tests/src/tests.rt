@@ -1,4 +1,4 @@
-//! Orders on disks and stores, by rows.
+//! Orders on disks and stores, by rows. One file, since its tests share their stores and rows.
 
 ghost use Rattle.std.specs.Prelude.{IsTrue};
 ghost use Rattle.scsi_disk.specs.Effect.{IsSupplied};

@@ -365,7 +365,7 @@ accepts c P h old new request kept s served e there well target_ blocks queue =
     (subst (λ (b : Bool). Way b (calls.limit c.initiator) old.initiator.framing old.to_initiator s.back s.here) (sym (submitted_open i request))
     s.to_initiator)))
 
--- a request that the machine accepts is refused for want of memory alone
+-- a request that the machine accepts is refused when out of memory alone
 not_refused : (fault : SubmitFault) (e : Option EndFault) (r : Option SubmitFault) → e ≡ Some (ends.Submit fault) → initiator_ran_out e ≡ false
     → r ≡ calls.refused_for fault → r ≡ None → ⊥
 not_refused refusals.NoMemory e r is memory cause none = apart (ap initiator_ran_out is) memory

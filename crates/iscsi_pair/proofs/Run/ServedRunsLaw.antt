@@ -1,4 +1,4 @@
--- A run that leaves no fault with the initiator, and no want of memory, was served.
+-- A run that leaves no fault with the initiator, and is never out of memory, was served.
 use Rattle.std.specs.List.{AllByRecursion}
 use Rattle.std.specs.Result.{result_err}
 use Rattle.std.proofs.Common.{◌≡◌, ℕ, false, List, [], ◌∷◌, ◌++◌, take, Option, Some, None, Result, Ok, Err, refl, sym, ap, ◌∙◌}

@@ -1,4 +1,5 @@
-//! Loops of both ends over a socket and in memory: scripts, and the lines that they write.
+//! Loops of both ends over a socket and in memory: scripts, and the lines that they write. One
+//! file, since it is tables of scripts and what runs them.
 
 use super::{Broken, Full, same};
 use iscsi_service::{Channel, LONGEST_PIECE, ServeFault, run_loop, run_over};

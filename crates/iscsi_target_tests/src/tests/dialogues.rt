@@ -1,4 +1,4 @@
-//! Sessions by example, in pieces of any length.
+//! Sessions by example, in pieces of any length. One file, since all of it runs the same rows.
 
 use super::queues::{
     BEHIND, EIGHT, FAILING_QUEUES, LONG_QUEUES, SHORT_QUEUES, TURN, WAITING_REQUESTS,

@@ -217,7 +217,7 @@ fn write_twice(rt: &impl Abort, alloc: Global, text: &Text, name: &str) -> Vec<u
     out
 }
 
-// What `rt try --test --fail-alloc N` is for: what is refused answers want of memory and leaves
+// What `rt try --test --fail-alloc N` is for: what is refused answers that memory is out and leaves
 // `out` as it was, and the next call writes what ample memory gives.
 #[test]
 fn refused_memory_changes_no_answer(rt: HostRuntime) {

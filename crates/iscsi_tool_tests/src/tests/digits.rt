@@ -96,7 +96,7 @@ const NAMELESS: &[u8] =
 const REFUSAL: &[u8] =
     b"230000000000000040000001000000000000000000000000000000000000000100000008020700000000000000000000\n";
 
-/// For `rt try --test --fail-alloc`: want of memory leaves no digit of an answer that was not made,
+/// For `rt try --test --fail-alloc`: being out of memory leaves no digit of an answer that was not made,
 /// and no line end.
 #[test]
 fn refused_memory_leaves_no_line(rt: HostRuntime) {
