@@ -54,10 +54,11 @@ pub fn answer<R: Read, W: Write>(
 /// Writes the answers to a stream that comes as hex text, as `answer` does, in lower hex, as they
 /// come. The text is read to its end first.
 ///
-/// Answers what `answer` does for the bytes that the text means, and `NotHex` as `read_bytes`. A line
-/// end follows the answers behind `Ok`, `Stream` and `Protocol`. After `NotHex`, and where memory or
-/// the reader was wanting before the text was whole, nothing is written; when out of memory later
-/// the digits of those answers that `answer` writes then. Of a failed write nothing is said.
+/// Answers what `answer` does for the bytes that the text means, and `NotHex` as `read_bytes`. A
+/// line end follows the answers behind `Ok`, `Stream` and `Protocol`. After `NotHex`, and where
+/// memory or the reader was wanting before the text was whole, nothing is written; when out of
+/// memory later the digits of those answers that `answer` writes then. Of a failed write nothing is
+/// said.
 pub fn answer_hex<R: Read, W: Write>(
     alloc: Global,
     blocks: u64,

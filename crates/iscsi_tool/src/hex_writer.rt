@@ -11,8 +11,8 @@ use std::io::Write;
 /// So many bytes at most are spelled for one write to the writer behind.
 const PIECE: usize = 256;
 
-/// Writes the lower-case hex digits of what it is given, two for each byte, to another writer. Where
-/// that one takes the first digit of a byte and not the second, no byte is taken any more.
+/// Writes the lower-case hex digits of what it is given, two for each byte, to another writer.
+/// Where that one takes the first digit of a byte and not the second, no byte is taken any more.
 #[derive(Drop)]
 pub struct HexWriter<W> {
     inner: W,

@@ -80,7 +80,7 @@ fn check_narrow(
 fn a_writer_that_takes_one_byte(rt: HostRuntime) -> Result<(), Fail> {
     let text = requests(rt.alloc())?;
     let due = answers(rt.alloc())?;
-    // Between two digits of a byte; between two bytes; within the second answer; before the line end.
+    // Between two digits of a byte, between two bytes, in the second answer, before the line end.
     for room in [0, 1, 2, 3, 192, 193, due.len().saturating_sub(1), due.len()] {
         check_narrow(&rt, rt.alloc(), text.as_str(), &due, room)?;
     }
