@@ -10,7 +10,7 @@ use Rattle.iscsi_stream.specs.Normalising.{WroteFront}
 use Rattle.iscsi_initiator.specs.declared.request.Done.{Done}
 use Rattle.iscsi_initiator.specs.declared.request.Request.{Request}
 use Rattle.iscsi_pair.specs.LocalDisk.{local, local_disk, local_outcomes}
-use Rattle.iscsi_pair.proofs.LocalDisks.{outcomes_more}
+use Rattle.iscsi_pair.proofs.Request.OneRequestLaw.{outcomes_more}
 use Rattle.iscsi_service.specs.declared.command.Command.{Command}
 use Rattle.iscsi_service.specs.declared.serve_fault.ServeFault.{ServeFault}
 use Rattle.iscsi_service.specs.declared.serve_fault.ServeFault.TheVariants as serve

@@ -15,11 +15,11 @@ use Rattle.iscsi_initiator.specs.Laws.{listed}
 use Rattle.iscsi_pair.specs.World.{World, Opening, Event, ToTarget, ToInitiator, Submits, Takes, TargetHears, InitiatorHears, InitiatorIsAsked, MovesToTarget, MovesToInitiator, Happens, new_pair, store_of}
 use Rattle.iscsi_pair.specs.LocalDisk.{local_outcomes}
 use Rattle.iscsi_pair.specs.Served.{IsNormal, IsServed, IsAccepted, RunsServed, asked, disk_outcomes, given_in}
-use Rattle.iscsi_pair.proofs.Blocks.{HasBlocks}
-use Rattle.iscsi_pair.proofs.LocalDisks.{outcomes_more}
-use Rattle.iscsi_pair.proofs.OneDisk.{idle_whole}
-use Rattle.iscsi_pair.proofs.ReadBack.{standard_normal}
-use Rattle.iscsi_pair.proofs.Steps.{asked_append, served_more}
+use Rattle.iscsi_pair.proofs.Lists.BlockLemmas.{HasBlocks}
+use Rattle.iscsi_pair.proofs.Request.OneRequestLaw.{outcomes_more}
+use Rattle.iscsi_pair.proofs.Run.OneDiskLaw.{idle_whole}
+use Rattle.iscsi_pair.proofs.Lists.ReadBackLaw.{standard_normal}
+use Rattle.iscsi_pair.proofs.Lists.StepLemmas.{asked_append, served_more}
 use Rattle.iscsi_service.specs.Looping.{initiator_settings}
 use Rattle.iscsi_service.specs.Session.{target_settings}
 use Rattle.iscsi_service.specs.LoopPairs.{AreOneDisk, Ends, GoOn, HaveServed, Performs, ends_of, loop_opening, new_ends, outcome_on, outcomes_on, world_of}
