@@ -44,7 +44,7 @@ is_bad offered pair = not (is_good_pair (key_named pair.0) offered pair)
 abbrev pub is_unanswered : Pairs → List ℕ × Typed → Bool
 is_unanswered answer pair = is_some (key_named pair.0) && is_none (slice_get (values_of pair.0 answer) 0)
 
--- The key of a pair, or another (own rule).
+-- The key of a pair, or another.
 abbrev pub key_or : Option (List ℕ × Typed) → Option (List ℕ) → Option (List ℕ)
 key_or None other = other
 key_or (Some pair) other = Some pair.0

@@ -23,7 +23,7 @@ defaults = record {
   target_max_recv = 8192;
 }
 
--- A key's place in `all_keys` (own rule).
+-- A key's place in `all_keys`.
 abbrev pub place_of : NegKey → ℕ
 place_of keys.MaxConnections = 0
 place_of keys.InitialR2T = 1
@@ -40,7 +40,7 @@ place_of keys.HeaderDigest = 11
 place_of keys.DataDigest = 12
 place_of keys.AuthMethod = 13
 
--- The value at a key's place (own rule).
+-- The value at a key's place.
 abbrev pub value_at : List Answered → NegKey → Answered
 value_at values key = slice_index_or values (place_of key) Reject
 

@@ -83,6 +83,6 @@ offers_at proposal start Security = security_offers proposal
 offers_at proposal Operational stage = single_offers proposal
 offers_at proposal start stage = operational_offers proposal
 
--- The canonical text of these pairs (own rule of section 6.1).
+-- The canonical text of these pairs (section 6.1).
 abbrev pub text_of : Pairs → List ℕ
 text_of pairs = canonical_text (in_order pairs)

@@ -61,7 +61,7 @@ pub enum ToolFault {
     /// The input is not hex text, or is over its limit. No function of this crate answers it.
     #[error("input: not hex")]
     NotHex,
-    /// The initiator broke the rule of this number (own profile: `docs/FORMATS.md` has the rules). No function of this
+    /// The initiator broke the rule of this number (own rule: `docs/FORMATS.md` has the rules). No function of this
     /// crate answers it.
     #[error("protocol: rule {0}")]
     Protocol(u8),

@@ -5,8 +5,8 @@ ghost use Rattle.std.specs.Io.KnownBytes.{Appends, Consumes, IsAtEnd};
 ghost use Rattle.iscsi_stream.specs.Texts.{NormalisesText, TextAtEnd, CanonicalOf, TextRefused};
 
 use crate::fault::ToolFault;
-use crate::input::read_within;
-use crate::output::write_fully;
+use crate::io::read_within;
+use crate::io::write_fully;
 use iscsi_text::{Text, TextFault};
 use std::alloc::Global;
 use std::io::{Read, Write};

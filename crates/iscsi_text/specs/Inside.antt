@@ -24,6 +24,6 @@ pub record SplitsAt (bytes : List ℕ) (byte : ℕ) (front back : List ℕ) : Ty
   pub whole : bytes ≡ front ++ byte ∷ back
   pub first : HasNo byte front
 
--- New is old with something behind it, as what is left where memory ran out (own profile).
+-- New is old with something behind it, as what is left where memory ran out.
 abbrev pub Extends : List ℕ → List ℕ → Type 0
 Extends old new = (more : List ℕ) × (new ≡ old ++ more)

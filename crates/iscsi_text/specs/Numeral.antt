@@ -24,6 +24,6 @@ pub record Spells (text : List ℕ) (n : ℕ) : Type 0 where
 abbrev pub hexadecimal : ℕ → List ℕ
 hexadecimal n = 48 ∷ 120 ∷ digits 16 false n
 
--- The canonical numeral, own profile of section 6.1: the shorter of the two, and the decimal on a tie.
+-- The canonical numeral, own rule of section 6.1: the shorter of the two, and the decimal on a tie.
 abbrev pub canonical_number : ℕ → List ℕ
 canonical_number n = if nat_le (length (decimal n)) (length (hexadecimal n)) then decimal n else hexadecimal n

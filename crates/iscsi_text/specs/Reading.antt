@@ -47,7 +47,7 @@ number_in [] = None
 number_in (c ∷ []) = number_of_digits 10 (c ∷ [])
 number_in (c ∷ x ∷ text) = if c == 48 then number_behind_zero x text else number_of_digits 10 (c ∷ x ∷ text)
 
--- The number, or the bytes as they are (own profile).
+-- The number, or the bytes as they are (own rule).
 abbrev pub number_or_odd : List ℕ → Option ℕ → Typed
 number_or_odd bytes None = Odd bytes
 number_or_odd bytes (Some n) = Number n
@@ -106,12 +106,12 @@ pairs_in (part ∷ next ∷ parts) = if is_empty part then pairs_in (next ∷ pa
 
 -- ---- order
 
--- The pair before the first whose key isn't less (own profile).
+-- The pair before the first whose key isn't less.
 abbrev pub placed : List ℕ × Typed → Pairs → Pairs
 placed pair [] = pair ∷ []
 placed pair (p ∷ pairs) = if key_le pair.0 p.0 then pair ∷ p ∷ pairs else p ∷ placed pair pairs
 
--- The pairs in the order of their keys (own profile).
+-- The pairs in the order of their keys.
 abbrev pub in_order : Pairs → Pairs
 in_order [] = []
 in_order (p ∷ pairs) = placed p (in_order pairs)

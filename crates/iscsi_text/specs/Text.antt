@@ -21,16 +21,16 @@ values_of key pairs = map (λ p. p.1) (filter (λ p. bytes_eq p.0 key) pairs)
 abbrev pub IsSingle : Pairs → Type 0
 IsSingle pairs = (key : List ℕ) → key ≢ target_address → length (values_of key pairs) ≤ 1
 
--- The byte order of keys (own profile; section 6.1 gives pairs no order).
+-- The byte order of keys (own rule; section 6.1 gives pairs no order).
 abbrev pub key_le : List ℕ → List ℕ → Bool
 key_le a b = is_le (slice_cmp nat_cmp a b)
 
--- Each key is at most those behind it (own profile).
+-- Each key is at most those behind it.
 abbrev pub IsInOrder : Pairs → Type 0
 IsInOrder [] = Unit {0}
 IsInOrder (p ∷ pairs) = AllByRecursion (λ q. key_le p.0 q.0 ≡ true) pairs × IsInOrder pairs
 
--- Arranged has the same values of each key, with the keys in order: both are the same map (own profile).
+-- Arranged has the same values of each key, with the keys in order: both are the same map.
 pub record Arranges (pairs arranged : Pairs) : Type 0 where
   pub in_order : IsInOrder arranged
   pub same : (key : List ℕ) → values_of key arranged ≡ values_of key pairs
@@ -47,7 +47,7 @@ pub record Field : Type 0 where
   pub bytes : List ℕ
   pub value : Typed
 
--- An entry with its final 0; one with nothing before the 0 is a spare byte (section 6.1; spare bytes are own profile).
+-- An entry with its final 0; one with nothing before the 0 is a spare byte (section 6.1; spare bytes are own rules).
 abbrev pub entry_bytes : Option Field → List ℕ
 entry_bytes None = 0 ∷ []
 entry_bytes (Some f) = f.key ++ 61 ∷ f.bytes ++ 0 ∷ []

@@ -46,7 +46,7 @@ synchronize10 s =
     ∷ []
 
 -- The rows of a record. TEST UNIT READY, INQUIRY and REPORT LUNS are SPC-4's, the others SBC-3's;
--- Unknown is own profile.
+-- Unknown is own rule.
 abbrev pub rows : Cdb → List Row
 rows (TestUnitReady control) =
     code 0x00

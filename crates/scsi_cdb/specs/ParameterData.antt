@@ -11,7 +11,7 @@ inquiry present =
     ∷ codes "VERIDISKISCSI DISK      0001"
 
 -- pages of vital product data (SPC-4, section 7.8): the pages, the serial number, the name of the
--- unit; the names are own profile
+-- unit; the names are own rules
 abbrev pub vpd : ℕ → Option (List ℕ)
 vpd page =
     if page == 0x00 then Some (0x00 ∷ 0x00 ∷ 0x00 ∷ 0x03 ∷ 0x00 ∷ 0x80 ∷ 0x83 ∷ [])

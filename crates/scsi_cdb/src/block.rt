@@ -60,7 +60,7 @@ pub struct Synchronize10 {
 
 /// A command to a logical unit, as its command descriptor block (CDB) has it.
 ///
-/// Reserved bits are not checked, and are written 0 (own profile). The control byte is kept and not
+/// Reserved bits are not checked, and are written 0 (own rule). The control byte is kept and not
 /// acted on.
 #[derive(Clone, Copy, Debug, PartialEq, Eq)]
 pub enum Cdb {

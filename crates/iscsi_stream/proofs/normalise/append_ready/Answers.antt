@@ -5,7 +5,7 @@ use Rattle.iscsi_stream.specs.Framing.{message_of}
 use Rattle.iscsi_stream.specs.Passing.{IsDue}
 use Rattle.iscsi_stream.proofs.Ready.{unready_if}
 use Rattle.iscsi_stream.proofs.PassOn.{pass_none, pass_one}
-use Rattle.iscsi_stream.proofs.output.append_ready.Goals as goal
+use Rattle.iscsi_stream.proofs.normalise.append_ready.Goals as goal
 
 pub returns-in_default-clause-ok : goal.returns-in_default-clause-ok
 returns-in_default-clause-ok c = ([], pass_none c.args.form c.args.framer.now c.args.out.now.items c.args.counts.now (unready_if c.args.framer.now (λ r. c.in_default.ensures.ready.1 r)))

@@ -1,7 +1,7 @@
 use Rattle.std.proofs.Common.{ap, ◌∙◌}
 use Rattle.iscsi_pdu.specs.Meaning.{header}
 use Rattle.iscsi_stream.specs.Segment.{segment_bytes}
-use Rattle.iscsi_stream.proofs.forms.canonical_head.Goals as goal
+use Rattle.iscsi_stream.proofs.canonical.canonical_head.Goals as goal
 
 pub returns-in-Some-clause-ok : goal.returns-in-Some-clause-ok
 unfolding segment_bytes

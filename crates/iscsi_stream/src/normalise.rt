@@ -1,26 +1,23 @@
 //! What is written for the stream that a reader gives: its canonical stream, or a line for each PDU.
 
-ghost use Rattle.std.specs.Prelude.{◌≡◌, ◌≤◌, ◌<◌, ◌^◌, ◌++◌, ◌∷◌, ℕ, List, [], length, IfErr, OnOk, OnErr, false};
+ghost use Rattle.std.specs.Prelude.{◌≡◌, ◌<◌, ◌^◌, ◌++◌, ◌∷◌, ℕ, List, [], length, OnOk, OnErr, false};
 ghost use Rattle.std.specs.Io.KnownBytes.{Appends, Consumes, IsAtEnd};
 ghost use Rattle.iscsi_pdu.specs.Meaning.{AreBytes, Fits};
 ghost use Rattle.iscsi_stream.specs.Stream.{Message, message, longest_segment};
 ghost use Rattle.iscsi_stream.specs.Framing.{is_ready};
-ghost use Rattle.iscsi_stream.specs.Normalising.{Normalises, Shows, Writes, AtEnd, WroteFront};
+ghost use Rattle.iscsi_stream.specs.Normalising.{Normalises, Shows, Writes, AtEnd};
 ghost use Rattle.iscsi_stream.specs.Passing.{IsDue, PassesOn, Appended, PassFails};
 
 use crate::counts::Counts;
 use crate::fault::ToolFault;
-use crate::forms::canonical;
+use crate::canonical::canonical;
 use crate::framer::Framer;
-use crate::lines::show_line;
+use crate::io::{PIECE, READS, write_fully};
+use crate::show::show_line;
 use iscsi_pdu::Pdu;
 use std::alloc::{AllocError, Global};
 use std::io::{Read, Write};
 
-/// How many reads a reader is asked for; after these it counts as failed.
-pub const READS: u32 = 16_777_216;
-/// How many bytes a read takes at most.
-pub const PIECE: usize = 4096;
 /// The longest segment that a header can say.
 const LONGEST_SEGMENT: u32 = 16_777_215;
 
@@ -62,27 +59,6 @@ pub fn show<R: Read, W: Write>(alloc: Global, r: &mut R, w: &mut W) -> Result<Co
     ensures end { AtEnd result (IsAtEnd (R.remaining r.new)) }
 {
     write_stream(alloc, Form::Line, r, w)
-}
-
-/// Writes all of the bytes. Answers `Write` where a write fails or takes no byte, and has then written a front of them.
-pub fn write_fully<W: Write>(w: &mut W, bytes: &[u8]) -> Result<(), ToolFault>
-    ensures ok { OnOk result (Appends (W.contents w.old) (W.contents w.new) bytes.now) }
-    ensures err { IfErr result (λ e. (e ≡ ToolFault.Write)
-        × WroteFront (W.contents w.old) (W.contents w.new) bytes.now) }
-{
-    let mut rest = bytes;
-    while !rest.is_empty() {
-        match w.write(rest) {
-            Err(_) => return Err(ToolFault::Write),
-            Ok(n) => {
-                if n == 0 {
-                    return Err(ToolFault::Write);
-                }
-                rest = &rest[n..];
-            }
-        }
-    }
-    Ok(())
 }
 
 // Reads a stream to its end and writes what stands for each PDU.

@@ -1,7 +1,7 @@
 use Rattle.std.proofs.Common.{◌++◌, take, inl, refl}
 use Rattle.std.proofs.KnownBytes.{Consumes-trans}
 use Rattle.std.proofs.lemmas.Result.{err_from_is_err_and}
-use Rattle.iscsi_stream.proofs.input.read_within.Goals as goal
+use Rattle.iscsi_stream.proofs.io.read_within.Goals as goal
 
 pub returns-in_err-extend_from_slice-clause-err : goal.returns-in_err-extend_from_slice-clause-err
 returns-in_err-extend_from_slice-clause-err g c =

@@ -1,13 +1,18 @@
-//! Inputs that are read whole, up to a limit.
+//! Readers that are read whole, up to a limit, and writers that take all of some bytes.
 
-ghost use Rattle.std.specs.Prelude.{◌≡◌, ◌≤◌, ◌<◌, ◌^◌, ◌⊎◌, ℕ, List, drop, length, IfOk, IfErr};
-ghost use Rattle.std.specs.Io.KnownBytes.{Consumes, IsAtEnd};
+ghost use Rattle.std.specs.Prelude.{◌≡◌, ◌≤◌, ◌<◌, ◌^◌, ◌⊎◌, ℕ, List, drop, length, IfOk, IfErr, OnOk};
+ghost use Rattle.std.specs.Io.KnownBytes.{Appends, Consumes, IsAtEnd};
+ghost use Rattle.iscsi_stream.specs.Normalising.{WroteFront};
 ghost use Rattle.iscsi_stream.specs.declared.fault.ToolFault.TheVariants as tool;
 
 use crate::fault::ToolFault;
-use crate::output::{PIECE, READS};
 use std::alloc::Global;
-use std::io::Read;
+use std::io::{Read, Write};
+
+/// How many reads a reader is asked for; after these it counts as failed.
+pub const READS: u32 = 16_777_216;
+/// How many bytes a read takes at most.
+pub const PIECE: usize = 4096;
 
 /// Reads to the end, or until there are more bytes than the limit, and gives all that was read.
 ///
@@ -43,4 +48,25 @@ pub fn drop_front(bytes: &mut Vec<u8>, count: usize)
     ensures { bytes.new.items ≡ drop count bytes.old.items }
 {
     bytes.drain(..count);
+}
+
+/// Writes all of the bytes. Answers `Write` where a write fails or takes no byte, and has then written a front of them.
+pub fn write_fully<W: Write>(w: &mut W, bytes: &[u8]) -> Result<(), ToolFault>
+    ensures ok { OnOk result (Appends (W.contents w.old) (W.contents w.new) bytes.now) }
+    ensures err { IfErr result (λ e. (e ≡ ToolFault.Write)
+        × WroteFront (W.contents w.old) (W.contents w.new) bytes.now) }
+{
+    let mut rest = bytes;
+    while !rest.is_empty() {
+        match w.write(rest) {
+            Err(_) => return Err(ToolFault::Write),
+            Ok(n) => {
+                if n == 0 {
+                    return Err(ToolFault::Write);
+                }
+                rest = &rest[n..];
+            }
+        }
+    }
+    Ok(())
 }

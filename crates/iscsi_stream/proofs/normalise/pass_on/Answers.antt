@@ -3,7 +3,7 @@ use Rattle.std.proofs.lemmas.Bool.{eqb-false}
 use Rattle.std.proofs.lemmas.List.{length-drop, take_rest}
 use Rattle.std.proofs.lemmas.Result.{err_from_is_err_and}
 use Rattle.iscsi_stream.proofs.PassOn.{passed_none, passed_more, passed_part, feed_stops, takes_some}
-use Rattle.iscsi_stream.proofs.output.pass_on.Goals as goal
+use Rattle.iscsi_stream.proofs.normalise.pass_on.Goals as goal
 
 pub loop-rest-init : goal.loop-rest-init
 loop-rest-init c = passed_none c.args.form c.args.piece.now c.args.framer.now c.args.out.now.items c.args.counts.now c.requires.unready

@@ -1,7 +1,7 @@
 use Rattle.std.proofs.Common.{[], take, arith}
 use Rattle.std.proofs.lemmas.Result.{err_from_is_err_and}
 use Rattle.iscsi_stream.proofs.Normals.{at_start, read_stops, reads_stop, finish_stops, finish_done, not_truncated, pass_stops, write_stops, read_more}
-use Rattle.iscsi_stream.proofs.output.write_stream.Goals as goal
+use Rattle.iscsi_stream.proofs.normalise.write_stream.Goals as goal
 
 pub loop-init : goal.loop-init
 loop-init g c = rw (c.new-framer.ensures, c.new-counts.ensures) (at_start c.args.form (g.R.Read.remaining c.args.r.now) (g.W.Write.contents c.args.w.now))

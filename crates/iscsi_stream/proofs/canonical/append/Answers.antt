@@ -1,6 +1,6 @@
 use Rattle.iscsi_pdu.specs.Meaning.{whole}
 use Rattle.iscsi_stream.specs.Segment.{segment_bytes}
-use Rattle.iscsi_stream.proofs.forms.append.Goals as goal
+use Rattle.iscsi_stream.proofs.canonical.append.Goals as goal
 
 pub returns-in-Some-clause-ok : goal.returns-in-Some-clause-ok
 unfolding segment_bytes whole

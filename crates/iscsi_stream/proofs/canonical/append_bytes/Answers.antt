@@ -1,7 +1,7 @@
 use Rattle.std.proofs.Common.{length, arith}
 use Rattle.iscsi_pdu.specs.Meaning.{header, padding}
 use Rattle.iscsi_stream.proofs.Padding.{appended}
-use Rattle.iscsi_stream.proofs.forms.append_bytes.Goals as goal
+use Rattle.iscsi_stream.proofs.canonical.append_bytes.Goals as goal
 
 pub returns-clause-ok : goal.returns-clause-ok
 returns-clause-ok c =
