@@ -1,5 +1,6 @@
 -- The ends agree on each key.
-use Rattle.std.proofs.Common.{◌≡◌, ℕ, ◌⊎◌, Bool, true, false, cond, ◌&&◌, List, [], ◌∷◌, map, nat_le, unwrap_or, Option, Some, None, refl, sym, ap, subst, inl, inr, arith, codes}
+use Rattle.std.proofs.Common.{◌≡◌, ℕ, ◌⊎◌, Bool, true, false, cond, ◌&&◌, List, [], ◌∷◌, map, nat_le, unwrap_or, Option, Some, None, refl, sym, ap, subst, inl,
+    inr, arith, codes}
 use Rattle.std.proofs.lemmas.Bool.{le-leb, and_from}
 use Rattle.std.specs.Option.{IfSome}
 use Rattle.std.proofs.lemmas.Bool.Decides.{nat_tests}
@@ -15,7 +16,8 @@ use Rattle.iscsi_login.specs.declared.preferences.Answered.{Answered}
 use Rattle.iscsi_login.specs.declared.preferences.Answered.TheVariants.{Number, Flag, NoneItem, Reject}
 use Rattle.iscsi_login.specs.declared.preferences.Preferences.{Preferences}
 use Rattle.iscsi_login.specs.Key.{name_of, all_keys, rule_of, default_of, is_irrelevant, IsWithin}
-use Rattle.iscsi_login.specs.Negotiation.{preference, Allows, IsInRange, in_range, has_none, value_of, chosen, result_of, is_word, word, answered_value, IsLegal, or_default}
+use Rattle.iscsi_login.specs.Negotiation.{preference, Allows, IsInRange, in_range, has_none, value_of, chosen, result_of, is_word, word, answered_value,
+    IsLegal, or_default}
 use Rattle.iscsi_login.specs.Answer.{answer_to, held_by_target, held_by_initiator, first_or, value_after_offers, value_after_answer}
 use Rattle.iscsi_login.specs.Held.{Held, held_value, value_at}
 use Rattle.iscsi_text.specs.Text.{Pairs, values_of}
@@ -57,20 +59,23 @@ in_range_cases range n = by (nat_le range.low n && nat_le n range.high) refl
     by false e = inl (ap (λ b. cond b (Number n) Reject) e)
 
 pub in_range_within : (range : Range) (n : ℕ) → IsWithin range n → in_range range n ≡ Number n
-in_range_within range n is = ap (λ b. cond b (Number n) Reject) (and_from (nat_le range.low n) (nat_le n range.high) (le-leb range.low n is.0) (le-leb n range.high is.1))
+in_range_within range n is = ap (λ b. cond b (Number n) Reject) (and_from (nat_le range.low n) (nat_le n range.high) (le-leb range.low n is.0)
+    (le-leb n range.high is.1))
 
 -- The function of a key gives an allowed value, or `Reject`.
 pub outcome : (rule : Rule) (offer : Typed) (preferred : Answered) → Allows rule preferred
     → (chosen rule (value_of rule offer) preferred ≡ Reject) ⊎ Allows rule (chosen rule (value_of rule offer) preferred)
 outcome (rules.Minimum range) (values.Number n) (Number q) a = elim (in_range_cases range n) [
   | inl out ↦ inl (ap (λ v. chosen (rules.Minimum range) v (Number q)) out)
-  | inr within ↦ inr (subst (λ v. Allows (rules.Minimum range) (chosen (rules.Minimum range) v (Number q))) (sym within.0) (omega (arith, within.1.0, within.1.1), omega (arith, within.1.0, within.1.1)))
+  | inr within ↦ inr (subst (λ v. Allows (rules.Minimum range) (chosen (rules.Minimum range) v (Number q))) (sym within.0)
+      (omega (arith, within.1.0, within.1.1), omega (arith, within.1.0, within.1.1)))
 ]
 outcome (rules.Minimum range) (values.Number n) _ a = absurd a
 outcome (rules.Minimum range) _ preferred a = inl refl
 outcome (rules.Maximum range) (values.Number n) (Number q) a = elim (in_range_cases range n) [
   | inl out ↦ inl (ap (λ v. chosen (rules.Maximum range) v (Number q)) out)
-  | inr within ↦ inr (subst (λ v. Allows (rules.Maximum range) (chosen (rules.Maximum range) v (Number q))) (sym within.0) (omega (arith, within.1.0, within.1.1), omega (arith, within.1.0, within.1.1)))
+  | inr within ↦ inr (subst (λ v. Allows (rules.Maximum range) (chosen (rules.Maximum range) v (Number q))) (sym within.0)
+      (omega (arith, within.1.0, within.1.1), omega (arith, within.1.0, within.1.1)))
 ]
 outcome (rules.Maximum range) (values.Number n) _ a = absurd a
 outcome (rules.Maximum range) _ preferred a = inl refl
@@ -82,7 +87,8 @@ outcome rules.And (values.Boolean b) _ a = absurd a
 outcome rules.And _ preferred a = inl refl
 outcome rules.NoneItem (values.Items items) NoneItem a = by (has_none items)
   where
-    by : (t : Bool) → (chosen rules.NoneItem (cond t NoneItem Reject) NoneItem ≡ Reject) ⊎ Allows rules.NoneItem (chosen rules.NoneItem (cond t NoneItem Reject) NoneItem)
+    by : (t : Bool) → (chosen rules.NoneItem (cond t NoneItem Reject) NoneItem ≡ Reject)
+        ⊎ Allows rules.NoneItem (chosen rules.NoneItem (cond t NoneItem Reject) NoneItem)
     by true = inr tt
     by false = inl refl
 outcome rules.NoneItem (values.Items items) _ a = absurd a
@@ -130,13 +136,16 @@ answer_legal session p is key offer = by (is_irrelevant session key)
     ]
 
 -- what the initiator holds from the answer is what the target holds
-pub ends_agree : (session : Session) (p : Preferences) → IsInRange p → (key : NegKey) (offer : Typed) → held_by_initiator key (answer_to session p key offer) ≡ held_by_target session p key offer
+pub ends_agree : (session : Session) (p : Preferences) → IsInRange p → (key : NegKey) (offer : Typed) → held_by_initiator key (answer_to session p key offer)
+    ≡ held_by_target session p key offer
 ends_agree session p is key offer = by (is_irrelevant session key)
   where
-    by : (t : Bool) → held_by_initiator key (cond t (word (rule_of key) (codes "Irrelevant")) (answered_value (rule_of key) (result_of key offer p))) ≡ cond t (default_of key) (or_default (result_of key offer p) (default_of key))
+    by : (t : Bool) → held_by_initiator key (cond t (word (rule_of key) (codes "Irrelevant")) (answered_value (rule_of key) (result_of key offer p)))
+        ≡ cond t (default_of key) (or_default (result_of key offer p) (default_of key))
     by true = irrelevant_again (rule_of key) (default_of key)
     by false = elim (outcome (rule_of key) offer (preference p key) (preference_allowed p is key)) [
-      | inl out ↦ subst (λ v. or_default (value_of (rule_of key) (answered_value (rule_of key) v)) (default_of key) ≡ or_default v (default_of key)) (sym out) (rejected_again (rule_of key) (default_of key))
+      | inl out ↦ subst (λ v. or_default (value_of (rule_of key) (answered_value (rule_of key) v)) (default_of key) ≡ or_default v (default_of key)) (sym out)
+          (rejected_again (rule_of key) (default_of key))
       | inr allowed ↦ value_again (rule_of key) (result_of key offer p) (default_of key) allowed
     ]
 
@@ -159,7 +168,8 @@ or_default_allowed key v either = elim either [
 ]
 
 -- at the target
-target_allowed : (session : Session) (p : Preferences) → IsInRange p → (key : NegKey) (offer : Typed) → Allows (rule_of key) (held_by_target session p key offer)
+target_allowed : (session : Session) (p : Preferences) → IsInRange p → (key : NegKey) (offer : Typed) →
+    Allows (rule_of key) (held_by_target session p key offer)
 target_allowed session p is key offer = by (is_irrelevant session key)
   where
     by : (t : Bool) → Allows (rule_of key) (cond t (default_of key) (or_default (result_of key offer p) (default_of key)))
@@ -193,7 +203,8 @@ value_cases rules.NoneItem _ = inl refl
 initiator_allowed : (key : NegKey) (answer : Typed) → Allows (rule_of key) (held_by_initiator key answer)
 initiator_allowed key answer = or_default_allowed key (value_of (rule_of key) answer) (value_cases (rule_of key) answer)
 
-first_allowed : (P : Answered → Type 0) (held : Typed → Answered) (before : Answered) (vs : List Typed) → ((v : Typed) → P (held v)) → P before → P (first_or held before vs)
+first_allowed : (P : Answered → Type 0) (held : Typed → Answered) (before : Answered) (vs : List Typed) → ((v : Typed) → P (held v)) → P before →
+    P (first_or held before vs)
 first_allowed P held before [] each first = first
 first_allowed P held before (v ∷ vs) each first = each v
 
@@ -205,10 +216,12 @@ value_at-map f _ = refl
 abbrev pub EachAllowed : List Answered → Type 0
 EachAllowed vs = (key : NegKey) → Allows (rule_of key) (value_at vs key)
 
-pub allowed_after_offers : (session : Session) (p : Preferences) → IsInRange p → (given : Pairs) (held : Held) → EachAllowed held.values → EachAllowed (map (value_after_offers session p given held) all_keys)
+pub allowed_after_offers : (session : Session) (p : Preferences) → IsInRange p → (given : Pairs) (held : Held) → EachAllowed held.values →
+    EachAllowed (map (value_after_offers session p given held) all_keys)
 allowed_after_offers session p is given held before key =
     subst (Allows (rule_of key)) (sym (value_at-map (value_after_offers session p given held) key))
-    (first_allowed (Allows (rule_of key)) (held_by_target session p key) (held_value held key) (values_of (name_of key) given) (target_allowed session p is key) (before key))
+    (first_allowed (Allows (rule_of key)) (held_by_target session p key) (held_value held key) (values_of (name_of key) given) (target_allowed session p is key)
+        (before key))
 
 pub allowed_after_answer : (answered : Pairs) (held : Held) → EachAllowed held.values → EachAllowed (map (value_after_answer answered held) all_keys)
 allowed_after_answer answered held before key =
@@ -216,6 +229,7 @@ allowed_after_answer answered held before key =
     (first_allowed (Allows (rule_of key)) (held_by_initiator key) (held_value held key) (values_of (name_of key) answered) (initiator_allowed key) (before key))
 
 -- a declared length is in range, and so is the one before
-pub declared_within : (range : Range) (before : ℕ) (declared : Option ℕ) → IsWithin range before → IfSome declared (IsWithin range) → IsWithin range (unwrap_or declared before)
+pub declared_within : (range : Range) (before : ℕ) (declared : Option ℕ) → IsWithin range before → IfSome declared (IsWithin range) →
+    IsWithin range (unwrap_or declared before)
 declared_within range before None is some = is
 declared_within range before (Some n) is some = some

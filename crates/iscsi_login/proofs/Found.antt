@@ -10,11 +10,13 @@ use Rattle.iscsi_text.proofs.Pairs.{values_of-same, values_of-other, key_cases}
 use Rattle.iscsi_login.specs.Check.{key_or}
 
 -- the key of the first pair that passes, read where the pairs lie
-pub find_shown : (test : List ℕ × Typed → Bool) (xs : List Pair) → option_map (λ p. p.key.now) (find (λ p. test (shown p)) xs) ≡ key_or (find test (all_shown xs)) None
+pub find_shown : (test : List ℕ × Typed → Bool) (xs : List Pair) → option_map (λ p. p.key.now) (find (λ p. test (shown p)) xs)
+    ≡ key_or (find test (all_shown xs)) None
 find_shown test [] = refl
 find_shown test (x ∷ xs) = by (find_shown test xs) (test (shown x))
   where
-    by : option_map (λ p. p.key.now) (find (λ p. test (shown p)) xs) ≡ key_or (find test (all_shown xs)) None → (t : Bool) → option_map (λ p. p.key.now) (cond t (Some x) (find (λ p. test (shown p)) xs)) ≡ key_or (cond t (Some (shown x)) (find test (all_shown xs))) None
+    by : option_map (λ p. p.key.now) (find (λ p. test (shown p)) xs) ≡ key_or (find test (all_shown xs)) None → (t : Bool) →
+        option_map (λ p. p.key.now) (cond t (Some x) (find (λ p. test (shown p)) xs)) ≡ key_or (cond t (Some (shown x)) (find test (all_shown xs))) None
     by rest true = refl
     by rest false = rest
 
@@ -40,7 +42,8 @@ pub none_passes : {X : Type 0} (test : X → Bool) (xs : List X) → find test x
 none_passes test [] e = tt
 none_passes test (x ∷ xs) e = by (none_passes test xs) (test x) refl e
   where
-    by : (find test xs ≡ None → AllByRecursion (λ x. test x ≡ false) xs) → (t : Bool) → test x ≡ t → cond t (Some x) (find test xs) ≡ None → (test x ≡ false) × AllByRecursion (λ x. test x ≡ false) xs
+    by : (find test xs ≡ None → AllByRecursion (λ x. test x ≡ false) xs) → (t : Bool) → test x ≡ t → cond t (Some x) (find test xs) ≡ None → (test x ≡ false)
+        × AllByRecursion (λ x. test x ≡ false) xs
     by rest true is e = cc
     by rest false is e = (is, rest e)
 
@@ -63,7 +66,8 @@ each_value P (p ∷ ps) all key = elim (key_cases p.0 key) [
 pub each_pair : (P : List ℕ × Typed → Type 0) (ps : Pairs) → ((key : List ℕ) → AllByRecursion (λ v. P (key, v)) (values_of key ps)) → AllByRecursion P ps
 each_pair P [] each = tt
 each_pair P (p ∷ ps) each =
-    let here : AllByRecursion (λ v. P (p.0, v)) (p.1 ∷ values_of p.0 ps) = subst (AllByRecursion (λ v. P (p.0, v))) (values_of-same p.0 p ps refl) (each p.0) in (
+    let here : AllByRecursion (λ v. P (p.0, v)) (p.1 ∷ values_of p.0 ps) = subst (AllByRecursion (λ v. P (p.0, v))) (values_of-same p.0 p ps refl) (each p.0) in
+        (
       here.0,
       each_pair P ps (λ key. elim (key_cases p.0 key) [
         | inl same ↦ (rest_of key (values_of-same key p ps same) (each key))
@@ -71,7 +75,8 @@ each_pair P (p ∷ ps) each =
       ]),
     )
   where
-    rest_of : (key : List ℕ) → values_of key (p ∷ ps) ≡ p.1 ∷ values_of key ps → AllByRecursion (λ v. P (key, v)) (values_of key (p ∷ ps)) → AllByRecursion (λ v. P (key, v)) (values_of key ps)
+    rest_of : (key : List ℕ) → values_of key (p ∷ ps) ≡ p.1 ∷ values_of key ps → AllByRecursion (λ v. P (key, v)) (values_of key (p ∷ ps)) →
+        AllByRecursion (λ v. P (key, v)) (values_of key ps)
     rest_of key e all = let whole : AllByRecursion (λ v. P (key, v)) (p.1 ∷ values_of key ps) = subst (AllByRecursion (λ v. P (key, v))) e all in whole.1
 
 -- the first of two that is there

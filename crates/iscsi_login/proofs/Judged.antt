@@ -1,5 +1,6 @@
 -- An answer in which no key is bad is a good one, and a good one has none.
-use Rattle.std.proofs.Common.{◌≡◌, ◌≢◌, ℕ, ◌<◌, ◌≤◌, Bool, true, false, not, ◌&&◌, ◌||◌, List, [], ◌∷◌, ◌++◌, length, map, find, nat_le, Option, Some, None, is_some, is_none, slice_get, if◌then◌else◌, refl, sym, ap, subst, ◌∙◌, inl, inr, arith}
+use Rattle.std.proofs.Common.{◌≡◌, ◌≢◌, ℕ, ◌<◌, ◌≤◌, Bool, true, false, not, ◌&&◌, ◌||◌, List, [], ◌∷◌, ◌++◌, length, map, find, nat_le, Option, Some, None,
+    is_some, is_none, slice_get, if◌then◌else◌, refl, sym, ap, subst, ◌∙◌, inl, inr, arith}
 use Rattle.std.specs.List.{AllByRecursion}
 use Rattle.std.specs.Option.{IfSome}
 use Rattle.std.specs.Str.{bytes_eq}
@@ -24,11 +25,13 @@ use Rattle.iscsi_login.proofs.Texts.{not_address}
 -- ---- declared lengths
 
 length_from : (v : Typed) → is_segment_length v ≡ true → IsSegmentLength v
-length_from (values.Number n) e = let both = and_parts (nat_le max_recv_range.low n) (nat_le n max_recv_range.high) e in (leb-true max_recv_range.low n both.0, leb-true n max_recv_range.high both.1)
+length_from (values.Number n) e = let both = and_parts (nat_le max_recv_range.low n) (nat_le n max_recv_range.high) e in
+    (leb-true max_recv_range.low n both.0, leb-true n max_recv_range.high both.1)
 length_from _ e = absurd cc
 
 length_passes : (v : Typed) → IsSegmentLength v → is_segment_length v ≡ true
-length_passes (values.Number n) is = and_from (nat_le max_recv_range.low n) (nat_le n max_recv_range.high) (le-leb max_recv_range.low n is.0) (le-leb n max_recv_range.high is.1)
+length_passes (values.Number n) is = and_from (nat_le max_recv_range.low n) (nat_le n max_recv_range.high) (le-leb max_recv_range.low n is.0)
+    (le-leb n max_recv_range.high is.1)
 length_passes _ is = absurd is
 
 -- a pair with the key of a declared length
@@ -46,7 +49,8 @@ first_length (v ∷ vs) all = all.0
 
 -- an answer without a bad key declares a length that may be declared
 pub taken_declares : (offered answer : Pairs) → bad_key offered answer ≡ None → DeclaresWell answer
-taken_declares offered answer e = first_length (values_of max_recv_key answer) (lengths_of offered answer (neither (find (is_bad offered) answer) (find (is_unanswered answer) offered) e).0)
+taken_declares offered answer e = first_length (values_of max_recv_key answer) (lengths_of offered answer (neither (find (is_bad offered) answer)
+    (find (is_unanswered answer) offered) e).0)
 
 -- ---- names
 
@@ -62,7 +66,8 @@ named_among : (name : List ℕ) (ks : List NegKey) → is_among (map name_of ks)
 named_among name [] = refl
 named_among name (k ∷ ks) = by (named_among name ks) (bytes_eq (name_of k) name)
   where
-    by : is_among (map name_of ks) name ≡ is_some (find (λ key. bytes_eq (name_of key) name) ks) → (t : Bool) → (t || is_among (map name_of ks) name) ≡ is_some (if t then Some k else find (λ key. bytes_eq (name_of key) name) ks)
+    by : is_among (map name_of ks) name ≡ is_some (find (λ key. bytes_eq (name_of key) name) ks) → (t : Bool) → (t || is_among (map name_of ks) name)
+        ≡ is_some (if t then Some k else find (λ key. bytes_eq (name_of key) name) ks)
     by rest true = refl
     by rest false = rest
 
@@ -71,7 +76,8 @@ name_is_short keys.MaxConnections = refl
 name_is_short _ = refl
 
 -- the key for which an answer is refused is no longer than a key of a text
-short_of : (o : Option (List ℕ × Typed)) (other : Option (List ℕ)) → IfSome o (λ p. length p.0 ≤ 63) → IfSome other (λ key. length key ≤ 63) → IfSome (key_or o other) (λ key. length key ≤ 63)
+short_of : (o : Option (List ℕ × Typed)) (other : Option (List ℕ)) → IfSome o (λ p. length p.0 ≤ 63) → IfSome other (λ key. length key ≤ 63) →
+    IfSome (key_or o other) (λ key. length key ≤ 63)
 short_of None other is rest = rest
 short_of (Some p) other is rest = is
 
@@ -92,18 +98,21 @@ pub name_back : (name : List ℕ) (key : NegKey) → key_named name ≡ Some key
 name_back name key is = subst (λ k. IfSome k (λ key. name_of key ≡ name)) is (named_is name)
 
 pub unanswered_named : (answer : Pairs) (pair : List ℕ × Typed) → is_unanswered answer pair ≡ true → key_named pair.0 ≢ None
-unanswered_named answer pair is none = let some : false ≡ true = sym (ap is_some none) ∙ (and_parts (is_some (key_named pair.0)) (is_none (slice_get (values_of pair.0 answer) 0)) is).0 in cc
+unanswered_named answer pair is none = let some : false ≡ true = sym (ap is_some none)
+    ∙ (and_parts (is_some (key_named pair.0)) (is_none (slice_get (values_of pair.0 answer) 0)) is).0 in cc
 
 pub key_is_short : (offered answer : Pairs) → IsMeaning answer → IfSome (bad_key offered answer) (λ key. length key ≤ 63)
 key_is_short offered answer meaning =
     short_of (find (is_bad offered) answer) (key_or (find (is_unanswered answer) offered) None)
     (key_size (find (is_bad offered) answer) (found_has IsPair (is_bad offered) answer meaning.each))
-    (short_of (find (is_unanswered answer) offered) None (unanswered_size answer (find (is_unanswered answer) offered) (found_passes (is_unanswered answer) offered)) tt)
+    (short_of (find (is_unanswered answer) offered) None (unanswered_size answer (find (is_unanswered answer) offered)
+        (found_passes (is_unanswered answer) offered)) tt)
 
 -- ---- without a bad key it is good
 
 -- a value of a negotiated key
-good_value : (key : NegKey) (offered : Pairs) (v : Typed) → is_bad offered (name_of key, v) ≡ false → may_answer key (slice_get (values_of (name_of key) offered) 0) v ≡ true
+good_value : (key : NegKey) (offered : Pairs) (v : Typed) → is_bad offered (name_of key, v) ≡ false →
+    may_answer key (slice_get (values_of (name_of key) offered) 0) v ≡ true
 good_value key offered v e =
     not-false (may_answer key (slice_get (values_of (name_of key) offered) 0) v)
     (sym (ap (λ k. not (is_good_pair k offered (name_of key, v))) (key_named-name key)) ∙ e)
@@ -117,7 +126,8 @@ answered_value_of [] (o ∷ offers) all some = absurd (none all.0)
     none e = cc
 answered_value_of (a ∷ answers) (o ∷ offers) all some = omega arith
 
-answers_from : (key : NegKey) (offers answers : List Typed) → length offers ≤ 1 → length answers ≤ 1 → AllByRecursion (λ v. may_answer key (slice_get offers 0) v ≡ true) answers → (0 < length offers → 0 < length answers) → Answers key offers answers
+answers_from : (key : NegKey) (offers answers : List Typed) → length offers ≤ 1 → length answers ≤ 1 →
+    AllByRecursion (λ v. may_answer key (slice_get offers 0) v ≡ true) answers → (0 < length offers → 0 < length answers) → Answers key offers answers
 answers_from key [] [] few one all some = tt
 answers_from key [] (a ∷ answers) few one all some = let bad : false ≡ true = all.0 in cc
 answers_from key (o ∷ []) [] few one all some = absurd (omega (arith, some (omega arith)))
@@ -133,23 +143,29 @@ good_key offered name v e = list_any-append (λ k. bytes_eq k name) (map name_of
     by (Some key) is = or_left (is_among (map name_of all_keys) name) (is_among declarable name) (named_among name all_keys ∙ ap is_some is)
     by None is =
         let good : may_declare (name, v) ≡ true = not-false (may_declare (name, v)) (sym (ap (λ k. not (is_good_pair k offered (name, v))) is) ∙ e) in
-        or_right (is_among (map name_of all_keys) name) (is_among declarable name) (and_parts (is_among declarable name) (not (bytes_eq name max_recv_key) || is_segment_length v) good).0
+        or_right (is_among (map name_of all_keys) name) (is_among declarable name)
+            (and_parts (is_among declarable name) (not (bytes_eq name max_recv_key) || is_segment_length v) good).0
 
-good_keys : (offered : Pairs) (name : List ℕ) (vs : List Typed) → AllByRecursion (λ v. is_bad offered (name, v) ≡ false) vs → 0 < length vs → is_among (map name_of all_keys ++ declarable) name ≡ true
+good_keys : (offered : Pairs) (name : List ℕ) (vs : List Typed) → AllByRecursion (λ v. is_bad offered (name, v) ≡ false) vs → 0 < length vs →
+    is_among (map name_of all_keys ++ declarable) name ≡ true
 good_keys offered name [] all some = absurd (omega arith)
 good_keys offered name (v ∷ vs) all some = good_key offered name v all.0
 
 pub none_is_good : (offered answer : Pairs) → IsOffer offered → IsMeaning answer → bad_key offered answer ≡ None → IsGoodAnswer offered answer
 none_is_good offered answer offer meaning e =
-    let parts : (find (is_bad offered) answer ≡ None) × (find (is_unanswered answer) offered ≡ None) = neither (find (is_bad offered) answer) (find (is_unanswered answer) offered) e in
+    let parts : (find (is_bad offered) answer ≡ None) × (find (is_unanswered answer) offered ≡ None) =
+        neither (find (is_bad offered) answer) (find (is_unanswered answer) offered) e in
     let good : AllByRecursion (λ p. is_bad offered p ≡ false) answer = none_passes (is_bad offered) answer parts.0 in
     let answered : AllByRecursion (λ p. is_unanswered answer p ≡ false) offered = none_passes (is_unanswered answer) offered parts.1 in
     record {
       negotiated = λ key.
-          answers_from key (values_of (name_of key) offered) (values_of (name_of key) answer) (offer.single (name_of key) (not_address key)) (meaning.single (name_of key) (not_address key))
-          (all_from (λ v. is_bad offered (name_of key, v) ≡ false) (λ v. may_answer key (slice_get (values_of (name_of key) offered) 0) v ≡ true) (values_of (name_of key) answer) (good_value key offered) (each_value (λ p. is_bad offered p ≡ false) answer good (name_of key)))
+          answers_from key (values_of (name_of key) offered) (values_of (name_of key) answer) (offer.single (name_of key) (not_address key))
+              (meaning.single (name_of key) (not_address key))
+          (all_from (λ v. is_bad offered (name_of key, v) ≡ false) (λ v. may_answer key (slice_get (values_of (name_of key) offered) 0) v ≡ true)
+              (values_of (name_of key) answer) (good_value key offered) (each_value (λ p. is_bad offered p ≡ false) answer good (name_of key)))
           (answered_value_of (values_of (name_of key) answer) (values_of (name_of key) offered)
-          (all_from (λ v. is_unanswered answer (name_of key, v) ≡ false) (λ v. is_none (slice_get (values_of (name_of key) answer) 0) ≡ false) (values_of (name_of key) offered)
+          (all_from (λ v. is_unanswered answer (name_of key, v) ≡ false) (λ v. is_none (slice_get (values_of (name_of key) answer) 0) ≡ false)
+              (values_of (name_of key) offered)
           (λ v h. sym (ap (λ k. is_some k && is_none (slice_get (values_of (name_of key) answer) 0)) (key_named-name key)) ∙ h)
           (each_value (λ p. is_unanswered answer p ≡ false) offered answered (name_of key))));
       max_recv = lengths_of offered answer parts.0;
@@ -159,7 +175,8 @@ none_is_good offered answer offer meaning e =
 -- ---- a good one has none
 
 -- the answers to an offer, and what they answer
-good_values : (key : NegKey) (offers answers : List Typed) → Answers key offers answers → AllByRecursion (λ v. may_answer key (slice_get offers 0) v ≡ true) answers
+good_values : (key : NegKey) (offers answers : List Typed) → Answers key offers answers →
+    AllByRecursion (λ v. may_answer key (slice_get offers 0) v ≡ true) answers
 good_values key [] [] is = tt
 good_values key (o ∷ []) (a ∷ []) is = (legal_passes key o a is, tt)
 good_values key [] (a ∷ answers) is = absurd is
@@ -176,19 +193,23 @@ all_answered key (o ∷ []) (a ∷ b ∷ answers) is = absurd is
 all_answered key (o ∷ p ∷ offers) answers is = absurd is
 
 -- a declared value
-length_or_other : (name : List ℕ) (v : Typed) → (bytes_eq name max_recv_key ≡ true → is_segment_length v ≡ true) → (not (bytes_eq name max_recv_key) || is_segment_length v) ≡ true
+length_or_other : (name : List ℕ) (v : Typed) → (bytes_eq name max_recv_key ≡ true → is_segment_length v ≡ true) →
+    (not (bytes_eq name max_recv_key) || is_segment_length v) ≡ true
 length_or_other name v is = by (bytes_eq name max_recv_key) is
   where
     by : (t : Bool) → (t ≡ true → is_segment_length v ≡ true) → (not t || is_segment_length v) ≡ true
     by true is = is refl
     by false is = refl
 
-declared_values : (name : List ℕ) (vs : List Typed) → (0 < length vs → is_among declarable name ≡ true) → AllByRecursion (λ v. bytes_eq name max_recv_key ≡ true → is_segment_length v ≡ true) vs → AllByRecursion (λ v. may_declare (name, v) ≡ true) vs
+declared_values : (name : List ℕ) (vs : List Typed) → (0 < length vs → is_among declarable name ≡ true) →
+    AllByRecursion (λ v. bytes_eq name max_recv_key ≡ true → is_segment_length v ≡ true) vs → AllByRecursion (λ v. may_declare (name, v) ≡ true) vs
 declared_values name [] some all = tt
 declared_values name (v ∷ vs) some all =
-    (and_from (is_among declarable name) (not (bytes_eq name max_recv_key) || is_segment_length v) (some (omega arith)) (length_or_other name v all.0), declared_values name vs (λ more. some (omega arith)) all.1)
+    (and_from (is_among declarable name) (not (bytes_eq name max_recv_key) || is_segment_length v) (some (omega arith)) (length_or_other name v all.0),
+        declared_values name vs (λ more. some (omega arith)) all.1)
 
-lengths_pass : (answer : Pairs) (name : List ℕ) → AllByRecursion IsSegmentLength (values_of max_recv_key answer) → AllByRecursion (λ v. bytes_eq name max_recv_key ≡ true → is_segment_length v ≡ true) (values_of name answer)
+lengths_pass : (answer : Pairs) (name : List ℕ) → AllByRecursion IsSegmentLength (values_of max_recv_key answer) →
+    AllByRecursion (λ v. bytes_eq name max_recv_key ≡ true → is_segment_length v ≡ true) (values_of name answer)
 lengths_pass answer name all = by (bytes_eq name max_recv_key) refl
   where
     none_asked : (vs : List Typed) → AllByRecursion (λ v. false ≡ true → is_segment_length v ≡ true) vs
@@ -197,41 +218,52 @@ lengths_pass answer name all = by (bytes_eq name max_recv_key) refl
 
     by : (t : Bool) → bytes_eq name max_recv_key ≡ t → AllByRecursion (λ v. t ≡ true → is_segment_length v ≡ true) (values_of name answer)
     by false e = none_asked (values_of name answer)
-    by true e = all_from IsSegmentLength (λ v. true ≡ true → is_segment_length v ≡ true) (values_of name answer) (λ v is _. length_passes v is) (subst (λ k. AllByRecursion IsSegmentLength (values_of k answer)) (sym (same_key name max_recv_key e)) all)
+    by true e = all_from IsSegmentLength (λ v. true ≡ true → is_segment_length v ≡ true) (values_of name answer) (λ v is _. length_passes v is)
+        (subst (λ k. AllByRecursion IsSegmentLength (values_of k answer)) (sym (same_key name max_recv_key e)) all)
 
 -- each value of a key in a good answer
-good_at : (offered answer : Pairs) → IsGoodAnswer offered answer → (name : List ℕ) → AllByRecursion (λ v. is_bad offered (name, v) ≡ false) (values_of name answer)
+good_at : (offered answer : Pairs) → IsGoodAnswer offered answer → (name : List ℕ) →
+    AllByRecursion (λ v. is_bad offered (name, v) ≡ false) (values_of name answer)
 good_at offered answer good name = by (key_named name) refl (named_is name)
   where
-    by : (k : Option NegKey) → key_named name ≡ k → IfSome k (λ key. name_of key ≡ name) → AllByRecursion (λ v. not (is_good_pair (key_named name) offered (name, v)) ≡ false) (values_of name answer)
+    by : (k : Option NegKey) → key_named name ≡ k → IfSome k (λ key. name_of key ≡ name) →
+        AllByRecursion (λ v. not (is_good_pair (key_named name) offered (name, v)) ≡ false) (values_of name answer)
     by (Some key) is same =
-        all_from (λ v. may_answer key (slice_get (values_of name offered) 0) v ≡ true) (λ v. not (is_good_pair (key_named name) offered (name, v)) ≡ false) (values_of name answer)
+        all_from (λ v. may_answer key (slice_get (values_of name offered) 0) v ≡ true) (λ v. not (is_good_pair (key_named name) offered (name, v)) ≡ false)
+            (values_of name answer)
         (λ v may. ap (λ k. not (is_good_pair k offered (name, v))) is ∙ not_from_true (may_answer key (slice_get (values_of name offered) 0) v) may)
-        (subst (λ n. AllByRecursion (λ v. may_answer key (slice_get (values_of n offered) 0) v ≡ true) (values_of n answer)) same (good_values key (values_of (name_of key) offered) (values_of (name_of key) answer) (good.negotiated key)))
+        (subst (λ n. AllByRecursion (λ v. may_answer key (slice_get (values_of n offered) 0) v ≡ true) (values_of n answer)) same
+            (good_values key (values_of (name_of key) offered) (values_of (name_of key) answer) (good.negotiated key)))
     by None is same =
         all_from (λ v. may_declare (name, v) ≡ true) (λ v. not (is_good_pair (key_named name) offered (name, v)) ≡ false) (values_of name answer)
         (λ v may. ap (λ k. not (is_good_pair k offered (name, v))) is ∙ not_from_true (may_declare (name, v)) may)
         (declared_values name (values_of name answer) (declared is) (lengths_pass answer name good.max_recv))
       where
         declared : key_named name ≡ None → 0 < length (values_of name answer) → is_among declarable name ≡ true
-        declared is some = elim (or_cases (is_among (map name_of all_keys) name) (is_among declarable name) (sym (list_any-append (λ k. bytes_eq k name) (map name_of all_keys) declarable) ∙ good.others name some)) [
+        declared is some = elim (or_cases (is_among (map name_of all_keys) name) (is_among declarable name)
+            (sym (list_any-append (λ k. bytes_eq k name) (map name_of all_keys) declarable) ∙ good.others name some)) [
           | inl named ↦ let bad : true ≡ false = sym named ∙ named_among name all_keys ∙ ap is_some is in cc
           | inr here ↦ here
         ]
 
 -- each offered value has its answer
-answered_at : (offered answer : Pairs) → IsGoodAnswer offered answer → (name : List ℕ) → AllByRecursion (λ v. is_unanswered answer (name, v) ≡ false) (values_of name offered)
+answered_at : (offered answer : Pairs) → IsGoodAnswer offered answer → (name : List ℕ) →
+    AllByRecursion (λ v. is_unanswered answer (name, v) ≡ false) (values_of name offered)
 answered_at offered answer good name = by (key_named name) (named_is name)
   where
     unasked : (vs : List Typed) → AllByRecursion (λ v. false ≡ false) vs
     unasked [] = tt
     unasked (v ∷ vs) = (refl, unasked vs)
 
-    by : (k : Option NegKey) → IfSome k (λ key. name_of key ≡ name) → AllByRecursion (λ v. (is_some k && is_none (slice_get (values_of name answer) 0)) ≡ false) (values_of name offered)
-    by (Some key) same = subst (λ n. AllByRecursion (λ v. is_none (slice_get (values_of n answer) 0) ≡ false) (values_of n offered)) same (all_answered key (values_of (name_of key) offered) (values_of (name_of key) answer) (good.negotiated key))
+    by : (k : Option NegKey) → IfSome k (λ key. name_of key ≡ name) → AllByRecursion (λ v. (is_some k && is_none (slice_get (values_of name answer) 0)) ≡ false)
+        (values_of name offered)
+    by (Some key) same = subst (λ n. AllByRecursion (λ v. is_none (slice_get (values_of n answer) 0) ≡ false) (values_of n offered)) same
+        (all_answered key (values_of (name_of key) offered) (values_of (name_of key) answer) (good.negotiated key))
     by None same = unasked (values_of name offered)
 
 pub good_is_taken : (offered answer : Pairs) → IsGoodAnswer offered answer → bad_key offered answer ≡ None
 good_is_taken offered answer good =
-    ap (λ o. key_or o (key_or (find (is_unanswered answer) offered) None)) (none_found (is_bad offered) answer (each_pair (λ p. is_bad offered p ≡ false) answer (good_at offered answer good)))
-    ∙ ap (λ o. key_or o None) (none_found (is_unanswered answer) offered (each_pair (λ p. is_unanswered answer p ≡ false) offered (answered_at offered answer good)))
+    ap (λ o. key_or o (key_or (find (is_unanswered answer) offered) None)) (none_found (is_bad offered) answer
+        (each_pair (λ p. is_bad offered p ≡ false) answer (good_at offered answer good)))
+    ∙ ap (λ o. key_or o None) (none_found (is_unanswered answer) offered (each_pair (λ p. is_unanswered answer p
+        ≡ false) offered (answered_at offered answer good)))

@@ -54,7 +54,8 @@ spelled rules.NoneItem (values.Items items) e = by (has_none items)
     by false = inl refl
 spelled _ _ e = inl refl
 
-choice : (key : NegKey) (offer answer : Typed) → is_given (rule_of key) (value_of (rule_of key) offer) (value_of (rule_of key) answer) ≡ true → is_one_item answer ≡ true → IsChoice key offer answer
+choice : (key : NegKey) (offer answer : Typed) → is_given (rule_of key) (value_of (rule_of key) offer) (value_of (rule_of key) answer) ≡ true →
+    is_one_item answer ≡ true → IsChoice key offer answer
 choice key offer answer given one =
     let rule = rule_of key in
     let preferred = value_of (rule_of key) answer in
@@ -70,9 +71,11 @@ choice key offer answer given one =
 
 -- what passes the test is legal
 pub legal_from : (key : NegKey) (offer answer : Typed) → is_legal key offer answer ≡ true → IsLegal key offer answer
-legal_from key offer answer e = elim (or_cases (is_word answer) (is_given (rule_of key) (value_of (rule_of key) offer) (value_of (rule_of key) answer) && is_one_item answer) e) [
+legal_from key offer answer e = elim (or_cases (is_word answer) (is_given (rule_of key) (value_of (rule_of key) offer) (value_of (rule_of key) answer)
+    && is_one_item answer) e) [
   | inl is ↦ inl is
-  | inr rest ↦ let both = and_parts (is_given (rule_of key) (value_of (rule_of key) offer) (value_of (rule_of key) answer)) (is_one_item answer) rest in inr (choice key offer answer both.0 both.1)
+  | inr rest ↦ let both = and_parts (is_given (rule_of key) (value_of (rule_of key) offer) (value_of (rule_of key) answer)) (is_one_item answer) rest in
+      inr (choice key offer answer both.0 both.1)
 ]
 
 -- an allowed value in a text stands for itself, and has one item

@@ -6,7 +6,8 @@ use Rattle.std.specs.Array.{MapsFrom, IsMapOf}
 use denote.Param.Members.{Mut, Called}
 
 -- a closure that stays as it is, and gives what h gives
-module _ {F A B : Type 0} (g : Mut F (A × Unit {0}) B) (h : A → B) (f : F) (gives : (a : A) (b : B) (q : F) → Called g f (a, tt) b q → (b ≡ h a) × (q ≡ f)) where
+module _ {F A B : Type 0} (g : Mut F (A × Unit {0}) B) (h : A → B) (f : F) (gives : (a : A) (b : B) (q : F) → Called g f (a, tt) b q → (b ≡ h a)
+    × (q ≡ f)) where
   maps_from : (xs : List A) (ys : List B) (i n : ℕ) → i + n ≡ length xs → length ys ≡ length xs → MapsFrom g f xs ys i n → drop i ys ≡ map h (drop i xs)
   maps_from xs ys i zero end same each =
       drop_all i ys (omega (arith, end, same)) ∙ sym (ap (map h) (drop_all i xs (omega (arith, end))))

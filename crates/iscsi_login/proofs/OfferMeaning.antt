@@ -1,5 +1,6 @@
 -- The offers are what some text means, and what an initiator may offer.
-use Rattle.std.proofs.Common.{◌≡◌, ℕ, ◌<◌, ◌≤◌, Bool, true, false, ◌&&◌, not, List, [], ◌∷◌, ◌++◌, map, length, refl, sym, ap, subst, ◌∙◌, inl, inr, arith, codes}
+use Rattle.std.proofs.Common.{◌≡◌, ℕ, ◌<◌, ◌≤◌, Bool, true, false, ◌&&◌, not, List, [], ◌∷◌, ◌++◌, map, length, refl, sym, ap, subst, ◌∙◌, inl, inr, arith,
+    codes}
 use Rattle.std.specs.List.{list_all}
 use Rattle.std.specs.Str.{bytes_eq}
 use Rattle.std.proofs.lemmas.Bool.{and_parts, not-true}
@@ -37,11 +38,13 @@ at_most_one key [] e = omega arith
 at_most_one key (p ∷ ps) e =
     let both = and_parts (is_new p.0 ps) (all_new ps) e in
     elim (key_cases p.0 key) [
-      | inl same ↦ omega (arith, ap length (values_of-same key p ps same ∙ ap (λ vs. p.1 ∷ vs) (subst (λ k. values_of k ps ≡ []) same (new_absent p.0 ps both.0))))
+      | inl same ↦ omega (arith, ap length (values_of-same key p ps same ∙ ap (λ vs. p.1 ∷ vs)
+          (subst (λ k. values_of k ps ≡ []) same (new_absent p.0 ps both.0))))
       | inr other ↦ omega (arith, ap length (values_of-other key p ps other), at_most_one key ps both.1)
     ]
 
-all_among : (names : List (List ℕ)) (ps : Pairs) → list_all (λ p. is_among names p.0) ps ≡ true → (key : List ℕ) → 0 < length (values_of key ps) → is_among names key ≡ true
+all_among : (names : List (List ℕ)) (ps : Pairs) → list_all (λ p. is_among names p.0) ps ≡ true → (key : List ℕ) → 0 < length (values_of key ps) →
+    is_among names key ≡ true
 all_among names [] e key some = absurd (omega arith)
 all_among names (p ∷ ps) e key some =
     let both = and_parts (is_among names p.0) (list_all (λ q. is_among names q.0) ps) e in
@@ -68,8 +71,10 @@ session_pair session = (codes "SessionType", values.Plain (session_name session)
 pub security_is_offer : (o : Proposal) → IsOffer (in_order (security_offers o))
 security_is_offer o = by o.session
   where
-    by : (s : Session) → IsOffer (in_order ((codes "AuthMethod", values.Items (auth_items o.auth)) ∷ name_pair o.initiator ∷ session_pair s ∷ target_pair s o.target))
-    by Normal = offer_from ((codes "AuthMethod", values.Items (auth_items o.auth)) ∷ name_pair o.initiator ∷ session_pair Normal ∷ target_pair Normal o.target) refl refl
+    by : (s : Session) → IsOffer (in_order ((codes "AuthMethod", values.Items (auth_items o.auth)) ∷ name_pair o.initiator ∷ session_pair s ∷ target_pair s
+        o.target))
+    by Normal = offer_from ((codes "AuthMethod", values.Items (auth_items o.auth)) ∷ name_pair o.initiator ∷ session_pair Normal ∷ target_pair Normal o.target)
+        refl refl
     by Discovery = offer_from ((codes "AuthMethod", values.Items (auth_items o.auth)) ∷ name_pair o.initiator ∷ session_pair Discovery ∷ []) refl refl
 
 pub operational_is_offer : (o : Proposal) → IsOffer (in_order (operational_offers o))

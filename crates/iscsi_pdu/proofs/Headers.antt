@@ -1,5 +1,6 @@
 -- A header has one head, and the canonical header of a head has that head.
-use Rattle.std.proofs.Common.{◌≡◌, ℕ, ◌+◌, ◌-◌, ◌^◌, ◌<◌, ◌≤◌, slice_range, Bool, true, false, ltb, List, [], ◌∷◌, ◌++◌, length, get_or, take, drop, replicate, Some, None, Result, Ok, Err, refl, sym, ap, subst, ◌∙◌, arith, rules, inl, inr, length-take, length-append, append_assoc, lit<}
+use Rattle.std.proofs.Common.{◌≡◌, ℕ, ◌+◌, ◌-◌, ◌^◌, ◌<◌, ◌≤◌, slice_range, Bool, true, false, ltb, List, [], ◌∷◌, ◌++◌, length, get_or, take, drop, replicate,
+    Some, None, Result, Ok, Err, refl, sym, ap, subst, ◌∙◌, arith, rules, inl, inr, length-take, length-append, append_assoc, lit<}
 use Rattle.std.specs.Prelude.{◌&&◌, IfOk}
 use Rattle.std.specs.Result.{result_err}
 use Rattle.std.specs.Bool.{OnTrue}
@@ -10,16 +11,21 @@ use Rattle.scsi_cdb.proofs.Laws.{is_table, put_all-holds, length-put_all, Hold-r
 use Rattle.scsi_cdb.specs.Blocks as cdb
 use Rattle.scsi_cdb.proofs.Records as records
 use Rattle.iscsi_pdu.specs.declared.head.Head.{Head}
-use Rattle.iscsi_pdu.specs.declared.head.Head.TheVariants.{NopOut, ScsiCommand, TaskRequest, LoginRequest, TextRequest, DataOut, LogoutRequest, NopIn, ScsiResponse, TaskResponse, LoginResponse, TextResponse, DataIn, LogoutResponse, ReadyToTransfer, AsyncMessage, Reject}
+use Rattle.iscsi_pdu.specs.declared.head.Head.TheVariants.{NopOut, ScsiCommand, TaskRequest, LoginRequest, TextRequest, DataOut, LogoutRequest, NopIn,
+    ScsiResponse, TaskResponse, LoginResponse, TextResponse, DataIn, LogoutResponse, ReadyToTransfer, AsyncMessage, Reject}
 use Rattle.iscsi_pdu.specs.declared.head.HeadFault.{HeadFault}
-use Rattle.iscsi_pdu.specs.Meaning.{opcode, rows, ones, blocks, frame, header, is_login, is_opcode, fault_of, Fits, FitsBlock, HasBlock, HasBlockRoom, ReadsBlock, IsHeader, IsWritable, Means, whole, padding}
-use Rattle.iscsi_pdu.proofs.Unique.{nop_out-unique, scsi_command-unique, task_request-unique, login_request-unique, text_request-unique, data_out-unique, logout_request-unique, nop_in-unique, scsi_response-unique, task_response-unique, login_response-unique, text_response-unique, data_in-unique, logout_response-unique, ready_to_transfer-unique, async_message-unique, reject-unique}
+use Rattle.iscsi_pdu.specs.Meaning.{opcode, rows, ones, blocks, frame, header, is_login, is_opcode, fault_of, Fits, FitsBlock, HasBlock, HasBlockRoom,
+    ReadsBlock, IsHeader, IsWritable, Means, whole, padding}
+use Rattle.iscsi_pdu.proofs.Unique.{nop_out-unique, scsi_command-unique, task_request-unique, login_request-unique, text_request-unique, data_out-unique,
+    logout_request-unique, nop_in-unique, scsi_response-unique, task_response-unique, login_response-unique, text_response-unique, data_in-unique,
+    logout_response-unique, ready_to_transfer-unique, async_message-unique, reject-unique}
 
 -- ---- a header has one head
 
 kind-unique : (b : List ℕ) (x y : Head) → opcode x ≡ opcode y → Hold b (rows x) → Hold b (rows y) → HasBlock b x → HasBlock b y → x ≡ y
 kind-unique b (NopOut x) (NopOut y) e p q m n = ap NopOut (nop_out-unique b x y p q)
-kind-unique b (ScsiCommand x) (ScsiCommand y) e p q m n = ap ScsiCommand (scsi_command-unique b x y p q (records.IsRecord-unique (part 32 47 b) x.cdb y.cdb m n))
+kind-unique b (ScsiCommand x) (ScsiCommand y) e p q m n = ap ScsiCommand (scsi_command-unique b x y p q
+    (records.IsRecord-unique (part 32 47 b) x.cdb y.cdb m n))
 kind-unique b (TaskRequest x) (TaskRequest y) e p q m n = ap TaskRequest (task_request-unique b x y p q)
 kind-unique b (LoginRequest x) (LoginRequest y) e p q m n = ap LoginRequest (login_request-unique b x y p q)
 kind-unique b (TextRequest x) (TextRequest y) e p q m n = ap TextRequest (text_request-unique b x y p q)
@@ -42,7 +48,8 @@ same_some x y z p q = cc
 
 pub IsHeader-unique : (b : List ℕ) (x y : Head) (m n : ℕ) → IsHeader b x m → IsHeader b y n → (x ≡ y) × (m ≡ n)
 IsHeader-unique b x y m n p q =
-    (kind-unique b x y (same_some (opcode x) (opcode y) (bits_at 0 63 b) p.frame.0 q.frame.0) p.rows q.rows p.block q.block, same_some m n (number_at 5 7 b) p.frame.1.1.0 q.frame.1.1.0)
+    (kind-unique b x y (same_some (opcode x) (opcode y) (bits_at 0 63 b) p.frame.0 q.frame.0) p.rows q.rows p.block q.block,
+        same_some m n (number_at 5 7 b) p.frame.1.1.0 q.frame.1.1.0)
 
 -- ---- the canonical header
 
@@ -95,14 +102,19 @@ blocks-has b (ScsiCommand h) reads held =
 blocks-has b _ reads held = tt
 
 -- The canonical header of a head has that head.
-pub header-means : (h : Head) (len : ℕ) → HaveRoom (rows h) → ReadsBlock h → len < 2 ^ 24 → OnTrue (is_login (opcode h)) (len ≤ 8192) → IsHeader (header h len) h len
+pub header-means : (h : Head) (len : ℕ) → HaveRoom (rows h) → ReadsBlock h → len < 2 ^ 24 → OnTrue (is_login (opcode h)) (len ≤ 8192) →
+    IsHeader (header h len) h len
 unfolding all_rows header
 header-means h len own reads short login =
     let fields = rows h ++ blocks h in
     let zeros : List ℕ = replicate 48 0 in
-    let room : HaveRoom (all_rows h len) = HaveRoom-append (ones h) _ (ones-room h) (HaveRoom-append (frame (opcode h) len) fields ((refl, opcode-small h), ((refl, lit< tt), ((refl, short), tt))) (HaveRoom-append (rows h) (blocks h) own (blocks-room h reads))) in
-    let same : put_all (all_rows h len) zeros ≡ header h len = put_all-append (ones h) (frame (opcode h) len ++ fields) zeros ∙ put_all-append (frame (opcode h) len) fields (put_all (ones h) zeros) in
-    let held : Hold (header h len) (all_rows h len) = subst (λ (b : List ℕ). Hold b (all_rows h len)) same (put_all-holds 48 (all_rows h len) zeros refl (all_rows-table h len) room) in
+    let room : HaveRoom (all_rows h len) = HaveRoom-append (ones h) _ (ones-room h)
+        (HaveRoom-append (frame (opcode h) len) fields ((refl, opcode-small h), ((refl, lit< tt), ((refl, short), tt)))
+        (HaveRoom-append (rows h) (blocks h) own (blocks-room h reads))) in
+    let same : put_all (all_rows h len) zeros ≡ header h len = put_all-append (ones h) (frame (opcode h) len ++ fields) zeros
+        ∙ put_all-append (frame (opcode h) len) fields (put_all (ones h) zeros) in
+    let held : Hold (header h len) (all_rows h len) = subst (λ (b : List ℕ). Hold b (all_rows h len)) same
+        (put_all-holds 48 (all_rows h len) zeros refl (all_rows-table h len) room) in
     let after = Hold-second (ones h) (frame (opcode h) len ++ fields) (header h len) held in
     let last = Hold-second (frame (opcode h) len) fields (header h len) after in
     record {
@@ -164,7 +176,8 @@ IsHeader-faultless b h len r =
     rw (op, opcode-listed h, four, size, login-fits (is_login (opcode h)) len r.login) refl
 
 -- what a reader answered, by its two clauses, is every head that the bytes have
-pub only_answer : (b : List ℕ) (r : Result (Head × ℕ) HeadFault) → IfOk r (λ x. IsHeader b x.0 x.1) → result_err r ≡ fault_of b → (h : Head) (len : ℕ) → IsHeader b h len → r ≡ Ok (h, len)
+pub only_answer : (b : List ℕ) (r : Result (Head × ℕ) HeadFault) → IfOk r (λ x. IsHeader b x.0 x.1) → result_err r ≡ fault_of b → (h : Head) (len : ℕ) →
+    IsHeader b h len → r ≡ Ok (h, len)
 only_answer b (Ok x) means fault h len header =
     let same = IsHeader-unique b x.0 h x.1 len means header in
     rw (← same.0, ← same.1) refl
@@ -183,7 +196,8 @@ frame-table op len = refl
 pub IsHeader-short : (b : List ℕ) (h : Head) (len : ℕ) → ((k : ℕ) → get_or b k 0 < 256) → IsHeader b h len → len < 2 ^ 24
 IsHeader-short b h len bytes r = (Hold-room (frame (opcode h) len) 48 b bytes r.size (frame-table (opcode h) len) r.frame).1.1.0.1
 
-pub short_answer : (b : List ℕ) (r : Result (Head × ℕ) HeadFault) → ((k : ℕ) → get_or b k 0 < 256) → IfOk r (λ x. IsHeader b x.0 x.1) → IfOk r (λ x. x.1 < 2 ^ 24)
+pub short_answer : (b : List ℕ) (r : Result (Head × ℕ) HeadFault) → ((k : ℕ) → get_or b k 0 < 256) → IfOk r (λ x. IsHeader b x.0 x.1) →
+    IfOk r (λ x. x.1 < 2 ^ 24)
 short_answer b (Ok x) bytes means = IsHeader-short b x.0 x.1 bytes means
 short_answer b (Err f) bytes means = tt
 
@@ -196,7 +210,8 @@ Means-unique b x y c d p q =
     (same.0, p.data_is ∙ ap (λ (n : ℕ). slice_range b 48 (48 + n)) same.1 ∙ sym q.data_is)
 
 -- The canonical bytes of a head and its segment mean them.
-pub whole-means : (h : Head) (d : List ℕ) → HaveRoom (rows h) → ReadsBlock h → length d < 2 ^ 24 → OnTrue (is_login (opcode h)) (length d ≤ 8192) → Means (whole h d) h d
+pub whole-means : (h : Head) (d : List ℕ) → HaveRoom (rows h) → ReadsBlock h → length d < 2 ^ 24 → OnTrue (is_login (opcode h)) (length d ≤ 8192) →
+    Means (whole h d) h d
 unfolding whole
 whole-means h d own reads short login =
     let r = header-means h (length d) own reads short login in
@@ -205,7 +220,8 @@ whole-means h d own reads short login =
     record {
       size = omega (arith, r.size, length-append front d, length-append (front ++ d) rest, length-replicate {A = ℕ} (padding (length d)) 0);
       header = rw (append_assoc front d rest, take_at front (d ++ rest) 48 r.size) r;
-      data_is = sym (ap (λ (x : List ℕ). slice_range x 48 (48 + length d)) (append_assoc front d rest) ∙ ap (take (48 + length d - 48)) (drop_at front (d ++ rest) 48 r.size) ∙ take_at d rest (48 + length d - 48) (omega arith));
+      data_is = sym (ap (λ (x : List ℕ). slice_range x 48 (48 + length d)) (append_assoc front d rest)
+          ∙ ap (take (48 + length d - 48)) (drop_at front (d ++ rest) 48 r.size) ∙ take_at d rest (48 + length d - 48) (omega arith));
     }
 
 -- ---- whole bytes and what can be written

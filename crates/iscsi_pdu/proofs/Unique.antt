@@ -18,7 +18,8 @@ use Rattle.iscsi_pdu.specs.declared.head.logout_response.LogoutResponse.{LogoutR
 use Rattle.iscsi_pdu.specs.declared.head.ready_to_transfer.ReadyToTransfer.{ReadyToTransfer}
 use Rattle.iscsi_pdu.specs.declared.head.async_message.AsyncMessage.{AsyncMessage}
 use Rattle.iscsi_pdu.specs.declared.head.reject.Reject.{Reject}
-use Rattle.iscsi_pdu.specs.Fields.{nop_out, scsi_command, task_request, login_request, text_request, data_out, logout_request, nop_in, scsi_response, task_response, login_response, text_response, data_in, logout_response, ready_to_transfer, async_message, reject}
+use Rattle.iscsi_pdu.specs.Fields.{nop_out, scsi_command, task_request, login_request, text_request, data_out, logout_request, nop_in, scsi_response,
+    task_response, login_response, text_response, data_in, logout_response, ready_to_transfer, async_message, reject}
 
 pub nop_out-unique : (b : List ℕ) (x y : NopOut) → Hold b (nop_out x) → Hold b (nop_out y) → x ≡ y
 nop_out-unique b x y p q = let e : ◌≡◌ {A = NopOut} (record x { immediate = x.immediate }) (record y { immediate = y.immediate }) = cc in e
@@ -42,10 +43,12 @@ pub logout_request-unique : (b : List ℕ) (x y : LogoutRequest) → Hold b (log
 logout_request-unique b x y p q = let e : ◌≡◌ {A = LogoutRequest} (record x { immediate = x.immediate }) (record y { immediate = y.immediate }) = cc in e
 
 pub nop_in-unique : (b : List ℕ) (x y : NopIn) → Hold b (nop_in x) → Hold b (nop_in y) → x ≡ y
-nop_in-unique b x y p q = let e : ◌≡◌ {A = NopIn} (record x { initiator_task_tag = x.initiator_task_tag }) (record y { initiator_task_tag = y.initiator_task_tag }) = cc in e
+nop_in-unique b x y p q = let e : ◌≡◌ {A = NopIn} (record x { initiator_task_tag = x.initiator_task_tag })
+    (record y { initiator_task_tag = y.initiator_task_tag }) = cc in e
 
 pub scsi_response-unique : (b : List ℕ) (x y : ScsiResponse) → Hold b (scsi_response x) → Hold b (scsi_response y) → x ≡ y
-scsi_response-unique b x y p q = let e : ◌≡◌ {A = ScsiResponse} (record x { bidirectional_overflow = x.bidirectional_overflow }) (record y { bidirectional_overflow = y.bidirectional_overflow }) = cc in e
+scsi_response-unique b x y p q = let e : ◌≡◌ {A = ScsiResponse} (record x { bidirectional_overflow = x.bidirectional_overflow })
+    (record y { bidirectional_overflow = y.bidirectional_overflow }) = cc in e
 
 pub task_response-unique : (b : List ℕ) (x y : TaskResponse) → Hold b (task_response x) → Hold b (task_response y) → x ≡ y
 task_response-unique b x y p q = let e : ◌≡◌ {A = TaskResponse} (record x { response = x.response }) (record y { response = y.response }) = cc in e

@@ -22,7 +22,8 @@ lines_append (m ∷ ms) ns a b lines more =
     (lines.0, lines.1 ++ b, lines.2, ap (λ (x : List ℕ). x ++ b) lines.3 ∙ append_assoc lines.0 lines.1 b, lines_append ms ns lines.1 b lines.4 more)
 
 pub due_append : (form : Form) (ms ns : List Message) (a b : List ℕ) → IsDue form ms a → IsDue form ns b → IsDue form (ms ++ ns) (a ++ b)
-due_append Canonical ms ns a b due more = ap (λ (x : List ℕ). x ++ b) due ∙ ap (λ (x : List ℕ). canon ms ++ x) more ∙ sym (flat_map-append canonical_bytes ms ns)
+due_append Canonical ms ns a b due more = ap (λ (x : List ℕ). x ++ b) due ∙ ap (λ (x : List ℕ). canon ms ++ x) more
+    ∙ sym (flat_map-append canonical_bytes ms ns)
 due_append Line ms ns a b due more = lines_append ms ns a b due more
 
 pub due_canonical : (m : Message) (bytes : List ℕ) → bytes ≡ canonical_bytes m → IsDue Canonical (m ∷ []) bytes
@@ -37,6 +38,7 @@ lines_short (m ∷ ms) bytes lines =
     omega (arith, lines.2.short, ap length lines.3, length-append lines.0 lines.1, lines_short ms lines.1 lines.4)
 
 -- a line is not longer than 320 times its PDU
-pub due_short : (form : Form) (limit : ℕ) (logins : Logins) (s : List ℕ) (ms : List Message) (bytes : List ℕ) → AreBytes s → ReadsAs limit logins s ms → IsDue form ms bytes → length bytes ≤ 320 * length s
+pub due_short : (form : Form) (limit : ℕ) (logins : Logins) (s : List ℕ) (ms : List Message) (bytes : List ℕ) → AreBytes s → ReadsAs limit logins s ms →
+    IsDue form ms bytes → length bytes ≤ 320 * length s
 due_short Canonical limit logins s ms bytes are reads due = omega (arith, ap length due, canon-shorter limit logins s ms are reads)
 due_short Line limit logins s ms bytes are reads due = omega (arith, lines_short ms bytes due, count-shorter limit logins s ms reads)

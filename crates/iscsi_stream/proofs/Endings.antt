@@ -25,7 +25,8 @@ pub data Ended {M R : Type 0} (o : Outcome M R) (x : Sight) (result : R) (sessio
   -- it goes on, and nothing is wrong with the rest
   GoesOn : o.is_over o.session ≡ false → result ≡ o.going → session ≡ o.session → IsLeft x framing → Ended o x result session framing
   -- the rest is refused
-  Breaks : (fault : StreamFault) → o.is_over o.session ≡ false → result ≡ o.broken fault → session ≡ o.shut → IsRefused x fault → Ended o x result session framing
+  Breaks : (fault : StreamFault) → o.is_over o.session ≡ false → result ≡ o.broken fault → session ≡ o.shut → IsRefused x fault →
+      Ended o x result session framing
 
 -- It heard all that there is, or what it heard closed the session.
 pub end_of : {M R : Type 0} (o : Outcome M R) (x : Sight) (result : R) (session : M) (framing : Framing) → Ended o x result session framing

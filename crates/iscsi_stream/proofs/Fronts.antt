@@ -1,5 +1,6 @@
 -- PDUs that were heard of one stream: those that are fewer are the front of the others.
-use Rattle.std.proofs.Common.{◌≡◌, ◌⊎◌, inl, inr, ◌<◌, ◌≤◌, ℕ, Bool, true, false, List, [], ◌∷◌, ◌++◌, length, take, min, max, Some, refl, sym, ap, subst, ◌∙◌, arith, append_assoc}
+use Rattle.std.proofs.Common.{◌≡◌, ◌⊎◌, inl, inr, ◌<◌, ◌≤◌, ℕ, Bool, true, false, List, [], ◌∷◌, ◌++◌, length, take, min, max, Some, refl, sym, ap, subst, ◌∙◌,
+    arith, append_assoc}
 use Rattle.std.proofs.lemmas.List.{append-nil, append_cancel_left}
 use Rattle.iscsi_pdu.specs.declared.head.Head.{Head}
 use Rattle.iscsi_pdu.specs.Meaning.{IsHeader, fault_of}
@@ -38,7 +39,8 @@ one_is_front limit logins given (m ∷ ms) rest given' [] rest' p q e =
     let b = p.3 in
     inr (record {
       front = record { more = m ∷ ms; whole = refl };
-      pdu = λ none. none p.0 p.1 (p.2 ++ rest) m.head (ap (λ (x : List ℕ). x ++ rest') (sym q) ∙ sym e ∙ ap (λ (x : List ℕ). x ++ rest) b.whole ∙ append_assoc p.0 p.2 rest) b.means b.within;
+      pdu = λ none. none p.0 p.1 (p.2 ++ rest) m.head (ap (λ (x : List ℕ). x ++ rest') (sym q) ∙ sym e ∙ ap (λ (x : List ℕ). x ++ rest) b.whole
+          ∙ append_assoc p.0 p.2 rest) b.means b.within;
     })
 one_is_front limit logins given (m ∷ ms) rest given' (n ∷ ns) rest' p q e =
     let b = p.3 in
@@ -47,9 +49,11 @@ one_is_front limit logins given (m ∷ ms) rest given' (n ∷ ns) rest' p q e =
     sym (append_assoc p.0 p.2 rest) ∙ ap (λ (x : List ℕ). x ++ rest) (sym b.whole) ∙ e ∙ ap (λ (x : List ℕ). x ++ rest') c.whole ∙ append_assoc q.0 q.2 rest' in
     let same = same_begin p.0 (p.2 ++ rest) q.0 (q.2 ++ rest') m.head n.head p.1 q.1 whole b.means c.means in
     let segment : m.segment ≡ n.segment =
-    b.meaning ∙ ap (λ (h : Head). segment_of (continues logins h) h p.1) same.head ∙ ap (segment_of (continues logins n.head) n.head) same.segment ∙ sym c.meaning in
+    b.meaning ∙ ap (λ (h : Head). segment_of (continues logins h) h p.1) same.head ∙ ap (segment_of (continues logins n.head) n.head) same.segment
+        ∙ sym c.meaning in
     let one : m ≡ n = same_message m n same.head segment in
-    elim (one_is_front limit (after logins m.head) p.2 ms rest q.2 ns rest' p.4 (subst (λ (h : Head). ReadsAs limit (after logins h) q.2 ns) (sym same.head) q.4) same.rest) [
+    elim (one_is_front limit (after logins m.head) p.2 ms rest q.2 ns rest' p.4 (subst (λ (h : Head). ReadsAs limit (after logins h) q.2 ns)
+        (sym same.head) q.4) same.rest) [
       | inl f ↦ inl (front_on m n ms ns one f)
       | inr f ↦ inr (record { front = front_on n m ns ms (sym one) f.front; pdu = f.pdu })
     ]
@@ -96,7 +100,8 @@ both_over : {R : Type 0} (c : Course R) (ms ns : List Message) (x y : Sight) →
 both_over c ms ns x y over e = record { same = e; sight = λ live. absurd (apart over live) }
 
 -- those that heard all have heard the same
-all_alike : {R : Type 0} (c : Course R) (limit : ℕ) (stream : List ℕ) (before ms ns : List Message) (x y : Sight) → HearsUpTo c limit stream before ms x → HearsUpTo c limit stream before ns y
+all_alike : {R : Type 0} (c : Course R) (limit : ℕ) (stream : List ℕ) (before ms ns : List Message) (x y : Sight) → HearsUpTo c limit stream before ms x →
+    HearsUpTo c limit stream before ns y
     → NoPdu limit x.rest → NoPdu limit y.rest → HearAlike c ms ns x y
 all_alike c limit stream before ms ns x y a b none none' =
     let e : a.given ++ x.rest ≡ b.given ++ y.rest = sym a.whole ∙ b.whole in
@@ -109,12 +114,14 @@ all_alike c limit stream before ms ns x y a b none none' =
         limit = (b.limit_is ∙ sym a.limit_is) i;
         place = (b.place_is ∙ ap (λ (z : List ℕ). min (length z) last_place) (sym same.1) ∙ sym a.place_is) i;
         heard = (b.heard_is ∙ ap (λ (z : List Message). before ++ z) messages ∙ sym a.heard_is) i;
-        longest = (b.longest_is ∙ ap (λ (z : List Message). longest_of (before ++ z) b.given) messages ∙ ap (longest_of (before ++ ms)) (sym same.1) ∙ sym a.longest_is) i;
+        longest = (b.longest_is ∙ ap (λ (z : List Message). longest_of (before ++ z) b.given) messages ∙ ap (longest_of (before ++ ms)) (sym same.1)
+            ∙ sym a.longest_is) i;
         rest = rest i;
       };
     }
 
-pub hear_alike : {R : Type 0} (c : Course R) (limit : ℕ) (stream : List ℕ) (before ms ns : List Message) (x y : Sight) → HearsUpTo c limit stream before ms x → HearsUpTo c limit stream before ns y
+pub hear_alike : {R : Type 0} (c : Course R) (limit : ℕ) (stream : List ℕ) (before ms ns : List Message) (x y : Sight) → HearsUpTo c limit stream before ms x →
+    HearsUpTo c limit stream before ns y
     → HearAlike c ms ns x y
 hear_alike c limit stream before ms ns x y a b =
     let e : a.given ++ x.rest ≡ b.given ++ y.rest = sym a.whole ∙ b.whole in
@@ -144,7 +151,8 @@ hear_alike c limit stream before ms ns x y a b =
 -- Why the bytes behind the PDUs are refused.
 abbrev pub IsRefused : Sight → StreamFault → Type 0
 IsRefused x (faults.Head fault place) = (fault_of (take 48 x.rest) ≡ Some fault) × (place ≡ x.place) × (48 ≤ length x.rest)
-IsRefused x (faults.OverLimit place) = ((head : Head) × (len : ℕ) × IsHeader (take 48 x.rest) head len × (x.limit < len)) × (place ≡ x.place) × (48 ≤ length x.rest)
+IsRefused x (faults.OverLimit place) = ((head : Head) × (len : ℕ) × IsHeader (take 48 x.rest) head len × (x.limit < len)) × (place ≡ x.place)
+    × (48 ≤ length x.rest)
 IsRefused x faults.NoMemory = ⊥
 IsRefused x (faults.Truncated place) = ⊥
 IsRefused x faults.Failed = ⊥
@@ -191,8 +199,10 @@ begun_or_refused x faults.Failed begun r = absurd r
 pub sight : (s : List ℕ) (ms : List Message) (v : Framing) → HasTaken s ms v → List ℕ → Sight
 sight s ms v t behind = record { limit = v.limit; place = v.place; heard = ms; longest = longest_of ms t.given; rest = t.rest ++ behind }
 
-pub framer_hears : {R : Type 0} (c : Course R) (limit : ℕ) (stream s behind : List ℕ) (before more : List Message) (v : Framing) (t : HasTaken s (before ++ more) v)
-    → v.limit ≡ limit → stream ≡ s ++ behind → (let x = sight s (before ++ more) v t behind in (c.over (c.to more) ≡ true) ⊎ NoPdu x.limit x.rest → HearsUpTo c limit stream before more x)
+pub framer_hears : {R : Type 0} (c : Course R) (limit : ℕ) (stream s behind : List ℕ) (before more : List Message) (v : Framing)
+    (t : HasTaken s (before ++ more) v)
+    → v.limit ≡ limit → stream ≡ s ++ behind → (let x = sight s (before ++ more) v t behind in (c.over (c.to more) ≡ true) ⊎ NoPdu x.limit x.rest →
+        HearsUpTo c limit stream before more x)
 unfolding sight
 framer_hears c limit stream s behind before more v t is whole end = record {
   given = t.given;
@@ -212,7 +222,8 @@ held_is s ms v t lt =
     t.held ∙ settled-short t.rest (omega (arith, n, lt))
 
 -- what it refuses is refused
-pub framer_refuses : (s : List ℕ) (ms : List Message) (v : Framing) (piece : List ℕ) (fault : StreamFault) → (t : HasTaken s ms v) → (fault ≡ faults.NoMemory → ⊥) → FeedFails v piece fault
+pub framer_refuses : (s : List ℕ) (ms : List Message) (v : Framing) (piece : List ℕ) (fault : StreamFault) → (t : HasTaken s ms v) →
+    (fault ≡ faults.NoMemory → ⊥) → FeedFails v piece fault
     → IsRefused (sight s ms v t piece) fault
 unfolding sight
 framer_refuses s ms v piece (faults.Head f p) t none fails =
@@ -234,7 +245,8 @@ framer_refuses s ms v piece faults.Failed t none fails = absurd (apart fails t.l
 
 -- a framer that came to this
 pub framer : Sight → Framing
-framer x = record { limit = x.limit; place = x.place; logins = after_all no_login x.heard; held = settled x.rest; room = max x.longest (begun_len x.rest); failed = false }
+framer x = record { limit = x.limit; place = x.place; logins = after_all no_login x.heard; held = settled x.rest; room = max x.longest (begun_len x.rest);
+    failed = false }
 
 -- Nothing is wrong with the rest, no PDU stands there, and the framer has it all.
 pub record IsLeft (x : Sight) (v : Framing) : Type 0 where
@@ -242,7 +254,8 @@ pub record IsLeft (x : Sight) (v : Framing) : Type 0 where
   pub none : NoPdu x.limit x.rest
   pub is : v ≡ framer x
 
-pub framer_leaves : (s : List ℕ) (ms : List Message) (v : Framing) (behind : List ℕ) → (t : HasTaken s ms v) → is_ready v ≡ false → behind ≡ [] → IsLeft (sight s ms v t behind) v
+pub framer_leaves : (s : List ℕ) (ms : List Message) (v : Framing) (behind : List ℕ) → (t : HasTaken s ms v) → is_ready v ≡ false → behind ≡ [] →
+    IsLeft (sight s ms v t behind) v
 unfolding sight framer
 framer_leaves s ms v behind t unready nil =
     let all : t.rest ≡ t.rest ++ behind = sym (append-nil t.rest) ∙ ap (λ (x : List ℕ). t.rest ++ x) (sym nil) in
@@ -250,5 +263,6 @@ framer_leaves s ms v behind t unready nil =
     record {
       begun = subst (IsBegun v.limit) all t.begun;
       none = subst (NoPdu v.limit) all (no_pdu_begun v.limit t.rest t.begun part);
-      is = λ i. record { limit = v.limit; place = v.place; logins = t.logins i; held = (t.held ∙ ap settled all) i; room = (t.room ∙ ap (λ (x : List ℕ). max (longest_of ms t.given) (begun_len x)) all) i; failed = t.live i };
+      is = λ i. record { limit = v.limit; place = v.place; logins = t.logins i; held = (t.held ∙ ap settled all) i;
+          room = (t.room ∙ ap (λ (x : List ℕ). max (longest_of ms t.given) (begun_len x)) all) i; failed = t.live i };
     }

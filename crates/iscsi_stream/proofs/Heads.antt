@@ -43,7 +43,8 @@ past n = omega arith
 pub means-data : (b : List ℕ) (h : Head) (d : List ℕ) → Means b h d → take (length d) (drop 48 b) ≡ d
 means-data b h d m = sym (m.data_is ∙ ap (λ (n : ℕ). take n (drop 48 b)) (past (length d)))
 
-pub means_of : (b : List ℕ) (h : Head) (d : List ℕ) → IsHeader (take 48 b) h (length d) → length b ≡ pdu_len (length d) → take (length d) (drop 48 b) ≡ d → Means b h d
+pub means_of : (b : List ℕ) (h : Head) (d : List ℕ) → IsHeader (take 48 b) h (length d) → length b ≡ pdu_len (length d) → take (length d) (drop 48 b) ≡ d →
+    Means b h d
 means_of b h d front size is = record {
   size = size;
   header = front;

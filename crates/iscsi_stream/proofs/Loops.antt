@@ -22,7 +22,8 @@ pub record PassedUpTo (form : Form) (piece rest : List ℕ) (old new : Framing) 
   pub passes : PassesOn form old new before more out_old out_new counts_old counts_new
 
 -- what is due for what was read is written
-pub record WrittenUpTo (form : Form) (v : Framing) (counts : Counts) (turn : ℕ) (remaining_old remaining_new contents_old contents_new : Option (List ℕ)) : Type 0 where
+pub record WrittenUpTo (form : Form) (v : Framing) (counts : Counts) (turn : ℕ) (remaining_old remaining_new contents_old contents_new : Option (List ℕ)) : Type
+    0 where
   pub read : List ℕ
   pub ms : List Message
   pub out : List ℕ

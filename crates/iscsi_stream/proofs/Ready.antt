@@ -40,18 +40,23 @@ not_whole-nil = refl
 -- ---- a body
 
 -- a body that lacks some of its segment or its padding
-pub body_not : (limit : ℕ) (header segment : List ℕ) (room : ℕ) (h : Head) (len padded : ℕ) → length header ≡ 48 → IsBody limit header segment room h len padded → length segment + padded < len + padding len
+pub body_not : (limit : ℕ) (header segment : List ℕ) (room : ℕ) (h : Head) (len padded : ℕ) → length header ≡ 48 → IsBody limit header segment room h len padded
+    → length segment + padded < len + padding len
     → is_whole (header ++ (segment ++ replicate padded 0)) ≡ true → ⊥
 body_not limit header segment room h len padded size body lt e =
-    omega (arith, (is_whole-is (header ++ (segment ++ replicate padded 0)) e).1, length-body header segment padded size, ap pdu_len (length_at-front header (segment ++ replicate padded 0) h len size body.says))
+    omega (arith, (is_whole-is (header ++ (segment ++ replicate padded 0)) e).1, length-body header segment padded size,
+        ap pdu_len (length_at-front header (segment ++ replicate padded 0) h len size body.says))
 
-pub body_whole : (limit : ℕ) (header segment : List ℕ) (room : ℕ) (h : Head) (len padded : ℕ) → length header ≡ 48 → IsBody limit header segment room h len padded → len ≤ length segment → padding len ≤ padded
+pub body_whole : (limit : ℕ) (header segment : List ℕ) (room : ℕ) (h : Head) (len padded : ℕ) → length header ≡ 48 →
+    IsBody limit header segment room h len padded → len ≤ length segment → padding len ≤ padded
     → is_whole (header ++ (segment ++ replicate padded 0)) ≡ true
 body_whole limit header segment room h len padded size body full all =
     let at = length_at-front header (segment ++ replicate padded 0) h len size body.says in
-    is_full (header ++ (segment ++ replicate padded 0)) (omega (arith, length-body header segment padded size)) (omega (arith, length-body header segment padded size, ap pdu_len at, body.no_more, body.no_more_padding))
+    is_full (header ++ (segment ++ replicate padded 0)) (omega (arith, length-body header segment padded size))
+        (omega (arith, length-body header segment padded size, ap pdu_len at, body.no_more, body.no_more_padding))
 
-pub body_means : (limit : ℕ) (header segment : List ℕ) (room : ℕ) (h : Head) (len padded : ℕ) → length header ≡ 48 → IsBody limit header segment room h len padded → len ≤ length segment → padding len ≤ padded
+pub body_means : (limit : ℕ) (header segment : List ℕ) (room : ℕ) (h : Head) (len padded : ℕ) → length header ≡ 48 →
+    IsBody limit header segment room h len padded → len ≤ length segment → padding len ≤ padded
     → Means (header ++ (segment ++ replicate padded 0)) h segment
 body_means limit header segment room h len padded size body full all =
     let behind = segment ++ replicate padded 0 in
@@ -87,6 +92,7 @@ pub unready_if : (v : Framing) → (IsTrue (is_ready v) → (let f : Bool = fals
 unready_if v f = false_if (is_ready v) (λ e. none_not (f e))
 
 -- what is left of a framer that gives a PDU up
-pub given_up-is : (v : Framing) (limit place : ℕ) (logins : Logins) (room : ℕ) (h : Head) → limit ≡ v.limit → place ≡ min (v.place + length v.held) last_place → logins ≡ after v.logins h → room ≡ v.room → v.failed ≡ false
+pub given_up-is : (v : Framing) (limit place : ℕ) (logins : Logins) (room : ℕ) (h : Head) → limit ≡ v.limit → place ≡ min (v.place + length v.held) last_place →
+    logins ≡ after v.logins h → room ≡ v.room → v.failed ≡ false
     → (let w : Framing = record { limit = limit; place = place; logins = logins; held = []; room = room; failed = false } in w ≡ given_up v h)
 given_up-is v limit place logins room h a b c d e = rw (a, b, c, d, e) refl

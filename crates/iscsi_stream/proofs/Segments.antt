@@ -17,7 +17,8 @@ unfolding segment_of
 segment_whole c h d r first last read = rw (first, last, read) refl
 
 -- a segment that was read as a text, if it is one
-pub segment_read : {E : Type 0} (c : Bool) (h : Head) (d : List ℕ) (r : Result (Option Pairs) E) → c ≡ false → is_last h ≡ true → IfOk r (λ text. text ≡ text_in d)
+pub segment_read : {E : Type 0} (c : Bool) (h : Head) (d : List ℕ) (r : Result (Option Pairs) E) → c ≡ false → is_last h ≡ true →
+    IfOk r (λ text. text ≡ text_in d)
     → IfOk r (λ text. text_or_bytes text d ≡ segment_of c h d)
 segment_read c h d (Ok text) first last means = segment_whole c h d text first last (sym means)
 segment_read c h d (Err e) first last means = tt

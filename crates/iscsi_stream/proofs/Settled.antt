@@ -17,14 +17,16 @@ settled-short b le =
 
 pub length-settled : (b : List ℕ) → length (settled b) ≡ length b
 unfolding settled
-length-settled b = omega (arith, length-append (take (content_len b) b) (replicate (length b - content_len b) 0), length-take (content_len b) b, length-replicate {A = ℕ} (length b - content_len b) 0)
+length-settled b = omega (arith, length-append (take (content_len b) b) (replicate (length b - content_len b) 0), length-take (content_len b) b,
+    length-replicate {A = ℕ} (length b - content_len b) 0)
 
 pub take-settled : (j : ℕ) (b : List ℕ) → j ≤ content_len b → take j (settled b) ≡ take j b
 unfolding settled
 take-settled j b le =
     elim (cases_lt (length b) j) [
       | inl lt ↦ ap (take j) (settled-short b (omega arith))
-      | inr ge ↦ take-append-le j (take (content_len b) b) (replicate (length b - content_len b) 0) (omega (arith, length-take (content_len b) b)) ∙ take-take j (content_len b) b le
+      | inr ge ↦ take-append-le j (take (content_len b) b) (replicate (length b - content_len b) 0) (omega (arith, length-take (content_len b) b))
+          ∙ take-take j (content_len b) b le
     ]
 
 pub take48-settled : (b : List ℕ) → take 48 (settled b) ≡ take 48 b
@@ -38,7 +40,8 @@ pair_is a b c d p q = cc
 
 pub is_whole-settled : (b : List ℕ) → is_whole (settled b) ≡ is_whole b
 unfolding is_whole
-is_whole-settled b = ap (λ (x : ℕ × ℕ). not (nat_lt x.0 48) && (x.0 == pdu_len x.1)) (pair_is (length (settled b)) (length b) (length_at (settled b)) (length_at b) (length-settled b) (length_at-settled b))
+is_whole-settled b = ap (λ (x : ℕ × ℕ). not (nat_lt x.0 48) && (x.0 == pdu_len x.1))
+    (pair_is (length (settled b)) (length b) (length_at (settled b)) (length_at b) (length-settled b) (length_at-settled b))
 
 -- more bytes after settled ones
 pub settled-append : (b p : List ℕ) → settled (settled b ++ p) ≡ settled (b ++ p)

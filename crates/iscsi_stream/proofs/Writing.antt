@@ -9,10 +9,12 @@ use Rattle.iscsi_stream.specs.Canonical.{canonical_bytes, canon}
 use Rattle.iscsi_stream.specs.Normalising.{WroteFront}
 use Rattle.iscsi_stream.proofs.Loops.{WroteUpTo}
 
-pub wrote_more : (bytes rest : List ℕ) (a b c : Option (List ℕ)) (n : ℕ) → WroteUpTo bytes rest a b → Appends b c (take n rest) → WroteUpTo bytes (take (length rest - n) (drop n rest)) a c
+pub wrote_more : (bytes rest : List ℕ) (a b c : Option (List ℕ)) (n : ℕ) → WroteUpTo bytes rest a b → Appends b c (take n rest) →
+    WroteUpTo bytes (take (length rest - n) (drop n rest)) a c
 wrote_more bytes rest a b c n w more = record {
   before = w.before ++ take n rest;
-  parts = w.parts ∙ ap (λ (x : List ℕ). w.before ++ x) (sym (take-append-drop n rest) ∙ ap (λ (x : List ℕ). take n rest ++ x) (sym (take_rest rest n))) ∙ sym (append_assoc w.before (take n rest) (take (length rest - n) (drop n rest)));
+  parts = w.parts ∙ ap (λ (x : List ℕ). w.before ++ x) (sym (take-append-drop n rest) ∙ ap (λ (x : List ℕ). take n rest ++ x) (sym (take_rest rest n)))
+      ∙ sym (append_assoc w.before (take n rest) (take (length rest - n) (drop n rest)));
   written = Appends-trans a b c w.before (take n rest) w.written more;
 }
 

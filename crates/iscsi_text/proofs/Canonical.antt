@@ -1,5 +1,6 @@
 -- The canonical text of what a text means.
-use Rattle.std.proofs.Common.{◌≡◌, ℕ, zero, suc, ◌+◌, ◌<◌, ◌≤◌, List, [], ◌∷◌, ◌++◌, length, map, take, get_or, Option, Some, None, refl, sym, ap, subst, ◌∙◌, arith}
+use Rattle.std.proofs.Common.{◌≡◌, ℕ, zero, suc, ◌+◌, ◌<◌, ◌≤◌, List, [], ◌∷◌, ◌++◌, length, map, take, get_or, Option, Some, None, refl, sym, ap, subst, ◌∙◌,
+    arith}
 use Rattle.std.specs.List.{flat_map, AllByRecursion}
 use Rattle.std.proofs.lemmas.List.{append-nil, length-append}
 use Rattle.std.proofs.lemmas.List.Concat.{length-flat_map}
@@ -25,7 +26,8 @@ pub is_meaning : (text : List ℕ) (pairs : Pairs) → TextMeans text pairs → 
 is_meaning text pairs means = record {
   in_order = means.arranges.in_order;
   single = λ key other. subst (λ vs. length vs ≤ 1) (sym (means.arranges.same key)) (means.row.single key other);
-  each = recursion_from_All IsPair pairs (All-permutation IsPair (pairs_of means.entries) pairs (IsPermutation-sym pairs (pairs_of means.entries) (permuted pairs (pairs_of means.entries) means.arranges.same))
+  each = recursion_from_All IsPair pairs (All-permutation IsPair (pairs_of means.entries) pairs (IsPermutation-sym pairs (pairs_of means.entries)
+      (permuted pairs (pairs_of means.entries) means.arranges.same))
       (All-from_recursion IsPair (pairs_of means.entries) (each_pair means.entries means.row.each)));
 }
 
@@ -63,7 +65,8 @@ canonical_means pairs is = record {
 abbrev text_len : List ℕ × Typed → ℕ
 text_len p = length (pair_text p)
 
-row_least : (entries : List (Option Field)) → AllByRecursion IsEntry entries → length (canonical_text (pairs_of entries)) ≤ length (flat_map entry_bytes entries)
+row_least : (entries : List (Option Field)) → AllByRecursion IsEntry entries → length (canonical_text (pairs_of entries))
+    ≤ length (flat_map entry_bytes entries)
 row_least [] all = omega arith
 row_least (None ∷ entries) all = omega (arith, row_least entries all.1)
 row_least (Some f ∷ entries) all =
@@ -83,11 +86,14 @@ row_least (Some f ∷ entries) all =
 pub canonical_no_longer : (text : List ℕ) (pairs : Pairs) → TextMeans text pairs → length (canonical_text pairs) ≤ length text
 canonical_no_longer text pairs means =
     let row = pairs_of means.entries in
-    let same : length (canonical_text row) ≡ length (canonical_text pairs) = length-flat_map pair_text row ∙ sum_by-IsPermutation text_len pairs row (permuted pairs row means.arranges.same) ∙ sym (length-flat_map pair_text pairs) in
+    let same : length (canonical_text row) ≡ length (canonical_text pairs) = length-flat_map pair_text row
+        ∙ sum_by-IsPermutation text_len pairs row (permuted pairs row means.arranges.same) ∙ sym (length-flat_map pair_text pairs) in
     omega (arith, same, row_least means.entries means.row.each, ap length (means.row.spelled ∙ append-nil (flat_map entry_bytes means.entries)))
 
 -- one pair of the canonical text, behind those before it
-pub canonical_part : (xs : List Pair) (i : ℕ) (d : Pair) → i < length xs → length (canonical_text (all_shown (take i xs))) + length (pair_text (shown (get_or xs i d))) ≤ length (canonical_text (all_shown xs))
+pub canonical_part : (xs : List Pair) (i : ℕ) (d : Pair) → i < length xs → length (canonical_text (all_shown (take i xs)))
+    + length (pair_text (shown (get_or xs i d))) ≤ length (canonical_text (all_shown xs))
 canonical_part [] i d lt = absurd (omega arith)
 canonical_part (x ∷ xs) zero d lt = omega (arith, length-append (pair_text (shown x)) (canonical_text (all_shown xs)))
-canonical_part (x ∷ xs) (suc i) d lt = omega (arith, canonical_part xs i d (omega arith), length-append (pair_text (shown x)) (canonical_text (all_shown xs)), length-append (pair_text (shown x)) (canonical_text (all_shown (take i xs))))
+canonical_part (x ∷ xs) (suc i) d lt = omega (arith, canonical_part xs i d (omega arith), length-append (pair_text (shown x)) (canonical_text (all_shown xs)),
+    length-append (pair_text (shown x)) (canonical_text (all_shown (take i xs))))

@@ -1,5 +1,6 @@
 -- What the computed reading of bytes gives is what they mean.
-use Rattle.std.proofs.Common.{◌≡◌, ◌≢◌, ℕ, ◌<◌, ◌≤◌, ◌^◌, ◌==◌, Bool, true, false, not, ◌&&◌, ◌||◌, List, [], ◌∷◌, ◌++◌, length, Option, Some, None, refl, sym, ap, subst, ◌∙◌, ◌⊎◌, inl, inr, leb-true, le-leb, eq-eqb, ne_eqb, append_assoc, arith}
+use Rattle.std.proofs.Common.{◌≡◌, ◌≢◌, ℕ, ◌<◌, ◌≤◌, ◌^◌, ◌==◌, Bool, true, false, not, ◌&&◌, ◌||◌, List, [], ◌∷◌, ◌++◌, length, Option, Some, None, refl, sym,
+    ap, subst, ◌∙◌, ◌⊎◌, inl, inr, leb-true, le-leb, eq-eqb, ne_eqb, append_assoc, arith}
 use Rattle.std.specs.Bool.{Decides}
 use Rattle.std.specs.Option.{MatchOption, option_map}
 use Rattle.std.specs.List.{flat_map, AllByRecursion, list_any, list_all, join_with_byte, onto_first}
@@ -21,7 +22,8 @@ use Rattle.iscsi_text.specs.Key.{IsLetter, IsKeyByte, IsKey, kind_of, target_add
 use Rattle.iscsi_text.specs.Value.{Typed, Means, boolean_text}
 use Rattle.iscsi_text.specs.Text.{Pairs, values_of, key_le, IsSingle, IsInOrder, Field, entry_bytes, HasNo, IsField, IsEntry, pairs_of, TextMeans}
 use Rattle.iscsi_text.specs.Inside.{SplitsAt}
-use Rattle.iscsi_text.specs.Reading.{is_empty, parts_at, onto_front, cut_at, number_of_digits, number_behind_zero, number_in, number_or_odd, value_in, is_letter, is_key_byte, is_key, pair_of_cut, pair_in, has_key, added, pairs_in, in_order, text_in}
+use Rattle.iscsi_text.specs.Reading.{is_empty, parts_at, onto_front, cut_at, number_of_digits, number_behind_zero, number_in, number_or_odd, value_in,
+    is_letter, is_key_byte, is_key, pair_of_cut, pair_in, has_key, added, pairs_in, in_order, text_in}
 use Rattle.iscsi_text.proofs.Keys.{bytes_eq_same, bytes_eq_other}
 use Rattle.iscsi_text.proofs.Pairs.{values_of-append, values_of-same, values_of-other, key_cases}
 use Rattle.iscsi_text.proofs.Meanings.{one_value}
@@ -53,8 +55,10 @@ is_key_byte_decides c = Decides-or _ _ (is_letter_decides c) (Decides-or _ _ (De
 
 is_key_decides : (key : List ℕ) → Decides (is_key key) (IsKey key)
 is_key_decides [] = ((λ e. absurd (false≢true e)), (λ is. absurd (omega (arith, key_some [] is))))
-is_key_decides (c ∷ key) = Decides-like _ (λ h. record { size = omega (arith, h.0); first = h.1.0; bytes = h.1.1 }) (λ is. (omega (arith, is.size), (is.first, is.bytes)))
-    (Decides-and _ _ (is_le (length key) 62) (Decides-and _ _ (is_letter_decides c) (Decides-by_and is_key_byte IsKeyByte (list_all is_key_byte) is_key_byte_decides refl (λ _ _. refl) (c ∷ key))))
+is_key_decides (c ∷ key) = Decides-like _ (λ h. record { size = omega (arith, h.0); first = h.1.0; bytes = h.1.1 })
+    (λ is. (omega (arith, is.size), (is.first, is.bytes)))
+    (Decides-and _ _ (is_le (length key) 62) (Decides-and _ _ (is_letter_decides c)
+        (Decides-by_and is_key_byte IsKeyByte (list_all is_key_byte) is_key_byte_decides refl (λ _ _. refl) (c ∷ key))))
 
 -- ---- numbers
 
@@ -71,8 +75,10 @@ record Read (radix : ℕ) (text : List ℕ) : Type 0 where
   numeral : IsNumeral radix text
   fits : digits_value radix text < 2 ^ 64
 
-digits_read : (radix : ℕ) (text : List ℕ) → ((number_of_digits radix text ≡ Some (digits_value radix text)) × Read radix text) ⊎ ((number_of_digits radix text ≡ None) × (Read radix text → ⊥))
-digits_read radix text = elim (decided _ (Decides-and _ _ (some_bytes text) (Decides-and _ _ (all_digits radix text) (Decides-ltb (digits_value radix text) (2 ^ 64))))) [
+digits_read : (radix : ℕ) (text : List ℕ) → ((number_of_digits radix text ≡ Some (digits_value radix text)) × Read radix text)
+    ⊎ ((number_of_digits radix text ≡ None) × (Read radix text → ⊥))
+digits_read radix text = elim (decided _ (Decides-and _ _ (some_bytes text) (Decides-and _ _ (all_digits radix text)
+    (Decides-ltb (digits_value radix text) (2 ^ 64))))) [
   | inl h ↦ inl (cond-true _ _ _ h.0, record { numeral = (h.1.0, h.1.1.0); fits = h.1.1.1 })
   | inr h ↦ inr (cond-false _ _ _ h.0, λ r. h.1 (r.numeral.0, (r.numeral.1, r.fits)))
 ]
@@ -152,8 +158,10 @@ value_means (Some kinds.Boolean) bytes = elim (decided _ (bytes_eq-Decides bytes
 value_means (Some kinds.Items) bytes = by (list_any is_empty (parts_at 44 bytes)) refl
   where
     by : (t : Bool) → list_any is_empty (parts_at 44 bytes) ≡ t → Means (Some kinds.Items) bytes (value_in (Some kinds.Items) bytes)
-    by true e = subst (Means (Some kinds.Items) bytes) (sym (cond-true _ _ _ e)) (refl, λ items. not_true _ e ((some_items (parts_at 44 bytes)).1 (recursion_from_All (λ item. 0 < length item) (parts_at 44 bytes) items)))
-    by false e = subst (Means (Some kinds.Items) bytes) (sym (cond-false _ _ _ e)) (refl, All-from_recursion (λ item. 0 < length item) (parts_at 44 bytes) ((some_items (parts_at 44 bytes)).0 (ap not e)))
+    by true e = subst (Means (Some kinds.Items) bytes) (sym (cond-true _ _ _ e))
+        (refl, λ items. not_true _ e ((some_items (parts_at 44 bytes)).1 (recursion_from_All (λ item. 0 < length item) (parts_at 44 bytes) items)))
+    by false e = subst (Means (Some kinds.Items) bytes) (sym (cond-false _ _ _ e))
+        (refl, All-from_recursion (λ item. 0 < length item) (parts_at 44 bytes) ((some_items (parts_at 44 bytes)).0 (ap not e)))
 value_means (Some kinds.Plain) bytes = refl
 value_means None bytes = refl
 
@@ -210,10 +218,12 @@ has_decides key [] = ((λ e. absurd (false≢true e)), (λ lt. absurd (omega ari
 has_decides key (p ∷ ps) = elim (key_cases p.0 key) [
   | inl same ↦ ((λ _. omega (arith, ap length (values_of-same key p ps same))), (λ _. ap (λ b. b || has_key key ps) (bytes_eq_same p.0 key same)))
   | inr other ↦ Decides-at _ (has_key key ps) (ap (λ b. b || has_key key ps) (bytes_eq_other p.0 key other))
-      (Decides-like _ (λ lt. omega (arith, ap length (values_of-other key p ps other))) (λ lt. omega (arith, ap length (values_of-other key p ps other))) (has_decides key ps))
+      (Decides-like _ (λ lt. omega (arith, ap length (values_of-other key p ps other))) (λ lt. omega (arith, ap length (values_of-other key p ps other)))
+          (has_decides key ps))
 ]
 
-again_decides : (p : List ℕ × Typed) (ps : Pairs) → Decides (has_key p.0 ps && not (bytes_eq p.0 target_address)) ((0 < length (values_of p.0 ps)) × (p.0 ≢ target_address))
+again_decides : (p : List ℕ × Typed) (ps : Pairs) → Decides (has_key p.0 ps && not (bytes_eq p.0 target_address))
+    ((0 < length (values_of p.0 ps)) × (p.0 ≢ target_address))
 again_decides p ps = Decides-and _ _ (has_decides p.0 ps) (Decides-not _ (bytes_eq-Decides p.0 target_address))
 
 -- one pair more in front
@@ -259,7 +269,8 @@ field_part f rest is =
     ap (parts_at 0) (append_assoc (f.key ++ 61 ∷ f.bytes) (0 ∷ []) rest)
     ∙ slice_split_at (λ (b : ℕ). b == 0) (f.key ++ 61 ∷ f.bytes) 0 rest (λ k d lt. ne_eqb _ 0 (field_no_zero f is k d lt)) refl
 
-row_read : (es : List (Option Field)) → AllByRecursion IsEntry es → IsSingle (pairs_of es) → pairs_in (parts_at 0 (flat_map entry_bytes es)) ≡ Some (pairs_of es)
+row_read : (es : List (Option Field)) → AllByRecursion IsEntry es → IsSingle (pairs_of es) → pairs_in (parts_at 0 (flat_map entry_bytes es))
+    ≡ Some (pairs_of es)
 row_read [] each single = refl
 row_read (None ∷ es) each single = spare_part (parts_at 0 (flat_map entry_bytes es)) (some_parts (flat_map entry_bytes es)) ∙ row_read es each.1 single
 row_read (Some f ∷ es) each single =
@@ -286,9 +297,11 @@ no_row = record { entries = []; spelled = refl; each = tt; single = λ key other
 
 spare_row : (bytes : List ℕ) (r : Option Pairs) → IsRowIn bytes r → IsRowIn (0 ∷ bytes) r
 spare_row bytes None is = tt
-spare_row bytes (Some ps) is = record { entries = None ∷ is.entries; spelled = ap (λ bs. 0 ∷ bs) is.spelled; each = (tt, is.each); single = is.single; pairs = is.pairs }
+spare_row bytes (Some ps) is = record { entries = None ∷ is.entries; spelled = ap (λ bs. 0 ∷ bs) is.spelled; each = (tt, is.each); single = is.single;
+    pairs = is.pairs }
 
-pair_row : (part bytes : List ℕ) (o : Option (List ℕ × Typed)) (r : Option Pairs) → HasNo 0 part → IsPairIn part o → IsRowIn bytes r → IsRowIn (part ++ 0 ∷ bytes) (added o r)
+pair_row : (part bytes : List ℕ) (o : Option (List ℕ × Typed)) (r : Option Pairs) → HasNo 0 part → IsPairIn part o → IsRowIn bytes r →
+    IsRowIn (part ++ 0 ∷ bytes) (added o r)
 pair_row part bytes None r none is row = tt
 pair_row part bytes (Some p) None none is row = tt
 pair_row part bytes (Some p) (Some ps) none is row = elim (decided _ (again_decides p ps)) [
@@ -297,7 +310,8 @@ pair_row part bytes (Some p) (Some ps) none is row = elim (decided _ (again_deci
       let f : Field = record { key = p.0; bytes = is.bytes; value = p.1 } in
       record {
         entries = Some f ∷ row.entries;
-        spelled = ap (λ bs. part ++ 0 ∷ bs) row.spelled ∙ ap (λ bs. bs ++ 0 ∷ flat_map entry_bytes row.entries) is.whole ∙ sym (append_assoc (p.0 ++ 61 ∷ is.bytes) (0 ∷ []) (flat_map entry_bytes row.entries));
+        spelled = ap (λ bs. part ++ 0 ∷ bs) row.spelled ∙ ap (λ bs. bs ++ 0 ∷ flat_map entry_bytes row.entries) is.whole
+            ∙ sym (append_assoc (p.0 ++ 61 ∷ is.bytes) (0 ∷ []) (flat_map entry_bytes row.entries));
         each = (record { key = is.key; ends = (no_parts part p.0 is.bytes none is.whole).1; value = is.means }, row.each);
         single = subst (λ qs. IsSingle (p ∷ qs)) (sym row.pairs) (single_cons p ps (subst IsSingle row.pairs row.single) h.1);
         pairs = ap (λ qs. p ∷ qs) row.pairs;
@@ -310,7 +324,8 @@ row_exact ([] ∷ []) all = no_row
 row_exact ((c ∷ part) ∷ []) all = tt
 row_exact ([] ∷ next ∷ parts) all = spare_row (join_with_byte 0 (next ∷ parts)) (pairs_in (next ∷ parts)) (row_exact (next ∷ parts) all.1)
 row_exact ((c ∷ part) ∷ next ∷ parts) all =
-    pair_row (c ∷ part) (join_with_byte 0 (next ∷ parts)) (pair_in (c ∷ part)) (pairs_in (next ∷ parts)) all.0 (pair_exact (c ∷ part)) (row_exact (next ∷ parts) all.1)
+    pair_row (c ∷ part) (join_with_byte 0 (next ∷ parts)) (pair_in (c ∷ part)) (pairs_in (next ∷ parts)) all.0 (pair_exact (c ∷ part))
+        (row_exact (next ∷ parts) all.1)
 
 parts_end : (bytes : List ℕ) → AllByRecursion (HasNo 0) (parts_at 0 bytes)
 parts_end [] = (All-nil (λ b. b ≢ 0), tt)
@@ -331,7 +346,8 @@ IsThere (Some ps) = Unit {0}
 
 -- what is read is meant
 pub read_means : (bytes : List ℕ) (m : Pairs) → text_in bytes ≡ Some m → TextMeans bytes m
-read_means bytes m read = by (pairs_in (parts_at 0 bytes)) (subst (λ bs. IsRowIn bs (pairs_in (parts_at 0 bytes))) (join_with_byte-slice_split 0 bytes) (row_exact (parts_at 0 bytes) (parts_end bytes))) read
+read_means bytes m read = by (pairs_in (parts_at 0 bytes)) (subst (λ bs. IsRowIn bs (pairs_in (parts_at 0 bytes))) (join_with_byte-slice_split 0 bytes)
+    (row_exact (parts_at 0 bytes) (parts_end bytes))) read
   where
     by : (r : Option Pairs) → IsRowIn bytes r → option_map in_order r ≡ Some m → TextMeans bytes m
     by None row read = absurd (subst IsThere (sym read) tt)
@@ -349,4 +365,5 @@ means_read bytes m means =
     let ps = pairs_of means.entries in
     ap text_in (means.row.spelled ∙ append-nil (flat_map entry_bytes means.entries))
     ∙ ap (option_map in_order) (row_read means.entries means.row.each means.row.single)
-    ∙ ap (λ (qs : Pairs). Some qs) (one_order (in_order ps) m (in_order_is ps) means.arranges.in_order (λ key. values_in_order key ps ∙ sym (means.arranges.same key)))
+    ∙ ap (λ (qs : Pairs). Some qs) (one_order (in_order ps) m (in_order_is ps) means.arranges.in_order (λ key. values_in_order key ps
+        ∙ sym (means.arranges.same key)))

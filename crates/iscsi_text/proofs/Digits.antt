@@ -1,5 +1,6 @@
 -- The digits that a text has, and what they write.
-use Rattle.std.proofs.Common.{◌≡◌, ℕ, zero, suc, ◌+◌, ◌*◌, ◌/◌, ◌%◌, ◌^◌, ◌<◌, ◌≤◌, false, List, [], ◌∷◌, ◌++◌, length, take, get_or, map, sym, ap, cond, eq-eqb, ne_eqb, ◌∙◌, inl, inr, append_assoc, arith}
+use Rattle.std.proofs.Common.{◌≡◌, ℕ, zero, suc, ◌+◌, ◌*◌, ◌/◌, ◌%◌, ◌^◌, ◌<◌, ◌≤◌, false, List, [], ◌∷◌, ◌++◌, length, take, get_or, map, sym, ap, cond,
+    eq-eqb, ne_eqb, ◌∙◌, inl, inr, append_assoc, arith}
 use Rattle.std.specs.Str.Parse.{AllDigits, digits_value, digits_value_after}
 use Rattle.std.specs.Char.{digit_value}
 use Rattle.std.specs.Fmt.{digits, digits_onto, digit_glyph}
@@ -33,23 +34,30 @@ value_front radix n zero text some = value_after_ge radix n text some
 value_front radix n (suc i) [] some = omega arith
 value_front radix n (suc i) (c ∷ text) some = value_front radix (n * radix + digit_value c) i text some
 
-pub value_so_far : (radix : ℕ) (text : List ℕ) (i : ℕ) → 0 < radix → i < length text → digits_value radix (take i text) * radix + digit_value (get_or text i 0) ≤ digits_value radix text
+pub value_so_far : (radix : ℕ) (text : List ℕ) (i : ℕ) → 0 < radix → i < length text → digits_value radix (take i text) * radix + digit_value (get_or text i 0)
+    ≤ digits_value radix text
 value_so_far radix text i some lt = omega (arith, value_front radix 0 (i + 1) text some, digits_value_more radix text i lt)
 
 -- the last digit placed, and one that is not the last
 digits_onto_last : (base n k : ℕ) (acc : List ℕ) → n / base ≡ 0 → digits_onto (suc k) base false n acc ≡ digit_glyph false (n % base) ∷ acc
-digits_onto_last base n k acc z = ap (λ b. cond b (digit_glyph false (n % base) ∷ acc) (digits_onto k base false (n / base) (digit_glyph false (n % base) ∷ acc))) (eq-eqb (n / base) 0 z)
+digits_onto_last base n k acc z = ap (λ b. cond b (digit_glyph false (n % base) ∷ acc)
+    (digits_onto k base false (n / base) (digit_glyph false (n % base) ∷ acc))) (eq-eqb (n / base) 0 z)
 
-digits_onto_step : (base n k : ℕ) (acc : List ℕ) → 0 < n / base → digits_onto (suc k) base false n acc ≡ digits_onto k base false (n / base) (digit_glyph false (n % base) ∷ acc)
-digits_onto_step base n k acc some = ap (λ b. cond b (digit_glyph false (n % base) ∷ acc) (digits_onto k base false (n / base) (digit_glyph false (n % base) ∷ acc))) (ne_eqb (n / base) 0 (λ z. omega arith))
+digits_onto_step : (base n k : ℕ) (acc : List ℕ) → 0 < n / base → digits_onto (suc k) base false n acc
+    ≡ digits_onto k base false (n / base) (digit_glyph false (n % base) ∷ acc)
+digits_onto_step base n k acc some = ap (λ b. cond b (digit_glyph false (n % base) ∷ acc)
+    (digits_onto k base false (n / base) (digit_glyph false (n % base) ∷ acc))) (ne_eqb (n / base) 0 (λ z. omega arith))
 
 -- digits placed before acc are the digits of n
-digits_before : (base k n : ℕ) (acc : List ℕ) → 2 ≤ base → 0 < n → n < base ^ k → digits_onto k base false n acc ≡ map (digit_glyph false) (digits_of base n) ++ acc
+digits_before : (base k n : ℕ) (acc : List ℕ) → 2 ≤ base → 0 < n → n < base ^ k → digits_onto k base false n acc ≡ map (digit_glyph false) (digits_of base n)
+    ++ acc
 digits_before base zero n acc two some small = absurd (omega (arith, pow-zero base))
 digits_before base (suc k) n acc two some small =
     let front = digits_of_step base n two some in
-    let glyphs : map (digit_glyph false) (digits_of base n) ++ acc ≡ map (digit_glyph false) (digits_of base (n / base)) ++ (digit_glyph false (n % base) ∷ acc) =
-    ap (λ ds. map (digit_glyph false) ds ++ acc) front ∙ ap (λ x. x ++ acc) (map_push (digit_glyph false) (digits_of base (n / base)) (n % base)) ∙ append_assoc _ _ acc in
+    let glyphs : map (digit_glyph false) (digits_of base n) ++ acc ≡ map (digit_glyph false) (digits_of base (n / base))
+        ++ (digit_glyph false (n % base) ∷ acc) =
+    ap (λ ds. map (digit_glyph false) ds ++ acc) front ∙ ap (λ x. x ++ acc) (map_push (digit_glyph false) (digits_of base (n / base)) (n % base))
+        ∙ append_assoc _ _ acc in
     elim (cases_lt 0 (n / base)) [
       | inl more ↦
           digits_onto_step base n k acc more

@@ -33,7 +33,8 @@ some_field : (key bytes : List ℕ) → 0 < length (key ++ 61 ∷ bytes)
 some_field key bytes = omega (arith, length-append key (61 ∷ bytes))
 
 no_zero_field : (key bytes : List ℕ) → HasNo 0 key → HasNo 0 bytes → HasNo 0 (key ++ 61 ∷ bytes)
-no_zero_field key bytes none none' = no_append 0 key (61 ∷ bytes) none (no_append 0 (61 ∷ []) bytes (All-from_recursion (λ b. b ≢ 0) (61 ∷ []) ((λ e. omega arith), tt)) none')
+no_zero_field key bytes none none' = no_append 0 key (61 ∷ bytes) none (no_append 0 (61 ∷ []) bytes (All-from_recursion (λ b. b ≢ 0) (61 ∷ [])
+    ((λ e. omega arith), tt)) none')
 
 -- a named pair, as an entry and what is behind it
 named_no_zero : (key rest : List ℕ) (n : NamesFirst key rest) → HasNo 0 (key ++ 61 ∷ n.bytes)
@@ -63,46 +64,55 @@ not_empty ps rest y (Repeated at) faulty is = named_not_empty faulty.key rest y 
 -- a pair has one key
 one_key : (key key' rest : List ℕ) → NamesFirst key rest → NamesFirst key' rest → key ≡ key'
 one_key key key' rest n n' =
-    let entries = cut 0 (key ++ 61 ∷ n.bytes) (key' ++ 61 ∷ n'.bytes) n.more n'.more (named_no_zero key rest n) (named_no_zero key' rest n') (sym n.whole ∙ n'.whole) in
+    let entries = cut 0 (key ++ 61 ∷ n.bytes) (key' ++ 61 ∷ n'.bytes) n.more n'.more (named_no_zero key rest n) (named_no_zero key' rest n')
+        (sym n.whole ∙ n'.whole) in
     (cut 61 key key' n.bytes n'.bytes n.no_equals n'.no_equals entries.0).0
 
 -- what a field of the row names
 field_names : (g : Field) (rest y : List ℕ) → IsField g → rest ≡ (g.key ++ 61 ∷ g.bytes) ++ 0 ∷ y → NamesFirst g.key rest
-field_names g rest y is same = record { bytes = g.bytes; more = y; whole = same; no_equals = key_no_equals g.key is.key; key_ends = key_no_zero g.key is.key; bytes_end = is.ends }
+field_names g rest y is same = record { bytes = g.bytes; more = y; whole = same; no_equals = key_no_equals g.key is.key; key_ends = key_no_zero g.key is.key;
+    bytes_end = is.ends }
 
 -- a named pair is ended, and has `=`
 named_ends : (key rest : List ℕ) → NamesFirst key rest → HasNo 0 rest → ⊥
 named_ends key rest n none = has_zero rest (key ++ 61 ∷ n.bytes) n.more none n.whole
 
 named_equals : (key rest : List ℕ) → NamesFirst key rest → LacksEquals rest → ⊥
-named_equals key rest n lacks = has_equals lacks.pair key n.bytes lacks.no_equals (cut 0 lacks.pair (key ++ 61 ∷ n.bytes) lacks.more n.more lacks.no_end (named_no_zero key rest n) (sym lacks.whole ∙ n.whole)).0
+named_equals key rest n lacks = has_equals lacks.pair key n.bytes lacks.no_equals
+    (cut 0 lacks.pair (key ++ 61 ∷ n.bytes) lacks.more n.more lacks.no_end (named_no_zero key rest n) (sym lacks.whole ∙ n.whole)).0
 
 -- and no field that the row could go on with
-not_field : (ps : Pairs) (rest y : List ℕ) (g : Field) (f : TextFault) → IsField g → (g.key ≢ target_address → length (values_of g.key ps) ≤ 0) → IsFaulty ps rest f → rest ≡ (g.key ++ 61 ∷ g.bytes) ++ 0 ∷ y → ⊥
+not_field : (ps : Pairs) (rest y : List ℕ) (g : Field) (f : TextFault) → IsField g → (g.key ≢ target_address → length (values_of g.key ps) ≤ 0) →
+    IsFaulty ps rest f → rest ≡ (g.key ++ 61 ∷ g.bytes) ++ 0 ∷ y → ⊥
 not_field ps rest y g NoMemory is new faulty same = faulty
 not_field ps rest y g (Unterminated at) is new faulty same = named_ends g.key rest (field_names g rest y is same) faulty.no_end
 not_field ps rest y g (NoEquals at) is new faulty same = named_equals g.key rest (field_names g rest y is same) faulty
-not_field ps rest y g (BadKey at) is new faulty same = faulty.bad (subst IsKey (one_key g.key faulty.key rest (field_names g rest y is same) faulty.first) is.key)
+not_field ps rest y g (BadKey at) is new faulty same = faulty.bad (subst IsKey (one_key g.key faulty.key rest (field_names g rest y is same) faulty.first)
+    is.key)
 not_field ps rest y g (Repeated at) is new faulty same =
     let keys = one_key faulty.key g.key rest faulty.first (field_names g rest y is same) in
     omega (arith, faulty.again, subst (λ k. length (values_of k ps) ≤ 0) (sym keys) (new (λ t. faulty.other (keys ∙ t))))
 
 -- so no row goes on where a fault is
-stops : (es more : List (Option Field)) (rest y : List ℕ) (f : TextFault) → IsFaulty (pairs_of es) rest f → AllByRecursion IsEntry more → IsSingle (pairs_of (es ++ more)) → rest ≡ flat_map entry_bytes more ++ y → more ≡ []
+stops : (es more : List (Option Field)) (rest y : List ℕ) (f : TextFault) → IsFaulty (pairs_of es) rest f → AllByRecursion IsEntry more →
+    IsSingle (pairs_of (es ++ more)) → rest ≡ flat_map entry_bytes more ++ y → more ≡ []
 stops es [] rest y f faulty each single is = refl
 stops es (None ∷ more) rest y f faulty each single is = absurd (not_empty (pairs_of es) rest (flat_map entry_bytes more ++ y) f faulty is)
 stops es (Some g ∷ more) rest y f faulty each single is =
     let new : g.key ≢ target_address → length (values_of g.key (pairs_of es)) ≤ 0 = λ other.
     let whole = pairs_of-append es (Some g ∷ more) in
-    let values = ap (values_of g.key) whole ∙ values_of-append g.key (pairs_of es) (pairs_of (Some g ∷ more)) ∙ ap (λ vs. values_of g.key (pairs_of es) ++ vs) (values_of-same g.key (g.key, g.value) (pairs_of more) refl) in
+    let values = ap (values_of g.key) whole ∙ values_of-append g.key (pairs_of es) (pairs_of (Some g ∷ more))
+        ∙ ap (λ vs. values_of g.key (pairs_of es) ++ vs) (values_of-same g.key (g.key, g.value) (pairs_of more) refl) in
     omega (arith, single g.key other, ap length values, length-append (values_of g.key (pairs_of es)) (g.value ∷ values_of g.key (pairs_of more))) in
     absurd (not_field (pairs_of es) rest (flat_map entry_bytes more ++ y) g f each.0 new faulty
     (is ∙ append_assoc (entry_bytes (Some g)) (flat_map entry_bytes more) y ∙ append_assoc (g.key ++ 61 ∷ g.bytes) (0 ∷ []) (flat_map entry_bytes more ++ y)))
 
 -- a text that means something has no fault
 pub no_fault : (text : List ℕ) (ps : Pairs) (f : TextFault) → TextMeans text ps → IsFirstFault text f → ⊥
-no_fault text ps f means first = elim (compared means.entries first.entries [] first.rest means.row.each first.row.each (sym means.row.spelled ∙ first.row.spelled)) [
-  | inl on ↦ omega (arith, rest_some (pairs_of first.entries) first.rest f first.faulty, ap length on.rest, length-append (flat_map entry_bytes on.more) first.rest)
+no_fault text ps f means first = elim (compared means.entries first.entries [] first.rest means.row.each first.row.each (sym means.row.spelled
+    ∙ first.row.spelled)) [
+  | inl on ↦ omega (arith, rest_some (pairs_of first.entries) first.rest f first.faulty, ap length on.rest,
+      length-append (flat_map entry_bytes on.more) first.rest)
   | inr on ↦
       let none = stops first.entries on.more first.rest [] f first.faulty on.each (subst (λ es. IsSingle (pairs_of es)) on.whole means.row.single) on.rest in
       omega (arith, rest_some (pairs_of first.entries) first.rest f first.faulty, ap length (on.rest ∙ ap (λ m. flat_map entry_bytes m ++ []) none))
@@ -139,7 +149,8 @@ alike text f g a b on =
     let none = stops a.entries on.more a.rest b.rest f a.faulty on.each (subst (λ r. IsSingle (pairs_of r)) on.whole b.row.single) on.rest in
     let rows : b.entries ≡ a.entries = on.whole ∙ ap (λ m. a.entries ++ m) none ∙ append-nil a.entries in
     let rests : b.rest ≡ a.rest = sym (on.rest ∙ ap (λ m. flat_map entry_bytes m ++ b.rest) none) in
-    same_fault (pairs_of a.entries) a.rest f g a.faulty (subst (λ r. IsFaulty (pairs_of r) a.rest g) rows (subst (λ z. IsFaulty (pairs_of b.entries) z g) rests b.faulty))
+    same_fault (pairs_of a.entries) a.rest f g a.faulty (subst (λ r. IsFaulty (pairs_of r) a.rest g) rows
+        (subst (λ z. IsFaulty (pairs_of b.entries) z g) rests b.faulty))
     (a.place ∙ ap (λ r. length (flat_map entry_bytes r)) (sym rows) ∙ sym b.place)
 
 -- a text has one first fault at most

@@ -4,7 +4,8 @@ use Rattle.std.specs.Prelude.{◌↔◌}
 use Rattle.std.proofs.lemmas.Bool.{both_ways}
 use Rattle.std.proofs.lemmas.List.{take_all}
 use Rattle.scsi_cdb.specs.declared.block.Cdb.{Cdb}
-use Rattle.scsi_cdb.specs.declared.block.Cdb.TheVariants.{TestUnitReady, Inquiry, Capacity10, Read10, Write10, SyncCache10, Read16, Write16, Capacity16, ReportLuns, Unknown}
+use Rattle.scsi_cdb.specs.declared.block.Cdb.TheVariants.{TestUnitReady, Inquiry, Capacity10, Read10, Write10, SyncCache10, Read16, Write16, Capacity16,
+    ReportLuns, Unknown}
 use Rattle.scsi_cdb.specs.declared.block.Transfer10.{Transfer10}
 use Rattle.scsi_cdb.specs.declared.block.Transfer16.{Transfer16}
 use Rattle.scsi_cdb.specs.declared.block.Synchronize10.{Synchronize10}
@@ -22,13 +23,16 @@ is_unknown b len unlisted = record { size = len; rows = (rw (part-whole b len) r
 -- ---- a block has one record
 
 transfer10-unique : (b : List ℕ) (x y : Transfer10) → Hold b (transfer10 x) → Hold b (transfer10 y) → x ≡ y
-transfer10-unique b x y p q = let e : ◌≡◌ {A = Transfer10} (record x { logical_block_address = x.logical_block_address }) (record y { logical_block_address = y.logical_block_address }) = cc in e
+transfer10-unique b x y p q = let e : ◌≡◌ {A = Transfer10} (record x { logical_block_address = x.logical_block_address })
+    (record y { logical_block_address = y.logical_block_address }) = cc in e
 
 transfer16-unique : (b : List ℕ) (x y : Transfer16) → Hold b (transfer16 x) → Hold b (transfer16 y) → x ≡ y
-transfer16-unique b x y p q = let e : ◌≡◌ {A = Transfer16} (record x { logical_block_address = x.logical_block_address }) (record y { logical_block_address = y.logical_block_address }) = cc in e
+transfer16-unique b x y p q = let e : ◌≡◌ {A = Transfer16} (record x { logical_block_address = x.logical_block_address })
+    (record y { logical_block_address = y.logical_block_address }) = cc in e
 
 synchronize10-unique : (b : List ℕ) (x y : Synchronize10) → Hold b (synchronize10 x) → Hold b (synchronize10 y) → x ≡ y
-synchronize10-unique b x y p q = let e : ◌≡◌ {A = Synchronize10} (record x { logical_block_address = x.logical_block_address }) (record y { logical_block_address = y.logical_block_address }) = cc in e
+synchronize10-unique b x y p q = let e : ◌≡◌ {A = Synchronize10} (record x { logical_block_address = x.logical_block_address })
+    (record y { logical_block_address = y.logical_block_address }) = cc in e
 
 -- a record other than Unknown
 abbrev IsNamed : Cdb → Type 0

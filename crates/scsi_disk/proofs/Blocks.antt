@@ -1,7 +1,9 @@
 -- Bytes that are cut into blocks: what a read of some of them gives, and what a write leaves.
-use Rattle.std.proofs.Common.{◌≡◌, ℕ, zero, suc, ◌+◌, ◌-◌, ◌*◌, ◌/◌, ◌<◌, ◌≤◌, List, [], ◌++◌, length, take, drop, replicate, refl, sym, ◌∙◌, ap, inl, inr, arith}
+use Rattle.std.proofs.Common.{◌≡◌, ℕ, zero, suc, ◌+◌, ◌-◌, ◌*◌, ◌/◌, ◌<◌, ◌≤◌, List, [], ◌++◌, length, take, drop, replicate, refl, sym, ◌∙◌, ap, inl, inr,
+    arith}
 use mathlib.Core.Path.{fun_ext}
-use Rattle.std.proofs.lemmas.List.{drop-drop, take-append-le, drop-append-le, drop-replicate, take-replicate, drop_all, length-replicate, drop_at, length-take-le, length-drop, drop-take}
+use Rattle.std.proofs.lemmas.List.{drop-drop, take-append-le, drop-append-le, drop-replicate, take-replicate, drop_all, length-replicate, drop_at,
+    length-take-le, length-drop, drop-take}
 use Rattle.std.proofs.lemmas.Slice.{take-put_mid_below, drop-put_mid}
 use Rattle.std.proofs.lemmas.Bool.{cases_lt}
 use Rattle.std.proofs.Math.Seq.{take-add}
@@ -32,22 +34,27 @@ module _ (size : ℕ) where
   below xs ys first n room lt =
       let more : n + 1 ≤ first = omega arith in
       let within : size * n + size ≤ size * first = omega (arith, mul-le-mul_left size more) in
-      cut_in_front (put_mid (size * first) (length ys) xs ys) n ∙ ap (drop (size * n)) (take-put_mid_below (size * first) (length ys) xs ys (size * n + size) within room) ∙ sym (cut_in_front xs n)
+      cut_in_front (put_mid (size * first) (length ys) xs ys) n ∙ ap (drop (size * n))
+          (take-put_mid_below (size * first) (length ys) xs ys (size * n + size) within room) ∙ sym (cut_in_front xs n)
 
-  behind : (xs ys : List ℕ) (first n : ℕ) → size * first ≤ length xs → size * first + length ys ≤ size * n → cut size (put_mid (size * first) (length ys) xs ys) n ≡ cut size xs n
+  behind : (xs ys : List ℕ) (first n : ℕ) → size * first ≤ length xs → size * first + length ys ≤ size * n →
+      cut size (put_mid (size * first) (length ys) xs ys) n ≡ cut size xs n
   unfolding cut
   behind xs ys first n room past = ap (take size) (drop-put_mid (size * first) (length ys) xs ys (size * n) past room refl)
 
-  inside : (xs ys : List ℕ) (first m : ℕ) → size * first ≤ length xs → size * m + size ≤ length ys → cut size (put_mid (size * first) (length ys) xs ys) (first + m) ≡ cut size ys m
+  inside : (xs ys : List ℕ) (first m : ℕ) → size * first ≤ length xs → size * m + size ≤ length ys →
+      cut size (put_mid (size * first) (length ys) xs ys) (first + m) ≡ cut size ys m
   unfolding cut
   inside xs ys first m room fits =
       let at : size * (first + m) ≡ size * first + size * m = omega arith in
       let tail = drop (length ys) (drop (size * first) xs) in
       let whole = put_mid (size * first) (length ys) xs ys in
-      let front : drop (size * first) whole ≡ ys ++ tail = drop_at (take (size * first) xs) (ys ++ tail) (size * first) (length-take-le (size * first) xs room) in
+      let front : drop (size * first) whole ≡ ys ++ tail = drop_at (take (size * first) xs) (ys ++ tail) (size * first)
+          (length-take-le (size * first) xs room) in
       let there : size * m ≤ length ys = omega arith in
       let left : size ≤ length (drop (size * m) ys) = omega (arith, length-drop (size * m) ys) in
-      ap (take size) (ap (λ k. drop k whole) at ∙ sym (drop-drop (size * m) (size * first) whole) ∙ ap (drop (size * m)) front ∙ drop-append-le (size * m) ys tail there)
+      ap (take size) (ap (λ k. drop k whole) at ∙ sym (drop-drop (size * m) (size * first) whole) ∙ ap (drop (size * m)) front
+          ∙ drop-append-le (size * m) ys tail there)
       ∙ take-append-le size (drop (size * m) ys) tail left
 
   -- whole parts: one that begins before the end ends before it
@@ -58,7 +65,8 @@ module _ (size : ℕ) where
         | inr h ↦ absurd (omega (arith, mul-le-mul_left size h))
       ]
 
-  pub cut-put_at : (xs ys : List ℕ) (first count : ℕ) → length ys ≡ size * count → size * first ≤ length xs → (n : ℕ) → cut size (put_mid (size * first) (length ys) xs ys) n ≡ overlaid size first ys (cut size xs) n
+  pub cut-put_at : (xs ys : List ℕ) (first count : ℕ) → length ys ≡ size * count → size * first ≤ length xs → (n : ℕ) →
+      cut size (put_mid (size * first) (length ys) xs ys) n ≡ overlaid size first ys (cut size xs) n
   unfolding overlaid
   cut-put_at xs ys first count whole room n =
       elim (cases_lt n first) [
@@ -68,16 +76,20 @@ module _ (size : ℕ) where
               (ap (cut size (put_mid (size * first) (length ys) xs ys)) (let e : n ≡ first + (n - first) = omega arith in e)
               ∙ inside xs ys first (n - first) room (whole_part count (length ys) (n - first) whole lt))
           | inr past ↦ rw (le-ltb n first ge, le-ltb (size * (n - first)) (length ys) past)
-              (behind xs ys first n room (let e : size * n ≡ size * first + size * (n - first) = (let f : n ≡ first + (n - first) = omega arith in ap (λ k. size * k) f ∙ (let g : size * (first + (n - first)) ≡ size * first + size * (n - first) = omega arith in g)) in omega arith))
+              (behind xs ys first n room (let e : size * n ≡ size * first + size * (n - first) =
+                  (let f : n ≡ first + (n - first) = omega arith in ap (λ k. size * k) f
+                  ∙ (let g : size * (first + (n - first)) ≡ size * first + size * (n - first) = omega arith in g)) in omega arith))
         ]
       ]
 
   -- a write of whole blocks
-  pub cut-put : (xs ys : List ℕ) (first count : ℕ) → length ys ≡ size * count → size * first ≤ length xs → cut size (put_mid (size * first) (length ys) xs ys) ≡ overlaid size first ys (cut size xs)
+  pub cut-put : (xs ys : List ℕ) (first count : ℕ) → length ys ≡ size * count → size * first ≤ length xs → cut size (put_mid (size * first) (length ys) xs ys)
+      ≡ overlaid size first ys (cut size xs)
   cut-put xs ys first count whole room = fun_ext (cut-put_at xs ys first count whole room)
 
   -- a range of whole parts
-  pub range-blocks : (bytes : List ℕ) (first len : ℕ) → size * (len / size) ≡ len → take (size * first + len - size * first) (drop (size * first) bytes) ≡ joined (cut size bytes) first (len / size)
+  pub range-blocks : (bytes : List ℕ) (first len : ℕ) → size * (len / size) ≡ len → take (size * first + len - size * first) (drop (size * first) bytes)
+      ≡ joined (cut size bytes) first (len / size)
   range-blocks bytes first len whole =
       let e : size * first + len - size * first ≡ size * (len / size) = omega arith in
       ap (λ k. take k (drop (size * first) bytes)) e ∙ sym (joined-cut bytes first (len / size))
@@ -93,7 +105,8 @@ module _ (size : ℕ) where
 
   pub length-cut : (xs : List ℕ) (n : ℕ) → size * n + size ≤ length xs → length (cut size xs n) ≡ size
   unfolding cut
-  length-cut xs n room = let there : size ≤ length (drop (size * n) xs) = omega (arith, length-drop (size * n) xs) in length-take-le size (drop (size * n) xs) there
+  length-cut xs n room = let there : size ≤ length (drop (size * n) xs) = omega (arith, length-drop (size * n) xs) in
+      length-take-le size (drop (size * n) xs) there
 
   take_nothing : (n : ℕ) → take {A = ℕ} n [] ≡ []
   take_nothing zero = refl
@@ -110,7 +123,8 @@ module _ (size : ℕ) where
         | inl lt ↦ rw (lt-ltb n blocks lt)
             (ap (take size) (drop-replicate (size * n) (size * blocks) 0)
             ∙ take-replicate size (size * blocks - size * n) 0 (let more : n + 1 ≤ blocks = omega arith in omega (arith, mul-le-mul_left size more)))
-        | inr ge ↦ rw (le-ltb n blocks ge) (cut_past (replicate (size * blocks) 0) n (omega (arith, length-replicate {A = ℕ} (size * blocks) 0, mul-le-mul_left size ge)))
+        | inr ge ↦ rw (le-ltb n blocks ge) (cut_past (replicate (size * blocks) 0) n
+            (omega (arith, length-replicate {A = ℕ} (size * blocks) 0, mul-le-mul_left size ge)))
       ]
 
   pub cut-zeros : (blocks : ℕ) → cut size (replicate (size * blocks) 0) ≡ zero_blocks size blocks

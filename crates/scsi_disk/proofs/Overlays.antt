@@ -25,7 +25,8 @@ overlaid_in size first ys block m lt =
     let at : first + m - first ≡ m = omega arith in
     rw (le-ltb (first + m) first (omega arith), at, lt-ltb (size * m) (length ys) lt) refl
 
-pub overlaid_past : (size first : ℕ) (ys : List ℕ) (block : ℕ → List ℕ) (n : ℕ) → first ≤ n → length ys ≤ size * (n - first) → overlaid size first ys block n ≡ block n
+pub overlaid_past : (size first : ℕ) (ys : List ℕ) (block : ℕ → List ℕ) (n : ℕ) → first ≤ n → length ys ≤ size * (n - first) → overlaid size first ys block n
+    ≡ block n
 unfolding overlaid
 overlaid_past size first ys block n ge past = rw (le-ltb n first ge, le-ltb (size * (n - first)) (length ys) past) refl
 
@@ -75,7 +76,8 @@ module _ (size first i c : ℕ) (bytes : List ℕ) (block : ℕ → List ℕ) (r
       ∙ sym (overlaid_in size first (take (size * (i + c)) bytes) block m (omega arith) ∙ cut_front size (size * (i + c)) bytes m (omega arith))
 
   -- in the parts
-  within : (k : ℕ) → 0 < size → k < c → overlaid size (first + i) part inner (first + i + k) ≡ overlaid size first (take (size * (i + c)) bytes) block (first + i + k)
+  within : (k : ℕ) → 0 < size → k < c → overlaid size (first + i) part inner (first + i + k)
+      ≡ overlaid size first (take (size * (i + c)) bytes) block (first + i + k)
   within k some lt =
       let e = sum in
       let parts = length_part in
@@ -163,7 +165,8 @@ first_at size first bytes block n some long =
             let short : size * (n - first) < length (take size bytes) = omega (arith, length-take-le size bytes long) in
             let near : size * (n - first) < length bytes = omega arith in
             let at : size * (n - first) ≡ 0 = small size (n - first) lt in
-            inr (rw (le-ltb n first ge, lt-ltb (size * (n - first)) (length (take size bytes)) short, lt-ltb (size * (n - first)) (length bytes) near, at) (take-take size size bytes (omega arith)))
+            inr (rw (le-ltb n first ge, lt-ltb (size * (n - first)) (length (take size bytes)) short, lt-ltb (size * (n - first)) (length bytes) near, at)
+                (take-take size size bytes (omega arith)))
         | inr past ↦
             let beyond : length (take size bytes) ≤ size * (n - first) = omega (arith, length-take-le size bytes long) in
             inl (rw (le-ltb n first ge, le-ltb (size * (n - first)) (length (take size bytes)) beyond) refl)

@@ -1,5 +1,6 @@
 -- What is known of an order that is planned to take or to give.
-use Rattle.std.proofs.Common.{◌≡◌, ℕ, zero, suc, ◌+◌, ◌-◌, ◌*◌, ◌/◌, ◌<◌, ◌≤◌, Bool, true, false, cond, min, List, [], ◌∷◌, ◌++◌, length, take, Option, Some, None, refl, sym, ◌∙◌, ap, arith, zero-add, add-zero}
+use Rattle.std.proofs.Common.{◌≡◌, ℕ, zero, suc, ◌+◌, ◌-◌, ◌*◌, ◌/◌, ◌<◌, ◌≤◌, Bool, true, false, cond, min, List, [], ◌∷◌, ◌++◌, length, take, Option, Some,
+    None, refl, sym, ◌∙◌, ap, arith, zero-add, add-zero}
 use Rattle.std.proofs.lemmas.List.{append_assoc, take-append-le, length-append}
 use Rattle.std.specs.List.{AllByRecursion}
 use borrow.Author.Tests.{ltb-false}
@@ -38,7 +39,8 @@ taken_by : (order : Order) (blocks n : ℕ) (r : Option Sense) → first_refusal
 taken_by order blocks n (Some sense) e p = absurd (let h : Refuse sense ≡ Take n = p in cc)
 taken_by order blocks n None e p = record {
   names = unrefused order blocks e;
-  length = elim (is_write order.cdb) as (λ b. cond b (Take (512 * (transfer order.cdb).count)) (Give (min (wanted_length order blocks) (expected_length order))) ≡ Take n → n ≡ 512 * (transfer order.cdb).count) [
+  length = elim (is_write order.cdb) as (λ b. cond b (Take (512 * (transfer order.cdb).count)) (Give (min (wanted_length order blocks) (expected_length order)))
+      ≡ Take n → n ≡ 512 * (transfer order.cdb).count) [
     | true ↦ λ h. cc
     | false ↦ λ h. cc
   ] p;
@@ -51,7 +53,8 @@ given_by : (order : Order) (blocks n : ℕ) (r : Option Sense) → first_refusal
 given_by order blocks n (Some sense) e p = absurd (let h : Refuse sense ≡ Give n = p in cc)
 given_by order blocks n None e p = record {
   names = unrefused order blocks e;
-  most = elim (is_write order.cdb) as (λ b. cond b (Take (512 * (transfer order.cdb).count)) (Give (min (wanted_length order blocks) (expected_length order))) ≡ Give n → n ≤ wanted_length order blocks) [
+  most = elim (is_write order.cdb) as (λ b. cond b (Take (512 * (transfer order.cdb).count)) (Give (min (wanted_length order blocks) (expected_length order)))
+      ≡ Give n → n ≤ wanted_length order blocks) [
     | true ↦ λ h. cc
     | false ↦ λ h. let least : min (wanted_length order blocks) (expected_length order) ≡ n = cc in omega arith
   ] p;
@@ -71,13 +74,15 @@ joined-add block first (suc c) d =
     ap (joined block first) more ∙ ap (λ t. block first ++ t) (joined-add block (first + 1) c d ∙ ap (λ k. joined block (first + 1) c ++ joined block k d) next)
     ∙ sym (append_assoc (block first) (joined block (first + 1) c) (joined block (first + suc c) d))
 
-length-joined : (size : ℕ) (block : ℕ → List ℕ) (first c : ℕ) → ((n : ℕ) → first ≤ n → n < first + c → length (block n) ≡ size) → length (joined block first c) ≡ size * c
+length-joined : (size : ℕ) (block : ℕ → List ℕ) (first c : ℕ) → ((n : ℕ) → first ≤ n → n < first + c → length (block n) ≡ size) → length (joined block first c)
+    ≡ size * c
 unfolding joined
 length-joined size block first zero h = let e : 0 ≡ size * zero = omega arith in e
 length-joined size block first (suc c) h =
     let rest = length-joined size block (first + 1) c (λ n low high. h n (omega arith) (omega arith)) in
     let here = h first (omega arith) (omega arith) in
-    length-append (block first) (joined block (first + 1) c) ∙ (let e : length (block first) + length (joined block (first + 1) c) ≡ size * suc c = omega arith in e)
+    length-append (block first) (joined block (first + 1) c) ∙ (let e : length (block first) + length (joined block (first + 1) c)
+        ≡ size * suc c = omega arith in e)
 
 -- a front needs only the blocks that it reaches into
 pub front-joined : (disk : Disk) (first count n : ℕ) → IsDisk disk → first + count ≤ disk.count → n ≤ 512 * count

@@ -1,5 +1,6 @@
 -- Blocks in extents.
-use Rattle.std.proofs.Common.{subst, drop, All, ◌≡◌, ℕ, zero, suc, ◌+◌, ◌-◌, ◌*◌, ◌/◌, ◌%◌, ◌^◌, ◌<◌, ◌≤◌, Bool, true, false, cond, nat_lt, List, [], ◌∷◌, ◌++◌, length, take, replicate, Option, Some, None, refl, sym, ◌∙◌, ap, ◌⊎◌, inl, inr, arith, rules, is_some, IsSome}
+use Rattle.std.proofs.Common.{subst, drop, All, ◌≡◌, ℕ, zero, suc, ◌+◌, ◌-◌, ◌*◌, ◌/◌, ◌%◌, ◌^◌, ◌<◌, ◌≤◌, Bool, true, false, cond, nat_lt, List, [], ◌∷◌, ◌++◌,
+    length, take, replicate, Option, Some, None, refl, sym, ◌∙◌, ap, ◌⊎◌, inl, inr, arith, rules, is_some, IsSome}
 use Rattle.std.proofs.lemmas.Bool.Decides.{nat_tests}
 use mathlib.Core.Path.{fun_ext}
 use Rattle.std.specs.Ordering.{nat_cmp}
@@ -41,7 +42,8 @@ sparse_is_disk s are = record {
   outside = λ n ge. rw (le-ltb n s.count ge) refl;
 }
 
-zeros_at : (size count m n : ℕ) → (if_in : ℕ → Option (List ℕ)) → ((k : ℕ) → if_in k ≡ None) → cond (nat_lt n count) (block_in size (if_in m) (n % 64)) [] ≡ zero_blocks size count n
+zeros_at : (size count m n : ℕ) → (if_in : ℕ → Option (List ℕ)) → ((k : ℕ) → if_in k ≡ None) → cond (nat_lt n count) (block_in size (if_in m) (n % 64)) []
+    ≡ zero_blocks size count n
 unfolding block_in zero_blocks
 zeros_at size count m n if_in none = ap (λ o. cond (nat_lt n count) (block_in size o (n % 64)) []) (none m)
 
@@ -73,11 +75,13 @@ unfolding joined
 joined-none block first = refl
 
 -- a front that was read, and the blocks behind it
-pub joined_next : (size : ℕ) (xs ys : List ℕ) (block : ℕ → List ℕ) (first i c k : ℕ) → ys ≡ joined block (first + i) c → length ys ≡ size * c → size * i ≤ length xs
+pub joined_next : (size : ℕ) (xs ys : List ℕ) (block : ℕ → List ℕ) (first i c k : ℕ) → ys ≡ joined block (first + i) c → length ys ≡ size * c → size * i
+    ≤ length xs
     → take (size * i) xs ≡ joined block first i → take (size * (i + c)) (put_mid (size * i) k xs ys) ≡ joined block first (i + c)
 joined_next size xs ys block first i c k is long room before =
     let end : size * (i + c) ≡ size * i + length ys = omega arith in
-    take-put_mid (size * i) k xs ys (size * (i + c)) end room ∙ ap (λ t. t ++ ys) before ∙ ap (λ t. joined block first i ++ t) is ∙ sym (joined-add block first i c)
+    take-put_mid (size * i) k xs ys (size * (i + c)) end room ∙ ap (λ t. t ++ ys) before ∙ ap (λ t. joined block first i ++ t) is
+        ∙ sym (joined-add block first i c)
 
 joined-like : (f g : ℕ → List ℕ) (a b c : ℕ) → ((i : ℕ) → i < c → f (a + i) ≡ g (b + i)) → joined f a c ≡ joined g b c
 unfolding joined
@@ -104,7 +108,8 @@ module _ (count : ℕ) (es : List (ℕ × List ℕ)) (n c : ℕ) (o : Option (Li
       let at : (n + i) % 64 ≡ n % 64 + i = omega arith in
       found count es (n + i) o (is ∙ sym (ap (λ k. lookup (is_at (nat_cmp k)) es) extent)) (omega arith) ∙ ap (block_in 512 o) at
 
-  pub run_there : (bytes : List ℕ) → o ≡ Some bytes → joined (cut 512 bytes) (n % 64) c ≡ joined (disk_in (record { count = count; extents = from_entries es })).block n c
+  pub run_there : (bytes : List ℕ) → o ≡ Some bytes → joined (cut 512 bytes) (n % 64) c
+      ≡ joined (disk_in (record { count = count; extents = from_entries es })).block n c
   run_there bytes e =
       sym (joined-like (disk_in (record { count = count; extents = from_entries es })).block (cut 512 bytes) n (n % 64) c (λ i lt.
       in_run i lt ∙ ap (λ p. block_in 512 p (n % 64 + i)) e ∙ block_in-some bytes (n % 64 + i)))
@@ -123,7 +128,8 @@ pub blank : (blocks : ℕ) (bytes : List ℕ) → blocks ≡ 64 → bytes ≡ re
 blank blocks bytes e is = λ n lt. blank_at 512 blocks bytes n is (omega arith)
 
 -- what the extents are after an insert
-pub get_inserted : (es fs : List (ℕ × List ℕ)) (k : ℕ) (v : List ℕ) → ((q : ℕ) → lookup (is_at (nat_cmp q)) fs ≡ cond (is_at (nat_cmp k) q) (Some v) (lookup (is_at (nat_cmp q)) es))
+pub get_inserted : (es fs : List (ℕ × List ℕ)) (k : ℕ) (v : List ℕ) → ((q : ℕ) → lookup (is_at (nat_cmp q)) fs
+    ≡ cond (is_at (nat_cmp k) q) (Some v) (lookup (is_at (nat_cmp q)) es))
     → (q : ℕ) → get (from_entries {R = nat_cmp} fs) q ≡ cond (is_at (nat_cmp k) q) (Some v) (get (from_entries {R = nat_cmp} es) q)
 get_inserted es fs k v h q = get_at fs q ∙ h q ∙ ap (cond (is_at (nat_cmp k) q) (Some v)) (sym (get_at es q))
 
@@ -139,13 +145,15 @@ inserted count m n k v h long are = record {
   whole = λ q bytes e. elim (either (is_at (nat_cmp k) q) v bytes (get m q) (sym (h q) ∙ e)) [ inl p ↦ sym (ap length p) ∙ long | inr p ↦ are.whole q bytes p ];
 }
 
-same_blocks : (b : Bool) (m : Option (List ℕ)) (v : List ℕ) (n : ℕ) → IsBlank v → n < 64 → (b ≡ true → m ≡ None) → block_in 512 (cond b (Some v) m) n ≡ block_in 512 m n
+same_blocks : (b : Bool) (m : Option (List ℕ)) (v : List ℕ) (n : ℕ) → IsBlank v → n < 64 → (b ≡ true → m ≡ None) → block_in 512 (cond b (Some v) m) n
+    ≡ block_in 512 m n
 same_blocks true m v n blank lt none = blank n lt ∙ sym (ap (λ o. block_in 512 o n) (none refl))
 same_blocks false m v n blank lt none = refl
 
 -- nothing is seen of an extent of 00 that was missing
 pub unseen : (count : ℕ) (m n : FinMap nat_cmp (List ℕ)) (k : ℕ) (v : List ℕ) → ((q : ℕ) → get n q ≡ cond (is_at (nat_cmp k) q) (Some v) (get m q))
-    → IsBlank v → ((q : ℕ) → is_at (nat_cmp k) q ≡ true → get m q ≡ None) → disk_in (record { count = count; extents = n }) ≡ disk_in (record { count = count; extents = m })
+    → IsBlank v → ((q : ℕ) → is_at (nat_cmp k) q ≡ true → get m q ≡ None) → disk_in (record { count = count; extents = n })
+        ≡ disk_in (record { count = count; extents = m })
 unseen count m n k v h blank none = same_disk _ _ refl (fun_ext (λ p.
     ap (λ o. cond (nat_lt p count) (block_in 512 o (p % 64)) []) (h (p / 64))
     ∙ ap (λ t. cond (nat_lt p count) t []) (same_blocks (is_at (nat_cmp k) (p / 64)) (get m (p / 64)) v (p % 64) blank (omega arith) (none (p / 64)))))
@@ -160,7 +168,8 @@ none_of : (o : Option (List ℕ)) → is_some o ≡ false → o ≡ None
 none_of None e = refl
 none_of (Some x) e = absurd (let h : true ≡ false = e in cc)
 
-pub missing : (es : List (ℕ × List ℕ)) (k : ℕ) → is_some (lookup (is_at (nat_cmp k)) es) ≡ false → (q : ℕ) → is_at (nat_cmp k) q ≡ true → get (from_entries {R = nat_cmp} es) q ≡ None
+pub missing : (es : List (ℕ × List ℕ)) (k : ℕ) → is_some (lookup (is_at (nat_cmp k)) es) ≡ false → (q : ℕ) → is_at (nat_cmp k) q ≡ true →
+    get (from_entries {R = nat_cmp} es) q ≡ None
 missing es k none q t =
     get_at es q ∙ ap (λ x. lookup (is_at (nat_cmp x)) es) (sym (at_key k q t)) ∙ none_of (lookup (is_at (nat_cmp k)) es) none
 
@@ -196,7 +205,8 @@ module _ (count p c : ℕ) (m n : FinMap nat_cmp (List ℕ)) (old new ys : List 
   -- in that extent
   here : (j : ℕ) → j < count → p / 64 ≡ j / 64 → block_in 512 (get n (j / 64)) (j % 64) ≡ overlaid 512 p ys block j
   here j lt at =
-      let extent : get n (j / 64) ≡ Some new = h (j / 64) ∙ ap (λ b. cond b (Some new) (get m (j / 64))) (ap (is_at (nat_cmp (p / 64))) (sym at) ∙ at_itself (p / 64)) in
+      let extent : get n (j / 64) ≡ Some new = h (j / 64) ∙ ap (λ b. cond b (Some new) (get m (j / 64)))
+          (ap (is_at (nat_cmp (p / 64))) (sym at) ∙ at_itself (p / 64)) in
       let was : cut 512 old (j % 64) ≡ block j =
       sym (ap (λ b. cond b (block_in 512 (get m (j / 64)) (j % 64)) []) (lt-ltb j count lt)
       ∙ ap (λ o. block_in 512 o (j % 64)) (ap (λ k. get m k) (sym at) ∙ before) ∙ block_in-some old (j % 64)) in
@@ -244,7 +254,8 @@ found_behind q e es some = stays (is_at (nat_cmp q) e.0) e.1 (find nat_cmp q es)
 found_first : (e : ℕ × List ℕ) (es : List (ℕ × List ℕ)) → IsSome (find nat_cmp e.0 (e ∷ es))
 found_first e es = is_there (find nat_cmp e.0 (e ∷ es)) e.1 (ap (λ b. cond b (Some e.1) (find nat_cmp e.0 es)) (at_itself e.0))
 
-keys_found : (es rest : List (ℕ × List ℕ)) → ((q : ℕ) → IsSome (find nat_cmp q rest) → IsSome (find nat_cmp q es)) → All (λ e. IsSome (find nat_cmp e.0 es)) rest
+keys_found : (es rest : List (ℕ × List ℕ)) → ((q : ℕ) → IsSome (find nat_cmp q rest) → IsSome (find nat_cmp q es)) →
+    All (λ e. IsSome (find nat_cmp e.0 es)) rest
 keys_found es [] more k d lt = absurd (omega (arith, lt))
 keys_found es (e ∷ rest) more zero d lt = more e.0 (found_first e rest)
 keys_found es (e ∷ rest) more (suc k) d lt = keys_found es rest (λ q some. more q (found_behind q e rest some)) k d (omega (arith, lt))
@@ -258,7 +269,8 @@ run_is_there es run a n is =
     subst (All P) (sym is) (All-take P n (drop a es) (All-drop P a es all))
 
 -- one extent more is there, and those behind the first of a list
-pub next_there : (extents : FinMap nat_cmp (List ℕ)) (first next key : ℕ) → ((k : ℕ) → first ≤ k → k < next → IsSome (get extents k)) → key ≡ next → IsSome (get extents key)
+pub next_there : (extents : FinMap nat_cmp (List ℕ)) (first next key : ℕ) → ((k : ℕ) → first ≤ k → k < next → IsSome (get extents k)) → key ≡ next →
+    IsSome (get extents key)
     → (k : ℕ) → first ≤ k → k < next + 1 → IsSome (get extents k)
 next_there extents first next key before is some k low high = elim (cases_order k next) [
   | inl same ↦ subst (λ (n : ℕ). IsSome (get extents n)) (is ∙ sym same) some
@@ -266,5 +278,6 @@ next_there extents first next key before is some k low high = elim (cases_order 
   | inr (inr more) ↦ absurd (omega (arith, more, high))
 ]
 
-pub behind_there : (extents : FinMap nat_cmp (List ℕ)) (e : ℕ × List ℕ) (es : List (ℕ × List ℕ)) → All (λ e. IsSome (get extents e.0)) (e ∷ es) → All (λ e. IsSome (get extents e.0)) es
+pub behind_there : (extents : FinMap nat_cmp (List ℕ)) (e : ℕ × List ℕ) (es : List (ℕ × List ℕ)) → All (λ e. IsSome (get extents e.0)) (e ∷ es) →
+    All (λ e. IsSome (get extents e.0)) es
 behind_there extents e es all k d lt = all (suc k) d (omega (arith, lt))

@@ -16,22 +16,26 @@ ran_none count disk told none = (refl, refl, none)
 
 -- a run, and one order behind it
 ran_then : (orders : List Supplied) (o : Supplied) (before now after : ℕ) (start disk : Disk) (told : List Outcome) (left : Effect)
-    → RunsIn before start orders now disk told → Executes now after disk o.0 o.1 left → RunsIn before start (orders ++ o ∷ []) after left.disk (told ++ left.outcome ∷ [])
+    → RunsIn before start orders now disk told → Executes now after disk o.0 o.1 left →
+        RunsIn before start (orders ++ o ∷ []) after left.disk (told ++ left.outcome ∷ [])
 unfolding RunsIn
 ran_then [] o before now after start disk told left ran done =
     (after, left, [], rw (← ran.0, ← ran.1) done, (refl, refl, refl), ap (λ t. t ++ left.outcome ∷ []) ran.2)
 ran_then (x ∷ orders) o before now after start disk told left ran done =
-    (ran.0, ran.1, ran.2 ++ left.outcome ∷ [], ran.3, ran_then orders o ran.0 now after ran.1.disk disk ran.2 left ran.4 done, ap (λ t. t ++ left.outcome ∷ []) ran.5)
+    (ran.0, ran.1, ran.2 ++ left.outcome ∷ [], ran.3, ran_then orders o ran.0 now after ran.1.disk disk ran.2 left ran.4 done,
+        ap (λ t. t ++ left.outcome ∷ []) ran.5)
 
 -- a run of some first orders, and the next
 pub ran_next : (orders : List Supplied) (i : ℕ) (o : Supplied) → i < length orders → o ≡ get_or orders i o
     → (before now after : ℕ) (start disk : Disk) (told : List Outcome) (left : Effect)
-    → RunsIn before start (take i orders) now disk told → Executes now after disk o.0 o.1 left → RunsIn before start (take (i + 1) orders) after left.disk (told ++ left.outcome ∷ [])
+    → RunsIn before start (take i orders) now disk told → Executes now after disk o.0 o.1 left →
+        RunsIn before start (take (i + 1) orders) after left.disk (told ++ left.outcome ∷ [])
 ran_next orders i o here is before now after start disk told left ran done =
     let more : take (i + 1) orders ≡ take i orders ++ o ∷ [] = take_more orders i o here ∙ ap (λ y. take i orders ++ y ∷ []) (sym is) in
     rw more (ran_then (take i orders) o before now after start disk told left ran done)
 
-pub ran_rises : (orders : List Supplied) (before after : ℕ) (disk last : Disk) (told : List Outcome) → RunsIn before disk orders after last told → before ≤ after
+pub ran_rises : (orders : List Supplied) (before after : ℕ) (disk last : Disk) (told : List Outcome) → RunsIn before disk orders after last told → before
+    ≤ after
 unfolding RunsIn
 ran_rises [] before after disk last told ran = let same = ran.0 in omega arith
 ran_rises (o ∷ orders) before after disk last told ran =
@@ -48,7 +52,8 @@ ran_first o orders before now after disk last left more done ran same =
     let stayed : now ≡ before = omega arith in
     (stayed, done.works stayed)
 
-pub ran_outcomes : (orders : List Supplied) (before after : ℕ) (disk last : Disk) (told : List Outcome) → after ≡ before → RunsIn before disk orders after last told → told ≡ outcomes orders disk
+pub ran_outcomes : (orders : List Supplied) (before after : ℕ) (disk last : Disk) (told : List Outcome) → after ≡ before →
+    RunsIn before disk orders after last told → told ≡ outcomes orders disk
 unfolding RunsIn outcomes
 ran_outcomes [] before after disk last told same ran = ran.2
 ran_outcomes (o ∷ orders) before after disk last told same ran =
@@ -56,7 +61,8 @@ ran_outcomes (o ∷ orders) before after disk last told same ran =
     ran.5 ∙ ap (λ t. ran.1.outcome ∷ t) (ran_outcomes orders ran.0 after ran.1.disk last ran.2 (same ∙ sym first.0) ran.4)
     ∙ ap (λ (left : Effect). left.outcome ∷ outcomes orders left.disk) first.1
 
-pub ran_disk : (orders : List Supplied) (before after : ℕ) (disk last : Disk) (told : List Outcome) → after ≡ before → RunsIn before disk orders after last told → last ≡ disk_after orders disk
+pub ran_disk : (orders : List Supplied) (before after : ℕ) (disk last : Disk) (told : List Outcome) → after ≡ before → RunsIn before disk orders after last told
+    → last ≡ disk_after orders disk
 unfolding RunsIn disk_after
 ran_disk [] before after disk last told same ran = ran.1
 ran_disk (o ∷ orders) before after disk last told same ran =

@@ -5,7 +5,8 @@ use Rattle.iscsi_stream.proofs.canonical.canonical_head.Goals as goal
 
 pub returns-in-Some-clause-ok : goal.returns-in-Some-clause-ok
 unfolding segment_bytes
-returns-in-Some-clause-ok c = rw (← c.in_ok-text.ensures.means, c.in-Some.is) (c.write_head.ensures.canonical ∙ ap (header c.args.pdu.now.head) c.canonical_len.ensures.len)
+returns-in-Some-clause-ok c = rw (← c.in_ok-text.ensures.means, c.in-Some.is) (c.write_head.ensures.canonical
+    ∙ ap (header c.args.pdu.now.head) c.canonical_len.ensures.len)
 
 pub returns-in-None-clause-ok : goal.returns-in-None-clause-ok
 unfolding segment_bytes

@@ -19,7 +19,8 @@ loop-extent-preserved-then-next-end c =
     let rest = subst (All (λ e. IsSome (get c.args.self.now.extents e.0))) c.in-Some.ensures.steps c.loop-extent.invariant.among in
     record {
       bound = omega arith;
-      there = next_there c.args.self.now.extents (c.args.first / 64) c.loop-extent.next c.in-Some.extent.now c.loop-extent.invariant.there (search rules) (rest 0 (c.in-Some.extent.now, c.in-Some.field-0-1.now) (omega arith));
+      there = next_there c.args.self.now.extents (c.args.first / 64) c.loop-extent.next c.in-Some.extent.now c.loop-extent.invariant.there (search rules)
+          (rest 0 (c.in-Some.extent.now, c.in-Some.field-0-1.now) (omega arith));
       among = behind_there c.args.self.now.extents _ c.next.new.self rest;
     }
 
