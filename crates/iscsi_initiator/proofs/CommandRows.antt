@@ -1,7 +1,7 @@
 -- Worked commands, computed.
 use Rattle.std.proofs.Common.{◌≡◌, refl, ℕ, Bool, true, false, List, [], ◌∷◌, length, map, Some, None, take}
 use Rattle.std.specs.Prelude.{replicate, if◌then◌else◌}
-use Rattle.scsi_cdb.specs.declared.block.Cdb.TheVariants.{Write10}
+use Rattle.scsi_cdb.specs.declared.cdb.Cdb.TheVariants.{Write10}
 use Rattle.scsi_cdb.specs.declared.residual.Residual.TheVariants.{Under}
 use Rattle.scsi_cdb.specs.Layout.{bits_at, number_at, put_bit, put_number, put_bytes, put_raw}
 use Rattle.iscsi_pdu.specs.declared.head.Head.{Head}

@@ -1,8 +1,8 @@
 -- A write and a read of the same blocks, and two ends with the standard preferences
 -- (RFC 7143, section 13; SBC-3; own rule).
 use Rattle.std.specs.Prelude.{◌≡◌, ℕ, ◌+◌, ◌*◌, ◌/◌, ◌<◌, ◌≤◌, List, [], ◌∷◌, length, bit_and, codes}
-use Rattle.scsi_cdb.specs.declared.block.Cdb.TheVariants.{Read10, Write10}
-use Rattle.scsi_cdb.specs.declared.block.Transfer10.{Transfer10}
+use Rattle.scsi_cdb.specs.declared.cdb.Cdb.TheVariants.{Read10, Write10}
+use Rattle.scsi_cdb.specs.declared.cdb.Transfer10.{Transfer10}
 use Rattle.scsi_cdb.specs.declared.residual.Residual.TheVariants.{Exact}
 use Rattle.iscsi_login.specs.Negotiation.{standard}
 use Rattle.iscsi_login.specs.declared.stage.Stage.TheVariants as stages

@@ -3,7 +3,7 @@
 -- condition does not hold, are free.
 -- `always` is a field that every PDU of the kind has, and `only_if` one with a condition.
 use Rattle.std.specs.Prelude.{ℕ, Bool, not, ◌==◌, ◌||◌, List, [], ◌∷◌}
-use Rattle.scsi_cdb.specs.declared.block.Cdb.{Cdb}
+use Rattle.scsi_cdb.specs.declared.cdb.Cdb.{Cdb}
 use Rattle.scsi_cdb.specs.Layout.{Row, always, only_if}
 use Rattle.scsi_cdb.specs.Layout.Row.{bit, bits, bytes, raw}
 use Rattle.scsi_cdb.specs.Blocks.{canonical}

@@ -5,8 +5,8 @@ use Rattle.std.proofs.Common.{◌≡◌, ◌<◌, ℕ, ◌*◌, ◌^◌, Bool, t
 use Rattle.std.proofs.lemmas.Bool.{ltb-true}
 use Rattle.scsi_cdb.specs.Layout.{HaveRoom}
 use Rattle.scsi_cdb.specs.Blocks.{IsUnlisted, canonical, rows}
-use Rattle.scsi_cdb.specs.declared.block.Cdb.{Cdb}
-use Rattle.scsi_cdb.specs.declared.block.Cdb.TheVariants as cdb
+use Rattle.scsi_cdb.specs.declared.cdb.Cdb.{Cdb}
+use Rattle.scsi_cdb.specs.declared.cdb.Cdb.TheVariants as cdb
 use Rattle.scsi_cdb.proofs.Records.{canonical-means}
 use Rattle.iscsi_pdu.specs.Meaning.{AreBytes}
 use Rattle.iscsi_stream.proofs.Closed.{IsRaw, are_narrow, put_all_bytes, zeros_bytes}

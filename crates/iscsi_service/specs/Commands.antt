@@ -1,9 +1,9 @@
 -- The requests that the commands of a script are (SPC-4 and SBC-3; which there are is own rule).
 use Rattle.std.specs.Prelude.{ℕ, ◌*◌, ◌^◌, ◌<◌, Bool, true, false, nat_lt, if◌then◌else◌, replicate}
-use Rattle.scsi_cdb.specs.declared.block.Cdb.{Cdb}
-use Rattle.scsi_cdb.specs.declared.block.Cdb.TheVariants as cdb
-use Rattle.scsi_cdb.specs.declared.block.Transfer10.{Transfer10}
-use Rattle.scsi_cdb.specs.declared.block.Transfer16.{Transfer16}
+use Rattle.scsi_cdb.specs.declared.cdb.Cdb.{Cdb}
+use Rattle.scsi_cdb.specs.declared.cdb.Cdb.TheVariants as cdb
+use Rattle.scsi_cdb.specs.declared.cdb.Transfer10.{Transfer10}
+use Rattle.scsi_cdb.specs.declared.cdb.Transfer16.{Transfer16}
 use Rattle.scsi_cdb.specs.Blocks.{canonical}
 use Rattle.iscsi_initiator.specs.declared.request.Request.{Request}
 use Rattle.iscsi_initiator.specs.declared.request.Request.TheVariants as requests

@@ -1,7 +1,7 @@
 //! The commands of a script, and the requests that they are.
 
 ghost use Rattle.std.specs.Prelude.{◌≡◌, false, IfOk};
-ghost use Rattle.scsi_cdb.specs.declared.block.Cdb.TheVariants as cdb;
+ghost use Rattle.scsi_cdb.specs.declared.cdb.Cdb.TheVariants as cdb;
 ghost use Rattle.scsi_cdb.specs.Blocks.{Fits};
 ghost use Rattle.iscsi_service.specs.Commands.{HasNumbers, request_of, is_logout, asked, written, reading, writing, flush, transfer, long_transfer};
 

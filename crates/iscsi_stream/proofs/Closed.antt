@@ -17,8 +17,8 @@ use Rattle.scsi_cdb.specs.Layout.{Row, Hold, Holds, HasRoom, HaveRoom, put, put_
     with_bits}
 use Rattle.scsi_cdb.specs.Layout.Row.{bit, bits, bytes as number, raw}
 use Rattle.scsi_cdb.specs.Blocks as cdb
-use Rattle.scsi_cdb.specs.declared.block.Cdb.{Cdb}
-use Rattle.scsi_cdb.specs.declared.block.Cdb.TheVariants.{Unknown}
+use Rattle.scsi_cdb.specs.declared.cdb.Cdb.{Cdb}
+use Rattle.scsi_cdb.specs.declared.cdb.Cdb.TheVariants.{Unknown}
 use Rattle.scsi_cdb.proofs.Records.{IsRecord-room}
 use Rattle.iscsi_text.specs.declared.key.KeyKind.{KeyKind}
 use Rattle.iscsi_text.specs.declared.key.KeyKind.TheVariants as kinds

@@ -2,7 +2,7 @@
 use Rattle.std.specs.Prelude.{◌≡◌, true, false, [], ◌∷◌, ◌++◌, replicate, Some, None, codes, refl}
 use Rattle.std.specs.Fmt.{digits}
 use Rattle.scsi_cdb.specs.Layout.{put_bit, put_number, put_bytes, put_raw}
-use Rattle.scsi_cdb.specs.declared.block.Cdb.TheVariants as cdbs
+use Rattle.scsi_cdb.specs.declared.cdb.Cdb.TheVariants as cdbs
 use Rattle.scsi_disk.specs.Disk.{cut, joined, overlaid, zero_blocks, blocks_from}
 use Rattle.iscsi_pdu.specs.Meaning.{header, whole}
 use Rattle.iscsi_pdu.specs.declared.head.Head.TheVariants as heads

@@ -3,12 +3,23 @@ use Rattle.std.proofs.Common.{◌≡◌, ℕ, true, false, List, length, refl, s
 use Rattle.std.specs.Prelude.{◌↔◌}
 use Rattle.std.proofs.lemmas.Bool.{both_ways}
 use Rattle.std.proofs.lemmas.List.{take_all}
-use Rattle.scsi_cdb.specs.declared.block.Cdb.{Cdb}
-use Rattle.scsi_cdb.specs.declared.block.Cdb.TheVariants.{TestUnitReady, Inquiry, Capacity10, Read10, Write10, SyncCache10, Read16, Write16, Capacity16,
-    ReportLuns, Unknown}
-use Rattle.scsi_cdb.specs.declared.block.Transfer10.{Transfer10}
-use Rattle.scsi_cdb.specs.declared.block.Transfer16.{Transfer16}
-use Rattle.scsi_cdb.specs.declared.block.Synchronize10.{Synchronize10}
+use Rattle.scsi_cdb.specs.declared.cdb.Cdb.{Cdb}
+use Rattle.scsi_cdb.specs.declared.cdb.Cdb.TheVariants.{
+  TestUnitReady,
+  Inquiry,
+  Capacity10,
+  Read10,
+  Write10,
+  SyncCache10,
+  Read16,
+  Write16,
+  Capacity16,
+  ReportLuns,
+  Unknown,
+}
+use Rattle.scsi_cdb.specs.declared.cdb.Transfer10.{Transfer10}
+use Rattle.scsi_cdb.specs.declared.cdb.Transfer16.{Transfer16}
+use Rattle.scsi_cdb.specs.declared.cdb.Synchronize10.{Synchronize10}
 use Rattle.scsi_cdb.specs.Layout.{Hold, HaveRoom, part, number_at, bits_at}
 use Rattle.scsi_cdb.specs.Blocks.{IsRecord, IsUnlisted, Fits, canonical, rows, is_listed, transfer10, transfer16, synchronize10}
 use Rattle.scsi_cdb.proofs.Laws.{is_table, put_all-holds, length-put_all, Hold-room, HaveRoom-filled}

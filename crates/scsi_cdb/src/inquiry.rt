@@ -3,7 +3,7 @@
 ghost use Rattle.std.specs.Prelude.{◌≡◌, option_map};
 ghost use Rattle.scsi_cdb.specs.ParameterData.{inquiry, vpd};
 
-use crate::numbers::short;
+use crate::luns::short;
 use arrayvec::ArrayVec;
 
 /// Standard INQUIRY data (SPC-4, section 6.6): of a disk, or of a unit that is not there. The names

@@ -5,9 +5,9 @@ use Rattle.std.proofs.lemmas.Bool.{eq-eqb, le-ltb, leb-true, ltb-true, ne_eqb}
 use Rattle.std.proofs.lemmas.List.{take_all}
 use Rattle.std.proofs.lemmas.List.Elements.{All-cons, All-nil}
 use Rattle.scsi_cdb.specs.Layout.{number_at, bits_at}
-use Rattle.scsi_cdb.specs.declared.block.Cdb.{Cdb}
-use Rattle.scsi_cdb.specs.declared.block.Cdb.TheVariants.{Read10, Write10}
-use Rattle.scsi_cdb.specs.declared.block.Transfer10.{Transfer10}
+use Rattle.scsi_cdb.specs.declared.cdb.Cdb.{Cdb}
+use Rattle.scsi_cdb.specs.declared.cdb.Cdb.TheVariants.{Read10, Write10}
+use Rattle.scsi_cdb.specs.declared.cdb.Transfer10.{Transfer10}
 use Rattle.scsi_cdb.specs.declared.residual.Residual.{Residual}
 use Rattle.scsi_cdb.specs.declared.residual.Residual.TheVariants.{Exact}
 use Rattle.scsi_disk.specs.Disk.{Disk, disk_of, joined, written}

@@ -5,8 +5,8 @@ use Rattle.std.proofs.Common.{ℕ, Bool, true, false, List, [], length, take, Op
 use Rattle.std.proofs.lemmas.Bool.{cond_both}
 use Rattle.std.proofs.lemmas.List.{length-take}
 use Rattle.scsi_cdb.specs.ParameterData.{inquiry, vpd, capacity16_of, luns}
-use Rattle.scsi_cdb.specs.declared.block.Cdb.{Cdb}
-use Rattle.scsi_cdb.specs.declared.block.Cdb.TheVariants.{
+use Rattle.scsi_cdb.specs.declared.cdb.Cdb.{Cdb}
+use Rattle.scsi_cdb.specs.declared.cdb.Cdb.TheVariants.{
   TestUnitReady,
   Inquiry,
   Capacity10,

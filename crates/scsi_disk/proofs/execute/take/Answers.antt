@@ -1,7 +1,7 @@
 use Rattle.std.proofs.Common.{arith, ap}
-use Rattle.scsi_disk.specs.declared.planning.Transfer.{Transfer}
+use Rattle.scsi_disk.specs.declared.plan.Transfer.{Transfer}
 use Rattle.scsi_disk.proofs.Planned.{taken}
-use Rattle.scsi_disk.proofs.execution.take.Goals as goal
+use Rattle.scsi_disk.proofs.execute.take.Goals as goal
 
 pub write-requires-clause-whole : goal.write-requires-clause-whole
 write-requires-clause-whole g c =

@@ -1,10 +1,10 @@
 use Rattle.std.proofs.Common.{◌≡◌, ◌+◌, ◌/◌, true, sym, ap, ◌∙◌, take}
-use Rattle.scsi_disk.specs.declared.planning.Transfer.{Transfer}
+use Rattle.scsi_disk.specs.declared.plan.Transfer.{Transfer}
 use Rattle.scsi_disk.specs.Disk.{blocks_from}
 use Rattle.scsi_disk.specs.Effect.{good}
 use Rattle.scsi_disk.specs.Plan.{is_read, wanted_length}
 use Rattle.scsi_disk.proofs.Planned.{read_gives}
-use Rattle.scsi_disk.proofs.execution.give.Goals as goal
+use Rattle.scsi_disk.proofs.execute.give.Goals as goal
 
 pub returns-then-is_read-clause-ok : goal.returns-then-is_read-clause-ok
 returns-then-is_read-clause-ok g c =

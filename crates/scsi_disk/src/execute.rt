@@ -6,7 +6,7 @@ ghost use Rattle.scsi_disk.specs.Plan.{transfer, is_read, parameter_data, wanted
 ghost use Rattle.scsi_disk.specs.Effect.{Effect, IsSupplied, IsSuppliedBy, Executes, effect, residual_of, good, check, wanted_data, disk_by, outcome_by};
 
 use crate::order::{Order, Outcome, Plan};
-use crate::planning::{
+use crate::plan::{
     expected_length, is_read, is_write, parameter_data, plan, transfer_of, wanted_length,
 };
 use crate::store::{BlockStore, StoreFault};

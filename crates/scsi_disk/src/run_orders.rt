@@ -3,7 +3,7 @@
 ghost use Rattle.std.specs.Prelude.{IfOk, OnErr};
 ghost use Rattle.scsi_disk.specs.Runs.{AreSupplied, RunsIn, RunsSome};
 
-use crate::execution::execute;
+use crate::execute::execute;
 use crate::order::{Order, Outcome};
 use crate::store::BlockStore;
 use scsi_cdb::Bytes;

@@ -2,8 +2,8 @@
 //! stand beside those of the others.
 
 ghost use Rattle.std.specs.Prelude.{◌≡◌, ◌↔◌, ◌<◌, ◌∷◌, [], replicate};
-ghost use Rattle.scsi_cdb.specs.declared.block.Cdb.{Cdb};
-ghost use Rattle.scsi_cdb.specs.declared.block.Cdb.TheVariants as records;
+ghost use Rattle.scsi_cdb.specs.declared.cdb.Cdb.{Cdb};
+ghost use Rattle.scsi_cdb.specs.declared.cdb.Cdb.TheVariants as records;
 ghost use Rattle.scsi_cdb.specs.Layout.{always, Hold, AreFilled, HaveRoom, put_all, number_at};
 ghost use Rattle.scsi_cdb.specs.Layout.Row.{bytes};
 ghost use Rattle.scsi_cdb.specs.Blocks.{Fits, IsRecord, canonical, code, transfer10, transfer16, synchronize10, rows};
