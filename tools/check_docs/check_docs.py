@@ -185,7 +185,7 @@ def camel(kind):
 
 def check_kinds():
     fields, meaning = read("crates/iscsi_pdu/specs/Fields.antt"), read("crates/iscsi_pdu/specs/Meaning.antt")
-    show = read("crates/iscsi_stream/src/show/fields.rt")
+    show = read("crates/iscsi_stream/src/lines/fields.rt")
     kinds = documented_kinds()
     look(len(kinds) == 17, "docs/FORMATS.md", f"{len(kinds)} kinds of PDU")
     for kind, (opcode, name, rows) in kinds.items():

@@ -4,8 +4,8 @@ use Rattle.std.proofs.lemmas.List.{length-append}
 use Rattle.std.proofs.lemmas.List.Concat.{flat_map-cons, flat_map-append}
 use Rattle.iscsi_pdu.specs.Meaning.{AreBytes}
 use Rattle.iscsi_stream.specs.declared.logins.Logins.{Logins}
-use Rattle.iscsi_stream.specs.declared.normalise.Form.{Form}
-use Rattle.iscsi_stream.specs.declared.normalise.Form.TheVariants.{Canonical, Line}
+use Rattle.iscsi_stream.specs.declared.normalising.Form.{Form}
+use Rattle.iscsi_stream.specs.declared.normalising.Form.TheVariants.{Canonical, Line}
 use Rattle.iscsi_stream.specs.Stream.{Message, ReadsAs}
 use Rattle.iscsi_stream.specs.Canonical.{canon, canonical_bytes}
 use Rattle.iscsi_stream.specs.Shown.{IsLine, AreLines}

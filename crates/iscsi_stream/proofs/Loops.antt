@@ -4,7 +4,7 @@ use Rattle.std.specs.Io.KnownBytes.{Appends, Consumes}
 use Rattle.iscsi_stream.specs.declared.counts.Counts.{Counts}
 use Rattle.iscsi_stream.specs.Stream.{Message, longest_segment}
 use Rattle.iscsi_pdu.specs.Meaning.{AreBytes}
-use Rattle.iscsi_stream.specs.declared.normalise.Form.{Form}
+use Rattle.iscsi_stream.specs.declared.normalising.Form.{Form}
 use Rattle.iscsi_stream.specs.Framing.{Framing, HasTaken, is_ready}
 use Rattle.iscsi_stream.specs.Passing.{IsDue, PassesOn}
 

@@ -15,7 +15,7 @@ use Rattle.iscsi_stream.specs.Faults.{tool_fault}
 use Rattle.iscsi_stream.specs.Segment.{no_login}
 use Rattle.iscsi_stream.specs.Stream.{Message, StreamMeans, ReadsAs, longest_segment, Splits}
 use Rattle.iscsi_pdu.specs.Meaning.{AreBytes}
-use Rattle.iscsi_stream.specs.declared.normalise.Form.{Form}
+use Rattle.iscsi_stream.specs.declared.normalising.Form.{Form}
 use Rattle.iscsi_stream.specs.Framing.{Framing, opening, is_ready, IsBegun, HasTaken, FinishFails}
 use Rattle.iscsi_stream.specs.Normalising.{RestFails, AreCounts, WritesUntil, AtEnd, WroteFront}
 use Rattle.iscsi_stream.specs.Passing.{IsDue, PassesOn, Appended, StopsAt, PassFails}

@@ -14,7 +14,7 @@ use Rattle.iscsi_stream.specs.declared.counts.Counts.{Counts}
 use Rattle.iscsi_stream.specs.Faults.{tool_fault}
 use Rattle.iscsi_stream.specs.Segment.{no_login}
 use Rattle.iscsi_stream.specs.Stream.{Message, longest_segment, Splits, ReadsAs}
-use Rattle.iscsi_stream.specs.declared.normalise.Form.{Form}
+use Rattle.iscsi_stream.specs.declared.normalising.Form.{Form}
 use Rattle.iscsi_stream.specs.Framing.{Framing, is_whole, is_ready, settled, Takes, FeedFails, HasTaken, Moves, given_up, message_of, last_place}
 use Rattle.iscsi_stream.specs.Passing.{IsDue, PassesOn, Counted, Appended, PassFails}
 use Rattle.iscsi_stream.proofs.Heads.{AreBytes-take}

@@ -6,8 +6,8 @@ use Rattle.iscsi_stream.specs.declared.fault.ToolFault.TheVariants as tool
 use Rattle.iscsi_stream.specs.declared.counts.Counts.{Counts}
 use Rattle.iscsi_stream.specs.Stream.{Message, longest_segment, NoPdu, Reaches}
 use Rattle.iscsi_pdu.specs.Meaning.{AreBytes}
-use Rattle.iscsi_stream.specs.declared.normalise.Form.{Form}
-use Rattle.iscsi_stream.specs.declared.normalise.Form.TheVariants.{Canonical, Line}
+use Rattle.iscsi_stream.specs.declared.normalising.Form.{Form}
+use Rattle.iscsi_stream.specs.declared.normalising.Form.TheVariants.{Canonical, Line}
 use Rattle.iscsi_stream.specs.Framing.{Framing, HasTaken, Moves, is_ready}
 use Rattle.iscsi_stream.specs.Shown.{AreLines}
 use Rattle.iscsi_stream.specs.Normalising.{IsCanonical, RestFails}

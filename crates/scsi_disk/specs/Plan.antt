@@ -10,7 +10,7 @@ use Rattle.scsi_cdb.specs.declared.sense.Sense.TheVariants.{InvalidCode, OutOfRa
 use Rattle.scsi_disk.specs.declared.order.Order.{Order}
 use Rattle.scsi_disk.specs.declared.order.Plan.{Plan}
 use Rattle.scsi_disk.specs.declared.order.Plan.TheVariants.{Refuse, Take, Give}
-use Rattle.scsi_disk.specs.declared.plan.Transfer.{Transfer}
+use Rattle.scsi_disk.specs.declared.planning.Transfer.{Transfer}
 
 -- ---- commands
 

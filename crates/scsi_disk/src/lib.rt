@@ -2,22 +2,22 @@
 //! and SBC-3).
 #![tactic(auto)]
 
-mod execute;
+mod execution;
 mod fail_at;
 mod laws;
 mod memory;
 mod order;
-mod plan;
-mod run_orders;
+mod planning;
+mod running;
 mod sparse;
 mod store;
 
-pub use execute::{execute, execute_planned};
+pub use execution::{execute, execute_planned};
 pub use fail_at::FailAt;
 pub use laws::run_without_failures;
 pub use memory::MemoryStore;
 pub use order::{Order, Outcome, Plan};
-pub use plan::plan;
-pub use run_orders::run_orders;
+pub use planning::plan;
+pub use running::run_orders;
 pub use sparse::{MOST_BLOCKS, SparseStore};
 pub use store::{BlockStore, StoreFault};

@@ -1,0 +1,211 @@
+//! What an order does to a store, and its answer.
+
+ghost use Rattle.std.specs.Prelude.{◌≡◌, ◌+◌, ◌*◌, ◌/◌, ◌<◌, ◌≤◌, length as size, take as front, OnOk, OnErr, IfOk, IsOk, IsErr, IsErrOf, IsTrue};
+ghost use Rattle.scsi_disk.specs.Disk.{Tells, IsOldOrNew, blocks_from, written};
+ghost use Rattle.scsi_disk.specs.Plan.{transfer, is_read, parameter_data, wanted_length, plan_of};
+ghost use Rattle.scsi_disk.specs.Effect.{Effect, IsSupplied, IsSuppliedBy, Executes, effect, residual_of, good, check, wanted_data, disk_by, outcome_by};
+
+use crate::order::{Order, Outcome, Plan};
+use crate::planning::{
+    expected_length, is_read, is_write, parameter_data, plan, transfer_of, wanted_length,
+};
+use crate::store::{BlockStore, StoreFault};
+use scsi_cdb::{Bytes, Residual, Sense};
+use std::alloc::{AllocError, Global};
+
+/// The status of a command that was done (SPC-4).
+const GOOD: u8 = 0x00;
+
+/// The status of a command that failed, for the reason that its sense data give (SPC-4).
+const CHECK_CONDITION: u8 = 0x02;
+
+/// How the bytes that a command has differ from those that were expected.
+fn residual(wanted: u32, expected: u32) -> Residual
+    ensures { result ≡ residual_of wanted expected }
+{
+    if wanted < expected {
+        Residual::Under(expected - wanted)
+    } else if expected < wanted {
+        Residual::Over(wanted - expected)
+    } else {
+        Residual::Exact
+    }
+}
+
+/// GOOD, for a command that has so many bytes.
+fn good(order: &Order, wanted: u32, bytes: Vec<u8>) -> Outcome
+    ensures { result ≡ good order.now wanted bytes.items }
+{
+    Outcome {
+        status: GOOD,
+        sense: None,
+        bytes: Bytes::from_vec(bytes),
+        residual: residual(wanted, expected_length(order)),
+    }
+}
+
+/// CHECK CONDITION: no data, so that all that was expected is missing.
+fn check(alloc: Global, order: &Order, sense: Sense) -> Outcome
+    ensures { result ≡ check order.now sense }
+{
+    Outcome {
+        status: CHECK_CONDITION,
+        sense: Some(sense),
+        bytes: Bytes::from_vec(Vec::new(alloc)),
+        residual: residual(0, expected_length(order)),
+    }
+}
+
+/// The first bytes of the blocks from `first` on.
+fn read_front<S: BlockStore>(
+    alloc: Global,
+    store: &mut S,
+    first: u64,
+    length: u32,
+) -> Result<Vec<u8>, StoreFault>
+    requires { 512 * first + 512 * ((length + 511) / 512) ≤ 512 * (S.disk store.old).count }
+    ensures ok { IfOk result (λ v. v.items
+        ≡ front length (blocks_from (S.disk store.old) first ((length + 511) / 512))) }
+    ensures disk { S.disk store.new ≡ S.disk store.old }
+    ensures tells { Tells (S.failures store.old) (S.failures store.new) result }
+{
+    let length = length as usize;
+    let mut bytes = vec![in alloc; 0u8; 512 * ((length + 511) / 512)]?;
+    store.read(first, &mut bytes)?;
+    bytes.truncate(length);
+    Ok(bytes)
+}
+
+/// Gives the data of an order that is planned to give so many bytes.
+#[tactic(auto, using(crate::proofs::Planned::given))]
+fn give<S: BlockStore>(
+    alloc: Global,
+    order: &Order,
+    length: u32,
+    store: &mut S,
+) -> Result<Outcome, StoreFault>
+    requires { plan_of order.now (S.disk store.old).count ≡ Plan.Give length }
+    ensures ok { IfOk result
+        (λ outcome. outcome ≡ outcome_by (Plan.Give length) (S.disk store.old) order.now) }
+    ensures disk { S.disk store.new ≡ S.disk store.old }
+    ensures device { IsErrOf result StoreFault.Device → IsTrue (is_read order.now.cdb) }
+    ensures tells { Tells (S.failures store.old) (S.failures store.new) result }
+{
+    let blocks = store.blocks();
+    let wanted = wanted_length(order, blocks);
+    if is_read(&order.cdb) {
+        let bytes = read_front(alloc, store, transfer_of(&order.cdb).first, length)?;
+        return Ok(good(order, wanted, bytes));
+    }
+    let bytes = match parameter_data(order, blocks) {
+        Some(data) => Vec::from_slice(alloc, &data.as_slice()[..length as usize])?,
+        None => Vec::new(alloc),
+    };
+    Ok(good(order, wanted, bytes))
+}
+
+/// Writes the data of an order that is planned to take so many bytes.
+fn take<S: BlockStore>(
+    alloc: Global,
+    order: &Order,
+    bytes: &[u8],
+    length: u32,
+    store: &mut S,
+) -> Result<Outcome, StoreFault>
+    requires planned { plan_of order.now (S.disk store.old).count ≡ Plan.Take length }
+    requires supplied { size bytes.now ≡ length }
+    ensures ok { IfOk result
+        (λ outcome. outcome ≡ outcome_by (Plan.Take length) (S.disk store.old) order.now) }
+    ensures written { OnOk result
+        (S.disk store.new ≡ disk_by (Plan.Take length) (S.disk store.old) order.now bytes.now) }
+    ensures count { (S.disk store.new).count ≡ (S.disk store.old).count }
+    ensures no_memory { IsErrOf result StoreFault.NoMemory
+        → S.disk store.new ≡ S.disk store.old }
+    ensures device { IsErrOf result StoreFault.Device → IsOldOrNew (S.disk store.old)
+        (written (transfer order.now.cdb).first bytes.now (S.disk store.old)) (S.disk store.new) }
+    ensures tells { Tells (S.failures store.old) (S.failures store.new) result }
+{
+    store.write(transfer_of(&order.cdb).first, bytes)?;
+    Ok(good(order, length, Vec::new(alloc)))
+}
+
+/// What a command answers, where its store answered so.
+fn settled(
+    alloc: Global,
+    order: &Order,
+    answer: Result<Outcome, StoreFault>,
+    sense: Sense,
+) -> Result<Outcome, AllocError>
+    ensures ok { IfOk answer (λ outcome. result ≡ Ok outcome) }
+    ensures device { IsErrOf answer StoreFault.Device
+        → IfOk result (λ outcome. outcome ≡ check order.now sense) }
+    ensures device_ok { IsErrOf answer StoreFault.Device → IsOk result }
+    ensures no_memory { IsErrOf answer StoreFault.NoMemory → IsErr result }
+{
+    match answer {
+        Ok(outcome) => Ok(outcome),
+        Err(StoreFault::NoMemory) => Err(AllocError),
+        Err(StoreFault::Device) => Ok(check(alloc, order, sense)),
+    }
+}
+
+/// Executes an order on a store.
+///
+/// Where the plan takes bytes, as many bytes are given; of another order they are not looked at.
+/// Where the device of the store does not fail, blocks and outcome are the effect of the order.
+/// Where it fails, the outcome is CHECK CONDITION with `ReadError` or `WriteError`; then each block
+/// of a WRITE is old or new, and no other has changed. An error says that memory ran out, and no
+/// block has changed.
+///
+/// The data of a READ or WRITE are copied once. Status and sense are those of SPC-4, the residual
+/// is an own rule: what the command has is held against what the initiator expects.
+pub fn execute<S: BlockStore>(
+    alloc: Global,
+    order: &Order,
+    bytes: &[u8],
+    store: &mut S,
+) -> Result<Outcome, AllocError>
+    requires { IsSupplied (S.disk store.old).count order.now bytes.now }
+    // It has the order's effect, or that of a failure where one was counted.
+    ensures ok { IfOk result (λ outcome. Executes (S.failures store.old) (S.failures store.new)
+        (S.disk store.old) order.now bytes.now
+        (record { disk = S.disk store.new; outcome = outcome })) }
+    ensures count { (S.disk store.new).count ≡ (S.disk store.old).count }
+    // Memory ran out.
+    ensures err { OnErr result (S.disk store.new ≡ S.disk store.old) }
+    ensures err_failures { OnErr result (S.failures store.new ≡ S.failures store.old) }
+{
+    let planned = plan(order, store.blocks());
+    execute_planned(alloc, order, planned, bytes, store)
+}
+
+/// Executes an order on a store by its plan, for a caller that made the plan. What it does, and
+/// what comes of a failure, is as with `execute`.
+pub fn execute_planned<S: BlockStore>(
+    alloc: Global,
+    order: &Order,
+    planned: Plan,
+    bytes: &[u8],
+    store: &mut S,
+) -> Result<Outcome, AllocError>
+    requires planned { planned ≡ plan_of order.now (S.disk store.old).count }
+    requires supplied { IsSuppliedBy planned bytes.now }
+    ensures ok { IfOk result (λ outcome. Executes (S.failures store.old) (S.failures store.new)
+        (S.disk store.old) order.now bytes.now
+        (record { disk = S.disk store.new; outcome = outcome })) }
+    ensures count { (S.disk store.new).count ≡ (S.disk store.old).count }
+    ensures err { OnErr result (S.disk store.new ≡ S.disk store.old) }
+    ensures err_failures { OnErr result (S.failures store.new ≡ S.failures store.old) }
+{
+    match planned {
+        Plan::Refuse(sense) => Ok(check(alloc, order, sense)),
+        Plan::Take(length) => {
+            let answer = take(alloc, order, bytes, length, store);
+            settled(alloc, order, answer, Sense::WriteError)
+        }
+        Plan::Give(length) => {
+            let answer = give(alloc, order, length, store);
+            settled(alloc, order, answer, Sense::ReadError)
+        }
+    }
+}
