@@ -7,5 +7,5 @@ mod line;
 mod session;
 
 pub use failing::{Broken, Full};
-pub use line::{LineFault, append_pdu, append_segment, bytes_of, padding_of, pdus_of};
+pub use line::{LineFault, append_pdu, bytes_of, pdus_of, segment_of};
 pub use session::SESSION;

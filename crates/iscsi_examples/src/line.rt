@@ -1,7 +1,7 @@
 //! PDUs as lines of text.
 //!
 //! A line has the header in hex, in twelve words of four bytes, and what the segment has, without
-//! padding: nothing; words of hex, of which `5a*512` stands for so many of its bytes; or behind an
+//! padding: nothing; words of hex, of which `5a*512` stands for so many of a byte; or behind an
 //! apostrophe a text, in which `|` stands for a byte 00 and `~` for a byte ff. A shorter line is the
 //! front of a header.
 
@@ -22,7 +22,7 @@ pub enum LineFault {
     /// A word is not hex.
     #[error("not hex")]
     NotHex,
-    /// What stands behind a `*` is no number.
+    /// What stands before or behind a `*` is no number.
     #[error("no number")]
     NoNumber,
 }
@@ -59,14 +59,14 @@ pub fn bytes_of(alloc: Global, text: &str) -> Result<Vec<u8>, LineFault> {
     Ok(hex::decode(alloc, digits)?)
 }
 
-// Appends the bytes of a word of hex, as often as it says.
-fn append_word(word: &str, out: &mut Vec<u8>) -> Result<(), LineFault> {
-    let (word, count) = word.split_once('*').unwrap_or((word, "1"));
-    let bytes = bytes_of(*out.allocator(), word)?;
-    for _ in 0..count.parse::<u32>()? {
-        out.extend_from_slice(&bytes)?;
-    }
-    Ok(())
+// The bytes of a word of hex, or so many of a byte.
+fn word_of(alloc: Global, word: &str) -> Result<Vec<u8>, LineFault> {
+    let Some((byte, count)) = word.split_once('*') else {
+        return bytes_of(alloc, word);
+    };
+    let byte = u8::from_str_radix(byte, 16)?;
+    let count = count.parse::<u32>()?;
+    Ok(vec![in alloc; byte; count as usize]?)
 }
 
 // Appends the bytes of a text.
@@ -81,19 +81,21 @@ fn append_text(text: &str, out: &mut Vec<u8>) -> Result<(), AllocError> {
     Ok(())
 }
 
-/// Appends the bytes of a segment, without padding.
-pub fn append_segment(segment: &str, out: &mut Vec<u8>) -> Result<(), LineFault> {
+/// The bytes of a segment, without padding.
+pub fn segment_of(alloc: Global, segment: &str) -> Result<Vec<u8>, LineFault> {
+    let mut out = Vec::new(alloc);
     if let Some(text) = segment.strip_prefix('\'') {
-        return Ok(append_text(text, out)?);
+        append_text(text, &mut out)?;
+        return Ok(out);
     }
     for word in segment.split(' ') {
-        append_word(word, out)?;
+        out.extend_from_slice(&word_of(alloc, word)?)?;
     }
-    Ok(())
+    Ok(out)
 }
 
-/// The bytes that fill a segment of this length up to whole words.
-pub fn padding_of(len: usize) -> &'static [u8] {
+// The bytes that fill a segment of this length up to whole words.
+fn padding_of(len: usize) -> &'static [u8] {
     match len % 4 {
         1 => &[0, 0, 0],
         2 => &[0, 0],
@@ -106,8 +108,7 @@ pub fn padding_of(len: usize) -> &'static [u8] {
 pub fn append_pdu(line: &str, out: &mut Vec<u8>) -> Result<(), LineFault> {
     let alloc = *out.allocator();
     let (header, segment) = line.split_at_checked(HEADER).unwrap_or((line, ""));
-    let mut bytes = Vec::new(alloc);
-    append_segment(segment.trim(), &mut bytes)?;
+    let bytes = segment_of(alloc, segment.trim())?;
     out.extend_from_slice(&bytes_of(alloc, header)?)?;
     out.extend_from_slice(&bytes)?;
     out.extend_from_slice(padding_of(bytes.len()))?;
