@@ -1,6 +1,6 @@
 //! What is written for the stream that a reader gives: its canonical stream, or a line for each PDU.
 
-ghost use Rattle.std.specs.Prelude.{◌≡◌, ◌<◌, ◌^◌, ◌++◌, ◌∷◌, ℕ, List, [], length, OnOk, OnErr, false};
+ghost use Rattle.std.specs.Prelude.{◌≡◌, ◌<◌, ◌^◌, ◌++◌, ◌∷◌, ℕ, List, [], length, IfErr, OnOk, OnErr, false};
 ghost use Rattle.std.specs.Io.KnownBytes.{Appends, Consumes, IsAtEnd};
 ghost use Rattle.iscsi_pdu.specs.Meaning.{AreBytes, Fits};
 ghost use Rattle.iscsi_stream.specs.Stream.{Message, message, longest_segment};
