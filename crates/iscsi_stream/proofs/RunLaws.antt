@@ -4,7 +4,7 @@ use Rattle.iscsi_stream.specs.declared.logins.Logins.{Logins}
 use Rattle.iscsi_stream.specs.Segment.{no_login, after}
 use Rattle.iscsi_stream.specs.Framing.{Framing, opening, HasTaken, Moves, given_up, message_of}
 use Rattle.iscsi_stream.specs.Runs.{Call, Feed, Take, Runs, bytes_of, messages_of}
-use Rattle.iscsi_stream.proofs.Taking.{moves_none, moves_fed, moves_gave, moves_then, at_opening}
+use Rattle.iscsi_stream.proofs.TakingLemmas.{moves_none, moves_fed, moves_gave, moves_then, at_opening}
 
 pub runs_move : (old : Framing) (calls : List Call) (new : Framing) → Runs old calls new → Moves old new (bytes_of calls) (messages_of old.logins calls)
 unfolding Runs bytes_of messages_of

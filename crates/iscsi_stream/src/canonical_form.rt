@@ -82,7 +82,7 @@ pub fn canonical(pdu: &Pdu<'_>, continued: bool, out: &mut Vec<u8>) -> Result<()
 
 /// Appends a PDU with this head and segment, free bits as the profile writes them and padding 00. Answers `AllocError`
 /// where memory runs out, and leaves `out` as it was; with room for 51 bytes more than the segment it appends.
-#[tactic(auto, using(crate::proofs::Padding::whole_is))]
+#[tactic(auto, using(crate::proofs::PaddingLemmas::whole_is))]
 pub fn write_pdu(head: &Head, segment: &[u8], out: &mut Vec<u8>) -> Result<(), AllocError>
     requires fits { Fits head.now }
     requires short { length segment.now < 2 ^ 24 }

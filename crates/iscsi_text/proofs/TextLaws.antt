@@ -7,10 +7,10 @@ use Rattle.iscsi_text.specs.declared.fault.TextFault.TheVariants.{NoMemory}
 use Rattle.iscsi_text.specs.Fault.{IsFirstFault}
 use Rattle.iscsi_text.specs.Canonical.{canonical_text}
 use Rattle.iscsi_text.specs.Reading.{text_in}
-use Rattle.iscsi_text.proofs.Canonical as canonical
-use Rattle.iscsi_text.proofs.Computed as computed
-use Rattle.iscsi_text.proofs.Faults.{no_meaning}
-use Rattle.iscsi_text.proofs.Rows as rows
+use Rattle.iscsi_text.proofs.CanonicalLemmas as canonical
+use Rattle.iscsi_text.proofs.ReadingLemmas as computed
+use Rattle.iscsi_text.proofs.FaultLemmas.{no_meaning}
+use Rattle.iscsi_text.proofs.RowLemmas as rows
 
 -- bytes mean one map at most
 pub one_meaning : (bytes : List ℕ) (m n : Pairs) → TextMeans bytes m → TextMeans bytes n → m ≡ n

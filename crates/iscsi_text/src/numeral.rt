@@ -100,7 +100,7 @@ impl Numeral {
     }
 
     // `0x` and the least digits, of which a number of 64 bits has at most 16.
-    #[tactic(auto, using(crate::proofs::Digits::length_hexadecimal))]
+    #[tactic(auto, using(crate::proofs::DigitLemmas::length_hexadecimal))]
     fn hexadecimal(n: u64) -> Numeral
         ensures { result ≡ hexadecimal n }
     {

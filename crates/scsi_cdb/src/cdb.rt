@@ -214,7 +214,7 @@ impl Cdb {
         Cdb::record_of(block)
     }
 
-    #[tactic(auto, using(crate::proofs::Records::is_unknown))]
+    #[tactic(auto, using(crate::proofs::RecordLemmas::is_unknown))]
     fn record_of(block: &[u8; 16]) -> Cdb
         ensures { IsRecord block.now result }
     {
@@ -247,7 +247,7 @@ impl Cdb {
     }
 
     /// The record of a block of code 9e, whose service action decides.
-    #[tactic(auto, using(crate::proofs::Records::is_unknown))]
+    #[tactic(auto, using(crate::proofs::RecordLemmas::is_unknown))]
     fn read_service(block: &[u8; 16]) -> Cdb
         requires { number_at 0 0 block.now ≡ 0x9e }
         ensures { IsRecord block.now result }

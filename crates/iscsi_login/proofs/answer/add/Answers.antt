@@ -4,8 +4,8 @@ use Rattle.std.proofs.lemmas.List.Sorted.{IsPartitionPoint-from_clause}
 use Rattle.iscsi_text.specs.Key.{target_address}
 use Rattle.iscsi_text.specs.Text.{key_le, Arranges}
 use Rattle.iscsi_text.specs.Inside.{all_shown, shown}
-use Rattle.iscsi_text.proofs.Pairs.{in_order_partition, placed, present}
-use Rattle.iscsi_login.proofs.Adding.{arranges_insert}
+use Rattle.iscsi_text.proofs.PairLemmas.{in_order_partition, placed, present}
+use Rattle.iscsi_login.proofs.AnswerLoopLemmas.{arranges_insert}
 use Rattle.iscsi_login.proofs.answer.add.Goals as goal
 
 pub returns : goal.returns

@@ -6,8 +6,8 @@ use Rattle.iscsi_text.specs.Text.{Arranges}
 use Rattle.iscsi_text.specs.Canonical.{canonical_text}
 use Rattle.iscsi_text.specs.Inside.{all_shown}
 use Rattle.iscsi_login.specs.Answer.{answers_to, declarations, answer}
-use Rattle.iscsi_login.proofs.Adding.{stands_at, none_past_end, no_answer_before, answered_more}
-use Rattle.iscsi_text.proofs.Order.{arranged_is}
+use Rattle.iscsi_login.proofs.AnswerLoopLemmas.{stands_at, none_past_end, no_answer_before, answered_more}
+use Rattle.iscsi_text.proofs.OrderLemmas.{arranged_is}
 use Rattle.iscsi_login.proofs.answer.answer_text.Goals as goal
 use Rattle.iscsi_login.proofs.answer.answer_text.Goals.{in-Some+in_ok-add_answer, in_default}
 

@@ -7,8 +7,8 @@ use Rattle.iscsi_text.specs.declared.pair.Pair.{Pair}
 use Rattle.iscsi_text.specs.Inside.{shown}
 use Rattle.iscsi_login.specs.Key.{key_named}
 use Rattle.iscsi_login.specs.Check.{is_unanswered}
-use Rattle.iscsi_login.proofs.Found.{find_shown, found_passes}
-use Rattle.iscsi_login.proofs.Judged.{name_back, unanswered_named}
+use Rattle.iscsi_login.proofs.KeyValueLemmas.{find_shown, found_passes}
+use Rattle.iscsi_login.proofs.JudgementLemmas.{name_back, unanswered_named}
 use Rattle.iscsi_login.proofs.check.first_unanswered.Goals as goal
 
 pub returns : goal.returns

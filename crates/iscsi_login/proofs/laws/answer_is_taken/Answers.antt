@@ -1,6 +1,6 @@
 use Rattle.iscsi_login.specs.Answer.{answer}
-use Rattle.iscsi_login.proofs.Judged.{good_is_taken}
-use Rattle.iscsi_login.proofs.Texts.{good_answer}
+use Rattle.iscsi_login.proofs.JudgementLemmas.{good_is_taken}
+use Rattle.iscsi_login.proofs.TextAgreementLaw.{good_answer}
 use Rattle.iscsi_login.proofs.laws.answer_is_taken.Goals as goal
 
 pub returns : goal.returns

@@ -1,6 +1,6 @@
 use Rattle.std.proofs.Common.{List, ℕ, sym, subst}
 use Rattle.iscsi_pdu.specs.Meaning.{IsHeader}
-use Rattle.iscsi_pdu.proofs.Headers.{header-means}
+use Rattle.iscsi_pdu.proofs.HeaderLemmas.{header-means}
 use Rattle.iscsi_pdu.proofs.head.write_head.Goals as goal
 
 pub returns-clause-back : goal.returns-clause-back

@@ -1,6 +1,6 @@
 use Rattle.std.proofs.Common.{refl}
 use Rattle.iscsi_pdu.specs.Meaning.{whole}
-use Rattle.iscsi_pdu.proofs.Headers.{again-means, whole-same}
+use Rattle.iscsi_pdu.proofs.HeaderLemmas.{again-means, whole-same}
 use Rattle.iscsi_pdu.proofs.laws.same_meaning.Goals as goal
 
 pub returns : goal.returns

@@ -1,6 +1,6 @@
 use Rattle.std.proofs.Common.{length, arith}
 use Rattle.iscsi_pdu.specs.Meaning.{header, padding}
-use Rattle.iscsi_stream.proofs.Padding.{appended}
+use Rattle.iscsi_stream.proofs.PaddingLemmas.{appended}
 use Rattle.iscsi_stream.proofs.canonical_form.append_bytes.Goals as goal
 
 pub returns-clause-ok : goal.returns-clause-ok

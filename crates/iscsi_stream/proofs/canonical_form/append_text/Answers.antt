@@ -1,7 +1,7 @@
 use Rattle.std.proofs.Common.{length, arith}
 use Rattle.iscsi_text.specs.Canonical.{canonical_text}
 use Rattle.iscsi_pdu.specs.Meaning.{header, padding}
-use Rattle.iscsi_stream.proofs.Padding.{appended}
+use Rattle.iscsi_stream.proofs.PaddingLemmas.{appended}
 use Rattle.iscsi_stream.proofs.canonical_form.append_text.Goals as goal
 
 pub returns-clause-ok : goal.returns-clause-ok

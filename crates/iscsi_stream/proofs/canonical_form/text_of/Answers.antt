@@ -1,6 +1,6 @@
 use Rattle.std.proofs.Common.{sym, ◌∙◌}
 use Rattle.iscsi_stream.specs.Segment.{is_last}
-use Rattle.iscsi_stream.proofs.Segments.{segment_plain, segment_read, none_whole}
+use Rattle.iscsi_stream.proofs.SegmentLemmas.{segment_plain, segment_read, none_whole}
 use Rattle.iscsi_stream.proofs.canonical_form.text_of.Goals as goal
 use Rattle.iscsi_stream.proofs.canonical_form.text_of.Goals.{then-continued-via-then-continued, then-continued-via-else-continued+then-not-is_last}
 

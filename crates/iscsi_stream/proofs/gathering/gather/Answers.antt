@@ -1,7 +1,7 @@
 use Rattle.std.proofs.Common.{take, arith, ◌+◌, max, ap, sym, ◌∙◌}
 use Rattle.std.proofs.lemmas.List.{length-take, take_rest}
 use Rattle.std.proofs.lemmas.Result.{err_from_is_err_and}
-use Rattle.iscsi_stream.proofs.Gathered.{gathers_header, gathers_body, gathers_both, header_front, header_fails, room-short, room-body, begun_len-body}
+use Rattle.iscsi_stream.proofs.GatheringLemmas.{gathers_header, gathers_body, gathers_both, header_front, header_fails, room-short, room-body, begun_len-body}
 use Rattle.iscsi_stream.proofs.gathering.gather.Goals as goal
 
 pub returns-then-filled-taken-lt-HEADER-clause-ok : goal.returns-then-filled-taken-lt-HEADER-clause-ok

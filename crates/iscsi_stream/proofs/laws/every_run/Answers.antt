@@ -3,8 +3,8 @@ use Rattle.iscsi_stream.specs.Segment.{no_login}
 use Rattle.iscsi_stream.specs.Stream.{Splits}
 use Rattle.iscsi_stream.specs.Framing.{IsBegun}
 use Rattle.iscsi_stream.specs.Runs.{bytes_of, messages_of}
-use Rattle.iscsi_stream.proofs.Taking.{splits_taken}
-use Rattle.iscsi_stream.proofs.Ready.{unready_of}
+use Rattle.iscsi_stream.proofs.TakingLemmas.{splits_taken}
+use Rattle.iscsi_stream.proofs.ReadyLemmas.{unready_of}
 use Rattle.iscsi_stream.proofs.RunLaws.{from_opening, limit_kept}
 use Rattle.iscsi_stream.proofs.laws.every_run.Goals as goal
 

@@ -1,4 +1,4 @@
-use Rattle.iscsi_stream.proofs.Refusals.{header_due}
+use Rattle.iscsi_stream.proofs.RefusalLaws.{header_due}
 use Rattle.iscsi_stream.proofs.laws.header_refused.Goals as goal
 
 pub returns : goal.returns

@@ -1,4 +1,4 @@
-use Rattle.iscsi_stream.proofs.Refusals.{limit_due}
+use Rattle.iscsi_stream.proofs.RefusalLaws.{limit_due}
 use Rattle.iscsi_stream.proofs.laws.limit_refused.Goals as goal
 
 pub returns : goal.returns

@@ -3,8 +3,8 @@ use Rattle.std.proofs.lemmas.List.{length-append}
 use Rattle.iscsi_stream.specs.Stream.{message}
 use Rattle.iscsi_stream.specs.Framing.{message_of}
 use Rattle.iscsi_stream.specs.Passing.{IsDue}
-use Rattle.iscsi_stream.proofs.Ready.{unready_if}
-use Rattle.iscsi_stream.proofs.PassOn.{pass_none, pass_one}
+use Rattle.iscsi_stream.proofs.ReadyLemmas.{unready_if}
+use Rattle.iscsi_stream.proofs.PassingLemmas.{pass_none, pass_one}
 use Rattle.iscsi_stream.proofs.normalising.append_ready.Goals as goal
 
 pub returns-in_default-clause-ok : goal.returns-in_default-clause-ok

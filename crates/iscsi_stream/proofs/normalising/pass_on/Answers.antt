@@ -2,7 +2,7 @@ use Rattle.std.proofs.Common.{◌<◌, length, refl, sym, ap, arith}
 use Rattle.std.proofs.lemmas.Bool.{eqb-false}
 use Rattle.std.proofs.lemmas.List.{length-drop, take_rest}
 use Rattle.std.proofs.lemmas.Result.{err_from_is_err_and}
-use Rattle.iscsi_stream.proofs.PassOn.{passed_none, passed_more, passed_part, feed_stops, takes_some}
+use Rattle.iscsi_stream.proofs.PassingLemmas.{passed_none, passed_more, passed_part, feed_stops, takes_some}
 use Rattle.iscsi_stream.proofs.normalising.pass_on.Goals as goal
 
 pub loop-rest-init : goal.loop-rest-init

@@ -1,5 +1,5 @@
 use Rattle.std.proofs.Common.{length}
-use Rattle.iscsi_stream.proofs.Loops.{PassedUpTo}
+use Rattle.iscsi_stream.proofs.LoopInvariants.{PassedUpTo}
 use Rattle.iscsi_stream.proofs.normalising.pass_on.Given as goal
 
 abbrev pub invariant-loop-rest : goal.invariant-loop-rest

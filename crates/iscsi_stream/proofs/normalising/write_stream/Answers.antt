@@ -1,6 +1,7 @@
 use Rattle.std.proofs.Common.{[], take, arith}
 use Rattle.std.proofs.lemmas.Result.{err_from_is_err_and}
-use Rattle.iscsi_stream.proofs.Normals.{at_start, read_stops, reads_stop, finish_stops, finish_done, not_truncated, pass_stops, write_stops, read_more}
+use Rattle.iscsi_stream.proofs.NormalisingLemmas.{at_start, read_stops, reads_stop, finish_stops, finish_done, not_truncated, pass_stops, write_stops,
+    read_more}
 use Rattle.iscsi_stream.proofs.normalising.write_stream.Goals as goal
 
 pub loop-init : goal.loop-init

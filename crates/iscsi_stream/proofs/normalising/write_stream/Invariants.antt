@@ -1,4 +1,4 @@
-use Rattle.iscsi_stream.proofs.Loops.{WrittenUpTo}
+use Rattle.iscsi_stream.proofs.LoopInvariants.{WrittenUpTo}
 use Rattle.iscsi_stream.proofs.normalising.write_stream.Given as goal
 
 abbrev pub invariant-loop : goal.invariant-loop

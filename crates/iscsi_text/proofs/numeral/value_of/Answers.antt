@@ -4,7 +4,7 @@ use Rattle.std.specs.Str.Parse.{digits_value}
 use Rattle.std.proofs.lemmas.Int.Digits.{digits_value_more, digits_more}
 use Rattle.std.proofs.lemmas.List.{take_all}
 use Rattle.std.proofs.lemmas.Bool.Decides.{nat_tests}
-use Rattle.iscsi_text.proofs.Digits.{digit_below, value_so_far}
+use Rattle.iscsi_text.proofs.DigitLemmas.{digit_below, value_so_far}
 use Rattle.iscsi_text.proofs.numeral.value_of.Goals as goal
 
 pub returns-in_err-digit : goal.returns-in_err-digit

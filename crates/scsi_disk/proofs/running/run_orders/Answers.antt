@@ -1,7 +1,7 @@
 use Rattle.std.proofs.Common.{◌+◌, ◌++◌, ◌∷◌, [], ◌∙◌, refl, arith}
 use Rattle.std.proofs.lemmas.List.{take_all}
 use Rattle.scsi_disk.specs.Runs.{RunsSome}
-use Rattle.scsi_disk.proofs.Steps.{on_err, ran_none, ran_next}
+use Rattle.scsi_disk.proofs.RunLemmas.{on_err, ran_none, ran_next}
 use Rattle.scsi_disk.proofs.running.run_orders.Goals as goal
 
 pub loop-order-init : goal.loop-order-init

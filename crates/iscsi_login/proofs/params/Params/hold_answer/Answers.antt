@@ -4,7 +4,7 @@ use Rattle.iscsi_login.specs.Key.{IsWithin}
 use Rattle.iscsi_login.specs.Negotiation.{max_recv_range}
 use Rattle.iscsi_login.specs.Held.{Held, IsHeld}
 use Rattle.iscsi_login.specs.Answer.{declared_max_recv}
-use Rattle.iscsi_login.proofs.Agreement.{EachAllowed, allowed_after_answer, declared_within}
+use Rattle.iscsi_login.proofs.AgreementLaw.{EachAllowed, allowed_after_answer, declared_within}
 use Rattle.iscsi_login.proofs.params.Params.hold_answer.Goals as goal
 
 pub invariant_of-self : goal.invariant_of-self

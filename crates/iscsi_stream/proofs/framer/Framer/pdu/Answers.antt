@@ -1,7 +1,7 @@
 use Rattle.std.proofs.Common.{◌+◌, ◌<◌, take, length, refl, arith}
 use Rattle.std.proofs.lemmas.List.{length-take}
 use Rattle.iscsi_pdu.specs.Meaning.{padding}
-use Rattle.iscsi_stream.proofs.Ready.{short_not, body_not, body_whole, body_means, none_not}
+use Rattle.iscsi_stream.proofs.ReadyLemmas.{short_not, body_not, body_whole, body_means, none_not}
 use Rattle.iscsi_stream.proofs.framer.Framer.pdu.Goals as goal
 use Rattle.iscsi_stream.proofs.framer.Framer.pdu.Goals.{then-len-via-then-len, then-len-via-else-len+then-padded-pad}
 

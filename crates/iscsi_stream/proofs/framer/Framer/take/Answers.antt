@@ -1,7 +1,7 @@
 use Rattle.std.proofs.Common.{ap, ◌∙◌, arith}
-use Rattle.iscsi_pdu.proofs.Headers.{Means-unique}
+use Rattle.iscsi_pdu.proofs.HeaderLemmas.{Means-unique}
 use Rattle.iscsi_stream.specs.Segment.{after}
-use Rattle.iscsi_stream.proofs.Ready.{live_of, given_up-is}
+use Rattle.iscsi_stream.proofs.ReadyLemmas.{live_of, given_up-is}
 use Rattle.iscsi_stream.proofs.framer.Framer.take.Goals as goal
 
 pub returns-clause-taken : goal.returns-clause-taken

@@ -2,7 +2,7 @@ use Rattle.std.proofs.Common.{◌≡◌, ◌/◌, ◌%◌, ◌++◌, ◌∷◌, 
 use Rattle.std.specs.Fmt.{digits, digit_glyph}
 use Rattle.std.proofs.lemmas.List.{append-nil, length-append}
 use Rattle.std.proofs.Math.Nat.{div-le_self}
-use Rattle.iscsi_text.proofs.Digits.{printed_one, printed_step, printed_some, length-printed-le, fits_base}
+use Rattle.iscsi_text.proofs.DigitLemmas.{printed_one, printed_step, printed_some, length-printed-le, fits_base}
 use Rattle.iscsi_text.proofs.numeral.Numeral.with_digits.Goals as goal
 
 pub loop-rest-init : goal.loop-rest-init

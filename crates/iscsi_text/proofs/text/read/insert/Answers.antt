@@ -6,8 +6,8 @@ use Rattle.iscsi_text.specs.declared.pair.Pair.{Pair}
 use Rattle.iscsi_text.specs.Key.{target_address}
 use Rattle.iscsi_text.specs.Text.{key_le}
 use Rattle.iscsi_text.specs.Inside.{all_shown, shown, Inserts}
-use Rattle.iscsi_text.proofs.Keys.{same_key, bytes_eq_same}
-use Rattle.iscsi_text.proofs.Pairs.{in_order_partition, placed, present}
+use Rattle.iscsi_text.proofs.KeyLemmas.{same_key, bytes_eq_same}
+use Rattle.iscsi_text.proofs.PairLemmas.{in_order_partition, placed, present}
 use Rattle.iscsi_text.proofs.text.read.insert.Goals as goal
 use Rattle.iscsi_text.proofs.text.read.insert.Goals.{else-at-gt0-via-then-at-gt0+then-eq+else-ne, else-at-gt0-via-then-at-gt0+else-eq,
     else-at-gt0-via-else-at-gt0}

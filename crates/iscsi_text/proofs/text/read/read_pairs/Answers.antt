@@ -1,7 +1,7 @@
 use Rattle.std.proofs.Common.{Ok, ap, refl, eqb-true, ◌∙◌, sym}
 use Rattle.iscsi_text.specs.Value.{typed}
 use Rattle.iscsi_text.specs.Inside.{all_shown}
-use Rattle.iscsi_text.proofs.ReadSoFar.{reads_empty, reads_field, bad_key, repeated}
+use Rattle.iscsi_text.proofs.ReadInvariant.{reads_empty, reads_field, bad_key, repeated}
 use Rattle.iscsi_text.proofs.text.read.read_pairs.Goals as goal
 
 pub returns-then-not-is_key-clause-fault : goal.returns-then-not-is_key-clause-fault

@@ -1,6 +1,6 @@
 use Rattle.std.proofs.Common.{◌≡◌, false, rules}
 use Rattle.scsi_cdb.specs.Blocks.{is_listed}
-use Rattle.scsi_cdb.proofs.Records.{is_unknown}
+use Rattle.scsi_cdb.proofs.RecordLemmas.{is_unknown}
 use Rattle.scsi_cdb.proofs.cdb.Cdb.record_of.Goals as goal
 
 pub returns-in_default : goal.returns-in_default

@@ -1,7 +1,7 @@
 use Rattle.std.proofs.Common.{◌/◌, All, IsSome, subst, ◌∙◌, arith, rules}
 use Rattle.std.specs.FinMap.{get}
 use Rattle.scsi_disk.specs.Sparse.{Extents}
-use Rattle.scsi_disk.proofs.SparseBlocks.{run_is_there, next_there, behind_there}
+use Rattle.scsi_disk.proofs.SparseLemmas.{run_is_there, next_there, behind_there}
 use Rattle.scsi_disk.proofs.sparse.SparseStore.has_all.Goals as goal
 
 pub loop-extent-init : goal.loop-extent-init

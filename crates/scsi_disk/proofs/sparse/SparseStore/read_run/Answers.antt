@@ -1,7 +1,7 @@
 use Rattle.std.proofs.Common.{◌≡◌, ◌+◌, ◌*◌, ◌/◌, ◌%◌, ◌≤◌, Some, None, length, replicate, refl, ap, ◌∙◌, arith, rules}
 use Rattle.scsi_disk.specs.Disk.{cut, joined}
 use Rattle.scsi_disk.specs.Sparse.{Extents, disk_in}
-use Rattle.scsi_disk.proofs.SparseBlocks.{run_there, run_missing}
+use Rattle.scsi_disk.proofs.SparseLemmas.{run_there, run_missing}
 use Rattle.scsi_disk.proofs.sparse.SparseStore.read_run.Goals as goal
 
 pub returns-in-Some : goal.returns-in-Some

@@ -3,7 +3,7 @@ use Rattle.std.specs.Ordering.{nat_cmp}
 use Rattle.std.specs.FinMap.{get, from_entries}
 use Rattle.scsi_disk.specs.Disk.{written}
 use Rattle.scsi_disk.specs.Sparse.{disk_in}
-use Rattle.scsi_disk.proofs.SparseBlocks.{get_at, get_inserted, inserted, stays, run_written, some_at, never_none}
+use Rattle.scsi_disk.proofs.SparseLemmas.{get_at, get_inserted, inserted, stays, run_written, some_at, never_none}
 use Rattle.scsi_disk.proofs.sparse.SparseStore.write_run.Goals as goal
 use Rattle.scsi_disk.proofs.sparse.SparseStore.write_run.Goals.{in-Some, in_default}
 
