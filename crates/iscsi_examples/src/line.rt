@@ -2,8 +2,8 @@
 //!
 //! A line has the header in hex, in twelve words of four bytes, and what the segment has, without
 //! padding: nothing; words of hex, of which `5a*512` stands for so many of a byte; or behind an
-//! apostrophe a text, in which `|` stands for a byte 00 and `~` for a byte ff. A shorter line is the
-//! front of a header.
+//! apostrophe a text, in which `|` stands for a byte 00 and `~` for a byte ff. A shorter line is
+//! the front of a header.
 
 use hex::FromHexError;
 use std::alloc::{AllocError, Global};

@@ -1,6 +1,6 @@
 -- The ends agree on each key.
-use Rattle.std.proofs.Common.{◌≡◌, ℕ, ◌⊎◌, Bool, true, false, cond, ◌&&◌, List, [], ◌∷◌, map, nat_le, unwrap_or, Option, Some, None, refl, sym, ap, subst, inl,
-    inr, arith, codes}
+use Rattle.std.proofs.Common.{◌≡◌, ℕ, ◌⊎◌, Bool, true, false, cond, ◌&&◌, List, [], ◌∷◌, map, nat_le, unwrap_or, Option, Some, None, refl, sym, ap, subst, inl}
+use Rattle.std.proofs.Common.{inr, arith, codes}
 use Rattle.std.proofs.lemmas.Bool.{le-leb, and_from}
 use Rattle.std.specs.Option.{IfSome}
 use Rattle.std.proofs.lemmas.Bool.Decides.{nat_tests}
@@ -16,8 +16,8 @@ use Rattle.iscsi_login.specs.declared.preferences.Answered.{Answered}
 use Rattle.iscsi_login.specs.declared.preferences.Answered.TheVariants.{Number, Flag, NoneItem, Reject}
 use Rattle.iscsi_login.specs.declared.preferences.Preferences.{Preferences}
 use Rattle.iscsi_login.specs.Key.{name_of, all_keys, rule_of, default_of, is_irrelevant, IsWithin}
-use Rattle.iscsi_login.specs.Negotiation.{preference, Allows, IsInRange, in_range, has_none, value_of, chosen, result_of, is_word, word, answered_value,
-    IsLegal, or_default}
+use Rattle.iscsi_login.specs.Negotiation.{preference, Allows, IsInRange, in_range, has_none, value_of, chosen, result_of, is_word, word, answered_value}
+use Rattle.iscsi_login.specs.Negotiation.{IsLegal, or_default}
 use Rattle.iscsi_login.specs.Answer.{answer_to, held_by_target, held_by_initiator, first_or, value_after_offers, value_after_answer}
 use Rattle.iscsi_login.specs.Held.{Held, held_value, value_at}
 use Rattle.iscsi_text.specs.Text.{Pairs, values_of}
@@ -221,7 +221,7 @@ pub allowed_after_offers : (session : Session) (p : Preferences) → IsInRange p
 allowed_after_offers session p is given held before key =
     subst (Allows (rule_of key)) (sym (value_at-map (value_after_offers session p given held) key))
     (first_allowed (Allows (rule_of key)) (held_by_target session p key) (held_value held key) (values_of (name_of key) given) (target_allowed session p is key)
-        (before key))
+    (before key))
 
 pub allowed_after_answer : (answered : Pairs) (held : Held) → EachAllowed held.values → EachAllowed (map (value_after_answer answered held) all_keys)
 allowed_after_answer answered held before key =

@@ -42,14 +42,14 @@ values_of-answers session p key (pair ∷ given) =
           ∙ ap (flat_map (answer_values session p key)) (sym (values_of-same key pair given same))
       | inr apart ↦
           split ∙ ap (λ vs. vs ++ values_of key (flat_map (answers_to session p) given))
-              (values_with-other key pair.0 (answer_value session p pair.0 pair.1) apart) ∙ rest
+          (values_with-other key pair.0 (answer_value session p pair.0 pair.1) apart) ∙ rest
           ∙ ap (flat_map (answer_values session p key)) (sym (values_of-other key pair given apart))
     ]
 
 -- Each key has what is declared of it, and an answer to each value given.
 pub values_of-answer : (session : Session) (p : Preferences) (tag max_recv : Option ℕ) (given : Pairs) (key : List ℕ)
     → values_of key (answer session p tag max_recv given) ≡ values_of key (declarations tag max_recv)
-        ++ flat_map (answer_values session p key) (values_of key given)
+    ++ flat_map (answer_values session p key) (values_of key given)
 values_of-answer session p tag max_recv given key =
     values_in_order key (declarations tag max_recv ++ flat_map (answers_to session p) given)
     ∙ values_of-append key (declarations tag max_recv) (flat_map (answers_to session p) given)
@@ -75,7 +75,7 @@ pub undeclared : (key : List ℕ) (tag max_recv : Option ℕ) → max_recv_key �
 undeclared key tag max_recv not_max not_tag =
     values_of-append key (pairs_with max_recv_key (option_map values.Number max_recv)) (pairs_with tag_key (option_map values.Number tag))
     ∙ ap (λ vs. vs ++ values_of key (pairs_with tag_key (option_map values.Number tag)))
-        (values_with-other key max_recv_key (option_map values.Number max_recv) not_max)
+    (values_with-other key max_recv_key (option_map values.Number max_recv) not_max)
     ∙ values_with-other key tag_key (option_map values.Number tag) not_tag
 
 -- a negotiated key's answer
@@ -94,6 +94,6 @@ pub answers_of_key : (session : Session) (p : Preferences) (tag max_recv : Optio
 answers_of_key session p tag max_recv given key =
     values_of-answer session p tag max_recv given (name_of key)
     ∙ ap (λ vs. vs ++ flat_map (answer_values session p (name_of key)) (values_of (name_of key) given))
-        (undeclared (name_of key) tag max_recv (apart_from_test max_recv_key (name_of key) (not_max_recv key))
-        (apart_from_test tag_key (name_of key) (not_tag key)))
+    (undeclared (name_of key) tag max_recv (apart_from_test max_recv_key (name_of key) (not_max_recv key))
+    (apart_from_test tag_key (name_of key) (not_tag key)))
     ∙ each_negotiated session p key (values_of (name_of key) given)

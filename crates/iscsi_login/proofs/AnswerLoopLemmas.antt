@@ -1,6 +1,6 @@
 -- Answers added pair by pair.
-use Rattle.std.proofs.Common.{◌≡◌, ◌≢◌, ℕ, zero, suc, ◌+◌, ◌<◌, ◌≤◌, List, [], ◌∷◌, ◌++◌, length, take, slice_get, Option, Some, None, IsSome, refl, sym, ap,
-    subst, ◌∙◌, append_assoc, add-one, arith}
+use Rattle.std.proofs.Common.{◌≡◌, ◌≢◌, ℕ, zero, suc, ◌+◌, ◌<◌, ◌≤◌, List, [], ◌∷◌, ◌++◌, length, take, slice_get, Option, Some, None, IsSome, refl, sym, ap}
+use Rattle.std.proofs.Common.{subst, ◌∙◌, append_assoc, add-one, arith}
 use Rattle.std.specs.List.{flat_map}
 use Rattle.std.proofs.lemmas.List.{append-nil, length-append}
 use Rattle.std.proofs.lemmas.Grind.{flat_map-append}
@@ -42,8 +42,11 @@ pub record StandsAt (given : Pairs) (n : ℕ) (pair : List ℕ × Typed) : Type 
 pub stands_at : (given : Pairs) (n : ℕ) (pair : List ℕ × Typed) → slice_get given n ≡ Some pair → StandsAt given n pair
 stands_at [] n pair is = cc
 stands_at (p ∷ ps) zero pair is = let same : p ≡ pair = cc in record { rest = ps; whole = ap (λ q. q ∷ ps) same; more = ap (λ q. q ∷ []) same }
-stands_at (p ∷ ps) (suc n) pair is = let s = stands_at ps n pair is in record { rest = s.rest; whole = ap (λ qs. p ∷ qs) s.whole;
-    more = ap (λ qs. p ∷ qs) s.more }
+stands_at (p ∷ ps) (suc n) pair is = let s = stands_at ps n pair is in record {
+  rest = s.rest;
+  whole = ap (λ qs. p ∷ qs) s.whole;
+  more = ap (λ qs. p ∷ qs) s.more;
+}
 
 pub none_past_end : (given : Pairs) (n : ℕ) → n < length given → slice_get given n ≢ None
 none_past_end [] n lt is = absurd (omega arith)
@@ -76,30 +79,30 @@ empty (v ∷ vs) le = absurd (omega arith)
 pub no_answer_before : (session : Session) (p : Preferences) (tag max_recv : Option ℕ) (given : Pairs) (n : ℕ) (pair : List ℕ × Typed) (pairs : Pairs) →
     IsMeaning given → StandsAt given n pair
     → Arranges (declarations tag max_recv ++ flat_map (answers_to session p) (take n given)) pairs → IsSome (answer_value session p pair.0 pair.1) →
-        values_of pair.0 pairs ≡ []
+    values_of pair.0 pairs ≡ []
 no_answer_before session p tag max_recv given n pair pairs is at arranges some =
     let single : length (values_of pair.0 given) ≤ 1 = is.single pair.0 (λ same. apart_from_unanswered session p target_address pair.0 pair.1
-        (unanswered_address session p pair.1) some (sym same)) in
+    (unanswered_address session p pair.1) some (sym same)) in
     let before = values_of-append pair.0 (take n given) (pair ∷ at.rest) in
     let here = values_of-same pair.0 pair at.rest refl in
     let size = ap length (ap (values_of pair.0) at.whole ∙ before ∙ ap (λ vs. values_of pair.0 (take n given) ++ vs) here) in
     let none : values_of pair.0 (take n given) ≡ [] = empty (values_of pair.0 (take n given))
-        (omega (arith, size, single, length-append (values_of pair.0 (take n given)) (pair.1 ∷ values_of pair.0 at.rest))) in
+    (omega (arith, size, single, length-append (values_of pair.0 (take n given)) (pair.1 ∷ values_of pair.0 at.rest))) in
     arranges.same pair.0 ∙ values_of-append pair.0 (declarations tag max_recv) (flat_map (answers_to session p) (take n given))
     ∙ ap (λ vs. vs ++ values_of pair.0 (flat_map (answers_to session p) (take n given)))
-        (undeclared pair.0 tag max_recv (apart_from_unanswered session p max_recv_key pair.0 pair.1 (unanswered_max_recv session p pair.1) some)
-        (apart_from_unanswered session p tag_key pair.0 pair.1 (unanswered_tag session p pair.1) some))
+    (undeclared pair.0 tag max_recv (apart_from_unanswered session p max_recv_key pair.0 pair.1 (unanswered_max_recv session p pair.1) some)
+    (apart_from_unanswered session p tag_key pair.0 pair.1 (unanswered_tag session p pair.1) some))
     ∙ values_of-answers session p pair.0 (take n given) ∙ ap (flat_map (answer_values session p pair.0)) none
 
 -- one more pair answered
 pub answered_more : (session : Session) (p : Preferences) (declared given : Pairs) (n : ℕ) (pair : List ℕ × Typed) (old new : Pairs) → StandsAt given n pair
     → Arranges (declared ++ flat_map (answers_to session p) (take n given)) old → Arranges (old ++ answers_to session p pair) new →
-        Arranges (declared ++ flat_map (answers_to session p) (take (n + 1) given)) new
+    Arranges (declared ++ flat_map (answers_to session p) (take (n + 1) given)) new
 answered_more session p declared given n pair old new at first then =
     let more = arranges_more (declared ++ flat_map (answers_to session p) (take n given)) old (answers_to session p pair) new first then in
     let row : flat_map (answers_to session p) (take (n + 1) given) ≡ flat_map (answers_to session p) (take n given) ++ answers_to session p pair =
     ap (λ k. flat_map (answers_to session p) (take k given)) (add-one n) ∙ ap (flat_map (answers_to session p)) at.more
-        ∙ flat_map-append (answers_to session p) (take n given) (pair ∷ [])
+    ∙ flat_map-append (answers_to session p) (take n given) (pair ∷ [])
     ∙ ap (λ qs. flat_map (answers_to session p) (take n given) ++ qs) (append-nil (answers_to session p pair)) in
     subst (λ ps. Arranges ps new) (append_assoc declared (flat_map (answers_to session p) (take n given)) (answers_to session p pair)
-        ∙ ap (λ qs. declared ++ qs) (sym row)) more
+    ∙ ap (λ qs. declared ++ qs) (sym row)) more

@@ -1,6 +1,6 @@
 -- The answer to a text is what some text means.
-use Rattle.std.proofs.Common.{◌≡◌, ◌≢◌, ℕ, ◌^◌, ◌<◌, ◌≤◌, Bool, true, false, cond, ◌||◌, List, [], ◌∷◌, ◌++◌, length, find, Option, Some, None, is_some, refl,
-    sym, ap, subst, ◌∙◌, inl, inr, arith, codes}
+use Rattle.std.proofs.Common.{◌≡◌, ◌≢◌, ℕ, ◌^◌, ◌<◌, ◌≤◌, Bool, true, false, cond, ◌||◌, List, [], ◌∷◌, ◌++◌, length, find, Option, Some, None, is_some, refl}
+use Rattle.std.proofs.Common.{sym, ap, subst, ◌∙◌, inl, inr, arith, codes}
 use Rattle.std.specs.List.{flat_map, AllByRecursion}
 use Rattle.std.specs.Option.{option_map, option_map_or, option_to_list, IfSome}
 use Rattle.std.specs.Str.{bytes_eq}
@@ -27,8 +27,8 @@ use Rattle.iscsi_login.specs.declared.preferences.Answered.TheVariants.{Number, 
 use Rattle.iscsi_login.specs.declared.preferences.Preferences.{Preferences}
 use Rattle.iscsi_login.specs.Key.{name_of, rule_of, all_keys, key_named, is_irrelevant}
 use Rattle.iscsi_login.specs.Negotiation.{IsInRange, Allows, result_of, preference, word, answered_value}
-use Rattle.iscsi_login.specs.Answer.{answer_to, other_answer, answered_no, rejected, answer_value, answers_to, pairs_with, max_recv_key, tag_key, declarations,
-    answer}
+use Rattle.iscsi_login.specs.Answer.{answer_to, other_answer, answered_no, rejected, answer_value, answers_to, pairs_with, max_recv_key, tag_key, declarations}
+use Rattle.iscsi_login.specs.Answer.{answer}
 use Rattle.iscsi_login.proofs.AgreementLaw.{outcome, preference_allowed}
 use Rattle.iscsi_login.proofs.AnswerLemmas.{values_of-answer, answer_values, undeclared}
 use Rattle.iscsi_login.proofs.AnswerLoopLemmas.{unanswered_tag}
@@ -55,8 +55,11 @@ kind_of_name keys.MaxConnections = refl
 kind_of_name _ = refl
 
 pub writable_number : (n : ℕ) → n < 2 ^ 64 → Writable (Some kinds.Number) (values.Number n)
-writable_number n small = let spells = canonical_spells n small in record { bytes = canonical_number n; ends = spelling_no_zero (canonical_number n) n spells;
-    means = spells }
+writable_number n small = let spells = canonical_spells n small in record {
+  bytes = canonical_number n;
+  ends = spelling_no_zero (canonical_number n) n spells;
+  means = spells;
+}
 
 writable_boolean : (b : Bool) → Writable (Some kinds.Boolean) (values.Boolean b)
 writable_boolean true = record { bytes = codes "Yes"; ends = no_zero_from (codes "Yes") refl; means = refl }
@@ -64,12 +67,18 @@ writable_boolean false = record { bytes = codes "No"; ends = no_zero_from (codes
 
 -- the words are no numbers, and lists of one item
 reject_unspelled : (n : ℕ) → ¬ Spells (codes "Reject") n
-reject_unspelled n spells = elim spells.form [ inl decimal ↦ (let digit = decimal.digits.1.0 in omega arith) | inr hexadecimal ↦ (let first = hexadecimal.0 in
-    omega arith) ]
+reject_unspelled n spells = elim spells.form [
+  | inl decimal ↦ (let digit = decimal.digits.1.0 in omega arith)
+  | inr hexadecimal ↦ (let first = hexadecimal.0 in
+      omega arith)
+]
 
 irrelevant_unspelled : (n : ℕ) → ¬ Spells (codes "Irrelevant") n
-irrelevant_unspelled n spells = elim spells.form [ inl decimal ↦ (let digit = decimal.digits.1.0 in
-    omega arith) | inr hexadecimal ↦ (let first = hexadecimal.0 in omega arith) ]
+irrelevant_unspelled n spells = elim spells.form [
+  | inl decimal ↦ (let digit = decimal.digits.1.0 in
+      omega arith)
+  | inr hexadecimal ↦ (let first = hexadecimal.0 in omega arith)
+]
 
 boolean_no_reject : (b : Bool) → codes "Reject" ≢ boolean_text b
 boolean_no_reject true e = cc
@@ -84,18 +93,30 @@ writable_reject (rules.Minimum range) = record { bytes = codes "Reject"; ends = 
 writable_reject (rules.Maximum range) = record { bytes = codes "Reject"; ends = no_zero_from (codes "Reject") refl; means = (refl, reject_unspelled) }
 writable_reject rules.Or = record { bytes = codes "Reject"; ends = no_zero_from (codes "Reject") refl; means = (refl, boolean_no_reject) }
 writable_reject rules.And = record { bytes = codes "Reject"; ends = no_zero_from (codes "Reject") refl; means = (refl, boolean_no_reject) }
-writable_reject rules.NoneItem = record { bytes = codes "Reject"; ends = no_zero_from (codes "Reject") refl;
-    means = (refl, All-from_recursion (λ item. 0 < length item) (codes "Reject" ∷ []) (omega arith, tt)) }
+writable_reject rules.NoneItem = record {
+  bytes = codes "Reject";
+  ends = no_zero_from (codes "Reject") refl;
+  means = (refl, All-from_recursion (λ item. 0 < length item) (codes "Reject" ∷ []) (omega arith, tt));
+}
 
 writable_irrelevant : (rule : Rule) → Writable (Some (kind_behind rule)) (word rule (codes "Irrelevant"))
-writable_irrelevant (rules.Minimum range) = record { bytes = codes "Irrelevant"; ends = no_zero_from (codes "Irrelevant") refl;
-    means = (refl, irrelevant_unspelled) }
-writable_irrelevant (rules.Maximum range) = record { bytes = codes "Irrelevant"; ends = no_zero_from (codes "Irrelevant") refl;
-    means = (refl, irrelevant_unspelled) }
+writable_irrelevant (rules.Minimum range) = record {
+  bytes = codes "Irrelevant";
+  ends = no_zero_from (codes "Irrelevant") refl;
+  means = (refl, irrelevant_unspelled);
+}
+writable_irrelevant (rules.Maximum range) = record {
+  bytes = codes "Irrelevant";
+  ends = no_zero_from (codes "Irrelevant") refl;
+  means = (refl, irrelevant_unspelled);
+}
 writable_irrelevant rules.Or = record { bytes = codes "Irrelevant"; ends = no_zero_from (codes "Irrelevant") refl; means = (refl, boolean_no_irrelevant) }
 writable_irrelevant rules.And = record { bytes = codes "Irrelevant"; ends = no_zero_from (codes "Irrelevant") refl; means = (refl, boolean_no_irrelevant) }
-writable_irrelevant rules.NoneItem = record { bytes = codes "Irrelevant"; ends = no_zero_from (codes "Irrelevant") refl;
-    means = (refl, All-from_recursion (λ item. 0 < length item) (codes "Irrelevant" ∷ []) (omega arith, tt)) }
+writable_irrelevant rules.NoneItem = record {
+  bytes = codes "Irrelevant";
+  ends = no_zero_from (codes "Irrelevant") refl;
+  means = (refl, All-from_recursion (λ item. 0 < length item) (codes "Irrelevant" ∷ []) (omega arith, tt));
+}
 
 -- allowed numbers are small
 abbrev pub highest : Rule → ℕ
@@ -116,8 +137,11 @@ writable_value rules.Or (Flag b) small a = writable_boolean b
 writable_value rules.Or _ small a = absurd a
 writable_value rules.And (Flag b) small a = writable_boolean b
 writable_value rules.And _ small a = absurd a
-writable_value rules.NoneItem NoneItem small a = record { bytes = codes "None"; ends = no_zero_from (codes "None") refl;
-    means = (refl, All-from_recursion (λ item. 0 < length item) (codes "None" ∷ []) (omega arith, tt)) }
+writable_value rules.NoneItem NoneItem small a = record {
+  bytes = codes "None";
+  ends = no_zero_from (codes "None") refl;
+  means = (refl, All-from_recursion (λ item. 0 < length item) (codes "None" ∷ []) (omega arith, tt));
+}
 writable_value rules.NoneItem _ small a = absurd a
 
 writable_answer : (session : Session) (p : Preferences) → IsInRange p → (key : NegKey) (v : Typed) →
@@ -169,8 +193,11 @@ kind_at name key kind is e = ap kind_of (sym (same_key name key e)) ∙ is
 answered_no_kind : (key : List ℕ) → is_among answered_no key ≡ true → kind_of key ≡ Some kinds.Boolean
 answered_no_kind key e = elim (or_cases (bytes_eq (codes "IFMarker") key) (bytes_eq (codes "OFMarker") key || false) e) [
   | inl one ↦ kind_at (codes "IFMarker") key (Some kinds.Boolean) kind_no_1 one
-  | inr more ↦ elim (or_cases (bytes_eq (codes "OFMarker") key) false more) [ inl two ↦ kind_at (codes "OFMarker") key (Some kinds.Boolean) kind_no_2 two | inr
-      none ↦ cc ]
+  | inr more ↦ elim (or_cases (bytes_eq (codes "OFMarker") key) false more) [
+    | inl two ↦ kind_at (codes "OFMarker") key (Some kinds.Boolean) kind_no_2 two
+    | inr
+        none ↦ cc
+  ]
 ]
 
 rejected_kind : (key : List ℕ) → is_among rejected key ≡ true → kind_of key ≡ Some kinds.Plain
@@ -194,13 +221,13 @@ writable_other key w e = no (is_among answered_no key) refl e
     last true known found = cc
     last false unknown found = let is : values.Plain (codes "NotUnderstood") ≡ w = cc in
         subst (λ kind. Writable kind w) (sym (unknown_kind (kind_of key) unknown))
-            (subst (Writable None) is (record { bytes = codes "NotUnderstood"; ends = no_zero_from (codes "NotUnderstood") refl; means = refl }))
+        (subst (Writable None) is (record { bytes = codes "NotUnderstood"; ends = no_zero_from (codes "NotUnderstood") refl; means = refl }))
 
     reject : (t : Bool) → is_among rejected key ≡ t → cond t (Some (values.Plain (codes "Reject")))
         (cond (is_some (kind_of key)) None (Some (values.Plain (codes "NotUnderstood")))) ≡ Some w → Writable (kind_of key) w
     reject true is_ found = let is : values.Plain (codes "Reject") ≡ w = cc in
         subst (λ kind. Writable kind w) (sym (rejected_kind key is_)) (subst (Writable (Some kinds.Plain)) is
-            (record { bytes = codes "Reject"; ends = no_zero_from (codes "Reject") refl; means = refl }))
+        (record { bytes = codes "Reject"; ends = no_zero_from (codes "Reject") refl; means = refl }))
     reject false not_ found = last (is_some (kind_of key)) refl found
 
     no : (t : Bool) → is_among answered_no key ≡ t → cond t (Some (values.Boolean false))
@@ -238,7 +265,7 @@ answers_are session p range [] all = tt
 answers_are session p range (pair ∷ given) all =
     all_append IsPair (answers_to session p pair) (flat_map (answers_to session p) given)
     (pairs_are pair.0 (answer_value session p pair.0 pair.1) all.0.key (λ w e. writable_any session p range pair.0 pair.1 w e))
-        (answers_are session p range given all.1)
+    (answers_are session p range given all.1)
 
 pub kind_max_recv : kind_of max_recv_key ≡ Some kinds.Number
 unfolding kind_of
@@ -265,8 +292,12 @@ at_most_one (Some x) = omega arith
 
 answered_at_most : (session : Session) (p : Preferences) (key : List ℕ) (vs : List Typed) → length (flat_map (answer_values session p key) vs) ≤ length vs
 answered_at_most session p key [] = omega arith
-answered_at_most session p key (v ∷ vs) = omega (arith, answered_at_most session p key vs, at_most_one (answer_value session p key v),
-    length-append (answer_values session p key v) (flat_map (answer_values session p key) vs))
+answered_at_most session p key (v ∷ vs) = omega (
+  arith,
+  answered_at_most session p key vs,
+  at_most_one (answer_value session p key v),
+  length-append (answer_values session p key v) (flat_map (answer_values session p key) vs),
+)
 
 pub answer_meaning : (session : Session) (p : Preferences) → IsInRange p → (tag max_recv : Option ℕ) → IfSome tag (λ n. n < 2 ^ 64) →
     IfSome max_recv (λ n. n < 2 ^ 64) → (given : Pairs) → IsMeaning given → IsMeaning (answer session p tag max_recv given)
@@ -277,18 +308,27 @@ answer_meaning session p range tag max_recv small_tag small_max given is = recor
         ≤ 1) same (omega (arith, ap length (answered_lengths session p tag max_recv given), at_most_one (option_map values.Number max_recv)))
     | inr not_max ↦ elim (key_cases tag_key key) [
       | inl same ↦ subst (λ k. length (values_of k (answer session p tag max_recv given))
-          ≤ 1) same (omega (arith, at_most_one (option_map values.Number tag), ap length (values_of-answer session p tag max_recv given tag_key
-          ∙ ap (λ vs. values_of tag_key (declarations tag max_recv) ++ vs) (unanswered session p tag_key (values_of tag_key given) (unanswered_tag session p))
-          ∙ append-nil (values_of tag_key (declarations tag max_recv)) ∙ declared_tags tag max_recv)))
-      | inr not_tag ↦ omega (arith, is.single key other, answered_at_most session p key (values_of key given),
-          ap length (values_of-answer session p tag max_recv given key ∙ ap (λ vs. vs ++ flat_map (answer_values session p key) (values_of key given))
-          (undeclared key tag max_recv not_max not_tag)))
+          ≤ 1) same (omega (
+            arith,
+            at_most_one (option_map values.Number tag),
+            ap length (values_of-answer session p tag max_recv given tag_key
+                ∙ ap (λ vs. values_of tag_key (declarations tag max_recv) ++ vs)
+                (unanswered session p tag_key (values_of tag_key given) (unanswered_tag session p))
+                ∙ append-nil (values_of tag_key (declarations tag max_recv)) ∙ declared_tags tag max_recv),
+          ))
+      | inr not_tag ↦ omega (
+        arith,
+        is.single key other,
+        answered_at_most session p key (values_of key given),
+        ap length (values_of-answer session p tag max_recv given key ∙ ap (λ vs. vs ++ flat_map (answer_values session p key) (values_of key given))
+            (undeclared key tag max_recv not_max not_tag)),
+      )
     ]
   ];
   each = all_in_order IsPair (declarations tag max_recv ++ flat_map (answers_to session p) given)
       (all_append IsPair (declarations tag max_recv) (flat_map (answers_to session p) given)
       (all_append IsPair (pairs_with max_recv_key (option_map values.Number max_recv)) (pairs_with tag_key (option_map values.Number tag))
       (number_is max_recv_key (key_from max_recv_key refl refl refl) kind_max_recv max_recv small_max)
-          (number_is tag_key (key_from tag_key refl refl refl) kind_tag tag small_tag))
+      (number_is tag_key (key_from tag_key refl refl refl) kind_tag tag small_tag))
       (answers_are session p range given is.each));
 }

@@ -1,6 +1,6 @@
 -- An answer in which no key is bad is a good one, and a good one has none.
-use Rattle.std.proofs.Common.{◌≡◌, ◌≢◌, ℕ, ◌<◌, ◌≤◌, Bool, true, false, not, ◌&&◌, ◌||◌, List, [], ◌∷◌, ◌++◌, length, map, find, nat_le, Option, Some, None,
-    is_some, is_none, slice_get, if◌then◌else◌, refl, sym, ap, subst, ◌∙◌, inl, inr, arith}
+use Rattle.std.proofs.Common.{◌≡◌, ◌≢◌, ℕ, ◌<◌, ◌≤◌, Bool, true, false, not, ◌&&◌, ◌||◌, List, [], ◌∷◌, ◌++◌, length, map, find, nat_le, Option, Some, None}
+use Rattle.std.proofs.Common.{is_some, is_none, slice_get, if◌then◌else◌, refl, sym, ap, subst, ◌∙◌, inl, inr, arith}
 use Rattle.std.specs.List.{AllByRecursion}
 use Rattle.std.specs.Option.{IfSome}
 use Rattle.std.specs.Str.{bytes_eq}
@@ -106,7 +106,7 @@ key_is_short offered answer meaning =
     short_of (find (is_bad offered) answer) (key_or (find (is_unanswered answer) offered) None)
     (key_size (find (is_bad offered) answer) (found_has IsPair (is_bad offered) answer meaning.each))
     (short_of (find (is_unanswered answer) offered) None (unanswered_size answer (find (is_unanswered answer) offered)
-        (found_passes (is_unanswered answer) offered)) tt)
+    (found_passes (is_unanswered answer) offered)) tt)
 
 -- ---- without a bad key it is good
 
@@ -144,7 +144,7 @@ good_key offered name v e = list_any-append (λ k. bytes_eq k name) (map name_of
     by None is =
         let good : may_declare (name, v) ≡ true = not-false (may_declare (name, v)) (sym (ap (λ k. not (is_good_pair k offered (name, v))) is) ∙ e) in
         or_right (is_among (map name_of all_keys) name) (is_among declarable name)
-            (and_parts (is_among declarable name) (not (bytes_eq name max_recv_key) || is_segment_length v) good).0
+        (and_parts (is_among declarable name) (not (bytes_eq name max_recv_key) || is_segment_length v) good).0
 
 good_keys : (offered : Pairs) (name : List ℕ) (vs : List Typed) → AllByRecursion (λ v. is_bad offered (name, v) ≡ false) vs → 0 < length vs →
     is_among (map name_of all_keys ++ declarable) name ≡ true
@@ -154,18 +154,18 @@ good_keys offered name (v ∷ vs) all some = good_key offered name v all.0
 pub none_is_good : (offered answer : Pairs) → IsOffer offered → IsMeaning answer → bad_key offered answer ≡ None → IsGoodAnswer offered answer
 none_is_good offered answer offer meaning e =
     let parts : (find (is_bad offered) answer ≡ None) × (find (is_unanswered answer) offered ≡ None) =
-        neither (find (is_bad offered) answer) (find (is_unanswered answer) offered) e in
+    neither (find (is_bad offered) answer) (find (is_unanswered answer) offered) e in
     let good : AllByRecursion (λ p. is_bad offered p ≡ false) answer = none_passes (is_bad offered) answer parts.0 in
     let answered : AllByRecursion (λ p. is_unanswered answer p ≡ false) offered = none_passes (is_unanswered answer) offered parts.1 in
     record {
       negotiated = λ key.
           answers_from key (values_of (name_of key) offered) (values_of (name_of key) answer) (offer.single (name_of key) (not_address key))
-              (meaning.single (name_of key) (not_address key))
+          (meaning.single (name_of key) (not_address key))
           (all_from (λ v. is_bad offered (name_of key, v) ≡ false) (λ v. may_answer key (slice_get (values_of (name_of key) offered) 0) v ≡ true)
-              (values_of (name_of key) answer) (good_value key offered) (each_value (λ p. is_bad offered p ≡ false) answer good (name_of key)))
+          (values_of (name_of key) answer) (good_value key offered) (each_value (λ p. is_bad offered p ≡ false) answer good (name_of key)))
           (answered_value_of (values_of (name_of key) answer) (values_of (name_of key) offered)
           (all_from (λ v. is_unanswered answer (name_of key, v) ≡ false) (λ v. is_none (slice_get (values_of (name_of key) answer) 0) ≡ false)
-              (values_of (name_of key) offered)
+          (values_of (name_of key) offered)
           (λ v h. sym (ap (λ k. is_some k && is_none (slice_get (values_of (name_of key) answer) 0)) (key_named-name key)) ∙ h)
           (each_value (λ p. is_unanswered answer p ≡ false) offered answered (name_of key))));
       max_recv = lengths_of offered answer parts.0;
@@ -204,9 +204,10 @@ length_or_other name v is = by (bytes_eq name max_recv_key) is
 declared_values : (name : List ℕ) (vs : List Typed) → (0 < length vs → is_among declarable name ≡ true) →
     AllByRecursion (λ v. bytes_eq name max_recv_key ≡ true → is_segment_length v ≡ true) vs → AllByRecursion (λ v. may_declare (name, v) ≡ true) vs
 declared_values name [] some all = tt
-declared_values name (v ∷ vs) some all =
-    (and_from (is_among declarable name) (not (bytes_eq name max_recv_key) || is_segment_length v) (some (omega arith)) (length_or_other name v all.0),
-        declared_values name vs (λ more. some (omega arith)) all.1)
+declared_values name (v ∷ vs) some all = (
+  and_from (is_among declarable name) (not (bytes_eq name max_recv_key) || is_segment_length v) (some (omega arith)) (length_or_other name v all.0),
+  declared_values name vs (λ more. some (omega arith)) all.1,
+)
 
 lengths_pass : (answer : Pairs) (name : List ℕ) → AllByRecursion IsSegmentLength (values_of max_recv_key answer) →
     AllByRecursion (λ v. bytes_eq name max_recv_key ≡ true → is_segment_length v ≡ true) (values_of name answer)
@@ -230,10 +231,10 @@ good_at offered answer good name = by (key_named name) refl (named_is name)
         AllByRecursion (λ v. not (is_good_pair (key_named name) offered (name, v)) ≡ false) (values_of name answer)
     by (Some key) is same =
         all_from (λ v. may_answer key (slice_get (values_of name offered) 0) v ≡ true) (λ v. not (is_good_pair (key_named name) offered (name, v)) ≡ false)
-            (values_of name answer)
+        (values_of name answer)
         (λ v may. ap (λ k. not (is_good_pair k offered (name, v))) is ∙ not_from_true (may_answer key (slice_get (values_of name offered) 0) v) may)
         (subst (λ n. AllByRecursion (λ v. may_answer key (slice_get (values_of n offered) 0) v ≡ true) (values_of n answer)) same
-            (good_values key (values_of (name_of key) offered) (values_of (name_of key) answer) (good.negotiated key)))
+        (good_values key (values_of (name_of key) offered) (values_of (name_of key) answer) (good.negotiated key)))
     by None is same =
         all_from (λ v. may_declare (name, v) ≡ true) (λ v. not (is_good_pair (key_named name) offered (name, v)) ≡ false) (values_of name answer)
         (λ v may. ap (λ k. not (is_good_pair k offered (name, v))) is ∙ not_from_true (may_declare (name, v)) may)
@@ -242,9 +243,9 @@ good_at offered answer good name = by (key_named name) refl (named_is name)
         declared : key_named name ≡ None → 0 < length (values_of name answer) → is_among declarable name ≡ true
         declared is some = elim (or_cases (is_among (map name_of all_keys) name) (is_among declarable name)
             (sym (list_any-append (λ k. bytes_eq k name) (map name_of all_keys) declarable) ∙ good.others name some)) [
-          | inl named ↦ let bad : true ≡ false = sym named ∙ named_among name all_keys ∙ ap is_some is in cc
-          | inr here ↦ here
-        ]
+              | inl named ↦ let bad : true ≡ false = sym named ∙ named_among name all_keys ∙ ap is_some is in cc
+              | inr here ↦ here
+            ]
 
 -- each offered value has its answer
 answered_at : (offered answer : Pairs) → IsGoodAnswer offered answer → (name : List ℕ) →
@@ -264,6 +265,6 @@ answered_at offered answer good name = by (key_named name) (named_is name)
 pub good_is_taken : (offered answer : Pairs) → IsGoodAnswer offered answer → bad_key offered answer ≡ None
 good_is_taken offered answer good =
     ap (λ o. key_or o (key_or (find (is_unanswered answer) offered) None)) (none_found (is_bad offered) answer
-        (each_pair (λ p. is_bad offered p ≡ false) answer (good_at offered answer good)))
+    (each_pair (λ p. is_bad offered p ≡ false) answer (good_at offered answer good)))
     ∙ ap (λ o. key_or o None) (none_found (is_unanswered answer) offered (each_pair (λ p. is_unanswered answer p
-        ≡ false) offered (answered_at offered answer good)))
+    ≡ false) offered (answered_at offered answer good)))

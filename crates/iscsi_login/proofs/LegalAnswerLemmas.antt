@@ -73,10 +73,10 @@ choice key offer answer given one =
 pub legal_from : (key : NegKey) (offer answer : Typed) → is_legal key offer answer ≡ true → IsLegal key offer answer
 legal_from key offer answer e = elim (or_cases (is_word answer) (is_given (rule_of key) (value_of (rule_of key) offer) (value_of (rule_of key) answer)
     && is_one_item answer) e) [
-  | inl is ↦ inl is
-  | inr rest ↦ let both = and_parts (is_given (rule_of key) (value_of (rule_of key) offer) (value_of (rule_of key) answer)) (is_one_item answer) rest in
-      inr (choice key offer answer both.0 both.1)
-]
+      | inl is ↦ inl is
+      | inr rest ↦ let both = and_parts (is_given (rule_of key) (value_of (rule_of key) offer) (value_of (rule_of key) answer)) (is_one_item answer) rest in
+          inr (choice key offer answer both.0 both.1)
+    ]
 
 -- an allowed value in a text stands for itself, and has one item
 value_back : (rule : Rule) (v : Answered) → Allows rule v → value_of rule (answered_value rule v) ≡ v

@@ -1,6 +1,6 @@
 -- The offers are what some text means, and what an initiator may offer.
-use Rattle.std.proofs.Common.{◌≡◌, ℕ, ◌<◌, ◌≤◌, Bool, true, false, ◌&&◌, not, List, [], ◌∷◌, ◌++◌, map, length, refl, sym, ap, subst, ◌∙◌, inl, inr, arith,
-    codes}
+use Rattle.std.proofs.Common.{◌≡◌, ℕ, ◌<◌, ◌≤◌, Bool, true, false, ◌&&◌, not, List, [], ◌∷◌, ◌++◌, map, length, refl, sym, ap, subst, ◌∙◌, inl, inr, arith}
+use Rattle.std.proofs.Common.{codes}
 use Rattle.std.specs.List.{list_all}
 use Rattle.std.specs.Str.{bytes_eq}
 use Rattle.std.proofs.lemmas.Bool.{and_parts, not-true}
@@ -38,8 +38,11 @@ at_most_one key [] e = omega arith
 at_most_one key (p ∷ ps) e =
     let both = and_parts (is_new p.0 ps) (all_new ps) e in
     elim (key_cases p.0 key) [
-      | inl same ↦ omega (arith, ap length (values_of-same key p ps same ∙ ap (λ vs. p.1 ∷ vs)
-          (subst (λ k. values_of k ps ≡ []) same (new_absent p.0 ps both.0))))
+      | inl same ↦ omega (
+        arith,
+        ap length (values_of-same key p ps same ∙ ap (λ vs. p.1 ∷ vs)
+            (subst (λ k. values_of k ps ≡ []) same (new_absent p.0 ps both.0))),
+      )
       | inr other ↦ omega (arith, ap length (values_of-other key p ps other), at_most_one key ps both.1)
     ]
 

@@ -53,10 +53,12 @@ all_preferred p range [] = tt
 all_preferred p range (k ∷ ks) = (preferred_is p range k, all_preferred p range ks)
 
 operational_pairs : (o : Proposal) → IsInRange o.prefs → AllByRecursion IsPair (operational_offers o)
-operational_pairs o range =
-    (pair_of max_recv_key (values.Number o.prefs.max_recv) (key_from max_recv_key refl refl refl)
-        (subst (λ kind. Writable kind (values.Number o.prefs.max_recv)) (sym kind_max_recv)
-        (writable_number o.prefs.max_recv (omega (arith, range.max_recv.1)))), all_preferred o.prefs range operational_keys)
+operational_pairs o range = (
+  pair_of max_recv_key (values.Number o.prefs.max_recv) (key_from max_recv_key refl refl refl)
+      (subst (λ kind. Writable kind (values.Number o.prefs.max_recv)) (sym kind_max_recv)
+      (writable_number o.prefs.max_recv (omega (arith, range.max_recv.1)))),
+  all_preferred o.prefs range operational_keys,
+)
 
 kind_name : kind_of (codes "InitiatorName") ≡ Some kinds.Plain
 unfolding kind_of
@@ -85,29 +87,49 @@ target_is Discovery name none = tt
 names_are : (o : Proposal) → HasNo 0 o.initiator → HasNo 0 o.target → AllByRecursion IsPair (names o)
 names_are o initiator target = (
   plain_is (codes "InitiatorName") o.initiator (key_from (codes "InitiatorName") refl refl refl) kind_name initiator,
-  (plain_is (codes "SessionType") (session_name o.session) (key_from (codes "SessionType") refl refl refl) kind_type (session_no_zero o.session),
-      target_is o.session o.target target),
+  (
+    plain_is (codes "SessionType") (session_name o.session) (key_from (codes "SessionType") refl refl refl) kind_type (session_no_zero o.session),
+    target_is o.session o.target target,
+  ),
 )
 
 auth_is : (a : Auth) → Writable (Some kinds.Items) (values.Items (auth_items a))
-auth_is auths.None = record { bytes = codes "None"; ends = no_zero_from (codes "None") refl;
-    means = (refl, All-from_recursion (λ item. 0 < length item) (codes "None" ∷ []) (omega arith, tt)) }
-auth_is auths.ChapOrNone = record { bytes = codes "CHAP,None"; ends = no_zero_from (codes "CHAP,None") refl;
-    means = (refl, All-from_recursion (λ item. 0 < length item) (codes "CHAP" ∷ codes "None" ∷ []) (omega arith, (omega arith, tt))) }
-auth_is auths.Chap = record { bytes = codes "CHAP"; ends = no_zero_from (codes "CHAP") refl;
-    means = (refl, All-from_recursion (λ item. 0 < length item) (codes "CHAP" ∷ []) (omega arith, tt)) }
+auth_is auths.None = record {
+  bytes = codes "None";
+  ends = no_zero_from (codes "None") refl;
+  means = (refl, All-from_recursion (λ item. 0 < length item) (codes "None" ∷ []) (omega arith, tt));
+}
+auth_is auths.ChapOrNone = record {
+  bytes = codes "CHAP,None";
+  ends = no_zero_from (codes "CHAP,None") refl;
+  means = (refl, All-from_recursion (λ item. 0 < length item) (codes "CHAP" ∷ codes "None" ∷ []) (omega arith, (omega arith, tt)));
+}
+auth_is auths.Chap = record {
+  bytes = codes "CHAP";
+  ends = no_zero_from (codes "CHAP") refl;
+  means = (refl, All-from_recursion (λ item. 0 < length item) (codes "CHAP" ∷ []) (omega arith, tt));
+}
 
 security_pairs : (o : Proposal) → HasNo 0 o.initiator → HasNo 0 o.target → AllByRecursion IsPair (security_offers o)
-security_pairs o initiator target = (pair_of (codes "AuthMethod") (values.Items (auth_items o.auth)) (name_is_key keys.AuthMethod)
-    (subst (λ k. Writable k (values.Items (auth_items o.auth))) (sym (kind_of_name keys.AuthMethod)) (auth_is o.auth)), names_are o initiator target)
+security_pairs o initiator target = (
+  pair_of (codes "AuthMethod") (values.Items (auth_items o.auth)) (name_is_key keys.AuthMethod)
+      (subst (λ k. Writable k (values.Items (auth_items o.auth))) (sym (kind_of_name keys.AuthMethod)) (auth_is o.auth)),
+  names_are o initiator target,
+)
 
 pub security_text_is : (o : Proposal) → HasNo 0 o.initiator → HasNo 0 o.target → IsMeaning (in_order (security_offers o))
-security_text_is o initiator target = record { in_order = in_order_is (security_offers o); single = (security_is_offer o).single;
-    each = all_in_order IsPair (security_offers o) (security_pairs o initiator target) }
+security_text_is o initiator target = record {
+  in_order = in_order_is (security_offers o);
+  single = (security_is_offer o).single;
+  each = all_in_order IsPair (security_offers o) (security_pairs o initiator target);
+}
 
 pub operational_text_is : (o : Proposal) → IsInRange o.prefs → IsMeaning (in_order (operational_offers o))
-operational_text_is o range = record { in_order = in_order_is (operational_offers o); single = (operational_is_offer o).single;
-    each = all_in_order IsPair (operational_offers o) (operational_pairs o range) }
+operational_text_is o range = record {
+  in_order = in_order_is (operational_offers o);
+  single = (operational_is_offer o).single;
+  each = all_in_order IsPair (operational_offers o) (operational_pairs o range);
+}
 
 pub single_text_is : (o : Proposal) → HasNo 0 o.initiator → HasNo 0 o.target → IsInRange o.prefs → IsMeaning (in_order (single_offers o))
 single_text_is o initiator target range = record {

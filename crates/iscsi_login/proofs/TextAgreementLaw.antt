@@ -1,6 +1,6 @@
 -- The ends agree on whole texts.
-use Rattle.std.proofs.Common.{◌≡◌, ◌≢◌, ℕ, ◌<◌, ◌≤◌, true, false, ◌||◌, List, [], ◌∷◌, ◌++◌, map, length, Option, Some, None, unwrap_or, refl, sym, ap, subst,
-    ◌∙◌, inl, inr, arith, codes}
+use Rattle.std.proofs.Common.{◌≡◌, ◌≢◌, ℕ, ◌<◌, ◌≤◌, true, false, ◌||◌, List, [], ◌∷◌, ◌++◌, map, length, Option, Some, None, unwrap_or, refl, sym, ap, subst}
+use Rattle.std.proofs.Common.{◌∙◌, inl, inr, arith, codes}
 use Rattle.std.specs.List.{flat_map, AllByRecursion}
 use Rattle.std.specs.Option.{option_map, option_to_list, IfSome}
 use Rattle.std.specs.Str.{bytes_eq}
@@ -21,8 +21,8 @@ use Rattle.iscsi_login.specs.declared.preferences.Preferences.{Preferences}
 use Rattle.iscsi_login.specs.Key.{name_of, all_keys, IsWithin}
 use Rattle.iscsi_login.specs.Negotiation.{IsInRange, max_recv_range}
 use Rattle.iscsi_login.specs.Held.{Held, held_value}
-use Rattle.iscsi_login.specs.Answer.{IsSegmentLength, answer_to, answer_value, held_by_target, held_by_initiator, first_or, first_number, declared_max_recv,
-    max_recv_key, tag_key, declarations, answer, target_holds, initiator_holds}
+use Rattle.iscsi_login.specs.Answer.{IsSegmentLength, answer_to, answer_value, held_by_target, held_by_initiator, first_or, first_number, declared_max_recv}
+use Rattle.iscsi_login.specs.Answer.{max_recv_key, tag_key, declarations, answer, target_holds, initiator_holds}
 use Rattle.iscsi_login.specs.Check.{Answers, declarable, described, IsOffer, IsGoodAnswer}
 use Rattle.iscsi_login.proofs.AgreementLaw.{answer_legal, ends_agree}
 use Rattle.iscsi_login.proofs.AnswerLemmas.{answers_of_key, values_of-answer, answer_values, undeclared}
@@ -55,7 +55,7 @@ pub answered_lengths : (session : Session) (p : Preferences) (tag max_recv : Opt
 answered_lengths session p tag max_recv given =
     values_of-answer session p tag max_recv given max_recv_key
     ∙ ap (λ vs. values_of max_recv_key (declarations tag max_recv) ++ vs) (unanswered session p max_recv_key (values_of max_recv_key given)
-        (unanswered_max_recv session p))
+    (unanswered_max_recv session p))
     ∙ append-nil (values_of max_recv_key (declarations tag max_recv)) ∙ declared_lengths tag max_recv
 
 number_again : (m : Option ℕ) → first_number (option_to_list (option_map values.Number m)) ≡ m
@@ -67,14 +67,14 @@ pub texts_agree : (session : Session) (p : Preferences) → IsInRange p → (tag
     → initiator_holds (declared_max_recv given) (answer session p tag max_recv given) held ≡ target_holds session p max_recv given held
 texts_agree session p is tag max_recv given held =
     let each : (key : NegKey) → first_or (held_by_initiator key) (held_value held key) (values_of (name_of key) (answer session p tag max_recv given))
-        ≡ first_or (held_by_target session p key) (held_value held key) (values_of (name_of key) given) =
+    ≡ first_or (held_by_target session p key) (held_value held key) (values_of (name_of key) given) =
     λ key. ap (first_or (held_by_initiator key) (held_value held key)) (answers_of_key session p tag max_recv given key)
-        ∙ held_same session p is key (held_value held key) (values_of (name_of key) given) in
+    ∙ held_same session p is key (held_value held key) (values_of (name_of key) given) in
     let lengths : unwrap_or (declared_max_recv (answer session p tag max_recv given)) held.target_max_recv ≡ unwrap_or max_recv held.target_max_recv =
     ap (λ vs. unwrap_or (first_number vs) held.target_max_recv) (answered_lengths session p tag max_recv given)
-        ∙ ap (λ m. unwrap_or m held.target_max_recv) (number_again max_recv) in
+    ∙ ap (λ m. unwrap_or m held.target_max_recv) (number_again max_recv) in
     let all = map_same (λ key. first_or (held_by_initiator key) (held_value held key) (values_of (name_of key) (answer session p tag max_recv given)))
-        (λ key. first_or (held_by_target session p key) (held_value held key) (values_of (name_of key) given)) all_keys each in
+    (λ key. first_or (held_by_target session p key) (held_value held key) (values_of (name_of key) given)) all_keys each in
     λ i. record { values = all i; initiator_max_recv = unwrap_or (declared_max_recv given) held.initiator_max_recv; target_max_recv = lengths i }
 
 -- one answer for each value
@@ -118,18 +118,18 @@ declared_keys_unanswered : (session : Session) (p : Preferences) (key : List ℕ
     flat_map (answer_values session p key) vs ≡ []
 declared_keys_unanswered session p key vs e = elim (or_cases (bytes_eq (codes "InitiatorName") key)
     (bytes_eq (codes "SessionType") key || (bytes_eq (codes "TargetName") key || (bytes_eq max_recv_key key || false))) e) [
-  | inl one ↦ unanswered_at session p (codes "InitiatorName") key vs (unanswered_name session p) one
-  | inr more ↦ elim (or_cases (bytes_eq (codes "SessionType") key) (bytes_eq (codes "TargetName") key || (bytes_eq max_recv_key key || false)) more) [
-    | inl two ↦ unanswered_at session p (codes "SessionType") key vs (unanswered_type session p) two
-    | inr more ↦ elim (or_cases (bytes_eq (codes "TargetName") key) (bytes_eq max_recv_key key || false) more) [
-      | inl three ↦ unanswered_at session p (codes "TargetName") key vs (unanswered_target session p) three
-      | inr more ↦ elim (or_cases (bytes_eq max_recv_key key) false more) [
-        | inl four ↦ unanswered_at session p max_recv_key key vs (unanswered_max_recv session p) four
-        | inr none ↦ cc
+      | inl one ↦ unanswered_at session p (codes "InitiatorName") key vs (unanswered_name session p) one
+      | inr more ↦ elim (or_cases (bytes_eq (codes "SessionType") key) (bytes_eq (codes "TargetName") key || (bytes_eq max_recv_key key || false)) more) [
+        | inl two ↦ unanswered_at session p (codes "SessionType") key vs (unanswered_type session p) two
+        | inr more ↦ elim (or_cases (bytes_eq (codes "TargetName") key) (bytes_eq max_recv_key key || false) more) [
+          | inl three ↦ unanswered_at session p (codes "TargetName") key vs (unanswered_target session p) three
+          | inr more ↦ elim (or_cases (bytes_eq max_recv_key key) false more) [
+            | inl four ↦ unanswered_at session p max_recv_key key vs (unanswered_max_recv session p) four
+            | inr none ↦ cc
+          ]
+        ]
       ]
     ]
-  ]
-]
 
 -- what has an answer is negotiated
 offered_some : (session : Session) (p : Preferences) (key : List ℕ) (vs : List Typed) → 0 < length (flat_map (answer_values session p key) vs) → 0 < length vs
@@ -140,8 +140,8 @@ negotiated_key : (session : Session) (p : Preferences) (offered : Pairs) → IsO
     < length (flat_map (answer_values session p key) (values_of key offered)) → is_among (map name_of all_keys ++ declarable) key ≡ true
 negotiated_key session p offered is key some =
     elim (or_cases (is_among (map name_of all_keys) key) (is_among described key)
-        (sym (list_any-append (λ name. bytes_eq name key) (map name_of all_keys) described)
-        ∙ is.keys key (offered_some session p key (values_of key offered) some))) [
+    (sym (list_any-append (λ name. bytes_eq name key) (map name_of all_keys) described)
+    ∙ is.keys key (offered_some session p key (values_of key offered) some))) [
       | inl named ↦ list_any-append (λ name. bytes_eq name key) (map name_of all_keys) declarable
           ∙ or_left (is_among (map name_of all_keys) key) (is_among declarable key) named
       | inr other ↦ let none = ap length (declared_keys_unanswered session p key (values_of key offered) other) in absurd (omega (arith, some, none))

@@ -1,4 +1,5 @@
--- What an end holds of a login: a value of each negotiated key, and what each end takes (RFC 7143, section 13).
+-- What an end holds of a login: a value of each negotiated key, and what each end takes (RFC 7143,
+-- section 13).
 use Rattle.std.specs.Prelude.{ℕ, Bool, false, List, map, min, slice_index_or}
 use Rattle.iscsi_login.specs.declared.key.NegKey.{NegKey}
 use Rattle.iscsi_login.specs.declared.key.NegKey.TheVariants as keys

@@ -73,7 +73,8 @@ max_recv_pair p = (max_recv_key, values.Number p.max_recv)
 abbrev pub operational_offers : Proposal → Pairs
 operational_offers o = max_recv_pair o.prefs ∷ map (preferred_pair o.prefs) operational_keys
 
--- Both, without the authentication, where a login starts in the operational stage (section 6.3; own rule).
+-- Both, without the authentication, where a login starts in the operational stage (section 6.3; own
+-- rule).
 abbrev pub single_offers : Proposal → Pairs
 single_offers o = names o ++ operational_offers o
 

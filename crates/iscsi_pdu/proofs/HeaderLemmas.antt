@@ -1,6 +1,6 @@
 -- A header has one head, and the canonical header of a head has that head.
-use Rattle.std.proofs.Common.{◌≡◌, ℕ, ◌+◌, ◌-◌, ◌^◌, ◌<◌, ◌≤◌, slice_range, Bool, true, false, ltb, List, [], ◌∷◌, ◌++◌, length, get_or, take, drop, replicate,
-    Some, None, Result, Ok, Err, refl, sym, ap, subst, ◌∙◌, arith, rules, inl, inr, length-take, length-append, append_assoc, lit<}
+use Rattle.std.proofs.Common.{◌≡◌, ℕ, ◌+◌, ◌-◌, ◌^◌, ◌<◌, ◌≤◌, slice_range, Bool, true, false, ltb, List, [], ◌∷◌, ◌++◌, length, get_or, take, drop, replicate}
+use Rattle.std.proofs.Common.{Some, None, Result, Ok, Err, refl, sym, ap, subst, ◌∙◌, arith, rules, inl, inr, length-take, length-append, append_assoc, lit<}
 use Rattle.std.specs.Prelude.{◌&&◌, IfOk}
 use Rattle.std.specs.Result.{result_err}
 use Rattle.std.specs.Bool.{OnTrue}
@@ -11,14 +11,16 @@ use Rattle.scsi_cdb.proofs.LayoutLemmas.{is_table, put_all-holds, length-put_all
 use Rattle.scsi_cdb.specs.Blocks as cdb
 use Rattle.scsi_cdb.proofs.RecordLemmas as records
 use Rattle.iscsi_pdu.specs.declared.head.Head.{Head}
-use Rattle.iscsi_pdu.specs.declared.head.Head.TheVariants.{NopOut, ScsiCommand, TaskRequest, LoginRequest, TextRequest, DataOut, LogoutRequest, NopIn,
-    ScsiResponse, TaskResponse, LoginResponse, TextResponse, DataIn, LogoutResponse, ReadyToTransfer, AsyncMessage, Reject}
+use Rattle.iscsi_pdu.specs.declared.head.Head.TheVariants.{NopOut, ScsiCommand, TaskRequest, LoginRequest, TextRequest, DataOut, LogoutRequest, NopIn}
+use Rattle.iscsi_pdu.specs.declared.head.Head.TheVariants.{ScsiResponse, TaskResponse, LoginResponse, TextResponse, DataIn, LogoutResponse, ReadyToTransfer}
+use Rattle.iscsi_pdu.specs.declared.head.Head.TheVariants.{AsyncMessage, Reject}
 use Rattle.iscsi_pdu.specs.declared.head.HeadFault.{HeadFault}
-use Rattle.iscsi_pdu.specs.Meaning.{opcode, rows, ones, blocks, frame, header, is_login, is_opcode, fault_of, Fits, FitsBlock, HasBlock, HasBlockRoom,
-    ReadsBlock, IsHeader, IsWritable, Means, whole, padding}
-use Rattle.iscsi_pdu.proofs.OneHeadLaw.{nop_out-unique, scsi_command-unique, task_request-unique, login_request-unique, text_request-unique, data_out-unique,
-    logout_request-unique, nop_in-unique, scsi_response-unique, task_response-unique, login_response-unique, text_response-unique, data_in-unique,
-    logout_response-unique, ready_to_transfer-unique, async_message-unique, reject-unique}
+use Rattle.iscsi_pdu.specs.Meaning.{opcode, rows, ones, blocks, frame, header, is_login, is_opcode, fault_of, Fits, FitsBlock, HasBlock, HasBlockRoom}
+use Rattle.iscsi_pdu.specs.Meaning.{ReadsBlock, IsHeader, IsWritable, Means, whole, padding}
+use Rattle.iscsi_pdu.proofs.OneHeadLaw.{nop_out-unique, scsi_command-unique, task_request-unique, login_request-unique, text_request-unique, data_out-unique}
+use Rattle.iscsi_pdu.proofs.OneHeadLaw.{logout_request-unique, nop_in-unique, scsi_response-unique, task_response-unique, login_response-unique}
+use Rattle.iscsi_pdu.proofs.OneHeadLaw.{text_response-unique, data_in-unique, logout_response-unique, ready_to_transfer-unique, async_message-unique}
+use Rattle.iscsi_pdu.proofs.OneHeadLaw.{reject-unique}
 
 -- ---- a header has one head
 
@@ -47,9 +49,10 @@ same_some : (x y z : ℕ) → Some x ≡ Some z → Some y ≡ Some z → x ≡ 
 same_some x y z p q = cc
 
 pub IsHeader-unique : (b : List ℕ) (x y : Head) (m n : ℕ) → IsHeader b x m → IsHeader b y n → (x ≡ y) × (m ≡ n)
-IsHeader-unique b x y m n p q =
-    (kind-unique b x y (same_some (opcode x) (opcode y) (bits_at 0 63 b) p.frame.0 q.frame.0) p.rows q.rows p.block q.block,
-        same_some m n (number_at 5 7 b) p.frame.1.1.0 q.frame.1.1.0)
+IsHeader-unique b x y m n p q = (
+  kind-unique b x y (same_some (opcode x) (opcode y) (bits_at 0 63 b) p.frame.0 q.frame.0) p.rows q.rows p.block q.block,
+  same_some m n (number_at 5 7 b) p.frame.1.1.0 q.frame.1.1.0,
+)
 
 -- ---- the canonical header
 
@@ -109,12 +112,12 @@ header-means h len own reads short login =
     let fields = rows h ++ blocks h in
     let zeros : List ℕ = replicate 48 0 in
     let room : HaveRoom (all_rows h len) = HaveRoom-append (ones h) _ (ones-room h)
-        (HaveRoom-append (frame (opcode h) len) fields ((refl, opcode-small h), ((refl, lit< tt), ((refl, short), tt)))
-        (HaveRoom-append (rows h) (blocks h) own (blocks-room h reads))) in
+    (HaveRoom-append (frame (opcode h) len) fields ((refl, opcode-small h), ((refl, lit< tt), ((refl, short), tt)))
+    (HaveRoom-append (rows h) (blocks h) own (blocks-room h reads))) in
     let same : put_all (all_rows h len) zeros ≡ header h len = put_all-append (ones h) (frame (opcode h) len ++ fields) zeros
-        ∙ put_all-append (frame (opcode h) len) fields (put_all (ones h) zeros) in
+    ∙ put_all-append (frame (opcode h) len) fields (put_all (ones h) zeros) in
     let held : Hold (header h len) (all_rows h len) = subst (λ (b : List ℕ). Hold b (all_rows h len)) same
-        (put_all-holds 48 (all_rows h len) zeros refl (all_rows-table h len) room) in
+    (put_all-holds 48 (all_rows h len) zeros refl (all_rows-table h len) room) in
     let after = Hold-second (ones h) (frame (opcode h) len ++ fields) (header h len) held in
     let last = Hold-second (frame (opcode h) len) fields (header h len) after in
     record {

@@ -18,8 +18,8 @@ use Rattle.iscsi_pdu.specs.declared.head.logout_response.LogoutResponse.{LogoutR
 use Rattle.iscsi_pdu.specs.declared.head.ready_to_transfer.ReadyToTransfer.{ReadyToTransfer}
 use Rattle.iscsi_pdu.specs.declared.head.async_message.AsyncMessage.{AsyncMessage}
 use Rattle.iscsi_pdu.specs.declared.head.reject.Reject.{Reject}
-use Rattle.iscsi_pdu.specs.Fields.{nop_out, scsi_command, task_request, login_request, text_request, data_out, logout_request, nop_in, scsi_response,
-    task_response, login_response, text_response, data_in, logout_response, ready_to_transfer, async_message, reject}
+use Rattle.iscsi_pdu.specs.Fields.{nop_out, scsi_command, task_request, login_request, text_request, data_out, logout_request, nop_in, scsi_response}
+use Rattle.iscsi_pdu.specs.Fields.{task_response, login_response, text_response, data_in, logout_response, ready_to_transfer, async_message, reject}
 
 pub nop_out-unique : (b : List ℕ) (x y : NopOut) → Hold b (nop_out x) → Hold b (nop_out y) → x ≡ y
 nop_out-unique b x y p q = let e : ◌≡◌ {A = NopOut} (record x { immediate = x.immediate }) (record y { immediate = y.immediate }) = cc in e

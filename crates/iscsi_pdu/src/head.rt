@@ -133,7 +133,8 @@ impl Head {
     /// The head of its kind, where the opcode is one.
     fn read(bytes: &[u8; 48]) -> Option<Head>
         ensures { MatchOption result (is_opcode (bits_at 0 63 bytes.now) ≡ false)
-            (λ h. (opcode h ≡ bits_at 0 63 bytes.now) × Hold bytes.now (rows h) × HasBlock bytes.now h) }
+            (λ h. (opcode h ≡ bits_at 0 63 bytes.now) × Hold bytes.now (rows h)
+            × HasBlock bytes.now h) }
     {
         match bits(bytes, 0, 0x3f) {
             0x00 => Some(Head::NopOut(NopOut::read(bytes))),

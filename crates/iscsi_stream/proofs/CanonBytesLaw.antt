@@ -1,6 +1,6 @@
 -- The canonical stream of a stream of bytes is of bytes.
-use Rattle.std.proofs.Common.{◌≡◌, ℕ, ◌+◌, ◌-◌, ◌*◌, ◌/◌, ◌^◌, ◌<◌, ◌≤◌, Bool, true, false, ltb, zero, suc, List, [], ◌∷◌, ◌++◌, length, get_or, take, drop,
-    replicate, Option, Some, None, refl, sym, subst, ◌∙◌, arith, rules, inl, inr, append-nil}
+use Rattle.std.proofs.Common.{◌≡◌, ℕ, ◌+◌, ◌-◌, ◌*◌, ◌/◌, ◌^◌, ◌<◌, ◌≤◌, Bool, true, false, ltb, zero, suc, List, [], ◌∷◌, ◌++◌, length, get_or, take, drop}
+use Rattle.std.proofs.Common.{replicate, Option, Some, None, refl, sym, subst, ◌∙◌, arith, rules, inl, inr, append-nil}
 use Rattle.std.specs.Prelude.{not, ◌&&◌, IfSome, bit_and}
 use Rattle.std.specs.Bool.{then_some}
 use Rattle.std.specs.Char.{digit_value}
@@ -13,8 +13,8 @@ use Rattle.std.proofs.lemmas.List.{get_or_past, get_or-drop, get_or-set_same, ge
 use Rattle.std.proofs.lemmas.List.Concat.{flat_map-cons}
 use Rattle.std.specs.Str.Parse.{AllDigits}
 use Rattle.std.proofs.Math.Nat.{mod-lt}
-use Rattle.scsi_cdb.specs.Layout.{Row, Hold, Holds, HasRoom, HaveRoom, put, put_all, put_bits, put_part, put_bit, put_number, put_bytes, put_raw, part, unit,
-    with_bits}
+use Rattle.scsi_cdb.specs.Layout.{Row, Hold, Holds, HasRoom, HaveRoom, put, put_all, put_bits, put_part, put_bit, put_number, put_bytes, put_raw, part, unit}
+use Rattle.scsi_cdb.specs.Layout.{with_bits}
 use Rattle.scsi_cdb.specs.Layout.Row.{bit, bits, bytes as number, raw}
 use Rattle.scsi_cdb.specs.Blocks as cdb
 use Rattle.scsi_cdb.specs.declared.cdb.Cdb.{Cdb}
@@ -165,8 +165,14 @@ zeros_bytes (suc n) = cons_bytes 0 (replicate n 0) (omega arith) (zeros_bytes n)
 
 not_digit : (c : ℕ) → 256 ≤ c → digit_value c ≡ 36
 not_digit c big =
-    rw (le-ltb c 48 (omega arith), le-ltb c 58 (omega arith), le-ltb c 65 (omega arith), le-ltb c 91 (omega arith), le-ltb c 97 (omega arith),
-        le-ltb c 123 (omega arith)) refl
+    rw (
+      le-ltb c 48 (omega arith),
+      le-ltb c 58 (omega arith),
+      le-ltb c 65 (omega arith),
+      le-ltb c 91 (omega arith),
+      le-ltb c 97 (omega arith),
+      le-ltb c 123 (omega arith),
+    ) refl
 
 digit_byte : (c : ℕ) → digit_value c < 36 → c < 256
 digit_byte c lt = elim (cases_lt c 256) [ inl small ↦ small | inr big ↦ absurd (omega (arith, lt, not_digit c big)) ]
@@ -208,7 +214,7 @@ field_bytes f is h =
     let spelled = value_bytes (kind_of f.key) f.bytes f.value is.value value in
     AreBytes-append (f.key ++ 61 ∷ value_text f.value) (0 ∷ [])
     (AreBytes-append f.key (61 ∷ value_text f.value) (AreBytes-front f.key (61 ∷ f.bytes) front) (cons_bytes 61 (value_text f.value) (omega arith) spelled))
-        (zeros_bytes 1)
+    (zeros_bytes 1)
 
 entries_bytes : (entries : List (Option Field)) → AllByRecursion IsEntry entries → AreBytes (flat_map entry_bytes entries) →
     AllByRecursion IsPairOfBytes (pairs_of entries)
@@ -216,9 +222,10 @@ entries_bytes [] each h = tt
 entries_bytes (None ∷ entries) each h =
     entries_bytes entries each.1 (AreBytes-back (entry_bytes None) (flat_map entry_bytes entries) (subst AreBytes (flat_map-cons entry_bytes None entries) h))
 entries_bytes (Some f ∷ entries) each h =
-    let split = subst AreBytes (flat_map-cons entry_bytes (Some f) entries) h in
-    (field_bytes f each.0 (AreBytes-front (entry_bytes (Some f)) (flat_map entry_bytes entries) split),
-        entries_bytes entries each.1 (AreBytes-back (entry_bytes (Some f)) (flat_map entry_bytes entries) split))
+    let split = subst AreBytes (flat_map-cons entry_bytes (Some f) entries) h in (
+      field_bytes f each.0 (AreBytes-front (entry_bytes (Some f)) (flat_map entry_bytes entries) split),
+      entries_bytes entries each.1 (AreBytes-back (entry_bytes (Some f)) (flat_map entry_bytes entries) split),
+    )
 
 pairs_bytes : (pairs : Pairs) → AllByRecursion IsPairOfBytes pairs → AreBytes (canonical_text pairs)
 pairs_bytes [] all = λ i. omega arith
@@ -229,7 +236,7 @@ text_bytes : (bytes : List ℕ) (pairs : Pairs) → TextMeans bytes pairs → Ar
 text_bytes bytes pairs means h =
     let all = entries_bytes means.entries means.row.each (subst AreBytes (means.row.spelled ∙ append-nil (flat_map entry_bytes means.entries)) h) in
     subst (λ (ps : Pairs). AreBytes (canonical_text ps)) (sym (arranged_is (pairs_of means.entries) pairs means.arranges))
-        (pairs_bytes (in_order (pairs_of means.entries)) (all_in_order IsPairOfBytes (pairs_of means.entries) all))
+    (pairs_bytes (in_order (pairs_of means.entries)) (all_in_order IsPairOfBytes (pairs_of means.entries) all))
 
 -- ---- segments
 
@@ -290,8 +297,10 @@ header_bytes : (b : List ℕ) (h : Head) (n len : ℕ) → AreBytes b → IsHead
 unfolding header
 header_bytes b h n len are r short =
     let first = put_all_bytes (ones h) (replicate 48 0) (ones_narrow h) (ones_room h) (ones_raw h) (zeros_bytes 48) in
-    let framed = put_all_bytes (frame (opcode h) len) (put_all (ones h) (replicate 48 0)) refl ((refl, opcode_small h),
-        ((refl, omega arith), ((refl, short), tt))) (tt, (tt, (tt, tt))) first in
+    let framed = put_all_bytes (frame (opcode h) len) (put_all (ones h) (replicate 48 0)) refl (
+      (refl, opcode_small h),
+      ((refl, omega arith), ((refl, short), tt)),
+    ) (tt, (tt, (tt, tt))) first in
     let own = put_all_bytes (rows h) _ (head_narrow h) (IsHeader-room b h n are r) (held_raws b (rows h) are r.rows) framed in
     subst AreBytes (sym (put_all-append (rows h) (blocks h) _)) (with_block b h _ are r.block own)
 
@@ -304,11 +313,11 @@ message_bytes bytes segment c h are means =
     let front = AreBytes-take 48 bytes are in
     let mine = segment_bytes (segment_of c h segment) in
     let own : AreBytes segment = subst AreBytes (means-data bytes h segment means)
-        (AreBytes-take (length segment) (drop 48 bytes) (AreBytes-drop 48 bytes are)) in
+    (AreBytes-take (length segment) (drop 48 bytes) (AreBytes-drop 48 bytes are)) in
     let short : length mine < 2 ^ 24 = omega (arith, segment-shorter c h segment, IsHeader-short (take 48 bytes) h (length segment) front means.header) in
     AreBytes-append (header h (length mine) ++ mine) (replicate (padding (length mine)) 0)
     (AreBytes-append (header h (length mine)) mine (header_bytes (take 48 bytes) h (length segment) (length mine) front means.header short)
-        (of_bytes c h segment own)) (zeros_bytes (padding (length mine)))
+    (of_bytes c h segment own)) (zeros_bytes (padding (length mine)))
 
 pub canon_bytes : (limit : ℕ) (logins : Logins) (s : List ℕ) (ms : List Message) → AreBytes s → ReadsAs limit logins s ms → AreBytes (canon ms)
 unfolding ReadsAs
@@ -319,4 +328,4 @@ canon_bytes limit logins s (m ∷ ms) are reads =
     let one = message_bytes reads.0 reads.1 (continues logins m.head) m.head (AreBytes-front reads.0 reads.2 split) begins.means in
     subst AreBytes (sym (flat_map-cons canonical_bytes m ms)) (AreBytes-append (canonical_bytes m) (canon ms)
     (subst (λ (x : Segment). AreBytes (whole m.head (segment_bytes x))) (sym begins.meaning) one)
-        (canon_bytes limit (after logins m.head) reads.2 ms (AreBytes-back reads.0 reads.2 split) reads.4))
+    (canon_bytes limit (after logins m.head) reads.2 ms (AreBytes-back reads.0 reads.2 split) reads.4))

@@ -22,12 +22,12 @@ chunks_any (suc one) zero size (b ∷ bytes) lt le le' = absurd (omega (arith, l
 chunks_any (suc one) (suc two) size [] lt le le' = refl
 chunks_any (suc one) (suc two) size (b ∷ bytes) lt le le' =
     ap (λ (xs : List (List ℕ)). take size (b ∷ bytes) ∷ xs) (chunks_any one two size (drop size (b ∷ bytes)) lt (shorter size one b bytes lt le)
-        (shorter size two b bytes lt le'))
+    (shorter size two b bytes lt le'))
 
 pub chunks_step : (size b : ℕ) (bytes : List ℕ) → 0 < size → chunks size (b ∷ bytes) ≡ take size (b ∷ bytes) ∷ chunks size (drop size (b ∷ bytes))
 chunks_step size b bytes lt =
     ap (λ (xs : List (List ℕ)). take size (b ∷ bytes) ∷ xs) (chunks_any (length bytes)
-        (length (drop size (b ∷ bytes))) size (drop size (b ∷ bytes)) lt (shorter size (length bytes) b bytes lt (omega arith)) (omega arith))
+    (length (drop size (b ∷ bytes))) size (drop size (b ∷ bytes)) lt (shorter size (length bytes) b bytes lt (omega arith)) (omega arith))
 
 joined_within : (fuel size : ℕ) (bytes : List ℕ) → 0 < size → length bytes ≤ fuel → joined (chunks_within fuel size bytes) ≡ bytes
 joined_within zero size [] lt le = refl

@@ -1,6 +1,6 @@
 -- PDUs that were heard of one stream: those that are fewer are the front of the others.
-use Rattle.std.proofs.Common.{◌≡◌, ◌⊎◌, inl, inr, ◌<◌, ◌≤◌, ℕ, Bool, true, false, List, [], ◌∷◌, ◌++◌, length, take, min, max, Some, refl, sym, ap, subst, ◌∙◌,
-    arith, append_assoc}
+use Rattle.std.proofs.Common.{◌≡◌, ◌⊎◌, inl, inr, ◌<◌, ◌≤◌, ℕ, Bool, true, false, List, [], ◌∷◌, ◌++◌, length, take, min, max, Some, refl, sym, ap, subst, ◌∙◌}
+use Rattle.std.proofs.Common.{arith, append_assoc}
 use Rattle.std.proofs.lemmas.List.{append-nil, append_cancel_left}
 use Rattle.iscsi_pdu.specs.declared.head.Head.{Head}
 use Rattle.iscsi_pdu.specs.Meaning.{IsHeader, fault_of}
@@ -50,10 +50,10 @@ one_is_front limit logins given (m ∷ ms) rest given' (n ∷ ns) rest' p q e =
     let same = same_begin p.0 (p.2 ++ rest) q.0 (q.2 ++ rest') m.head n.head p.1 q.1 whole b.means c.means in
     let segment : m.segment ≡ n.segment =
     b.meaning ∙ ap (λ (h : Head). segment_of (continues logins h) h p.1) same.head ∙ ap (segment_of (continues logins n.head) n.head) same.segment
-        ∙ sym c.meaning in
+    ∙ sym c.meaning in
     let one : m ≡ n = same_message m n same.head segment in
     elim (one_is_front limit (after logins m.head) p.2 ms rest q.2 ns rest' p.4 (subst (λ (h : Head). ReadsAs limit (after logins h) q.2 ns)
-        (sym same.head) q.4) same.rest) [
+    (sym same.head) q.4) same.rest) [
       | inl f ↦ inl (front_on m n ms ns one f)
       | inr f ↦ inr (record { front = front_on n m ns ms (sym one) f.front; pdu = f.pdu })
     ]
@@ -202,7 +202,7 @@ sight s ms v t behind = record { limit = v.limit; place = v.place; heard = ms; l
 pub framer_hears : {R : Type 0} (c : Course R) (limit : ℕ) (stream s behind : List ℕ) (before more : List Message) (v : Framing)
     (t : HasTaken s (before ++ more) v)
     → v.limit ≡ limit → stream ≡ s ++ behind → (let x = sight s (before ++ more) v t behind in (c.over (c.to more) ≡ true) ⊎ NoPdu x.limit x.rest →
-        HearsUpTo c limit stream before more x)
+    HearsUpTo c limit stream before more x)
 unfolding sight
 framer_hears c limit stream s behind before more v t is whole end = record {
   given = t.given;
@@ -245,8 +245,14 @@ framer_refuses s ms v piece faults.Failed t none fails = absurd (apart fails t.l
 
 -- a framer that came to this
 pub framer : Sight → Framing
-framer x = record { limit = x.limit; place = x.place; logins = after_all no_login x.heard; held = settled x.rest; room = max x.longest (begun_len x.rest);
-    failed = false }
+framer x = record {
+  limit = x.limit;
+  place = x.place;
+  logins = after_all no_login x.heard;
+  held = settled x.rest;
+  room = max x.longest (begun_len x.rest);
+  failed = false;
+}
 
 -- Nothing is wrong with the rest, no PDU stands there, and the framer has it all.
 pub record IsLeft (x : Sight) (v : Framing) : Type 0 where
@@ -263,6 +269,12 @@ framer_leaves s ms v behind t unready nil =
     record {
       begun = subst (IsBegun v.limit) all t.begun;
       none = subst (NoPdu v.limit) all (no_pdu_begun v.limit t.rest t.begun part);
-      is = λ i. record { limit = v.limit; place = v.place; logins = t.logins i; held = (t.held ∙ ap settled all) i;
-          room = (t.room ∙ ap (λ (x : List ℕ). max (longest_of ms t.given) (begun_len x)) all) i; failed = t.live i };
+      is = λ i. record {
+        limit = v.limit;
+        place = v.place;
+        logins = t.logins i;
+        held = (t.held ∙ ap settled all) i;
+        room = (t.room ∙ ap (λ (x : List ℕ). max (longest_of ms t.given) (begun_len x)) all) i;
+        failed = t.live i;
+      };
     }

@@ -1,10 +1,10 @@
 -- What a framer's parts keep.
-use Rattle.std.proofs.Common.{◌≡◌, ℕ, ◌+◌, ◌-◌, ◌<◌, ◌≤◌, true, max, List, [], ◌++◌, length, take, drop, replicate, sym, ap, subst, ◌∙◌, arith, inl, inr,
-    append_assoc, append-nil, refl}
+use Rattle.std.proofs.Common.{◌≡◌, ℕ, ◌+◌, ◌-◌, ◌<◌, ◌≤◌, true, max, List, [], ◌++◌, length, take, drop, replicate, sym, ap, subst, ◌∙◌, arith, inl, inr}
+use Rattle.std.proofs.Common.{append_assoc, append-nil, refl}
 use Rattle.std.proofs.lemmas.Bool.{cases_lt, lt-ltb, le-ltb}
 use Rattle.std.proofs.lemmas.Bool.Decides.{nat_tests}
-use Rattle.std.proofs.lemmas.List.{length-append, length-take, length-drop, length-replicate, take-take, take_all, take_at, drop_at, take-append-drop,
-    nil_from_length, drop-take}
+use Rattle.std.proofs.lemmas.List.{length-append, length-take, length-drop, length-replicate, take-take, take_all, take_at, drop_at, take-append-drop}
+use Rattle.std.proofs.lemmas.List.{nil_from_length, drop-take}
 use Rattle.iscsi_pdu.specs.declared.head.Head.{Head}
 use Rattle.iscsi_pdu.specs.Meaning.{IsHeader, padding}
 use Rattle.iscsi_stream.specs.declared.fault.StreamFault.{StreamFault}
@@ -19,7 +19,7 @@ use Rattle.iscsi_stream.proofs.SettledBytesLemmas.{settled-short}
 pub take-add : (n m : ℕ) (xs : List ℕ) → take (n + m) xs ≡ take n xs ++ take m (drop n xs)
 take-add n m xs =
     sym (take-append-drop n (take (n + m) xs)) ∙ ap (λ (l : List ℕ). l ++ drop n (take (n + m) xs)) (take-take n (n + m) xs (omega arith))
-        ∙ ap (λ (l : List ℕ). take n xs ++ l) (drop-take n m xs)
+    ∙ ap (λ (l : List ℕ). take n xs ++ l) (drop-take n m xs)
 
 pub is_full : (bytes : List ℕ) → 48 ≤ length bytes → length bytes ≡ pdu_len (length_at bytes) → is_whole bytes ≡ true
 unfolding is_whole
@@ -32,8 +32,13 @@ short_begun limit bytes lt long = absurd (omega arith)
 
 pub length-body : (header segment : List ℕ) (padded : ℕ) → length header ≡ 48 → length (header ++ (segment ++ replicate padded 0)) ≡ 48 + length segment
     + padded
-length-body header segment padded size = omega (arith, size, length-append header (segment ++ replicate padded 0), length-append segment (replicate padded 0),
-    length-replicate {A = ℕ} padded 0)
+length-body header segment padded size = omega (
+  arith,
+  size,
+  length-append header (segment ++ replicate padded 0),
+  length-append segment (replicate padded 0),
+  length-replicate {A = ℕ} padded 0,
+)
 
 -- the length that a header with bytes behind it says
 pub length_at-front : (header rest : List ℕ) (h : Head) (len : ℕ) → length header ≡ 48 → IsHeader header h len → length_at (header ++ rest) ≡ len
@@ -75,7 +80,7 @@ settled-body header rest h len size r =
     let more : length (header ++ rest) - (48 + len) ≡ length rest - len = omega (arith, length-append header rest, size) in
     let front : take (48 + len) (header ++ rest) ≡ header ++ take len rest =
     take-add 48 len (header ++ rest) ∙ ap (λ (x : List ℕ). x ++ take len (drop 48 (header ++ rest))) (take_at header rest 48 size)
-        ∙ ap (λ (x : List ℕ). header ++ take len x) (drop_at header rest 48 size) in
+    ∙ ap (λ (x : List ℕ). header ++ take len x) (drop_at header rest 48 size) in
     rw (at, front, more) (append_assoc header (take len rest) (replicate (length rest - len) 0))
 
 pub begun_body : (limit : ℕ) (header segment : List ℕ) (room padded len : ℕ) (h : Head) → length header ≡ 48 → IsBody limit header segment room h len padded →
@@ -96,7 +101,7 @@ whole_body : (header segment : List ℕ) (padded len : ℕ) (h : Head) → lengt
 whole_body header segment padded len h size r full all =
     let at = length_at-front header (segment ++ replicate padded 0) h len size r in
     is_full (header ++ (segment ++ replicate padded 0)) (omega (arith, length-body header segment padded size))
-        (omega (arith, length-body header segment padded size, ap pdu_len at, all))
+    (omega (arith, length-body header segment padded size, ap pdu_len at, all))
 
 rest_is : (a b : ℕ) → a ≤ b → b ≡ a + (b - a)
 rest_is a b le = omega arith
@@ -106,24 +111,24 @@ front_padded : (len : ℕ) (segment : List ℕ) (padded : ℕ) (more piece : Lis
     → take len ((segment ++ replicate padded 0) ++ more) ≡ segment ++ take count piece
 front_padded len segment padded more piece count full none =
     ap (take len) (append_assoc segment (replicate padded 0) more) ∙ take_at segment (replicate padded 0 ++ more) len full ∙ sym (append-nil segment)
-        ∙ ap (λ (k : ℕ). segment ++ take k piece) (sym none)
+    ∙ ap (λ (k : ℕ). segment ++ take k piece) (sym none)
 
 -- no zeros follow it, and the bytes fill it and go on
 front_past : (len : ℕ) (segment piece : List ℕ) (n count : ℕ) → count ≤ n → n ≤ length piece → length segment + count ≡ len → take len (segment ++ take n piece)
     ≡ segment ++ take count piece
 front_past len segment piece n count le bound full =
     let split : take n piece ≡ take count piece ++ take (n - count) (drop count piece) = ap (λ (k : ℕ). take k piece) (rest_is count n le)
-        ∙ take-add count (n - count) piece in
+    ∙ take-add count (n - count) piece in
     ap (λ (x : List ℕ). take len (segment ++ x)) split ∙ ap (take len) (sym (append_assoc segment (take count piece) (take (n - count) (drop count piece))))
     ∙ take_at (segment ++ take count piece) (take (n - count) (drop count piece)) len
-        (omega (arith, length-append segment (take count piece), length-take count piece))
+    (omega (arith, length-append segment (take count piece), length-take count piece))
 
 -- no zeros follow it, and all the bytes have room in it
 front_within : (len : ℕ) (segment piece : List ℕ) (n count : ℕ) → n ≡ count → n ≤ length piece → length segment + count ≤ len →
     take len (segment ++ take n piece) ≡ segment ++ take count piece
 front_within len segment piece n count same bound room =
     ap (λ (k : ℕ). take len (segment ++ take k piece)) same ∙ take_all len (segment ++ take count piece)
-        (omega (arith, length-append segment (take count piece), length-take count piece))
+    (omega (arith, length-append segment (take count piece), length-take count piece))
 
 -- the segment and the zeros of the padding, and then more bytes
 front_of : (len : ℕ) (segment : List ℕ) (padded : ℕ) (piece : List ℕ) (n : ℕ) (count : ℕ) → count ≤ n → n ≤ length piece → length segment + count ≤ len →
@@ -135,7 +140,7 @@ front_of len segment padded piece n count le bound room order past =
       | inr none ↦
           let no_zeros : replicate padded 0 ≡ [] = nil_from_length (replicate padded 0) (omega (arith, length-replicate {A = ℕ} padded 0)) in
           let plain : (segment ++ replicate padded 0) ++ take n piece ≡ segment ++ take n piece =
-              ap (λ (x : List ℕ). x ++ take n piece) (ap (λ (x : List ℕ). segment ++ x) no_zeros ∙ append-nil segment) in
+          ap (λ (x : List ℕ). x ++ take n piece) (ap (λ (x : List ℕ). segment ++ x) no_zeros ∙ append-nil segment) in
           ap (take len) plain ∙ elim (cases_lt count n) [
             | inl lt ↦ front_past len segment piece n count le bound (past lt)
             | inr ge ↦ front_within len segment piece n count (omega arith) bound room
@@ -154,7 +159,7 @@ pub gathers_body : (limit : ℕ) (header segment : List ℕ) (room : ℕ) (h : H
     (room_new padded_new : ℕ) → length header ≡ 48
     → IsBody limit header segment room h len padded → FillsBody len segment padded piece n segment_new padded_new → len ≤ room_new
     → Gathers limit (header ++ (segment ++ replicate padded 0)) piece n (header ++ (segment_new ++ replicate padded_new 0))
-        × IsBody limit header segment_new room_new h len padded_new
+    × IsBody limit header segment_new room_new h len padded_new
 gathers_body limit header segment room h len padded piece n segment_new room_new padded_new size body fills fit =
     let body_new : IsBody limit header segment_new room_new h len padded_new = record {
       says = body.says;
@@ -165,18 +170,30 @@ gathers_body limit header segment room h len padded piece n segment_new room_new
       no_more_padding = fills.no_more_padding;
       order = fills.order;
     } in
-    let new_size : length segment_new ≡ length segment + fills.count = omega (arith, ap length fills.appended, length-append segment (take fills.count piece),
-        length-take fills.count piece, fills.count_bound, fills.bound) in
+    let new_size : length segment_new ≡ length segment + fills.count = omega (
+      arith,
+      ap length fills.appended,
+      length-append segment (take fills.count piece),
+      length-take fills.count piece,
+      fills.count_bound,
+      fills.bound,
+    ) in
     let rest = (segment ++ replicate padded 0) ++ take n piece in
     let front : take len rest ≡ segment_new = front_of len segment padded piece n fills.count fills.count_bound fills.bound (omega (arith, fills.no_more))
-        body.order (λ lt. omega (arith, fills.order (omega (arith, fills.parts)))) ∙ sym fills.appended in
-    let rest_size : length rest ≡ length segment + padded + n = omega (arith, length-append (segment ++ replicate padded 0) (take n piece),
-        length-append segment (replicate padded 0), length-replicate {A = ℕ} padded 0, length-take n piece, fills.bound) in
+    body.order (λ lt. omega (arith, fills.order (omega (arith, fills.parts)))) ∙ sym fills.appended in
+    let rest_size : length rest ≡ length segment + padded + n = omega (
+      arith,
+      length-append (segment ++ replicate padded 0) (take n piece),
+      length-append segment (replicate padded 0),
+      length-replicate {A = ℕ} padded 0,
+      length-take n piece,
+      fills.bound,
+    ) in
     let zeros : length rest - len ≡ padded_new = zeros_of (length segment) padded n fills.count padded_new len (length segment_new)
-        (length rest) rest_size new_size fills.parts fills.no_more fills.order in
+    (length rest) rest_size new_size fills.parts fills.no_more fills.order in
     let same : header ++ (segment_new ++ replicate padded_new 0) ≡ settled ((header ++ (segment ++ replicate padded 0)) ++ take n piece) =
     sym (ap settled (append_assoc header (segment ++ replicate padded 0) (take n piece)) ∙ settled-body header rest h len size body.says
-        ∙ ap (λ (x : List ℕ). header ++ (x ++ replicate (length rest - len) 0)) front ∙ ap (λ (k : ℕ). header ++ (segment_new ++ replicate k 0)) zeros) in (
+    ∙ ap (λ (x : List ℕ). header ++ (x ++ replicate (length rest - len) 0)) front ∙ ap (λ (k : ℕ). header ++ (segment_new ++ replicate k 0)) zeros) in (
       record {
         bound = fills.bound;
         gathered = same;
@@ -212,7 +229,7 @@ header_front header header_new filled piece n size size_new short full bound tak
     let old_size : length old ≡ filled = omega (arith, length-take filled header) in
     let whole : header_new ≡ old ++ take n piece = sym (take_all (filled + n) header_new (omega arith)) ∙ taken in
     let all : header_new ++ drop n piece ≡ old ++ piece = ap (λ (x : List ℕ). x ++ drop n piece) whole ∙ append_assoc old (take n piece) (drop n piece)
-        ∙ ap (λ (x : List ℕ). old ++ x) (take-append-drop n piece) in (
+    ∙ ap (λ (x : List ℕ). old ++ x) (take-append-drop n piece) in (
       sym (take_at header_new (drop n piece) 48 size_new) ∙ ap (take 48) all,
       record { before = omega arith; reached = omega (arith, length-append old piece) },
     )
@@ -231,10 +248,10 @@ header_fails faults.Failed limit place room header held piece is reaches h = abs
 pub gathers_both : (limit : ℕ) (header header_new : List ℕ) (filled : ℕ) (piece rest : List ℕ) (n : ℕ) (h : Head) (len room m : ℕ) (segment_new : List ℕ)
     (room_new padded_new : ℕ)
     → length header ≡ 48 → length header_new ≡ 48 → filled < 48 → filled + n ≡ 48 → n ≤ length piece → take (filled + n) header_new ≡ take filled header
-        ++ take n piece → rest ≡ drop n piece
+    ++ take n piece → rest ≡ drop n piece
     → IsBody limit header_new [] room h len 0 → FillsBody len [] 0 rest m segment_new padded_new → len ≤ room_new
     → Gathers limit (take filled header) piece (n + m) (header_new ++ (segment_new ++ replicate padded_new 0))
-        × IsBody limit header_new segment_new room_new h len padded_new
+    × IsBody limit header_new segment_new room_new h len padded_new
 gathers_both limit header header_new filled piece rest n h len room m segment_new room_new padded_new size size_new short full bound taken is body fills fit =
     let both = gathers_body limit header_new [] room h len 0 rest m segment_new room_new padded_new size_new body fills fit in
     let old = take filled header in
@@ -242,7 +259,7 @@ gathers_both limit header header_new filled piece rest n h len room m segment_ne
     let rest_size : length rest ≡ length piece - n = ap length is ∙ length-drop n piece in
     let same : (header_new ++ []) ++ take m rest ≡ old ++ take (n + m) piece =
     ap (λ (x : List ℕ). x ++ take m rest) (append-nil header_new ∙ whole) ∙ append_assoc old (take n piece) (take m rest)
-        ∙ ap (λ (x : List ℕ). old ++ (take n piece ++ take m x)) is ∙ ap (λ (x : List ℕ). old ++ x) (sym (take-add n m piece)) in (
+    ∙ ap (λ (x : List ℕ). old ++ (take n piece ++ take m x)) is ∙ ap (λ (x : List ℕ). old ++ x) (sym (take-add n m piece)) in (
       record {
         bound = omega (arith, both.0.bound, rest_size);
         gathered = both.0.gathered ∙ ap settled same;

@@ -1,6 +1,6 @@
 -- What writing a stream keeps from read to read, and what it leaves at each answer.
-use Rattle.std.proofs.Common.{◌≡◌, ℕ, ◌+◌, ◌-◌, ◌<◌, ◌≤◌, ◌^◌, min, false, List, [], ◌++◌, length, take, drop, Option, Result, Err, refl, sym, ap, subst, ◌∙◌,
-    arith, append-nil, inl, inr}
+use Rattle.std.proofs.Common.{◌≡◌, ℕ, ◌+◌, ◌-◌, ◌<◌, ◌≤◌, ◌^◌, min, false, List, [], ◌++◌, length, take, drop, Option, Result, Err, refl, sym, ap, subst, ◌∙◌}
+use Rattle.std.proofs.Common.{arith, append-nil, inl, inr}
 use Rattle.std.specs.Prelude.{IsTrue, ◌⊎◌}
 use Rattle.std.specs.Io.KnownBytes.{Appends, Consumes, Keeps}
 use Rattle.std.proofs.KnownBytes.{Appends-trans, Appends-nil, Consumes-trans, Consumes-kept, Consumes-nil}
@@ -40,7 +40,7 @@ AreBytes-nil i = subst (λ (n : ℕ). n < 256) (sym (get_or_past [] i 0 (omega a
 take_past : (xs ys : List ℕ) (n : ℕ) → take (length xs + n) (xs ++ ys) ≡ xs ++ take n ys
 take_past xs ys n =
     take-add (length xs) n (xs ++ ys) ∙ ap (λ (x : List ℕ). x ++ take n (drop (length xs) (xs ++ ys))) (take_at xs ys (length xs) refl)
-        ∙ ap (λ (x : List ℕ). xs ++ take n x) (drop_at xs ys (length xs) refl)
+    ∙ ap (λ (x : List ℕ). xs ++ take n x) (drop_at xs ys (length xs) refl)
 
 pub at_start : (form : Form) (a b : Option (List ℕ)) → (let k : Counts = record { pdus = 0; bytes_in = 0; bytes_out = 0 } in
     WrittenUpTo form (opening longest_segment) k 0 a a b b)
@@ -108,8 +108,15 @@ finish_stops (stream.Truncated p) form v k i r0 r1 r2 w0 w1 lt up read fails =
       up.bytes,
       consumed_none r0 r1 r2 up.read up.consumed read,
       up.written,
-      (up.ms, t.given, t.rest, (record { splits = splits_at v up.read up.ms t up.limit up.unready; due = up.due },
-          (some, subst (λ (n : ℕ). IsBegun n t.rest) up.limit t.begun, place))),
+      (
+        up.ms,
+        t.given,
+        t.rest,
+        (
+          record { splits = splits_at v up.read up.ms t up.limit up.unready; due = up.due },
+          (some, subst (λ (n : ℕ). IsBegun n t.rest) up.limit t.begun, place),
+        ),
+      ),
     )
 finish_stops stream.Failed form v k i r0 r1 r2 w0 w1 lt up read fails = absurd (apart fails up.taken.live)
 
@@ -122,9 +129,14 @@ finish_done form v k i r0 r1 r2 w0 w1 up read (inl none) =
     let rest : t.rest ≡ [] = nil_from_length t.rest (sym (length-settled t.rest) ∙ ap length (sym t.held ∙ none)) in
     let whole : t.given ≡ up.read = sym (t.whole ∙ ap (λ (x : List ℕ). t.given ++ x) rest ∙ append-nil t.given) in
     let means : StreamMeans up.read up.ms = subst (λ (x : List ℕ). ReadsAs longest_segment no_login x up.ms) whole
-        (subst (λ (n : ℕ). ReadsAs n no_login t.given up.ms) up.limit t.reads) in
-    (up.read, up.out, up.bytes, consumed_none r0 r1 r2 up.read up.consumed read, up.written,
-        (up.ms, means, up.due, record { pdus = up.pdus; bytes_in = up.bytes_in; bytes_out = up.bytes_out }))
+    (subst (λ (n : ℕ). ReadsAs n no_login t.given up.ms) up.limit t.reads) in (
+      up.read,
+      up.out,
+      up.bytes,
+      consumed_none r0 r1 r2 up.read up.consumed read,
+      up.written,
+      (up.ms, means, up.due, record { pdus = up.pdus; bytes_in = up.bytes_in; bytes_out = up.bytes_out }),
+    )
 
 -- what was passed on of a piece goes on what was written
 wrote_on : (w0 w1 w2 : Option (List ℕ)) (before more out : List ℕ) → Appends w0 w1 before → out ≡ more → Appends w1 w2 out → Appends w0 w2 (before ++ more)
@@ -175,8 +187,18 @@ pass_stops (tool.Stream f) form v k i r0 r1 r2 w0 w1 w2 piece out lt le bytes up
       all,
       Consumes-trans r0 r1 r2 up.read piece up.consumed read,
       wrote_on w0 w1 w2 up.out stop.out out up.written stop.appended wrote,
-      (up.ms ++ stop.more, r.0, r.1, (record { splits = record { whole = r.2.whole; reads = r.2.reads; no_more = r.3 };
-          due = due_append form up.ms stop.more up.out stop.out up.due stop.due }, r.4)),
+      (
+        up.ms ++ stop.more,
+        r.0,
+        r.1,
+        (
+          record {
+            splits = record { whole = r.2.whole; reads = r.2.reads; no_more = r.3 };
+            due = due_append form up.ms stop.more up.out stop.out up.due stop.due;
+          },
+          r.4,
+        ),
+      ),
     )
 pass_stops tool.Read form v k i r0 r1 r2 w0 w1 w2 piece out lt le bytes up read part fails wrote = absurd fails
 pass_stops tool.Write form v k i r0 r1 r2 w0 w1 w2 piece out lt le bytes up read part fails wrote = absurd fails
@@ -197,14 +219,23 @@ write_stops e form v k i r0 r1 r2 w0 w1 w2 piece out bytes up read part is front
       AreBytes-append up.read piece up.bytes bytes,
       Consumes-trans r0 r1 r2 up.read piece up.consumed read,
       Appends-trans w0 w1 w2 up.out (take n out) up.written front.1,
-      (up.ms ++ part.more, r.0, r.1, record { reaches = r.2; bytes = up.out ++ part.out; due = due_append form up.ms part.more up.out part.out up.due part.due;
-          part = (length up.out + n, ap (λ (x : List ℕ). up.out ++ take n x) part.appended ∙ sym (take_past up.out part.out n)) }),
+      (
+        up.ms ++ part.more,
+        r.0,
+        r.1,
+        record {
+          reaches = r.2;
+          bytes = up.out ++ part.out;
+          due = due_append form up.ms part.more up.out part.out up.due part.due;
+          part = (length up.out + n, ap (λ (x : List ℕ). up.out ++ take n x) part.appended ∙ sym (take_past up.out part.out n));
+        },
+      ),
     )
 
 pub read_more : (form : Form) (v w : Framing) (k n : Counts) (i sum : ℕ) (r0 r1 r2 w0 w1 w2 : Option (List ℕ)) (piece out : List ℕ) (more : List Message) → i
     < 16777216 → length piece ≤ 4096 → AreBytes piece → WrittenUpTo form v k i r0 r1 w0 w1 → Consumes r1 r2 piece
     → sum ≡ min (k.bytes_in + length piece) (2 ^ 64 - 1) → (let m : Counts = record k { bytes_in = sum } in PassesOn form v w piece more [] out m n) →
-        Appends w1 w2 out → WrittenUpTo form w n (i + 1) r0 r2 w0 w2
+    Appends w1 w2 out → WrittenUpTo form w n (i + 1) r0 r2 w0 w2
 read_more form v w k n i sum r0 r1 r2 w0 w1 w2 piece out more lt le bytes up read sum-is passes wrote =
     let taken = passes.moves up.read up.ms up.taken in
     let all = AreBytes-append up.read piece up.bytes bytes in

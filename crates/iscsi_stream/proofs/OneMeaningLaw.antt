@@ -1,6 +1,6 @@
 -- What a stream means: one list of messages, which its canonical stream means too.
-use Rattle.std.proofs.Common.{◌≡◌, ℕ, ◌+◌, ◌<◌, ◌≤◌, Bool, true, false, List, [], ◌∷◌, ◌++◌, length, take, drop, refl, sym, ap, subst, ◌∙◌, arith, append-nil,
-    append_assoc, inl, inr}
+use Rattle.std.proofs.Common.{◌≡◌, ℕ, ◌+◌, ◌<◌, ◌≤◌, Bool, true, false, List, [], ◌∷◌, ◌++◌, length, take, drop, refl, sym, ap, subst, ◌∙◌, arith, append-nil}
+use Rattle.std.proofs.Common.{append_assoc, inl, inr}
 use Rattle.std.specs.Prelude.{Option, Some, None, not, ◌&&◌}
 use Rattle.iscsi_text.specs.Text.{Pairs}
 use Rattle.iscsi_text.specs.Canonical.{canonical_text}
@@ -107,33 +107,33 @@ same_begin b more b' more' h h' d d' e m m' =
 pub same_message : (m n : Message) → m.head ≡ n.head → m.segment ≡ n.segment → m ≡ n
 same_message m n p q =
     ap (λ (h : Head). let r : Message = record { head = h; segment = m.segment } in r) p
-        ∙ ap (λ (x : Segment). let r : Message = record { head = n.head; segment = x } in r) q
+    ∙ ap (λ (x : Segment). let r : Message = record { head = n.head; segment = x } in r) q
 
 pub same_split : (limit : ℕ) (logins : Logins) (given : List ℕ) (ms : List Message) (rest given' : List ℕ) (ns : List Message) (rest' : List ℕ)
     → ReadsAs limit logins given ms → NoPdu limit rest → ReadsAs limit logins given' ns → NoPdu limit rest' → given ++ rest ≡ given' ++ rest' → (ms ≡ ns)
-        × (given ≡ given')
+    × (given ≡ given')
 unfolding ReadsAs
 same_split limit logins given [] rest given' [] rest' p ends p' ends' e = (refl, p ∙ sym p')
 same_split limit logins given [] rest given' (n ∷ ns) rest' p ends p' ends' e =
     let begins = p'.3 in
     absurd (ends p'.0 p'.1 (p'.2 ++ rest') n.head (ap (λ (x : List ℕ). x ++ rest) (sym p) ∙ e ∙ ap (λ (x : List ℕ). x ++ rest') begins.whole
-        ∙ append_assoc p'.0 p'.2 rest') begins.means begins.within)
+    ∙ append_assoc p'.0 p'.2 rest') begins.means begins.within)
 same_split limit logins given (m ∷ ms) rest given' [] rest' p ends p' ends' e =
     let begins = p.3 in
     absurd (ends' p.0 p.1 (p.2 ++ rest) m.head (ap (λ (x : List ℕ). x ++ rest') (sym p') ∙ sym e ∙ ap (λ (x : List ℕ). x ++ rest) begins.whole
-        ∙ append_assoc p.0 p.2 rest) begins.means begins.within)
+    ∙ append_assoc p.0 p.2 rest) begins.means begins.within)
 same_split limit logins given (m ∷ ms) rest given' (n ∷ ns) rest' p ends p' ends' e =
     let begins = p.3 in
     let begins' = p'.3 in
     let whole : p.0 ++ (p.2 ++ rest) ≡ p'.0 ++ (p'.2 ++ rest') =
     sym (append_assoc p.0 p.2 rest) ∙ ap (λ (x : List ℕ). x ++ rest) (sym begins.whole) ∙ e ∙ ap (λ (x : List ℕ). x ++ rest') begins'.whole
-        ∙ append_assoc p'.0 p'.2 rest' in
+    ∙ append_assoc p'.0 p'.2 rest' in
     let same = same_begin p.0 (p.2 ++ rest) p'.0 (p'.2 ++ rest') m.head n.head p.1 p'.1 whole begins.means begins'.means in
     let more = same_split limit (after logins m.head) p.2 ms rest p'.2 ns rest' p.4 ends (subst (λ (h : Head). ReadsAs limit (after logins h) p'.2 ns)
-        (sym same.head) p'.4) ends' same.rest in
+    (sym same.head) p'.4) ends' same.rest in
     let segment : m.segment ≡ n.segment =
     begins.meaning ∙ ap (λ (h : Head). segment_of (continues logins h) h p.1) same.head ∙ ap (segment_of (continues logins n.head) n.head) same.segment
-        ∙ sym begins'.meaning in
+    ∙ sym begins'.meaning in
     let first = same_message m n same.head segment in (
       ap (λ (x : Message). x ∷ ms) first ∙ ap (λ (xs : List Message). n ∷ xs) more.0,
       begins.whole ∙ ap (λ (x : List ℕ). x ++ p.2) same.bytes ∙ ap (λ (x : List ℕ). p'.0 ++ x) more.1 ∙ sym begins'.whole,
@@ -150,16 +150,16 @@ longest limit logins given (m ∷ ms) rest p [] q g ends r e = omega (arith, ap 
 longest limit logins given [] rest p (n ∷ ns) q g ends r e =
     let begins = r.3 in
     absurd (ends r.0 r.1 (r.2 ++ q) n.head (ap (λ (x : List ℕ). x ++ rest) (sym g) ∙ e ∙ ap (λ (x : List ℕ). x ++ q) begins.whole
-        ∙ append_assoc r.0 r.2 q) begins.means begins.within)
+    ∙ append_assoc r.0 r.2 q) begins.means begins.within)
 longest limit logins given (m ∷ ms) rest p (n ∷ ns) q g ends r e =
     let begins = g.3 in
     let begins' = r.3 in
     let whole : g.0 ++ (g.2 ++ rest) ≡ r.0 ++ (r.2 ++ q) =
     sym (append_assoc g.0 g.2 rest) ∙ ap (λ (x : List ℕ). x ++ rest) (sym begins.whole) ∙ e ∙ ap (λ (x : List ℕ). x ++ q) begins'.whole
-        ∙ append_assoc r.0 r.2 q in
+    ∙ append_assoc r.0 r.2 q in
     let same = same_begin g.0 (g.2 ++ rest) r.0 (r.2 ++ q) m.head n.head g.1 r.1 whole begins.means begins'.means in
     let more = longest limit (after logins m.head) g.2 ms rest r.2 ns q g.4 ends (subst (λ (h : Head). ReadsAs limit (after logins h) r.2 ns)
-        (sym same.head) r.4) same.rest in
+    (sym same.head) r.4) same.rest in
     omega (arith, more, ap length begins.whole, length-append g.0 g.2, ap length begins'.whole, length-append r.0 r.2, ap length same.bytes)
 
 -- A header that is refused stays so, whatever follows.
@@ -224,8 +224,11 @@ again : (logins : Logins) (limit : ℕ) (stream : List ℕ) (m : Message) (bytes
     (b : Begins limit logins stream m bytes segment rest) → (length (segment_bytes m.segment) ≤ length segment)
     × Means (canonical_bytes m) m.head (segment_bytes m.segment)
 again logins limit stream m bytes segment rest are b =
-    let shorter : length (segment_bytes m.segment) ≤ length segment = omega (arith, ap (λ (x : Segment). length (segment_bytes x)) b.meaning,
-        segment-shorter (continues logins m.head) m.head segment) in
+    let shorter : length (segment_bytes m.segment) ≤ length segment = omega (
+      arith,
+      ap (λ (x : Segment). length (segment_bytes x)) b.meaning,
+      segment-shorter (continues logins m.head) m.head segment,
+    ) in
     (shorter, whole-again bytes m.head segment (segment_bytes m.segment) are b.means shorter)
 
 pub canon_again : (limit : ℕ) (logins : Logins) (s : List ℕ) (ms : List Message) → AreBytes s → ReadsAs limit logins s ms → ReadsAs limit logins (canon ms) ms
@@ -259,14 +262,23 @@ canon-shorter limit logins s (m ∷ ms) bytes reads =
     let both = subst AreBytes begins.whole bytes in
     let one = again logins limit s m reads.0 reads.1 reads.2 (AreBytes-front reads.0 reads.2 both) begins in
     let more = canon-shorter limit (after logins m.head) reads.2 ms (AreBytes-back reads.0 reads.2 both) reads.4 in
-    omega (arith, ap length (flat_map-cons canonical_bytes m ms), length-append (canonical_bytes m) (canon ms), one.1.size, pdu_len-le _ _ one.0,
-        begins.means.size, ap length begins.whole, length-append reads.0 reads.2, more)
+    omega (
+      arith,
+      ap length (flat_map-cons canonical_bytes m ms),
+      length-append (canonical_bytes m) (canon ms),
+      one.1.size,
+      pdu_len-le _ _ one.0,
+      begins.means.size,
+      ap length begins.whole,
+      length-append reads.0 reads.2,
+      more,
+    )
 
 -- a stream of the profile leaves no rest
 pub all_given : (stream given rest : List ℕ) (ms ns : List Message) → StreamMeans stream ns → Splits longest_segment stream ms given rest → rest ≡ []
 all_given stream given rest ms ns means s =
     let same = (same_split longest_segment no_login stream ns [] given ms rest means (no_pdu_none longest_segment) s.reads s.no_more (append-nil stream
-        ∙ s.whole)).1 in
+    ∙ s.whole)).1 in
     nil_from_length rest (omega (arith, ap length same, ap length s.whole, length-append given rest))
 
 -- as many messages as fit

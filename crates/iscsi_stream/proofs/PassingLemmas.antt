@@ -1,6 +1,6 @@
 -- What passing PDUs on leaves.
-use Rattle.std.proofs.Common.{◌≡◌, ℕ, ◌+◌, ◌-◌, ◌<◌, ◌≤◌, ◌^◌, min, Bool, true, false, List, [], ◌∷◌, ◌++◌, length, take, drop, refl, sym, ap, subst, ◌∙◌,
-    arith, append-nil, append_assoc, inl, inr}
+use Rattle.std.proofs.Common.{◌≡◌, ℕ, ◌+◌, ◌-◌, ◌<◌, ◌≤◌, ◌^◌, min, Bool, true, false, List, [], ◌∷◌, ◌++◌, length, take, drop, refl, sym, ap, subst, ◌∙◌}
+use Rattle.std.proofs.Common.{arith, append-nil, append_assoc, inl, inr}
 use Rattle.std.specs.Prelude.{not, ◌&&◌, Some}
 use Rattle.std.proofs.lemmas.Bool.{cases_lt}
 use Rattle.std.proofs.lemmas.List.{length-append, take-append-drop, take_rest, nil_from_length}
@@ -44,7 +44,7 @@ pass_none form v out k unready = record {
 pub pass_one : (form : Form) (v w : Framing) (h : Head) (d before after bytes : List ℕ) (k n : Counts) → Means v.held h d → w ≡ given_up v h → after ≡ before
     ++ bytes → IsDue form (message_of v h d ∷ []) bytes
     → n.pdus ≡ min (k.pdus + 1) (2 ^ 64 - 1) → n.bytes_in ≡ k.bytes_in → n.bytes_out ≡ min (k.bytes_out + length bytes) (2 ^ 64 - 1) →
-        PassesOn form v w [] (message_of v h d ∷ []) before after k n
+    PassesOn form v w [] (message_of v h d ∷ []) before after k n
 pass_one form v w h d before after bytes k n means is appended due pdus bytes_in bytes_out =
     let m = message_of v h d in
     record {
@@ -111,7 +111,7 @@ takes_some v rest n u unready takes some =
       | inr le ↦
           let none : n ≡ 0 = omega arith in
           let same : u.held ≡ settled v.held = ap (λ (x : Framing). x.held) takes.gathered ∙ ap (λ (k : ℕ). settled (v.held ++ take k rest)) none
-              ∙ ap settled (append-nil v.held) in
+          ∙ ap settled (append-nil v.held) in
           let whole : is_whole v.held ≡ true = sym (is_whole-settled v.held) ∙ ap is_whole (sym same) ∙ takes.stops (omega arith) in
           absurd (apart (ap (λ (b : Bool). not b && is_whole v.held) takes.live ∙ whole) unready)
     ]
@@ -131,7 +131,7 @@ whole_is : (form : Form) (piece rest : List ℕ) (old v : Framing) (a b : List �
     (ms : List Message) (now : HasTaken (s ++ upto.before) ms v) → s ++ piece ≡ now.given ++ (now.rest ++ rest)
 whole_is form piece rest old v a b k m upto s ms now =
     ap (λ (x : List ℕ). s ++ x) upto.parts ∙ sym (append_assoc s upto.before rest) ∙ ap (λ (x : List ℕ). x ++ rest) now.whole
-        ∙ append_assoc now.given now.rest rest
+    ∙ append_assoc now.given now.rest rest
 
 now_reads : (s : List ℕ) (ms : List Message) (v : Framing) (now : HasTaken s ms v) → v.limit ≡ longest_segment → ReadsAs longest_segment no_login now.given ms
 now_reads s ms v now limit = subst (λ (n : ℕ). ReadsAs n no_login now.given ms) limit now.reads
@@ -169,23 +169,41 @@ long_rest v rest s ms now le = omega (arith, length-append v.held rest, length-a
 -- a framer's fault of a header, of the bytes that it took and the piece
 pub header_splits : (s p : List ℕ) (ms : List Message) (f : HeadFault) (place : ℕ) (v : Framing) → HasTaken s ms v → FeedFails v p (stream.Head f place)
     → (given : List ℕ) × (rest : List ℕ) × Splits v.limit (s ++ p) ms given rest × (48 ≤ length rest) × (fault_of (take 48 rest) ≡ Some f)
-        × (place ≡ min (length given) last_place)
+    × (place ≡ min (length given) last_place)
 header_splits s p ms f place v t fails =
-    let bad = ap fault_of (sym (refused v p s ms t fails.1.before)) ∙ fails.2 in
-    (t.given, t.rest ++ p, record { whole = ap (λ (x : List ℕ). x ++ p) t.whole ∙ append_assoc t.given t.rest p; reads = t.reads;
-        no_more = no_pdu_bad v.limit (t.rest ++ p) f bad }, long_rest v p s ms t fails.1.reached, bad, fails.3 ∙ t.place)
+    let bad = ap fault_of (sym (refused v p s ms t fails.1.before)) ∙ fails.2 in (
+      t.given,
+      t.rest ++ p,
+      record {
+        whole = ap (λ (x : List ℕ). x ++ p) t.whole ∙ append_assoc t.given t.rest p;
+        reads = t.reads;
+        no_more = no_pdu_bad v.limit (t.rest ++ p) f bad;
+      },
+      long_rest v p s ms t fails.1.reached,
+      bad,
+      fails.3 ∙ t.place,
+    )
 
 -- the same of a segment that is over the limit
 pub limit_splits : (s p : List ℕ) (ms : List Message) (place : ℕ) (v : Framing) → HasTaken s ms v → FeedFails v p (stream.OverLimit place)
     → (given : List ℕ) × (rest : List ℕ) × Splits v.limit (s ++ p) ms given rest × (48 ≤ length rest)
-        × ((head : Head) × (len : ℕ) × IsHeader (take 48 rest) head len × (v.limit < len)) × (place ≡ min (length given) last_place)
+    × ((head : Head) × (len : ℕ) × IsHeader (take 48 rest) head len × (v.limit < len)) × (place ≡ min (length given) last_place)
 limit_splits s p ms place v t fails =
     let over = fails.1 in
     let r : IsHeader (take 48 (t.rest ++ p)) over.0 over.1 = subst (λ (x : List ℕ). IsHeader x over.0 over.1)
-        (refused v p s ms t over.2.reaches.before) over.2.header in
-    (t.given, t.rest ++ p, record { whole = ap (λ (x : List ℕ). x ++ p) t.whole ∙ append_assoc t.given t.rest p; reads = t.reads;
-        no_more = no_pdu_over v.limit (t.rest ++ p) over.0 over.1 r over.3 }, long_rest v p s ms t over.2.reaches.reached, (over.0, over.1, r, over.3), fails.2
-        ∙ t.place)
+    (refused v p s ms t over.2.reaches.before) over.2.header in (
+      t.given,
+      t.rest ++ p,
+      record {
+        whole = ap (λ (x : List ℕ). x ++ p) t.whole ∙ append_assoc t.given t.rest p;
+        reads = t.reads;
+        no_more = no_pdu_over v.limit (t.rest ++ p) over.0 over.1 r over.3;
+      },
+      long_rest v p s ms t over.2.reaches.reached,
+      (over.0, over.1, r, over.3),
+      fails.2
+          ∙ t.place,
+    )
 
 -- no segment is longer than a header can say
 never_over : (form : Form) (piece rest : List ℕ) (old v : Framing) (a b : List ℕ) (k m : Counts) (upto : PassedUpTo form piece rest old v a b k m) (s : List ℕ)
@@ -213,8 +231,11 @@ feed_stops (stream.Head f p) form piece rest old v a b k m upto limit fails = re
         now.rest ++ rest,
         record { whole = whole; reads = now_reads (s ++ upto.before) (ms ++ upto.more) v now (upto.passes.limit ∙ limit) },
         no_pdu_bad longest_segment (now.rest ++ rest) f bad,
-        (long_rest v rest (s ++ upto.before) (ms ++ upto.more) now fails.1.reached, bad,
-            place_is p v (s ++ upto.before) (ms ++ upto.more) now (s ++ piece) (now.rest ++ rest) fails.3 whole lt),
+        (
+          long_rest v rest (s ++ upto.before) (ms ++ upto.more) now fails.1.reached,
+          bad,
+          place_is p v (s ++ upto.before) (ms ++ upto.more) now (s ++ piece) (now.rest ++ rest) fails.3 whole lt,
+        ),
       ));
 }
 feed_stops (stream.OverLimit p) form piece rest old v a b k m upto limit fails = record {
@@ -227,7 +248,7 @@ feed_stops (stream.OverLimit p) form piece rest old v a b k m upto limit fails =
       let over = fails.1 in
       let front = refused v rest (s ++ upto.before) (ms ++ upto.more) now over.2.reaches.before in
       absurd (never_over form piece rest old v a b k m upto s (ms ++ upto.more) now over.0 over.1 bytes
-          (subst (λ (x : List ℕ). IsHeader x over.0 over.1) front over.2.header) (omega (arith, over.3, upto.passes.limit, limit))));
+      (subst (λ (x : List ℕ). IsHeader x over.0 over.1) front over.2.header) (omega (arith, over.3, upto.passes.limit, limit))));
 }
 feed_stops (stream.Truncated p) form piece rest old v a b k m upto limit fails = absurd fails
 feed_stops stream.Failed form piece rest old v a b k m upto limit fails = record {

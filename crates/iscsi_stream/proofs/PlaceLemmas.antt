@@ -16,7 +16,7 @@ use Rattle.iscsi_stream.proofs.TakingLemmas.{splits_taken}
 
 pub stands_at : (stream segment : List ℕ) (ms : List Message) (head : Head) (v : Framing) → HasTaken stream ms v → Means v.held head segment
     → (place : ℕ) × (v.place ≡ min place last_place) × ReadsAs v.limit no_login (take place stream) ms
-        × IsHeader (take 48 (drop place stream)) head (length segment)
+    × IsHeader (take 48 (drop place stream)) head (length segment)
     × (segment ≡ take (length segment) (drop (place + 48) stream)) × (continues v.logins head ≡ continues (after_all no_login ms) head)
 stands_at stream segment ms head v t m =
     let means = Means-from_settled t.rest head segment (subst (λ (x : List ℕ). Means x head segment) t.held m) in
@@ -56,7 +56,7 @@ ready_not stream ms v t given rest s some whole =
     let means = means_of t.rest good.0 segment header (is.1 ∙ ap pdu_len (sym size)) (ap (λ (k : ℕ). take k (drop 48 t.rest)) size) in
     let reads = reads_one_more v.limit no_login t.given ms t.rest good.0 segment t.reads means (omega (arith, size, good.1.within)) in
     let all = longest v.limit no_login given ms rest (t.given ++ t.rest) _ [] s.reads s.no_more reads (sym s.whole ∙ t.whole
-        ∙ sym (append-nil (t.given ++ t.rest))) in
+    ∙ sym (append-nil (t.given ++ t.rest))) in
     omega (arith, all, some, ap length t.whole, ap length s.whole, length-append given rest)
 
 false_unless : (b : Bool) → (b ≡ true → ⊥) → b ≡ false
@@ -68,10 +68,19 @@ pub is_end : (stream : List ℕ) (ms : List Message) (place : ℕ) (v : Framing)
 is_end stream ms place v t ends =
     let s = ends.2 in
     let part : is_whole v.held ≡ false = ap is_whole t.held ∙ is_whole-settled t.rest
-        ∙ false_unless (is_whole t.rest) (ready_not stream ms v t ends.0 ends.1 s ends.3) in
+    ∙ false_unless (is_whole t.rest) (ready_not stream ms v t ends.0 ends.1 s ends.3) in
     let mine = splits_taken stream ms v t part in
     let same : t.given ≡ ends.0 = (same_split v.limit no_login t.given ms t.rest ends.0 ms ends.1 t.reads mine.no_more s.reads s.no_more (sym t.whole
-        ∙ s.whole)).1 in
-    let some : 0 < length v.held = omega (arith, ends.3, ap length same, ap length t.whole, ap length s.whole, length-append t.given t.rest,
-        length-append ends.0 ends.1, ap length t.held, length-settled t.rest) in
+    ∙ s.whole)).1 in
+    let some : 0 < length v.held = omega (
+      arith,
+      ends.3,
+      ap length same,
+      ap length t.whole,
+      ap length s.whole,
+      length-append t.given t.rest,
+      length-append ends.0 ends.1,
+      ap length t.held,
+      length-settled t.rest,
+    ) in
     (t.live, some, part, ends.4 ∙ ap (λ (x : List ℕ). min (length x) last_place) (sym same) ∙ sym t.place)

@@ -44,8 +44,12 @@ pub body_not : (limit : ℕ) (header segment : List ℕ) (room : ℕ) (h : Head)
     → length segment + padded < len + padding len
     → is_whole (header ++ (segment ++ replicate padded 0)) ≡ true → ⊥
 body_not limit header segment room h len padded size body lt e =
-    omega (arith, (is_whole-is (header ++ (segment ++ replicate padded 0)) e).1, length-body header segment padded size,
-        ap pdu_len (length_at-front header (segment ++ replicate padded 0) h len size body.says))
+    omega (
+      arith,
+      (is_whole-is (header ++ (segment ++ replicate padded 0)) e).1,
+      length-body header segment padded size,
+      ap pdu_len (length_at-front header (segment ++ replicate padded 0) h len size body.says),
+    )
 
 pub body_whole : (limit : ℕ) (header segment : List ℕ) (room : ℕ) (h : Head) (len padded : ℕ) → length header ≡ 48 →
     IsBody limit header segment room h len padded → len ≤ length segment → padding len ≤ padded
@@ -53,7 +57,7 @@ pub body_whole : (limit : ℕ) (header segment : List ℕ) (room : ℕ) (h : Hea
 body_whole limit header segment room h len padded size body full all =
     let at = length_at-front header (segment ++ replicate padded 0) h len size body.says in
     is_full (header ++ (segment ++ replicate padded 0)) (omega (arith, length-body header segment padded size))
-        (omega (arith, length-body header segment padded size, ap pdu_len at, body.no_more, body.no_more_padding))
+    (omega (arith, length-body header segment padded size, ap pdu_len at, body.no_more, body.no_more_padding))
 
 pub body_means : (limit : ℕ) (header segment : List ℕ) (room : ℕ) (h : Head) (len padded : ℕ) → length header ≡ 48 →
     IsBody limit header segment room h len padded → len ≤ length segment → padding len ≤ padded

@@ -1,6 +1,6 @@
 -- A header that is refused is a fault, whichever pieces it comes in.
-use Rattle.std.proofs.Common.{◌≡◌, ℕ, false, ◌<◌, ◌≤◌, List, [], ◌∷◌, ◌++◌, length, take, drop, Result, Ok, Err, refl, sym, ap, subst, ◌∙◌, arith, append_assoc,
-    inl, inr}
+use Rattle.std.proofs.Common.{◌≡◌, ℕ, false, ◌<◌, ◌≤◌, List, [], ◌∷◌, ◌++◌, length, take, drop, Result, Ok, Err, refl, sym, ap, subst, ◌∙◌, arith, append_assoc}
+use Rattle.std.proofs.Common.{inl, inr}
 use Rattle.std.specs.Prelude.{Some, IfOk, IfErr}
 use Rattle.std.proofs.lemmas.Bool.{cases_lt}
 use Rattle.std.proofs.lemmas.List.{length-append, length-take, take-append-drop, take-append-le, drop_at}
@@ -29,7 +29,7 @@ same_given limit logins given (m ∷ ms) rest given' rest' p p' e =
     let begins' = p'.3 in
     let whole : p.0 ++ (p.2 ++ rest) ≡ p'.0 ++ (p'.2 ++ rest') =
     sym (append_assoc p.0 p.2 rest) ∙ ap (λ (x : List ℕ). x ++ rest) (sym begins.whole) ∙ e ∙ ap (λ (x : List ℕ). x ++ rest') begins'.whole
-        ∙ append_assoc p'.0 p'.2 rest' in
+    ∙ append_assoc p'.0 p'.2 rest' in
     let same = same_begin p.0 (p.2 ++ rest) p'.0 (p'.2 ++ rest') m.head m.head p.1 p'.1 whole begins.means begins'.means in
     let more = same_given limit (after logins m.head) p.2 ms rest p'.2 rest' p.4 p'.4 same.rest in
     begins.whole ∙ ap (λ (x : List ℕ). x ++ p.2) same.bytes ∙ ap (λ (x : List ℕ). p'.0 ++ x) more ∙ sym begins'.whole
@@ -60,7 +60,7 @@ not_taken v piece rest is long none n new takes =
     let begun = IsBegun-from_settled v.limit here (begun_at _ takes.gathered) in
     let good = begun le in
     let all : v.held ++ piece ≡ here ++ drop n piece = ap (λ (x : List ℕ). v.held ++ x) (sym (take-append-drop n piece))
-        ∙ sym (append_assoc v.held (take n piece) (drop n piece)) in
+    ∙ sym (append_assoc v.held (take n piece) (drop n piece)) in
     let front : take 48 here ≡ take 48 rest = sym (take-append-le 48 here (drop n piece) le) ∙ ap (take 48) (sym all ∙ sym is) in
     none good.0 (length_at here) (subst (λ (x : List ℕ). IsHeader x good.0 (length_at here)) front good.1.header) good.1.within
 
@@ -70,7 +70,7 @@ meets stream piece given rest ms v t s long none =
     let whole : stream ++ piece ≡ t.given ++ (t.rest ++ piece) = ap (λ (x : List ℕ). x ++ piece) t.whole ∙ append_assoc t.given t.rest piece in
     let same : given ≡ t.given = same_given v.limit no_login given ms rest t.given (t.rest ++ piece) s.reads t.reads (sym s.whole ∙ whole) in
     let behind : rest ≡ t.rest ++ piece = sym (drop_at given rest (length given) refl) ∙ ap (drop (length given)) (sym s.whole ∙ whole)
-        ∙ drop_at t.given (t.rest ++ piece) (length given) (ap length (sym same)) in
+    ∙ drop_at t.given (t.rest ++ piece) (length given) (ap length (sym same)) in
     let short : length t.rest < 48 = (
     elim (cases_lt (length t.rest) 48) [
       | inl lt ↦ lt
@@ -110,7 +110,7 @@ limit_is : (v : Framing) (piece rest : List ℕ) (head : Head) (len : ℕ) → v
     v.limit < len → (e : StreamFault) → FeedFails v piece e → e ≡ faults.OverLimit v.place
 limit_is v piece rest head len live meet over lt faults.NoMemory fails =
     absurd (too_long v.limit len fails.1.1 lt fails.1.4 (IsHeader-unique (take 48 rest) head fails.1.0 len fails.1.1 over
-        (subst (λ (x : List ℕ). IsHeader x fails.1.0 fails.1.1) meet.front fails.1.2.header)).1)
+    (subst (λ (x : List ℕ). IsHeader x fails.1.0 fails.1.1) meet.front fails.1.2.header)).1)
 limit_is v piece rest head len live meet over lt (faults.Head f place) fails = absurd
     (bad_header (take 48 rest) head len f over (ap fault_of (sym meet.front) ∙ fails.2))
 limit_is v piece rest head len live meet over lt (faults.OverLimit place) fails = rw fails.2 refl
@@ -133,6 +133,10 @@ pub limit_due : (stream piece given rest : List ℕ) (ms : List Message) (head :
     Splits v.limit (stream ++ piece) ms given rest → 48 ≤ length rest → IsHeader (take 48 rest) head len → v.limit < len
     → Answers v piece (faults.OverLimit v.place)
 limit_due stream piece given rest ms head len v t s long over lt =
-    let meet = meets stream piece given rest ms v t s long (λ other size header le. omega (arith, lt, le,
-        (IsHeader-unique (take 48 rest) other head size len header over).1)) in
+    let meet = meets stream piece given rest ms v t s long (λ other size header le. omega (
+      arith,
+      lt,
+      le,
+      (IsHeader-unique (take 48 rest) other head size len header over).1,
+    )) in
     answers_fault v piece (faults.OverLimit v.place) meet.not_taken (limit_is v piece rest head len t.live meet over lt)

@@ -16,7 +16,7 @@ runs_move old (Feed piece taken ∷ calls) new runs =
     (subst (λ (l : Logins). Moves mid new (bytes_of calls) (messages_of l calls)) logins (runs_move mid calls new runs.2))
 runs_move old (Take head segment ∷ calls) new runs =
     moves_then old (given_up old head) new [] (bytes_of calls) (message_of old head segment ∷ []) (messages_of (after old.logins head) calls)
-        (moves_gave old head segment runs.1) (runs_move (given_up old head) calls new runs.2)
+    (moves_gave old head segment runs.1) (runs_move (given_up old head) calls new runs.2)
 
 pub from_opening : (limit : ℕ) (calls : List Call) (new : Framing) → Runs (opening limit) calls new → HasTaken (bytes_of calls) (messages_of no_login calls) new
 from_opening limit calls new runs = runs_move _ calls new runs [] [] (at_opening limit)

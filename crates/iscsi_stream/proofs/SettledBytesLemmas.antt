@@ -17,8 +17,12 @@ settled-short b le =
 
 pub length-settled : (b : List ℕ) → length (settled b) ≡ length b
 unfolding settled
-length-settled b = omega (arith, length-append (take (content_len b) b) (replicate (length b - content_len b) 0), length-take (content_len b) b,
-    length-replicate {A = ℕ} (length b - content_len b) 0)
+length-settled b = omega (
+  arith,
+  length-append (take (content_len b) b) (replicate (length b - content_len b) 0),
+  length-take (content_len b) b,
+  length-replicate {A = ℕ} (length b - content_len b) 0,
+)
 
 pub take-settled : (j : ℕ) (b : List ℕ) → j ≤ content_len b → take j (settled b) ≡ take j b
 unfolding settled

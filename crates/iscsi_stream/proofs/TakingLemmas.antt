@@ -1,6 +1,6 @@
 -- A framer that takes bytes and gives PDUs up, whichever pieces the bytes came in.
-use Rattle.std.proofs.Common.{◌≡◌, ℕ, ◌≤◌, Bool, false, List, [], ◌∷◌, ◌++◌, length, take, drop, refl, sym, ap, subst, ◌∙◌, arith, inl, inr, max, append-nil,
-    append_assoc}
+use Rattle.std.proofs.Common.{◌≡◌, ℕ, ◌≤◌, Bool, false, List, [], ◌∷◌, ◌++◌, length, take, drop, refl, sym, ap, subst, ◌∙◌, arith, inl, inr, max, append-nil}
+use Rattle.std.proofs.Common.{append_assoc}
 use Rattle.std.proofs.lemmas.Bool.{cases_lt}
 use Rattle.std.proofs.lemmas.List.{length-append, take-append-drop, take-append-le, drop_at}
 use Rattle.iscsi_pdu.specs.declared.head.Head.{Head}
@@ -8,12 +8,12 @@ use Rattle.iscsi_pdu.specs.Meaning.{Means}
 use Rattle.iscsi_stream.specs.declared.logins.Logins.{Logins}
 use Rattle.iscsi_stream.specs.Segment.{no_login, continues, after, segment_of}
 use Rattle.iscsi_stream.specs.Stream.{Message, ReadsAs, after_all, Splits, pdu_len}
-use Rattle.iscsi_stream.specs.Framing.{Framing, opening, settled, is_whole, length_at, begun_len, longest_of, IsBegun, Takes, HasTaken, Moves, given_up,
-    message_of}
+use Rattle.iscsi_stream.specs.Framing.{Framing, opening, settled, is_whole, length_at, begun_len, longest_of, IsBegun, Takes, HasTaken, Moves, given_up}
+use Rattle.iscsi_stream.specs.Framing.{message_of}
 use Rattle.iscsi_stream.proofs.HeadLemmas.{length_at-same, means-length}
 use Rattle.iscsi_stream.proofs.GatheringLemmas.{begun_len-short, begun_len-long}
-use Rattle.iscsi_stream.proofs.SettledBytesLemmas.{settled-short, settled-append, length-settled, length_at-settled, is_whole-settled, IsBegun-from_settled,
-    Means-from_settled}
+use Rattle.iscsi_stream.proofs.SettledBytesLemmas.{settled-short, settled-append, length-settled, length_at-settled, is_whole-settled, IsBegun-from_settled}
+use Rattle.iscsi_stream.proofs.SettledBytesLemmas.{Means-from_settled}
 use Rattle.iscsi_stream.proofs.OneMeaningLaw.{reads_one_more, after_all-snoc, no_pdu_begun}
 
 settled-nil : settled [] ≡ []
@@ -66,10 +66,10 @@ longest-snoc limit logins given (k ∷ ms) rest m reads =
     let first' : length_at (given ++ rest) ≡ length_at bytes = ap length_at whole ∙ length_at-front bytes (reads.2 ++ rest) long in
     let behind : drop (pdu_len (length_at given)) given ≡ reads.2 =
     ap (λ (j : ℕ). drop (pdu_len j) given) first ∙ ap (λ (j : ℕ). drop j given) size ∙ ap (drop (length bytes)) b.whole
-        ∙ drop_at bytes reads.2 (length bytes) refl in
+    ∙ drop_at bytes reads.2 (length bytes) refl in
     let behind' : drop (pdu_len (length_at (given ++ rest))) (given ++ rest) ≡ reads.2 ++ rest =
     ap (λ (j : ℕ). drop (pdu_len j) (given ++ rest)) first' ∙ ap (λ (j : ℕ). drop j (given ++ rest)) size ∙ ap (drop (length bytes)) whole
-        ∙ drop_at bytes (reads.2 ++ rest) (length bytes) refl in
+    ∙ drop_at bytes (reads.2 ++ rest) (length bytes) refl in
     let more = longest-snoc limit (after logins k.head) reads.2 ms rest m reads.4 in
     omega (arith, first, first', ap (longest_of ms) behind, ap (longest_of (ms ++ m ∷ [])) behind', more)
 
@@ -125,8 +125,13 @@ gave s ms v h d t m =
       place = omega (arith, t.place, held, length-append t.given t.rest);
       logins = ap (λ (x : Logins). after x h) t.logins ∙ sym (after_all-snoc no_login ms (message_of v h d));
       held = sym settled-nil;
-      room = omega (arith, t.room, begun_len-long t.rest (omega (arith, means.size)),
-          longest-snoc v.limit no_login t.given ms t.rest (message_of v h d) t.reads, begun_len-short [] (omega arith));
+      room = omega (
+        arith,
+        t.room,
+        begun_len-long t.rest (omega (arith, means.size)),
+        longest-snoc v.limit no_login t.given ms t.rest (message_of v h d) t.reads,
+        begun_len-short [] (omega arith),
+      );
       begun = λ long. absurd (omega arith);
       live = t.live;
     }
@@ -147,7 +152,7 @@ moves_gave v h d means s ms t = taken_at s (s ++ []) (ms ++ message_of v h d ∷
 pub moves_then : (a b c : Framing) (x y : List ℕ) (ms ns : List Message) → Moves a b x ms → Moves b c y ns → Moves a c (x ++ y) (ms ++ ns)
 moves_then a b c x y ms ns p q s ks t =
     taken_at ((s ++ x) ++ y) (s ++ (x ++ y)) ((ks ++ ms) ++ ns) (ks ++ (ms ++ ns)) c (append_assoc s x y) (append_assoc ks ms ns)
-        (q (s ++ x) (ks ++ ms) (p s ks t))
+    (q (s ++ x) (ks ++ ms) (p s ks t))
 
 -- where no PDU is ready, the bytes taken split where the framer says
 pub splits_taken : (s : List ℕ) (ms : List Message) (v : Framing) (t : HasTaken s ms v) → is_whole v.held ≡ false → Splits v.limit s ms t.given t.rest

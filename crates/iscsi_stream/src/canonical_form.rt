@@ -24,9 +24,10 @@ fn is_last(head: &Head) -> bool
     }
 }
 
-/// The text of a login PDU that has a whole one: a PDU that neither continues another nor is continued, and whose
-/// segment is a text (RFC 7143, section 6.1). Answers `AllocError` where memory runs out, which it needs to read the
-/// segment of a PDU that neither continues another nor is continued.
+/// The text of a login PDU that has a whole one: a PDU that neither continues another nor is
+/// continued, and whose segment is a text (RFC 7143, section 6.1). Answers `AllocError` where
+/// memory runs out, which it needs to read the segment of a PDU that neither continues another nor
+/// is continued.
 pub fn text_of<'a>(
     alloc: Global,
     pdu: &Pdu<'a>,
@@ -46,9 +47,9 @@ pub fn text_of<'a>(
     read_text(alloc, pdu.bytes)
 }
 
-/// The header of a PDU's canonical form, with the length of its canonical segment. The PDU continues another login PDU
-/// or does not. Answers `AllocError` where memory runs out, which it needs to read the segment of a PDU that neither
-/// continues another nor is continued.
+/// The header of a PDU's canonical form, with the length of its canonical segment. The PDU
+/// continues another login PDU or does not. Answers `AllocError` where memory runs out, which it
+/// needs to read the segment of a PDU that neither continues another nor is continued.
 pub fn canonical_head(alloc: Global, pdu: &Pdu<'_>, continued: bool) -> Result<[u8; 48], AllocError>
     requires fits { Fits pdu.now.head }
     requires short { length pdu.now.bytes.now < 2 ^ 24 }
@@ -62,9 +63,9 @@ pub fn canonical_head(alloc: Global, pdu: &Pdu<'_>, continued: bool) -> Result<[
     }
 }
 
-/// Appends the canonical form of a PDU, which continues another login PDU or does not: free bits 0, or 1 where the
-/// profile says so, a whole login text in canonical form, and padding 00. Answers `AllocError` where memory runs out,
-/// and leaves `out` as it was.
+/// Appends the canonical form of a PDU, which continues another login PDU or does not: free bits 0,
+/// or 1 where the profile says so, a whole login text in canonical form, and padding 00. Answers
+/// `AllocError` where memory runs out, and leaves `out` as it was.
 pub fn canonical(pdu: &Pdu<'_>, continued: bool, out: &mut Vec<u8>) -> Result<(), AllocError>
     requires fits { Fits pdu.now.head }
     requires short { length pdu.now.bytes.now < 2 ^ 24 }
@@ -80,8 +81,9 @@ pub fn canonical(pdu: &Pdu<'_>, continued: bool, out: &mut Vec<u8>) -> Result<()
     result
 }
 
-/// Appends a PDU with this head and segment, free bits as the profile writes them and padding 00. Answers `AllocError`
-/// where memory runs out, and leaves `out` as it was; with room for 51 bytes more than the segment it appends.
+/// Appends a PDU with this head and segment, free bits as the profile writes them and padding 00.
+/// Answers `AllocError` where memory runs out, and leaves `out` as it was; with room for 51 bytes
+/// more than the segment it appends.
 #[tactic(auto, using(crate::proofs::PaddingLemmas::whole_is))]
 pub fn write_pdu(head: &Head, segment: &[u8], out: &mut Vec<u8>) -> Result<(), AllocError>
     requires fits { Fits head.now }

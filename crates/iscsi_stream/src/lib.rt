@@ -1,4 +1,5 @@
-//! Streams of iSCSI PDUs: framing, the canonical stream, and one line of text for each PDU (RFC 7143, section 11).
+//! Streams of iSCSI PDUs: framing, the canonical stream, and one line of text for each PDU (RFC
+//! 7143, section 11).
 #![tactic(auto)]
 
 mod canonical_form;

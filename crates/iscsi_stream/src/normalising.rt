@@ -1,4 +1,5 @@
-//! What is written for the stream that a reader gives: its canonical stream, or a line for each PDU.
+//! What is written for the stream that a reader gives: its canonical stream, or a line for each
+//! PDU.
 
 ghost use Rattle.std.specs.Prelude.{◌≡◌, ◌<◌, ◌^◌, ◌++◌, ◌∷◌, ℕ, List, [], length, IfErr, OnOk, OnErr, false};
 ghost use Rattle.std.specs.Io.KnownBytes.{Appends, Consumes, IsAtEnd};
@@ -8,9 +9,9 @@ ghost use Rattle.iscsi_stream.specs.Framing.{is_ready};
 ghost use Rattle.iscsi_stream.specs.Normalising.{Normalises, Shows, Writes, AtEnd};
 ghost use Rattle.iscsi_stream.specs.Passing.{IsDue, PassesOn, Appended, PassFails};
 
+use crate::canonical_form::canonical;
 use crate::counts::Counts;
 use crate::fault::ToolFault;
-use crate::canonical_form::canonical;
 use crate::framer::Framer;
 use crate::io::{PIECE, READS, write_fully};
 use crate::lines::show_line;
@@ -30,12 +31,14 @@ pub(crate) enum Form {
     Line,
 }
 
-/// Reads a stream to its end and writes its canonical stream; what the PDUs of one read give goes out in one write.
+/// Reads a stream to its end and writes its canonical stream; what the PDUs of one read give goes
+/// out in one write.
 ///
-/// Answers `Stream` where the stream leaves the profile, and has then written the canonical form of all PDUs before
-/// that place; `Read` where a read fails or 16,777,216 of them did not reach the end, having written that of all whole
-/// PDUs that came; `NoMemory` where memory runs out, having written that of some first PDUs; and `Write` where a write
-/// fails, having written a part of what was due.
+/// Answers `Stream` where the stream leaves the profile, and has then written the canonical form of
+/// all PDUs before that place; `Read` where a read fails or 16,777,216 of them did not reach the
+/// end, having written that of all whole PDUs that came; `NoMemory` where memory runs out, having
+/// written that of some first PDUs; and `Write` where a write fails, having written a part of what
+/// was due.
 pub fn normalise<R: Read, W: Write>(
     alloc: Global,
     r: &mut R,
@@ -49,9 +52,11 @@ pub fn normalise<R: Read, W: Write>(
     write_stream(alloc, Form::Canonical, r, w)
 }
 
-/// Reads a stream to its end and writes a line for each PDU; the lines of the PDUs of one read go out in one write.
+/// Reads a stream to its end and writes a line for each PDU; the lines of the PDUs of one read go
+/// out in one write.
 ///
-/// Its faults are those of `normalise`, and what is written before them is the lines of the same PDUs.
+/// Its faults are those of `normalise`, and what is written before them is the lines of the same
+/// PDUs.
 pub fn show<R: Read, W: Write>(alloc: Global, r: &mut R, w: &mut W) -> Result<Counts, ToolFault>
     ensures writes { (read : List ℕ) × (written : List ℕ) × AreBytes read
         × Consumes (R.remaining r.old) (R.remaining r.new) read

@@ -24,8 +24,13 @@ taken key v vs (p ∷ ps) some = elim (key_cases p.0 key) [
       record { before = []; after = ps; whole = ap (λ (q : List ℕ × Typed). q ∷ ps) (λ i. (same i, value i)); first = refl }
   | inr other ↦
       let rest = taken key v vs ps (sym (values_of-other key p ps other) ∙ some) in
-      record { before = p ∷ rest.before; after = rest.after; whole = ap (λ qs. p ∷ qs) rest.whole; first = values_of-other key p rest.before other
-          ∙ rest.first }
+      record {
+        before = p ∷ rest.before;
+        after = rest.after;
+        whole = ap (λ qs. p ∷ qs) rest.whole;
+        first = values_of-other key p rest.before other
+            ∙ rest.first;
+      }
 ]
 
 -- and the values without it
@@ -53,8 +58,8 @@ permuted (p ∷ ps) qs same =
     let t = taken p.0 p.1 (values_of p.0 ps) qs (sym (same p.0) ∙ values_of-same p.0 p ps refl) in
     let rest = permuted ps (t.before ++ t.after) (taken_rest p ps qs t same) in
     subst (IsPermutation (p ∷ ps)) (sym t.whole) (IsPermutation-trans (p ∷ ps) (p ∷ (t.before ++ t.after)) (t.before ++ p ∷ t.after)
-        (IsPermutation-cons p ps (t.before ++ t.after) rest) (IsPermutation-sym (t.before ++ p ∷ t.after) (p ∷ (t.before ++ t.after))
-        (IsPermutation-middle t.before p t.after)))
+    (IsPermutation-cons p ps (t.before ++ t.after) rest) (IsPermutation-sym (t.before ++ p ∷ t.after) (p ∷ (t.before ++ t.after))
+    (IsPermutation-middle t.before p t.after)))
 
 -- in order, the first key is at most each
 first_least : (p : List ℕ × Typed) (ps : Pairs) → IsInOrder (p ∷ ps) → (key : List ℕ) → 0 < length (values_of key (p ∷ ps)) → key_le p.0 key ≡ true

@@ -1,6 +1,6 @@
 -- The canonical text of what a text means.
-use Rattle.std.proofs.Common.{◌≡◌, ℕ, zero, suc, ◌+◌, ◌<◌, ◌≤◌, List, [], ◌∷◌, ◌++◌, length, map, take, get_or, Option, Some, None, refl, sym, ap, subst, ◌∙◌,
-    arith}
+use Rattle.std.proofs.Common.{◌≡◌, ℕ, zero, suc, ◌+◌, ◌<◌, ◌≤◌, List, [], ◌∷◌, ◌++◌, length, map, take, get_or, Option, Some, None, refl, sym, ap, subst, ◌∙◌}
+use Rattle.std.proofs.Common.{arith}
 use Rattle.std.specs.List.{flat_map, AllByRecursion}
 use Rattle.std.proofs.lemmas.List.{append-nil, length-append}
 use Rattle.std.proofs.lemmas.List.Concat.{length-flat_map}
@@ -87,7 +87,7 @@ pub canonical_no_longer : (text : List ℕ) (pairs : Pairs) → TextMeans text p
 canonical_no_longer text pairs means =
     let row = pairs_of means.entries in
     let same : length (canonical_text row) ≡ length (canonical_text pairs) = length-flat_map pair_text row
-        ∙ sum_by-IsPermutation text_len pairs row (permuted pairs row means.arranges.same) ∙ sym (length-flat_map pair_text pairs) in
+    ∙ sum_by-IsPermutation text_len pairs row (permuted pairs row means.arranges.same) ∙ sym (length-flat_map pair_text pairs) in
     omega (arith, same, row_least means.entries means.row.each, ap length (means.row.spelled ∙ append-nil (flat_map entry_bytes means.entries)))
 
 -- one pair of the canonical text, behind those before it
@@ -95,5 +95,9 @@ pub canonical_part : (xs : List Pair) (i : ℕ) (d : Pair) → i < length xs →
     + length (pair_text (shown (get_or xs i d))) ≤ length (canonical_text (all_shown xs))
 canonical_part [] i d lt = absurd (omega arith)
 canonical_part (x ∷ xs) zero d lt = omega (arith, length-append (pair_text (shown x)) (canonical_text (all_shown xs)))
-canonical_part (x ∷ xs) (suc i) d lt = omega (arith, canonical_part xs i d (omega arith), length-append (pair_text (shown x)) (canonical_text (all_shown xs)),
-    length-append (pair_text (shown x)) (canonical_text (all_shown (take i xs))))
+canonical_part (x ∷ xs) (suc i) d lt = omega (
+  arith,
+  canonical_part xs i d (omega arith),
+  length-append (pair_text (shown x)) (canonical_text (all_shown xs)),
+  length-append (pair_text (shown x)) (canonical_text (all_shown (take i xs))),
+)

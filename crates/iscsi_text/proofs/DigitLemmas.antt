@@ -1,6 +1,6 @@
 -- The digits that a text has, and what they write.
-use Rattle.std.proofs.Common.{◌≡◌, ℕ, zero, suc, ◌+◌, ◌*◌, ◌/◌, ◌%◌, ◌^◌, ◌<◌, ◌≤◌, false, List, [], ◌∷◌, ◌++◌, length, take, get_or, map, sym, ap, cond,
-    eq-eqb, ne_eqb, ◌∙◌, inl, inr, append_assoc, arith}
+use Rattle.std.proofs.Common.{◌≡◌, ℕ, zero, suc, ◌+◌, ◌*◌, ◌/◌, ◌%◌, ◌^◌, ◌<◌, ◌≤◌, false, List, [], ◌∷◌, ◌++◌, length, take, get_or, map, sym, ap, cond}
+use Rattle.std.proofs.Common.{eq-eqb, ne_eqb, ◌∙◌, inl, inr, append_assoc, arith}
 use Rattle.std.specs.Str.Parse.{AllDigits, digits_value, digits_value_after}
 use Rattle.std.specs.Char.{digit_value}
 use Rattle.std.specs.Fmt.{digits, digits_onto, digit_glyph}
@@ -55,9 +55,9 @@ digits_before base zero n acc two some small = absurd (omega (arith, pow-zero ba
 digits_before base (suc k) n acc two some small =
     let front = digits_of_step base n two some in
     let glyphs : map (digit_glyph false) (digits_of base n) ++ acc ≡ map (digit_glyph false) (digits_of base (n / base))
-        ++ (digit_glyph false (n % base) ∷ acc) =
+    ++ (digit_glyph false (n % base) ∷ acc) =
     ap (λ ds. map (digit_glyph false) ds ++ acc) front ∙ ap (λ x. x ++ acc) (map_push (digit_glyph false) (digits_of base (n / base)) (n % base))
-        ∙ append_assoc _ _ acc in
+    ∙ append_assoc _ _ acc in
     elim (cases_lt 0 (n / base)) [
       | inl more ↦
           digits_onto_step base n k acc more

@@ -65,13 +65,19 @@ not_empty ps rest y (Repeated at) faulty is = named_not_empty faulty.key rest y 
 one_key : (key key' rest : List ℕ) → NamesFirst key rest → NamesFirst key' rest → key ≡ key'
 one_key key key' rest n n' =
     let entries = cut 0 (key ++ 61 ∷ n.bytes) (key' ++ 61 ∷ n'.bytes) n.more n'.more (named_no_zero key rest n) (named_no_zero key' rest n')
-        (sym n.whole ∙ n'.whole) in
+    (sym n.whole ∙ n'.whole) in
     (cut 61 key key' n.bytes n'.bytes n.no_equals n'.no_equals entries.0).0
 
 -- what a field of the row names
 field_names : (g : Field) (rest y : List ℕ) → IsField g → rest ≡ (g.key ++ 61 ∷ g.bytes) ++ 0 ∷ y → NamesFirst g.key rest
-field_names g rest y is same = record { bytes = g.bytes; more = y; whole = same; no_equals = key_no_equals g.key is.key; key_ends = key_no_zero g.key is.key;
-    bytes_end = is.ends }
+field_names g rest y is same = record {
+  bytes = g.bytes;
+  more = y;
+  whole = same;
+  no_equals = key_no_equals g.key is.key;
+  key_ends = key_no_zero g.key is.key;
+  bytes_end = is.ends;
+}
 
 -- a named pair is ended, and has `=`
 named_ends : (key rest : List ℕ) → NamesFirst key rest → HasNo 0 rest → ⊥
@@ -102,7 +108,7 @@ stops es (Some g ∷ more) rest y f faulty each single is =
     let new : g.key ≢ target_address → length (values_of g.key (pairs_of es)) ≤ 0 = λ other.
     let whole = pairs_of-append es (Some g ∷ more) in
     let values = ap (values_of g.key) whole ∙ values_of-append g.key (pairs_of es) (pairs_of (Some g ∷ more))
-        ∙ ap (λ vs. values_of g.key (pairs_of es) ++ vs) (values_of-same g.key (g.key, g.value) (pairs_of more) refl) in
+    ∙ ap (λ vs. values_of g.key (pairs_of es) ++ vs) (values_of-same g.key (g.key, g.value) (pairs_of more) refl) in
     omega (arith, single g.key other, ap length values, length-append (values_of g.key (pairs_of es)) (g.value ∷ values_of g.key (pairs_of more))) in
     absurd (not_field (pairs_of es) rest (flat_map entry_bytes more ++ y) g f each.0 new faulty
     (is ∙ append_assoc (entry_bytes (Some g)) (flat_map entry_bytes more) y ∙ append_assoc (g.key ++ 61 ∷ g.bytes) (0 ∷ []) (flat_map entry_bytes more ++ y)))
@@ -111,12 +117,17 @@ stops es (Some g ∷ more) rest y f faulty each single is =
 pub no_fault : (text : List ℕ) (ps : Pairs) (f : TextFault) → TextMeans text ps → IsFirstFault text f → ⊥
 no_fault text ps f means first = elim (compared means.entries first.entries [] first.rest means.row.each first.row.each (sym means.row.spelled
     ∙ first.row.spelled)) [
-  | inl on ↦ omega (arith, rest_some (pairs_of first.entries) first.rest f first.faulty, ap length on.rest,
-      length-append (flat_map entry_bytes on.more) first.rest)
-  | inr on ↦
-      let none = stops first.entries on.more first.rest [] f first.faulty on.each (subst (λ es. IsSingle (pairs_of es)) on.whole means.row.single) on.rest in
-      omega (arith, rest_some (pairs_of first.entries) first.rest f first.faulty, ap length (on.rest ∙ ap (λ m. flat_map entry_bytes m ++ []) none))
-]
+      | inl on ↦ omega (
+        arith,
+        rest_some (pairs_of first.entries) first.rest f first.faulty,
+        ap length on.rest,
+        length-append (flat_map entry_bytes on.more) first.rest,
+      )
+      | inr on ↦
+          let none = stops first.entries on.more first.rest [] f first.faulty on.each (subst (λ es. IsSingle (pairs_of es)) on.whole means.row.single) on.rest
+          in
+          omega (arith, rest_some (pairs_of first.entries) first.rest f first.faulty, ap length (on.rest ∙ ap (λ m. flat_map entry_bytes m ++ []) none))
+    ]
 
 -- nor has a text with a fault a meaning
 pub no_meaning : (text : List ℕ) (f : TextFault) → IsFirstFault text f → (ps : Pairs) → TextMeans text ps → ⊥
@@ -150,7 +161,7 @@ alike text f g a b on =
     let rows : b.entries ≡ a.entries = on.whole ∙ ap (λ m. a.entries ++ m) none ∙ append-nil a.entries in
     let rests : b.rest ≡ a.rest = sym (on.rest ∙ ap (λ m. flat_map entry_bytes m ++ b.rest) none) in
     same_fault (pairs_of a.entries) a.rest f g a.faulty (subst (λ r. IsFaulty (pairs_of r) a.rest g) rows
-        (subst (λ z. IsFaulty (pairs_of b.entries) z g) rests b.faulty))
+    (subst (λ z. IsFaulty (pairs_of b.entries) z g) rests b.faulty))
     (a.place ∙ ap (λ r. length (flat_map entry_bytes r)) (sym rows) ∙ sym b.place)
 
 -- a text has one first fault at most

@@ -1,6 +1,6 @@
 -- The canonical spelling of a number.
-use Rattle.std.proofs.Common.{◌≡◌, ◌≢◌, ℕ, ◌<◌, ◌≤◌, ◌^◌, Bool, true, false, cond, List, [], ◌∷◌, length, refl, sym, ap, subst, ◌∙◌, ◌⊎◌, inl, inr, leb,
-    leb-true, leb-false, arith}
+use Rattle.std.proofs.Common.{◌≡◌, ◌≢◌, ℕ, ◌<◌, ◌≤◌, ◌^◌, Bool, true, false, cond, List, [], ◌∷◌, length, refl, sym, ap, subst, ◌∙◌, ◌⊎◌, inl, inr, leb}
+use Rattle.std.proofs.Common.{leb-true, leb-false, arith}
 use Rattle.std.specs.Char.{digit_value}
 use Rattle.std.specs.Fmt.{decimal}
 use Rattle.std.specs.List.{AllByRecursion}
@@ -55,22 +55,39 @@ decimal_least text n small spelled = length-printed-le 10 (length text) n (omega
 hexadecimal_least : (text : List ℕ) (n : ℕ) → n < 2 ^ 64 → IsHexadecimal text n → length (hexadecimal n) ≤ length text
 hexadecimal_least [] n small spelled = absurd spelled
 hexadecimal_least (z ∷ []) n small spelled = absurd spelled
-hexadecimal_least (z ∷ x ∷ text) n small spelled = omega (arith, length-printed-le 16 (length text) n (omega arith) spelled.2.0
-    (subst (λ m. m < 16 ^ length text) spelled.3 (digits_value-lt 16 text spelled.2.1)) (fits_base 16 n (omega arith) small).1)
+hexadecimal_least (z ∷ x ∷ text) n small spelled = omega (
+  arith,
+  length-printed-le 16 (length text) n (omega arith) spelled.2.0
+      (subst (λ m. m < 16 ^ length text) spelled.3 (digits_value-lt 16 text spelled.2.1)) (fits_base 16 n (omega arith) small).1,
+)
 
 pub canonical_least : (text : List ℕ) (n : ℕ) → Spells text n → length (canonical_number n) ≤ length text
 canonical_least text n spelled = elim (canonical_is n) [
-  | inl shorter ↦ rw shorter.0 (elim spelled.form [ inl d ↦ decimal_least text n spelled.fits d | inr h ↦ omega (arith, shorter.1,
-      hexadecimal_least text n spelled.fits h) ])
-  | inr shorter ↦ rw shorter.0 (elim spelled.form [ inl d ↦ omega (arith, shorter.1,
-      decimal_least text n spelled.fits d) | inr h ↦ hexadecimal_least text n spelled.fits h ])
+  | inl shorter ↦ rw shorter.0 (elim spelled.form [
+    | inl d ↦ decimal_least text n spelled.fits d
+    | inr h ↦ omega (
+      arith,
+      shorter.1,
+      hexadecimal_least text n spelled.fits h,
+    )
+  ])
+  | inr shorter ↦ rw shorter.0 (elim spelled.form [
+    | inl d ↦ omega (
+      arith,
+      shorter.1,
+      decimal_least text n spelled.fits d,
+    )
+    | inr h ↦ hexadecimal_least text n spelled.fits h
+  ])
 ]
 
 -- digits are no bytes 0
 digits_no_zero : (radix : ℕ) (text : List ℕ) → radix ≤ 36 → AllDigits radix text → AllByRecursion (λ b. b ≢ 0) text
 digits_no_zero radix [] small all = tt
-digits_no_zero radix (c ∷ text) small all = ((λ z. let value : digit_value c ≡ 36 = ap digit_value z in omega (arith, all.0, value)),
-    digits_no_zero radix text small all.1)
+digits_no_zero radix (c ∷ text) small all = (
+  (λ z. let value : digit_value c ≡ 36 = ap digit_value z in omega (arith, all.0, value)),
+  digits_no_zero radix text small all.1,
+)
 
 pub spelling_no_zero : (text : List ℕ) (n : ℕ) → Spells text n → HasNo 0 text
 spelling_no_zero text n spelled = All-from_recursion (λ b. b ≢ 0) text (elim spelled.form

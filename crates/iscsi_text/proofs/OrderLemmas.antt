@@ -14,7 +14,7 @@ values_swapped key p q ps apart = elim (key_cases p.0 key) [
   | inl here ↦
       let other : q.0 ≢ key = λ same. apart (here ∙ sym same) in
       values_of-other key q (p ∷ ps) other ∙ values_of-same key p ps here ∙ ap (λ vs. p.1 ∷ vs) (sym (values_of-other key q ps other))
-          ∙ sym (values_of-same key p (q ∷ ps) here)
+      ∙ sym (values_of-same key p (q ∷ ps) here)
   | inr away ↦ elim (key_cases q.0 key) [
     | inl here ↦ values_of-same key q (p ∷ ps) here ∙ ap (λ vs. q.1 ∷ vs) (values_of-other key p ps away)
         ∙ sym (values_of-other key p (q ∷ ps) away ∙ values_of-same key q ps here)

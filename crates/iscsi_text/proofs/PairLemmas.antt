@@ -1,6 +1,6 @@
 -- Pairs in the order of their keys.
-use Rattle.std.proofs.Common.{◌≡◌, ◌≢◌, ℕ, zero, suc, ◌-◌, ◌<◌, ◌≤◌, Bool, true, false, cond, List, [], ◌∷◌, ◌++◌, length, map, take, drop, get_or, slice_get,
-    Option, refl, sym, ap, subst, ◌∙◌, inl, inr, ◌⊎◌, arith}
+use Rattle.std.proofs.Common.{◌≡◌, ◌≢◌, ℕ, zero, suc, ◌-◌, ◌<◌, ◌≤◌, Bool, true, false, cond, List, [], ◌∷◌, ◌++◌, length, map, take, drop, get_or, slice_get}
+use Rattle.std.proofs.Common.{Option, refl, sym, ap, subst, ◌∙◌, inl, inr, ◌⊎◌, arith}
 use Rattle.std.specs.List.{filter, AllByRecursion, AllWithin, insert}
 use Rattle.std.specs.List.Sorted.{IsPartitionedBy, IsPartitionPoint}
 use Rattle.std.specs.Str.{bytes_eq}
@@ -49,7 +49,7 @@ absent_before key [] order all last = refl
 absent_before key (p ∷ []) order all last = values_of-other key p [] (last p (omega arith))
 absent_before key (p ∷ q ∷ ps) order all last =
     let none = absent_before key (q ∷ ps) order.1 all.1 (λ d some. subst (λ (i : ℕ). (get_or (p ∷ q ∷ ps) i d).0 ≢ key) {x = length (p ∷ q ∷ ps) - 1} {y =
-        suc (length (q ∷ ps) - 1)} (omega arith) (last d (omega arith))) in
+    suc (length (q ∷ ps) - 1)} (omega arith) (last d (omega arith))) in
     values_of-other key p (q ∷ ps) (λ same.
     let q_same : q.0 ≡ key = key_le_both q.0 key all.1.0 (subst (λ k. key_le k q.0 ≡ true) same order.0.0) in
     let there = values_of-same key q ps q_same in
@@ -67,8 +67,10 @@ all_le_behind p (q ∷ ps) all = (key_le_other q.0 p.0 all.0, all_le_behind p ps
 in_order_insert : (front back : Pairs) (p : List ℕ × Typed) → IsInOrder (front ++ back) → AllByRecursion (λ q. key_le q.0 p.0 ≡ true) front →
     AllByRecursion (λ q. key_le q.0 p.0 ≡ false) back → IsInOrder (front ++ p ∷ back)
 in_order_insert [] back p order low high = (all_le_behind p back high, order)
-in_order_insert (q ∷ front) back p order low high = (all_insert (λ r. key_le q.0 r.0 ≡ true) front back p order.0 low.0,
-    in_order_insert front back p order.1 low.1 high)
+in_order_insert (q ∷ front) back p order low high = (
+  all_insert (λ r. key_le q.0 r.0 ≡ true) front back p order.0 low.0,
+  in_order_insert front back p order.1 low.1 high,
+)
 
 in_order_front : (front back : Pairs) → IsInOrder (front ++ back) → IsInOrder front
 in_order_front [] back order = tt
@@ -88,8 +90,8 @@ values_insert front back p high key = elim (key_cases p.0 key) [
       let here = values_of-same key p back same in
       let alone = values_of-same key p [] same in
       more ∙ ap (λ vs. values_of key front ++ vs) (here ∙ ap (λ vs. p.1 ∷ vs) none)
-          ∙ ap (λ vs. vs ++ p.1 ∷ []) (sym (whole ∙ ap (λ vs. values_of key front ++ vs) none ∙ append-nil _))
-          ∙ ap (λ vs. values_of key (front ++ back) ++ vs) (sym alone)
+      ∙ ap (λ vs. vs ++ p.1 ∷ []) (sym (whole ∙ ap (λ vs. values_of key front ++ vs) none ∙ append-nil _))
+      ∙ ap (λ vs. values_of key (front ++ back) ++ vs) (sym alone)
   | inr other ↦
       let here = values_of-other key p back other in
       let alone = values_of-other key p [] other in
@@ -101,7 +103,7 @@ values_insert front back p high key = elim (key_cases p.0 key) [
 pub inserted : (front back : Pairs) (p : List ℕ × Typed) → IsInOrder (front ++ back) → AllByRecursion (λ q. key_le q.0 p.0 ≡ true) front →
     AllByRecursion (λ q. key_le q.0 p.0 ≡ false) back
     → (p.0 ≢ target_address → (d : List ℕ × Typed) → 0 < length front → (get_or front (length front - 1) d).0 ≢ p.0) →
-        Inserts (front ++ back) p (front ++ p ∷ back)
+    Inserts (front ++ back) p (front ++ p ∷ back)
 inserted front back p order low high last = record {
   in_order = in_order_insert front back p order low high;
   values = values_insert front back p high;
@@ -128,8 +130,11 @@ front_shown : (key : List ℕ) (xs : List Pair) (i : ℕ) → AllWithin (λ y. k
     AllByRecursion (λ q. key_le q.0 key ≡ true) (all_shown (take i xs))
 front_shown key xs zero all le = tt
 front_shown key [] (suc i) all le = absurd (omega arith)
-front_shown key (x ∷ xs) (suc i) all le = (all 0 x (omega arith) (omega arith), front_shown key xs i (λ k d low high. all (suc k) d (omega arith) (omega arith))
-    (omega arith))
+front_shown key (x ∷ xs) (suc i) all le = (
+  all 0 x (omega arith) (omega arith),
+  front_shown key xs i (λ k d low high. all (suc k) d (omega arith) (omega arith))
+      (omega arith),
+)
 
 back_shown : (key : List ℕ) (xs : List Pair) (i : ℕ) → AllWithin (λ y. key_le y.key.now key ≡ false) xs i (length xs) →
     AllByRecursion (λ q. key_le q.0 key ≡ false) (all_shown (drop i xs))
@@ -150,17 +155,17 @@ last_shown xs i d e some le =
 pub placed : (xs : List Pair) (pair : Pair) (i : ℕ) → IsInOrder (all_shown xs) → i ≤ length xs
     → IsPartitionPoint (λ y. key_le y.key.now pair.key.now ≡ true) (λ y. key_le y.key.now pair.key.now ≡ false) xs i
     → (pair.key.now ≢ target_address → 0 < i → (get_or xs (i - 1) pair).key.now ≢ pair.key.now) →
-        Inserts (all_shown xs) (shown pair) (all_shown (insert xs i pair))
+    Inserts (all_shown xs) (shown pair) (all_shown (insert xs i pair))
 placed xs pair i order le parts last =
     let whole : all_shown xs ≡ all_shown (take i xs) ++ all_shown (drop i xs) = ap all_shown (sym (take-append-drop i xs))
-        ∙ map-append shown (take i xs) (drop i xs) in
+    ∙ map-append shown (take i xs) (drop i xs) in
     let new : all_shown (insert xs i pair) ≡ all_shown (take i xs) ++ shown pair ∷ all_shown (drop i xs) = map-append shown (take i xs) (pair ∷ drop i xs) in
     let size : length (all_shown (take i xs)) ≡ i = length-map (take i xs) shown ∙ length-take-le i xs le in
     let done = inserted (all_shown (take i xs)) (all_shown (drop i xs)) (shown pair) (subst IsInOrder whole order) (front_shown pair.key.now xs i parts.0 le)
-        (back_shown pair.key.now xs i parts.1)
+    (back_shown pair.key.now xs i parts.1)
     (λ other d some same. last other (omega arith) (sym (ap (λ (q : List ℕ × Typed). q.0) (last_shown xs i d pair (omega arith) le)) ∙ same)) in
     subst (λ ps. Inserts ps (shown pair) (all_shown (insert xs i pair))) (sym whole)
-        (subst (λ ps. Inserts (all_shown (take i xs) ++ all_shown (drop i xs)) (shown pair) ps) (sym new) done)
+    (subst (λ ps. Inserts (all_shown (take i xs) ++ all_shown (drop i xs)) (shown pair) ps) (sym new) done)
 
 -- a key that stands at some place has a value
 pub present : (xs : List Pair) (key : List ℕ) (i : ℕ) (d : Pair) → i < length xs → (get_or xs i d).key.now ≡ key → 0 < length (values_of key (all_shown xs))

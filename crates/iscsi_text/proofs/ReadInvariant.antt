@@ -1,6 +1,6 @@
 -- A row read so far.
-use Rattle.std.proofs.Common.{◌≡◌, ◌≢◌, ℕ, ◌-◌, ◌<◌, ◌≤◌, List, [], ◌∷◌, ◌++◌, length, Option, Some, None, refl, sym, ap, subst, ◌∙◌, inl, inr, append_assoc,
-    arith}
+use Rattle.std.proofs.Common.{◌≡◌, ◌≢◌, ℕ, ◌-◌, ◌<◌, ◌≤◌, List, [], ◌∷◌, ◌++◌, length, Option, Some, None, refl, sym, ap, subst, ◌∙◌, inl, inr, append_assoc}
+use Rattle.std.proofs.Common.{arith}
 use Rattle.std.specs.List.{flat_map, AllByRecursion}
 use Rattle.std.proofs.lemmas.List.{append-nil, length-append}
 use Rattle.std.proofs.lemmas.List.Elements.{All-from_recursion, recursion_from_All}
@@ -43,14 +43,14 @@ spelled_more : (bytes rest more : List ℕ) (entries : List (Option Field)) (e :
     ≡ entry_bytes e ++ more → bytes ≡ flat_map entry_bytes (entries ++ e ∷ []) ++ more
 spelled_more bytes rest more entries e spelled next =
     let all : flat_map entry_bytes (entries ++ e ∷ []) ≡ flat_map entry_bytes entries ++ entry_bytes e = flat_map-append entry_bytes entries (e ∷ [])
-        ∙ ap (λ bs. flat_map entry_bytes entries ++ bs) (append-nil (entry_bytes e)) in
+    ∙ ap (λ bs. flat_map entry_bytes entries ++ bs) (append-nil (entry_bytes e)) in
     spelled ∙ ap (λ bs. flat_map entry_bytes entries ++ bs) next ∙ sym (append_assoc (flat_map entry_bytes entries) (entry_bytes e) more)
-        ∙ ap (λ bs. bs ++ more) (sym all)
+    ∙ ap (λ bs. bs ++ more) (sym all)
 
 pub reads_spare : (bytes rest more : List ℕ) (pairs : Pairs) → Reads bytes rest pairs → rest ≡ 0 ∷ more → Reads bytes more pairs
 reads_spare bytes rest more pairs so_far next =
     let none : pairs_of (so_far.entries ++ None ∷ []) ≡ pairs_of so_far.entries = pairs_of-append so_far.entries (None ∷ [])
-        ∙ append-nil (pairs_of so_far.entries) in
+    ∙ append-nil (pairs_of so_far.entries) in
     record {
       entries = so_far.entries ++ None ∷ [];
       row = record {
@@ -91,8 +91,12 @@ single_more ps p single new key other = elim (key_cases p.0 key) [
       let none : values_of key ps ≡ [] = subst (λ k. values_of k ps ≡ []) same (new (λ is. other (sym same ∙ is))) in
       omega (arith, ap length (values_of-append key ps (p ∷ []) ∙ ap (λ vs. vs ++ values_of key (p ∷ [])) none ∙ values_of-same key p [] same))
   | inr apart ↦
-      omega (arith, ap length (values_of-append key ps (p ∷ []) ∙ ap (λ vs. values_of key ps ++ vs) (values_of-other key p [] apart)
-          ∙ append-nil (values_of key ps)), single key other)
+      omega (
+        arith,
+        ap length (values_of-append key ps (p ∷ []) ∙ ap (λ vs. values_of key ps ++ vs) (values_of-other key p [] apart)
+            ∙ append-nil (values_of key ps)),
+        single key other,
+      )
 ]
 
 pub reads_field : (bytes rest entry more key value : List ℕ) (v : Typed) (pairs new : Pairs) → Reads bytes rest pairs → SplitsAt rest 0 entry more →
@@ -106,8 +110,11 @@ reads_field bytes rest entry more key value v pairs new so_far at_end at_equals 
       row = record {
         spelled = spelled_more bytes rest more so_far.entries (Some f) so_far.row.spelled
             (field_spelled rest entry more key value at_end.whole at_equals.whole ∙ sym (append_assoc (key ++ 61 ∷ value) (0 ∷ []) more));
-        each = all_push IsEntry so_far.entries (Some f) so_far.row.each (record { key = is_key;
-            ends = (no_parts entry key value at_end.first at_equals.whole).1; value = means });
+        each = all_push IsEntry so_far.entries (Some f) so_far.row.each (record {
+          key = is_key;
+          ends = (no_parts entry key value at_end.first at_equals.whole).1;
+          value = means;
+        });
         single = subst IsSingle (sym one) (single_more (pairs_of so_far.entries)
             (key, v) so_far.row.single (λ other. sym (so_far.arranges.same key) ∙ inserts.single other));
       };
@@ -130,13 +137,24 @@ no_longer bytes rest pairs so_far = omega (arith, ap length so_far.row.spelled, 
 names_first : (rest entry more key value : List ℕ) → SplitsAt rest 0 entry more → SplitsAt entry 61 key value → NamesFirst key rest
 names_first rest entry more key value at_end at_equals =
     let parts = no_parts entry key value at_end.first at_equals.whole in
-    record { bytes = value; more = more; whole = field_spelled rest entry more key value at_end.whole at_equals.whole; no_equals = at_equals.first;
-        key_ends = parts.0; bytes_end = parts.1 }
+    record {
+      bytes = value;
+      more = more;
+      whole = field_spelled rest entry more key value at_end.whole at_equals.whole;
+      no_equals = at_equals.first;
+      key_ends = parts.0;
+      bytes_end = parts.1;
+    }
 
 module _ (bytes rest : List ℕ) (pairs : Pairs) (at : ℕ) (so_far : Reads bytes rest pairs) (is : at ≡ length bytes - length rest) where
   pub unterminated : rest ≢ [] → HasNo 0 rest → IsFirstFault bytes (Unterminated at)
-  unterminated some none = record { entries = so_far.entries; rest = rest; row = so_far.row; place = place bytes rest pairs at so_far is;
-      faulty = record { some = some; no_end = none } }
+  unterminated some none = record {
+    entries = so_far.entries;
+    rest = rest;
+    row = so_far.row;
+    place = place bytes rest pairs at so_far is;
+    faulty = record { some = some; no_end = none };
+  }
 
   pub no_equals : (entry more : List ℕ) → SplitsAt rest 0 entry more → entry ≢ [] → HasNo 61 entry → IsFirstFault bytes (NoEquals at)
   no_equals entry more at_end some none = record {
@@ -163,8 +181,13 @@ module _ (bytes rest : List ℕ) (pairs : Pairs) (at : ℕ) (so_far : Reads byte
     rest = rest;
     row = so_far.row;
     place = place bytes rest pairs at so_far is;
-    faulty = record { key = key; first = names_first rest entry more key value at_end at_equals; good = is_key; other = other;
-        again = omega (arith, ap length (so_far.arranges.same key)) };
+    faulty = record {
+      key = key;
+      first = names_first rest entry more key value at_end at_equals;
+      good = is_key;
+      other = other;
+      again = omega (arith, ap length (so_far.arranges.same key));
+    };
   }
 
 pub reads_empty : (bytes rest entry more : List ℕ) (pairs : Pairs) → Reads bytes rest pairs → SplitsAt rest 0 entry more → length entry ≡ 0 →

@@ -1,6 +1,6 @@
 -- What the computed reading of bytes gives is what they mean.
-use Rattle.std.proofs.Common.{◌≡◌, ◌≢◌, ℕ, ◌<◌, ◌≤◌, ◌^◌, ◌==◌, Bool, true, false, not, ◌&&◌, ◌||◌, List, [], ◌∷◌, ◌++◌, length, Option, Some, None, refl, sym,
-    ap, subst, ◌∙◌, ◌⊎◌, inl, inr, leb-true, le-leb, eq-eqb, ne_eqb, append_assoc, arith}
+use Rattle.std.proofs.Common.{◌≡◌, ◌≢◌, ℕ, ◌<◌, ◌≤◌, ◌^◌, ◌==◌, Bool, true, false, not, ◌&&◌, ◌||◌, List, [], ◌∷◌, ◌++◌, length, Option, Some, None, refl, sym}
+use Rattle.std.proofs.Common.{ap, subst, ◌∙◌, ◌⊎◌, inl, inr, leb-true, le-leb, eq-eqb, ne_eqb, append_assoc, arith}
 use Rattle.std.specs.Bool.{Decides}
 use Rattle.std.specs.Option.{MatchOption, option_map}
 use Rattle.std.specs.List.{flat_map, AllByRecursion, list_any, list_all, join_with_byte, onto_first}
@@ -22,8 +22,8 @@ use Rattle.iscsi_text.specs.Key.{IsLetter, IsKeyByte, IsKey, kind_of, target_add
 use Rattle.iscsi_text.specs.Value.{Typed, Means, boolean_text}
 use Rattle.iscsi_text.specs.Text.{Pairs, values_of, key_le, IsSingle, IsInOrder, Field, entry_bytes, HasNo, IsField, IsEntry, pairs_of, TextMeans}
 use Rattle.iscsi_text.specs.Inside.{SplitsAt}
-use Rattle.iscsi_text.specs.Reading.{is_empty, parts_at, onto_front, cut_at, number_of_digits, number_behind_zero, number_in, number_or_odd, value_in,
-    is_letter, is_key_byte, is_key, pair_of_cut, pair_in, has_key, added, pairs_in, in_order, text_in}
+use Rattle.iscsi_text.specs.Reading.{is_empty, parts_at, onto_front, cut_at, number_of_digits, number_behind_zero, number_in, number_or_odd, value_in}
+use Rattle.iscsi_text.specs.Reading.{is_letter, is_key_byte, is_key, pair_of_cut, pair_in, has_key, added, pairs_in, in_order, text_in}
 use Rattle.iscsi_text.proofs.KeyLemmas.{bytes_eq_same, bytes_eq_other}
 use Rattle.iscsi_text.proofs.PairLemmas.{values_of-append, values_of-same, values_of-other, key_cases}
 use Rattle.iscsi_text.proofs.MeaningLemmas.{one_value}
@@ -58,7 +58,7 @@ is_key_decides [] = ((λ e. absurd (false≢true e)), (λ is. absurd (omega (ari
 is_key_decides (c ∷ key) = Decides-like _ (λ h. record { size = omega (arith, h.0); first = h.1.0; bytes = h.1.1 })
     (λ is. (omega (arith, is.size), (is.first, is.bytes)))
     (Decides-and _ _ (is_le (length key) 62) (Decides-and _ _ (is_letter_decides c)
-        (Decides-by_and is_key_byte IsKeyByte (list_all is_key_byte) is_key_byte_decides refl (λ _ _. refl) (c ∷ key))))
+    (Decides-by_and is_key_byte IsKeyByte (list_all is_key_byte) is_key_byte_decides refl (λ _ _. refl) (c ∷ key))))
 
 -- ---- numbers
 
@@ -79,9 +79,9 @@ digits_read : (radix : ℕ) (text : List ℕ) → ((number_of_digits radix text 
     ⊎ ((number_of_digits radix text ≡ None) × (Read radix text → ⊥))
 digits_read radix text = elim (decided _ (Decides-and _ _ (some_bytes text) (Decides-and _ _ (all_digits radix text)
     (Decides-ltb (digits_value radix text) (2 ^ 64))))) [
-  | inl h ↦ inl (cond-true _ _ _ h.0, record { numeral = (h.1.0, h.1.1.0); fits = h.1.1.1 })
-  | inr h ↦ inr (cond-false _ _ _ h.0, λ r. h.1 (r.numeral.0, (r.numeral.1, r.fits)))
-]
+      | inl h ↦ inl (cond-true _ _ _ h.0, record { numeral = (h.1.0, h.1.1.0); fits = h.1.1.1 })
+      | inr h ↦ inr (cond-false _ _ _ h.0, λ r. h.1 (r.numeral.0, (r.numeral.1, r.fits)))
+    ]
 
 -- a numeral is read, and nothing else
 abbrev Exact : List ℕ → Option ℕ → Type 0
@@ -219,7 +219,7 @@ has_decides key (p ∷ ps) = elim (key_cases p.0 key) [
   | inl same ↦ ((λ _. omega (arith, ap length (values_of-same key p ps same))), (λ _. ap (λ b. b || has_key key ps) (bytes_eq_same p.0 key same)))
   | inr other ↦ Decides-at _ (has_key key ps) (ap (λ b. b || has_key key ps) (bytes_eq_other p.0 key other))
       (Decides-like _ (λ lt. omega (arith, ap length (values_of-other key p ps other))) (λ lt. omega (arith, ap length (values_of-other key p ps other)))
-          (has_decides key ps))
+      (has_decides key ps))
 ]
 
 again_decides : (p : List ℕ × Typed) (ps : Pairs) → Decides (has_key p.0 ps && not (bytes_eq p.0 target_address))
@@ -297,8 +297,13 @@ no_row = record { entries = []; spelled = refl; each = tt; single = λ key other
 
 spare_row : (bytes : List ℕ) (r : Option Pairs) → IsRowIn bytes r → IsRowIn (0 ∷ bytes) r
 spare_row bytes None is = tt
-spare_row bytes (Some ps) is = record { entries = None ∷ is.entries; spelled = ap (λ bs. 0 ∷ bs) is.spelled; each = (tt, is.each); single = is.single;
-    pairs = is.pairs }
+spare_row bytes (Some ps) is = record {
+  entries = None ∷ is.entries;
+  spelled = ap (λ bs. 0 ∷ bs) is.spelled;
+  each = (tt, is.each);
+  single = is.single;
+  pairs = is.pairs;
+}
 
 pair_row : (part bytes : List ℕ) (o : Option (List ℕ × Typed)) (r : Option Pairs) → HasNo 0 part → IsPairIn part o → IsRowIn bytes r →
     IsRowIn (part ++ 0 ∷ bytes) (added o r)
@@ -325,7 +330,7 @@ row_exact ((c ∷ part) ∷ []) all = tt
 row_exact ([] ∷ next ∷ parts) all = spare_row (join_with_byte 0 (next ∷ parts)) (pairs_in (next ∷ parts)) (row_exact (next ∷ parts) all.1)
 row_exact ((c ∷ part) ∷ next ∷ parts) all =
     pair_row (c ∷ part) (join_with_byte 0 (next ∷ parts)) (pair_in (c ∷ part)) (pairs_in (next ∷ parts)) all.0 (pair_exact (c ∷ part))
-        (row_exact (next ∷ parts) all.1)
+    (row_exact (next ∷ parts) all.1)
 
 parts_end : (bytes : List ℕ) → AllByRecursion (HasNo 0) (parts_at 0 bytes)
 parts_end [] = (All-nil (λ b. b ≢ 0), tt)
@@ -366,4 +371,4 @@ means_read bytes m means =
     ap text_in (means.row.spelled ∙ append-nil (flat_map entry_bytes means.entries))
     ∙ ap (option_map in_order) (row_read means.entries means.row.each means.row.single)
     ∙ ap (λ (qs : Pairs). Some qs) (one_order (in_order ps) m (in_order_is ps) means.arranges.in_order (λ key. values_in_order key ps
-        ∙ sym (means.arranges.same key)))
+    ∙ sym (means.arranges.same key)))

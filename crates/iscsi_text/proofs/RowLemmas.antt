@@ -69,7 +69,7 @@ same_field f g x y is is' e =
     (sym (append_assoc (f.key ++ 61 ∷ f.bytes) (0 ∷ []) x) ∙ e ∙ append_assoc (g.key ++ 61 ∷ g.bytes) (0 ∷ []) y) in
     let parts = cut 61 f.key g.key f.bytes g.bytes (key_no_equals f.key is.key) (key_no_equals g.key is'.key) ends.0 in
     let means : Means (kind_of g.key) g.bytes f.value = subst (λ k. Means (kind_of k) g.bytes f.value) parts.0
-        (subst (λ bs. Means (kind_of f.key) bs f.value) parts.1 is.value) in
+    (subst (λ bs. Means (kind_of f.key) bs f.value) parts.1 is.value) in
     let value : f.value ≡ g.value = one_value (kind_of g.key) g.bytes f.value g.value means is'.value in
     ((λ i. record { key = parts.0 i; bytes = parts.1 i; value = value i }), ends.1)
 
@@ -93,7 +93,7 @@ compared [] fs x y a b e = inl (record { more = fs; whole = refl; rest = e; each
 compared (d ∷ es) [] x y a b e = inr (record { more = d ∷ es; whole = refl; rest = sym e; each = a })
 compared (d ∷ es) (f ∷ fs) x y a b e =
     let heads = same_entry d f (flat_map entry_bytes es ++ x) (flat_map entry_bytes fs
-        ++ y) a.0 b.0 (sym (append_assoc (entry_bytes d) (flat_map entry_bytes es) x) ∙ e ∙ append_assoc (entry_bytes f) (flat_map entry_bytes fs) y) in
+    ++ y) a.0 b.0 (sym (append_assoc (entry_bytes d) (flat_map entry_bytes es) x) ∙ e ∙ append_assoc (entry_bytes f) (flat_map entry_bytes fs) y) in
     elim (compared es fs x y a.1 b.1 heads.1) [
       | inl on ↦ inl (record { more = on.more; whole = ap (λ r. f ∷ r) on.whole ∙ ap (λ r. r ∷ (es ++ on.more)) (sym heads.0); rest = on.rest; each = on.each })
       | inr on ↦ inr (record { more = on.more; whole = ap (λ r. d ∷ r) on.whole ∙ ap (λ r. r ∷ (fs ++ on.more)) heads.0; rest = on.rest; each = on.each })
@@ -106,8 +106,13 @@ entry_some (Some f) = omega (arith, length-append (f.key ++ 61 ∷ f.bytes) (0 �
 
 nothing_more : (more : List (Option Field)) → [] ≡ flat_map entry_bytes more ++ [] → more ≡ []
 nothing_more [] e = refl
-nothing_more (e ∷ more) none = absurd (omega (arith, ap length none, entry_some e, length-append (entry_bytes e ++ flat_map entry_bytes more) [],
-    length-append (entry_bytes e) (flat_map entry_bytes more)))
+nothing_more (e ∷ more) none = absurd (omega (
+  arith,
+  ap length none,
+  entry_some e,
+  length-append (entry_bytes e ++ flat_map entry_bytes more) [],
+  length-append (entry_bytes e) (flat_map entry_bytes more),
+))
 
 ended : (es fs : List (Option Field)) → GoesOn es fs [] [] → fs ≡ es
 ended es fs on = on.whole ∙ ap (λ m. es ++ m) (nothing_more on.more on.rest) ∙ append-nil es
@@ -120,4 +125,4 @@ pub one_meaning : (text : List ℕ) (ps qs : Pairs) → TextMeans text ps → Te
 one_meaning text ps qs a b =
     let row = one_row text a.entries b.entries a.row b.row in
     one_order ps qs a.arranges.in_order b.arranges.in_order (λ key. a.arranges.same key ∙ ap (λ es. values_of key (pairs_of es)) row
-        ∙ sym (b.arranges.same key))
+    ∙ sym (b.arranges.same key))

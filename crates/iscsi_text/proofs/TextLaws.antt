@@ -76,6 +76,6 @@ read_is bytes m means = sym ((reading_some bytes m).1 means)
 
 pub refused_is : {E : Type 0} (bytes : List ℕ) (fault : TextFault) (r : Result (Option Pairs) E)
     → ((fault ≡ NoMemory → ⊥) → (m : Pairs) → TextMeans bytes m → ⊥) → IfOk r (λ text. text ≡ None) → OnOk r (fault ≡ NoMemory → ⊥) →
-        IfOk r (λ text. text ≡ text_in bytes)
+    IfOk r (λ text. text ≡ text_in bytes)
 refused_is bytes fault (Ok text) never none other = none ∙ sym ((reading_none bytes).1 (never other))
 refused_is bytes fault (Err e) never none other = tt

@@ -1,4 +1,5 @@
--- What can be wrong in a text, and which fault is the first (RFC 7143, section 6.1; the order of faults is own rule).
+-- What can be wrong in a text, and which fault is the first (RFC 7143, section 6.1; the order of
+-- faults is own rule).
 use Rattle.std.specs.Prelude.{◌≡◌, ◌≢◌, ℕ, ◌<◌, List, [], ◌∷◌, ◌++◌, length, Option}
 use Rattle.std.specs.List.{flat_map}
 use Rattle.iscsi_text.specs.declared.fault.TextFault.{TextFault}
@@ -43,7 +44,8 @@ pub record Repeats (pairs : Pairs) (rest : List ℕ) : Type 0 where
   pub other : key ≢ target_address
   pub again : 0 < length (values_of key pairs)
 
--- The rest, behind pairs with nothing wrong, begins with a pair that is wrong in this way (section 6.1).
+-- The rest, behind pairs with nothing wrong, begins with a pair that is wrong in this way (section
+-- 6.1).
 abbrev pub IsFaulty : Pairs → List ℕ → TextFault → Type 0
 IsFaulty pairs rest (Unterminated at) = IsUnended rest
 IsFaulty pairs rest (NoEquals at) = LacksEquals rest

@@ -4,19 +4,8 @@ use Rattle.std.specs.Prelude.{◌↔◌}
 use Rattle.std.proofs.lemmas.Bool.{both_ways}
 use Rattle.std.proofs.lemmas.List.{take_all}
 use Rattle.scsi_cdb.specs.declared.cdb.Cdb.{Cdb}
-use Rattle.scsi_cdb.specs.declared.cdb.Cdb.TheVariants.{
-  TestUnitReady,
-  Inquiry,
-  Capacity10,
-  Read10,
-  Write10,
-  SyncCache10,
-  Read16,
-  Write16,
-  Capacity16,
-  ReportLuns,
-  Unknown,
-}
+use Rattle.scsi_cdb.specs.declared.cdb.Cdb.TheVariants.{TestUnitReady, Inquiry, Capacity10, Read10, Write10, SyncCache10, Read16, Write16, Capacity16}
+use Rattle.scsi_cdb.specs.declared.cdb.Cdb.TheVariants.{ReportLuns, Unknown}
 use Rattle.scsi_cdb.specs.declared.cdb.Transfer10.{Transfer10}
 use Rattle.scsi_cdb.specs.declared.cdb.Transfer16.{Transfer16}
 use Rattle.scsi_cdb.specs.declared.cdb.Synchronize10.{Synchronize10}

@@ -1,9 +1,9 @@
 -- Bytes that are cut into blocks: what a read of some of them gives, and what a write leaves.
-use Rattle.std.proofs.Common.{◌≡◌, ℕ, zero, suc, ◌+◌, ◌-◌, ◌*◌, ◌/◌, ◌<◌, ◌≤◌, List, [], ◌++◌, length, take, drop, replicate, refl, sym, ◌∙◌, ap, inl, inr,
-    arith}
+use Rattle.std.proofs.Common.{◌≡◌, ℕ, zero, suc, ◌+◌, ◌-◌, ◌*◌, ◌/◌, ◌<◌, ◌≤◌, List, [], ◌++◌, length, take, drop, replicate, refl, sym, ◌∙◌, ap, inl, inr}
+use Rattle.std.proofs.Common.{arith}
 use mathlib.Core.Path.{fun_ext}
-use Rattle.std.proofs.lemmas.List.{drop-drop, take-append-le, drop-append-le, drop-replicate, take-replicate, drop_all, length-replicate, drop_at,
-    length-take-le, length-drop, drop-take}
+use Rattle.std.proofs.lemmas.List.{drop-drop, take-append-le, drop-append-le, drop-replicate, take-replicate, drop_all, length-replicate, drop_at}
+use Rattle.std.proofs.lemmas.List.{length-take-le, length-drop, drop-take}
 use Rattle.std.proofs.lemmas.Slice.{take-put_mid_below, drop-put_mid}
 use Rattle.std.proofs.lemmas.Bool.{cases_lt}
 use Rattle.std.proofs.Math.Seq.{take-add}
@@ -35,7 +35,7 @@ module _ (size : ℕ) where
       let more : n + 1 ≤ first = omega arith in
       let within : size * n + size ≤ size * first = omega (arith, mul-le-mul_left size more) in
       cut_in_front (put_mid (size * first) (length ys) xs ys) n ∙ ap (drop (size * n))
-          (take-put_mid_below (size * first) (length ys) xs ys (size * n + size) within room) ∙ sym (cut_in_front xs n)
+      (take-put_mid_below (size * first) (length ys) xs ys (size * n + size) within room) ∙ sym (cut_in_front xs n)
 
   behind : (xs ys : List ℕ) (first n : ℕ) → size * first ≤ length xs → size * first + length ys ≤ size * n →
       cut size (put_mid (size * first) (length ys) xs ys) n ≡ cut size xs n
@@ -50,11 +50,11 @@ module _ (size : ℕ) where
       let tail = drop (length ys) (drop (size * first) xs) in
       let whole = put_mid (size * first) (length ys) xs ys in
       let front : drop (size * first) whole ≡ ys ++ tail = drop_at (take (size * first) xs) (ys ++ tail) (size * first)
-          (length-take-le (size * first) xs room) in
+      (length-take-le (size * first) xs room) in
       let there : size * m ≤ length ys = omega arith in
       let left : size ≤ length (drop (size * m) ys) = omega (arith, length-drop (size * m) ys) in
       ap (take size) (ap (λ k. drop k whole) at ∙ sym (drop-drop (size * m) (size * first) whole) ∙ ap (drop (size * m)) front
-          ∙ drop-append-le (size * m) ys tail there)
+      ∙ drop-append-le (size * m) ys tail there)
       ∙ take-append-le size (drop (size * m) ys) tail left
 
   -- whole parts: one that begins before the end ends before it
@@ -77,8 +77,8 @@ module _ (size : ℕ) where
               ∙ inside xs ys first (n - first) room (whole_part count (length ys) (n - first) whole lt))
           | inr past ↦ rw (le-ltb n first ge, le-ltb (size * (n - first)) (length ys) past)
               (behind xs ys first n room (let e : size * n ≡ size * first + size * (n - first) =
-                  (let f : n ≡ first + (n - first) = omega arith in ap (λ k. size * k) f
-                  ∙ (let g : size * (first + (n - first)) ≡ size * first + size * (n - first) = omega arith in g)) in omega arith))
+              (let f : n ≡ first + (n - first) = omega arith in ap (λ k. size * k) f
+              ∙ (let g : size * (first + (n - first)) ≡ size * first + size * (n - first) = omega arith in g)) in omega arith))
         ]
       ]
 

@@ -166,7 +166,7 @@ first_at size first bytes block n some long =
             let near : size * (n - first) < length bytes = omega arith in
             let at : size * (n - first) ≡ 0 = small size (n - first) lt in
             inr (rw (le-ltb n first ge, lt-ltb (size * (n - first)) (length (take size bytes)) short, lt-ltb (size * (n - first)) (length bytes) near, at)
-                (take-take size size bytes (omega arith)))
+            (take-take size size bytes (omega arith)))
         | inr past ↦
             let beyond : length (take size bytes) ≤ size * (n - first) = omega (arith, length-take-le size bytes long) in
             inl (rw (le-ltb n first ge, le-ltb (size * (n - first)) (length (take size bytes)) beyond) refl)

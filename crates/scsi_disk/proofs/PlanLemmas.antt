@@ -1,6 +1,6 @@
 -- What is known of an order that is planned to take or to give.
-use Rattle.std.proofs.Common.{◌≡◌, ℕ, zero, suc, ◌+◌, ◌-◌, ◌*◌, ◌/◌, ◌<◌, ◌≤◌, Bool, true, false, cond, min, List, [], ◌∷◌, ◌++◌, length, take, Option, Some,
-    None, refl, sym, ◌∙◌, ap, arith, zero-add, add-zero}
+use Rattle.std.proofs.Common.{◌≡◌, ℕ, zero, suc, ◌+◌, ◌-◌, ◌*◌, ◌/◌, ◌<◌, ◌≤◌, Bool, true, false, cond, min, List, [], ◌∷◌, ◌++◌, length, take, Option, Some}
+use Rattle.std.proofs.Common.{None, refl, sym, ◌∙◌, ap, arith, zero-add, add-zero}
 use Rattle.std.proofs.lemmas.List.{append_assoc, take-append-le, length-append}
 use Rattle.std.specs.List.{AllByRecursion}
 use borrow.Author.Tests.{ltb-false}
@@ -41,9 +41,9 @@ taken_by order blocks n None e p = record {
   names = unrefused order blocks e;
   length = elim (is_write order.cdb) as (λ b. cond b (Take (512 * (transfer order.cdb).count)) (Give (min (wanted_length order blocks) (expected_length order)))
       ≡ Take n → n ≡ 512 * (transfer order.cdb).count) [
-    | true ↦ λ h. cc
-    | false ↦ λ h. cc
-  ] p;
+        | true ↦ λ h. cc
+        | false ↦ λ h. cc
+      ] p;
 }
 
 pub taken : (order : Order) (blocks n : ℕ) → plan_of order blocks ≡ Take n → IsTaken order blocks n
@@ -55,9 +55,9 @@ given_by order blocks n None e p = record {
   names = unrefused order blocks e;
   most = elim (is_write order.cdb) as (λ b. cond b (Take (512 * (transfer order.cdb).count)) (Give (min (wanted_length order blocks) (expected_length order)))
       ≡ Give n → n ≤ wanted_length order blocks) [
-    | true ↦ λ h. cc
-    | false ↦ λ h. let least : min (wanted_length order blocks) (expected_length order) ≡ n = cc in omega arith
-  ] p;
+        | true ↦ λ h. cc
+        | false ↦ λ h. let least : min (wanted_length order blocks) (expected_length order) ≡ n = cc in omega arith
+      ] p;
 }
 
 pub given : (order : Order) (blocks n : ℕ) → plan_of order blocks ≡ Give n → IsGiven order blocks n
@@ -82,7 +82,7 @@ length-joined size block first (suc c) h =
     let rest = length-joined size block (first + 1) c (λ n low high. h n (omega arith) (omega arith)) in
     let here = h first (omega arith) (omega arith) in
     length-append (block first) (joined block (first + 1) c) ∙ (let e : length (block first) + length (joined block (first + 1) c)
-        ≡ size * suc c = omega arith in e)
+    ≡ size * suc c = omega arith in e)
 
 -- a front needs only the blocks that it reaches into
 pub front-joined : (disk : Disk) (first count n : ℕ) → IsDisk disk → first + count ≤ disk.count → n ≤ 512 * count

@@ -17,19 +17,24 @@ ran_none count disk told none = (refl, refl, none)
 -- a run, and one order behind it
 ran_then : (orders : List Supplied) (o : Supplied) (before now after : ℕ) (start disk : Disk) (told : List Outcome) (left : Effect)
     → RunsIn before start orders now disk told → Executes now after disk o.0 o.1 left →
-        RunsIn before start (orders ++ o ∷ []) after left.disk (told ++ left.outcome ∷ [])
+    RunsIn before start (orders ++ o ∷ []) after left.disk (told ++ left.outcome ∷ [])
 unfolding RunsIn
 ran_then [] o before now after start disk told left ran done =
     (after, left, [], rw (← ran.0, ← ran.1) done, (refl, refl, refl), ap (λ t. t ++ left.outcome ∷ []) ran.2)
-ran_then (x ∷ orders) o before now after start disk told left ran done =
-    (ran.0, ran.1, ran.2 ++ left.outcome ∷ [], ran.3, ran_then orders o ran.0 now after ran.1.disk disk ran.2 left ran.4 done,
-        ap (λ t. t ++ left.outcome ∷ []) ran.5)
+ran_then (x ∷ orders) o before now after start disk told left ran done = (
+  ran.0,
+  ran.1,
+  ran.2 ++ left.outcome ∷ [],
+  ran.3,
+  ran_then orders o ran.0 now after ran.1.disk disk ran.2 left ran.4 done,
+  ap (λ t. t ++ left.outcome ∷ []) ran.5,
+)
 
 -- a run of some first orders, and the next
 pub ran_next : (orders : List Supplied) (i : ℕ) (o : Supplied) → i < length orders → o ≡ get_or orders i o
     → (before now after : ℕ) (start disk : Disk) (told : List Outcome) (left : Effect)
     → RunsIn before start (take i orders) now disk told → Executes now after disk o.0 o.1 left →
-        RunsIn before start (take (i + 1) orders) after left.disk (told ++ left.outcome ∷ [])
+    RunsIn before start (take (i + 1) orders) after left.disk (told ++ left.outcome ∷ [])
 ran_next orders i o here is before now after start disk told left ran done =
     let more : take (i + 1) orders ≡ take i orders ++ o ∷ [] = take_more orders i o here ∙ ap (λ y. take i orders ++ y ∷ []) (sym is) in
     rw more (ran_then (take i orders) o before now after start disk told left ran done)

@@ -1,6 +1,6 @@
 -- Blocks in extents.
-use Rattle.std.proofs.Common.{subst, drop, All, ◌≡◌, ℕ, zero, suc, ◌+◌, ◌-◌, ◌*◌, ◌/◌, ◌%◌, ◌^◌, ◌<◌, ◌≤◌, Bool, true, false, cond, nat_lt, List, [], ◌∷◌, ◌++◌,
-    length, take, replicate, Option, Some, None, refl, sym, ◌∙◌, ap, ◌⊎◌, inl, inr, arith, rules, is_some, IsSome}
+use Rattle.std.proofs.Common.{subst, drop, All, ◌≡◌, ℕ, zero, suc, ◌+◌, ◌-◌, ◌*◌, ◌/◌, ◌%◌, ◌^◌, ◌<◌, ◌≤◌, Bool, true, false, cond, nat_lt, List, [], ◌∷◌, ◌++◌}
+use Rattle.std.proofs.Common.{length, take, replicate, Option, Some, None, refl, sym, ◌∙◌, ap, ◌⊎◌, inl, inr, arith, rules, is_some, IsSome}
 use Rattle.std.proofs.lemmas.Bool.Decides.{nat_tests}
 use mathlib.Core.Path.{fun_ext}
 use Rattle.std.specs.Ordering.{nat_cmp}
@@ -81,7 +81,7 @@ pub joined_next : (size : ℕ) (xs ys : List ℕ) (block : ℕ → List ℕ) (fi
 joined_next size xs ys block first i c k is long room before =
     let end : size * (i + c) ≡ size * i + length ys = omega arith in
     take-put_mid (size * i) k xs ys (size * (i + c)) end room ∙ ap (λ t. t ++ ys) before ∙ ap (λ t. joined block first i ++ t) is
-        ∙ sym (joined-add block first i c)
+    ∙ sym (joined-add block first i c)
 
 joined-like : (f g : ℕ → List ℕ) (a b c : ℕ) → ((i : ℕ) → i < c → f (a + i) ≡ g (b + i)) → joined f a c ≡ joined g b c
 unfolding joined
@@ -153,7 +153,7 @@ same_blocks false m v n blank lt none = refl
 -- nothing is seen of an extent of 00 that was missing
 pub unseen : (count : ℕ) (m n : FinMap nat_cmp (List ℕ)) (k : ℕ) (v : List ℕ) → ((q : ℕ) → get n q ≡ cond (is_at (nat_cmp k) q) (Some v) (get m q))
     → IsBlank v → ((q : ℕ) → is_at (nat_cmp k) q ≡ true → get m q ≡ None) → disk_in (record { count = count; extents = n })
-        ≡ disk_in (record { count = count; extents = m })
+    ≡ disk_in (record { count = count; extents = m })
 unseen count m n k v h blank none = same_disk _ _ refl (fun_ext (λ p.
     ap (λ o. cond (nat_lt p count) (block_in 512 o (p % 64)) []) (h (p / 64))
     ∙ ap (λ t. cond (nat_lt p count) t []) (same_blocks (is_at (nat_cmp k) (p / 64)) (get m (p / 64)) v (p % 64) blank (omega arith) (none (p / 64)))))
@@ -206,7 +206,7 @@ module _ (count p c : ℕ) (m n : FinMap nat_cmp (List ℕ)) (old new ys : List 
   here : (j : ℕ) → j < count → p / 64 ≡ j / 64 → block_in 512 (get n (j / 64)) (j % 64) ≡ overlaid 512 p ys block j
   here j lt at =
       let extent : get n (j / 64) ≡ Some new = h (j / 64) ∙ ap (λ b. cond b (Some new) (get m (j / 64)))
-          (ap (is_at (nat_cmp (p / 64))) (sym at) ∙ at_itself (p / 64)) in
+      (ap (is_at (nat_cmp (p / 64))) (sym at) ∙ at_itself (p / 64)) in
       let was : cut 512 old (j % 64) ≡ block j =
       sym (ap (λ b. cond b (block_in 512 (get m (j / 64)) (j % 64)) []) (lt-ltb j count lt)
       ∙ ap (λ o. block_in 512 o (j % 64)) (ap (λ k. get m k) (sym at) ∙ before) ∙ block_in-some old (j % 64)) in

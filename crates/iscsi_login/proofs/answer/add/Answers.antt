@@ -15,10 +15,10 @@ returns c =
     let at = c.partition_point-at.result in
     let bound : at ≤ length items = omega (arith, c.partition_point-at.ensures.bound, c.deref.ensures.len, ap length c.deref.ensures.value) in
     let parts = IsPartitionPoint-from_clause (λ y. key_le y.key.now pair.key.now) items at
-        (rw c.deref.ensures.value at c.partition_point-at.ensures.partitioned) (in_order_partition pair.key.now items c.requires.in_order)
-        (λ a r f k. search (rules, tests)) in
+    (rw c.deref.ensures.value at c.partition_point-at.ensures.partitioned) (in_order_partition pair.key.now items c.requires.in_order)
+    (λ a r f k. search (rules, tests)) in
     let last : pair.key.now ≢ target_address → 0 < at → (get_or items (at - 1) pair).key.now ≢ pair.key.now =
     λ other some same. let stands = present items pair.key.now (at - 1) pair (omega arith) same in let none = ap length c.requires.new in
-        absurd (omega (arith, stands, none)) in
+    absurd (omega (arith, stands, none)) in
     subst (λ ps. Arranges (all_shown items ++ shown pair ∷ []) (all_shown ps)) (sym c.in_ok-insert.ensures.items)
     (arranges_insert (all_shown items) (shown pair) (all_shown _) (placed items pair at c.requires.in_order bound parts last))

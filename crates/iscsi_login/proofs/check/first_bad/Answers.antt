@@ -13,13 +13,13 @@ pub returns : goal.returns
 returns c =
     let found : option_map (λ x. x.now) c.find.result ≡ find (λ p. is_bad (all_shown c.args.offered.now) (shown p)) c.args.answer.now =
     find_from_yields_List (λ p. is_bad (all_shown c.args.offered.now) (shown p)) _ _ c.find.result c.find.ensures.ran
-        (YieldsList-from_slice c.args.answer.now cc) (λ x b q k. search (rules, tests)) in
+    (YieldsList-from_slice c.args.answer.now cc) (λ x b q k. search (rules, tests)) in
     ap (option_map (λ (p : Pair). p.key.now)) (rw c.in_ok-pair.was at found) ∙ find_shown (is_bad (all_shown c.args.offered.now)) c.args.answer.now
 
 pub returns-in_err-pair : goal.returns-in_err-pair
 returns-in_err-pair c =
     let found : option_map (λ x. x.now) c.find.result ≡ find (λ p. is_bad (all_shown c.args.offered.now) (shown p)) c.args.answer.now =
     find_from_yields_List (λ p. is_bad (all_shown c.args.offered.now) (shown p)) _ _ c.find.result c.find.ensures.ran
-        (YieldsList-from_slice c.args.answer.now cc) (λ x b q k. search (rules, tests)) in
+    (YieldsList-from_slice c.args.answer.now cc) (λ x b q k. search (rules, tests)) in
     rw c.from_residual.ensures (ap (option_map (λ (p : Pair). p.key.now)) (rw c.in_err-pair.was at found)
-        ∙ find_shown (is_bad (all_shown c.args.offered.now)) c.args.answer.now)
+    ∙ find_shown (is_bad (all_shown c.args.offered.now)) c.args.answer.now)

@@ -12,6 +12,10 @@ pub returns : goal.returns
 returns c limit calls v runs unready =
     let t = from_opening limit calls v runs in
     let same = limit_kept _ calls v runs in
-    let splits = splits_taken (bytes_of calls) (messages_of no_login calls) v t (unready_of v.failed v.held t.live unready) in
-    (t.given, t.rest, subst (λ (n : ℕ). Splits n (bytes_of calls) (messages_of no_login calls) t.given t.rest) same splits,
-        subst (λ (n : ℕ). IsBegun n t.rest) same t.begun, t.place)
+    let splits = splits_taken (bytes_of calls) (messages_of no_login calls) v t (unready_of v.failed v.held t.live unready) in (
+      t.given,
+      t.rest,
+      subst (λ (n : ℕ). Splits n (bytes_of calls) (messages_of no_login calls) t.given t.rest) same splits,
+      subst (λ (n : ℕ). IsBegun n t.rest) same t.begun,
+      t.place,
+    )

@@ -8,8 +8,11 @@ use Rattle.iscsi_stream.proofs.PassingLemmas.{pass_none, pass_one}
 use Rattle.iscsi_stream.proofs.normalising.append_ready.Goals as goal
 
 pub returns-in_default-clause-ok : goal.returns-in_default-clause-ok
-returns-in_default-clause-ok c = ([], pass_none c.args.form c.args.framer.now c.args.out.now.items c.args.counts.now
-    (unready_if c.args.framer.now (λ r. c.in_default.ensures.ready.1 r)))
+returns-in_default-clause-ok c = (
+  [],
+  pass_none c.args.form c.args.framer.now c.args.out.now.items c.args.counts.now
+      (unready_if c.args.framer.now (λ r. c.in_default.ensures.ready.1 r)),
+)
 
 pub returns-clause-ok : goal.returns-clause-ok
 returns-clause-ok c =
@@ -27,5 +30,5 @@ returns-clause-ok c =
       pass_one c.args.form c.args.framer.now c.take.new.self h d c.args.out.now.items c.append_pdu.new.out.items bytes c.args.counts.now _ means
           (c.take.ensures.taken h d ready means) done.2
           (subst (λ (b : Bool). IsDue c.args.form (message b h d ∷ []) bytes) flag done.1) c.saturating_add-counts.ensures refl
-              (omega (arith, c.len.ensures, c.len-before.ensures, n, m, sum, c.saturating_add-counts-2.ensures)),
+          (omega (arith, c.len.ensures, c.len-before.ensures, n, m, sum, c.saturating_add-counts-2.ensures)),
     )

@@ -16,7 +16,7 @@ pub returns-in_err-taken-clause-err : goal.returns-in_err-taken-clause-err
 returns-in_err-taken-clause-err c =
     let p = err_from_is_err_and c.from_residual.result c.from_residual.ensures.1 in
     rw (p.1, p.2) (feed_stops c.in_err-taken.field-0.0 c.args.form c.args.piece.now c.loop-rest.rest.now c.args.framer.now c.loop-rest.framer
-        c.args.out.now.items c.loop-rest.out.items c.args.counts.now c.loop-rest.counts c.loop-rest.invariant c.requires.limit c.in_err-taken.ensures.err)
+    c.args.out.now.items c.loop-rest.out.items c.args.counts.now c.loop-rest.counts c.loop-rest.invariant c.requires.limit c.in_err-taken.ensures.err)
 
 pub loop-rest-smaller : goal.loop-rest-smaller
 loop-rest-smaller c =
@@ -29,9 +29,9 @@ loop-rest-smaller c =
 pub loop-rest-preserved : goal.loop-rest-preserved
 loop-rest-preserved c =
     passed_more c.args.form c.args.piece.now c.loop-rest.rest.now c.args.framer.now c.loop-rest.framer c.feed.new.self c.append_ready.new.framer
-        c.args.out.now.items c.loop-rest.out.items c.append_ready.new.out.items
+    c.args.out.now.items c.loop-rest.out.items c.append_ready.new.out.items
     c.args.counts.now c.loop-rest.counts c.append_ready.new.counts c.in_ok-taken.taken c.in_ok-append_ready.ensures.ok.0 c.loop-rest.invariant
-        c.in_ok-taken.ensures.ok c.in_ok-append_ready.ensures.ok.1
+    c.in_ok-taken.ensures.ok c.in_ok-append_ready.ensures.ok.1
 
 pub returns-in_err-append_ready-clause-appended : goal.returns-in_err-append_ready-clause-appended
 returns-in_err-append_ready-clause-appended c = passed_part c.args.form c.args.piece.now c.loop-rest.rest.now c.args.framer.now c.loop-rest.framer

@@ -16,7 +16,7 @@ invariant_of-self c =
       initiator_max_recv = subst (IsWithin max_recv_range) (sym (c.unwrap_or-initiator_max_recv.ensures
           ∙ ap (λ m. unwrap_or m c.self.inside.initiator_max_recv) c.declared_max_recv.ensures.value))
           (declared_within max_recv_range c.self.inside.initiator_max_recv (declared_max_recv c.args.text.now) c.self.invariant.initiator_max_recv
-              (subst (λ m. IfSome m (IsWithin max_recv_range)) c.declared_max_recv.ensures.value c.declared_max_recv.ensures.within));
+          (subst (λ m. IfSome m (IsWithin max_recv_range)) c.declared_max_recv.ensures.value c.declared_max_recv.ensures.within));
       target_max_recv = subst (IsWithin max_recv_range) (sym c.unwrap_or-target_max_recv.ensures)
           (declared_within max_recv_range c.self.inside.target_max_recv c.args.max_recv c.self.invariant.target_max_recv c.requires.declares);
     }

@@ -11,5 +11,5 @@ returns-clause-taken c head segment ready means =
     let inside = ap (λ v. v.failed) c.self.view_is ∙ live in
     let place = ap (λ v. v.place) c.self.view_is in
     rw inside (given_up-is c.args.self.now c.self.inside.limit c.saturating_add-self-inside.result c.after-logins.result c.self.inside.buffer.room head
-        (ap (λ v. v.limit) c.self.view_is) (omega (arith, c.saturating_add-self-inside.ensures, c.held-held.ensures.value, place))
+    (ap (λ v. v.limit) c.self.view_is) (omega (arith, c.saturating_add-self-inside.ensures, c.held-held.ensures.value, place))
     (c.after-logins.ensures ∙ ap (after c.self.inside.logins) same.0 ∙ ap (λ v. after v.logins head) c.self.view_is) (ap (λ v. v.room) c.self.view_is) live)

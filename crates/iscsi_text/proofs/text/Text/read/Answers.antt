@@ -9,8 +9,10 @@ use Rattle.iscsi_text.proofs.FaultLemmas.{no_meaning}
 use Rattle.iscsi_text.proofs.text.Text.read.Goals as goal
 
 pub invariant_of-result : goal.invariant_of-result
-invariant_of-result c = (is_meaning c.args.bytes.now (all_shown c.in_ok-pairs.pairs.items) c.in_ok-pairs.ensures.found,
-    omega (arith, canonical_no_longer c.args.bytes.now (all_shown c.in_ok-pairs.pairs.items) c.in_ok-pairs.ensures.found))
+invariant_of-result c = (
+  is_meaning c.args.bytes.now (all_shown c.in_ok-pairs.pairs.items) c.in_ok-pairs.ensures.found,
+  omega (arith, canonical_no_longer c.args.bytes.now (all_shown c.in_ok-pairs.pairs.items) c.in_ok-pairs.ensures.found),
+)
 
 pub returns-clause-no_longer : goal.returns-clause-no_longer
 returns-clause-no_longer c = canonical_no_longer c.args.bytes.now (all_shown c.in_ok-pairs.pairs.items) c.in_ok-pairs.ensures.found

@@ -13,7 +13,7 @@ returns-in-Some c =
     let low : n + blocks ≤ c.self.inside.blocks = omega arith in
     c.read_blocks.ensures ∙ ap (λ t. joined (cut 512 t) (n % 64) blocks) bytes
     ∙ run_there c.self.inside.blocks c.self.inside.extents.entries n blocks (Some c.in-Some.extent.now) c.in-Some.ensures.value c.requires.one low
-        c.in-Some.extent.now refl
+    c.in-Some.extent.now refl
     ∙ ap (λ (s : Extents). joined (disk_in s).block n blocks) c.self.view_is
 
 pub returns-in-None : goal.returns-in-None

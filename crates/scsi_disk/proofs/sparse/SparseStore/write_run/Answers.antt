@@ -43,7 +43,7 @@ returns-clause-disk c =
           let long : length bytes ≡ 512 * (length bytes / 512) = (let whole = c.requires.whole in omega arith) in
           rw w.self-inside-is
           (run_written c.self.inside.blocks c.args.n (length bytes / 512) (from_entries es)
-              (from_entries fs) old v bytes h before w.put.ensures.blocks long c.requires.one inside
+          (from_entries fs) old v bytes h before w.put.ensures.blocks long c.requires.one inside
           ∙ ap (λ s. written c.args.n c.args.bytes.now (disk_in s)) c.self.view_is))
       | in_default w ↦ absurd (never_none _ w.in_default.ensures.value there)
     ]
