@@ -75,7 +75,7 @@ Starts (Err fault) old new before after = StartFails fault old new before after
 -- ---- a call of feed
 
 -- What a call heard of its piece: so many bytes, which complete PDUs of these meanings (own rule).
-pub record Heard (old : Connection) (piece : List ℕ) : Type 0 where
+pub record Received (old : Connection) (piece : List ℕ) : Type 0 where
   pub count : ℕ
   pub some : count ≤ length piece
   pub messages : List Message
@@ -84,64 +84,64 @@ pub record Heard (old : Connection) (piece : List ℕ) : Type 0 where
   pub limit : framing.limit ≡ old.framing.limit
 
 -- The steps that these PDUs lead to (own rule).
-abbrev pub heard_steps : (old : Connection) (piece : List ℕ) → Heard old piece → Stepped
-heard_steps old piece heard = steps old.machine heard.messages
+abbrev pub received_steps : (old : Connection) (piece : List ℕ) → Received old piece → Stepped
+received_steps old piece received = steps old.machine received.messages
 
 -- The whole piece is heard, and the session is open (own rule).
-pub record HearsAll (old : Connection) (piece : List ℕ) (heard : Heard old piece)
+pub record ReceivesAll (old : Connection) (piece : List ℕ) (received : Received old piece)
     (new : Connection) (before after : List ℕ) (phase : Phase) : Type 0 where
-  pub all : heard.count ≡ length piece
-  pub live : is_closed (heard_steps old piece heard).machine ≡ false
-  pub unready : is_ready heard.framing ≡ false
+  pub all : received.count ≡ length piece
+  pub live : is_closed (received_steps old piece received).machine ≡ false
+  pub unready : is_ready received.framing ≡ false
   pub connection : new
-      ≡ record { machine = (heard_steps old piece heard).machine; framing = heard.framing }
-  pub output : after ≡ before ++ canon (heard_steps old piece heard).output
-  pub answered : phase ≡ (heard_steps old piece heard).machine.phase
+      ≡ record { machine = (received_steps old piece received).machine; framing = received.framing }
+  pub output : after ≡ before ++ canon (received_steps old piece received).output
+  pub answered : phase ≡ (received_steps old piece received).machine.phase
 
 -- The last PDU that is heard closes the session; the rest of the piece is dropped (own rule).
-pub record ClosesAt (old : Connection) (piece : List ℕ) (heard : Heard old piece)
+pub record ClosesAt (old : Connection) (piece : List ℕ) (received : Received old piece)
     (new : Connection) (before after : List ℕ) (fault : Option InitiatorFault) : Type 0 where
-  pub closes : is_closed (heard_steps old piece heard).machine ≡ true
-  pub machine : new.machine ≡ (heard_steps old piece heard).machine
-  pub output : after ≡ before ++ canon (heard_steps old piece heard).output
-  pub cause : (heard_steps old piece heard).fault ≡ fault
+  pub closes : is_closed (received_steps old piece received).machine ≡ true
+  pub machine : new.machine ≡ (received_steps old piece received).machine
+  pub output : after ≡ before ++ canon (received_steps old piece received).output
+  pub cause : (received_steps old piece received).fault ≡ fault
 
 -- What follows the PDUs that are heard is refused by the framer (own rule).
-pub record StreamEnds (old : Connection) (piece : List ℕ) (heard : Heard old piece)
+pub record StreamEnds (old : Connection) (piece : List ℕ) (received : Received old piece)
     (new : Connection) (before after : List ℕ) (fault : StreamFault) : Type 0 where
-  pub live : is_closed (heard_steps old piece heard).machine ≡ false
-  pub refused : FeedFails heard.framing (drop heard.count piece) fault
-  pub machine : new.machine ≡ closed (heard_steps old piece heard).machine
-  pub output : after ≡ before ++ canon (heard_steps old piece heard).output
+  pub live : is_closed (received_steps old piece received).machine ≡ false
+  pub refused : FeedFails received.framing (drop received.count piece) fault
+  pub machine : new.machine ≡ closed (received_steps old piece received).machine
+  pub output : after ≡ before ++ canon (received_steps old piece received).output
 
 -- Memory ran out behind some PDUs: nothing is written, and the session is closed (own rule).
-pub record MemoryEnds (old : Connection) (piece : List ℕ) (heard : Heard old piece)
+pub record MemoryEnds (old : Connection) (piece : List ℕ) (received : Received old piece)
     (new : Connection) (before after : List ℕ) : Type 0 where
-  pub live : is_closed (heard_steps old piece heard).machine ≡ false
-  pub machine : new.machine ≡ closed (heard_steps old piece heard).machine
+  pub live : is_closed (received_steps old piece received).machine ≡ false
+  pub machine : new.machine ≡ closed (received_steps old piece received).machine
   pub output : after ≡ before
 
 -- No fault of the stream is `NoMemory` (own rule).
 abbrev pub StreamFails : StreamFault → (old : Connection) (piece : List ℕ) → Connection → List ℕ → List ℕ → Type 0
 StreamFails stream.NoMemory old piece new before after = ⊥
 StreamFails fault old piece new before after =
-    (heard : Heard old piece) × StreamEnds old piece heard new before after fault
+    (received : Received old piece) × StreamEnds old piece received new before after fault
 
 -- What a call of feed leaves that failed (own rule).
 abbrev pub FeedEnds : InitiatorFault → (old : Connection) (piece : List ℕ) → Connection → List ℕ → List ℕ → Type 0
 FeedEnds faults.NoMemory old piece new before after =
-    (heard : Heard old piece) × MemoryEnds old piece heard new before after
+    (received : Received old piece) × MemoryEnds old piece received new before after
 FeedEnds (faults.Stream fault) old piece new before after =
     StreamFails fault old piece new before after
 FeedEnds faults.Closed old piece new before after = Stays old new before after
 FeedEnds fault old piece new before after =
-    (heard : Heard old piece) × ClosesAt old piece heard new before after (Some fault)
+    (received : Received old piece) × ClosesAt old piece received new before after (Some fault)
 
 -- What a call of feed does with a piece of the stream (own rule).
 abbrev pub Feeds : Result Phase InitiatorFault → (old : Connection) (piece : List ℕ) → Connection → List ℕ → List ℕ → Type 0
 Feeds (Ok phase) old piece new before after = (is_closed old.machine ≡ false)
-    × ((heard : Heard old piece) × (HearsAll old piece heard new before after phase
-    ⊎ (ClosesAt old piece heard new before after None × (phase ≡ phases.Closed))))
+    × ((received : Received old piece) × (ReceivesAll old piece received new before after phase
+    ⊎ (ClosesAt old piece received new before after None × (phase ≡ phases.Closed))))
 Feeds (Err fault) old piece new before after = FeedEnds fault old piece new before after
 
 -- ---- a call of submit

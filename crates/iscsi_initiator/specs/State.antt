@@ -9,7 +9,7 @@ use Rattle.iscsi_login.specs.declared.phase.Phase.TheVariants as phases
 use Rattle.iscsi_login.specs.Offers.{Proposal}
 use Rattle.iscsi_login.specs.Held.{Held, defaults}
 use Rattle.iscsi_initiator.specs.declared.request.Done.{Done}
-use Rattle.iscsi_initiator.specs.declared.open.Open.{Open}
+use Rattle.iscsi_initiator.specs.declared.outstanding.Outstanding.{Outstanding}
 use Rattle.iscsi_login.specs.Stage.{is_closed_phase}
 
 -- What an initiator was told: what it offers, and how it logs in (section 6.3).
@@ -30,7 +30,7 @@ pub record Machine : Type 0 where
   -- where the login is, or was when the session closed
   pub stage : Stage
   -- what is left of the login text behind the segments sent
-  pub left : List ℕ
+  pub unsent_text : List ℕ
   -- one more than the last StatSN received, once there was one
   pub exp_stat_sn : Option ℕ
   pub held : Held
@@ -40,7 +40,7 @@ pub record Machine : Type 0 where
   pub cmd_sn : ℕ
   -- the tag of the last request
   pub initiator_task_tag : ℕ
-  pub open_request : Option Open
+  pub outstanding : Option Outstanding
   -- the outcome that is not yet taken
   pub done : Option Done
 
@@ -67,7 +67,7 @@ opening settings = record {
   started = false;
   phase = phases.Login;
   stage = settings.start;
-  left = [];
+  unsent_text = [];
   exp_stat_sn = None;
   held = record defaults { initiator_max_recv = settings.proposal.prefs.max_recv };
   window = record {
@@ -76,7 +76,7 @@ opening settings = record {
   };
   cmd_sn = settings.first_cmd_sn;
   initiator_task_tag = 0;
-  open_request = None;
+  outstanding = None;
   done = None;
 }
 

@@ -21,8 +21,8 @@ abbrev pub fails : Machine → InitiatorFault → Stepped
 fails m fault = record { machine = closed m; output = []; fault = Some fault }
 
 -- The target broke this rule (section 7.7; the numbers of the rules are own profile).
-abbrev pub breaks : Machine → ℕ → Stepped
-breaks m rule = fails m (Protocol rule)
+abbrev pub protocol_error : Machine → ℕ → Stepped
+protocol_error m rule = fails m (Protocol rule)
 
 -- A step that sends nothing (own rule).
 abbrev pub quiet : Machine → Stepped

@@ -19,8 +19,8 @@ use Rattle.iscsi_initiator.specs.declared.request.Request.{Request}
 use Rattle.iscsi_initiator.specs.declared.request.Request.TheVariants.{In, Out, Ping, Text, Logout}
 use Rattle.iscsi_initiator.specs.declared.request.SubmitFault.{SubmitFault}
 use Rattle.iscsi_initiator.specs.declared.request.SubmitFault.TheVariants as refusals
-use Rattle.iscsi_initiator.specs.declared.open.Open.{Open}
-use Rattle.iscsi_initiator.specs.declared.open.Open.TheVariants as opens
+use Rattle.iscsi_initiator.specs.declared.outstanding.Outstanding.{Outstanding}
+use Rattle.iscsi_initiator.specs.declared.outstanding.Outstanding.TheVariants as opens
 use Rattle.iscsi_initiator.specs.State.{Machine, next_tag, sent_exp_stat_sn}
 use Rattle.iscsi_pdu.specs.Fields.{reserved_tag}
 use Rattle.iscsi_initiator.specs.Block.{record_of}
@@ -50,7 +50,7 @@ is_too_long m Logout = false
 -- Why a request is refused in full feature phase (own rule).
 abbrev pub refusal_when_full : Machine → Request → Option SubmitFault
 refusal_when_full m request =
-    if is_some m.open_request || is_some m.done then Some refusals.Busy
+    if is_some m.outstanding || is_some m.done then Some refusals.Busy
     else (if not (is_within m.cmd_sn m.window.exp.0 m.window.max.0) then Some refusals.Shut
     else (if is_too_long m request then Some refusals.TooLong else None))
 
@@ -67,11 +67,11 @@ refusal m request = refusal_in m.phase m request
 -- ---- requests that are accepted
 
 -- The session with a new request, whose tag and CmdSN are the next (section 4.2.2.1).
-abbrev pub begun : Machine → Open → Machine
+abbrev pub begun : Machine → Outstanding → Machine
 begun m request = record m {
   initiator_task_tag = next_tag m.initiator_task_tag;
   cmd_sn = next_sn m.cmd_sn;
-  open_request = Some request;
+  outstanding = Some request;
 }
 
 -- A request is accepted, and these go out (own rule).

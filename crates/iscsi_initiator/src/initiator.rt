@@ -5,7 +5,7 @@ ghost use Rattle.iscsi_stream.specs.Framing.{Takes, is_ready, stopped};
 ghost use Rattle.iscsi_initiator.specs.State.{is_closed};
 ghost use Rattle.iscsi_initiator.specs.Steps.{closed};
 ghost use Rattle.iscsi_initiator.specs.Calls.{opening_connection, Starts, Feeds, Submits, Finishes, after_taking};
-ghost use Rattle.iscsi_initiator.specs.Inside.{connection, initiator_fault, HearsReady, ShutsReady, RestFails, FedUntil, has_run_out};
+ghost use Rattle.iscsi_initiator.specs.Inside.{connection, initiator_fault, ReceivesPdu, ShutsReady, RestFails, FedUntil, has_run_out};
 
 use crate::config::Config;
 use crate::fault::InitiatorFault;
@@ -180,7 +180,7 @@ fn feed_all(
     while !rest.is_empty() {
         let taken = take_bytes(session, framer, rest)?;
         rest = &rest[taken..];
-        let fault = hear_ready(session, framer, out)?;
+        let fault = receive_pdu(session, framer, out)?;
         if session.is_closed() {
             return match fault {
                 Some(fault) => Err(fault),
@@ -224,13 +224,13 @@ fn stream_fault(fault: StreamFault) -> InitiatorFault
 
 // Takes the PDU that is ready, if one is, and gives it up. Says which fault it led to, if it led to
 // one. Being out of memory closes the session.
-fn hear_ready(
+fn receive_pdu(
     session: &mut Session,
     framer: &mut Framer,
     out: &mut Vec<u8>,
 ) -> Result<Option<InitiatorFault>, AllocError>
     requires live { is_closed session.old ≡ false }
-    ensures ok { IfOk result (λ fault. HearsReady (connection session.old framer.old) fault
+    ensures ok { IfOk result (λ fault. ReceivesPdu (connection session.old framer.old) fault
         (connection session.new framer.new) out.old.items out.new.items) }
     ensures err { OnErr result (ShutsReady (connection session.old framer.old)
         (connection session.new framer.new) out.old.items out.new.items) }

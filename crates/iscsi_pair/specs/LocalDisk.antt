@@ -45,14 +45,14 @@ writing_order lun cdb bytes = record {
 }
 
 -- The sense bytes, where there are any (section 11.4.7).
-abbrev pub told_sense : Option Sense → List ℕ
-told_sense None = []
-told_sense (Some sense) = sense_bytes sense
+abbrev pub reported_sense : Option Sense → List ℕ
+reported_sense None = []
+reported_sense (Some sense) = sense_bytes sense
 
 -- What is told of what an order answered (section 11.4).
-abbrev pub told : Outcome → Done
-told outcome =
-    done.Command 0 outcome.status (told_sense outcome.sense) outcome.bytes outcome.residual
+abbrev pub reported : Outcome → Done
+reported outcome =
+    done.Command 0 outcome.status (reported_sense outcome.sense) outcome.bytes outcome.residual
 
 -- An outcome, and the disk after it (own rule).
 pub record Local : Type 0 where
@@ -61,7 +61,7 @@ pub record Local : Type 0 where
 
 -- A command was executed on a disk that is here (sections 11.3 and 11.4).
 abbrev pub local_command : Effect → Local
-local_command after = record { outcome = told after.outcome; disk = after.disk }
+local_command after = record { outcome = reported after.outcome; disk = after.disk }
 
 -- What a request does where the disk is here. A ping gives the first of its bytes, at most so many;
 -- texts and logouts are nothing to a disk (sections 11.3, 11.4 and 11.18; own rule).
@@ -101,7 +101,7 @@ pub record AreInStep (m : initiator.Machine) (t : target.Machine) : Type 0 where
   pub initiator_phase : m.phase ≡ phases.Full
   pub target_phase : t.session.phase ≡ phases.Full
   pub session : t.session.session_type ≡ sessions.Normal
-  pub none_open : m.open_request ≡ None
+  pub none_open : m.outstanding ≡ None
   pub none_done : m.done ≡ None
   pub no_task : t.tasks ≡ []
   pub held : t.session.held ≡ m.held
@@ -120,7 +120,7 @@ pub record AreInStep (m : initiator.Machine) (t : target.Machine) : Type 0 where
 pub record HaveParted (m : initiator.Machine) (t : target.Machine) : Type 0 where
   pub initiator_phase : m.phase ≡ phases.Closed
   pub target_phase : t.session.phase ≡ phases.Closed
-  pub none_open : m.open_request ≡ None
+  pub none_open : m.outstanding ≡ None
 
 -- Both ends are in step and hold this, or have parted after this outcome, that of a logout (own
 -- rule).
@@ -132,7 +132,7 @@ AreAtRest held outcome m t =
 
 -- Both ends, the disk, and the answers on their way, where the target has heard all that was sent
 -- (own rule).
-pub record Stand : Type 0 where
+pub record Exchange : Type 0 where
   pub initiator : initiator.Machine
   pub target : target.Machine
   pub disk : Disk
@@ -140,7 +140,7 @@ pub record Stand : Type 0 where
 
 -- A message reaches the initiator, and what it sends then the target; these answers came before
 -- (section 4.2; own rule).
-abbrev pub after_answer : Stand → Message → List Message → Stand
+abbrev pub after_answer : Exchange → Message → List Message → Exchange
 after_answer x m more =
     let heard = step x.initiator m in
     let answered = answers x.target x.disk heard.output in
@@ -152,17 +152,17 @@ after_answer x m more =
     }
 
 -- The next answer reaches the initiator, if one is on its way (own rule).
-abbrev pub after_next : Stand → List Message → Stand
+abbrev pub after_next : Exchange → List Message → Exchange
 after_next x [] = x
 after_next x (m ∷ more) = after_answer x m more
 
 -- So many answers, one after another (own rule).
-abbrev pub after_answers : ℕ → Stand → Stand
+abbrev pub after_answers : ℕ → Exchange → Exchange
 after_answers zero x = x
 after_answers (suc more) x = after_answers more (after_next x x.answers)
 
 -- A request is handed in, and the target hears what goes out (section 4.2).
-abbrev pub handed_in : initiator.Machine → target.Machine → Disk → Request → Stand
+abbrev pub handed_in : initiator.Machine → target.Machine → Disk → Request → Exchange
 handed_in m t disk request =
     let answered = answers t disk (submitted m request).output in
     record {
@@ -174,12 +174,12 @@ handed_in m t disk request =
 
 -- The request has this outcome and left this disk, no answer is on its way, and once the outcome is
 -- taken both ends are in step and hold this, or have parted (section 4.2; own rule).
-pub record HasEnded (held : Held) (outcome : Done) (disk_now : Disk) (x : Stand) : Type 0 where
+pub record HasEnded (held : Held) (outcome : Done) (disk_now : Disk) (x : Exchange) : Type 0 where
   pub done_is : x.initiator.done ≡ Some outcome
   pub silent : x.answers ≡ []
   pub disk_is : x.disk ≡ disk_now
   pub at_rest : AreAtRest held outcome (taken x.initiator) x.target
 
 -- After some answers it has (own rule).
-abbrev pub ComesTo : Held → Done → Disk → Stand → Type 0
+abbrev pub ComesTo : Held → Done → Disk → Exchange → Type 0
 ComesTo held outcome disk_now x = (n : ℕ) × HasEnded held outcome disk_now (after_answers n x)

@@ -41,14 +41,14 @@ IsAccepted (Submits request) w =
 IsAccepted _ w = Unit {0}
 
 -- The request that is handed in (own rule).
-abbrev pub asked_in : Event → List Request
-asked_in (Submits request) = request ∷ []
-asked_in _ = []
+abbrev pub requests_in : Event → List Request
+requests_in (Submits request) = request ∷ []
+requests_in _ = []
 
 -- The requests that are handed in, in their order (own rule).
-abbrev pub asked : List Event → List Request
-asked [] = []
-asked (event ∷ events) = asked_in event ++ asked events
+abbrev pub requests_of : List Event → List Request
+requests_of [] = []
+requests_of (event ∷ events) = requests_in event ++ requests_of events
 
 -- The outcome that is taken, if there is one (own rule).
 abbrev pub given_in : Event → World → List Done
@@ -69,7 +69,7 @@ RunsServed old (event ∷ events) new outcomes =
 pub record SomeRunServes (c : Opening) (all : List Request) (outcomes : List Done) : Type 0 where
   pub events : List Event
   pub world : World
-  pub asked_are : asked events ≡ all
+  pub requests_are : requests_of events ≡ all
   pub runs : RunsServed (new_pair c) events world outcomes
   pub none_out : world.to_target ≡ []
   pub none_back : world.to_initiator ≡ []

@@ -106,7 +106,7 @@ pub data Event : Type 0 where
   Takes : Event
 
 -- Bytes reach the target, as one piece; a fault is kept (section 4; own rule).
-pub record TargetHears (moved : List ℕ) (old new : World) : Type 0 where
+pub record TargetReceives (moved : List ℕ) (old new : World) : Type 0 where
   pub result : Result Phase TargetFault
   pub fed : target.Fed old.target (store_of old.blocks) old.to_initiator moved result
       new.target (store_of new.blocks) new.to_initiator
@@ -116,7 +116,7 @@ pub record TargetHears (moved : List ℕ) (old new : World) : Type 0 where
   pub other_fault : new.initiator_fault ≡ old.initiator_fault
 
 -- Bytes reach the initiator, as one piece; a fault is kept (section 4; own rule).
-pub record InitiatorHears (moved : List ℕ) (old new : World) : Type 0 where
+pub record InitiatorReceives (moved : List ℕ) (old new : World) : Type 0 where
   pub result : Result Phase InitiatorFault
   pub fed : initiator.Feeds result old.initiator moved new.initiator old.to_target new.to_target
   pub dropped : new.to_initiator ≡ drop (length moved) old.to_initiator
@@ -139,7 +139,7 @@ pub record InitiatorIsAsked (request : Request) (old new : World) : Type 0 where
 -- Bytes move to the target; one that has failed drops them, and no bytes change nothing (own rule).
 abbrev pub MovesToTarget : Option TargetFault → List ℕ → World → World → Type 0
 MovesToTarget fault [] old new = new ≡ old
-MovesToTarget None (byte ∷ bytes) old new = TargetHears (byte ∷ bytes) old new
+MovesToTarget None (byte ∷ bytes) old new = TargetReceives (byte ∷ bytes) old new
 MovesToTarget (Some fault) (byte ∷ bytes) old new =
     new ≡ record old { to_target = drop (length (byte ∷ bytes)) old.to_target }
 
@@ -147,7 +147,7 @@ MovesToTarget (Some fault) (byte ∷ bytes) old new =
 -- rule).
 abbrev pub MovesToInitiator : Option EndFault → List ℕ → World → World → Type 0
 MovesToInitiator fault [] old new = new ≡ old
-MovesToInitiator None (byte ∷ bytes) old new = InitiatorHears (byte ∷ bytes) old new
+MovesToInitiator None (byte ∷ bytes) old new = InitiatorReceives (byte ∷ bytes) old new
 MovesToInitiator (Some fault) (byte ∷ bytes) old new =
     new ≡ record old { to_initiator = drop (length (byte ∷ bytes)) old.to_initiator }
 

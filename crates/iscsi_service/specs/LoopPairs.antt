@@ -10,7 +10,7 @@ use Rattle.iscsi_initiator.specs.declared.request.Done.{Done}
 use Rattle.iscsi_initiator.specs.declared.request.Request.{Request}
 use Rattle.iscsi_pair.specs.World.{World, Opening, Event, new_pair}
 use Rattle.iscsi_pair.specs.LocalDisk.{local}
-use Rattle.iscsi_pair.specs.Served.{RunsServed, asked, disk_after, disk_outcomes}
+use Rattle.iscsi_pair.specs.Served.{RunsServed, requests_of, disk_after, disk_outcomes}
 use Rattle.iscsi_service.specs.declared.command.Command.{Command}
 use Rattle.iscsi_service.specs.declared.serve_fault.ServeFault.{ServeFault}
 use Rattle.iscsi_service.specs.Commands.{request_of}
@@ -73,7 +73,7 @@ pub record HaveServed (blocks : ℕ) (requests : List Request) (outcomes : List 
   pub events : List Event
   pub bytes : List ℕ
   pub disk_is : disk_of bytes ≡ ends.disk
-  pub asked_are : asked events ≡ requests
+  pub requests_are : requests_of events ≡ requests
   pub runs : RunsServed (new_pair (loop_opening blocks)) events (world_of ends bytes) outcomes
 
 -- Whatever the ends had served before, they have served then, and nothing more was asked or taken

@@ -103,7 +103,7 @@ pub fn run_over<C: Carrier, R: Read, W: Write>(
         × LoopsOnDisk blocks result script written }
 {
     let commands = read_script(rt.alloc(), r)?;
-    let mut ends = Ends::<C>::open(rt, blocks, piece as usize)?;
+    let mut ends = LoopbackSession::<C>::open(rt, blocks, piece as usize)?;
     ends.log_in()?;
     write_line(w, b"login\n")?;
     run_commands(&mut ends, commands, w)?;
@@ -112,7 +112,7 @@ pub fn run_over<C: Carrier, R: Read, W: Write>(
 
 // Does the commands up to the first logout, with a line for each.
 fn run_commands<C: Carrier, W: Write>(
-    ends: &mut Ends<C>,
+    ends: &mut LoopbackSession<C>,
     commands: Vec<Command>,
     w: &mut W,
 ) -> Result<(), ServeFault>
@@ -136,7 +136,7 @@ fn run_commands<C: Carrier, W: Write>(
 
 // Does a command, and writes the line of its outcome.
 fn run_command<C: Carrier, W: Write>(
-    ends: &mut Ends<C>,
+    ends: &mut LoopbackSession<C>,
     command: Command,
     w: &mut W,
 ) -> Result<(), ServeFault>
@@ -172,7 +172,7 @@ fn write_line<W: Write>(w: &mut W, line: &[u8]) -> Result<(), ServeFault>
 
 /// Both ends of a session, and the connection between them.
 #[derive(Drop)]
-struct Ends<C> {
+struct LoopbackSession<C> {
     alloc: Global,
     initiator: Initiator,
     target: Target,
@@ -184,9 +184,9 @@ struct Ends<C> {
     ghost short: { piece ≤ 4096 },
 }
 
-impl<C: Carrier> Ends<C> {
+impl<C: Carrier> LoopbackSession<C> {
     // Both ends of a session that is not started.
-    fn open(rt: &HostRuntime, blocks: u64, piece: usize) -> Result<Ends<C>, ServeFault>
+    fn open(rt: &HostRuntime, blocks: u64, piece: usize) -> Result<LoopbackSession<C>, ServeFault>
         requires some { 0 < blocks }
         requires few { blocks ≤ most_blocks }
         requires moves { 0 < piece }
@@ -198,7 +198,7 @@ impl<C: Carrier> Ends<C> {
         ensures err { IfErr result IsOfSession }
     {
         let alloc = rt.alloc();
-        Ok(Ends {
+        Ok(LoopbackSession {
             alloc,
             initiator: Initiator::new(alloc, initiator_configuration(alloc)?),
             target: Target::new(alloc, configuration(alloc)?, FIRST_STAT_SN),
@@ -265,14 +265,14 @@ impl<C: Carrier> Ends<C> {
             if requests.is_empty() {
                 return Ok(());
             }
-            let answers = self.ask(&requests)?;
-            requests = self.hear(&answers)?;
+            let answers = self.feed_target(&requests)?;
+            requests = self.feed_initiator(&answers)?;
         }
         Err(ServeFault::Network)
     }
 
     // Carries requests to the target, and gives its answers.
-    fn ask(&mut self, requests: &[u8]) -> Result<Vec<u8>, ServeFault>
+    fn feed_target(&mut self, requests: &[u8]) -> Result<Vec<u8>, ServeFault>
         ensures kept { self.new.initiator ≡ self.old.initiator }
         ensures served { IsFaithful C.carries → IfOk result (λ answers. GoOn
             (ends_of self.old.initiator self.old.target (disk_in self.old.store) requests.now [])
@@ -296,7 +296,7 @@ impl<C: Carrier> Ends<C> {
     }
 
     // Carries answers to the initiator, and gives what it sends then.
-    fn hear(&mut self, answers: &[u8]) -> Result<Vec<u8>, ServeFault>
+    fn feed_initiator(&mut self, answers: &[u8]) -> Result<Vec<u8>, ServeFault>
         ensures continues { OnOk result
             (Continues self.old.initiator.machine [] [] self.new.initiator.machine) }
         ensures served { IsFaithful C.carries → IfOk result (λ requests. GoOn
@@ -322,7 +322,7 @@ impl<C: Carrier> Ends<C> {
     fn close(self) -> Result<(), ServeFault>
         ensures err { IfErr result IsOfSession }
     {
-        let Ends {
+        let LoopbackSession {
             mut target,
             carrier,
             ..

@@ -89,10 +89,10 @@ abbrev pub desired : Held → Write → ℕ
 desired held w = min (w.total - received w) (max_burst held)
 
 -- The write once an R2T went out: its sequence is due (section 11.8).
-abbrev pub asking : Held → Write → Write
-asking held w = record w {
-  due = Solicited w.asked 0 (received w + desired held w);
-  asked = w.asked + 1;
+abbrev pub with_r2t : Held → Write → Write
+with_r2t held w = record w {
+  due = Solicited w.r2t_count 0 (received w + desired held w);
+  r2t_count = w.r2t_count + 1;
 }
 
 -- ---- a write as a program keeps it

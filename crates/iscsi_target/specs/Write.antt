@@ -16,4 +16,4 @@ pub record Write : Type 0 where
   pub pieces : Pieces
   pub due : Due
   -- how many R2Ts went out, which is the next one's tag and R2TSN
-  pub asked : ℕ
+  pub r2t_count : ℕ

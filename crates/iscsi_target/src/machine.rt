@@ -10,7 +10,7 @@ ghost use Rattle.iscsi_target.specs.State.{breaks};
 ghost use Rattle.iscsi_target.specs.Machine.{is_closed};
 ghost use Rattle.iscsi_target.specs.Inside.{Leaves};
 
-mod answering;
+mod dispatch;
 mod command;
 mod writes;
 

@@ -11,8 +11,8 @@ use Rattle.iscsi_target_session.specs.Login.{answered}
 -- ---- the login
 
 -- What a request says of the session before it is answered is taken back (own rule).
-abbrev pub left_by : Session → Session → Session
-left_by old new =
+abbrev pub rolled_back : Session → Session → Session
+rolled_back old new =
     record new { begun = old.begun; exp_cmd_sn = old.exp_cmd_sn; stage = old.stage }
 
 -- An answer of class 0 with this text (own rule).

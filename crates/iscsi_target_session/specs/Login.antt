@@ -18,7 +18,7 @@ use Rattle.iscsi_target_session.specs.Session.{Session, Reply, shut, ended, coun
 use Rattle.scsi_disk.specs.Plan.{first_of}
 use Rattle.iscsi_pdu.specs.Rules.{kind_not_due}
 use Rattle.iscsi_target_session.specs.declared.status.Status.{Status}
-use Rattle.iscsi_target_session.specs.LoginText.{initiator_error, unsupported_version, session_does_not_exist, out_of_resources, is_operational, known_keys, given_with, session_for, answer_pairs, held_after, text_refusals}
+use Rattle.iscsi_target_session.specs.LoginText.{initiator_error, unsupported_version, session_does_not_exist, out_of_resources, is_operational, known_keys, seen_with, session_for, answer_pairs, held_after, text_refusals}
 
 -- ---- stages
 
@@ -130,7 +130,7 @@ after_text s r pairs = record s {
   has_text = true;
   has_operational_text = s.has_operational_text || is_operational s.stage;
   session_type = session_for s pairs;
-  given = given_with known_keys s.given pairs;
+  seen_keys = seen_with known_keys s.seen_keys pairs;
   held = held_after s pairs;
 }
 

@@ -76,17 +76,17 @@ abbrev pub known_keys : List (List ℕ)
 known_keys = number_keys ++ boolean_keys ++ items_keys ++ plain_keys
 
 -- A known key that may stand once was given before, and is given again (section 6.2).
-abbrev pub gives_again : List (List ℕ) → List Bool → Pairs → Bool
-gives_again (key ∷ more) (was ∷ given) pairs =
+abbrev pub repeats_key : List (List ℕ) → List Bool → Pairs → Bool
+repeats_key (key ∷ more) (was ∷ seen) pairs =
     (was && (not (bytes_eq key target_address) && has_key key pairs))
-    || gives_again more given pairs
-gives_again _ _ pairs = false
+    || repeats_key more seen pairs
+repeats_key _ _ pairs = false
 
 -- Of each known key, whether it was given before or is given now (section 6.2).
-abbrev pub given_with : List (List ℕ) → List Bool → Pairs → List Bool
-given_with (key ∷ more) (was ∷ given) pairs =
-    (was || has_key key pairs) ∷ given_with more given pairs
-given_with _ _ pairs = []
+abbrev pub seen_with : List (List ℕ) → List Bool → Pairs → List Bool
+seen_with (key ∷ more) (was ∷ seen) pairs =
+    (was || has_key key pairs) ∷ seen_with more seen pairs
+seen_with _ _ pairs = []
 
 -- ---- what the first whole text says
 
@@ -180,7 +180,7 @@ abbrev pub text_refusals : Session → Pairs → List (Bool × Status)
 text_refusals s pairs =
     let is_first = not s.has_text in
     let wants_target = is_first && is_normal (session_for s pairs) in
-    (gives_again known_keys s.given pairs, initiator_error)
+    (repeats_key known_keys s.seen_keys pairs, initiator_error)
     ∷ (is_first && not (is_name (value_for (codes "InitiatorName") pairs)), missing_parameter)
     ∷ (is_first && is_none (session_in pairs), unsupported_session_type)
     ∷ (wants_target && is_none (value_for (codes "TargetName") pairs), missing_parameter)

@@ -8,10 +8,10 @@ use Rattle.iscsi_pdu.specs.declared.head.Head.{Head}
 use Rattle.iscsi_pdu.specs.declared.head.Head.TheVariants as heads
 use Rattle.iscsi_stream.specs.Stream.{Message}
 use Rattle.iscsi_stream.specs.Canonical.{canonical_header}
-use Rattle.iscsi_target_session.specs.Session.{Session, Reply, nothing, say, ended, max_cmd_sn_with}
+use Rattle.iscsi_target_session.specs.Session.{Session, Reply, nothing, send_response, ended, max_cmd_sn_with}
 use Rattle.iscsi_pdu.specs.Fields.{reserved_tag}
 use Rattle.iscsi_target_session.specs.Rejecting.{breach, breached}
-use Rattle.iscsi_target_session.specs.Discovery.{text_request}
+use Rattle.iscsi_target_session.specs.TextRequests.{text_request}
 use Rattle.iscsi_pdu.specs.Rules.{kind_not_due, logout_reason}
 use Rattle.iscsi_stream.specs.Segment.{segment_bytes}
 
@@ -31,7 +31,7 @@ nop_in_head s waiting h = heads.NopIn (record {
 abbrev pub nop_out : Session → ℕ → NopOut → List ℕ → Reply
 nop_out s waiting h bytes =
     if h.initiator_task_tag == reserved_tag then nothing s
-    else say s (nop_in_head s waiting h) (take s.held.initiator_max_recv bytes)
+    else send_response s (nop_in_head s waiting h) (take s.held.initiator_max_recv bytes)
 
 -- The head of the answer that a function isn't supported (section 11.6.1).
 abbrev pub task_response_head : Session → ℕ → TaskRequest → Head
@@ -45,7 +45,7 @@ task_response_head s waiting h = heads.TaskResponse (record {
 
 -- No task management function is supported (section 11.5; own profile).
 abbrev pub task_request : Session → ℕ → TaskRequest → Reply
-task_request s waiting h = say s (task_response_head s waiting h) []
+task_request s waiting h = send_response s (task_response_head s waiting h) []
 
 -- The head of the answer that session or connection is closed (section 11.15).
 abbrev pub logout_head : Session → ℕ → LogoutRequest → Head
@@ -62,8 +62,8 @@ logout_head s waiting h = heads.LogoutResponse (record {
 -- A Logout Response goes out, and the session is closed (section 11.15).
 abbrev pub logged_out : Session → ℕ → LogoutRequest → Reply
 logged_out s waiting h = record {
-  session = ended (say s (logout_head s waiting h) []).session;
-  answers = (say s (logout_head s waiting h) []).answers;
+  session = ended (send_response s (logout_head s waiting h) []).session;
+  answers = (send_response s (logout_head s waiting h) []).answers;
   rule = None;
 }
 

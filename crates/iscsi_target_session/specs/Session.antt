@@ -26,7 +26,7 @@ pub record Session : Type 0 where
   -- the bytes of a login text that is not whole
   pub gathered : List ℕ
   -- of each known key, whether a text of the login gave it
-  pub given : List Bool
+  pub seen_keys : List Bool
   -- whether a whole text came, and whether one came in the operational stage
   pub has_text : Bool
   pub has_operational_text : Bool
@@ -44,7 +44,7 @@ opening_session settings first_stat_sn = record {
   stage = stages.Security;
   begun = false;
   gathered = [];
-  given = replicate 27 false;
+  seen_keys = replicate 27 false;
   has_text = false;
   has_operational_text = false;
   session_type = session_types.Normal;
@@ -95,6 +95,6 @@ abbrev pub message : Head → List ℕ → Message
 message head bytes = record { head = head; segment = Bytes bytes }
 
 -- One answer that carries StatSN and advances it (section 4.2.2.2).
-abbrev pub say : Session → Head → List ℕ → Reply
-say s head bytes =
+abbrev pub send_response : Session → Head → List ℕ → Reply
+send_response s head bytes =
     record { session = counted s; answers = message head bytes ∷ []; rule = None }

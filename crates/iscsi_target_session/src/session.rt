@@ -4,11 +4,11 @@
 ghost use Rattle.std.specs.Prelude.{◌≡◌, ◌<◌, ◌^◌, length};
 ghost use Rattle.iscsi_pdu.specs.Meaning.{Fits};
 ghost use Rattle.iscsi_login.specs.Stage.{is_closed_phase};
-ghost use Rattle.iscsi_target_session.specs.Session.{opening_session, max_cmd_sn_with, say, counted, ended};
+ghost use Rattle.iscsi_target_session.specs.Session.{opening_session, max_cmd_sn_with, send_response, counted, ended};
 ghost use Rattle.iscsi_target_session.specs.Rejecting.{reject, breach};
 ghost use Rattle.iscsi_target_session.specs.Replies.{Does};
 
-mod discovery;
+mod text_request;
 mod login;
 mod login_text;
 mod requests;
@@ -36,7 +36,7 @@ pub struct Session {
     stage: Stage,
     begun: bool,
     gathered: Vec<u8>,
-    given: [bool; 27],
+    seen_keys: [bool; 27],
     has_text: bool,
     has_operational_text: bool,
     session_type: iscsi_login::Session,
@@ -56,7 +56,7 @@ impl Model for Session {
       stage = s.stage;
       begun = s.begun;
       gathered = s.gathered.items;
-      given = s.given;
+      seen_keys = s.seen_keys;
       has_text = s.has_text;
       has_operational_text = s.has_operational_text;
       session_type = s.session_type;
@@ -77,7 +77,7 @@ impl Session {
             stage: Stage::Security,
             begun: false,
             gathered: Vec::new(alloc),
-            given: [false; 27],
+            seen_keys: [false; 27],
             has_text: false,
             has_operational_text: false,
             session_type: iscsi_login::Session::Normal,
@@ -170,7 +170,7 @@ impl Session {
     ) -> Result<Option<u8>, AllocError>
         requires fits { Fits head.now }
         requires short { length bytes.now < 2 ^ 24 }
-        ensures { Does (say self.old head.now bytes.now) result
+        ensures { Does (send_response self.old head.now bytes.now) result
             self.old self.new out.old.items out.new.items }
     {
         write_pdu(head, bytes, out)?;

@@ -59,7 +59,7 @@ use Rattle.iscsi_initiator.specs.State.{is_closed}
 use Rattle.iscsi_initiator.specs.Steps as initiator_steps
 use Rattle.iscsi_initiator.specs.Machine.{step, steps}
 use Rattle.iscsi_initiator.specs.Calls as calls
-use Rattle.iscsi_pair.specs.World.{World, Opening, TargetHears, MovesToTarget, store_of, target_ran_out}
+use Rattle.iscsi_pair.specs.World.{World, Opening, TargetReceives, MovesToTarget, store_of, target_ran_out}
 use Rattle.iscsi_pair.proofs.Request.Invariant.{AreWritten, IsOpenFor, HearsWell, History, Relation, Sends, Goes, IsKept, written_append}
 use Rattle.iscsi_pair.proofs.Login.NoFailure.{both_none}
 use Rattle.iscsi_pair.proofs.Run.QueueReading.{
@@ -400,7 +400,7 @@ target_ends (Err target_faults.Closed) c P h old new v n moved more r t e fault 
 -- bytes reached the target
 target_hears : (c : Opening) (P : Relation) (h : History) (old new : World) (k : ℕ) (byte : ℕ) (bytes : List ℕ) → Keeps c P → Stands c P h old
     → byte ∷ bytes ≡ take k old.to_target
-    → TargetHears (byte ∷ bytes) old new → target_ran_out new.target_fault ≡ false → Stands c P h new
+    → TargetReceives (byte ∷ bytes) old new → target_ran_out new.target_fault ≡ false → Stands c P h new
 target_hears c P h old new k byte bytes kept s m e memory =
     elim s.to_target [
       | inl on ↦

@@ -8,7 +8,7 @@ ghost use Rattle.iscsi_stream.specs.Segment.{segment_bytes};
 ghost use Rattle.iscsi_target.specs.State.{waiting};
 ghost use Rattle.iscsi_target.specs.Execution.{execute};
 ghost use Rattle.iscsi_target.specs.Transfer.{is_whole, is_idle, desired};
-ghost use Rattle.iscsi_target.specs.Command.{order_of, r2t_head, led_by, ask, proceed, opened, breaks_rules, task_of};
+ghost use Rattle.iscsi_target.specs.Command.{order_of, r2t_head, led_by, send_r2t, proceed, opened, breaks_rules, task_of};
 ghost use Rattle.iscsi_target.specs.Machine.{data_out};
 ghost use Rattle.iscsi_target.specs.Inside.{Leaves, Handles, Follows, TakePlaces, store_of};
 
@@ -107,7 +107,7 @@ impl Machine {
         requires idle { is_idle write.due ≡ true }
         requires places { TakePlaces self.old.tasks }
         requires room { length self.old.tasks < 9 }
-        ensures { (disk : Disk) → Leaves (ask self.old disk write)
+        ensures { (disk : Disk) → Leaves (send_r2t self.old disk write)
             result self.old self.new out.old.items out.new.items }
     {
         let mut write = write;
@@ -132,11 +132,11 @@ impl Machine {
         Head::ReadyToTransfer(ReadyToTransfer {
             lun: write.order.lun,
             initiator_task_tag: write.initiator_task_tag,
-            target_transfer_tag: write.asked,
+            target_transfer_tag: write.r2t_count,
             stat_sn: numbers.stat_sn,
             exp_cmd_sn: numbers.exp_cmd_sn,
             max_cmd_sn: numbers.max_cmd_sn,
-            r2t_sn: write.asked,
+            r2t_sn: write.r2t_count,
             buffer_offset: write.received(),
             desired_data_transfer_length: len,
         })
@@ -216,6 +216,6 @@ fn opened(
         } else {
             Due::Unsolicited { data_sn: 0 }
         },
-        asked: 0,
+        r2t_count: 0,
     })
 }

@@ -8,7 +8,7 @@ use Rattle.iscsi_target.proofs.open_write.OpenWrite.await_sequence.Goals as goal
 pub invariant_of-self : goal.invariant_of-self
 invariant_of-self c =
     let v = c.self.view_is in
-    let few = asked_idle c.self.inside.total (length c.self.inside.data.items) c.self.inside.asked c.self.inside.due (ap (λ (w : Write). is_idle w.due) v ∙ c.requires.idle) c.self.invariant.asked_for in
+    let few = asked_idle c.self.inside.total (length c.self.inside.data.items) c.self.inside.r2t_count c.self.inside.due (ap (λ (w : Write). is_idle w.due) v ∙ c.requires.idle) c.self.invariant.asked_for in
     let size = ap (λ (w : Write). received w) v in
     let total = ap (λ (w : Write). w.total) v in
     let one = ap length (data_of_one c.self.inside.data.items) in
