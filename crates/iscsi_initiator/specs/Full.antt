@@ -247,7 +247,7 @@ outcome_with (Some sense) m received h =
     completes m (done.Command h.response (unwrap_or h.status 0) sense received
     (residual h.overflow h.underflow (unwrap_or h.residual 0)))
 
--- An answer to a text is to be whole (section 11.11.1; own profile).
+-- An answer to a text is to be whole (section 11.11.1; own rule).
 abbrev pub on_text : Machine → TextResponse → List ℕ → Stepped
 on_text m h bytes =
     if h.is_final && not h.continues then completes m (done.Text bytes) else protocol_error m text_at_fault

@@ -1,4 +1,4 @@
--- What the functions of a session and of its stream see (RFC 7143, section 4; own rule).
+-- What the functions of a session and of its stream see (RFC 7143, section 4).
 use Rattle.std.specs.Prelude.{◌≡◌, ◌≢◌, ◌⊎◌, ℕ, Bool, true, false, not, nat_lt, length, take, if◌then◌else◌, List, [], ◌++◌, Option, None, Some, Result, Err}
 use Rattle.iscsi_pdu.specs.Serial.{moved}
 use Rattle.iscsi_pdu.specs.declared.head.data_out.DataOut.{DataOut}
@@ -24,14 +24,14 @@ use Rattle.iscsi_initiator.specs.Submitted.{immediate}
 use Rattle.iscsi_initiator.specs.Full.{is_in_turn, stat_sn_after, on_data, on_r2t}
 use Rattle.iscsi_pdu.specs.Rules.{kind_not_due}
 
--- The step was taken: the session, the output and the fault are its own (own rule).
+-- The step was taken: the session, the output and the fault are its own.
 pub record Did (stepped : Stepped) (fault : Option InitiatorFault) (new : Machine)
     (before after : List ℕ) : Type 0 where
   pub machine : new ≡ stepped.machine
   pub output : after ≡ before ++ canon stepped.output
   pub fault_is : fault ≡ stepped.fault
 
--- What a message counts before it is answered is taken back (own rule).
+-- What a message counts before it is answered is taken back.
 abbrev pub rolled_back : Machine → Machine → Machine
 rolled_back old new = record new { exp_stat_sn = old.exp_stat_sn; window = old.window }
 
@@ -64,7 +64,7 @@ abbrev pub r2t_received : Option Outstanding → Machine → ReadyToTransfer →
 r2t_received (Some (opens.Out w)) m h = on_r2t m w h
 r2t_received _ m h = protocol_error m kind_not_due
 
--- The session with this open request (own rule).
+-- The session with this open request.
 abbrev pub with_outstanding : Machine → Outstanding → Machine
 with_outstanding m request = record m { outstanding = Some request }
 
@@ -82,11 +82,11 @@ unsolicited_head m bytes = record {
 
 -- ---- the stream
 
--- The two parts of an initiator between two calls (own rule).
+-- The two parts of an initiator between two calls.
 abbrev pub connection : Machine → Framing → Connection
 connection machine framing = record { machine = machine; framing = framing }
 
--- No PDU is ready, and nothing was done (own rule).
+-- No PDU is ready, and nothing was done.
 pub record IsUnready (old : Connection) (fault : Option InitiatorFault) (new : Connection)
     (before after : List ℕ) : Type 0 where
   pub unready : is_ready old.framing ≡ false
@@ -94,7 +94,7 @@ pub record IsUnready (old : Connection) (fault : Option InitiatorFault) (new : C
   pub output_is : after ≡ before
   pub fault_is : fault ≡ None
 
--- The PDU that is ready was taken and given up (own rule).
+-- The PDU that is ready was taken and given up.
 pub record IsReceived (old : Connection) (fault : Option InitiatorFault) (new : Connection)
     (before after : List ℕ) : Type 0 where
   pub head : Head
@@ -103,26 +103,25 @@ pub record IsReceived (old : Connection) (fault : Option InitiatorFault) (new : 
   pub framing_is : new.framing ≡ given_up old.framing head
   pub did : Did (step old.machine (message_of old.framing head segment)) fault new.machine before after
 
--- The PDU that is ready was taken, if one is (own rule).
+-- The PDU that is ready was taken, if one is.
 abbrev pub ReceivesPdu : Connection → Option InitiatorFault → Connection → List ℕ → List ℕ → Type 0
 ReceivesPdu old fault new before after =
     IsUnready old fault new before after ⊎ IsReceived old fault new before after
 
--- Memory ran out at the PDU that is ready: the session is closed, and the PDU is given up (own
--- rule).
+-- Memory ran out at the PDU that is ready: the session is closed, and the PDU is given up.
 pub record ShutsReady (old new : Connection) (before after : List ℕ) : Type 0 where
   pub machine : new.machine ≡ closed old.machine
   pub unready : is_ready new.framing ≡ false
   pub output_is : after ≡ before
 
--- The rest of a stream is refused so (own rule).
+-- The rest of a stream is refused so.
 abbrev pub RestFails : Framing → List ℕ → InitiatorFault → Type 0
 RestFails framing rest faults.NoMemory = Unit {0}
 RestFails framing rest (faults.Stream fault) =
     (fault ≢ stream.NoMemory) × FeedFails framing rest fault
 RestFails framing rest _ = ⊥
 
--- A stream's `NoMemory` is the initiator's own (own rule).
+-- A stream's `NoMemory` is the initiator's own.
 abbrev pub initiator_fault : StreamFault → InitiatorFault
 initiator_fault stream.NoMemory = faults.NoMemory
 initiator_fault (stream.Head fault place) = faults.Stream (stream.Head fault place)
@@ -130,20 +129,19 @@ initiator_fault (stream.OverLimit place) = faults.Stream (stream.OverLimit place
 initiator_fault (stream.Truncated place) = faults.Stream (stream.Truncated place)
 initiator_fault stream.Failed = faults.Stream stream.Failed
 
--- Memory ran out behind some PDUs, and what was written before stands (own rule).
+-- Memory ran out behind some PDUs, and what was written before stands.
 pub record RanOut (old : Connection) (piece : List ℕ) (received : Received old piece) (new : Connection)
     (before after : List ℕ) : Type 0 where
   pub live : is_closed (received_steps old piece received).machine ≡ false
   pub machine : new.machine ≡ closed (received_steps old piece received).machine
   pub front : take (length before) after ≡ before
 
--- Memory ran out in a call of feed (own rule).
+-- Memory ran out in a call of feed.
 abbrev pub has_run_out : Result Phase InitiatorFault → Bool
 has_run_out (Err faults.NoMemory) = true
 has_run_out _ = false
 
--- What a call of feed does, but where memory runs out the end of what is written is not taken back
--- (own rule).
+-- What a call of feed does, but where memory runs out the end of what is written is not taken back.
 abbrev pub FedUntil : Result Phase InitiatorFault → (old : Connection) (piece : List ℕ) → Connection → List ℕ → List ℕ → Type 0
 FedUntil (Err faults.NoMemory) old piece new before after =
     (received : Received old piece) × RanOut old piece received new before after

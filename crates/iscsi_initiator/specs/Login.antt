@@ -60,7 +60,7 @@ abbrev pub login_message : Machine → Bool → Segment → Message
 login_message m is_last segment =
     record { head = heads.LoginRequest (login_request m is_last); segment = segment }
 
--- The text fits one segment (own rule).
+-- The text fits one segment.
 abbrev pub fits_segment : Machine → List ℕ → Bool
 fits_segment m text = nat_le (length text) m.settings.login_segment
 
@@ -110,7 +110,7 @@ abbrev pub text_answered : Machine → LoginResponse → Segment → Stepped
 text_answered m h (Bytes bytes) = protocol_error m text_at_fault
 text_answered m h (Text answer) = judged (bad_key (offered m) answer) m h answer
 
--- There is nothing in the segment (own rule).
+-- There is nothing in the segment.
 abbrev pub is_empty_segment : Segment → Bool
 is_empty_segment (Text pairs) = length pairs == 0
 is_empty_segment (Bytes bytes) = length bytes == 0

@@ -21,15 +21,15 @@ step_in Closed m message = quiet m
 unfoldable pub step : Machine → Message → Stepped
 step m message = step_in m.phase m message
 
--- The outcome is taken (own rule).
+-- The outcome is taken.
 abbrev pub taken : Machine → Machine
 taken m = record m { done = None }
 
--- A step, and then others (own rule).
+-- A step, and then others.
 abbrev pub then_steps : Stepped → Stepped → Stepped
 then_steps a b = record b { output = a.output ++ b.output }
 
--- Several messages come, up to the first at which the session closes (section 4; own rule).
+-- Several messages come, up to the first at which the session closes (section 4).
 unfoldable pub steps : Machine → List Message → Stepped
 steps m [] = quiet m
 steps m (message ∷ messages) =

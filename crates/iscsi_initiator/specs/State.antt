@@ -80,6 +80,6 @@ opening settings = record {
   done = None;
 }
 
--- The session is over (own rule).
+-- The session is over.
 abbrev pub is_closed : Machine → Bool
 is_closed m = is_closed_phase m.phase

@@ -26,7 +26,7 @@ use Rattle.iscsi_pdu.specs.Fields.{reserved_tag}
 use Rattle.iscsi_initiator.specs.Block.{record_of}
 use Rattle.iscsi_initiator.specs.Full.{sequence}
 
--- The session after a request, what is sent, and why it is refused, if it is (own rule).
+-- The session after a request, what is sent, and why it is refused, if it is.
 pub record Submitted : Type 0 where
   pub machine : Machine
   pub output : List Message
@@ -34,12 +34,11 @@ pub record Submitted : Type 0 where
 
 -- ---- refusals, in their order
 
--- The most bytes that one command moves (own profile).
+-- The most bytes that one command moves (own rule).
 abbrev pub most_bytes : ℕ
 most_bytes = 4194304
 
--- The request has or asks for more bytes than may go (section 13.12; that of commands is own
--- profile).
+-- The request has or asks for more bytes than may go (section 13.12; that of commands is own rule).
 abbrev pub is_too_long : Machine → Request → Bool
 is_too_long m (In lun cdb expected) = nat_lt most_bytes expected
 is_too_long m (Out lun cdb bytes) = nat_lt most_bytes (length bytes)
@@ -54,13 +53,13 @@ refusal_when_full m request =
     else (if not (is_within m.cmd_sn m.window.exp.0 m.window.max.0) then Some refusals.Shut
     else (if is_too_long m request then Some refusals.TooLong else None))
 
--- Why a request is refused, by the phase (own rule).
+-- Why a request is refused, by the phase.
 abbrev pub refusal_in : Phase → Machine → Request → Option SubmitFault
 refusal_in phases.Closed m request = Some refusals.Closed
 refusal_in phases.Login m request = Some refusals.NotReady
 refusal_in phases.Full m request = refusal_when_full m request
 
--- Why a request is refused, if it is (own rule).
+-- Why a request is refused, if it is.
 abbrev pub refusal : Machine → Request → Option SubmitFault
 refusal m request = refusal_in m.phase m request
 
@@ -74,7 +73,7 @@ begun m request = record m {
   outstanding = Some request;
 }
 
--- A request is accepted, and these go out (own rule).
+-- A request is accepted, and these go out.
 abbrev pub accepts : Machine → List Message → Submitted
 accepts m messages = record { machine = m; output = messages; refusal = None }
 
@@ -217,7 +216,7 @@ accepted m (Ping bytes) = pings m bytes
 accepted m (Text bytes) = asks m bytes
 accepted m Logout = leaves m
 
--- A refused request changes and sends nothing (own rule).
+-- A refused request changes and sends nothing.
 abbrev pub or_accepted : Option SubmitFault → Machine → Request → Submitted
 or_accepted None m request = accepted m request
 or_accepted (Some fault) m request = record { machine = m; output = []; refusal = Some fault }

@@ -83,7 +83,7 @@ request_of (Sync logical_block_address blocks) = data_in_request 0 (flush logica
 request_of (Ping bytes) = requests.Ping bytes
 request_of Logout = requests.Logout
 
--- The numbers of a command are those of their fields (own rule).
+-- The numbers of a command are those of their fields.
 abbrev pub HasNumbers : Command → Type 0
 HasNumbers (TestUnitReady unit) = unit < 256
 HasNumbers (Inquiry unit allocation_length) = (unit < 256) × (allocation_length < 2 ^ 16)

@@ -33,16 +33,16 @@ use scsi_disk::{BlockStore, SparseStore};
 use std::alloc::{AllocError, Global};
 use std::io::{Read, Write};
 
-/// The most bytes of a piece, which one end writes before the other reads them (own rule).
+/// The most bytes of a piece, which one end writes before the other reads them.
 pub const LONGEST_PIECE: u32 = 4096;
 
-/// The name of the initiator (own rule).
+/// The name of the initiator.
 const INITIATOR_NAME: &[u8] = b"iqn.2026-01.example:host";
 /// The initiator's part of the session's identifier (RFC 7143, section 11.12.5).
 const ISID: [u8; 6] = [0x40, 0, 0, 1, 0, 0];
-/// The CmdSN of the login and of the first request (own rule).
+/// The CmdSN of the login and of the first request.
 const FIRST_CMD_SN: u32 = 1;
-/// How often one end answers the other before the connection counts as failed (own rule).
+/// How often one end answers the other before the connection counts as failed.
 const TURNS: u32 = 16_777_216;
 
 /// Logs an initiator in to a target with a disk of so many blocks of 00, over a socket of this

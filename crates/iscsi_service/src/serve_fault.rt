@@ -9,7 +9,7 @@ use iscsi_target::TargetFault;
 use std::alloc::AllocError;
 use thiserror::Error;
 
-/// Why a session over a socket ends before its time (own rule).
+/// Why a session over a socket ends before its time.
 #[derive(Debug, Drop, Error)]
 pub enum ServeFault {
     /// Memory ran out.
@@ -38,7 +38,7 @@ pub enum ServeFault {
 
 impl ServeFault {
     /// The exit status that says the fault: 1 where what came is refused, 3 for memory, 4 for
-    /// reading, writing and the network (own rule).
+    /// reading, writing and the network.
     pub fn status(&self) -> u8
         ensures status { result ≡ exit_status self.now }
     {

@@ -46,12 +46,12 @@ proceeds_waiting d s disk w e idle = rw (e, idle) refl
 
 -- ---- no answer
 
-pub asked_idle : (total received r2t_count : ℕ) (due : Due) → is_idle due ≡ true → CountsR2ts total received asked due → asked ≤ received
+pub asked_idle : (total received asked : ℕ) (due : Due) → is_idle due ≡ true → CountsR2ts total received asked due → asked ≤ received
 asked_idle total received asked Nothing idle h = h
 asked_idle total received asked (Unsolicited n) idle h = absurd cc
 asked_idle total received asked (Solicited tag n end) idle h = absurd cc
 
-pub asked_out : {E : Type 0} (s : Machine) (disk : Disk) (w r2t_count : Write) (head : Head) (desired_ : ℕ) (new : Machine) (before after : List ℕ) → desired_ ≡ desired s.session.held w → asked ≡ with_r2t_for desired_ w
+pub asked_out : {E : Type 0} (s : Machine) (disk : Disk) (w asked : Write) (head : Head) (desired_ : ℕ) (new : Machine) (before after : List ℕ) → desired_ ≡ desired s.session.held w → asked ≡ with_r2t_for desired_ w
     → new ≡ record s { tasks = Data asked ∷ s.tasks } → head ≡ r2t_head s.session (waiting (led_by w s).tasks) w → after ≡ before ++ whole head [] → Leaves {E = E} (send_r2t s disk w) (Ok None) s new before after
 asked_out s disk w asked head desired_ new before after is_desired is_asked is_new is_head is_after = record {
   machine = is_new ∙ ap (λ (x : Write). record s { tasks = Data x ∷ s.tasks }) (is_asked ∙ ap (λ (n : ℕ). with_r2t_for n w) is_desired);

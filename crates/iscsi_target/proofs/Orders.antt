@@ -89,4 +89,4 @@ takes_is None order n count e = takes_by (is_write order.cdb) order n count refl
 
 pub staged_at : (order known : Order) (total : ℕ) (bytes : List ℕ) (due : Due) → order ≡ known → is_write known.cdb ≡ true → total ≡ 512 * (transfer known.cdb).count → length bytes ≤ total → CountsR2ts total (length bytes) 0 due
     → IsStaged order total bytes due 0
-staged_at order known total bytes due e w t fits r2t_count = subst (λ (o : Order). IsStaged o total bytes due 0) (sym e) (record { is_write = w; total_is = t; fits = fits; asked_for = asked })
+staged_at order known total bytes due e w t fits asked = subst (λ (o : Order). IsStaged o total bytes due 0) (sym e) (record { is_write = w; total_is = t; fits = fits; counted_r2ts = asked })

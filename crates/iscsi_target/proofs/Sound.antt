@@ -43,7 +43,7 @@ use Rattle.iscsi_target.proofs.OpenWrites.{DueFits, IsOpen, size_with, tiles_wit
 use Rattle.iscsi_target.proofs.DiskFold.{step_folds}
 use Rattle.scsi_disk.proofs.Planned.{all_false}
 
--- This holds of the write of a task (own rule).
+-- This holds of the write of a task.
 abbrev pub OnTask : (Write → Type 0) → Task → Type 0
 OnTask P (Request m) = Unit {0}
 OnTask P (Data w) = P w

@@ -19,19 +19,19 @@ use Rattle.iscsi_target.specs.State.{Machine, Execution, Stepped, waiting}
 use Rattle.iscsi_stream.specs.Pieces.{Pieces, data_of, chunks}
 use Rattle.iscsi_pdu.specs.Fields.{reserved_tag}
 
--- What a store does with the n-th order of a message, from 0, and its data (own rule).
+-- What a store does with the n-th order of a message, from 0, and its data.
 abbrev pub Device : Type 0
 Device = ℕ → Disk → Order → List ℕ → Effect
 
--- A store that doesn't fail does each time what the order does (own rule).
+-- A store that doesn't fail does each time what the order does.
 abbrev pub reliable : Device
 reliable n = effect
 
--- What is left of it behind one order (own rule).
+-- What is left of it behind one order.
 abbrev pub device_next : Device → Device
 device_next device n = device (n + 1)
 
--- What is left of it behind these orders (own rule).
+-- What is left of it behind these orders.
 abbrev pub device_after : List Execution → Device → Device
 device_after [] device = device
 device_after (e ∷ es) device = device_after es (device_next device)

@@ -97,7 +97,6 @@ with_r2t held w = record w {
 
 -- ---- a write as a program keeps it
 
--- The write with its bytes as one piece: where one ended and the next began, no step looks at (own
--- rule).
+-- The write with its bytes as one piece: where one ended and the next began, no step looks at.
 abbrev pub joined_write : Write → Write
 joined_write w = record w { pieces = with_piece [] 0 (data_of w.pieces) }

@@ -1,5 +1,5 @@
 -- Words of worked sessions: bytes by hex text, the PDUs that an initiator sends, the session that
--- they begin in, and what is said of them (own rule).
+-- they begin in, and what is said of them.
 use Rattle.std.specs.Prelude.{◌≡◌, ℕ, ◌+◌, ◌-◌, ◌*◌, ◌==◌, nat_le, Bool, true, false, not, List, [], ◌∷◌, ◌++◌, filter, replicate, Option, Some, None, if◌then◌else◌, codes}
 use Rattle.scsi_cdb.specs.declared.block.Cdb.{Cdb}
 use Rattle.scsi_disk.specs.Disk.{Disk, zeros}

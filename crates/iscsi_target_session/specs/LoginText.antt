@@ -71,7 +71,7 @@ first_value (value ∷ vs) = Some value
 abbrev pub value_for : List ℕ → Pairs → Option Typed
 value_for key pairs = first_value (values_of key pairs)
 
--- The known keys, in an order of their own (section 13; own rule).
+-- The known keys, in an order of their own (section 13).
 abbrev pub known_keys : List (List ℕ)
 known_keys = number_keys ++ boolean_keys ++ items_keys ++ plain_keys
 
@@ -124,7 +124,7 @@ names_target name _ = false
 
 -- ---- what any whole text says
 
--- There is no value (own rule).
+-- There is no value.
 abbrev pub is_reject : Answered → Bool
 is_reject answers.Reject = true
 is_reject _ = false

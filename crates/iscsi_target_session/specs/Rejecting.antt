@@ -32,6 +32,6 @@ breached s waiting rule header = record {
   rule = Some rule;
 }
 
--- A PDU broke the rule (own rule).
+-- A PDU broke the rule.
 abbrev pub breach : Session → ℕ → ℕ → Message → Reply
 breach s waiting rule m = breached s waiting rule (canonical_header m)

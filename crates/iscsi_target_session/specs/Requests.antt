@@ -43,7 +43,7 @@ task_response_head s waiting h = heads.TaskResponse (record {
   max_cmd_sn = max_cmd_sn_with s waiting;
 })
 
--- No task management function is supported (section 11.5; own profile).
+-- No task management function is supported (section 11.5; own rule).
 abbrev pub task_request : Session → ℕ → TaskRequest → Reply
 task_request s waiting h = send_response s (task_response_head s waiting h) []
 

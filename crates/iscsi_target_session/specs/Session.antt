@@ -58,7 +58,7 @@ opening_session settings first_stat_sn = record {
 abbrev pub limit : Settings → ℕ
 limit settings = max 8192 settings.preferences.max_recv
 
--- A session that is over; what was gathered is dropped (own rule).
+-- A session that is over; what was gathered is dropped.
 abbrev pub ended : Session → Session
 ended s = record s { phase = phases.Closed; gathered = [] }
 
@@ -76,17 +76,17 @@ counted s = record s { stat_sn = next_sn s.stat_sn }
 -- ---- answers
 
 -- What a message does that no command needs: the session after it, the answers, and the rule that
--- it broke (own rule).
+-- it broke.
 pub record Reply : Type 0 where
   pub session : Session
   pub answers : List Message
   pub rule : Option ℕ
 
--- Nothing is answered, and nothing changes (own rule).
+-- Nothing is answered, and nothing changes.
 abbrev pub nothing : Session → Reply
 nothing s = record { session = s; answers = []; rule = None }
 
--- The session is closed without an answer (own rule).
+-- The session is closed without an answer.
 abbrev pub shut : Session → Option ℕ → Reply
 shut s rule = record { session = ended s; answers = []; rule = rule }
 

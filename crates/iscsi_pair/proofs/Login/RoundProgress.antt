@@ -464,24 +464,24 @@ last_turn c i t logins next r disk segment o suits a s left fits read size turn 
     let h : LoginRequest = login_request i true in
     let e : target_session.Session = emptied t.session h in
     let same : SameState t.session (entered t.session h) = entered_same t.session h in
-    let seen_keys : Pairs = offered i in
-    let pairs_are : in_order (offers_at c.initiator.proposal c.initiator.start i.stage) ≡ seen_keys =
+    let given : Pairs = offered i in
+    let pairs_are : in_order (offers_at c.initiator.proposal c.initiator.start i.stage) ≡ given =
     ap (λ (x : initiator.Settings). in_order (offers_at x.proposal x.start i.stage)) (sym a.settings) in
-    let good : first_of (text_refusals e seen_keys) ≡ None =
+    let good : first_of (text_refusals e given) ≡ None =
     subst (λ (x : Pairs). first_of (text_refusals e x) ≡ None) pairs_are
     (text_at c.initiator.start i.stage c i t e o suits refl refl (record { has_text = same.has_text; seen_keys = same.seen_keys; settings = same.settings })
     a.target_settings s.texts a.stage) in
-    let q : login.login_request t.session h segment ≡ text_answered e h seen_keys =
-    answers_well t.session h segment seen_keys (not_refused c i t true a.stage s) (subst (λ (x : List ℕ). length x + length (segment_bytes segment) ≤ 16384)
+    let q : login.login_request t.session h segment ≡ text_answered e h given =
+    answers_well t.session h segment given (not_refused c i t true a.stage s) (subst (λ (x : List ℕ). length x + length (segment_bytes segment) ≤ 16384)
     (sym same.gathered) size) refl
     (ap (λ (x : List ℕ). text_ending x segment) same.gathered ∙ read) good in
-    let there : target_machine.step t disk (login_message i true segment) ≡ target.on disk t.tasks (text_answered e h seen_keys) =
+    let there : target_machine.step t disk (login_message i true segment) ≡ target.on disk t.tasks (text_answered e h given) =
     login_step_is t disk h segment a.logs_in.phase fits ∙ ap (target.on disk t.tasks) q in
-    let is : turn.answer ≡ answering (text_head e h) (answer_pairs e seen_keys) =
-    one_answer turn.answer (answering (text_head e h) (answer_pairs e seen_keys)) (sym turn.is ∙ ap (λ (x : target.Stepped). x.answers) there) in
+    let is : turn.answer ≡ answering (text_head e h) (answer_pairs e given) =
+    one_answer turn.answer (answering (text_head e h) (answer_pairs e given)) (sym turn.is ∙ ap (λ (x : target.Stepped). x.answers) there) in
     record {
       there = there;
-      now = ap (step i) is ∙ hears_last_well i (text_head e h) (answer_pairs e seen_keys) a.phase a.started refl refl (ap (is_expected i.exp_stat_sn) same.stat_sn
+      now = ap (step i) is ∙ hears_last_well i (text_head e h) (answer_pairs e given) a.phase a.started refl refl (ap (is_expected i.exp_stat_sn) same.stat_sn
           ∙ s.expected) left
           (and_from _ _ (eq-eqb (stage_number i.stage) (stage_number i.stage) refl) (eq-eqb (stage_number (requested_stage i)) (stage_number (requested_stage i)) refl))
           (takes c i e o a.settings a.stage (same.settings ∙ a.target_settings));

@@ -594,7 +594,7 @@ local_read m t disk lun cdb expected on_ size are a e =
     let h : ReadHeard begun_ t' r0 m.window after.outcome = read_heard begun_ t' m.window after.outcome expected a.held a.is_held a.stat_sn a.none_done room
     (omega (arith, few)) in
     let last : Exchange = record {
-      initiator = finished begun_ t' h.reported after.outcome after.outcome.bytes;
+      initiator = finished begun_ t' h.told after.outcome after.outcome.bytes;
       target = counted_on t';
       disk = after.disk;
       answers =
