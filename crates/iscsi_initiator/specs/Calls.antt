@@ -74,7 +74,7 @@ Starts (Err fault) old new before after = StartFails fault old new before after
 
 -- ---- a call of feed
 
--- What a call heard of its piece: so many bytes, which complete PDUs of these meanings.
+-- What a call received of its piece: so many bytes, which complete PDUs of these meanings.
 pub record Received (old : Connection) (piece : List ℕ) : Type 0 where
   pub count : ℕ
   pub some : count ≤ length piece
@@ -87,7 +87,7 @@ pub record Received (old : Connection) (piece : List ℕ) : Type 0 where
 abbrev pub received_steps : (old : Connection) (piece : List ℕ) → Received old piece → Stepped
 received_steps old piece received = steps old.machine received.messages
 
--- The whole piece is heard, and the session is open.
+-- The whole piece is received, and the session is open.
 pub record ReceivesAll (old : Connection) (piece : List ℕ) (received : Received old piece)
     (new : Connection) (before after : List ℕ) (phase : Phase) : Type 0 where
   pub all : received.count ≡ length piece
@@ -98,7 +98,7 @@ pub record ReceivesAll (old : Connection) (piece : List ℕ) (received : Receive
   pub output : after ≡ before ++ canon (received_steps old piece received).output
   pub answered : phase ≡ (received_steps old piece received).machine.phase
 
--- The last PDU that is heard closes the session; the rest of the piece is dropped.
+-- The last PDU that is received closes the session; the rest of the piece is dropped.
 pub record ClosesAt (old : Connection) (piece : List ℕ) (received : Received old piece)
     (new : Connection) (before after : List ℕ) (fault : Option InitiatorFault) : Type 0 where
   pub closes : is_closed (received_steps old piece received).machine ≡ true
@@ -106,7 +106,7 @@ pub record ClosesAt (old : Connection) (piece : List ℕ) (received : Received o
   pub output : after ≡ before ++ canon (received_steps old piece received).output
   pub cause : (received_steps old piece received).fault ≡ fault
 
--- What follows the PDUs that are heard is refused by the framer.
+-- What follows the PDUs that are received is refused by the framer.
 pub record StreamEnds (old : Connection) (piece : List ℕ) (received : Received old piece)
     (new : Connection) (before after : List ℕ) (fault : StreamFault) : Type 0 where
   pub live : is_closed (received_steps old piece received).machine ≡ false

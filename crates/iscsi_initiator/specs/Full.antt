@@ -35,8 +35,8 @@ use Rattle.iscsi_pdu.specs.Rules.{data_out_of_order, kind_not_due, rejected, seg
 
 -- ---- which messages are due
 
--- A message that is due, with what it is due to (section 11.2.1.8). Asked is a NOP-In that answers
--- no ping, Response an answer to a command that has received these bytes.
+-- A message that is due, with what it is due to (section 11.2.1.8). UnsolicitedNopIn is a NOP-In
+-- that answers no ping, Response an answer to a command that has received these bytes.
 pub data Due : Type 0 where
   UnsolicitedNopIn : NopIn → Due
   Pong : NopIn → Due
@@ -48,7 +48,7 @@ pub data Due : Type 0 where
   Async : AsyncMessage → Due
   RejectPdu : Reject → Due
 
--- What a message is due to, by the open request and the message's kind (section 11).
+-- What a message is due to, by the outstanding request and the message's kind (section 11).
 abbrev pub due_to : Option Outstanding → Head → Option Due
 due_to (Some Ping) (heads.NopIn h) = Some (Pong h)
 due_to (Some (In r)) (heads.DataIn h) = Some (Data r h)
@@ -67,9 +67,19 @@ tag_of (heads.ScsiResponse h) = h.initiator_task_tag
 tag_of (heads.ReadyToTransfer h) = h.initiator_task_tag
 tag_of (heads.TextResponse h) = h.initiator_task_tag
 tag_of (heads.LogoutResponse h) = h.initiator_task_tag
-tag_of _ = reserved_tag
+tag_of (heads.NopOut h) = reserved_tag
+tag_of (heads.ScsiCommand h) = reserved_tag
+tag_of (heads.TaskRequest h) = reserved_tag
+tag_of (heads.LoginRequest h) = reserved_tag
+tag_of (heads.TextRequest h) = reserved_tag
+tag_of (heads.DataOut h) = reserved_tag
+tag_of (heads.LogoutRequest h) = reserved_tag
+tag_of (heads.TaskResponse h) = reserved_tag
+tag_of (heads.LoginResponse h) = reserved_tag
+tag_of (heads.AsyncMessage h) = reserved_tag
+tag_of (heads.Reject h) = reserved_tag
 
--- What answers the open request has its tag (section 11.2.1.8).
+-- What answers the outstanding request has its tag (section 11.2.1.8).
 abbrev pub answer_due : Machine → Head → Option Due
 answer_due m head = if tag_of head == m.initiator_task_tag then due_to m.outstanding head else None
 
@@ -117,7 +127,7 @@ abbrev pub stat_sn_after : Option ℕ → Option ℕ → Option ℕ
 stat_sn_after expected None = expected
 stat_sn_after expected (Some stat_sn) = Some (next_sn stat_sn)
 
--- The session once a message has passed (section 4.2.2).
+-- The session once a message's numbers are counted (section 4.2.2).
 abbrev pub update_counters : Machine → Due → Machine
 update_counters m d = record m {
   exp_stat_sn = stat_sn_after m.exp_stat_sn (checked_stat_sn d);
@@ -126,7 +136,7 @@ update_counters m d = record m {
 
 -- ---- what each of them does
 
--- The open request has this outcome (section 11).
+-- The outstanding request has this outcome (section 11).
 abbrev pub completes : Machine → Done → Stepped
 completes m outcome = quiet (record m { outstanding = None; done = Some outcome })
 
@@ -218,13 +228,13 @@ fits_writing m w h =
     && nat_le h.desired_data_transfer_length (max_burst m.held)
     && nat_le (w.sent + h.desired_data_transfer_length) (length w.bytes)
 
--- The write has sent so many bytes more, and was asked once more (section 11.8).
+-- The write has sent so many bytes more, on one R2T more (section 11.8).
 abbrev pub has_sent : Machine → Writing → ℕ → Machine
 has_sent m w n = record m {
   outstanding = Some (Out (record w { sent = w.sent + n; next_r2t_sn = next_sn w.next_r2t_sn }));
 }
 
--- A request for data is answered with one sequence (section 11.8).
+-- An R2T is answered with one sequence (section 11.8).
 abbrev pub on_r2t : Machine → Writing → ReadyToTransfer → Stepped
 on_r2t m w h =
     if fits_writing m w h
@@ -252,7 +262,7 @@ abbrev pub on_text : Machine → TextResponse → List ℕ → Stepped
 on_text m h bytes =
     if h.is_final && not h.continues then completes m (done.Text bytes) else protocol_error m text_at_fault
 
--- What a message that passed does (section 11).
+-- What a message does once its numbers are counted (section 11).
 abbrev pub on_due : Machine → Due → List ℕ → Stepped
 on_due m (UnsolicitedNopIn h) bytes = on_nop_in m h
 on_due m (Pong h) bytes = completes m (done.Ping bytes)

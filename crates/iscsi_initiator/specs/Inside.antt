@@ -31,7 +31,7 @@ pub record Did (stepped : Stepped) (fault : Option InitiatorFault) (new : Machin
   pub output : after ≡ before ++ canon stepped.output
   pub fault_is : fault ≡ stepped.fault
 
--- What a message counts before it is answered is taken back.
+-- What a message counts before it is answered is rolled back.
 abbrev pub rolled_back : Machine → Machine → Machine
 rolled_back old new = record new { exp_stat_sn = old.exp_stat_sn; window = old.window }
 
@@ -42,29 +42,29 @@ broken_rule m n stat_sn =
     if nat_lt m.held.initiator_max_recv n then Some 2
     else (if not (is_in_turn m.exp_stat_sn stat_sn) then Some 6 else None)
 
--- The session once a message of these numbers has passed (section 4.2.2).
+-- The session once these numbers of a message are counted (section 4.2.2).
 abbrev pub update_counters_by : Machine → Option ℕ → ℕ → ℕ → Machine
 update_counters_by m stat_sn exp_cmd_sn max_cmd_sn = record m {
   exp_stat_sn = stat_sn_after m.exp_stat_sn stat_sn;
   window = moved m.window (serial exp_cmd_sn) (serial max_cmd_sn);
 }
 
--- The bytes that the open request has received (section 11.7).
+-- The bytes that the outstanding request has received (section 11.7).
 abbrev pub received_by : Option Outstanding → List ℕ
 received_by (Some (opens.In r)) = r.received
 received_by _ = []
 
--- Data that have passed, by the open request (section 11.7).
+-- Data whose numbers are counted, by the outstanding request (section 11.7).
 abbrev pub data_received : Option Outstanding → Machine → DataIn → List ℕ → Stepped
 data_received (Some (opens.In r)) m h bytes = on_data m r h bytes
 data_received _ m h bytes = protocol_error m kind_not_due
 
--- A request for data that has passed, by the open request (section 11.8).
+-- An R2T whose numbers are counted, by the outstanding request (section 11.8).
 abbrev pub r2t_received : Option Outstanding → Machine → ReadyToTransfer → Stepped
 r2t_received (Some (opens.Out w)) m h = on_r2t m w h
 r2t_received _ m h = protocol_error m kind_not_due
 
--- The session with this open request.
+-- The session with this outstanding request.
 abbrev pub with_outstanding : Machine → Outstanding → Machine
 with_outstanding m request = record m { outstanding = Some request }
 
@@ -94,7 +94,7 @@ pub record IsUnready (old : Connection) (fault : Option InitiatorFault) (new : C
   pub output_is : after ≡ before
   pub fault_is : fault ≡ None
 
--- The PDU that is ready was taken and given up.
+-- The PDU that is ready was taken and dropped.
 pub record IsReceived (old : Connection) (fault : Option InitiatorFault) (new : Connection)
     (before after : List ℕ) : Type 0 where
   pub head : Head
@@ -108,7 +108,7 @@ abbrev pub ReceivesPdu : Connection → Option InitiatorFault → Connection →
 ReceivesPdu old fault new before after =
     IsUnready old fault new before after ⊎ IsReceived old fault new before after
 
--- Memory ran out at the PDU that is ready: the session is closed, and the PDU is given up.
+-- Memory ran out at the PDU that is ready: the session is closed, and the PDU is dropped.
 pub record ShutsReady (old new : Connection) (before after : List ℕ) : Type 0 where
   pub machine : new.machine ≡ closed old.machine
   pub unready : is_ready new.framing ≡ false

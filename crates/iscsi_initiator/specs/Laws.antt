@@ -135,7 +135,7 @@ abbrev pub receives : Machine → List Message → Machine
 receives m [] = m
 receives m (message ∷ messages) = receives (step m message).machine messages
 
--- The open read has received these bytes (section 11.7).
+-- The outstanding read has received these bytes (section 11.7).
 pub record IsReceiving (m : Machine) (bytes : List ℕ) : Type 0 where
   pub reading : Reading
   pub is : m.outstanding ≡ Some (opens.In reading)
@@ -152,7 +152,7 @@ pub record HasReceived (m : Machine) (bytes : List ℕ) : Type 0 where
 
 -- What came for an open read, until a fault closed the session if one did: its Data-In tile its
 -- data, each lies where the last one ended, and what is received, or the outcome has, are their
--- bytes (section 11.7.5). A closed session hears nothing.
+-- bytes (section 11.7.5). A closed session receives nothing.
 pub record TilesRead (m : Machine) (messages : List Message) : Type 0 where
   pub received : List Message
   pub rest : List Message

@@ -29,12 +29,14 @@ use Rattle.iscsi_pdu.specs.Rules.{kind_not_due, login_out_of_turn, status_out_of
 abbrev pub offered : Machine → Pairs
 offered m = in_order (offers_at m.settings.proposal m.settings.start m.stage)
 
--- The stage that a text of this stage asks for (section 11.12.3; that none is left out is own rule).
+-- The next stage that a text of this stage requests (section 11.12.3; that none is left out is own
+-- rule).
 abbrev pub following_stage : Stage → Stage
 following_stage Security = Operational
-following_stage _ = Full
+following_stage Operational = Full
+following_stage Full = Full
 
--- The stage that the present text asks for (section 11.12.3).
+-- The next stage that the present text requests (section 11.12.3).
 abbrev pub requested_stage : Machine → Stage
 requested_stage m = following_stage m.stage
 
@@ -94,7 +96,7 @@ counted m h = record m {
   window = moved m.window (serial h.exp_cmd_sn) (serial h.max_cmd_sn);
 }
 
--- The stage moves, and the next text goes out, if there is one (section 6.3).
+-- The stage moves, and the next text is sent, if there is one (section 6.3).
 abbrev pub begins_stage : Stage → Machine → Stepped
 begins_stage Full m = quiet (record m { stage = Full; phase = phases.Full })
 begins_stage stage m = sends_text (record m { stage = stage })
@@ -144,7 +146,22 @@ answered m h segment =
 abbrev pub login_step : Machine → Head → Segment → Stepped
 login_step m (heads.LoginResponse h) segment =
     if h.initiator_task_tag == 0 then answered m h segment else protocol_error m kind_not_due
-login_step m _ segment = protocol_error m kind_not_due
+login_step m (heads.NopOut h) segment = protocol_error m kind_not_due
+login_step m (heads.ScsiCommand h) segment = protocol_error m kind_not_due
+login_step m (heads.TaskRequest h) segment = protocol_error m kind_not_due
+login_step m (heads.LoginRequest h) segment = protocol_error m kind_not_due
+login_step m (heads.TextRequest h) segment = protocol_error m kind_not_due
+login_step m (heads.DataOut h) segment = protocol_error m kind_not_due
+login_step m (heads.LogoutRequest h) segment = protocol_error m kind_not_due
+login_step m (heads.NopIn h) segment = protocol_error m kind_not_due
+login_step m (heads.ScsiResponse h) segment = protocol_error m kind_not_due
+login_step m (heads.TaskResponse h) segment = protocol_error m kind_not_due
+login_step m (heads.TextResponse h) segment = protocol_error m kind_not_due
+login_step m (heads.DataIn h) segment = protocol_error m kind_not_due
+login_step m (heads.LogoutResponse h) segment = protocol_error m kind_not_due
+login_step m (heads.ReadyToTransfer h) segment = protocol_error m kind_not_due
+login_step m (heads.AsyncMessage h) segment = protocol_error m kind_not_due
+login_step m (heads.Reject h) segment = protocol_error m kind_not_due
 
 -- The login is started; a second start breaks a rule (section 6.3; own rule).
 abbrev pub start_step : Machine → Stepped

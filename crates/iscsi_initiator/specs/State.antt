@@ -12,7 +12,7 @@ use Rattle.iscsi_initiator.specs.declared.request.Done.{Done}
 use Rattle.iscsi_initiator.specs.declared.outstanding.Outstanding.{Outstanding}
 use Rattle.iscsi_login.specs.Stage.{is_closed_phase}
 
--- What an initiator was told: what it offers, and how it logs in (section 6.3).
+-- What an initiator is configured with: what it offers, and how it logs in (section 6.3).
 pub record Settings : Type 0 where
   pub proposal : Proposal
   -- the stage where the login starts
@@ -29,7 +29,7 @@ pub record Machine : Type 0 where
   pub phase : Phase
   -- where the login is, or was when the session closed
   pub stage : Stage
-  -- what is left of the login text behind the segments sent
+  -- what is not sent of the login text
   pub unsent_text : List ℕ
   -- one more than the last StatSN received, once there was one
   pub exp_stat_sn : Option ℕ

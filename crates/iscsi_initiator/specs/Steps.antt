@@ -1,4 +1,4 @@
--- What one step of an initiator gives (RFC 7143, section 6).
+-- What one step of an initiator leads to (RFC 7143, section 6).
 use Rattle.std.specs.Prelude.{ℕ, List, [], Option, Some, None}
 use Rattle.iscsi_login.specs.declared.phase.Phase.TheVariants.{Closed}
 use Rattle.iscsi_stream.specs.Stream.{Message}

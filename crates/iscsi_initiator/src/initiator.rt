@@ -17,7 +17,7 @@ use iscsi_stream::{Framer, StreamFault};
 use std::alloc::{AllocError, Global};
 use std::marker::Model;
 
-/// An initiator's session: it takes the bytes of a target, appends what it sends, and gives the
+/// An initiator's session: it takes the bytes of a target, appends what it sends, and returns the
 /// outcome of each request.
 ///
 /// | Phase | What holds |
@@ -75,8 +75,8 @@ impl Initiator {
         }
     }
 
-    /// Takes a piece of the stream, and appends what the PDUs lead to that it completes. Says in which
-    /// phase the session is then.
+    /// Takes a piece of the stream, and appends what the PDUs lead to that it completes. Returns
+    /// the phase of the session then.
     ///
     /// The answer to a logout answers `Closed`, and the rest of the piece is dropped. After a fault the
     /// session is closed: `out` has what the PDUs before the one at fault led to, but after `NoMemory`
@@ -222,8 +222,8 @@ fn stream_fault(fault: StreamFault) -> InitiatorFault
     }
 }
 
-// Takes the PDU that is ready, if one is, and gives it up. Says which fault it led to, if it led to
-// one. Being out of memory closes the session.
+// Takes the PDU that is ready, if one is, and drops it. Returns the fault that it led to, if it led
+// to one. Being out of memory closes the session.
 fn receive_pdu(
     session: &mut Session,
     framer: &mut Framer,

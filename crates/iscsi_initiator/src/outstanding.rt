@@ -1,4 +1,4 @@
-//! The request that waits for its answer.
+//! The outstanding request.
 
 ghost use Rattle.std.specs.Prelude.{◌≡◌, ◌≤◌, ◌+◌, ◌++◌, length, take, drop, OnOk, OnErr};
 ghost use Rattle.iscsi_login.specs.declared.key.NegKey.TheVariants.{MaxBurstLength};
@@ -89,8 +89,8 @@ impl Model for Writing {
 }
 
 impl Writing {
-    /// Whether a request for data has the next R2TSN and the next offset, and asks for 1 to
-    /// `most_burst` bytes, all of them within the data.
+    /// Whether an R2T has the next R2TSN and the next offset, and asks for 1 to `most_burst` bytes,
+    /// all of them within the data.
     pub(crate) fn fits(&self, head: &ReadyToTransfer, most_burst: u32) -> bool
         ensures { (m : Machine) → number_of (held_value m.held MaxBurstLength) ≡ most_burst
             → result ≡ fits_writing m self.now head.now }
@@ -103,7 +103,7 @@ impl Writing {
             && self.sent.saturating_add(desired as usize) <= self.bytes.len()
     }
 
-    /// The bytes that are asked for.
+    /// The bytes that an R2T requests.
     pub(crate) fn requested(&self, head: &ReadyToTransfer) -> &[u8]
         requires { self.now.sent + head.now.desired_data_transfer_length ≤ length self.now.bytes }
         ensures bytes { result.now ≡ take head.now.desired_data_transfer_length
@@ -114,7 +114,7 @@ impl Writing {
         &self.bytes[self.sent..end]
     }
 
-    /// The bytes that were asked for are sent.
+    /// The bytes that an R2T requested are sent.
     pub(crate) fn count(&mut self, head: &ReadyToTransfer)
         requires { self.old.sent + head.now.desired_data_transfer_length ≤ length self.old.bytes }
         ensures { self.new ≡ record self.old {
@@ -127,7 +127,7 @@ impl Writing {
     }
 }
 
-/// The request that waits for its answer, and what came of it so far.
+/// The outstanding request, and what came of it so far.
 #[derive(Drop)]
 pub(crate) enum Outstanding {
     /// A command that may read.

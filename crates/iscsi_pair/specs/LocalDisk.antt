@@ -49,7 +49,7 @@ abbrev pub reported_sense : Option Sense → List ℕ
 reported_sense None = []
 reported_sense (Some sense) = sense_bytes sense
 
--- What is told of what an order answered (section 11.4).
+-- The outcome of a request, by what its order answered (section 11.4).
 abbrev pub reported : Outcome → Done
 reported outcome =
     done.Command 0 outcome.status (reported_sense outcome.sense) outcome.bytes outcome.residual
@@ -63,8 +63,8 @@ pub record Local : Type 0 where
 abbrev pub local_command : Effect → Local
 local_command after = record { outcome = reported after.outcome; disk = after.disk }
 
--- What a request does where the disk is here. A ping gives the first of its bytes, at most so many;
--- texts and logouts are nothing to a disk (sections 11.3, 11.4 and 11.18).
+-- What a request does where the disk is here. A ping returns the first of its bytes, at most so
+-- many; texts and logouts are nothing to a disk (sections 11.3, 11.4 and 11.18).
 abbrev pub local : ℕ → Disk → Request → Local
 local most disk (requests.In lun cdb expected) =
     local_command (effect disk (reading_order lun cdb expected) [])
@@ -129,7 +129,8 @@ AreAtRest held outcome m t =
 
 -- ---- answers, one by one
 
--- Both ends, the disk, and the answers on their way, where the target has heard all that was sent.
+-- Both ends, the disk, and the answers on their way, where the target has received all that was
+-- sent.
 pub record Exchange : Type 0 where
   pub initiator : initiator.Machine
   pub target : target.Machine
@@ -159,7 +160,7 @@ abbrev pub after_answers : ℕ → Exchange → Exchange
 after_answers zero x = x
 after_answers (suc more) x = after_answers more (after_next x x.answers)
 
--- A request is handed in, and the target hears what goes out (section 4.2).
+-- A request is handed in, and the target receives what is sent (section 4.2).
 abbrev pub handed_in : initiator.Machine → target.Machine → Disk → Request → Exchange
 handed_in m t disk request =
     let answered = answers t disk (submitted m request).output in

@@ -17,7 +17,7 @@ use Rattle.iscsi_pair.specs.LocalDisk.{AreInStep, HaveParted, local_disk, local_
 abbrev pub HasRoom : ℕ → List ℕ → Type 0
 HasRoom lun cdb = (lun < 2 ^ 64) × (length cdb ≡ 16) × AreBytes cdb
 
--- A command, a ping or a logout, as a program can say it (sections 11.3, 11.14 and 11.18).
+-- A command, a ping or a logout, as a program can write it (sections 11.3, 11.14 and 11.18).
 abbrev pub IsServed : Request → Type 0
 IsServed (requests.In lun cdb expected) = HasRoom lun cdb
 IsServed (requests.Out lun cdb bytes) = HasRoom lun cdb

@@ -57,8 +57,8 @@ pub fn ends()
         → (later : List Input) × InitiatorStands c (inputs ++ later) t w }
 {}
 
-/// One world: where no growth is refused, the events alone say to which world a pair comes, however
-/// its ends use their memory.
+/// One world: where no growth is refused, the events alone determine to which world a pair comes,
+/// however its ends use their memory.
 pub fn one_world()
     ensures one { (c : Opening) (events : List Event) (v w : World)
         → RunsCalmly (new_pair c) events v → RunsCalmly (new_pair c) events w → LooksAlike v w }

@@ -55,7 +55,7 @@ flush logical_block_address blocks = cdb.SyncCache10 (record {
   control = 0;
 })
 
--- A command to a unit that may give so many bytes; the unit's number is byte 1 of the LUN, the
+-- A command to a unit that may return so many bytes; the unit's number is byte 1 of the LUN, the
 -- second from above (SAM-5, section 4.7).
 abbrev pub data_in_request : ℕ → Cdb → ℕ → Request
 data_in_request unit block expected = requests.In (unit * 2 ^ 48) (canonical block) expected

@@ -19,7 +19,7 @@ use Rattle.iscsi_service.specs.Session.{target_settings}
 use Rattle.iscsi_service.specs.Reports.{report}
 use Rattle.iscsi_service.specs.Looping.{initiator_settings, reports, transcript, up_to_logout}
 
--- A carrier gives what was written to it.
+-- A carrier returns what was written to it.
 abbrev pub IsFaithful : (List ℕ → List ℕ → Type 0) → Type 0
 IsFaithful carries = (written read : List ℕ) → carries written read → read ≡ written
 

@@ -1,4 +1,4 @@
--- Sessions over a socket: what ends them, and the exit status that says it.
+-- Sessions over a socket: what ends them, and the exit status for it.
 use Rattle.std.specs.Prelude.{◌≡◌, ℕ, List, Result, Ok, Err}
 use Rattle.scsi_disk.specs.Disk.{Disk}
 use Rattle.iscsi_target.specs.declared.fault.TargetFault.{TargetFault}
@@ -12,8 +12,8 @@ use Rattle.iscsi_service.specs.declared.serve_fault.ServeFault.{ServeFault}
 use Rattle.iscsi_service.specs.declared.serve_fault.ServeFault.TheVariants as serve
 use Rattle.iscsi_service.specs.Session.{ServesAll, ServesFirst, EndsBy}
 
--- The exit status that says a fault: 1 where what came is refused, 3 for memory, 4 for reading,
--- writing and the network.
+-- The exit status of a fault: 1 where what came is refused, 3 for memory, 4 for reading, writing
+-- and the network.
 abbrev pub exit_status : ServeFault → ℕ
 exit_status serve.NoMemory = 3
 exit_status (serve.Target fault) = 1
@@ -47,7 +47,7 @@ session_fault session.Read = serve.Read
 session_fault session.Write = serve.Write
 
 -- What a session over a socket leaves where it ends, and why it ends so: nothing is done where no
--- connection was accepted; where a write failed, nothing is said of it.
+-- connection was accepted; where a write failed, nothing is stated of it.
 abbrev pub ServesOne : Settings → Disk → Result (Unit {0}) ServeFault → List ℕ → Disk → List ℕ
     → Type 0
 ServesOne settings disk (Ok done) read disk_now written =

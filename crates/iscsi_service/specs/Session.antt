@@ -77,7 +77,7 @@ pub record ServesFirst (settings : Settings) (disk : Disk) (read : List ℕ) (di
   pub disk_is : disk_now ≡ front.disk
   pub output_is : written ≡ canon ((led settings disk read receives).answers ++ front.answers)
 
--- What a session leaves where it ends; where a write failed, nothing is said of it.
+-- What a session leaves where it ends; where a write failed, nothing is stated of it.
 abbrev pub Serves : Settings → Disk → Result (Unit {0}) SessionFault → List ℕ → Disk → List ℕ
     → Type 0
 Serves settings disk (Ok done) read disk_now written = ServesAll settings disk read disk_now written
@@ -118,8 +118,8 @@ RestFails limit (stream.Truncated place) given rest = (0 < length rest)
 RestFails limit stream.NoMemory given rest = ⊥
 RestFails limit stream.Failed given rest = ⊥
 
--- Why a session ends, told by the PDUs of what was read; where memory is wanting, or a write
--- failed, nothing is said of it.
+-- Why a session ends, by the PDUs of what was read; where memory ran out, or a write failed,
+-- nothing is stated of it.
 abbrev pub EndsBy : Settings → Disk → Result (Unit {0}) SessionFault → List ℕ → Type 0
 -- it was closed, or what was read ends behind its last PDU
 EndsBy settings disk (Ok done) read = IsOver settings disk read

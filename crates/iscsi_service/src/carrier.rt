@@ -34,7 +34,7 @@ pub trait Carrier: Drop {
         ensures err { IfErr result IsOfSession };
 }
 
-/// A connection in memory: it gives what was written to it, and has no fault.
+/// A connection in memory: it returns what was written to it, and has no fault.
 #[derive(Drop)]
 pub struct Channel;
 

@@ -1,4 +1,5 @@
-//! A session of an initiator and a target over a socket, as a script says.
+//! A session of an initiator and a target over a socket, as a script says. One file: both ends, and
+//! the commands that drive them; more than half of it are the contracts.
 
 ghost use Rattle.std.specs.Prelude.{◌≡◌, ◌<◌, ◌≤◌, ◌∷◌, [], ℕ, List, IfOk, IfErr, OnOk};
 ghost use Rattle.scsi_disk.specs.Disk.{most_blocks};
@@ -54,7 +55,7 @@ const TURNS: u32 = 16_777_216;
 /// the first byte too many where the script has more than 1,048,576 bytes; `Read` where a read
 /// fails or 16,777,216 of them did not reach the end. `NoMemory` comes where memory runs out, then
 /// or later. `Target` and `Initiator` are the first fault of an end. A refused request and one
-/// without an outcome are `Initiator` with `Closed`: these ends give no cause for it. `Network`
+/// without an outcome are `Initiator` with `Closed`: these ends have no cause for it. `Network`
 /// comes where a socket fails, or the ends answered each other 16,777,216 times, and `Write` where
 /// a line can't be written.
 ///
@@ -96,7 +97,7 @@ pub fn run_over<C: Carrier, R: Read, W: Write>(
         × Consumes (R.remaining r.old) (R.remaining r.new) script
         × Appends (W.contents w.old) (W.contents w.new) written
         × Loops result script written × ReadsFirst result written (R.remaining r.new) }
-    // Over a connection that gives what was written to it, the lines are those of one local disk.
+    // Over a connection that returns what was written to it, the lines are those of one local disk.
     ensures on_disk { IsFaithful C.carries → (script : List ℕ) × (written : List ℕ)
         × Consumes (R.remaining r.old) (R.remaining r.new) script
         × Appends (W.contents w.old) (W.contents w.new) written
@@ -170,7 +171,7 @@ fn write_line<W: Write>(w: &mut W, line: &[u8]) -> Result<(), ServeFault>
     }
 }
 
-/// Both ends of a session, and the connection between them.
+/// A session of both ends, over a connection between them.
 #[derive(Drop)]
 struct LoopbackSession<C> {
     alloc: Global,
@@ -227,7 +228,7 @@ impl<C: Carrier> LoopbackSession<C> {
         }
     }
 
-    // Hands in a command, and gives what came of it.
+    // Hands in a command, and returns what came of it.
     fn perform(&mut self, command: Command) -> Result<Done, ServeFault>
         ensures continues { IfOk result (λ done. Continues self.old.initiator.machine
             (request_of command ∷ []) (done ∷ []) self.new.initiator.machine) }
@@ -250,8 +251,7 @@ impl<C: Carrier> LoopbackSession<C> {
         }
     }
 
-    // Carries what the initiator sends to the target, and its answers back, until neither has more
-    // to say.
+    // Moves what the initiator sends to the target, and its answers back, until neither sends more.
     fn settle(&mut self, requests: Vec<u8>) -> Result<(), ServeFault>
         ensures continues { OnOk result
             (Continues self.old.initiator.machine [] [] self.new.initiator.machine) }
@@ -271,7 +271,7 @@ impl<C: Carrier> LoopbackSession<C> {
         Err(ServeFault::Network)
     }
 
-    // Carries requests to the target, and gives its answers.
+    // Moves requests to the target, and returns its answers.
     fn feed_target(&mut self, requests: &[u8]) -> Result<Vec<u8>, ServeFault>
         ensures kept { self.new.initiator ≡ self.old.initiator }
         ensures served { IsFaithful C.carries → IfOk result (λ answers. GoOn
@@ -295,7 +295,7 @@ impl<C: Carrier> LoopbackSession<C> {
         Ok(answers)
     }
 
-    // Carries answers to the initiator, and gives what it sends then.
+    // Moves answers to the initiator, and returns what it sends then.
     fn feed_initiator(&mut self, answers: &[u8]) -> Result<Vec<u8>, ServeFault>
         ensures continues { OnOk result
             (Continues self.old.initiator.machine [] [] self.new.initiator.machine) }
@@ -318,7 +318,7 @@ impl<C: Carrier> LoopbackSession<C> {
         Ok(requests)
     }
 
-    // Closes the connection. The target is told of it, unless the session was closed before.
+    // Closes the connection. The target's stream ends then, unless the session was closed before.
     fn close(self) -> Result<(), ServeFault>
         ensures err { IfErr result IsOfSession }
     {
@@ -341,7 +341,11 @@ fn refusal(fault: SubmitFault) -> ServeFault
 {
     match fault {
         SubmitFault::NoMemory => ServeFault::NoMemory,
-        _ => no_outcome(),
+        SubmitFault::Closed
+        | SubmitFault::NotReady
+        | SubmitFault::Busy
+        | SubmitFault::Shut
+        | SubmitFault::TooLong => no_outcome(),
     }
 }
 
@@ -363,7 +367,7 @@ fn initiator_configuration(alloc: Global) -> Result<Config, AllocError>
         auth: Auth::None,
         prefs: Preferences::standard(),
     };
-    // Names and numbers are in range, so memory alone can be wanting.
+    // Names and numbers are in range, so only memory can run out.
     Config::new(
         alloc,
         offers,

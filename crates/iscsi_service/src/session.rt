@@ -35,11 +35,11 @@ const MOST_WAITING: usize = 65_536;
 pub fn configuration(alloc: Global) -> Result<Config, AllocError>
     ensures settings { IfOk result (λ config. config ≡ target_settings) }
 {
-    // Name and numbers are in range, so memory alone can be wanting.
+    // Name and numbers are in range, so only memory can run out.
     Config::new(alloc, TARGET_NAME, GROUP, TSIH, Preferences::standard()).map_err(|_| AllocError)
 }
 
-/// Why a session over a stream ends before its time.
+/// Why a session over a stream ends early.
 #[derive(Clone, Copy, Debug, PartialEq, Eq, Error)]
 pub enum SessionFault {
     /// The target refuses what its initiator sent, or memory ran out.
@@ -53,10 +53,10 @@ pub enum SessionFault {
     Write,
 }
 
-/// Runs the session of a target with a store over a stream: takes what a reader gives, in reads of
-/// at most 4,096 bytes, and writes the answers, as soon as more than 65,536 bytes of them wait and at
-/// the end of each read. It stops where the session is closed, by a logout or a refused login, and
-/// where the stream ends.
+/// Runs the session of a target with a store over a stream: takes what a reader returns, in reads
+/// of at most 4,096 bytes, and writes the answers, as soon as more than 65,536 bytes of them wait
+/// and at the end of each read. It stops where the session is closed, by a logout or a refused
+/// login, and where the stream ends.
 ///
 /// Where the store counted no failure, what is written are the answers to all PDUs of what was read,
 /// and the store has the blocks that they leave; when out of memory those of some first PDUs, whole, and of some first tasks of the

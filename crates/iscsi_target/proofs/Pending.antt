@@ -1,4 +1,5 @@
--- Between two PDUs the first task is a write that waits for data, and no R2T went out for one behind it.
+-- Between two PDUs the first task is a write that waits for data, and no R2T was sent for one
+-- behind it.
 use Rattle.std.proofs.Common.{◌≡◌, ◌⊎◌, inl, inr, ℕ, List, [], ◌∷◌, ◌++◌, length, Bool, true, false, Some, None, refl, sym, ap, ◌∙◌, subst, ◌+◌, arith}
 use Rattle.std.specs.Prelude.{◌==◌, nat_lt, if◌then◌else◌}
 use Rattle.std.proofs.lemmas.Bool.{ltb-true}

@@ -53,7 +53,7 @@ breaks_burst_rules held h n = is_bad_segment held h n || is_bad_announcement hel
 
 -- ---- a write
 
--- The head of the R2T that goes out next, while so many tasks wait (section 11.8).
+-- The head of the next R2T, while so many tasks wait (section 11.8).
 abbrev pub r2t_head : Session → ℕ → Write → Head
 r2t_head s waiting w = heads.ReadyToTransfer (record {
   lun = w.order.lun;
@@ -71,14 +71,14 @@ r2t_head s waiting w = heads.ReadyToTransfer (record {
 abbrev pub led_by : Write → Machine → Machine
 led_by w s = record s { tasks = Data w ∷ s.tasks }
 
--- An R2T goes out, which advances no StatSN (section 11.8).
+-- An R2T is sent, which advances no StatSN (section 11.8).
 abbrev pub send_r2t : Machine → Disk → Write → Stepped
 send_r2t s disk w = record (unchanged (led_by (with_r2t s.session.held w) s) disk) {
   answers = message (r2t_head s.session (waiting (led_by w s).tasks) w) [] ∷ [];
 }
 
 -- The first task is a write, with these behind it: it is executed when all bytes are there; else an
--- R2T goes out where no sequence is due (sections 4.2.5.2 and 11.8; that all blocks are written at
+-- R2T is sent where no sequence is due (sections 4.2.5.2 and 11.8; that all blocks are written at
 -- once is own rule).
 abbrev pub proceed : Device → Machine → Disk → Write → Stepped
 proceed device s disk w =
@@ -122,7 +122,22 @@ task_planned m h bytes _ = Request m
 abbrev pub task_by : ℕ → Message → Head → Task
 task_by count m (heads.ScsiCommand h) =
     task_planned m h (segment_bytes m.segment) (plan_of (order_of h) count)
-task_by count m _ = Request m
+task_by count m (heads.NopOut h) = Request m
+task_by count m (heads.TaskRequest h) = Request m
+task_by count m (heads.LoginRequest h) = Request m
+task_by count m (heads.TextRequest h) = Request m
+task_by count m (heads.DataOut h) = Request m
+task_by count m (heads.LogoutRequest h) = Request m
+task_by count m (heads.NopIn h) = Request m
+task_by count m (heads.ScsiResponse h) = Request m
+task_by count m (heads.TaskResponse h) = Request m
+task_by count m (heads.LoginResponse h) = Request m
+task_by count m (heads.TextResponse h) = Request m
+task_by count m (heads.DataIn h) = Request m
+task_by count m (heads.LogoutResponse h) = Request m
+task_by count m (heads.ReadyToTransfer h) = Request m
+task_by count m (heads.AsyncMessage h) = Request m
+task_by count m (heads.Reject h) = Request m
 
 -- The task of a request, on a disk of so many blocks (section 11.3).
 abbrev pub task_of : ℕ → Message → Task
@@ -132,4 +147,19 @@ task_of count m = task_by count m m.head
 -- 13.14).
 abbrev pub breaks_rules : Held → ℕ → Head → Bool
 breaks_rules held n (heads.ScsiCommand h) = breaks_burst_rules held h n
-breaks_rules held n _ = false
+breaks_rules held n (heads.NopOut h) = false
+breaks_rules held n (heads.TaskRequest h) = false
+breaks_rules held n (heads.LoginRequest h) = false
+breaks_rules held n (heads.TextRequest h) = false
+breaks_rules held n (heads.DataOut h) = false
+breaks_rules held n (heads.LogoutRequest h) = false
+breaks_rules held n (heads.NopIn h) = false
+breaks_rules held n (heads.ScsiResponse h) = false
+breaks_rules held n (heads.TaskResponse h) = false
+breaks_rules held n (heads.LoginResponse h) = false
+breaks_rules held n (heads.TextResponse h) = false
+breaks_rules held n (heads.DataIn h) = false
+breaks_rules held n (heads.LogoutResponse h) = false
+breaks_rules held n (heads.ReadyToTransfer h) = false
+breaks_rules held n (heads.AsyncMessage h) = false
+breaks_rules held n (heads.Reject h) = false

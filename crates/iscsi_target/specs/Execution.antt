@@ -36,7 +36,7 @@ abbrev pub device_after : List Execution → Device → Device
 device_after [] device = device
 device_after (e ∷ es) device = device_after es (device_next device)
 
--- ---- data that a command gives
+-- ---- data that a command returns
 
 -- The parts of a run, of which the last is marked (section 11.7.1).
 abbrev pub marked : List (List ℕ) → List (List ℕ × Bool)

@@ -61,17 +61,17 @@ IsPending [] = Unit {0}
 IsPending (Request m ∷ more) = ⊥
 IsPending (Data w ∷ more) = (is_whole w ≡ false) × (is_idle w.due ≡ false)
 
--- No R2T went out for what is due (section 11.8).
+-- No R2T was sent for what is due (section 11.8).
 abbrev pub is_unasked : Due → Bool
 is_unasked (Solicited tag data_sn end) = false
 is_unasked _ = true
 
--- No R2T went out for the task (section 11.8).
+-- No R2T was sent for the task (section 11.8).
 abbrev pub IsUnasked : Task → Type 0
 IsUnasked (Request m) = Unit {0}
 IsUnasked (Data w) = is_unasked w.due ≡ true
 
--- The first task is a write that waits for data, and no R2T went out for one behind it (section
+-- The first task is a write that waits for data, and no R2T was sent for one behind it (section
 -- 11.8).
 pub record AreKept (tasks : List Task) : Type 0 where
   pub pending : IsPending tasks
@@ -203,7 +203,7 @@ pub record IsUnready (old : Connection) (before : Store) (output : List ℕ)
   pub output_is : written ≡ output
   pub rule_is : broken ≡ None
 
--- The PDU that is ready was answered and given up.
+-- The PDU that is ready was answered and dropped.
 pub record IsAnswered (old : Connection) (before : Store) (output : List ℕ)
     (broken : Option ℕ) (new : Connection) (after : Store) (written : List ℕ) : Type 0 where
   pub head : Head
@@ -221,7 +221,7 @@ AnswersReady old before output broken new after written =
     IsUnready old before output broken new after written
     ⊎ IsAnswered old before output broken new after written
 
--- Memory ran out at the PDU that is ready: the session is closed, and the PDU is given up.
+-- Memory ran out at the PDU that is ready: the session is closed, and the PDU is dropped.
 pub record ShutsReady (old : Connection) (before : Store) (output : List ℕ)
     (new : Connection) (after : Store) (written : List ℕ) : Type 0 where
   pub head : Head

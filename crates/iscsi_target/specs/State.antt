@@ -62,7 +62,7 @@ pub record Execution : Type 0 where
   pub order : Order
   pub pieces : Pieces
 
--- What any message does. The last two fields tell what laws speak of: the requests that were
+-- What any message does. The last two fields have what laws speak of: the requests that were
 -- accepted, and the orders that were executed.
 pub record Stepped : Type 0 where
   pub machine : Machine

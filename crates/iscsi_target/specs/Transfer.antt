@@ -79,16 +79,17 @@ taken first_burst w h bytes =
 
 -- ---- R2Ts
 
--- Nothing is due: an R2T goes out next (section 11.8).
+-- Nothing is due: an R2T is sent next (section 11.8).
 abbrev pub is_idle : Due → Bool
 is_idle Nothing = true
-is_idle _ = false
+is_idle (Unsolicited data_sn) = false
+is_idle (Solicited tag data_sn end) = false
 
 -- How many bytes the next R2T asks for: a burst, or the rest (section 11.8.4).
 abbrev pub desired : Held → Write → ℕ
 desired held w = min (w.total - received w) (max_burst held)
 
--- The write once an R2T went out: its sequence is due (section 11.8).
+-- The write once an R2T was sent: its sequence is due (section 11.8).
 abbrev pub with_r2t : Held → Write → Write
 with_r2t held w = record w {
   due = Solicited w.r2t_count 0 (received w + desired held w);

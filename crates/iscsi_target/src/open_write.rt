@@ -25,7 +25,7 @@ pub struct OpenWrite {
     pub data: Vec<u8>,
     /// Which data may come next.
     pub due: Due,
-    /// How many R2Ts went out.
+    /// How many R2Ts were sent.
     pub r2t_count: u32,
 }
 
@@ -58,6 +58,7 @@ impl OpenWrite {
         ensures value { result ≡ received self.now }
         ensures fits { received self.now ≤ self.now.total }
     {
+        // Opens the invariant.
         let _total = self.total;
         self.data.len() as u32
     }
@@ -69,7 +70,7 @@ impl OpenWrite {
         self.total == self.received()
     }
 
-    /// Whether nothing is due: an R2T goes out next, or all bytes are there.
+    /// Whether nothing is due: an R2T is sent next, or all bytes are there.
     pub fn is_idle(&self) -> bool
         ensures { result ≡ is_idle self.now.due }
     {
@@ -83,7 +84,7 @@ impl OpenWrite {
         (self.total - self.received()).min(burst)
     }
 
-    /// An R2T for so many bytes went out: its sequence is due.
+    /// An R2T for so many bytes was sent: its sequence is due.
     pub fn await_sequence(&mut self, desired: u32)
         requires idle { is_idle self.old.due ≡ true }
         requires some { 0 < desired }

@@ -10,7 +10,7 @@ use Rattle.iscsi_target_session.specs.Login.{answered}
 
 -- ---- the login
 
--- What a request says of the session before it is answered is taken back.
+-- What a request changes in the session before it is answered is rolled back.
 abbrev pub rolled_back : Session → Session → Session
 rolled_back old new =
     record new { begun = old.begun; exp_cmd_sn = old.exp_cmd_sn; stage = old.stage }

@@ -1,5 +1,5 @@
 -- Requests with one answer: pings, task management and logouts (RFC 7143, sections 11.5, 11.6,
--- 11.14, 11.15, 11.18 and 11.19). Their answers say how many commands wait.
+-- 11.14, 11.15, 11.18 and 11.19). Their answers depend on how many commands wait.
 use Rattle.std.specs.Prelude.{ℕ, ◌==◌, nat_le, if◌then◌else◌, List, [], take, None}
 use Rattle.iscsi_pdu.specs.declared.head.nop_out.NopOut.{NopOut}
 use Rattle.iscsi_pdu.specs.declared.head.task_request.TaskRequest.{TaskRequest}
@@ -59,7 +59,7 @@ logout_head s waiting h = heads.LogoutResponse (record {
   time2retain = 0;
 })
 
--- A Logout Response goes out, and the session is closed (section 11.15).
+-- A Logout Response is sent, and the session is closed (section 11.15).
 abbrev pub logged_out : Session → ℕ → LogoutRequest → Reply
 logged_out s waiting h = record {
   session = ended (send_response s (logout_head s waiting h) []).session;
@@ -87,4 +87,16 @@ request_answered s waiting m (heads.TaskRequest h) = task_request s waiting h
 request_answered s waiting m (heads.TextRequest h) =
     text_request s waiting m h (segment_bytes m.segment)
 request_answered s waiting m (heads.LogoutRequest h) = logout_request s waiting m h
-request_answered s waiting m _ = breach s waiting kind_not_due m
+request_answered s waiting m (heads.ScsiCommand h) = breach s waiting kind_not_due m
+request_answered s waiting m (heads.LoginRequest h) = breach s waiting kind_not_due m
+request_answered s waiting m (heads.DataOut h) = breach s waiting kind_not_due m
+request_answered s waiting m (heads.NopIn h) = breach s waiting kind_not_due m
+request_answered s waiting m (heads.ScsiResponse h) = breach s waiting kind_not_due m
+request_answered s waiting m (heads.TaskResponse h) = breach s waiting kind_not_due m
+request_answered s waiting m (heads.LoginResponse h) = breach s waiting kind_not_due m
+request_answered s waiting m (heads.TextResponse h) = breach s waiting kind_not_due m
+request_answered s waiting m (heads.DataIn h) = breach s waiting kind_not_due m
+request_answered s waiting m (heads.LogoutResponse h) = breach s waiting kind_not_due m
+request_answered s waiting m (heads.ReadyToTransfer h) = breach s waiting kind_not_due m
+request_answered s waiting m (heads.AsyncMessage h) = breach s waiting kind_not_due m
+request_answered s waiting m (heads.Reject h) = breach s waiting kind_not_due m

@@ -36,7 +36,7 @@ pub record Session : Type 0 where
   pub exp_cmd_sn : ℕ
   pub stat_sn : ℕ
 
--- A session in which nothing came: none of the 27 known keys was given (section 6.3).
+-- A session in which nothing came: none of the 27 known keys was seen (section 6.3).
 abbrev pub opening_session : Settings → ℕ → Session
 opening_session settings first_stat_sn = record {
   settings = settings;
@@ -69,7 +69,7 @@ ended s = record s { phase = phases.Closed; gathered = [] }
 abbrev pub max_cmd_sn_with : Session → ℕ → ℕ
 max_cmd_sn_with s waiting = (s.exp_cmd_sn + (2 ^ 32 + 7 - waiting)) % 2 ^ 32
 
--- An answer went out that carries StatSN and advances it (section 4.2.2.2).
+-- An answer was sent that carries StatSN and advances it (section 4.2.2.2).
 abbrev pub counted : Session → Session
 counted s = record s { stat_sn = next_sn s.stat_sn }
 

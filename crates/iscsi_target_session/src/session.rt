@@ -26,9 +26,9 @@ use std::marker::Model;
 /// How many commands that aren't immediate may wait (RFC 7143, section 4.2.2.1; own rule).
 const WINDOW: u32 = 8;
 
-/// A session between two PDUs. It knows no disk and no command; what it says of the window it is told:
-/// how many tasks wait. Where a call runs out of memory it has written nothing, and what is left of
-/// the session is good for nothing but to be closed.
+/// A session between two PDUs. It knows no disk and no command; how many tasks wait, which the
+/// window depends on, each call is given. Where a call runs out of memory it has written nothing,
+/// and the session can then only be closed.
 #[derive(Drop)]
 pub struct Session {
     config: Config,
@@ -122,7 +122,7 @@ impl Session {
         self.session_type
     }
 
-    /// What an answer says of its number and of the window, while so many tasks wait.
+    /// The serial numbers of an answer, while so many tasks wait.
     pub fn numbers(&self, waiting: u32) -> Numbers
         ensures stat_sn { result.stat_sn ≡ self.now.stat_sn }
         ensures exp_cmd_sn { result.exp_cmd_sn ≡ self.now.exp_cmd_sn }
@@ -138,7 +138,7 @@ impl Session {
         }
     }
 
-    /// An answer went out that carries StatSN and advances it (RFC 7143, section 4.2.2.2).
+    /// An answer was sent that carries StatSN and advances it (RFC 7143, section 4.2.2.2).
     pub fn count(&mut self)
         ensures { self.new ≡ counted self.old }
     {

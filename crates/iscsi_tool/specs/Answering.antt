@@ -36,7 +36,7 @@ abbrev pub AnswersFirst : ℕ → List ℕ → List ℕ → Type 0
 AnswersFirst blocks read written =
     (now : Disk) × ServesFirst target_settings (zeros blocks) read now written
 
--- What is written where answering ends, and why it ends so; where a write failed, nothing is said
+-- What is written where answering ends, and why it ends so; where a write failed, nothing is stated
 -- of it.
 abbrev pub AnswersBytes : ℕ → Result (Unit {0}) ToolFault → List ℕ → List ℕ → Type 0
 AnswersBytes blocks (Ok done) read written =
@@ -81,7 +81,7 @@ AnswersText blocks outcome read written =
     (bytes : List ℕ) × BytesOf read bytes × SpellsAnswers blocks outcome bytes written
 
 -- What is written where answering hex text ends: nothing where the text is not hex, or could not be
--- read; where a write failed, nothing is said of it.
+-- read; where a write failed, nothing is stated of it.
 abbrev pub AnswersHex : ℕ → Result (Unit {0}) ToolFault → List ℕ → List ℕ → Type 0
 AnswersHex blocks (Err tool.NotHex) read written = IsNotHex read × (written ≡ [])
 AnswersHex blocks (Err tool.NoMemory) read written =

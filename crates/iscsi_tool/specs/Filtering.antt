@@ -133,7 +133,7 @@ ReadsOn filter before after = Reads filter.work filter.hex before after
 
 -- ---- what the program answers
 
--- The exit status that says a fault: 1 where the input is refused, 3 for memory, 4 for reading and
+-- The exit status of a fault: 1 where the input is refused, 3 for memory, 4 for reading and
 -- writing.
 abbrev pub exit_status : ToolFault → ℕ
 exit_status tool.NoMemory = 3

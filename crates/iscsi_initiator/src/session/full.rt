@@ -3,7 +3,7 @@
 ghost use Rattle.std.specs.Prelude.{◌≡◌, ℕ, List, Some, OnErr, IfOk};
 ghost use Rattle.iscsi_pdu.specs.Meaning.{Fits};
 ghost use Rattle.iscsi_pdu.specs.declared.head.Head.TheVariants as heads;
-ghost use Rattle.iscsi_initiator.specs.Full.{UnsolicitedNopIn, Async, RejectPdu, tag_of, nop_answer, takes, full_step};
+ghost use Rattle.iscsi_initiator.specs.Full.{UnsolicitedNopIn, Async, RejectPdu, tag_of, answer_due, nop_answer, takes, full_step};
 ghost use Rattle.iscsi_initiator.specs.Inside.{Did, rolled_back, broken_rule, update_counters_by};
 
 use super::Session;
@@ -54,8 +54,41 @@ impl Session {
             ),
             Head::AsyncMessage(head) => self.on_async(head, bytes, out),
             Head::Reject(head) => self.on_reject(head, bytes, out),
-            _ if tag_of(head) == self.initiator_task_tag => self.on_answer(head, bytes, out),
-            _ => Ok(self.protocol_error(KIND_NOT_DUE)),
+            Head::NopOut(_)
+            | Head::ScsiCommand(_)
+            | Head::TaskRequest(_)
+            | Head::LoginRequest(_)
+            | Head::TextRequest(_)
+            | Head::DataOut(_)
+            | Head::LogoutRequest(_)
+            | Head::NopIn(_)
+            | Head::ScsiResponse(_)
+            | Head::TaskResponse(_)
+            | Head::LoginResponse(_)
+            | Head::TextResponse(_)
+            | Head::DataIn(_)
+            | Head::LogoutResponse(_)
+            | Head::ReadyToTransfer(_) => self.on_tagged(head, bytes, out),
+        }
+    }
+
+    // A message that answers the outstanding request if it has its task tag.
+    fn on_tagged(
+        &mut self,
+        head: &Head,
+        bytes: &[u8],
+        out: &mut Vec<u8>,
+    ) -> Result<Option<InitiatorFault>, AllocError>
+        requires fits { Fits head.now }
+        ensures ok { IfOk result (λ fault. Did (takes (answer_due self.old head.now) self.old
+            bytes.now) fault self.new out.old.items out.new.items) }
+        ensures err { OnErr result (rolled_back self.old self.new ≡ self.old) }
+        ensures unwritten { OnErr result (out.new.items ≡ out.old.items) }
+    {
+        if tag_of(head) == self.initiator_task_tag {
+            self.on_answer(head, bytes, out)
+        } else {
+            Ok(self.protocol_error(KIND_NOT_DUE))
         }
     }
 
@@ -150,11 +183,11 @@ impl Session {
         }
         match stat_sn {
             Some(stat_sn) if !self.is_expected(stat_sn) => Some(STATUS_OUT_OF_ORDER),
-            _ => None,
+            Some(_) | None => None,
         }
     }
 
-    // A message has passed: its StatSN, if it counts, and its window are counted.
+    // The StatSN of a message, if it counts, and its window are counted.
     pub(super) fn update_counters(&mut self, stat_sn: Option<u32>, exp_cmd_sn: u32, max_cmd_sn: u32)
         ensures { self.new ≡ update_counters_by self.old stat_sn exp_cmd_sn max_cmd_sn }
     {
@@ -176,6 +209,16 @@ fn tag_of(head: &Head) -> u32
         Head::ReadyToTransfer(head) => head.initiator_task_tag,
         Head::TextResponse(head) => head.initiator_task_tag,
         Head::LogoutResponse(head) => head.initiator_task_tag,
-        _ => RESERVED_TAG,
+        Head::NopOut(_)
+        | Head::ScsiCommand(_)
+        | Head::TaskRequest(_)
+        | Head::LoginRequest(_)
+        | Head::TextRequest(_)
+        | Head::DataOut(_)
+        | Head::LogoutRequest(_)
+        | Head::TaskResponse(_)
+        | Head::LoginResponse(_)
+        | Head::AsyncMessage(_)
+        | Head::Reject(_) => RESERVED_TAG,
     }
 }

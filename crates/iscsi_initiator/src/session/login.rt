@@ -20,7 +20,7 @@ use iscsi_text::Text;
 use std::alloc::AllocError;
 
 impl Session {
-    /// Starts the login: its first text goes out, or a part of it. A second start breaks a rule.
+    /// Starts the login: its first text is sent, or a part of it. A second start breaks a rule.
     pub fn start(&mut self, out: &mut Vec<u8>) -> Result<Option<InitiatorFault>, AllocError>
         ensures ok { IfOk result (λ fault. Did (start_step self.old) fault
             self.new out.old.items out.new.items) }
@@ -88,7 +88,7 @@ impl Session {
         }
     }
 
-    // An answer in the midst of a text: its next segment goes out.
+    // An answer in the midst of a text: its next segment is sent.
     fn on_part(
         &mut self,
         response: &LoginResponse,
@@ -175,7 +175,7 @@ impl Session {
         self.held.hold_answer(answer, None);
     }
 
-    // The stage moves, and the next text goes out, if there is one.
+    // The stage moves, and the next text is sent, if there is one.
     fn begin_stage(&mut self, stage: Stage, out: &mut Vec<u8>) -> Result<(), AllocError>
         ensures ok { OnOk result (Did (begins_stage stage self.old) None
             self.new out.old.items out.new.items) }
@@ -237,7 +237,7 @@ impl Session {
             && response.next_stage.unwrap_or(0) == following_stage(self.stage).number()
     }
 
-    // The present text goes out whole, or its first segment does.
+    // The present text is sent whole, or its first segment is.
     #[tactic(auto, using(crate::proofs::Sending::sent_text))]
     fn send_text(&mut self, out: &mut Vec<u8>) -> Result<(), AllocError>
         ensures ok { OnOk result (Did (sends_text self.old) None
@@ -253,7 +253,7 @@ impl Session {
         Ok(())
     }
 
-    // The next segment of the present text goes out.
+    // The next segment of the present text is sent.
     #[tactic(auto, using(crate::proofs::Sending::sent_more))]
     fn send_more(&mut self, out: &mut Vec<u8>) -> Result<(), AllocError>
         ensures ok { OnOk result (Did (sends_more self.old) None
@@ -266,7 +266,7 @@ impl Session {
         Ok(())
     }
 
-    // Writes as many bytes of the text as one segment takes, and says how many.
+    // Writes as many bytes of the text as one segment takes, and returns how many.
     fn write_segment(&self, text: &[u8], out: &mut Vec<u8>) -> Result<usize, AllocError>
         ensures count { IfOk result (λ n. (n ≤ length text.now)
             × (drop n text.now ≡ drop self.now.settings.login_segment text.now)) }
@@ -304,7 +304,7 @@ impl Session {
     }
 }
 
-// The stage that a text of this stage asks for.
+// The next stage that a text of this stage requests.
 fn following_stage(stage: Stage) -> Stage
     ensures { result ≡ following_stage stage }
 {

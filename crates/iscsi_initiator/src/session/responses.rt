@@ -1,5 +1,5 @@
-//! Answers to the open request (RFC 7143, section 11). One file: a method for each kind of PDU that
-//! may answer, and what they all look at first.
+//! Responses to the outstanding request (RFC 7143, section 11). One file: a method for each kind of
+//! PDU that may answer, and what they all look at first.
 
 ghost use Rattle.std.specs.Prelude.{◌≡◌, ◌<◌, ◌^◌, false, ◌++◌, ◌==◌, not, ℕ, List, None, Some, OnErr, IfOk};
 ghost use Rattle.std.specs.Bool.{then_some};
@@ -27,7 +27,7 @@ use scsi_cdb::{Bytes, Residual};
 use std::alloc::{AllocError, Global};
 
 impl Session {
-    // What may answer the open request, by its kind.
+    // What may answer the outstanding request, by its kind.
     pub(super) fn on_answer(
         &mut self,
         head: &Head,
@@ -48,7 +48,17 @@ impl Session {
             Head::ReadyToTransfer(head) => self.on_r2t(head, bytes, out),
             Head::TextResponse(head) => self.on_text_answer(head, bytes, out),
             Head::LogoutResponse(head) => self.on_logout(head, bytes, out),
-            _ => Ok(self.protocol_error(KIND_NOT_DUE)),
+            Head::NopOut(_)
+            | Head::ScsiCommand(_)
+            | Head::TaskRequest(_)
+            | Head::LoginRequest(_)
+            | Head::TextRequest(_)
+            | Head::DataOut(_)
+            | Head::LogoutRequest(_)
+            | Head::TaskResponse(_)
+            | Head::LoginResponse(_)
+            | Head::AsyncMessage(_)
+            | Head::Reject(_) => Ok(self.protocol_error(KIND_NOT_DUE)),
         }
     }
 
@@ -102,7 +112,7 @@ impl Session {
         self.receive(head, bytes, out)
     }
 
-    // Data that have passed.
+    // Data whose numbers are counted.
     fn receive(
         &mut self,
         head: &DataIn,
@@ -116,8 +126,8 @@ impl Session {
     {
         match self.outstanding.take() {
             Some(Outstanding::In(reading)) => self.receive_for(reading, head, bytes, out),
-            open => {
-                self.outstanding = open;
+            other => {
+                self.outstanding = other;
                 Ok(self.protocol_error(KIND_NOT_DUE))
             }
         }
@@ -175,18 +185,24 @@ impl Session {
         });
     }
 
-    // The bytes that the open request received, which is open no more.
+    // The bytes that the outstanding request received; it is outstanding no more.
     fn take_received(&mut self, alloc: Global) -> Bytes
         ensures bytes { result ≡ received_by self.old.outstanding }
         ensures none { self.new ≡ record self.old { outstanding = None } }
     {
         match self.outstanding.take() {
             Some(Outstanding::In(reading)) => Bytes::from_vec(reading.received),
-            _ => Bytes::from_vec(Vec::new(alloc)),
+            Some(
+                Outstanding::Out(_)
+                | Outstanding::Ping
+                | Outstanding::Text
+                | Outstanding::Logout,
+            )
+            | None => Bytes::from_vec(Vec::new(alloc)),
         }
     }
 
-    // The open request has this outcome.
+    // The outstanding request has this outcome.
     fn complete(&mut self, done: Done)
         ensures { self.new ≡ record self.old { outstanding = None; done = Some done } }
     {
@@ -230,7 +246,7 @@ impl Session {
         Ok(None)
     }
 
-    // A request for data is answered with one sequence.
+    // An R2T is answered with one sequence.
     #[tactic(auto, using(crate::proofs::Counters::takes_broken, crate::proofs::Counters::takes_updated))]
     fn on_r2t(
         &mut self,
@@ -254,7 +270,7 @@ impl Session {
         self.answer_r2t(head, out)
     }
 
-    // A request for data that has passed.
+    // An R2T whose numbers are counted.
     fn answer_r2t(
         &mut self,
         head: &ReadyToTransfer,
@@ -268,8 +284,8 @@ impl Session {
     {
         match self.outstanding.take() {
             Some(Outstanding::Out(writing)) => self.answer_r2t_for(writing, head, out),
-            open => {
-                self.outstanding = open;
+            other => {
+                self.outstanding = other;
                 Ok(self.protocol_error(KIND_NOT_DUE))
             }
         }
@@ -308,11 +324,12 @@ impl Session {
         ensures some { 0 < result }
         ensures short { result < 2 ^ 24 }
     {
+        // Opens the invariant of what is held.
         let _held = self.held.get(NegKey::MaxBurstLength);
         self.held.target_max_recv
     }
 
-    // The head of the first Data-Out that a request for data is answered with.
+    // The head of the first Data-Out that an R2T is answered with.
     fn first_data_out(&self, head: &ReadyToTransfer) -> DataOut
         ensures value { result ≡ record {
           is_final = false;

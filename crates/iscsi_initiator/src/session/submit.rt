@@ -99,6 +99,7 @@ impl Session {
             (out.new.items ≡ out.old.items ++ canon (accepted self.now request.now).output) }
         ensures err { OnErr result (out.new.items ≡ out.old.items) }
     {
+        // Its contract says how many bytes one segment takes.
         let _most = self.most_sent();
         match request {
             Request::In { lun, cdb, expected } => {
@@ -290,13 +291,13 @@ impl Session {
         requires { is_too_long self.old request ≡ false }
         ensures { self.new ≡ (accepted self.old request).machine }
     {
-        let open = self.outstanding_for(request, alloc);
+        let outstanding = self.outstanding_for(request, alloc);
         self.initiator_task_tag = next_tag(self.initiator_task_tag);
         self.cmd_sn = self.cmd_sn.wrapping_add(1);
-        self.outstanding = Some(open);
+        self.outstanding = Some(outstanding);
     }
 
-    // What is open once a request was sent.
+    // What is outstanding once a request was sent.
     fn outstanding_for(&self, request: Request, alloc: Global) -> Outstanding
         requires { is_too_long self.now request ≡ false }
         ensures { begun self.now result ≡ (accepted self.now request).machine }

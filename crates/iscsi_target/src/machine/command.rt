@@ -1,4 +1,4 @@
-//! SCSI commands, and the data that they give (RFC 7143, sections 11.3, 11.4 and 11.7).
+//! SCSI commands, and the Data-In that they send (RFC 7143, sections 11.3, 11.4 and 11.7).
 
 ghost use Rattle.std.specs.Prelude.{◌≡◌, ◌≢◌, ◌<◌, ◌≤◌, ◌^◌, ◌+◌, ◌++◌, ℕ, [], length, take, OnOk, OnErr, IfOk};
 ghost use Rattle.scsi_disk.specs.Plan.{plan_of};
@@ -153,7 +153,7 @@ impl Machine {
         append_response(&head, outcome.sense, out)
     }
 
-    // Data in runs of MaxBurstLength bytes. Answers how many Data-In PDUs went out.
+    // Data in sequences of MaxBurstLength bytes. Returns how many Data-In PDUs were sent.
     fn send_data_in(&self, tag: u32, bytes: &[u8], out: &mut Vec<u8>) -> Result<u32, AllocError>
         requires { length bytes.now < 2 ^ 32 }
         ensures ok { IfOk result (λ count. (count ≡ length (data_in_parts self.now.session.held bytes.now))
@@ -172,7 +172,7 @@ impl Machine {
         Ok(sent.count)
     }
 
-    // A run of data in parts, each of at most what the initiator takes in one segment.
+    // A sequence of data in parts, each of at most what the initiator takes in one segment.
     fn send_sequence(
         &self,
         tag: u32,
@@ -245,7 +245,7 @@ pub(super) fn order_of(command: &ScsiCommand) -> Order
     }
 }
 
-// The Data-In PDUs of a command that went out.
+// The Data-In PDUs of a command that were sent.
 #[derive(Clone, Copy, Debug, PartialEq, Eq)]
 struct Sent {
     // How many.

@@ -1,5 +1,5 @@
-//! What a target makes of a PDU (RFC 7143, sections 4.2 and 11). One file: what is judged of each
-//! PDU, in the order in which it is judged.
+//! Dispatch of a PDU by phase and kind (RFC 7143, sections 4.2 and 11). One file: what is judged of
+//! each PDU, in the order in which it is judged.
 
 ghost use Rattle.std.specs.Prelude.{◌≡◌, ◌≢◌, ◌⊎◌, ◌↔◌, ◌<◌, ◌≤◌, ◌^◌, ◌++◌, ◌∷◌, [], None, Some, length, nat_lt, IsTrue, IfOk, true, false};
 ghost use Rattle.iscsi_pdu.specs.Serial.{distance};
@@ -24,9 +24,9 @@ use scsi_disk::BlockStore;
 use std::alloc::AllocError;
 
 impl Machine {
-    /// Answers a PDU. Says which rule it broke, if it broke one. Where memory runs out, the tasks
-    /// before the one at which it did were handled, that one wrote nothing and changed no block,
-    /// and the session is to be closed.
+    /// Answers a PDU. Returns the rule that it broke, if it broke one. Where memory runs out, the
+    /// tasks before the one at which it did were handled, that one wrote nothing and changed no
+    /// block, and the session is to be closed.
     pub fn answer_pdu<S: BlockStore>(
         &mut self,
         received: &Received<'_>,
@@ -276,7 +276,22 @@ impl Machine {
     {
         match head {
             Head::ScsiCommand(command) => self.breaks_burst_rules(command, len),
-            _ => false,
+            Head::NopOut(_)
+            | Head::TaskRequest(_)
+            | Head::LoginRequest(_)
+            | Head::TextRequest(_)
+            | Head::DataOut(_)
+            | Head::LogoutRequest(_)
+            | Head::NopIn(_)
+            | Head::ScsiResponse(_)
+            | Head::TaskResponse(_)
+            | Head::LoginResponse(_)
+            | Head::TextResponse(_)
+            | Head::DataIn(_)
+            | Head::LogoutResponse(_)
+            | Head::ReadyToTransfer(_)
+            | Head::AsyncMessage(_)
+            | Head::Reject(_) => false,
         }
     }
 

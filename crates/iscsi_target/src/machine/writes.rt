@@ -54,7 +54,7 @@ impl Machine {
     }
 
     // A write that is the first task, before the others: it is executed when all its bytes are
-    // there, else an R2T goes out where no sequence is due.
+    // there, else an R2T is sent where no sequence is due.
     pub(super) fn proceed<S: BlockStore>(
         &mut self,
         write: OpenWrite,
@@ -77,8 +77,8 @@ impl Machine {
         Ok(None)
     }
 
-    // Executes a write whose bytes are all there, and its response goes out. The room for the
-    // response is there before a block changes, so that a call that is out of memory changes none.
+    // Executes a write whose bytes are all there, and sends its response. The room for the response
+    // is there before a block changes, so that a call that is out of memory changes none.
     fn execute_write<S: BlockStore>(
         &mut self,
         write: &OpenWrite,
@@ -101,7 +101,7 @@ impl Machine {
         Ok(None)
     }
 
-    // An R2T goes out for the next bytes of a write (RFC 7143, section 11.8).
+    // Sends an R2T for the next bytes of a write (RFC 7143, section 11.8).
     fn send_r2t(&mut self, write: OpenWrite, out: &mut Vec<u8>) -> Result<Option<u8>, AllocError>
         requires whole { is_whole write ≡ false }
         requires idle { is_idle write.due ≡ true }
@@ -114,13 +114,14 @@ impl Machine {
         let desired = write.desired(self.max_burst());
         let head = self.r2t_head(&write, desired);
         write_pdu(&head, &[], out)?;
+        // Its contract says that the bytes fit the transfer.
         let _received = write.received();
         write.await_sequence(desired);
         self.tasks.push_first(write);
         Ok(None)
     }
 
-    // The head of the R2T that goes out next for a write, for so many bytes.
+    // The head of the next R2T of a write, for `len` bytes.
     fn r2t_head(&self, write: &OpenWrite, len: u32) -> Head
         requires { len ≡ desired self.now.session.held write.now }
         ensures head { result ≡ r2t_head self.now.session (waiting (led_by write.now self.now).tasks) write.now }

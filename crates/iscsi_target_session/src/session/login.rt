@@ -85,7 +85,7 @@ impl Session {
         result
     }
 
-    // The same, but where memory runs out the session has entered the request's stage.
+    // The same, but where memory runs out the session is in the request's stage.
     fn begin_stage(
         &mut self,
         request: &LoginRequest,
@@ -98,6 +98,7 @@ impl Session {
         ensures err { OnErr result (ended (rolled_back self.old self.new) ≡ ended self.old) }
         ensures unwritten { OnErr result (out.new.items ≡ out.old.items) }
     {
+        // Opens the invariant.
         let _head = received.pdu.head;
         let refusal = self.request_refusal(request);
         if !self.begun {
@@ -146,7 +147,7 @@ impl Session {
         }
     }
 
-    // Takes a segment, of which a whole text is read where it lies.
+    // Accepts a segment; a complete text is parsed in place.
     fn take_segment(
         &mut self,
         request: &LoginRequest,
@@ -274,7 +275,7 @@ impl Session {
         Ok(None)
     }
 
-    // Holds what a text that was answered says, in the stage that follows.
+    // Applies what a text that was answered negotiates, in the stage that follows.
     fn hold(&mut self, stage: Stage, text: &Text<'_>)
         requires { DeclaresWell text.now }
         ensures { (request : LoginRequest) → stage_after self.old request ≡ stage

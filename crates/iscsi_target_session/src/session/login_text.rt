@@ -1,4 +1,4 @@
-//! What a login text says, and why it is refused (RFC 7143, sections 6.3, 11.13.5 and 13).
+//! What a login text declares, and why it is refused (RFC 7143, sections 6.3, 11.13.5 and 13).
 
 ghost use Rattle.std.specs.Prelude.{◌≡◌, ◌<◌, ◌≤◌, not, ◌&&◌, ◌||◌, [], slice_index_or, false, None, Some, is_none, IfSome, length, codes};
 ghost use Rattle.std.specs.Option.{option_map};
@@ -204,7 +204,7 @@ fn known_key(n: usize) -> &'static [u8]
     }
 }
 
-// Whether a known key that may stand once was given before, and is given again.
+// Whether a known key that may stand once was seen before, and stands again.
 fn repeats_key(seen: &[bool; 27], text: &Text<'_>) -> bool
     ensures { result ≡ repeats_key known_keys seen.now text.now }
 {
@@ -216,7 +216,7 @@ fn repeats_key(seen: &[bool; 27], text: &Text<'_>) -> bool
     false
 }
 
-// Whether a key may stand once, was given before and is given again.
+// Whether a key may stand once, was seen before and stands again.
 fn is_repeated(was: bool, text: &Text<'_>, key: &[u8]) -> bool
     ensures { result ≡ (was && (not (bytes_eq key.now target_address)
         && has_key key.now text.now)) }
@@ -224,7 +224,7 @@ fn is_repeated(was: bool, text: &Text<'_>, key: &[u8]) -> bool
     was && (key != b"TargetAddress".as_slice() && has_key(text, key))
 }
 
-/// Of each known key, whether it was given before or is given now.
+/// Of each known key, whether it was seen before or stands in this text.
 pub fn seen_with(seen: &[bool; 27], text: &Text<'_>) -> [bool; 27]
     ensures { result ≡ seen_with known_keys seen.now text.now }
 {
@@ -235,7 +235,7 @@ pub fn seen_with(seen: &[bool; 27], text: &Text<'_>) -> [bool; 27]
     now
 }
 
-// Whether a key was given before or is given now.
+// Whether a key was seen before or stands in this text.
 fn is_seen(was: bool, text: &Text<'_>, key: &[u8]) -> bool
     ensures { result ≡ (was || has_key key.now text.now) }
 {

@@ -63,6 +63,7 @@ fn reply_text(alloc: Global, name: &[u8], text: &Text<'_>) -> Result<Vec<u8>, Al
     ensures { IfOk result (λ bytes. bytes.items
         ≡ canonical_text (reply_pairs name.now text.now)) }
 {
+    // Opens the invariant.
     let _len = text.len();
     if is_asked(name, text) {
         let pairs = replies(alloc, true, text)?;
@@ -132,6 +133,7 @@ fn reply_at<'a>(text: &Text<'a>, n: usize, next: usize, asked: bool) -> Option<P
     ensures { shown_option result ++ replies asked (drop next text.now)
         ≡ replies asked (drop n text.now) }
 {
+    // Opens the invariant.
     let _len = text.len();
     let Some((key, _)) = text.pair(n) else {
         return None;
