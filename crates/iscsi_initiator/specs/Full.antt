@@ -86,7 +86,8 @@ answer_due m head = if tag_of head == m.initiator_task_tag then due_to m.outstan
 -- What a message is due to, if it is due (section 11).
 abbrev pub due : Machine → Head → Option Due
 due m (heads.NopIn h) =
-    if h.initiator_task_tag == reserved_tag then Some (UnsolicitedNopIn h) else answer_due m (heads.NopIn h)
+    if h.initiator_task_tag == reserved_tag then Some (UnsolicitedNopIn h)
+    else answer_due m (heads.NopIn h)
 due m (heads.AsyncMessage h) = Some (Async h)
 due m (heads.Reject h) = Some (RejectPdu h)
 due m head = answer_due m head
@@ -260,7 +261,8 @@ outcome_with (Some sense) m received h =
 -- An answer to a text is to be whole (section 11.11.1; own rule).
 abbrev pub on_text : Machine → TextResponse → List ℕ → Stepped
 on_text m h bytes =
-    if h.is_final && not h.continues then completes m (done.Text bytes) else protocol_error m text_at_fault
+    if h.is_final && not h.continues then completes m (done.Text bytes)
+    else protocol_error m text_at_fault
 
 -- What a message does once its numbers are counted (section 11).
 abbrev pub on_due : Machine → Due → List ℕ → Stepped
@@ -279,7 +281,8 @@ abbrev pub takes : Option Due → Machine → List ℕ → Stepped
 takes None m bytes = protocol_error m kind_not_due
 takes (Some d) m bytes =
     if nat_lt m.held.initiator_max_recv (length bytes) then protocol_error m segment_too_long
-    else (if not (is_in_turn m.exp_stat_sn (checked_stat_sn d)) then protocol_error m status_out_of_order
+    else (if not (is_in_turn m.exp_stat_sn (checked_stat_sn d))
+    then protocol_error m status_out_of_order
     else on_due (update_counters m d) d bytes)
 
 -- A message in full feature phase (section 4.2).

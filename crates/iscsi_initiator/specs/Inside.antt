@@ -130,8 +130,8 @@ initiator_fault (stream.Truncated place) = faults.Stream (stream.Truncated place
 initiator_fault stream.Failed = faults.Stream stream.Failed
 
 -- Memory ran out behind some PDUs, and what was written before stands.
-pub record RanOut (old : Connection) (piece : List ℕ) (received : Received old piece) (new : Connection)
-    (before after : List ℕ) : Type 0 where
+pub record RanOut (old : Connection) (piece : List ℕ) (received : Received old piece)
+    (new : Connection) (before after : List ℕ) : Type 0 where
   pub live : is_closed (received_steps old piece received).machine ≡ false
   pub machine : new.machine ≡ closed (received_steps old piece received).machine
   pub front : take (length before) after ≡ before

@@ -105,7 +105,8 @@ begins_stage stage m = sends_text (record m { stage = stage })
 abbrev pub judged : Option (List ℕ) → Machine → LoginResponse → Pairs → Stepped
 judged (Some key) m h answer = fails m (BadAnswer key)
 judged None m h answer =
-    begins_stage (requested_stage m) (record (counted m h) { held = initiator_holds None answer m.held })
+    begins_stage (requested_stage m)
+    (record (counted m h) { held = initiator_holds None answer m.held })
 
 -- The text that answers the present one; bytes that are no text break a rule (section 6.1).
 abbrev pub text_answered : Machine → LoginResponse → Segment → Stepped
@@ -131,7 +132,8 @@ moves_on m h =
 
 -- An answer to a segment: with a part of the text left, it was not the last (section 11.13).
 abbrev pub in_turn : List ℕ → Machine → LoginResponse → Segment → Stepped
-in_turn [] m h segment = if moves_on m h then text_answered m h segment else protocol_error m login_out_of_turn
+in_turn [] m h segment =
+    if moves_on m h then text_answered m h segment else protocol_error m login_out_of_turn
 in_turn (byte ∷ bytes) m h segment =
     if goes_on m h segment then sends_more (counted m h) else protocol_error m login_out_of_turn
 
@@ -139,7 +141,8 @@ in_turn (byte ∷ bytes) m h segment =
 abbrev pub answered : Machine → LoginResponse → Segment → Stepped
 answered m h segment =
     if not (h.status_class == 0) then fails m (Refused h.status_class h.status_detail)
-    else (if not (is_expected m.exp_stat_sn (unwrap_or h.stat_sn 0)) then protocol_error m status_out_of_order
+    else (if not (is_expected m.exp_stat_sn (unwrap_or h.stat_sn 0))
+    then protocol_error m status_out_of_order
     else in_turn m.unsent_text m h segment)
 
 -- A message in the login; another kind or tag is not due (section 6.3).
@@ -165,4 +168,5 @@ login_step m (heads.Reject h) segment = protocol_error m kind_not_due
 
 -- The login is started; a second start breaks a rule (section 6.3; own rule).
 abbrev pub start_step : Machine → Stepped
-start_step m = if m.started then protocol_error m kind_not_due else sends_text (record m { started = true })
+start_step m =
+    if m.started then protocol_error m kind_not_due else sends_text (record m { started = true })

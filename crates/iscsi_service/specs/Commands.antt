@@ -79,7 +79,8 @@ request_of Luns = data_in_request 0 (cdb.ReportLuns 0 16 0) 16
 request_of (Read logical_block_address blocks) =
     data_in_request 0 (reading logical_block_address blocks) (512 * blocks)
 request_of (Write logical_block_address blocks byte) = written logical_block_address blocks byte
-request_of (Sync logical_block_address blocks) = data_in_request 0 (flush logical_block_address blocks) 0
+request_of (Sync logical_block_address blocks) =
+    data_in_request 0 (flush logical_block_address blocks) 0
 request_of (Ping bytes) = requests.Ping bytes
 request_of Logout = requests.Logout
 

@@ -123,7 +123,8 @@ RestFails limit stream.Failed given rest = ⊥
 abbrev pub EndsBy : Settings → Disk → Result (Unit {0}) SessionFault → List ℕ → Type 0
 -- it was closed, or what was read ends behind its last PDU
 EndsBy settings disk (Ok done) read = IsOver settings disk read
-    ⊎ ((receives : Receives settings read) × GoesOnBehind settings disk read receives × (receives.rest ≡ []))
+    ⊎ ((receives : Receives settings read) × GoesOnBehind settings disk read receives
+    × (receives.rest ≡ []))
 -- the last PDU broke this rule
 EndsBy settings disk (Err (session.Target (faults.Protocol rule))) read =
     (receives : Receives settings read) × ((led settings disk read receives).rule ≡ Some rule)

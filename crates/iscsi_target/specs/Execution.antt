@@ -144,5 +144,6 @@ send_outcome s e effect = record {
 -- An order of a task is executed, with the data of these pieces (section 11.4).
 abbrev pub execute : Device → Machine → Disk → ℕ → Order → Pieces → Stepped
 execute device s disk tag order pieces =
-    send_outcome s (record { initiator_task_tag = tag; disk = disk; order = order; pieces = pieces })
+    send_outcome s
+    (record { initiator_task_tag = tag; disk = disk; order = order; pieces = pieces })
     (device 0 disk order (data_of pieces))

@@ -101,7 +101,8 @@ impl Session {
         out: &mut Vec<u8>,
     ) -> Result<Option<InitiatorFault>, AllocError>
         requires fits { Fits (heads.NopIn head.now) }
-        ensures ok { IfOk result (λ fault. Did (takes (Some (UnsolicitedNopIn head.now)) self.old bytes.now)
+        ensures ok { IfOk result (λ fault. Did
+            (takes (Some (UnsolicitedNopIn head.now)) self.old bytes.now)
             fault self.new out.old.items out.new.items) }
         ensures err { OnErr result (rolled_back self.old self.new ≡ self.old) }
         ensures unwritten { OnErr result (out.new.items ≡ out.old.items) }
@@ -161,7 +162,8 @@ impl Session {
         bytes: &[u8],
         out: &mut Vec<u8>,
     ) -> Result<Option<InitiatorFault>, AllocError>
-        ensures ok { IfOk result (λ fault. Did (takes (Some (RejectPdu head.now)) self.old bytes.now)
+        ensures ok { IfOk result (λ fault. Did
+            (takes (Some (RejectPdu head.now)) self.old bytes.now)
             fault self.new out.old.items out.new.items) }
         ensures err { OnErr result (rolled_back self.old self.new ≡ self.old) }
         ensures unwritten { OnErr result (out.new.items ≡ out.old.items) }

@@ -124,8 +124,9 @@ impl Session {
         out: &mut Vec<u8>,
     ) -> Result<Option<InitiatorFault>, AllocError>
         requires { self.old.unsent_text ≡ [] }
-        ensures ok { IfOk result (λ fault. (bytes : List ℕ) → Did (in_turn self.old.unsent_text self.old
-            response.now (text_or_bytes (option_map (λ t. t.now) text.entry) bytes)) fault
+        ensures ok { IfOk result (λ fault. (bytes : List ℕ) → Did
+            (in_turn self.old.unsent_text self.old response.now
+            (text_or_bytes (option_map (λ t. t.now) text.entry) bytes)) fault
             self.new out.old.items out.new.items) }
         ensures err { OnErr result (self.new ≡ self.old) }
         ensures unwritten { OnErr result (out.new.items ≡ out.old.items) }

@@ -120,7 +120,8 @@ impl Session {
         out: &mut Vec<u8>,
     ) -> Result<Option<InitiatorFault>, AllocError>
         ensures ok { IfOk result (λ fault. Did
-            (data_received self.old.outstanding self.old head.now bytes.now) fault self.new out.old.items out.new.items) }
+            (data_received self.old.outstanding self.old head.now bytes.now)
+            fault self.new out.old.items out.new.items) }
         ensures err { OnErr result (self.new ≡ self.old) }
         ensures unwritten { OnErr result (out.new.items ≡ out.old.items) }
     {
