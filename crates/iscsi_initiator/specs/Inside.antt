@@ -94,7 +94,7 @@ pub record IsUnready (old : Connection) (fault : Option InitiatorFault) (new : C
   pub output_is : after ≡ before
   pub fault_is : fault ≡ None
 
--- The PDU that is ready was taken and dropped.
+-- The PDU that is ready was received, and the framer is free for the next one.
 pub record IsReceived (old : Connection) (fault : Option InitiatorFault) (new : Connection)
     (before after : List ℕ) : Type 0 where
   pub head : Head
@@ -103,7 +103,7 @@ pub record IsReceived (old : Connection) (fault : Option InitiatorFault) (new : 
   pub framing_is : new.framing ≡ given_up old.framing head
   pub did : Did (step old.machine (message_of old.framing head segment)) fault new.machine before after
 
--- The PDU that is ready was taken, if one is.
+-- The PDU that is ready was received, if one is.
 abbrev pub ReceivesPdu : Connection → Option InitiatorFault → Connection → List ℕ → List ℕ → Type 0
 ReceivesPdu old fault new before after =
     IsUnready old fault new before after ⊎ IsReceived old fault new before after

@@ -222,8 +222,8 @@ fn stream_fault(fault: StreamFault) -> InitiatorFault
     }
 }
 
-// Takes the PDU that is ready, if one is, and drops it. Returns the fault that it led to, if it led
-// to one. Being out of memory closes the session.
+// Receives the PDU that is ready, if one is, and frees the framer for the next one. Returns the
+// fault that it led to, if it led to one. Being out of memory closes the session.
 fn receive_pdu(
     session: &mut Session,
     framer: &mut Framer,

@@ -122,22 +122,7 @@ task_planned m h bytes _ = Request m
 abbrev pub task_by : ℕ → Message → Head → Task
 task_by count m (heads.ScsiCommand h) =
     task_planned m h (segment_bytes m.segment) (plan_of (order_of h) count)
-task_by count m (heads.NopOut h) = Request m
-task_by count m (heads.TaskRequest h) = Request m
-task_by count m (heads.LoginRequest h) = Request m
-task_by count m (heads.TextRequest h) = Request m
-task_by count m (heads.DataOut h) = Request m
-task_by count m (heads.LogoutRequest h) = Request m
-task_by count m (heads.NopIn h) = Request m
-task_by count m (heads.ScsiResponse h) = Request m
-task_by count m (heads.TaskResponse h) = Request m
-task_by count m (heads.LoginResponse h) = Request m
-task_by count m (heads.TextResponse h) = Request m
-task_by count m (heads.DataIn h) = Request m
-task_by count m (heads.LogoutResponse h) = Request m
-task_by count m (heads.ReadyToTransfer h) = Request m
-task_by count m (heads.AsyncMessage h) = Request m
-task_by count m (heads.Reject h) = Request m
+task_by count m _ = Request m
 
 -- The task of a request, on a disk of so many blocks (section 11.3).
 abbrev pub task_of : ℕ → Message → Task
@@ -147,19 +132,4 @@ task_of count m = task_by count m m.head
 -- 13.14).
 abbrev pub breaks_rules : Held → ℕ → Head → Bool
 breaks_rules held n (heads.ScsiCommand h) = breaks_burst_rules held h n
-breaks_rules held n (heads.NopOut h) = false
-breaks_rules held n (heads.TaskRequest h) = false
-breaks_rules held n (heads.LoginRequest h) = false
-breaks_rules held n (heads.TextRequest h) = false
-breaks_rules held n (heads.DataOut h) = false
-breaks_rules held n (heads.LogoutRequest h) = false
-breaks_rules held n (heads.NopIn h) = false
-breaks_rules held n (heads.ScsiResponse h) = false
-breaks_rules held n (heads.TaskResponse h) = false
-breaks_rules held n (heads.LoginResponse h) = false
-breaks_rules held n (heads.TextResponse h) = false
-breaks_rules held n (heads.DataIn h) = false
-breaks_rules held n (heads.LogoutResponse h) = false
-breaks_rules held n (heads.ReadyToTransfer h) = false
-breaks_rules held n (heads.AsyncMessage h) = false
-breaks_rules held n (heads.Reject h) = false
+breaks_rules held n _ = false

@@ -67,7 +67,7 @@ pub record IsLive (r : Stepped) : Type 0 where
   pub rule : r.rule ≡ None
   pub live : is_closed r.machine ≡ false
 
--- What the call returns reports what the last PDU led to, and what follows it.
+-- The call returns what the last PDU led to, and what follows it.
 abbrev pub Ends : List ℕ → Result Phase TargetFault → Framing → ℕ → Stepped → Connection → Type 0
 -- it goes on; or it was closed, and the rest of the piece is dropped
 Ends piece (Ok phase) framing n r new =

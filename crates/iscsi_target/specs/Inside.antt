@@ -203,7 +203,7 @@ pub record IsUnready (old : Connection) (before : Store) (output : List ℕ)
   pub output_is : written ≡ output
   pub rule_is : broken ≡ None
 
--- The PDU that is ready was answered and dropped.
+-- The PDU that is ready was answered, and the framer is free for the next one.
 pub record IsAnswered (old : Connection) (before : Store) (output : List ℕ)
     (broken : Option ℕ) (new : Connection) (after : Store) (written : List ℕ) : Type 0 where
   pub head : Head

@@ -270,8 +270,8 @@ fn stream_fault(fault: StreamFault) -> TargetFault
     }
 }
 
-// Answers the PDU that is ready, if one is, and drops it. Returns the rule that it broke, if it
-// broke one. Being out of memory closes the session.
+// Answers the PDU that is ready, if one is, and frees the framer for the next one. Returns the rule
+// that it broke, if it broke one. Being out of memory closes the session.
 fn answer_ready<S: BlockStore>(
     machine: &mut Machine,
     framer: &mut Framer,

@@ -26,9 +26,9 @@ use std::marker::Model;
 /// How many commands that aren't immediate may wait (RFC 7143, section 4.2.2.1; own rule).
 const WINDOW: u32 = 8;
 
-/// A session between two PDUs. It knows no disk and no command; how many tasks wait, which the
-/// window depends on, each call is given. Where a call runs out of memory it has written nothing,
-/// and the session can then only be closed.
+/// A session between two PDUs. It knows no disk and no command. Each call is given how many tasks
+/// wait, on which the window depends. Where a call runs out of memory it has written nothing, and
+/// the session can then only be closed.
 #[derive(Drop)]
 pub struct Session {
     config: Config,
