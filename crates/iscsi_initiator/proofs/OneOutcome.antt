@@ -78,7 +78,7 @@ leaves s = record {
   shut_is = refl;
 }
 
--- A call heard these PDUs of the stream, and ended so.
+-- A call received these PDUs of the stream, and ended so.
 record Run (stream : List ℕ) (ms : List Message) (old : Connection) (result : Result Phase InitiatorFault) (new : Connection) (output written : List ℕ) : Type 0 where
   messages : List Message
   sight : Sight

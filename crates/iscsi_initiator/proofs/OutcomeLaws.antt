@@ -38,7 +38,7 @@ use Rattle.iscsi_initiator.specs.Submitted.{submitted, or_accepted, accepted as 
 use Rattle.iscsi_initiator.specs.declared.request.SubmitFault.TheVariants as refusals
 use Rattle.iscsi_initiator.specs.Laws.{Event, Starts, Meets, Comes, Asks, Takes, Ends, after, run, accepted, accepted_in, accepted_if, given, given_in, listed, IsOutcomeOf, AreOutcomesOf, OutcomesInOrder}
 
--- an open request as it was handed in
+-- an outstanding request as it was handed in
 abbrev pub IsFor : Outstanding → Request → Type 0
 IsFor (In r) (requests.In lun cdb expected) = (r.expected ≡ expected) × (length r.received ≤ expected)
 IsFor (Out w) (requests.Out lun cdb bytes) = Unit {0}

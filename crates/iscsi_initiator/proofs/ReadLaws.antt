@@ -72,7 +72,7 @@ abbrev IsSome : Option Outstanding → Type 0
 IsSome None = ⊥
 IsSome (Some o) = Unit {0}
 
--- what the open read has received
+-- what the outstanding read has received
 has : (m : Machine) (a : List ℕ) (r : Reading) → m.outstanding ≡ Some (In r) → Stands m a → r.received ≡ a
 has m a r e (inl i) = ap (λ (o : Option Outstanding). (read_or o r).received) (sym e ∙ i.is) ∙ i.received
 has m a r e (inr h) = absurd (subst (λ (o : Option Outstanding). IsSome o) (sym e ∙ h.none) tt)
@@ -219,7 +219,7 @@ joins m a message messages g h =
       now = subst (λ (x : List ℕ). Stands (receives (step m message).machine messages) x) whole h.now;
     }
 
--- the session hears nothing more
+-- the session receives nothing more
 receives_none : (m : Machine) (a : List ℕ) (messages : List Message) → m.phase ≡ phases.Full → ((receives m messages).phase ≡ phases.Full → messages ≡ []) → Stands (receives m messages) a → Received m a messages
 receives_none m a messages p none s = record {
   received = [];

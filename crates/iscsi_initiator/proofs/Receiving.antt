@@ -74,7 +74,7 @@ next_is m (y ∷ ms) x live =
 
 -- ---- the piece so far
 
--- the bytes of the piece before the rest were taken, and their PDUs heard
+-- the bytes of the piece before the rest were taken, and their PDUs received
 pub record ReceivedUpTo (old : Connection) (piece rest : List ℕ) (now : Connection) (before written : List ℕ) : Type 0 where
   pub front : List ℕ
   pub parts : piece ≡ front ++ rest

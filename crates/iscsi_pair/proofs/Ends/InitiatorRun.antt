@@ -1,4 +1,4 @@
--- The initiator's end of a pair: what it has heard and said, whatever came of it.
+-- The initiator's end of a pair: what it has received and said, whatever came of it.
 use Rattle.std.proofs.Common.{
   ◌≡◌,
   ◌≢◌,
@@ -425,7 +425,7 @@ come_on past c acts moved out more i l ms v moves =
           ∙ ap (λ (x : List Message). first ++ x) (sym (sent_append (begun c) l.inputs (map Comes ms))));
     }
 
--- what is left where a call heard some messages, and wrote what they lead to but for what was lost
+-- what is left where a call received some messages, and wrote what they lead to but for what was lost
 heard_front : (past : List Input) (c : Opening) (acts : List Input) (moved prior before bytes after lost : List ℕ) (old new : Connection)
     → InitiatorLives past c acts moved (prior ++ before) old → (h : Received old bytes)
     → after ++ lost ≡ before ++ canon (received_steps old bytes h).output → new.machine.stage ≡ (received_steps old bytes h).machine.stage
@@ -575,7 +575,7 @@ stays_side past c acts moved prior before bytes after old new kept s why e = rec
   lives = λ none live. absurd (cc none);
 }
 
--- a session that heard messages and is open, or failed at the last, was open
+-- a session that received messages and is open, or failed at the last, was open
 was_open : (b : Bool) (old : Connection) (bytes : List ℕ) (h : Received old bytes) → is_closed old.machine ≡ b
     → is_closed (received_steps old bytes h).machine ≡ false → is_closed old.machine ≡ false
 was_open true old bytes h is live = absurd (not_live old h.messages is live)
@@ -614,7 +614,7 @@ closes_fails fault past c acts moved prior before bytes after old new s e kept w
     closes_side past c acts moved prior before bytes after old new (Some fault) (Some kept) (s.lives refl (failed_open _ old bytes e.0 fault refl e.1.cause))
     e.0 (λ none. absurd (cc none)) why e.1
 
--- the initiator heard these bytes
+-- the initiator received these bytes
 pub initiator_heard : (result : Result Phase InitiatorFault) (past : List Input) (c : Opening) (acts : List Input) (moved prior before bytes after : List ℕ)
     (old new : Connection) → InitiatorSide past c acts moved (prior ++ before) old None
     → Feeds result old bytes new before after → InitiatorSide past c acts (moved ++ bytes) (prior ++ after) new (feed_fault (result_err result))

@@ -57,7 +57,7 @@ same_worlds old same new now l e f = subst (λ (w : World). LooksAlike w now) (s
 
 -- ---- the target hears
 
--- messages that an open target has heard
+-- messages that an open target has received
 record TargetTook (stream : List ℕ) (t : target.Connection) : Type 0 where
   messages : List Message
   taken : target_machine.is_closed t.machine ≡ false → HasTaken stream messages t.framing

@@ -1,4 +1,4 @@
--- The login of two ends that suit each other comes to its end, where each hears what was sent.
+-- The login of two ends that suit each other comes to its end, where each receives what was sent.
 use Rattle.std.proofs.Common.{◌≡◌, ◌<◌, ◌≤◌, ◌⊎◌, inl, inr, ℕ, zero, suc, ◌-◌, true, false, List, [], ◌∷◌, length, drop, refl, sym, ap, ◌∙◌, subst, arith}
 use Rattle.std.proofs.lemmas.List.{length-drop}
 use Rattle.scsi_disk.specs.Disk.{Disk, disk_of}
@@ -97,7 +97,7 @@ one_step : (t : target.Machine) (disk : Disk) (r : Message) → answers t disk (
 unfolding answers
 one_step t disk r = then_nothing (target_machine.step t disk r)
 
--- the target hears a login request, and the initiator its answer
+-- the target receives a login request, and the initiator its answer
 one_round : (c : Opening) (i : initiator.Machine) (t : target.Machine) (there here : Logins) (r : Message) → IsNormal c → Waits c i t there here r
     → HasLoggedIn c ⊎ WaitsOn c i
 one_round c i t there here r o p =

@@ -1,4 +1,4 @@
--- Messages between two ends of which neither has a begun PDU: each end hears what was sent, and a run that was served goes on.
+-- Messages between two ends of which neither has a begun PDU: each end receives what was sent, and a run that was served goes on.
 use Rattle.std.proofs.Common.{◌≡◌, ℕ, zero, suc, false, List, [], ◌∷◌, ◌++◌, length, Option, Some, None, refl, sym, ap, ◌∙◌, subst}
 use Rattle.std.proofs.lemmas.List.{append-nil}
 use Rattle.scsi_disk.specs.Disk.{Disk, disk_of}

@@ -157,7 +157,7 @@ Turns c MayClose P = (i : initiator.Machine) (t : target.Machine) (there : Login
     ⊎ (Asks_on c (step i turn.answer) (target_machine.step t disk r).machine (logins_after there r.head)
     × P (step i turn.answer).machine (target_machine.step t disk r).machine))
 
--- How it ends: the initiator hears no more, an answer has closed its session in the login, or both have completed it.
+-- How it ends: the initiator receives no more, an answer has closed its session in the login, or both have completed it.
 pub data Ended (w : Way) (MayClose : Type 0) (P : Kept) (r : target.Machine) (m : initiator.Machine) : Type 0 where
   Waiting : (t : target.Machine) (disk : Disk) (ms : List Message) → P m t → LoginExchange w [] m t disk ms → r ≡ (answers t disk ms).machine
       → Ended w MayClose P r m

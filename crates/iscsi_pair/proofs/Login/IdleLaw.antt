@@ -37,7 +37,7 @@ not_waiting : (limit : ℕ) (logins : Logins) (rest more : List ℕ) (m : Messag
     → length (segment_bytes m.segment) ≤ 8192 → rest ≡ canonical_bytes m ++ more → ⊥
 not_waiting limit logins rest more m h r short e = h.none (canonical_bytes m) (segment_bytes m.segment) more m.head e r.means (omega (arith, short, h.enough))
 
--- where the initiator hears no more, and each end holds no whole PDU of the other, the login is completed
+-- where the initiator receives no more, and each end holds no whole PDU of the other, the login is completed
 none_waits : (ms : List Message) (w : Way) (i : initiator.Machine) (t : target.Machine) (disk : Disk) → IsOpening w.opening → LoginExchange w [] i t disk ms
     → HoldsNone w.target_limit w.left_there ⊎ (target_machine.is_closed (answers t disk ms).machine ≡ true)
     → HoldsNone w.initiator_limit w.left_here → ⊥

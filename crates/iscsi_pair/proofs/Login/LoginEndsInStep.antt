@@ -233,7 +233,7 @@ record Steady (c : Opening) (m : initiator.Machine) (t : target.Machine) : Type 
   fit : IsFit t
   session : t.session.has_text ≡ true → t.session.session_type ≡ sessions.Normal
 
--- the target counted what it told, and the initiator what it heard
+-- the target counted what it told, and the initiator what it received
 steady : (c : Opening) (i : initiator.Machine) (t : target.Machine) (e : target_session.Session) (u : target.Machine) (g : LoginResponse) (held : Held)
     (n : initiator.Machine) {logins : Logins} {r : Message} → IsOpening c → Asking c i t logins r → Numbered c i t
     → Begun t.session e c.initiator.first_cmd_sn → Tells c e u.session g → u.tasks ≡ [] → Kept (record (counted i g) { held = held }) n

@@ -49,7 +49,7 @@ none_read : (limit : ℕ) (logins : Logins) (given : List ℕ) (ms : List Messag
 none_read limit logins given [] p e = refl
 none_read limit logins given (m ∷ ms) p e = absurd (not_empty limit logins given [] m ms p (append-nil given ∙ e))
 
--- the last message that came, as far as the initiator has heard
+-- the last message that came, as far as the initiator has received
 last_heard : (ms : List Message) (c : Opening) (i : initiator.Machine) (t : target.Machine) (out back : Logins) (r : Message) (disk : Disk) (l : ℕ)
     (given x y : List ℕ)
     → IsOpening c → Suits c → Asking c i t out r → Suited c i t → back.response ≡ false → ReadsAs l out given ms → given ++ x ≡ canonical_bytes r ++ []

@@ -111,7 +111,7 @@ pub record IsPart (i : initiator.Machine) (t : target.Machine) (logins : Logins)
   pub short : length bytes ≤ 8192
   pub part : (not logins.request && is_sent i.unsent_text) ≡ false
 
--- The initiator has asked, and the target has not yet heard it: both are in their login, and hold the same but for what
+-- The initiator has asked, and the target has not yet received it: both are in their login, and hold the same but for what
 -- the initiator has not yet declared of itself.
 pub record Asking (c : Opening) (i : initiator.Machine) (t : target.Machine) (logins : Logins) (r : Message) : Type 0 where
   pub settings : i.settings ≡ c.initiator

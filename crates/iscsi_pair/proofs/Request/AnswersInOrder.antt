@@ -1,4 +1,4 @@
--- Where the answers on their way lead both ends, where the target hears at once all that is sent.
+-- Where the answers on their way lead both ends, where the target receives at once all that is sent.
 use Rattle.std.proofs.Common.{◌≡◌, ◌≤◌, ℕ, zero, suc, Bool, true, false, List, [], ◌∷◌, ◌++◌, length, None, refl, sym, ap, ◌∙◌, subst}
 use Rattle.std.specs.Prelude.{is_some}
 use Rattle.std.proofs.lemmas.List.{append-nil}
@@ -58,7 +58,7 @@ open_all t disk (m ∷ ms) live =
     let s : target.Stepped = target_machine.step t disk m in
     (was_open (target_machine.is_closed t) t disk (m ∷ ms) refl live, open_all s.machine s.disk ms live)
 
--- These go out and are heard: both they and the answers are read as they were written, the session is open when each comes, and
+-- These go out and are received: both they and the answers are read as they were written, the session is open when each comes, and
 -- none breaks a rule.
 pub record AreHeard (held : Held) (t : target.Machine) (disk : Disk) (out : List Message) : Type 0 where
   pub written : ArePlain held.target_max_recv out
@@ -83,7 +83,7 @@ none_heard held t disk = record { written = λ logins. tt; open_ = tt; rule = re
 
 -- ---- what the initiator hears
 
--- the initiator has a request open when it hears this answer, finds no fault in it, and what it sends then is heard
+-- the initiator has a request open when it receives this answer, finds no fault in it, and what it sends then is received
 pub record HearsOne (held : Held) (i : initiator.Machine) (t : target.Machine) (disk : Disk) (m : Message) : Type 0 where
   pub full : i.phase ≡ phases.Full
   pub busy : is_some i.outstanding ≡ true
@@ -91,7 +91,7 @@ pub record HearsOne (held : Held) (i : initiator.Machine) (t : target.Machine) (
   pub fault : (step i m).fault ≡ None
   pub sends_ : AreHeard held t disk (step i m).output
 
--- so many answers are heard, and then both ends stand so
+-- so many answers are received, and then both ends stand so
 abbrev pub Leads : Held → ℕ → initiator.Machine → target.Machine → Disk → List Message → Exchange → Type 0
 Leads held zero i t disk back x = record { initiator = i; target = t; disk = disk; answers = back } ≡ x
 Leads held (suc n) i t disk [] x = ⊥
@@ -99,11 +99,11 @@ Leads held (suc n) i t disk (m ∷ more) x =
     HearsOne held i t disk m
     × (let s = step i m in let r = answers t disk s.output in Leads held n s.machine r.machine r.disk (more ++ r.answers) x)
 
--- some answers are heard, and then both ends stand so
+-- some answers are received, and then both ends stand so
 abbrev pub LeadsTo : Held → initiator.Machine → target.Machine → Disk → List Message → Exchange → Type 0
 LeadsTo held i t disk back x = (n : ℕ) × Leads held n i t disk back x
 
--- an answer that is heard, and to which nothing is said
+-- an answer that is received, and to which nothing is said
 pub hears_quiet : (held : Held) (i n : initiator.Machine) (t : target.Machine) (disk : Disk) (m : Message) (more : List Message) (x : Exchange)
     → step i m ≡ quiet n → i.phase ≡ phases.Full → is_some i.outstanding ≡ true → i.done ≡ None
     → LeadsTo held n t disk more x → LeadsTo held i t disk (m ∷ more) x
@@ -150,7 +150,7 @@ pub record Ends (held : Held) (i : initiator.Machine) (r : target.Stepped) (outc
   pub leads : LeadsTo held i r.machine r.disk r.answers last
   pub ended : HasEnded held outcome disk_now last
 
--- What a request that is handed in sends is heard, and it comes to this outcome.
+-- What a request that is handed in sends is received, and it comes to this outcome.
 pub record Begins (held : Held) (m : initiator.Machine) (t : target.Machine) (disk : Disk) (request : Request) (outcome : Done) (disk_now : Disk) : Type 0 where
   pub heard : AreHeard held t disk (submitted m request).output
   pub ends : Ends held (submitted m request).machine (answers t disk (submitted m request).output) outcome disk_now

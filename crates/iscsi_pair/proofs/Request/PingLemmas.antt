@@ -78,7 +78,7 @@ pinged m t window bytes = record m {
   done = Some (done.Ping bytes);
 }
 
--- the initiator hears the answer
+-- the initiator receives the answer
 pong_heard : (m before : initiator.Machine) (t : target.Machine) (window : Window) (bytes : List ℕ) → m.exp_stat_sn ≡ Some t.session.stat_sn
     → m.initiator_task_tag ≡ next_tag before.initiator_task_tag
     → m.initiator_task_tag ≤ 0xffff_fffe → length bytes ≤ m.held.initiator_max_recv

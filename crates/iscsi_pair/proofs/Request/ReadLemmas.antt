@@ -104,7 +104,7 @@ use Rattle.iscsi_pair.proofs.Request.AnswersInOrder.{ArePlain, Begins, Ends, Lea
 
 -- ---- the initiator hears the data
 
--- an initiator that has an open read, and was told this window
+-- an initiator that has an outstanding read, and was told this window
 abbrev reading : initiator.Machine → Reading → Window → initiator.Machine
 reading m r window = record m { phase = phases.Full; outstanding = Some (opens.In r); window = window }
 

@@ -1020,7 +1020,7 @@ first_few m bytes =
     unasked_few (has_more m bytes) (length (immediate m bytes)) (unasked m.held (length bytes)) bytes
     (omega (arith, immediate_short (is_on m.held keys.ImmediateData) (min (unasked m.held (length bytes)) m.held.target_max_recv) bytes))
 
--- A write between two ends that are in step is heard, and comes to the outcome and the disk of its order.
+-- A write between two ends that are in step is received, and comes to the outcome and the disk of its order.
 pub local_write : (m : initiator.Machine) (t : target.Machine) (disk : Disk) (lun : ℕ) (cdb bytes : List ℕ) → lun < 2 ^ 64 → length cdb ≡ 16 → AreBytes cdb
     → AreInStep m t → (submitted m (requests.Out lun cdb bytes)).refusal ≡ None
     → (let after : Effect = effect disk (writing_order lun cdb bytes) bytes in Begins m.held m t disk (requests.Out lun cdb bytes) (reported after.outcome)
