@@ -180,7 +180,7 @@ some_run : (c : Opening) (h : History) (i : initiator.Machine) (t : target.Machi
 some_run c h i t disk there here s = record {
   events = s.events;
   world = level c i t s.blocks s.place s.place_back there here [] [];
-  asked_are = s.asked_are;
+  requests_are = s.requests_are;
   runs = s.runs;
   none_out = refl;
   none_back = refl;

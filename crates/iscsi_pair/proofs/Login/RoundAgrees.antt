@@ -98,7 +98,7 @@ is_sent (byte ∷ bytes) = false
 -- the whole text is on its way
 pub record IsWhole (i : initiator.Machine) (t : target.Machine) (logins : Logins) (segment : Segment) : Type 0 where
   pub is : segment ≡ Text (offered i)
-  pub left : i.unsent_text ≡ []
+  pub unsent_text : i.unsent_text ≡ []
   pub gathered : t.session.gathered ≡ []
   pub first : logins.request ≡ false
   pub short : length (canonical_text (offered i)) ≤ 8192
@@ -542,7 +542,7 @@ round_at [] c i t logins r disk o a left =
     ]
 round_at (byte ∷ more) c i t logins r disk o a left =
     elim a.how [
-      | inl w ↦ absurd (let bad : [] ≡ byte ∷ more = sym w.left ∙ left in cc)
+      | inl w ↦ absurd (let bad : [] ≡ byte ∷ more = sym w.unsent_text ∙ left in cc)
       | inr p ↦ subst (λ (x : Segment). Round c i (target_machine.step t disk (login_message i false x)) (after logins (login_message i false x).head))
           (sym p.is)
           (part_round c i t logins r disk p.bytes byte more o a left (fits_limit t p.bytes p.short) p.text)

@@ -74,7 +74,7 @@ use Rattle.iscsi_stream.specs.Pieces.{Pieces, data_of, chunks_within, chunks}
 use Rattle.iscsi_pdu.specs.Serial.{moved, next_sn, is_within}
 use Rattle.iscsi_target.specs.Transfer.{with_r2t, continued, desired, is_idle, is_in_sequence, is_whole, received, with_data, with_piece}
 use Rattle.iscsi_target.specs.Execution.{command_answers, execute, data_in_parts, response_head, sense_segment, reliable}
-use Rattle.iscsi_target.specs.Command.{ask, breaks_burst_rules, is_bad_announcement, is_bad_segment, opened, planned, proceed, r2t_head}
+use Rattle.iscsi_target.specs.Command.{send_r2t, breaks_burst_rules, is_bad_announcement, is_bad_segment, opened, planned, proceed, r2t_head}
 use Rattle.iscsi_target.specs.Machine.{answers, having_accepted, is_closed, step_on, then_stepped}
 use Rattle.iscsi_target.proofs.Alone.{data_alone, request_alone}
 use Rattle.iscsi_target.proofs.Continuing.{then_nothing}
@@ -528,7 +528,7 @@ whole_is m t cmd_sn v w order disk i whole = rw whole (ap (λ (x : Order). execu
 -- else the target asks for more
 part_is : (m : initiator.Machine) (t : target.Machine) (cmd_sn : ℕ) (v : Writing) (w : Write) (order : Order) (disk : Disk) → InHand m v w order
     → is_whole w ≡ false
-    → proceed reliable (ready t cmd_sn) disk w ≡ ask (ready t cmd_sn) disk w
+    → proceed reliable (ready t cmd_sn) disk w ≡ send_r2t (ready t cmd_sn) disk w
 part_is m t cmd_sn v w order disk i part = rw (part, i.due) refl
 
 -- what the target answers then is read as it was written

@@ -188,7 +188,7 @@ moves_on limit v queue waits logins piece more new w u q t bound =
     (subst (λ (n : ℕ). ReadsAs n no_login t.given (u.heard ++ new)) bound t.reads) u.reads
     (ap (λ (x : List ℕ). u.stream ++ x) q ∙ sym (append_assoc u.stream piece more) ∙ ap (λ (x : List ℕ). x ++ more) t.whole
     ∙ append_assoc t.given t.rest more) in
-    record { unsent_text = r.more; whole = append_cancel_left u.heard waits (new ++ r.more) (r.whole ∙ append_assoc u.heard new r.more); reads = r.reads }
+    record { left = r.more; whole = append_cancel_left u.heard waits (new ++ r.more) (r.whole ∙ append_assoc u.heard new r.more); reads = r.reads }
 
 -- the end waits for what is left
 pub still_unread : (limit : ℕ) (v : Framing) (queue : List ℕ) (waits : List Message) (logins : Logins) (piece more : List ℕ) (new left : List Message)
