@@ -105,7 +105,7 @@ reading = (submitted ready (requests.In 0 read1 5)).machine
 abbrev read_done : Stepped
 read_done = step (step (step reading (data_in 0 0 (1 ∷ 2 ∷ []))).machine (data_in 1 2 (3 ∷ 4 ∷ []))).machine (response 3)
 
-read_outcome : (read_done.machine.done ≡ Some (done.Command 0 0 [] (1 ∷ 2 ∷ 3 ∷ 4 ∷ []) (Under 1))) × (read_done.machine.open_request ≡ None) × (read_done.machine.exp_stat_sn ≡ Some 4)
+read_outcome : (read_done.machine.done ≡ Some (done.Command 0 0 [] (1 ∷ 2 ∷ 3 ∷ 4 ∷ []) (Under 1))) × (read_done.machine.outstanding ≡ None) × (read_done.machine.exp_stat_sn ≡ Some 4)
 unfolding submitted step segment_bytes
 read_outcome = (refl, refl, refl)
 

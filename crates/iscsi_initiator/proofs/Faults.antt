@@ -21,8 +21,8 @@ use Rattle.iscsi_initiator.specs.declared.fault.InitiatorFault.{InitiatorFault}
 use Rattle.iscsi_initiator.specs.declared.fault.InitiatorFault.TheVariants as faults
 use Rattle.iscsi_initiator.specs.State.{Machine}
 use Rattle.iscsi_initiator.specs.Steps.{Stepped, fails, quiet, sends}
-use Rattle.iscsi_initiator.specs.Login.{offered, sends_text, fits_segment, asked, enters, judged, text_answered, moves_on, goes_on, in_turn, answered, login_step, is_expected}
-use Rattle.iscsi_initiator.specs.Full.{Due, Asked, Pong, Data, Ready, Response, TextAnswer, LogoutAnswer, Notice, Refusal, due, takes, on_due, passed, checked_stat_sn, is_in_turn, fits_reading, fits_writing, outcome_with, sense_of}
+use Rattle.iscsi_initiator.specs.Login.{offered, sends_text, fits_segment, requested_stage, begins_stage, judged, text_answered, moves_on, goes_on, in_turn, answered, login_step, is_expected}
+use Rattle.iscsi_initiator.specs.Full.{Due, UnsolicitedNopIn, Pong, Data, R2t, Response, TextAnswer, LogoutAnswer, Async, RejectPdu, due, takes, on_due, update_counters, checked_stat_sn, is_in_turn, fits_reading, fits_writing, outcome_with, sense_of}
 use Rattle.iscsi_initiator.specs.Machine.{step, step_in}
 
 -- a fault of the target
@@ -53,14 +53,14 @@ either false x y p q = q
 text_sent : (m : Machine) → Shuts (sends_text m)
 text_sent m = either (fits_segment m (canonical_text (offered m))) _ _ (sending _ _) (sending _ _)
 
-entering : (stage : Stage) (m : Machine) → Shuts (enters stage m)
+entering : (stage : Stage) (m : Machine) → Shuts (begins_stage stage m)
 entering stages.Security m = text_sent (record m { stage = stages.Security })
 entering stages.Operational m = text_sent (record m { stage = stages.Operational })
 entering stages.Full m = quietly _
 
 judging : (key : Option (List ℕ)) (m : Machine) (h : LoginResponse) (answer : Pairs) → Shuts (judged key m h answer)
 judging (Some key) m h answer = failing m (faults.BadAnswer key) tt
-judging None m h answer = entering (asked m) _
+judging None m h answer = entering (requested_stage m) _
 
 answering : (m : Machine) (h : LoginResponse) (segment : Segment) → Shuts (text_answered m h segment)
 answering m h (Bytes bytes) = failing m (faults.Protocol 4) tt
@@ -73,7 +73,7 @@ turning (byte ∷ bytes) m h segment = either (goes_on m h segment) _ _ (sending
 answered_so : (m : Machine) (h : LoginResponse) (segment : Segment) → Shuts (answered m h segment)
 answered_so m h segment =
     either (not (h.status_class == 0)) _ _ (failing m (faults.Refused h.status_class h.status_detail) tt)
-    (either (not (is_expected m.exp_stat_sn (option_map_or (λ (n : ℕ). n) h.stat_sn 0))) _ _ (failing m (faults.Protocol 6) tt) (turning m.left m h segment))
+    (either (not (is_expected m.exp_stat_sn (option_map_or (λ (n : ℕ). n) h.stat_sn 0))) _ _ (failing m (faults.Protocol 6) tt) (turning m.unsent_text m h segment))
 
 logging : (m : Machine) (head : Head) (segment : Segment) → Shuts (login_step m head segment)
 logging m (heads.LoginResponse h) segment = either (h.initiator_task_tag == 0) _ _ (answered_so m h segment) (failing m (faults.Protocol 1) tt)
@@ -86,21 +86,21 @@ completing None m received h = failing m (faults.Protocol 3) tt
 completing (Some sense) m received h = quietly _
 
 doing : (m : Machine) (d : Due) (bytes : List ℕ) → Shuts (on_due m d bytes)
-doing m (Asked h) bytes = either (is_tag h.target_transfer_tag) _ _ (sending _ _) (quietly _)
+doing m (UnsolicitedNopIn h) bytes = either (is_tag h.target_transfer_tag) _ _ (sending _ _) (quietly _)
 doing m (Pong h) bytes = quietly _
 doing m (Data r h) bytes = either (not (fits_reading r h bytes)) _ _ (failing m (faults.Protocol 3) tt) (either h.has_status _ _ (quietly _) (quietly _))
-doing m (Ready w h) bytes = either (fits_writing m w h) _ _ (sending _ _) (failing m (faults.Protocol 3) tt)
+doing m (R2t w h) bytes = either (fits_writing m w h) _ _ (sending _ _) (failing m (faults.Protocol 3) tt)
 doing m (Response received h) bytes = completing (sense_of bytes) m received h
 doing m (TextAnswer h) bytes = either (h.is_final && not h.continues) _ _ (quietly _) (failing m (faults.Protocol 4) tt)
 doing m (LogoutAnswer h) bytes = quietly _
-doing m (Notice h) bytes = quietly _
-doing m (Refusal h) bytes = failing m (faults.Protocol 8) tt
+doing m (Async h) bytes = quietly _
+doing m (RejectPdu h) bytes = failing m (faults.Protocol 8) tt
 
 taking : (d : Option Due) (m : Machine) (bytes : List ℕ) → Shuts (takes d m bytes)
 taking None m bytes = failing m (faults.Protocol 1) tt
 taking (Some d) m bytes =
     either (nat_lt m.held.initiator_max_recv (length bytes)) _ _ (failing m (faults.Protocol 2) tt)
-    (either (not (is_in_turn m.exp_stat_sn (checked_stat_sn d))) _ _ (failing m (faults.Protocol 6) tt) (doing (passed m d) d bytes))
+    (either (not (is_in_turn m.exp_stat_sn (checked_stat_sn d))) _ _ (failing m (faults.Protocol 6) tt) (doing (update_counters m d) d bytes))
 
 stepping : (phase : Phase) (m : Machine) (message : Message) → Shuts (step_in phase m message)
 stepping phases.Login m message = either m.started _ _ (logging m message.head message.segment) (failing m (faults.Protocol 1) tt)

@@ -3,11 +3,11 @@ mod CommandRows
 pub mod HeldLaws
 pub mod SequenceLaws
 pub mod Sending
-pub mod Passing
+pub mod Counters
 pub mod Writing
 pub mod Stepping
 pub mod Faults
-pub mod Hearing
+pub mod Receiving
 pub mod Pieces
 pub mod OutcomeLaws
 pub mod BlockLaws

@@ -22,9 +22,9 @@ use Rattle.iscsi_login.specs.Stage.{is_closed_phase}
 use Rattle.iscsi_initiator.specs.Steps.{Stepped, closed, quiet}
 use Rattle.iscsi_initiator.specs.Machine.{step, step_in, steps, then_steps}
 use Rattle.iscsi_initiator.specs.Submitted.{or_accepted, refusal_in, submitted}
-use Rattle.iscsi_initiator.specs.Calls.{Alike, CalledAlike, ClosesAt, Connection, Feeds, HadMemory, Heard, HearsAll, Stays, StreamEnds, Submits, refused_for}
+use Rattle.iscsi_initiator.specs.Calls.{Alike, CalledAlike, ClosesAt, Connection, Feeds, HadMemory, Received, ReceivesAll, Stays, StreamEnds, Submits, refused_for}
 use Rattle.iscsi_initiator.proofs.Stepping.{step_is}
-use Rattle.iscsi_initiator.proofs.Hearing.{next_if}
+use Rattle.iscsi_initiator.proofs.Receiving.{next_if}
 
 -- ---- what messages lead to
 
@@ -78,16 +78,16 @@ leaves s = record {
   shut_is = refl;
 }
 
--- A call heard these PDUs of the stream, and ended so.
+-- A call received these PDUs of the stream, and ended so.
 record Run (stream : List ℕ) (ms : List Message) (old : Connection) (result : Result Phase InitiatorFault) (new : Connection) (output written : List ℕ) : Type 0 where
   messages : List Message
   sight : Sight
-  hears : HearsUpTo (course old.machine) old.framing.limit stream ms messages sight
+  receives : HearsUpTo (course old.machine) old.framing.limit stream ms messages sight
   output_is : written ≡ output ++ canon (steps old.machine messages).output
   ended : Ended (leaves (steps old.machine messages)) sight result new.machine new.framing
 
 run_so : (stream : List ℕ) (ms : List Message) (old : Connection) (piece : List ℕ) (result : Result Phase InitiatorFault) (new : Connection) (output written : List ℕ)
-    → (t : HasTaken stream ms old.framing) (h : Heard old piece) → written ≡ output ++ canon (steps old.machine h.messages).output
+    → (t : HasTaken stream ms old.framing) (h : Received old piece) → written ≡ output ++ canon (steps old.machine h.messages).output
     → Ended (leaves (steps old.machine h.messages)) (sight (stream ++ take h.count piece) (ms ++ h.messages) h.framing (h.moves stream ms t) (drop h.count piece)) result new.machine new.framing
     → Run (stream ++ piece) ms old result new output written
 unfolding course
@@ -100,15 +100,15 @@ run_so stream ms old piece result new output written t h out e =
     record {
       messages = h.messages;
       sight = x;
-      hears = framer_hears (course old.machine) old.framing.limit (stream ++ piece) s (drop h.count piece) ms h.messages h.framing now h.limit whole
+      receives = framer_hears (course old.machine) old.framing.limit (stream ++ piece) s (drop h.count piece) ms h.messages h.framing now h.limit whole
           (end_of (leaves (steps old.machine h.messages)) x result new.machine new.framing e);
       output_is = out;
       ended = e;
     }
 
-all_heard : (stream : List ℕ) (ms : List Message) (old : Connection) (piece : List ℕ) (phase : Phase) (new : Connection) (output written : List ℕ)
-    → HasTaken stream ms old.framing → (h : Heard old piece) → HearsAll old piece h new output written phase → Run (stream ++ piece) ms old (Ok phase) new output written
-all_heard stream ms old piece phase new output written t h a =
+all_received : (stream : List ℕ) (ms : List Message) (old : Connection) (piece : List ℕ) (phase : Phase) (new : Connection) (output written : List ℕ)
+    → HasTaken stream ms old.framing → (h : Received old piece) → ReceivesAll old piece h new output written phase → Run (stream ++ piece) ms old (Ok phase) new output written
+all_received stream ms old piece phase new output written t h a =
     let s : List ℕ = stream ++ take h.count piece in
     let now : HasTaken s (ms ++ h.messages) h.framing = h.moves stream ms t in
     let x : Sight = sight s (ms ++ h.messages) h.framing now (drop h.count piece) in
@@ -117,12 +117,12 @@ all_heard stream ms old piece phase new output written t h a =
     (subst (λ (y : Connection). IsLeft x y.framing) (sym a.connection) (framer_leaves s (ms ++ h.messages) h.framing (drop h.count piece) now a.unready (drop_all h.count piece (omega (arith, a.all))))))
 
 was_closed : (stream : List ℕ) (ms : List Message) (old : Connection) (piece : List ℕ) (result : Result Phase InitiatorFault) (fault : Option InitiatorFault) (new : Connection) (output written : List ℕ)
-    → HasTaken stream ms old.framing → (h : Heard old piece) → ClosesAt old piece h new output written fault → result ≡ outcome fault → Run (stream ++ piece) ms old result new output written
+    → HasTaken stream ms old.framing → (h : Received old piece) → ClosesAt old piece h new output written fault → result ≡ outcome fault → Run (stream ++ piece) ms old result new output written
 was_closed stream ms old piece result fault new output written t h a e =
     run_so stream ms old piece result new output written t h a.output (Over a.closes (e ∙ ap outcome (sym a.cause)) a.machine)
 
 was_refused : (stream : List ℕ) (ms : List Message) (old : Connection) (piece : List ℕ) (fault : StreamFault) (new : Connection) (output written : List ℕ)
-    → HasTaken stream ms old.framing → (h : Heard old piece) → (fault ≡ broken.NoMemory → ⊥) → StreamEnds old piece h new output written fault → Run (stream ++ piece) ms old (Err (faults.Stream fault)) new output written
+    → HasTaken stream ms old.framing → (h : Received old piece) → (fault ≡ broken.NoMemory → ⊥) → StreamEnds old piece h new output written fault → Run (stream ++ piece) ms old (Err (faults.Stream fault)) new output written
 was_refused stream ms old piece fault new output written t h none a =
     run_so stream ms old piece (Err (faults.Stream fault)) new output written t h a.output
     (Breaks fault a.live refl a.machine (framer_refuses (stream ++ take h.count piece) (ms ++ h.messages) h.framing (drop h.count piece) fault (h.moves stream ms t) none a.refused))
@@ -132,7 +132,7 @@ run_of : (stream : List ℕ) (ms : List Message) (old : Connection) (piece : Lis
     → HasTaken stream ms old.framing → is_closed old.machine ≡ false → Feeds result old piece new output written → result ≢ Err faults.NoMemory → Run (stream ++ piece) ms old result new output written
 run_of stream ms old piece (Ok phase) new output written t live f memory =
     elim f.1.1 [
-      | inl a ↦ all_heard stream ms old piece phase new output written t f.1.0 a
+      | inl a ↦ all_received stream ms old piece phase new output written t f.1.0 a
       | inr a ↦ was_closed stream ms old piece (Ok phase) None new output written t f.1.0 a.0 (ap Ok a.1)
     ]
 run_of stream ms old piece (Err faults.NoMemory) new output written t live f memory = absurd (memory refl)
@@ -153,7 +153,7 @@ run_alike : (stream : List ℕ) (ms : List Message) (old : Connection) (result o
 unfolding course
 run_alike stream ms old result other new now output written rewritten a b =
     let h : HearAlike (course old.machine) a.messages b.messages a.sight b.sight =
-    hear_alike (course old.machine) old.framing.limit stream ms a.messages b.messages a.sight b.sight a.hears b.hears in
+    hear_alike (course old.machine) old.framing.limit stream ms a.messages b.messages a.sight b.sight a.receives b.receives in
     let e : EndAlike is_closed result other new.machine now.machine new.framing now.framing =
     end_alike (leaves (steps old.machine a.messages)) a.sight b.sight result other new.machine now.machine new.framing now.framing h.sight a.ended
     (subst (λ (s : Stepped). Ended (leaves s) b.sight other now.machine now.framing) h.same b.ended) in

@@ -8,8 +8,8 @@ use Rattle.iscsi_pdu.specs.declared.head.login_response.LoginResponse.{LoginResp
 use Rattle.iscsi_stream.specs.Segment.{Segment, is_last, segment_of, segment_bytes}
 use Rattle.iscsi_stream.specs.Stream.{Message}
 use Rattle.iscsi_stream.proofs.Segments.{segment_plain}
-use Rattle.iscsi_initiator.specs.declared.open.Open.{Open}
-use Rattle.iscsi_initiator.specs.declared.open.Open.TheVariants as opens
+use Rattle.iscsi_initiator.specs.declared.outstanding.Outstanding.{Outstanding}
+use Rattle.iscsi_initiator.specs.declared.outstanding.Outstanding.TheVariants as opens
 use Rattle.iscsi_initiator.specs.State.{Machine}
 use Rattle.iscsi_initiator.specs.declared.fault.InitiatorFault.{InitiatorFault}
 use Rattle.iscsi_initiator.specs.declared.fault.InitiatorFault.TheVariants as faults
@@ -24,7 +24,7 @@ use Rattle.iscsi_stream.specs.Framing.{Framing}
 use Rattle.iscsi_initiator.specs.Submitted.{Submitted, refusal, accepted, or_accepted, submitted}
 use Rattle.iscsi_initiator.specs.Calls.{Connection, Submits, refused_for}
 use Rattle.iscsi_initiator.specs.Inside.{Did}
-use Rattle.iscsi_initiator.specs.Steps.{breaks, quiet, closed}
+use Rattle.iscsi_initiator.specs.Steps.{protocol_error, quiet, closed}
 use Rattle.iscsi_initiator.specs.Full.{Due, due_to, takes, full_step}
 use Rattle.iscsi_initiator.specs.Machine.{step, step_in}
 use Rattle.std.proofs.Math.Bool.{and-false}
@@ -38,7 +38,7 @@ unfolding segment_bytes
 by_plain continued m head bytes e =
     ap (λ (s : Segment). full_step m head (segment_bytes s)) (sym (segment_plain continued head bytes (ap (λ (b : Bool). not continued && b) e ∙ and-false (not continued))))
 
-no_request : (request : Option Open) (h : LoginRequest) → due_to request (heads.LoginRequest h) ≡ None
+no_request : (request : Option Outstanding) (h : LoginRequest) → due_to request (heads.LoginRequest h) ≡ None
 no_request None h = refl
 no_request (Some (opens.In r)) h = refl
 no_request (Some (opens.Out w)) h = refl
@@ -46,7 +46,7 @@ no_request (Some opens.Ping) h = refl
 no_request (Some opens.Text) h = refl
 no_request (Some opens.Logout) h = refl
 
-no_response : (request : Option Open) (h : LoginResponse) → due_to request (heads.LoginResponse h) ≡ None
+no_response : (request : Option Outstanding) (h : LoginResponse) → due_to request (heads.LoginResponse h) ≡ None
 no_response None h = refl
 no_response (Some (opens.In r)) h = refl
 no_response (Some (opens.Out w)) h = refl
@@ -54,24 +54,24 @@ no_response (Some opens.Ping) h = refl
 no_response (Some opens.Text) h = refl
 no_response (Some opens.Logout) h = refl
 
-refused : (b : Bool) (d : Option Due) (m : Machine) (bytes : List ℕ) → d ≡ None → takes (if b then d else None) m bytes ≡ breaks m 1
+refused : (b : Bool) (d : Option Due) (m : Machine) (bytes : List ℕ) → d ≡ None → takes (if b then d else None) m bytes ≡ protocol_error m 1
 refused true d m bytes e = ap (λ (x : Option Due). takes x m bytes) e
 refused false d m bytes e = refl
 
 -- the text of a login PDU plays no part
 pub full_bytes : (continued : Bool) (m : Machine) (head : Head) (bytes : List ℕ) → full_step m head (segment_bytes (segment_of continued head bytes)) ≡ full_step m head bytes
 full_bytes continued m (heads.LoginRequest h) bytes =
-    refused (0xffff_ffff == m.initiator_task_tag) (due_to m.open_request (heads.LoginRequest h)) m (segment_bytes (segment_of continued (heads.LoginRequest h) bytes)) (no_request m.open_request h)
-    ∙ sym (refused (0xffff_ffff == m.initiator_task_tag) (due_to m.open_request (heads.LoginRequest h)) m bytes (no_request m.open_request h))
+    refused (0xffff_ffff == m.initiator_task_tag) (due_to m.outstanding (heads.LoginRequest h)) m (segment_bytes (segment_of continued (heads.LoginRequest h) bytes)) (no_request m.outstanding h)
+    ∙ sym (refused (0xffff_ffff == m.initiator_task_tag) (due_to m.outstanding (heads.LoginRequest h)) m bytes (no_request m.outstanding h))
 full_bytes continued m (heads.LoginResponse h) bytes =
-    refused (0xffff_ffff == m.initiator_task_tag) (due_to m.open_request (heads.LoginResponse h)) m (segment_bytes (segment_of continued (heads.LoginResponse h) bytes)) (no_response m.open_request h)
-    ∙ sym (refused (0xffff_ffff == m.initiator_task_tag) (due_to m.open_request (heads.LoginResponse h)) m bytes (no_response m.open_request h))
+    refused (0xffff_ffff == m.initiator_task_tag) (due_to m.outstanding (heads.LoginResponse h)) m (segment_bytes (segment_of continued (heads.LoginResponse h) bytes)) (no_response m.outstanding h)
+    ∙ sym (refused (0xffff_ffff == m.initiator_task_tag) (due_to m.outstanding (heads.LoginResponse h)) m bytes (no_response m.outstanding h))
 full_bytes continued m head bytes = by_plain continued m head bytes refl
 
 step_closed : (phase : Phase) (m : Machine) (message : Message) → phase ≡ phases.Closed → step_in phase m message ≡ quiet m
 step_closed phase m message e = rw e refl
 
-step_early : (phase : Phase) (started : Bool) (m : Machine) (message : Message) → phase ≡ phases.Login → m.started ≡ false → step_in phase m message ≡ breaks m 1
+step_early : (phase : Phase) (started : Bool) (m : Machine) (message : Message) → phase ≡ phases.Login → m.started ≡ false → step_in phase m message ≡ protocol_error m 1
 step_early phase started m message e none = rw e (rw none refl)
 
 -- a closed session drops what comes

@@ -11,7 +11,7 @@ use Rattle.iscsi_initiator.specs.State.{Settings, Machine, opening, is_closed}
 use Rattle.iscsi_initiator.specs.Login.{start_step}
 use Rattle.iscsi_initiator.specs.Machine.{step, steps, then_steps}
 use Rattle.iscsi_initiator.specs.Submitted.{submitted, or_accepted, refusal}
-use Rattle.iscsi_initiator.specs.Calls.{Connection, Starts, Feeds, Submits, HearsAll, ClosesAt, after_taking}
+use Rattle.iscsi_initiator.specs.Calls.{Connection, Starts, Feeds, Submits, ReceivesAll, ClosesAt, after_taking}
 use Rattle.iscsi_initiator.specs.Laws.{Event, Meets, Comes, Asks, Takes, after, run, accepted, accepted_in, accepted_if, given, given_in, listed, AreOutcomesOf, IsOutcomeOf}
 use Rattle.iscsi_initiator.specs.Laws as laws
 use Rattle.iscsi_initiator.proofs.OutcomeLaws.{outcomes_in_order}
@@ -93,7 +93,7 @@ heard m (message ∷ messages) = go (is_closed (step m message).machine) (heard 
 pub fed : (phase : Phase) (old new : Connection) (piece before output : List ℕ) → Feeds (Ok phase) old piece new before output → Continues old.machine [] [] new.machine
 fed phase old new piece before output f = go f.1.1
   where
-    go : HearsAll old piece f.1.0 new before output phase ⊎ (ClosesAt old piece f.1.0 new before output None × (phase ≡ phases.Closed)) → Continues old.machine [] [] new.machine
+    go : ReceivesAll old piece f.1.0 new before output phase ⊎ (ClosesAt old piece f.1.0 new before output None × (phase ≡ phases.Closed)) → Continues old.machine [] [] new.machine
     go (inl all) = subst (λ (c : Connection). Continues old.machine [] [] c.machine) (sym all.connection) (heard old.machine f.1.0.messages)
     go (inr ends) = subst (λ (m : Machine). Continues old.machine [] [] m) (sym ends.0.machine) (heard old.machine f.1.0.messages)
 

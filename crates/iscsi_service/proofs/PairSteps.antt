@@ -12,14 +12,14 @@ use Rattle.iscsi_initiator.specs.declared.request.Done.{Done}
 use Rattle.iscsi_initiator.specs.declared.request.Request.{Request}
 use Rattle.iscsi_initiator.specs.Calls as initiator
 use Rattle.iscsi_initiator.specs.Laws.{listed}
-use Rattle.iscsi_pair.specs.World.{World, Opening, Event, ToTarget, ToInitiator, Submits, Takes, TargetHears, InitiatorHears, InitiatorIsAsked, MovesToTarget, MovesToInitiator, Happens, new_pair, store_of}
+use Rattle.iscsi_pair.specs.World.{World, Opening, Event, ToTarget, ToInitiator, Submits, Takes, TargetReceives, InitiatorReceives, InitiatorIsAsked, MovesToTarget, MovesToInitiator, Happens, new_pair, store_of}
 use Rattle.iscsi_pair.specs.LocalDisk.{local_outcomes}
-use Rattle.iscsi_pair.specs.Served.{IsNormal, IsServed, IsAccepted, RunsServed, asked, disk_outcomes, given_in}
+use Rattle.iscsi_pair.specs.Served.{IsNormal, IsServed, IsAccepted, RunsServed, requests_of, disk_outcomes, given_in}
 use Rattle.iscsi_pair.proofs.Lists.BlockLemmas.{HasBlocks}
 use Rattle.iscsi_pair.proofs.Request.OneRequestLaw.{outcomes_more}
 use Rattle.iscsi_pair.proofs.Run.OneDiskLaw.{idle_whole}
 use Rattle.iscsi_pair.proofs.Lists.ReadBackLaw.{standard_normal}
-use Rattle.iscsi_pair.proofs.Lists.StepLemmas.{asked_append, served_more}
+use Rattle.iscsi_pair.proofs.Lists.StepLemmas.{requests_append, served_more}
 use Rattle.iscsi_service.specs.Looping.{initiator_settings}
 use Rattle.iscsi_service.specs.Session.{target_settings}
 use Rattle.iscsi_service.specs.LoopPairs.{AreOneDisk, Ends, GoOn, HaveServed, Performs, ends_of, loop_opening, new_ends, outcome_on, outcomes_on, world_of}
@@ -68,12 +68,12 @@ has_blocks disk is =
 more : (blocks : ℕ) (requests : List Request) (outcomes : List Done) (old new : Ends) (bytes : List ℕ) (event : Event)
     → (h : HaveServed blocks requests outcomes old) → Happens (world_of old h.bytes) event (world_of new bytes) → IsAccepted event (world_of old h.bytes)
     → disk_of bytes ≡ new.disk
-    → HaveServed blocks (requests ++ asked (event ∷ [])) (outcomes ++ given_in event (world_of old h.bytes)) new
+    → HaveServed blocks (requests ++ requests_of (event ∷ [])) (outcomes ++ given_in event (world_of old h.bytes)) new
 more blocks requests outcomes old new bytes event h happens accepted disk = record {
   events = h.events ++ event ∷ [];
   bytes = bytes;
   disk_is = disk;
-  asked_are = asked_append h.events (event ∷ []) ∙ ap (λ (x : List Request). x ++ asked (event ∷ [])) h.asked_are;
+  requests_are = requests_append h.events (event ∷ []) ∙ ap (λ (x : List Request). x ++ requests_of (event ∷ [])) h.requests_are;
   runs = served_more (new_pair (loop_opening blocks)) h.events (world_of old h.bytes) outcomes event (world_of new bytes) h.runs happens accepted refl;
 }
 
@@ -84,11 +84,11 @@ quiet blocks requests outcomes new h =
 
 -- ---- bytes are carried
 
-moves_there : (moved : List ℕ) (old new : World) → 0 < length moved → TargetHears moved old new → MovesToTarget None moved old new
+moves_there : (moved : List ℕ) (old new : World) → 0 < length moved → TargetReceives moved old new → MovesToTarget None moved old new
 moves_there [] old new some h = absurd (omega (arith, some))
 moves_there (byte ∷ bytes) old new some h = h
 
-moves_here : (moved : List ℕ) (old new : World) → 0 < length moved → InitiatorHears moved old new → MovesToInitiator None moved old new
+moves_here : (moved : List ℕ) (old new : World) → 0 < length moved → InitiatorReceives moved old new → MovesToInitiator None moved old new
 moves_here [] old new some h = absurd (omega (arith, some))
 moves_here (byte ∷ bytes) old new some h = h
 
@@ -104,7 +104,7 @@ asks_on i old new before after out back written piece n phase fed is front size 
     let b : HasBlocks after = has_blocks after is in
     let here : Ends = ends_of i old before out back in
     let there : Ends = ends_of i new after (drop n out) written in
-    let hears : TargetHears piece (world_of here h.bytes) (world_of there b.bytes) = record {
+    let receives : TargetReceives piece (world_of here h.bytes) (world_of there b.bytes) = record {
       result = Ok phase;
       fed = subst (λ (d : Disk). target.Fed old (stored d) back piece (Ok phase) new (store_of b.bytes) written) (sym h.disk_is)
           (subst (λ (d : Disk). target.Fed old (stored before) back piece (Ok phase) new (stored d) written) (sym b.is) fed);
@@ -115,7 +115,7 @@ asks_on i old new before after out back written piece n phase fed is front size 
     } in
     let happens : Happens (world_of here h.bytes) (ToTarget n) (world_of there b.bytes) =
     subst (λ (x : List ℕ). MovesToTarget None x (world_of here h.bytes) (world_of there b.bytes)) (sym front)
-    (moves_there piece (world_of here h.bytes) (world_of there b.bytes) (omega (arith, size, some)) hears) in
+    (moves_there piece (world_of here h.bytes) (world_of there b.bytes) (omega (arith, size, some)) receives) in
     quiet blocks requests outcomes there (more blocks requests outcomes here there b.bytes (ToTarget n) h happens tt b.is)
 
 -- a piece reaches the initiator
@@ -125,7 +125,7 @@ pub hears_on : (old new : initiator.Connection) (t : target.Connection) (disk : 
 hears_on old new t disk out back written piece n phase fed front size some = λ blocks requests outcomes h.
     let here : Ends = ends_of old t disk out back in
     let there : Ends = ends_of new t disk written (drop n back) in
-    let hears : InitiatorHears piece (world_of here h.bytes) (world_of there h.bytes) = record {
+    let receives : InitiatorReceives piece (world_of here h.bytes) (world_of there h.bytes) = record {
       result = Ok phase;
       fed = fed;
       dropped = ap (λ (k : ℕ). drop k back) (sym size);
@@ -136,7 +136,7 @@ hears_on old new t disk out back written piece n phase fed front size some = λ 
     } in
     let happens : Happens (world_of here h.bytes) (ToInitiator n) (world_of there h.bytes) =
     subst (λ (x : List ℕ). MovesToInitiator None x (world_of here h.bytes) (world_of there h.bytes)) (sym front)
-    (moves_here piece (world_of here h.bytes) (world_of there h.bytes) (omega (arith, size, some)) hears) in
+    (moves_here piece (world_of here h.bytes) (world_of there h.bytes) (omega (arith, size, some)) receives) in
     quiet blocks requests outcomes there (more blocks requests outcomes here there h.bytes (ToInitiator n) h happens tt h.disk_is)
 
 -- what is left of bytes behind the first
@@ -203,7 +203,7 @@ starts blocks new out s = record {
   events = [];
   bytes = replicate (512 * blocks) 0;
   disk_is = disk_of-zeros blocks;
-  asked_are = refl;
+  requests_are = refl;
   runs = (
     λ j. record {
       target = target.opening_connection target_settings 1;
@@ -249,9 +249,9 @@ takes_on i t disk request done blocks past is h =
     let there : Ends = ends_of (initiator.after_taking i) t disk [] [] in
     let c : Opening = loop_opening blocks in
     let all : List Request = past ++ request ∷ [] in
-    let whole : outcomes_on blocks past ++ listed i.machine.done ≡ disk_outcomes c (asked h.events) =
+    let whole : outcomes_on blocks past ++ listed i.machine.done ≡ disk_outcomes c (requests_of h.events) =
     (idle_whole c h.events (world_of here h.bytes) (outcomes_on blocks past) (is_normal blocks) h.runs refl refl).0 in
-    let these : outcomes_on blocks past ++ listed i.machine.done ≡ outcomes_on blocks all = whole ∙ ap (disk_outcomes c) h.asked_are in
+    let these : outcomes_on blocks past ++ listed i.machine.done ≡ outcomes_on blocks all = whole ∙ ap (disk_outcomes c) h.requests_are in
     let each : outcomes_on blocks all ≡ outcomes_on blocks past ++ outcome_on blocks past request ∷ [] =
     outcomes_more initiator_settings.proposal.prefs.max_recv (disk_of c.blocks) past request in
     let one : done ∷ [] ≡ outcome_on blocks past request ∷ [] =

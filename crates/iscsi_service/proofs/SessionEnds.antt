@@ -36,7 +36,7 @@ use Rattle.iscsi_target.proofs.Appending.{answers_append}
 use Rattle.iscsi_target.proofs.Joining.{answers_joined}
 use Rattle.iscsi_target.proofs.Feeding.{Told, told, answers_close}
 use Rattle.iscsi_target.proofs.Streaming.{goes_on}
-use Rattle.iscsi_service.specs.Session.{Hears, ServesFirst, IsOver, GoesOnBehind, RestFails, EndsBy}
+use Rattle.iscsi_service.specs.Session.{Receives, ServesFirst, IsOver, GoesOnBehind, RestFails, EndsBy}
 use Rattle.iscsi_service.specs.declared.session.SessionFault.TheVariants as session
 
 -- ---- a session that goes on
@@ -160,7 +160,7 @@ rule_of settings disk taken old before out bytes framing more r after h live a w
     ap (λ (x : Stepped). x.rule) e ∙ sym (ap (λ (o : Option ℕ). first_rule o later.rule) none) ∙ ap (λ (x : Stepped). x.rule) (sym both)
 
 -- the PDUs that a framer gave up, and what follows them
-abbrev hears_of : (settings : Settings) (read bytes behind : List ℕ) (ms : List Message) (v : Framing) → HasTaken bytes ms v → v.limit ≡ limit settings → read ≡ bytes ++ behind → Hears settings read
+abbrev hears_of : (settings : Settings) (read bytes behind : List ℕ) (ms : List Message) (v : Framing) → HasTaken bytes ms v → v.limit ≡ limit settings → read ≡ bytes ++ behind → Receives settings read
 hears_of settings read bytes behind ms v t bound is = record {
   messages = ms;
   given = t.given;
@@ -169,7 +169,7 @@ hears_of settings read bytes behind ms v t bound is = record {
   reads = subst (λ (n : ℕ). ReadsAs n no_login t.given ms) bound t.reads;
 }
 
-abbrev hears_all : (settings : Settings) (bytes : List ℕ) (ms : List Message) (v : Framing) → HasTaken bytes ms v → v.limit ≡ limit settings → Hears settings bytes
+abbrev hears_all : (settings : Settings) (bytes : List ℕ) (ms : List Message) (v : Framing) → HasTaken bytes ms v → v.limit ≡ limit settings → Receives settings bytes
 hears_all settings bytes ms v t bound = record {
   messages = ms;
   given = t.given;
@@ -232,7 +232,7 @@ read_told settings disk bytes now disk_now written s live =
     (hears_all settings bytes s.has.messages v t s.bound, stands_on settings disk bytes now disk_now written s live, begun, no_pdu_begun (limit settings) t.rest begun part)
 
 pub end_told : (settings : Settings) (disk : Disk) (bytes : List ℕ) (now new : Connection) (disk_now : Disk) (written : List ℕ) → Stands settings disk bytes now disk_now written → is_closed now.machine ≡ false → Finishes now (Ok tt) new
-    → (hears : Hears settings bytes) × GoesOnBehind settings disk bytes hears × (hears.rest ≡ [])
+    → (receives : Receives settings bytes) × GoesOnBehind settings disk bytes receives × (receives.rest ≡ [])
 end_told settings disk bytes now new disk_now written s live done =
     let t : HasTaken bytes s.has.messages now.framing = s.has.taken in (
       hears_all settings bytes s.has.messages now.framing t s.bound,
@@ -250,7 +250,7 @@ finish_told faults.Closed settings disk bytes now new disk_now written s live fa
 
 -- what a call fed, behind what was answered
 abbrev fed_hears : (settings : Settings) (disk : Disk) (bytes piece : List ℕ) (old new : Connection) (before after : Store) (out written : List ℕ) (result : Result Phase TargetFault) → Stands settings disk bytes old before.disk out
-    → Feeds old before out piece result new after written → Hears settings (bytes ++ piece)
+    → Feeds old before out piece result new after written → Receives settings (bytes ++ piece)
 fed_hears settings disk bytes piece old new before after out written result s f =
     hears_of settings (bytes ++ piece) (bytes ++ take f.count piece) (drop f.count piece) (s.has.messages ++ f.messages) f.framing (f.answered.taken bytes s.has.messages s.has.taken) (f.answered.limit ∙ s.bound) (whole_is bytes piece f.count)
 
@@ -280,12 +280,12 @@ fault_told faults.NoMemory settings disk bytes piece old new before after out wr
 fault_told faults.Closed settings disk bytes piece old new before after out written s live f works = absurd f.ends
 
 -- where memory ran out, the PDUs before were answered, and perhaps some tasks of the next one
-first_front : (settings : Settings) (disk : Disk) (read out : List ℕ) (framing : Framing) (rest : List ℕ) (r : Stepped) (counted : ℕ) (new : Machine) (after : Store) (written : List ℕ) (hears : Hears settings read)
-    → Told settings 1 disk hears.messages r r.disk (out ++ canon r.answers) → after.failures ≡ counted → (l : StopsShort out framing rest r counted new after written)
-    → ((message : Message) (next : Framing) (n : ℕ) → Moves framing next (take n rest) (message ∷ []) → next.limit ≡ framing.limit → (more : Hears settings read) × (more.messages ≡ hears.messages ++ message ∷ []))
+first_front : (settings : Settings) (disk : Disk) (read out : List ℕ) (framing : Framing) (rest : List ℕ) (r : Stepped) (counted : ℕ) (new : Machine) (after : Store) (written : List ℕ) (receives : Receives settings read)
+    → Told settings 1 disk receives.messages r r.disk (out ++ canon r.answers) → after.failures ≡ counted → (l : StopsShort out framing rest r counted new after written)
+    → ((message : Message) (next : Framing) (n : ℕ) → Moves framing next (take n rest) (message ∷ []) → next.limit ≡ framing.limit → (more : Receives settings read) × (more.messages ≡ receives.messages ++ message ∷ []))
     → ServesFirst settings disk read after.disk written
-first_front settings disk read out framing rest r counted new after written hears t same l hear =
-    let all : Stepped = led settings disk read hears in
+first_front settings disk read out framing rest r counted new after written receives t same l hear =
+    let all : Stepped = led settings disk read receives in
     let wrote : (q : Stepped) → joined_stepped l.front ≡ joined_stepped q → written ≡ canon (all.answers ++ q.answers) = λ q e.
     l.output_is ∙ ap (λ (x : List ℕ). out ++ x) (canon_append r.answers l.front.answers) ∙ sym (append_assoc out (canon r.answers) (canon l.front.answers))
     ∙ ap (λ (x : List ℕ). x ++ canon l.front.answers) t.output_is ∙ sym (canon_append all.answers l.front.answers)
@@ -294,12 +294,12 @@ first_front settings disk read out framing rest r counted new after written hear
       | inl none ↦
           (let q : Stepped = unchanged all.machine all.disk in
           let e : joined_stepped l.front ≡ joined_stepped q = ap joined_stepped none.0 ∙ (λ i. unchanged (t.machine i) (t.disk_is i)) in
-          record { hears = hears; front = q; stops = inl refl; disk_is = l.disk ∙ ap (λ (x : Stepped). x.disk) e; output_is = wrote q e })
+          record { receives = receives; front = q; stops = inl refl; disk_is = l.disk ∙ ap (λ (x : Stepped). x.disk) e; output_is = wrote q e })
       | inr at ↦
           (let x = stop_as r.machine all.machine r.disk all.disk counted at.message l.front after.failures t.machine t.disk_is at.stops in
           let m = hear at.message at.next at.count at.taken at.limit in
           record {
-            hears = hears;
+            receives = receives;
             front = x.0;
             stops = inr (record { message = at.message; more = m.0; behind = m.1; failures = counted; stops = subst (λ (n : ℕ). MayStop all.machine all.disk counted at.message x.0 n) same x.1 });
             disk_is = l.disk ∙ ap (λ (y : Stepped). y.disk) x.2;
@@ -310,7 +310,7 @@ first_front settings disk read out framing rest r counted new after written hear
 pub first_told : (settings : Settings) (disk : Disk) (bytes piece : List ℕ) (old new : Connection) (before after : Store) (out written : List ℕ) → Stands settings disk bytes old before.disk out
     → Feeds old before out piece (Err faults.NoMemory) new after written → after.failures ≡ before.failures → ServesFirst settings disk (bytes ++ piece) after.disk written
 first_told settings disk bytes piece old new before after out written s f works =
-    let hears : Hears settings (bytes ++ piece) = fed_hears settings disk bytes piece old new before after out written (Err faults.NoMemory) s f in
+    let receives : Receives settings (bytes ++ piece) = fed_hears settings disk bytes piece old new before after out written (Err faults.NoMemory) s f in
     let mid : Store = record { disk = f.stepped.disk; failures = after.failures } in
     let a : Answers old before (take f.count piece) f.framing f.messages f.stepped mid = record {
       taken = f.answered.taken;
@@ -323,7 +323,7 @@ first_told settings disk bytes piece old new before after out written s f works 
     let t = told settings 1 disk bytes old before out (take f.count piece) f.framing f.messages f.stepped after.failures mid (out ++ canon f.stepped.answers) s.has a (record { failures = refl; disk = refl; output_is = refl }) works in
     let low : before.failures ≤ f.answered.failures = may_rise old.machine before.disk before.failures f.messages f.stepped f.answered.failures f.answered.may in
     let high : f.answered.failures ≤ after.failures = short_rises out f.framing (drop f.count piece) f.stepped f.answered.failures new.machine after written f.leaves in
-    first_front settings disk (bytes ++ piece) out f.framing (drop f.count piece) f.stepped f.answered.failures new.machine after written hears t (omega (arith, low, high, works)) f.leaves
+    first_front settings disk (bytes ++ piece) out f.framing (drop f.count piece) f.stepped f.answered.failures new.machine after written receives t (omega (arith, low, high, works)) f.leaves
     (λ message next n moves limit_. (
       hears_of settings (bytes ++ piece) ((bytes ++ take f.count piece) ++ take n (drop f.count piece)) (drop n (drop f.count piece)) ((s.has.messages ++ f.messages) ++ message ∷ []) next
           (moves (bytes ++ take f.count piece) (s.has.messages ++ f.messages) (f.answered.taken bytes s.has.messages s.has.taken)) (limit_ ∙ f.answered.limit ∙ s.bound)

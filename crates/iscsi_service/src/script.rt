@@ -45,7 +45,7 @@ const PING: &[u8] = b"ping";
 
 const LOGOUT: &[u8] = b"logout";
 
-/// Reads a script to its end and gives its commands.
+/// Reads a script to its end and returns its commands.
 ///
 /// A line is `tur U`, `inquiry U A`, `capacity`, `capacity16`, `luns`, `read LBA N`, `write LBA N
 /// BB`, `sync LBA N`, `ping HEX` or `logout`, its words parted by one blank: decimal numbers, of

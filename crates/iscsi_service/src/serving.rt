@@ -51,7 +51,7 @@ pub fn serve_one<S: BlockStore>(
 ///
 /// A session that ends with a fault has the fault's line on standard error, and the next one is
 /// served. Only being out of memory and a fault of the network end the service; `Write` is answered
-/// where `listening` cannot be printed (own rule).
+/// where `listening` cannot be printed.
 pub fn serve(rt: &HostRuntime, port: u16, blocks: u64, sessions: u16) -> Result<(), ServeFault>
     requires some { 0 < blocks }
     requires few { blocks ≤ most_blocks }

@@ -26,9 +26,9 @@ use Rattle.iscsi_target.specs.State.{Machine, Execution, Stepped, on, unchanged,
 use Rattle.iscsi_pdu.specs.Rules.{data_out_of_order}
 use Rattle.iscsi_target.specs.State.{breaks}
 use Rattle.iscsi_target_session.specs.Login.{login_step}
-use Rattle.iscsi_target.specs.Transfer.{taken, with_data, is_in_sequence, received, asking}
+use Rattle.iscsi_target.specs.Transfer.{taken, with_data, is_in_sequence, received, with_r2t}
 use Rattle.iscsi_target.specs.Execution.{Device, reliable, execute}
-use Rattle.iscsi_target.specs.Command.{order_of, led_by, ask, task_of as task_for, task_by, task_planned}
+use Rattle.iscsi_target.specs.Command.{order_of, led_by, send_r2t, task_of as task_for, task_by, task_planned}
 use Rattle.iscsi_target.specs.Machine.{begun, stays, step, step_on, answers, then_stepped, is_closed, done_in_turn, having_accepted, write_of, with_write}
 use Rattle.iscsi_target.specs.Laws.{Command, task_in, tasks_in, task_of, tasks_done, task_open, tasks_open, HasCmdSn, AreInOrder}
 use Rattle.iscsi_target.proofs.Turns.{Writes, Waits, Opens, Begins, begins, Turns, turns, with_tasks, stays_on}
@@ -168,7 +168,7 @@ begins_lead = record {
     };
   };
   write_ = λ device s disk task w is h. executed_leads s task w (execute device s disk w.initiator_task_tag w.order w.pieces) (write_is s disk task w is) refl refl refl;
-  ask_ = λ device s disk task w is h g. waiting_leads s task w (asking s.session.held w) (ask s disk w) (write_is s disk task w is) refl refl refl refl;
+  send_r2t_ = λ device s disk task w is h g. waiting_leads s task w (with_r2t s.session.held w) (send_r2t s disk w) (write_is s disk task w is) refl refl refl refl;
   wait_ = λ device s disk task w is h g. waiting_leads s task w w (unchanged (led_by w s) disk) (write_is s disk task w is) refl refl refl refl;
 }
 

@@ -11,7 +11,7 @@ use Rattle.iscsi_login.specs.Held.{Held, max_burst}
 use Rattle.iscsi_target_session.specs.Session.{Session, message}
 use Rattle.iscsi_target.specs.State.{Machine, waiting}
 use Rattle.iscsi_stream.specs.Pieces.{Pieces, data_of, chunks, TilesFrom, data_pieces}
-use Rattle.iscsi_target.specs.Execution.{Device, execute, marked, run_given, parts_given, data_ins, response_head, sense_segment}
+use Rattle.iscsi_target.specs.Execution.{Device, execute, marked, sequence_parts, data_in_parts, data_ins, response_head, sense_segment}
 use Rattle.iscsi_target.specs.Tiles.{Tiles, TileBytes}
 use Rattle.iscsi_stream.proofs.Chunks.{joined, joined_chunks}
 
@@ -30,14 +30,14 @@ bytes_append : (a b : Parts) → bytes_of (a ++ b) ≡ bytes_of a ++ bytes_of b
 bytes_append [] b = refl
 bytes_append (p ∷ a) b = ap (λ (z : List ℕ). p.0 ++ z) (bytes_append a b) ∙ sym (append_assoc p.0 (bytes_of a) (bytes_of b))
 
-bytes_runs : (held : Held) (runs : List (List ℕ)) → 0 < held.initiator_max_recv → bytes_of (flat_map (run_given held) runs) ≡ joined runs
+bytes_runs : (held : Held) (runs : List (List ℕ)) → 0 < held.initiator_max_recv → bytes_of (flat_map (sequence_parts held) runs) ≡ joined runs
 bytes_runs held [] lt = refl
 bytes_runs held (run ∷ runs) lt =
-    bytes_append (run_given held run) (flat_map (run_given held) runs)
-    ∙ ap (λ (z : List ℕ). z ++ bytes_of (flat_map (run_given held) runs)) (bytes_marked (chunks held.initiator_max_recv run) ∙ joined_chunks held.initiator_max_recv run lt)
+    bytes_append (sequence_parts held run) (flat_map (sequence_parts held) runs)
+    ∙ ap (λ (z : List ℕ). z ++ bytes_of (flat_map (sequence_parts held) runs)) (bytes_marked (chunks held.initiator_max_recv run) ∙ joined_chunks held.initiator_max_recv run lt)
     ∙ ap (λ (z : List ℕ). run ++ z) (bytes_runs held runs lt)
 
-pub all_given : (held : Held) (bytes : List ℕ) → 0 < max_burst held → 0 < held.initiator_max_recv → bytes_of (parts_given held bytes) ≡ bytes
+pub all_given : (held : Held) (bytes : List ℕ) → 0 < max_burst held → 0 < held.initiator_max_recv → bytes_of (data_in_parts held bytes) ≡ bytes
 all_given held bytes burst most = bytes_runs held (chunks (max_burst held) bytes) most ∙ joined_chunks (max_burst held) bytes burst
 
 tiles_ins : (s : Session) (waits tag data_sn at : ℕ) (given : Parts) (last : Message) → data_pieces (last ∷ []) ≡ []
@@ -61,7 +61,7 @@ pub execute_tiled : (device : Device) (s : Machine) (disk : Disk) (tag : ℕ) (o
     → TileBytes (data_pieces (execute device s disk tag order pieces).answers) (device 0 disk order (data_of pieces)).outcome.bytes
 execute_tiled device s disk tag order pieces burst most =
     let e : Effect = device 0 disk order (data_of pieces) in
-    let given : Parts = parts_given s.session.held e.outcome.bytes in
+    let given : Parts = data_in_parts s.session.held e.outcome.bytes in
     let last : Message = message (response_head s.session (waiting s.tasks) tag e.outcome (length given)) (sense_segment e.outcome.sense) in
     let all : bytes_of given ≡ e.outcome.bytes = all_given s.session.held e.outcome.bytes burst most in (
       subst (λ (n : ℕ). Tiles (data_pieces (data_ins s.session (waiting s.tasks) tag 0 0 given ++ last ∷ [])) n) (let f = ap (λ (z : List ℕ). length z) all in omega (arith, f)) (tiles_ins s.session (waiting s.tasks) tag 0 0 given last refl),

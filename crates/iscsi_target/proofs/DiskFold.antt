@@ -34,7 +34,7 @@ begins_do = record {
   refused_ = λ device s disk m h k broke. record { is = refl };
   command_ = λ device s disk m h k none. record { is = (refl, refl) };
   write_ = λ device s disk task w is h. record { is = (refl, refl) };
-  ask_ = λ device s disk task w is h g. record { is = refl };
+  send_r2t_ = λ device s disk task w is h g. record { is = refl };
   wait_ = λ device s disk task w is h g. record { is = refl };
 }
 

@@ -60,7 +60,7 @@ begins_close = record {
   refused_ = λ device s disk m h k broke. reply_closes s.tasks disk _ (breach_reply s.session (waiting s.tasks) data_out_of_order m).rule;
   command_ = λ device s disk m h k none. record { is = λ n e. absurd cc };
   write_ = λ device s disk task w is whole. record { is = λ n e. absurd cc };
-  ask_ = λ device s disk task w is whole idle. record { is = λ n e. absurd cc };
+  send_r2t_ = λ device s disk task w is whole idle. record { is = λ n e. absurd cc };
   wait_ = λ device s disk task w is whole idle. record { is = λ n e. absurd cc };
 }
 

@@ -32,8 +32,8 @@ use Rattle.iscsi_target.specs.Transfer.{with_piece, with_data, is_in_sequence, r
 use Rattle.iscsi_target.specs.State.{joined_task, joined}
 use Rattle.iscsi_target.specs.declared.due.Due.{Due}
 use Rattle.iscsi_target.specs.declared.due.Due.TheVariants.{Nothing, Unsolicited, Solicited}
-use Rattle.iscsi_target.specs.Execution.{Device, device_next, device_after, execute, command_answers, parts_given, reliable}
-use Rattle.iscsi_target.specs.Command.{scsi_command, planned, proceed, order_of, opened, breaks_burst_rules, breaks_rules, ask, led_by, task_of}
+use Rattle.iscsi_target.specs.Execution.{Device, device_next, device_after, execute, command_answers, data_in_parts, reliable}
+use Rattle.iscsi_target.specs.Command.{scsi_command, planned, proceed, order_of, opened, breaks_burst_rules, breaks_rules, send_r2t, led_by, task_of}
 use Rattle.iscsi_target.specs.Machine.{Next, Met, Dropped, Answered, Queued, plainly, accepting, broken, followed, having_accepted, begun, stays, is_busy, done_in_turn, done_first, step, answers, then_stepped, step_on, phase_step, full_step, full_met, due_met, request, admitted, handled, advanced, write_of, with_write, data_for, data_taken, data_out, tag_of, task_tag, is_same_tag, is_tag_of, is_due_kind, is_too_long, is_over_limit, is_closed}
 use Rattle.iscsi_target_session.specs.Requests.{request_answered}
 use Rattle.iscsi_target.specs.Laws.{joined_execution, joined_stepped}
@@ -103,7 +103,7 @@ abbrev executed_with : Device → Session → Disk → ℕ → Order → ℕ →
 executed_with device s disk tag order n tasks bytes = record {
   machine = record { session = counted s; tasks = tasks };
   disk = (device 0 disk order bytes).disk;
-  answers = command_answers s n tag (device 0 disk order bytes).outcome (parts_given s.held (device 0 disk order bytes).outcome.bytes);
+  answers = command_answers s n tag (device 0 disk order bytes).outcome (data_in_parts s.held (device 0 disk order bytes).outcome.bytes);
   rule = None;
   accepted = [];
   executed = record { initiator_task_tag = tag; disk = disk; order = order; pieces = with_piece [] 0 bytes } ∷ [];
@@ -123,24 +123,24 @@ execute_same device s disk tag order ts us x y b e = record {
 abbrev asked_with : Session → Disk → Write → ℕ → List Task → List ℕ → Stepped
 asked_with s disk v n tasks bytes = record (unchanged (with_tasks s (Data (record v {
   pieces = with_piece [] 0 bytes;
-  due = Solicited v.asked 0 (length bytes + min (v.total - length bytes) (max_burst s.held));
-  asked = v.asked + 1;
+  due = Solicited v.r2t_count 0 (length bytes + min (v.total - length bytes) (max_burst s.held));
+  r2t_count = v.r2t_count + 1;
 }) ∷ tasks)) disk) {
   answers = message (ReadyToTransfer (record {
     lun = v.order.lun;
     initiator_task_tag = v.initiator_task_tag;
-    target_transfer_tag = v.asked;
+    target_transfer_tag = v.r2t_count;
     stat_sn = s.stat_sn;
     exp_cmd_sn = s.exp_cmd_sn;
     max_cmd_sn = max_cmd_sn_with s n;
-    r2t_sn = v.asked;
+    r2t_sn = v.r2t_count;
     buffer_offset = length bytes;
     desired_data_transfer_length = min (v.total - length bytes) (max_burst s.held);
   })) [] ∷ [];
 }
 
 asked_as : (s : Session) (disk : Disk) (v : Write) (ts : List Task) (x : Pieces)
-    → joined_stepped (ask (with_tasks s ts) disk (record v { pieces = x })) ≡ asked_with s disk v (waiting (Data (record v { pieces = x }) ∷ ts)) (ones ts) (data_of x)
+    → joined_stepped (send_r2t (with_tasks s ts) disk (record v { pieces = x })) ≡ asked_with s disk v (waiting (Data (record v { pieces = x }) ∷ ts)) (ones ts) (data_of x)
 asked_as s disk v ts x = refl
 
 led_waits : (v : Write) (ts us : List Task) (x y : Pieces) → waiting ts ≡ waiting us → waiting (Data (record v { pieces = x }) ∷ ts) ≡ waiting (Data (record v { pieces = y }) ∷ us)
@@ -148,9 +148,9 @@ led_waits v ts us x y e = waits_more (not v.immediate) (not v.immediate) (Data (
 
 proceed_by : (device : Device) (s : Session) (disk : Disk) (v : Write) (ts us : List Task) (x y : Pieces) (a b idle : Bool) → Beside ts us → data_of x ≡ data_of y → a ≡ b
     → Same (if a then execute device (with_tasks s ts) disk v.initiator_task_tag v.order x
-    else if idle then ask (with_tasks s ts) disk (record v { pieces = x }) else unchanged (led_by (record v { pieces = x }) (with_tasks s ts)) disk)
+    else if idle then send_r2t (with_tasks s ts) disk (record v { pieces = x }) else unchanged (led_by (record v { pieces = x }) (with_tasks s ts)) disk)
     (if b then execute device (with_tasks s us) disk v.initiator_task_tag v.order y
-    else if idle then ask (with_tasks s us) disk (record v { pieces = y }) else unchanged (led_by (record v { pieces = y }) (with_tasks s us)) disk)
+    else if idle then send_r2t (with_tasks s us) disk (record v { pieces = y }) else unchanged (led_by (record v { pieces = y }) (with_tasks s us)) disk)
 proceed_by device s disk v ts us x y true true idle c e t = execute_same device s disk v.initiator_task_tag v.order ts us x y c e
 proceed_by device s disk v ts us x y true false idle c e t = absurd cc
 proceed_by device s disk v ts us x y false true idle c e t = absurd cc

@@ -8,7 +8,7 @@ use Rattle.iscsi_text.specs.Reading.{text_in}
 use Rattle.iscsi_pdu.specs.declared.head.nop_out.NopOut.{NopOut as Ping}
 use Rattle.iscsi_pdu.specs.declared.head.text_request.TextRequest.{TextRequest as TextPdu}
 use Rattle.iscsi_pdu.specs.declared.head.logout_request.LogoutRequest.{LogoutRequest as Logout}
-use Rattle.iscsi_target_session.specs.Discovery.{text_request, text_reply_to, reply_pairs}
+use Rattle.iscsi_target_session.specs.TextRequests.{text_request, text_reply_to, reply_pairs}
 use Rattle.iscsi_target_session.specs.Requests.{nop_out, logout_request}
 use Rattle.iscsi_pdu.specs.declared.head.Head.{Head}
 use Rattle.iscsi_pdu.specs.declared.head.Head.TheVariants.{LoginRequest, NopOut, TaskRequest, TextRequest, LogoutRequest, ScsiCommand, DataOut}
@@ -143,7 +143,7 @@ begins_keep = record {
   refused_ = λ device s disk m h k broke. reply_keeps s disk _ (ends s.session);
   command_ = λ device s disk m h k none. record { is = record { settings = refl; stays = λ l. record { stage = refl; held = refl; later = λ l. l } } };
   write_ = λ device s disk task w is h. record { is = record { settings = refl; stays = λ l. record { stage = refl; held = refl; later = λ l. l } } };
-  ask_ = λ device s disk task w is h g. record { is = record { settings = refl; stays = λ l. record { stage = refl; held = refl; later = λ l. l } } };
+  send_r2t_ = λ device s disk task w is h g. record { is = record { settings = refl; stays = λ l. record { stage = refl; held = refl; later = λ l. l } } };
   wait_ = λ device s disk task w is h g. record { is = record { settings = refl; stays = λ l. record { stage = refl; held = refl; later = λ l. l } } };
 }
 

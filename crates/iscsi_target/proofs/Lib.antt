@@ -15,7 +15,7 @@ pub mod OpenWrites
 pub mod Joining
 pub mod Appending
 pub mod Replies
-pub mod Giving
+pub mod DataInSequences
 pub mod Serving
 pub mod Orders
 pub mod Commanding
@@ -27,7 +27,7 @@ pub mod Numbers
 pub mod Sound
 pub mod Reached
 pub mod Accepted
-pub mod Asked
+pub mod UnansweredR2ts
 pub mod Prefixes
 pub mod Feeding
 pub mod FeedLoop

@@ -12,7 +12,7 @@ use Rattle.iscsi_stream.specs.Pieces.{Pieces, data_of, TilesFrom}
 use Rattle.iscsi_pdu.specs.Fields.{reserved_tag}
 use Rattle.iscsi_target.specs.declared.due.Due.{Due}
 use Rattle.iscsi_target.specs.declared.due.Due.TheVariants.{Nothing, Unsolicited, Solicited}
-use Rattle.iscsi_target.specs.Transfer.{received, with_piece, with_data, taken, is_in_sequence, is_next, is_unsolicited_piece, is_solicited_piece, unsolicited_end, continued, desired, asking}
+use Rattle.iscsi_target.specs.Transfer.{received, with_piece, with_data, taken, is_in_sequence, is_next, is_unsolicited_piece, is_solicited_piece, unsolicited_end, continued, desired, with_r2t}
 use Rattle.iscsi_target.specs.Tiles.{Tiles, IsModest}
 use Rattle.iscsi_target_session.proofs.Cases.{and_left, and_right}
 
@@ -113,8 +113,8 @@ taken_open count first w more h bytes o e =
 pub asking_modest : (count : ℕ) (held : Held) (w : Write) → IsOpen count w → IsModest held w.total (received w, desired held w)
 asking_modest count held w o = record { burst = omega arith; inside = omega (arith, o.fits) }
 
-pub asking_open : (count : ℕ) (held : Held) (w : Write) → IsOpen count w → IsOpen count (asking held w)
-asking_open count held w o = record { plan = o.plan; tiles = o.tiles; fits = o.fits; due = (asking_modest count held w o).inside }
+pub with_r2t_open : (count : ℕ) (held : Held) (w : Write) → IsOpen count w → IsOpen count (with_r2t held w)
+with_r2t_open count held w o = record { plan = o.plan; tiles = o.tiles; fits = o.fits; due = (asking_modest count held w o).inside }
 
 -- ---- the pieces joined
 

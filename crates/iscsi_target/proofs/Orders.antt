@@ -10,7 +10,7 @@ use Rattle.scsi_disk.specs.Plan.{plan_of, plan_by, first_refusal, is_write, is_u
 use Rattle.scsi_disk.specs.declared.order.Order.{Order}
 use Rattle.scsi_disk.specs.declared.order.Outcome.{Outcome}
 use Rattle.iscsi_target.specs.declared.due.Due.{Due}
-use Rattle.iscsi_target.specs.Staged.{IsStaged, IsAsked}
+use Rattle.iscsi_target.specs.Staged.{IsStaged, CountsR2ts}
 use Rattle.scsi_disk.specs.declared.order.Plan.{Plan}
 use Rattle.scsi_disk.specs.declared.order.Plan.TheVariants.{Refuse, Take, Give}
 
@@ -87,6 +87,6 @@ takes_is None order n count e = takes_by (is_write order.cdb) order n count refl
     takes_by true order n count is e = (is, cc)
     takes_by false order n count is e = absurd cc
 
-pub staged_at : (order known : Order) (total : ℕ) (bytes : List ℕ) (due : Due) → order ≡ known → is_write known.cdb ≡ true → total ≡ 512 * (transfer known.cdb).count → length bytes ≤ total → IsAsked total (length bytes) 0 due
+pub staged_at : (order known : Order) (total : ℕ) (bytes : List ℕ) (due : Due) → order ≡ known → is_write known.cdb ≡ true → total ≡ 512 * (transfer known.cdb).count → length bytes ≤ total → CountsR2ts total (length bytes) 0 due
     → IsStaged order total bytes due 0
-staged_at order known total bytes due e w t fits asked = subst (λ (o : Order). IsStaged o total bytes due 0) (sym e) (record { is_write = w; total_is = t; fits = fits; asked_for = asked })
+staged_at order known total bytes due e w t fits asked = subst (λ (o : Order). IsStaged o total bytes due 0) (sym e) (record { is_write = w; total_is = t; fits = fits; counted_r2ts = asked })

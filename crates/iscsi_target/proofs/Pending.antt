@@ -1,4 +1,5 @@
--- Between two PDUs the first task is a write that waits for data, and no R2T went out for one behind it.
+-- Between two PDUs the first task is a write that waits for data, and no R2T was sent for one
+-- behind it.
 use Rattle.std.proofs.Common.{◌≡◌, ◌⊎◌, inl, inr, ℕ, List, [], ◌∷◌, ◌++◌, length, Bool, true, false, Some, None, refl, sym, ap, ◌∙◌, subst, ◌+◌, arith}
 use Rattle.std.specs.Prelude.{◌==◌, nat_lt, if◌then◌else◌}
 use Rattle.std.proofs.lemmas.Bool.{ltb-true}
@@ -27,9 +28,9 @@ use Rattle.iscsi_target_session.specs.Rejecting.{reject, breach}
 use Rattle.iscsi_target_session.specs.Login.{login_step}
 use Rattle.iscsi_target.specs.declared.due.Due.{Due}
 use Rattle.iscsi_target.specs.declared.due.Due.TheVariants.{Nothing, Unsolicited, Solicited}
-use Rattle.iscsi_target.specs.Transfer.{is_whole, is_idle, asking, taken, with_data, is_in_sequence, received, continued}
+use Rattle.iscsi_target.specs.Transfer.{is_whole, is_idle, with_r2t, taken, with_data, is_in_sequence, received, continued}
 use Rattle.iscsi_target.specs.Execution.{Device, execute}
-use Rattle.iscsi_target.specs.Command.{order_of, led_by, ask, task_of, task_by, task_planned}
+use Rattle.iscsi_target.specs.Command.{order_of, led_by, send_r2t, task_of, task_by, task_planned}
 use Rattle.iscsi_target.specs.Machine.{begun, stays, is_closed, done_in_turn, write_of, with_write, step_on}
 use Rattle.iscsi_target.specs.Inside.{is_unasked, IsUnasked, behind, AreKept}
 use Rattle.iscsi_target_session.proofs.Cases.{by_cases}
@@ -94,7 +95,7 @@ begins_leave = record {
   refused_ = λ device s disk m h k broke live u. reply_leaves s disk _;
   command_ = λ device s disk m h k none live u. execute_leaves device s disk h.initiator_task_tag (order_of h) [] live;
   write_ = λ device s disk task w is whole live u. execute_leaves device s disk w.initiator_task_tag w.order w.pieces live;
-  ask_ = λ device s disk task w is whole idle live u. waiting_leaves s (asking s.session.held w) (ask s disk w) refl live whole refl u;
+  send_r2t_ = λ device s disk task w is whole idle live u. waiting_leaves s (with_r2t s.session.held w) (send_r2t s disk w) refl live whole refl u;
   wait_ = λ device s disk task w is whole idle live u. waiting_leaves s w (unchanged (led_by w s) disk) refl live whole idle u;
 }
 

@@ -29,7 +29,7 @@ use Rattle.iscsi_pdu.specs.Rules.{kind_not_due}
 use Rattle.iscsi_target_session.specs.declared.status.Status.{Status}
 use Rattle.iscsi_target_session.specs.LoginText.{text_refusals, declared_length, is_operational, is_bad_length, value_for, session_for}
 use Rattle.iscsi_target_session.specs.Login.{login_step, login_in, login_request, refuse_or, refuse, numbered, entered, segment_taken, whole_text, text_answered, text_ending, request_refusals, gather}
-use Rattle.iscsi_target_session.specs.Discovery.{text_request, text_reply_to, reply_pairs}
+use Rattle.iscsi_target_session.specs.TextRequests.{text_request, text_reply_to, reply_pairs}
 use Rattle.iscsi_target_session.specs.Requests.{nop_out, task_request, logout_request}
 use Rattle.iscsi_login.specs.Stage.{is_closed_phase}
 use Rattle.scsi_disk.specs.Disk.{Disk}

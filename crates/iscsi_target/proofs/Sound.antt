@@ -26,8 +26,8 @@ use Rattle.iscsi_target.specs.State.{breaks}
 use Rattle.iscsi_stream.specs.Pieces.{Pieces, data_of}
 use Rattle.iscsi_target_session.specs.Login.{login_step}
 use Rattle.iscsi_target.specs.declared.due.Due.TheVariants.{Nothing, Unsolicited}
-use Rattle.iscsi_target.specs.Transfer.{is_whole, received, with_piece, asking}
-use Rattle.iscsi_target.specs.Execution.{Device, device_after, execute, parts_given, data_ins, response_head, sense_segment, reliable}
+use Rattle.iscsi_target.specs.Transfer.{is_whole, received, with_piece, with_r2t}
+use Rattle.iscsi_target.specs.Execution.{Device, device_after, execute, data_in_parts, data_ins, response_head, sense_segment, reliable}
 use Rattle.iscsi_target.specs.Command.{order_of, opened, breaks_burst_rules, is_bad_segment, is_bad_announcement, breaks_rules, task_of, task_by, task_planned}
 use Rattle.iscsi_target.specs.Machine.{step, answers, begun, stays, done_in_turn, having_accepted, write_of, with_write}
 use Rattle.iscsi_target.specs.Tiles.{r2t_range, r2t_ranges, IsModest, total_of, Tiles, TilesPlan, IsTiled}
@@ -39,11 +39,11 @@ use Rattle.iscsi_target_session.proofs.Cases.{by_cases}
 use Rattle.iscsi_target.proofs.Turns.{Writes, Waits, Opens, Begins, begins, Turns, turns, with_tasks, stays_on}
 use Rattle.iscsi_target.proofs.StepParts.{Accepts, Immediately, InTurn, Parts, step_parts}
 use Rattle.iscsi_target.proofs.Replies.{IsOver, on_ends, login_logs, request_answered_reply}
-use Rattle.iscsi_target.proofs.OpenWrites.{DueFits, IsOpen, size_with, tiles_with, taken_open, asking_modest, asking_open}
+use Rattle.iscsi_target.proofs.OpenWrites.{DueFits, IsOpen, size_with, tiles_with, taken_open, asking_modest, with_r2t_open}
 use Rattle.iscsi_target.proofs.DiskFold.{step_folds}
 use Rattle.scsi_disk.proofs.Planned.{all_false}
 
--- This holds of the write of a task (own rule).
+-- This holds of the write of a task.
 abbrev pub OnTask : (Write → Type 0) → Task → Type 0
 OnTask P (Request m) = Unit {0}
 OnTask P (Data w) = P w
@@ -80,7 +80,7 @@ ins_ranges s waits tag data_sn at (part ∷ given) more = ins_ranges s waits tag
 pub execute_ranges : (device : Device) (s : Machine) (disk : Disk) (tag : ℕ) (order : Order) (pieces : Pieces) → r2t_ranges (execute device s disk tag order pieces).answers ≡ []
 execute_ranges device s disk tag order pieces =
     let e : Effect = device 0 disk order (data_of pieces) in
-    let given : List (List ℕ × Bool) = parts_given s.session.held e.outcome.bytes in
+    let given : List (List ℕ × Bool) = data_in_parts s.session.held e.outcome.bytes in
     ins_ranges s.session (waiting s.tasks) tag 0 0 given (message (response_head s.session (waiting s.tasks) tag e.outcome (length given)) (sense_segment e.outcome.sense) ∷ [])
 
 whole_tiles : (count : ℕ) (w : Write) → IsOpen count w → is_whole w ≡ true → TilesPlan (plan_of w.order count) w.pieces
@@ -197,12 +197,12 @@ begins_go = record {
   command_ = λ device s disk m h k none e open_ o. execute_goes device s disk h.initiator_task_tag (order_of h) [] e (no_plan_tiles (plan_of (order_of h) disk.count) none) o;
   write_ = λ device s disk task w is whole e open_ o.
       execute_goes device s disk w.initiator_task_tag w.order w.pieces e (whole_tiles disk.count w (writes_open s disk task w is open_) whole) o;
-  ask_ = λ device s disk task w is whole idle e open_ o.
+  send_r2t_ = λ device s disk task w is whole idle e open_ o.
       (let held = writes_open s disk task w is open_ in
       record {
-        keeps = record { sound = (asking_open disk.count s.session.held w held, o); tiled = tt; modest = (asking_modest disk.count s.session.held w held, tt) };
+        keeps = record { sound = (with_r2t_open disk.count s.session.held w held, o); tiled = tt; modest = (asking_modest disk.count s.session.held w held, tt) };
         count = refl;
-        silent = λ stay. stays_on (Data (asking s.session.held w)) s.tasks stay;
+        silent = λ stay. stays_on (Data (with_r2t s.session.held w)) s.tasks stay;
       });
   wait_ = λ device s disk task w is whole idle e open_ o. record {
     keeps = record { sound = (writes_open s disk task w is open_, o); tiled = tt; modest = tt };

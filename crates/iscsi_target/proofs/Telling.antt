@@ -25,7 +25,7 @@ use Rattle.iscsi_pdu.specs.Serial.{next_sn}
 use Rattle.iscsi_pdu.specs.Rules.{data_out_of_order}
 use Rattle.iscsi_target.specs.State.{breaks}
 use Rattle.iscsi_target_session.specs.Login.{login_step}
-use Rattle.iscsi_target.specs.Execution.{Device, device_next, device_after, execute, parts_given, data_ins, response_head, sense_segment}
+use Rattle.iscsi_target.specs.Execution.{Device, device_next, device_after, execute, data_in_parts, data_ins, response_head, sense_segment}
 use Rattle.iscsi_target.specs.Command.{order_of}
 use Rattle.iscsi_target.specs.Machine.{step_on, begun, done_in_turn, having_accepted, then_stepped}
 use Rattle.iscsi_target.specs.Tiles.{TileBytes, GivesTiles, data_in_tag, data_in_tags}
@@ -172,7 +172,7 @@ ins_own_tags s waits tag data_sn at (part ∷ given) more a = (refl, ins_own_tag
 execute_tells : (device : Device) (s : Machine) (disk : Disk) (tag : ℕ) (order : Order) (pieces : Pieces) → Tells device s.session (execute device s disk tag order pieces)
 execute_tells device s disk tag order pieces =
     let e : Effect = device 0 disk order (data_of pieces) in
-    let given : List (List ℕ × Bool) = parts_given s.session.held e.outcome.bytes in
+    let given : List (List ℕ × Bool) = data_in_parts s.session.held e.outcome.bytes in
     let last : Message = message (response_head s.session (waiting s.tasks) tag e.outcome (length given)) (sense_segment e.outcome.sense) in
     let all : List Message = (execute device s disk tag order pieces).answers in
     record {
@@ -194,7 +194,7 @@ begins_tell = record {
   refused_ = λ device s disk m h k broke. of_reply device s.session s.tasks disk _ (breach_reply s.session (waiting s.tasks) data_out_of_order m);
   command_ = λ device s disk m h k none. execute_tells device s disk h.initiator_task_tag (order_of h) [];
   write_ = λ device s disk task w is h. execute_tells device s disk w.initiator_task_tag w.order w.pieces;
-  ask_ = λ device s disk task w is h g. record { stat_sn = refl; tags = refl; gives = λ p h. refl; settings = refl; exp_cmd_sn = refl; begun = refl; held = λ p h. h; limit = λ l. l };
+  send_r2t_ = λ device s disk task w is h g. record { stat_sn = refl; tags = refl; gives = λ p h. refl; settings = refl; exp_cmd_sn = refl; begun = refl; held = λ p h. h; limit = λ l. l };
   wait_ = λ device s disk task w is h g. record { stat_sn = refl; tags = refl; gives = λ p h. refl; settings = refl; exp_cmd_sn = refl; begun = refl; held = λ p h. h; limit = λ l. l };
 }
 

@@ -20,7 +20,7 @@ use Rattle.iscsi_target.specs.State.{Machine, Execution, Stepped, on, unchanged,
 use Rattle.iscsi_target.specs.State.{breaks}
 use Rattle.iscsi_target.specs.Transfer.{is_whole, is_idle}
 use Rattle.iscsi_target.specs.Execution.{Device, device_next, device_after, execute}
-use Rattle.iscsi_target.specs.Command.{order_of, breaks_burst_rules, led_by, ask, proceed, opened, planned, scsi_command}
+use Rattle.iscsi_target.specs.Command.{order_of, breaks_burst_rules, led_by, send_r2t, proceed, opened, planned, scsi_command}
 use Rattle.iscsi_target_session.specs.Requests.{request_answered}
 use Rattle.iscsi_target.specs.Machine.{handled, begun, stays, is_busy, is_closed, then_stepped, done_in_turn, RunsIn}
 use Rattle.iscsi_target.specs.Laws.{task_in}
@@ -42,14 +42,14 @@ pub record Begins (B : Device → Machine → Disk → Task → Stepped → Type
       → B device s disk (Request m) (execute device s disk h.initiator_task_tag (order_of h) [])
   pub write_ : (device : Device) (s : Machine) (disk : Disk) (task : Task) (w : Write) → Writes s disk task w → is_whole w ≡ true
       → B device s disk task (execute device s disk w.initiator_task_tag w.order w.pieces)
-  pub ask_ : (device : Device) (s : Machine) (disk : Disk) (task : Task) (w : Write) → Writes s disk task w → is_whole w ≡ false → is_idle w.due ≡ true → B device s disk task (ask s disk w)
+  pub send_r2t_ : (device : Device) (s : Machine) (disk : Disk) (task : Task) (w : Write) → Writes s disk task w → is_whole w ≡ false → is_idle w.due ≡ true → B device s disk task (send_r2t s disk w)
   pub wait_ : (device : Device) (s : Machine) (disk : Disk) (task : Task) (w : Write) → Writes s disk task w → is_whole w ≡ false → is_idle w.due ≡ false
       → B device s disk task (unchanged (led_by w s) disk)
 
 proceed_begins : (B : Device → Machine → Disk → Task → Stepped → Type 0) → Begins B → (device : Device) (s : Machine) (disk : Disk) (task : Task) (w : Write) → Writes s disk task w → B device s disk task (proceed device s disk w)
 proceed_begins B b device s disk task w is =
     by_cases (is_whole w) (λ h. rw h (b.write_ device s disk task w is h))
-    (λ h. by_cases (is_idle w.due) (λ g. rw (h, g) (b.ask_ device s disk task w is h g)) (λ g. rw (h, g) (b.wait_ device s disk task w is h g)))
+    (λ h. by_cases (is_idle w.due) (λ g. rw (h, g) (b.send_r2t_ device s disk task w is h g)) (λ g. rw (h, g) (b.wait_ device s disk task w is h g)))
 
 planned_begins : (B : Device → Machine → Disk → Task → Stepped → Type 0) → Begins B → (device : Device) (s : Machine) (disk : Disk) (m : Message) (h : Command) (plan : Plan) → m.head ≡ ScsiCommand h
     → breaks_burst_rules s.session.held h (length (segment_bytes m.segment)) ≡ false → plan_of (order_of h) disk.count ≡ plan

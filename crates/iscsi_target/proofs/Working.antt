@@ -109,7 +109,7 @@ begins_look = record {
   refused_ = λ device s disk m h k broke. record { few = inl refl; pure = λ e d. refused_is d s disk m h k broke; rule = λ live. absurd cc };
   command_ = λ device s disk m h k none. record { few = inr (_, refl); pure = λ e d. absurd cc; rule = λ live. refl };
   write_ = λ device s disk task w is whole. record { few = inr (_, refl); pure = λ e d. absurd cc; rule = λ live. refl };
-  ask_ = λ device s disk task w is whole idle. record { few = inl refl; pure = λ e d. writes_begun d s disk task w is ∙ proceeds_asking d s disk w whole idle; rule = λ live. refl };
+  send_r2t_ = λ device s disk task w is whole idle. record { few = inl refl; pure = λ e d. writes_begun d s disk task w is ∙ proceeds_asking d s disk w whole idle; rule = λ live. refl };
   wait_ = λ device s disk task w is whole idle. record { few = inl refl; pure = λ e d. writes_begun d s disk task w is ∙ proceeds_waiting d s disk w whole idle; rule = λ live. refl };
 }
 

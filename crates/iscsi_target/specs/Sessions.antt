@@ -91,7 +91,7 @@ read_of_one = cdbs.Read10 (record {
   control = 0;
 })
 
--- A read waits for a write before it, and gives what that wrote (section 4.2.2.1).
+-- A read waits for a write before it, and returns what that wrote (section 4.2.2.1).
 abbrev pub ReadWaits : Type 0
 ReadWaits = Row logged_in
     (orders (command true false true 4096 write_of_eight) (fill 1)

@@ -8,7 +8,7 @@ use Rattle.iscsi_pdu.specs.declared.head.text_request.TextRequest.{TextRequest a
 use Rattle.iscsi_stream.specs.Segment.{segment_of, segment_bytes, is_last}
 use Rattle.iscsi_stream.specs.Stream.{Message, message}
 use Rattle.iscsi_target_session.specs.Session.{Session, Reply}
-use Rattle.iscsi_target_session.specs.Discovery.{text_request}
+use Rattle.iscsi_target_session.specs.TextRequests.{text_request}
 use Rattle.iscsi_target_session.specs.Requests.{nop_out, request_answered}
 use Rattle.iscsi_target_session.specs.Replies.{Does}
 

@@ -4,6 +4,6 @@ pub mod LoginTexts
 pub mod TextReading
 pub mod Lengths
 pub mod Logins
-pub mod Discovering
-pub mod DiscoveringLoop
+pub mod TextReplies
+pub mod TextRepliesLoop
 pub mod ByKind

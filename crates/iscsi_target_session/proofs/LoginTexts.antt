@@ -7,7 +7,7 @@ use Rattle.std.specs.Str.{bytes_eq}
 use Rattle.iscsi_text.specs.Value.{Typed}
 use Rattle.iscsi_text.specs.Text.{Pairs}
 use Rattle.iscsi_text.specs.Reading.{has_key}
-use Rattle.iscsi_target_session.specs.LoginText.{first_value, value_for, known_keys, gives_again, given_with}
+use Rattle.iscsi_target_session.specs.LoginText.{first_value, value_for, known_keys, repeats_key, seen_with}
 
 pub first_is : (vs : List Typed) → slice_get vs 0 ≡ first_value vs
 first_is [] = refl
@@ -24,34 +24,34 @@ has_key_is key (p ∷ ps) = has_key_by key p ps (bytes_eq p.0 key) refl (has_key
 abbrev pub repeated : Bool → List ℕ → Pairs → Bool
 repeated was key ps = was && (not (bytes_eq key target_address) && has_key key ps)
 
-again_by : (keys : List (List ℕ)) (given : List Bool) (n : ℕ) (ps : Pairs) → n < length keys → n < length given
-    → gives_again (drop n keys) (drop n given) ps ≡ repeated (get_or given n false) (get_or keys n []) ps || gives_again (drop (n + 1) keys) (drop (n + 1) given) ps
-again_by keys given n ps lt lt' = λ i. gives_again (drop_more keys n [] lt i) (drop_more given n false lt' i) ps
+again_by : (keys : List (List ℕ)) (seen : List Bool) (n : ℕ) (ps : Pairs) → n < length keys → n < length seen
+    → repeats_key (drop n keys) (drop n seen) ps ≡ repeated (get_or seen n false) (get_or keys n []) ps || repeats_key (drop (n + 1) keys) (drop (n + 1) seen) ps
+again_by keys seen n ps lt lt' = λ i. repeats_key (drop_more keys n [] lt i) (drop_more seen n false lt' i) ps
 
-pub again_found : (given : List Bool) (n : ℕ) (ps : Pairs) → n < 27 → length given ≡ 27 → repeated (get_or given n false) (get_or known_keys n []) ps ≡ true
-    → gives_again (drop n known_keys) (drop n given) ps ≡ true
-again_found given n ps lt size found = again_by known_keys given n ps lt (omega (arith, lt, size)) ∙ ap (λ (b : Bool). b || gives_again (drop (n + 1) known_keys) (drop (n + 1) given) ps) found
+pub again_found : (seen : List Bool) (n : ℕ) (ps : Pairs) → n < 27 → length seen ≡ 27 → repeated (get_or seen n false) (get_or known_keys n []) ps ≡ true
+    → repeats_key (drop n known_keys) (drop n seen) ps ≡ true
+again_found seen n ps lt size found = again_by known_keys seen n ps lt (omega (arith, lt, size)) ∙ ap (λ (b : Bool). b || repeats_key (drop (n + 1) known_keys) (drop (n + 1) seen) ps) found
 
-pub again_more : (given : List Bool) (n : ℕ) (ps : Pairs) → n < 27 → length given ≡ 27 → repeated (get_or given n false) (get_or known_keys n []) ps ≡ false
-    → gives_again (drop (n + 1) known_keys) (drop (n + 1) given) ps ≡ gives_again (drop n known_keys) (drop n given) ps
-again_more given n ps lt size not_found = sym (again_by known_keys given n ps lt (omega (arith, lt, size)) ∙ ap (λ (b : Bool). b || gives_again (drop (n + 1) known_keys) (drop (n + 1) given) ps) not_found)
+pub again_more : (seen : List Bool) (n : ℕ) (ps : Pairs) → n < 27 → length seen ≡ 27 → repeated (get_or seen n false) (get_or known_keys n []) ps ≡ false
+    → repeats_key (drop (n + 1) known_keys) (drop (n + 1) seen) ps ≡ repeats_key (drop n known_keys) (drop n seen) ps
+again_more seen n ps lt size not_found = sym (again_by known_keys seen n ps lt (omega (arith, lt, size)) ∙ ap (λ (b : Bool). b || repeats_key (drop (n + 1) known_keys) (drop (n + 1) seen) ps) not_found)
 
-given_by : (keys : List (List ℕ)) (given : List Bool) (n : ℕ) (ps : Pairs) → n < length keys → n < length given
-    → given_with (drop n keys) (drop n given) ps ≡ (get_or given n false || has_key (get_or keys n []) ps) ∷ given_with (drop (n + 1) keys) (drop (n + 1) given) ps
-given_by keys given n ps lt lt' = λ i. given_with (drop_more keys n [] lt i) (drop_more given n false lt' i) ps
+seen_by : (keys : List (List ℕ)) (seen : List Bool) (n : ℕ) (ps : Pairs) → n < length keys → n < length seen
+    → seen_with (drop n keys) (drop n seen) ps ≡ (get_or seen n false || has_key (get_or keys n []) ps) ∷ seen_with (drop (n + 1) keys) (drop (n + 1) seen) ps
+seen_by keys seen n ps lt lt' = λ i. seen_with (drop_more keys n [] lt i) (drop_more seen n false lt' i) ps
 
-pub given_more : (given now next : List Bool) (n : ℕ) (ps : Pairs) (b : Bool) → n < 27 → length given ≡ 27 → length now ≡ 27 → b ≡ (get_or given n false || has_key (get_or known_keys n []) ps)
-    → take n now ++ given_with (drop n known_keys) (drop n given) ps ≡ given_with known_keys given ps
-    → take (n + 1) (slice_set now n b) ++ given_with (drop (n + 1) known_keys) (drop (n + 1) given) ps ≡ given_with known_keys given ps
-given_more given now next n ps b lt size size' is before =
-    ap (λ (x : List Bool). x ++ given_with (drop (n + 1) known_keys) (drop (n + 1) given) ps) (take_more_set now n b (omega (arith, lt, size')))
-    ∙ append_assoc (take n now) (b ∷ []) (given_with (drop (n + 1) known_keys) (drop (n + 1) given) ps)
-    ∙ ap (λ (x : Bool). take n now ++ x ∷ given_with (drop (n + 1) known_keys) (drop (n + 1) given) ps) is
-    ∙ ap (λ (x : List Bool). take n now ++ x) (sym (given_by known_keys given n ps lt (omega (arith, lt, size)))) ∙ before
+pub seen_more : (seen now next : List Bool) (n : ℕ) (ps : Pairs) (b : Bool) → n < 27 → length seen ≡ 27 → length now ≡ 27 → b ≡ (get_or seen n false || has_key (get_or known_keys n []) ps)
+    → take n now ++ seen_with (drop n known_keys) (drop n seen) ps ≡ seen_with known_keys seen ps
+    → take (n + 1) (slice_set now n b) ++ seen_with (drop (n + 1) known_keys) (drop (n + 1) seen) ps ≡ seen_with known_keys seen ps
+seen_more seen now next n ps b lt size size' is before =
+    ap (λ (x : List Bool). x ++ seen_with (drop (n + 1) known_keys) (drop (n + 1) seen) ps) (take_more_set now n b (omega (arith, lt, size')))
+    ∙ append_assoc (take n now) (b ∷ []) (seen_with (drop (n + 1) known_keys) (drop (n + 1) seen) ps)
+    ∙ ap (λ (x : Bool). take n now ++ x ∷ seen_with (drop (n + 1) known_keys) (drop (n + 1) seen) ps) is
+    ∙ ap (λ (x : List Bool). take n now ++ x) (sym (seen_by known_keys seen n ps lt (omega (arith, lt, size)))) ∙ before
 
-pub given_all : (given now : List Bool) (n : ℕ) (ps : Pairs) → 27 ≤ n → length now ≡ 27 → take n now ++ given_with (drop n known_keys) (drop n given) ps ≡ given_with known_keys given ps → now ≡ given_with known_keys given ps
-given_all given now n ps le size h =
-    sym (append-nil now) ∙ ap (λ (x : List Bool). x ++ []) (sym (take_all n now (omega (arith, le, size)))) ∙ ap (λ (keys : List (List ℕ)). take n now ++ given_with keys (drop n given) ps) (sym (drop_all n known_keys le)) ∙ h
+pub seen_all : (seen now : List Bool) (n : ℕ) (ps : Pairs) → 27 ≤ n → length now ≡ 27 → take n now ++ seen_with (drop n known_keys) (drop n seen) ps ≡ seen_with known_keys seen ps → now ≡ seen_with known_keys seen ps
+seen_all seen now n ps le size h =
+    sym (append-nil now) ∙ ap (λ (x : List Bool). x ++ []) (sym (take_all n now (omega (arith, le, size)))) ∙ ap (λ (keys : List (List ℕ)). take n now ++ seen_with keys (drop n seen) ps) (sym (drop_all n known_keys le)) ∙ h
 
 pub past_end : (keys : List (List ℕ)) (n : ℕ) → length keys ≤ n → get_or keys n [] ≡ []
 past_end [] n le = refl

@@ -13,7 +13,7 @@ use Rattle.iscsi_pdu.specs.declared.head.login_request.LoginRequest.{LoginReques
 use Rattle.iscsi_pdu.specs.declared.head.login_response.LoginResponse.{LoginResponse as Response}
 use Rattle.iscsi_stream.specs.Segment.{Segment, Bytes, Text, segment_bytes}
 use Rattle.iscsi_stream.specs.Canonical.{canon}
-use Rattle.iscsi_target_session.specs.Session.{Session, Reply, say, ended, message}
+use Rattle.iscsi_target_session.specs.Session.{Session, Reply, send_response, ended, message}
 use Rattle.iscsi_target_session.specs.Login.{login_message, refuse, response, segment_taken, whole_text, text_ending, gather}
 use Rattle.iscsi_target_session.specs.LoginText.{out_of_resources}
 use Rattle.iscsi_target_session.specs.declared.status.Status.{Status}
@@ -31,7 +31,7 @@ unfolding segment_bytes
 one_said head bytes = append-nil (whole head bytes)
 
 said_text : (s : Session) (h : Response) (text : List ℕ) (broken : Option ℕ) (new : Session) (before after : List ℕ)
-    → Replied (say s (LoginResponse (record h { stat_sn = Some s.stat_sn })) text) broken new before after → (pairs : Pairs) → text ≡ canonical_text pairs → Replied (login_answer s h pairs) broken new before after
+    → Replied (send_response s (LoginResponse (record h { stat_sn = Some s.stat_sn })) text) broken new before after → (pairs : Pairs) → text ≡ canonical_text pairs → Replied (login_answer s h pairs) broken new before after
 said_text s h text broken new before after r pairs e = record {
   session = r.session;
   output = r.output ∙ ap (λ (x : List ℕ). before ++ x) (one_said (LoginResponse (record h { stat_sn = Some s.stat_sn })) text
@@ -40,10 +40,10 @@ said_text s h text broken new before after r pairs e = record {
 }
 
 pub answers_text : {E : Type 0} (s : Session) (h : Response) (text : List ℕ) (result : Result (Option ℕ) E) (new : Session) (before after : List ℕ)
-    → IfOk result (λ b. Replied (say s (LoginResponse (record h { stat_sn = Some s.stat_sn })) text) b new before after)
+    → IfOk result (λ b. Replied (send_response s (LoginResponse (record h { stat_sn = Some s.stat_sn })) text) b new before after)
     → IfOk result (λ b. (pairs : Pairs) → text ≡ canonical_text pairs → Replied (login_answer s h pairs) b new before after)
 answers_text s h text result new before after r =
-    by_ok (λ b. Replied (say s (LoginResponse (record h { stat_sn = Some s.stat_sn })) text) b new before after)
+    by_ok (λ b. Replied (send_response s (LoginResponse (record h { stat_sn = Some s.stat_sn })) text) b new before after)
     (λ b. (pairs : Pairs) → text ≡ canonical_text pairs → Replied (login_answer s h pairs) b new before after) result (λ b. said_text s h text b new before after) r
 
 pub refused : (s : Session) (r : Request) (why : Status) (h : Response) (new : Session) (before after : List ℕ)

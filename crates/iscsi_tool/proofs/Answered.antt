@@ -41,7 +41,7 @@ unfolding answers ReadsAs
 none_answered blocks = (
   zeros blocks,
   record {
-    hears = record { messages = []; given = []; rest = []; whole = refl; reads = refl };
+    receives = record { messages = []; given = []; rest = []; whole = refl; reads = refl };
     front = unchanged (opening target_settings 1) (zeros blocks);
     stops = inl refl;
     disk_is = refl;

@@ -31,8 +31,8 @@ use Rattle.iscsi_pair.specs.World.{
   ToInitiator,
   Submits,
   Takes,
-  TargetHears,
-  InitiatorHears,
+  TargetReceives,
+  InitiatorReceives,
   InitiatorIsAsked,
   MovesToTarget,
   MovesToInitiator,
@@ -57,7 +57,7 @@ same_worlds old same new now l e f = subst (λ (w : World). LooksAlike w now) (s
 
 -- ---- the target hears
 
--- messages that an open target has heard
+-- messages that an open target has received
 record TargetTook (stream : List ℕ) (t : target.Connection) : Type 0 where
   messages : List Message
   taken : target_machine.is_closed t.machine ≡ false → HasTaken stream messages t.framing
@@ -71,7 +71,7 @@ target_memory : (result : Result Phase TargetFault) → target_ran_out (result_e
 target_memory result calm e = (let bad : true ≡ false = ap (λ (r : Result Phase TargetFault). target_ran_out (result_err r)) (sym e) ∙ calm in absurd cc)
 
 target_hears : (c : Opening) (t : Traffic) (old same new now : World) (moved : List ℕ) → Sides c t old → LooksAlike old same → old.target_fault ≡ None
-    → TargetHears moved old new → TargetHears moved same now
+    → TargetReceives moved old new → TargetReceives moved same now
     → target_ran_out new.target_fault ≡ false → target_ran_out now.target_fault ≡ false → LooksAlike new now
 target_hears c t old same new now moved s l none a b calm calm' =
     let took : TargetTook t.moved_to_target old.target = target_took (target_machine.is_closed old.target.machine) c t old s refl none in
@@ -133,7 +133,7 @@ feed_memory result calm e = (let bad : true ≡ false = ap (λ (r : Result Phase
     absurd cc)
 
 initiator_hears : (c : Opening) (t : Traffic) (old same new now : World) (moved : List ℕ) → Sides c t old → LooksAlike old same → old.initiator_fault ≡ None
-    → InitiatorHears moved old new → InitiatorHears moved same now
+    → InitiatorReceives moved old new → InitiatorReceives moved same now
     → initiator_ran_out new.initiator_fault ≡ false → initiator_ran_out now.initiator_fault ≡ false → LooksAlike new now
 initiator_hears c t old same new now moved s l none a b calm calm' =
     let took : InitiatorTook t.moved_to_initiator old.initiator = initiator_took (is_closed old.initiator.machine) c t old s refl none in

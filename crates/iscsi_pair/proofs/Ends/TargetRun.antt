@@ -1,4 +1,4 @@
--- The target's end of a pair: what it has heard and said, whatever came of it.
+-- The target's end of a pair: what it has received and said, whatever came of it.
 use Rattle.std.proofs.Common.{
   ◌≡◌,
   ◌≢◌,
@@ -505,7 +505,7 @@ fed_if false c moved prior before bytes old blocks result new after written is s
     feeds_side c moved (prior ++ before) bytes old blocks result new after (prior ++ written) (s.lives refl is)
     (feeds_behind prior old (store_of blocks) before bytes result new (store_of after) written f)
 
--- the target heard these bytes
+-- the target received these bytes
 pub target_heard : (c : Opening) (moved prior before bytes : List ℕ) (old : Connection) (blocks : List ℕ) (result : Result Phase TargetFault) (new : Connection)
     (after written : List ℕ)
     → TargetSide c moved (prior ++ before) old blocks None → Fed old (store_of blocks) before bytes result new (store_of after) written

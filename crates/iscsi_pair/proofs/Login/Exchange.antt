@@ -129,7 +129,7 @@ pub record Way : Type 0 where
 
 -- The initiator waits for the answer to a request. The target reads this and what the initiator sends then, and the
 -- initiator what the target answers.
-pub record Exchange (w : Way) (inputs : List Input) (i : initiator.Machine) (t : target.Machine) (disk : Disk) (ms : List Message) : Type 0 where
+pub record LoginExchange (w : Way) (inputs : List Input) (i : initiator.Machine) (t : target.Machine) (disk : Disk) (ms : List Message) : Type 0 where
   pub there : Logins
   pub here : Logins
   pub request : Message
@@ -157,17 +157,17 @@ Turns c MayClose P = (i : initiator.Machine) (t : target.Machine) (there : Login
     ⊎ (Asks_on c (step i turn.answer) (target_machine.step t disk r).machine (logins_after there r.head)
     × P (step i turn.answer).machine (target_machine.step t disk r).machine))
 
--- How it ends: the initiator hears no more, an answer has closed its session in the login, or both have completed it.
+-- How it ends: the initiator receives no more, an answer has closed its session in the login, or both have completed it.
 pub data Ended (w : Way) (MayClose : Type 0) (P : Kept) (r : target.Machine) (m : initiator.Machine) : Type 0 where
-  Waiting : (t : target.Machine) (disk : Disk) (ms : List Message) → P m t → Exchange w [] m t disk ms → r ≡ (answers t disk ms).machine
+  Waiting : (t : target.Machine) (disk : Disk) (ms : List Message) → P m t → LoginExchange w [] m t disk ms → r ≡ (answers t disk ms).machine
       → Ended w MayClose P r m
   Closing : MayClose → m.phase ≡ phases.Closed → IsStart m.stage → Ended w MayClose P r m
   Agreeing : r.session.stage ≡ stages.Full → r.session.held ≡ m.held → m.stage ≡ stages.Full → Ended w MayClose P r m
 
 -- an input that is no message, and at which nothing is sent, makes no difference
 skipped : (w : Way) (input : Input) (inputs : List Input) (i : initiator.Machine) (t : target.Machine) (disk : Disk) (ms : List Message)
-    → Exchange w (input ∷ inputs) i t disk ms → coming (input ∷ inputs) ≡ coming inputs → canon (sent i (input ∷ inputs)) ≡ canon (sent i inputs)
-    → Exchange w inputs i t disk ms
+    → LoginExchange w (input ∷ inputs) i t disk ms → coming (input ∷ inputs) ≡ coming inputs → canon (sent i (input ∷ inputs)) ≡ canon (sent i inputs)
+    → LoginExchange w inputs i t disk ms
 skipped w input inputs i t disk ms x come same = record {
   there = x.there;
   here = x.here;
@@ -186,7 +186,7 @@ skipped w input inputs i t disk ms x come same = record {
 
 -- so it ends
 pub exchange_ends : (inputs : List Input) (w : Way) (MayClose : Type 0) (P : Kept) (i : initiator.Machine) (t : target.Machine) (disk : Disk)
-    (ms : List Message) → IsOpening w.opening → Turns w.opening MayClose P → P i t → Exchange w inputs i t disk ms
+    (ms : List Message) → IsOpening w.opening → Turns w.opening MayClose P → P i t → LoginExchange w inputs i t disk ms
     → Ended w MayClose P (answers t disk ms).machine (after_all i inputs)
 unfolding answers
 exchange_ends [] w MayClose P i t disk ms o turns p x = Waiting t disk ms p x refl

@@ -213,21 +213,21 @@ outcome_readable logins s tag outcome count status residual tag_fits count_fits 
 
 -- A request for data is read as it was written.
 pub ready_readable : (logins : Logins) (s : target.Machine) (w : Write)
-    → w.order.lun < 2 ^ 64 → w.initiator_task_tag < 2 ^ 32 → w.asked < 2 ^ 32 → received w < 2 ^ 32 → desired s.session.held w < 2 ^ 32
+    → w.order.lun < 2 ^ 64 → w.initiator_task_tag < 2 ^ 32 → w.r2t_count < 2 ^ 32 → received w < 2 ^ 32 → desired s.session.held w < 2 ^ 32
     → s.session.stat_sn < 2 ^ 32 → s.session.exp_cmd_sn < 2 ^ 32
     → Readable logins (message (r2t_head s.session (waiting s.tasks) w) [])
-ready_readable logins s w lun tag asked offset size stat_sn cmd_sn =
+ready_readable logins s w lun tag r2t_count offset size stat_sn cmd_sn =
     plain_readable logins (r2t_head s.session (waiting s.tasks) w) [] refl (
       (refl, lun),
       (
         (refl, tag),
         (
-          (refl, asked),
+          (refl, r2t_count),
           (
             (refl, stat_sn),
             (
               (refl, cmd_sn),
-              ((refl, max_room s), ((refl, asked), ((refl, offset), ((refl, size), tt)))),
+              ((refl, max_room s), ((refl, r2t_count), ((refl, offset), ((refl, size), tt)))),
             ),
           ),
         ),

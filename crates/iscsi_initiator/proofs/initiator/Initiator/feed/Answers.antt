@@ -1,6 +1,6 @@
 use Rattle.std.proofs.Common.{sym, ◌∙◌, rules}
 use Rattle.iscsi_initiator.specs.Inside.{connection}
-use Rattle.iscsi_initiator.proofs.Hearing.{fed_as, fed_cut}
+use Rattle.iscsi_initiator.proofs.Receiving.{fed_as, fed_cut}
 use Rattle.iscsi_initiator.proofs.initiator.Initiator.feed.Goals as goal
 
 pub returns-then-has_run_out : goal.returns-then-has_run_out

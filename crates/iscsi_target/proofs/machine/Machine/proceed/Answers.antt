@@ -5,7 +5,7 @@ use Rattle.iscsi_target.specs.declared.tasks.Task.{Task}
 use Rattle.iscsi_target.specs.declared.tasks.Task.TheVariants.{Data}
 use Rattle.iscsi_target.proofs.Turns.{with_tasks}
 use Rattle.iscsi_target.specs.Execution.{Device, execute}
-use Rattle.iscsi_target.specs.Command.{proceed, ask, led_by}
+use Rattle.iscsi_target.specs.Command.{proceed, send_r2t, led_by}
 use Rattle.iscsi_target.proofs.Serving.{leaves_handles, unchanged_serves, serves_if}
 use Rattle.iscsi_target.proofs.Commanding.{proceeds_whole, proceeds_asking, proceeds_waiting}
 use Rattle.iscsi_target.proofs.machine.Machine.proceed.Goals as goal
@@ -19,7 +19,7 @@ returns-then-is_whole g c = record {
 
 pub returns-then-is_idle : goal.returns-then-is_idle
 returns-then-is_idle g c =
-    leaves_handles c.send_r2t.result (g.S.BlockStore.failures c.args.store.now) (ask c.args.self.now (g.S.BlockStore.disk c.args.store.now) c.args.write) (λ (d : Device). proceed d c.args.self.now (g.S.BlockStore.disk c.args.store.now) c.args.write) (g.S.BlockStore.disk c.args.store.now) c.args.self.now c.send_r2t.new.self c.args.out.now.items c.send_r2t.new.out.items
+    leaves_handles c.send_r2t.result (g.S.BlockStore.failures c.args.store.now) (send_r2t c.args.self.now (g.S.BlockStore.disk c.args.store.now) c.args.write) (λ (d : Device). proceed d c.args.self.now (g.S.BlockStore.disk c.args.store.now) c.args.write) (g.S.BlockStore.disk c.args.store.now) c.args.self.now c.send_r2t.new.self c.args.out.now.items c.send_r2t.new.out.items
     (λ (d : Device). proceeds_asking d c.args.self.now (g.S.BlockStore.disk c.args.store.now) c.args.write (sym c.is_whole.ensures ∙ c.if-is_whole.false) (sym c.is_idle.ensures ∙ c.if-is_idle.true)) refl refl (c.send_r2t.ensures (g.S.BlockStore.disk c.args.store.now))
 
 pub returns : goal.returns

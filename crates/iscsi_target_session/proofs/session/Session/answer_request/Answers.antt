@@ -1,5 +1,5 @@
 use Rattle.iscsi_target_session.specs.Requests.{nop_out}
-use Rattle.iscsi_target_session.specs.Discovery.{text_request}
+use Rattle.iscsi_target_session.specs.TextRequests.{text_request}
 use Rattle.iscsi_target_session.specs.Requests.{request_answered}
 use Rattle.iscsi_target_session.proofs.ByKind.{does_as, answers_ping, answers_text_request}
 use Rattle.iscsi_target_session.proofs.session.Session.answer_request.Goals as goal
