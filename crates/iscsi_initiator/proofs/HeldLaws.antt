@@ -22,8 +22,10 @@ use Rattle.iscsi_initiator.specs.declared.request.Request.TheVariants.{In, Out, 
 use Rattle.iscsi_initiator.specs.declared.request.SubmitFault.{SubmitFault}
 use Rattle.iscsi_initiator.specs.State.{Settings, Machine, opening, is_closed}
 use Rattle.iscsi_initiator.specs.Steps.{Stepped, closed, protocol_error}
-use Rattle.iscsi_initiator.specs.Login.{counted, fits_segment, moves_on, goes_on, is_expected, start_step, login_step, begins_stage, judged, offered, text_answered, in_turn, answered, requested_stage, sends_text}
-use Rattle.iscsi_initiator.specs.Full.{Due, UnsolicitedNopIn, Pong, Data, R2t, Response, TextAnswer, LogoutAnswer, Async, RejectPdu, on_due, outcome_with, sense_of, takes, due, fits_reading, fits_writing, update_counters, is_in_turn, checked_stat_sn}
+use Rattle.iscsi_initiator.specs.Login.{counted, fits_segment, moves_on, goes_on, is_expected, start_step, login_step, begins_stage, judged, offered}
+use Rattle.iscsi_initiator.specs.Login.{text_answered, in_turn, answered, requested_stage, sends_text}
+use Rattle.iscsi_initiator.specs.Full.{Due, UnsolicitedNopIn, Pong, Data, R2t, Response, TextAnswer, LogoutAnswer, Async, RejectPdu, on_due, outcome_with}
+use Rattle.iscsi_initiator.specs.Full.{sense_of, takes, due, fits_reading, fits_writing, update_counters, is_in_turn, checked_stat_sn}
 use Rattle.iscsi_initiator.specs.Machine.{step, step_in, taken}
 use Rattle.iscsi_initiator.specs.Submitted.{submitted, or_accepted, accepted, refusal}
 use Rattle.iscsi_initiator.specs.Configured.{IsStart}
@@ -62,7 +64,8 @@ keeps_if m false x y p q = q
 kept : (m : Machine) (r : Stepped) → r.machine.stage ≡ m.stage → r.machine.held ≡ m.held → r.machine.started ≡ m.started → r.machine.phase ≡ m.phase → Keeps m r
 kept m r a b c e = record { stage = a; held = b; started = c; phase = λ f. sym e ∙ f }
 
-shuts : (m : Machine) (r : Stepped) → r.machine.stage ≡ m.stage → r.machine.held ≡ m.held → r.machine.started ≡ m.started → r.machine.phase ≡ phases.Closed → Keeps m r
+shuts : (m : Machine) (r : Stepped) → r.machine.stage ≡ m.stage → r.machine.held ≡ m.held → r.machine.started ≡ m.started → r.machine.phase ≡ phases.Closed →
+    Keeps m r
 shuts m r a b c e = record { stage = a; held = b; started = c; phase = λ f. absurd (subst (λ (p : Phase). IsShut p) (sym e ∙ f) tt) }
 
 outcome_keeps : (o : Option (List ℕ)) (m : Machine) (received : List ℕ) (h : ScsiResponse) → Keeps m (outcome_with o m received h)
@@ -73,7 +76,8 @@ on_due_keeps : (m : Machine) (d : Due) (bytes : List ℕ) → Keeps m (on_due m 
 on_due_keeps m (UnsolicitedNopIn h) bytes = keeps_if m (is_tag h.target_transfer_tag) _ _ (kept m _ refl refl refl refl) (kept m _ refl refl refl refl)
 on_due_keeps m (Pong h) bytes = kept m _ refl refl refl refl
 on_due_keeps m (Data r h) bytes =
-    keeps_if m (not (fits_reading r h bytes)) _ _ (shuts m _ refl refl refl refl) (keeps_if m h.has_status _ _ (kept m _ refl refl refl refl) (kept m _ refl refl refl refl))
+    keeps_if m (not (fits_reading r h bytes)) _ _ (shuts m _ refl refl refl refl)
+    (keeps_if m h.has_status _ _ (kept m _ refl refl refl refl) (kept m _ refl refl refl refl))
 on_due_keeps m (R2t w h) bytes = keeps_if m (fits_writing m w h) _ _ (kept m _ refl refl refl refl) (shuts m _ refl refl refl refl)
 on_due_keeps m (Response received h) bytes = outcome_keeps (sense_of bytes) m received h
 on_due_keeps m (TextAnswer h) bytes = keeps_if m (h.is_final && not h.continues) _ _ (kept m _ refl refl refl refl) (shuts m _ refl refl refl refl)
@@ -88,7 +92,8 @@ pub takes_keeps : (o : Option Due) (m : Machine) (bytes : List ℕ) → Keeps m 
 takes_keeps None m bytes = shuts m _ refl refl refl refl
 takes_keeps (Some d) m bytes =
     keeps_if m (nat_lt m.held.initiator_max_recv (length bytes)) _ _ (shuts m _ refl refl refl refl)
-    (keeps_if m (not (is_in_turn m.exp_stat_sn (checked_stat_sn d))) _ _ (shuts m _ refl refl refl refl) (passed_keeps m d _ (on_due_keeps (update_counters m d) d bytes)))
+    (keeps_if m (not (is_in_turn m.exp_stat_sn (checked_stat_sn d))) _ _ (shuts m _ refl refl refl refl)
+    (passed_keeps m d _ (on_due_keeps (update_counters m d) d bytes)))
 
 -- ---- the invariant: a login that goes on has not reached the last stage
 
@@ -106,14 +111,21 @@ closed_sound m s = record { login = λ e f. subst (λ (p : Phase). IsShut p) e t
 
 text_sound : (m : Machine) → Sound m → Sound (sends_text m).machine
 text_sound m s =
-    sound_if (fits_segment m (canonical_text (offered m))) _ _ (record { login = s.login; started = s.started }) (record { login = s.login; started = s.started })
+    sound_if (fits_segment m (canonical_text (offered m))) _ _ (record { login = s.login; started = s.started })
+    (record { login = s.login; started = s.started })
 
 enters_sound : (stage : Stage) (m : Machine) → m.started ≡ true → Sound (begins_stage stage m).machine
 enters_sound stages.Full m t = record { login = λ e f. subst (λ (p : Phase). IsFull p) e tt; started = λ f. t }
 enters_sound stages.Security m t =
-    let n : Machine = record m { stage = stages.Security } in text_sound n (record { login = λ e f. subst (λ (p : Stage). IsLast p) (sym f) tt; started = λ f. t })
+    let n : Machine = record m { stage = stages.Security } in text_sound n (record {
+      login = λ e f. subst (λ (p : Stage). IsLast p) (sym f) tt;
+      started = λ f. t;
+    })
 enters_sound stages.Operational m t =
-    let n : Machine = record m { stage = stages.Operational } in text_sound n (record { login = λ e f. subst (λ (p : Stage). IsLast p) (sym f) tt; started = λ f. t })
+    let n : Machine = record m { stage = stages.Operational } in text_sound n (record {
+      login = λ e f. subst (λ (p : Stage). IsLast p) (sym f) tt;
+      started = λ f. t;
+    })
 
 judged_sound : (o : Option (List ℕ)) (m : Machine) (h : LoginResponse) (answer : Pairs) → Sound m → m.started ≡ true → Sound (judged o m h answer).machine
 judged_sound (Some key) m h answer s t = closed_sound m s

@@ -1,5 +1,6 @@
 -- Each outcome is that of its request.
-use Rattle.std.proofs.Common.{◌≡◌, refl, ap, sym, ◌∙◌, subst, Bool, true, false, List, [], ◌∷◌, ◌++◌, ℕ, ◌+◌, ◌≤◌, Option, Some, None, length, is_some, append_assoc, append-nil, arith, length-append}
+use Rattle.std.proofs.Common.{◌≡◌, refl, ap, sym, ◌∙◌, subst, Bool, true, false, List, [], ◌∷◌, ◌++◌, ℕ, ◌+◌, ◌≤◌, Option, Some, None, length, is_some}
+use Rattle.std.proofs.Common.{append_assoc, append-nil, arith, length-append}
 use Rattle.std.specs.Prelude.{if◌then◌else◌, not, ◌&&◌, ◌==◌, nat_lt, unwrap_or, ◌||◌}
 use Rattle.std.proofs.lemmas.Bool.{leb-true}
 use Rattle.iscsi_pdu.specs.Fields.{is_tag, reserved_tag}
@@ -31,12 +32,16 @@ use Rattle.iscsi_initiator.specs.Progress.{Reading, Writing}
 use Rattle.iscsi_initiator.specs.State.{Settings, Machine, opening, is_closed}
 use Rattle.iscsi_pdu.specs.Serial.{next_sn}
 use Rattle.iscsi_initiator.specs.Steps.{Stepped, closed, protocol_error, quiet}
-use Rattle.iscsi_initiator.specs.Login.{counted, fits_segment, moves_on, goes_on, is_expected, start_step, login_step, begins_stage, judged, offered, text_answered, in_turn, answered, requested_stage, sends_text}
-use Rattle.iscsi_initiator.specs.Full.{Due, UnsolicitedNopIn, Pong, Data, R2t, Response, TextAnswer, LogoutAnswer, Async, RejectPdu, on_due, outcome_with, sense_of, takes, due, due_to, answer_due, tag_of, fits_reading, fits_writing, update_counters, is_in_turn, checked_stat_sn, completes, has_received, read_outcome, residual}
+use Rattle.iscsi_initiator.specs.Login.{counted, fits_segment, moves_on, goes_on, is_expected, start_step, login_step, begins_stage, judged, offered}
+use Rattle.iscsi_initiator.specs.Login.{text_answered, in_turn, answered, requested_stage, sends_text}
+use Rattle.iscsi_initiator.specs.Full.{Due, UnsolicitedNopIn, Pong, Data, R2t, Response, TextAnswer, LogoutAnswer, Async, RejectPdu, on_due, outcome_with}
+use Rattle.iscsi_initiator.specs.Full.{sense_of, takes, due, due_to, answer_due, tag_of, fits_reading, fits_writing, update_counters, is_in_turn}
+use Rattle.iscsi_initiator.specs.Full.{checked_stat_sn, completes, has_received, read_outcome, residual}
 use Rattle.iscsi_initiator.specs.Machine.{step, step_in, taken}
 use Rattle.iscsi_initiator.specs.Submitted.{submitted, or_accepted, accepted as accept, refusal, refusal_in}
 use Rattle.iscsi_initiator.specs.declared.request.SubmitFault.TheVariants as refusals
-use Rattle.iscsi_initiator.specs.Laws.{Event, Starts, Meets, Comes, Asks, Takes, Ends, after, run, accepted, accepted_in, accepted_if, given, given_in, listed, IsOutcomeOf, AreOutcomesOf, OutcomesInOrder}
+use Rattle.iscsi_initiator.specs.Laws.{Event, Starts, Meets, Comes, Asks, Takes, Ends, after, run, accepted, accepted_in, accepted_if, given, given_in, listed}
+use Rattle.iscsi_initiator.specs.Laws.{IsOutcomeOf, AreOutcomesOf, OutcomesInOrder}
 
 -- an outstanding request as it was handed in
 abbrev pub IsFor : Outstanding → Request → Type 0
@@ -90,13 +95,18 @@ IsNo false = Unit {0}
 -- more data are received, within what is expected
 more_fits : (r : Reading) (bytes : List ℕ) (n : ℕ) → length r.received + length bytes ≤ r.expected → (q : Request) → IsFor (In r) q
     → IsFor (In (record r { received = r.received ++ bytes; next_data_sn = n })) q
-more_fits r bytes n le (requests.In lun cdb expected) f = (f.0, rw (length-append r.received bytes) (subst (λ (e : ℕ). length r.received + length bytes ≤ e) f.0 le))
+more_fits r bytes n le (requests.In lun cdb expected) f = (
+  f.0,
+  rw (length-append r.received bytes)
+      (subst (λ (e : ℕ). length r.received + length bytes ≤ e) f.0 le),
+)
 more_fits r bytes n le (requests.Out lun cdb sent) f = absurd f
 more_fits r bytes n le (requests.Ping sent) f = absurd f
 more_fits r bytes n le (requests.Text sent) f = absurd f
 more_fits r bytes n le requests.Logout f = absurd f
 
-read_fits : (r : Reading) (bytes sense : List ℕ) (response status : ℕ) (q : Request) (o : Done) → o ≡ o → length bytes ≤ r.expected → IsFor (In r) q → (residual : _) → IsOutcomeOf q (done.Command response status sense bytes residual)
+read_fits : (r : Reading) (bytes sense : List ℕ) (response status : ℕ) (q : Request) (o : Done) → o ≡ o → length bytes ≤ r.expected → IsFor (In r) q →
+    (residual : _) → IsOutcomeOf q (done.Command response status sense bytes residual)
 read_fits r bytes sense response status (requests.In lun cdb expected) o e le f residual = subst (λ (n : ℕ). length bytes ≤ n) f.0 le
 read_fits r bytes sense response status (requests.Out lun cdb sent) o e le f residual = absurd f
 read_fits r bytes sense response status (requests.Ping sent) o e le f residual = absurd f
@@ -139,14 +149,16 @@ out_more w v (requests.Ping sent) f = absurd f
 out_more w v (requests.Text sent) f = absurd f
 out_more w v requests.Logout f = absurd f
 
-out_done : (w : Writing) (sense : List ℕ) (response status : ℕ) (left : Residual) (q : Request) → IsFor (Out w) q → IsOutcomeOf q (done.Command response status sense [] left)
+out_done : (w : Writing) (sense : List ℕ) (response status : ℕ) (left : Residual) (q : Request) → IsFor (Out w) q →
+    IsOutcomeOf q (done.Command response status sense [] left)
 out_done w sense response status left (requests.In lun cdb expected) f = absurd f
 out_done w sense response status left (requests.Out lun cdb sent) f = refl
 out_done w sense response status left (requests.Ping sent) f = absurd f
 out_done w sense response status left (requests.Text sent) f = absurd f
 out_done w sense response status left requests.Logout f = absurd f
 
-in_done : (r : Reading) (sense : List ℕ) (response status : ℕ) (left : Residual) (q : Request) → IsFor (In r) q → IsOutcomeOf q (done.Command response status sense r.received left)
+in_done : (r : Reading) (sense : List ℕ) (response status : ℕ) (left : Residual) (q : Request) → IsFor (In r) q →
+    IsOutcomeOf q (done.Command response status sense r.received left)
 in_done r sense response status left (requests.In lun cdb expected) f = f.1
 in_done r sense response status left (requests.Out lun cdb sent) f = absurd f
 in_done r sense response status left (requests.Ping sent) f = absurd f
@@ -174,7 +186,8 @@ logout_done (requests.Ping sent) f = absurd f
 logout_done (requests.Text sent) f = absurd f
 logout_done requests.Logout f = tt
 
-in_response : (o : Option (List ℕ)) (m : Machine) (r : Reading) (h : ScsiResponse) → m.outstanding ≡ Some (In r) → Turn m (outcome_with o m r.received h).machine
+in_response : (o : Option (List ℕ)) (m : Machine) (r : Reading) (h : ScsiResponse) → m.outstanding ≡ Some (In r) →
+    Turn m (outcome_with o m r.received h).machine
 in_response None m r h e = same m (closed m) refl refl
 in_response (Some sense) m r h e =
     ends (record {
@@ -203,7 +216,8 @@ unpassed m d n (stays s) = stays (record { request = s.request; outcome = s.outc
 unpassed m d n (goes s) = goes (record { old = s.old; new = s.new; was = s.was; is = s.is; outcome = s.outcome; fits = s.fits })
 unpassed m d n (ends s) = ends (record { old = s.old; outcome = s.outcome; was = s.was; is = s.is; given = s.given; fits = s.fits })
 
-some_turn : (m : Machine) (d : Due) (bytes : List ℕ) → Turn (update_counters m d) (on_due (update_counters m d) d bytes).machine → Turn m (takes (Some d) m bytes).machine
+some_turn : (m : Machine) (d : Due) (bytes : List ℕ) → Turn (update_counters m d) (on_due (update_counters m d) d bytes).machine →
+    Turn m (takes (Some d) m bytes).machine
 some_turn m d bytes t =
     turn_if m (nat_lt m.held.initiator_max_recv (length bytes)) _ _ (same m (closed m) refl refl)
     (turn_if m (not (is_in_turn m.exp_stat_sn (checked_stat_sn d))) _ _ (same m (closed m) refl refl) (unpassed m d _ t))
@@ -214,14 +228,17 @@ none_turn m bytes = same m (closed m) refl refl
 due_turn : (q : Option Outstanding) (head : Head) (m : Machine) (bytes : List ℕ) → m.outstanding ≡ q → Turn m (takes (due_to q head) m bytes).machine
 due_turn (Some Ping) (heads.NopIn h) m bytes e =
     some_turn m (Pong h) bytes (ends (record { old = Ping; outcome = done.Ping bytes; was = e; is = refl; given = refl; fits = ping_done bytes }))
-due_turn (Some (In r)) (heads.DataIn h) m bytes e = some_turn m (Data r h) bytes (data_turn (fits_reading r h bytes) h.has_status (update_counters m (Data r h)) r h bytes e refl)
-due_turn (Some (In r)) (heads.ScsiResponse h) m bytes e = some_turn m (Response r.received h) bytes (in_response (sense_of bytes) (update_counters m (Response r.received h)) r h e)
+due_turn (Some (In r)) (heads.DataIn h) m bytes e = some_turn m (Data r h) bytes
+    (data_turn (fits_reading r h bytes) h.has_status (update_counters m (Data r h)) r h bytes e refl)
+due_turn (Some (In r)) (heads.ScsiResponse h) m bytes e = some_turn m (Response r.received h) bytes (in_response (sense_of bytes)
+    (update_counters m (Response r.received h)) r h e)
 due_turn (Some (Out w)) (heads.ReadyToTransfer h) m bytes e =
     let v : Writing = record w { sent = w.sent + h.desired_data_transfer_length; next_r2t_sn = next_sn w.next_r2t_sn } in
     some_turn m (R2t w h) bytes (turn_if (update_counters m (R2t w h)) (fits_writing (update_counters m (R2t w h)) w h) _ _
     (goes (record { old = Out w; new = Out v; was = e; is = refl; outcome = refl; fits = out_more w v }))
     (same _ _ refl refl))
-due_turn (Some (Out w)) (heads.ScsiResponse h) m bytes e = some_turn m (Response [] h) bytes (out_response (sense_of bytes) (update_counters m (Response [] h)) w h e)
+due_turn (Some (Out w)) (heads.ScsiResponse h) m bytes e = some_turn m (Response [] h) bytes (out_response (sense_of bytes)
+    (update_counters m (Response [] h)) w h e)
 due_turn (Some Text) (heads.TextResponse h) m bytes e =
     some_turn m (TextAnswer h) bytes (turn_if (update_counters m (TextAnswer h)) (h.is_final && not h.continues) _ _
     (ends (record { old = Text; outcome = done.Text bytes; was = e; is = refl; given = refl; fits = text_done bytes })) (same _ _ refl refl))
@@ -229,17 +246,20 @@ due_turn (Some Logout) (heads.LogoutResponse h) m bytes e =
     some_turn m (LogoutAnswer h) bytes (ends (record { old = Logout; outcome = done.Closed; was = e; is = refl; given = refl; fits = logout_done }))
 due_turn _ _ m bytes e = none_turn m bytes
 
-takes_if : (b : Bool) (x y : Option Due) (m : Machine) (bytes : List ℕ) → Turn m (takes x m bytes).machine → Turn m (takes y m bytes).machine → Turn m (takes (if b then x else y) m bytes).machine
+takes_if : (b : Bool) (x y : Option Due) (m : Machine) (bytes : List ℕ) → Turn m (takes x m bytes).machine → Turn m (takes y m bytes).machine →
+    Turn m (takes (if b then x else y) m bytes).machine
 takes_if true x y m bytes p q = p
 takes_if false x y m bytes p q = q
 
 answer_turn : (head : Head) (m : Machine) (bytes : List ℕ) → Turn m (takes (answer_due m head) m bytes).machine
-answer_turn head m bytes = takes_if (tag_of head == m.initiator_task_tag) (due_to m.outstanding head) None m bytes (due_turn m.outstanding head m bytes refl) (none_turn m bytes)
+answer_turn head m bytes = takes_if (tag_of head == m.initiator_task_tag) (due_to m.outstanding head) None m bytes (due_turn m.outstanding head m bytes refl)
+    (none_turn m bytes)
 
 full_turn : (head : Head) (m : Machine) (bytes : List ℕ) → Turn m (takes (due m head) m bytes).machine
 full_turn (heads.NopIn h) m bytes =
     takes_if (h.initiator_task_tag == reserved_tag) (Some (UnsolicitedNopIn h)) (answer_due m (heads.NopIn h)) m bytes
-    (some_turn m (UnsolicitedNopIn h) bytes (turn_if (update_counters m (UnsolicitedNopIn h)) (is_tag h.target_transfer_tag) _ _ (same _ _ refl refl) (same _ _ refl refl))) (answer_turn (heads.NopIn h) m bytes)
+    (some_turn m (UnsolicitedNopIn h) bytes (turn_if (update_counters m (UnsolicitedNopIn h)) (is_tag h.target_transfer_tag) _ _ (same _ _ refl refl)
+    (same _ _ refl refl))) (answer_turn (heads.NopIn h) m bytes)
 full_turn (heads.AsyncMessage h) m bytes = some_turn m (Async h) bytes (same _ _ refl refl)
 full_turn (heads.Reject h) m bytes = some_turn m (RejectPdu h) bytes (same _ _ refl refl)
 full_turn head m bytes = answer_turn head m bytes
@@ -256,7 +276,8 @@ enters_turn stages.Operational m n a b = let x : Machine = record n { stage = st
 
 judged_turn : (o : Option (List ℕ)) (m : Machine) (h : LoginResponse) (answer : Pairs) → Turn m (judged o m h answer).machine
 judged_turn (Some key) m h answer = same m (closed m) refl refl
-judged_turn None m h answer = let n : Machine = record (counted m h) { held = initiator_holds None answer m.held } in enters_turn (requested_stage m) m n refl refl
+judged_turn None m h answer = let n : Machine = record (counted m h) { held = initiator_holds None answer m.held } in
+    enters_turn (requested_stage m) m n refl refl
 
 text_answered_turn : (m : Machine) (h : LoginResponse) (segment : Segment) → Turn m (text_answered m h segment).machine
 text_answered_turn m h (Bytes bytes) = same m (closed m) refl refl
@@ -337,7 +358,16 @@ turn_inv : (m n : Machine) (rs : List Request) (ds : List Done) → Turn m n →
 turn_inv m n rs ds (stays s) (idle i) =
     idle (record { none = s.request ∙ i.none; all = subst (λ (d : Option Done). AllOutcomes rs (ds ++ listed d)) (sym s.outcome) i.all })
 turn_inv m n rs ds (stays s) (waits w) =
-    waits (record { front = w.front; request = w.request; outstanding = w.outstanding; split = w.split; is = s.request ∙ w.is; fits = w.fits; outcome = s.outcome ∙ w.outcome; all = w.all })
+    waits (record {
+      front = w.front;
+      request = w.request;
+      outstanding = w.outstanding;
+      split = w.split;
+      is = s.request ∙ w.is;
+      fits = w.fits;
+      outcome = s.outcome ∙ w.outcome;
+      all = w.all;
+    })
 turn_inv m n rs ds (goes g) (idle i) = absurd (never_both m.outstanding g.old i.none g.was)
 turn_inv m n rs ds (goes g) (waits w) =
     waits (record {
@@ -352,11 +382,13 @@ turn_inv m n rs ds (goes g) (waits w) =
     })
 turn_inv m n rs ds (ends g) (idle i) = absurd (never_both m.outstanding g.old i.none g.was)
 turn_inv m n rs ds (ends g) (waits w) =
-    let o : IsOutcomeOf w.request g.outcome = g.fits w.request (subst (λ (o : Outstanding). IsFor o w.request) (one_open m.outstanding w.outstanding g.old w.is g.was) w.fits) in
+    let o : IsOutcomeOf w.request g.outcome = g.fits w.request (subst (λ (o : Outstanding). IsFor o w.request)
+    (one_open m.outstanding w.outstanding g.old w.is g.was) w.fits) in
     idle (record {
       none = g.is;
       all = subst (λ (xs : List Request). AllOutcomes xs (ds ++ listed n.done)) (sym w.split)
-          (subst (λ (d : Option Done). AllOutcomes (w.front ++ w.request ∷ []) (ds ++ listed d)) (sym g.given) (all_snoc w.front ds w.request g.outcome w.all o));
+          (subst (λ (d : Option Done). AllOutcomes (w.front ++ w.request ∷ []) (ds ++ listed d)) (sym g.given)
+          (all_snoc w.front ds w.request g.outcome w.all o));
     })
 
 -- ---- requests
@@ -377,7 +409,8 @@ IsFault (Some f) = Unit {0}
 no_fault : (f : SubmitFault) → Some f ≡ None → ⊥
 no_fault f e = subst (λ (x : Option SubmitFault). IsFault x) e tt
 
-full_free : (b : Bool) (m : Machine) (rest : Option SubmitFault) → (is_some m.outstanding || is_some m.done) ≡ b → (if b then Some refusals.Busy else rest) ≡ None → (m.outstanding ≡ None) × (m.done ≡ None)
+full_free : (b : Bool) (m : Machine) (rest : Option SubmitFault) → (is_some m.outstanding || is_some m.done) ≡ b → (if b then Some refusals.Busy else rest)
+    ≡ None → (m.outstanding ≡ None) × (m.done ≡ None)
 full_free true m rest e f = absurd (no_fault refusals.Busy f)
 full_free false m rest e f = is_none_of m.outstanding m.done e
 
@@ -386,20 +419,24 @@ free_in phases.Closed m r f = absurd (no_fault refusals.Closed f)
 free_in phases.Login m r f = absurd (no_fault refusals.NotReady f)
 free_in phases.Full m r f = full_free (is_some m.outstanding || is_some m.done) m _ refl f
 
-waits_for : (m n : Machine) (rs : List Request) (ds : List Done) (r : Request) (o : Outstanding) → m.done ≡ None → AllOutcomes rs (ds ++ listed m.done) → n.outstanding ≡ Some o → n.done ≡ m.done → IsFor o r
+waits_for : (m n : Machine) (rs : List Request) (ds : List Done) (r : Request) (o : Outstanding) → m.done ≡ None → AllOutcomes rs (ds ++ listed m.done) →
+    n.outstanding ≡ Some o → n.done ≡ m.done → IsFor o r
     → Inv n (rs ++ r ∷ []) ds
 waits_for m n rs ds r o e a is same_outcome f =
-    let all : AllOutcomes rs ds = subst (λ (xs : List Done). AllOutcomes rs xs) (append-nil ds) (subst (λ (d : Option Done). AllOutcomes rs (ds ++ listed d)) e a) in
+    let all : AllOutcomes rs ds = subst (λ (xs : List Done). AllOutcomes rs xs) (append-nil ds)
+    (subst (λ (d : Option Done). AllOutcomes rs (ds ++ listed d)) e a) in
     waits (record { front = rs; request = r; outstanding = o; split = refl; is = is; fits = f; outcome = same_outcome ∙ e; all = all })
 
-accept_inv : (m : Machine) (r : Request) (rs : List Request) (ds : List Done) → m.done ≡ None → AllOutcomes rs (ds ++ listed m.done) → Inv (accept m r).machine (rs ++ r ∷ []) ds
+accept_inv : (m : Machine) (r : Request) (rs : List Request) (ds : List Done) → m.done ≡ None → AllOutcomes rs (ds ++ listed m.done) →
+    Inv (accept m r).machine (rs ++ r ∷ []) ds
 accept_inv m (requests.In lun cdb expected) rs ds e a = waits_for m _ rs ds _ _ e a refl refl (refl, omega arith)
 accept_inv m (requests.Out lun cdb bytes) rs ds e a = waits_for m _ rs ds _ _ e a refl refl tt
 accept_inv m (requests.Ping bytes) rs ds e a = waits_for m _ rs ds _ _ e a refl refl tt
 accept_inv m (requests.Text bytes) rs ds e a = waits_for m _ rs ds _ _ e a refl refl tt
 accept_inv m requests.Logout rs ds e a = waits_for m _ rs ds _ _ e a refl refl tt
 
-asks_inv : (o : Option SubmitFault) (m : Machine) (r : Request) (rs : List Request) (ds : List Done) → refusal m r ≡ o → Inv m rs ds → Inv (or_accepted o m r).machine (rs ++ accepted_if o r) ds
+asks_inv : (o : Option SubmitFault) (m : Machine) (r : Request) (rs : List Request) (ds : List Done) → refusal m r ≡ o → Inv m rs ds →
+    Inv (or_accepted o m r).machine (rs ++ accepted_if o r) ds
 asks_inv (Some f) m r rs ds e i = subst (λ (xs : List Request). Inv m xs ds) (sym (append-nil rs)) i
 asks_inv None m r rs ds e (idle i) = accept_inv m r rs ds (free_in m.phase m r e).1 i.all
 asks_inv None m r rs ds e (waits w) = absurd (never_both m.outstanding w.outstanding (free_in m.phase m r e).0 w.is)
@@ -415,29 +452,36 @@ takes_inv m rs ds (waits w) =
       is = w.is;
       fits = w.fits;
       outcome = refl;
-      all = subst (λ (d : Option Done). AllOutcomes w.front (ds ++ listed d)) (sym w.outcome) (subst (λ (xs : List Done). AllOutcomes w.front xs) (sym (append-nil ds)) w.all);
+      all = subst (λ (d : Option Done). AllOutcomes w.front (ds ++ listed d)) (sym w.outcome)
+          (subst (λ (xs : List Done). AllOutcomes w.front xs) (sym (append-nil ds)) w.all);
     })
 
 none_more : (m n : Machine) (rs : List Request) (ds : List Done) → Turn m n → Inv m rs ds → Inv n (rs ++ []) (ds ++ [])
 none_more m n rs ds t i =
-    subst (λ (xs : List Request). Inv n xs (ds ++ [])) (sym (append-nil rs)) (subst (λ (ys : List Done). Inv n rs ys) (sym (append-nil ds)) (turn_inv m n rs ds t i))
+    subst (λ (xs : List Request). Inv n xs (ds ++ [])) (sym (append-nil rs)) (subst (λ (ys : List Done). Inv n rs ys) (sym (append-nil ds))
+    (turn_inv m n rs ds t i))
 
-event_inv : (m : Machine) (event : Event) (rs : List Request) (ds : List Done) → Inv m rs ds → Inv (after m event) (rs ++ accepted_in m event) (ds ++ given_in m event)
+event_inv : (m : Machine) (event : Event) (rs : List Request) (ds : List Done) → Inv m rs ds →
+    Inv (after m event) (rs ++ accepted_in m event) (ds ++ given_in m event)
 unfolding step submitted
 event_inv m Starts rs ds i = none_more m _ rs ds (if_turn (is_closed m) m (start_step m).machine (start_turn m)) i
 event_inv m (Meets (Comes message)) rs ds i = none_more m _ rs ds (step_turn m.phase m message) i
 event_inv m (Meets (Asks request)) rs ds i =
-    subst (λ (ys : List Done). Inv (or_accepted (refusal m request) m request).machine (rs ++ accepted_if (refusal m request) request) ys) (sym (append-nil ds)) (asks_inv (refusal m request) m request rs ds refl i)
+    subst (λ (ys : List Done). Inv (or_accepted (refusal m request) m request).machine (rs ++ accepted_if (refusal m request) request) ys) (sym (append-nil ds))
+    (asks_inv (refusal m request) m request rs ds refl i)
 event_inv m (Meets Takes) rs ds i = subst (λ (xs : List Request). Inv (taken m) xs (ds ++ listed m.done)) (sym (append-nil rs)) (takes_inv m rs ds i)
 event_inv m Ends rs ds i = none_more m (closed m) rs ds (same m (closed m) refl refl) i
 
 -- ---- runs
 
-run_inv : (m : Machine) (events : List Event) (rs : List Request) (ds : List Done) → Inv m rs ds → Inv (run m events) (rs ++ accepted m events) (ds ++ given m events)
+run_inv : (m : Machine) (events : List Event) (rs : List Request) (ds : List Done) → Inv m rs ds →
+    Inv (run m events) (rs ++ accepted m events) (ds ++ given m events)
 run_inv m [] rs ds i = none_more m m rs ds (same m m refl refl) i
 run_inv m (event ∷ events) rs ds i =
-    subst (λ (xs : List Request). Inv (run (after m event) events) xs (ds ++ (given_in m event ++ given (after m event) events))) (append_assoc rs (accepted_in m event) (accepted (after m event) events))
-    (subst (λ (ys : List Done). Inv (run (after m event) events) (rs ++ accepted_in m event ++ accepted (after m event) events) ys) (append_assoc ds (given_in m event) (given (after m event) events))
+    subst (λ (xs : List Request). Inv (run (after m event) events) xs (ds ++ (given_in m event ++ given (after m event) events)))
+    (append_assoc rs (accepted_in m event) (accepted (after m event) events))
+    (subst (λ (ys : List Done). Inv (run (after m event) events) (rs ++ accepted_in m event ++ accepted (after m event) events) ys)
+    (append_assoc ds (given_in m event) (given (after m event) events))
     (run_inv (after m event) events (rs ++ accepted_in m event) (ds ++ given_in m event) (event_inv m event rs ds i)))
 
 all_are : (rs : List Request) (ds : List Done) → AllOutcomes rs ds → AreOutcomesOf rs ds
@@ -457,7 +501,8 @@ inv_says m rs ds (idle i) = all_are rs (ds ++ listed m.done) i.all
 inv_says m rs ds (waits w) =
     subst (λ (xs : List Request). AreOutcomesOf xs (ds ++ listed m.done)) (sym w.split)
     (all_but_one w.front w.request (ds ++ listed m.done)
-    (subst (λ (d : Option Done). AllOutcomes w.front (ds ++ listed d)) (sym w.outcome) (subst (λ (xs : List Done). AllOutcomes w.front xs) (sym (append-nil ds)) w.all)))
+    (subst (λ (d : Option Done). AllOutcomes w.front (ds ++ listed d)) (sym w.outcome)
+    (subst (λ (xs : List Done). AllOutcomes w.front xs) (sym (append-nil ds)) w.all)))
 
 pub outcomes_in_order : (settings : Settings) → OutcomesInOrder settings
 outcomes_in_order settings events = inv_says (run (opening settings) events) (accepted (opening settings) events) (given (opening settings) events)

@@ -1,5 +1,6 @@
 -- The Data-In of a read tile its data.
-use Rattle.std.proofs.Common.{◌≡◌, refl, ap, sym, ◌∙◌, subst, Bool, true, false, List, [], ◌∷◌, ◌++◌, ℕ, ◌+◌, ◌⊎◌, inl, inr, Option, Some, None, length, append_assoc, append-nil, arith, length-append}
+use Rattle.std.proofs.Common.{◌≡◌, refl, ap, sym, ◌∙◌, subst, Bool, true, false, List, [], ◌∷◌, ◌++◌, ℕ, ◌+◌, ◌⊎◌, inl, inr, Option, Some, None, length}
+use Rattle.std.proofs.Common.{append_assoc, append-nil, arith, length-append}
 use Rattle.std.specs.Prelude.{if◌then◌else◌, not, ◌==◌, nat_lt, unwrap_or}
 use Rattle.std.proofs.lemmas.Bool.{and_parts, eqb-true}
 use Rattle.iscsi_pdu.specs.Fields.{is_tag, reserved_tag}
@@ -18,7 +19,8 @@ use Rattle.iscsi_initiator.specs.Progress.{Reading}
 use Rattle.iscsi_initiator.specs.State.{Machine}
 use Rattle.iscsi_pdu.specs.Serial.{next_sn}
 use Rattle.iscsi_initiator.specs.Steps.{Stepped, protocol_error, quiet}
-use Rattle.iscsi_initiator.specs.Full.{Due, UnsolicitedNopIn, Data, Response, Async, RejectPdu, on_due, outcome_with, sense_of, takes, due, due_to, answer_due, tag_of, fits_reading, update_counters, is_in_turn, checked_stat_sn, completes, has_received, read_outcome, residual}
+use Rattle.iscsi_initiator.specs.Full.{Due, UnsolicitedNopIn, Data, Response, Async, RejectPdu, on_due, outcome_with, sense_of, takes, due, due_to, answer_due}
+use Rattle.iscsi_initiator.specs.Full.{tag_of, fits_reading, update_counters, is_in_turn, checked_stat_sn, completes, has_received, read_outcome, residual}
 use Rattle.iscsi_initiator.specs.Machine.{step, step_in}
 use Rattle.iscsi_initiator.specs.Laws.{receives, IsReceiving, HasReceived, ReadsTile}
 use Rattle.iscsi_stream.specs.Pieces.{TilesFrom, data_piece, data_pieces, data_of, Pieces}
@@ -44,7 +46,15 @@ gets_if a ps false x y p q = q
 
 stands_at : (m n : Machine) (a : List ℕ) → n.outstanding ≡ m.outstanding → n.done ≡ m.done → Stands m a → Stands n a
 stands_at m n a e f (inl i) = inl (record { reading = i.reading; is = e ∙ i.is; received = i.received })
-stands_at m n a e f (inr h) = inr (record { response = h.response; status = h.status; sense = h.sense; residual = h.residual; none = e ∙ h.none; outcome = f ∙ h.outcome })
+stands_at m n a e f (inr h) = inr (record {
+  response = h.response;
+  status = h.status;
+  sense = h.sense;
+  residual = h.residual;
+  none = e ∙ h.none;
+  outcome = f
+      ∙ h.outcome;
+})
 
 -- a message without data leaves the read as it is
 nothing : (m n : Machine) (a : List ℕ) → n.phase ≡ phases.Full → n.outstanding ≡ m.outstanding → n.done ≡ m.done → Stands m a → Gets a [] n
@@ -83,8 +93,10 @@ one_piece a bytes offset e = (e, ap (λ (x : List ℕ). length a + length x) (sy
 more_bytes : (a b bytes : List ℕ) → b ≡ a → b ++ bytes ≡ a ++ (bytes ++ [])
 more_bytes a b bytes e = ap (λ (x : List ℕ). x ++ bytes) e ∙ ap (λ (x : List ℕ). a ++ x) (sym (append-nil bytes))
 
-data_gets : (b c : Bool) (m : Machine) (a : List ℕ) (r : Reading) (h : DataIn) (bytes : List ℕ) → Stands m a → m.phase ≡ phases.Full → r.received ≡ a → fits_reading r h bytes ≡ b
-    → Gets a ((h.buffer_offset, bytes) ∷ []) (if not b then protocol_error m 3 else (if c then completes m (read_outcome (r.received ++ bytes) h) else quiet (has_received m r bytes))).machine
+data_gets : (b c : Bool) (m : Machine) (a : List ℕ) (r : Reading) (h : DataIn) (bytes : List ℕ) → Stands m a → m.phase ≡ phases.Full → r.received ≡ a →
+    fits_reading r h bytes ≡ b
+    → Gets a ((h.buffer_offset, bytes) ∷ []) (if not b then protocol_error m 3 else
+    (if c then completes m (read_outcome (r.received ++ bytes) h) else quiet (has_received m r bytes))).machine
 data_gets false c m a r h bytes s p e f = shut refl (stands_at m _ a refl refl s)
 data_gets true true m a r h bytes s p e f =
     let at : h.buffer_offset ≡ length a = eqb-true _ _ (and_parts _ _ (and_parts _ _ f).0).1 ∙ ap (λ (x : List ℕ). length x) e in
@@ -97,7 +109,8 @@ data_gets true true m a r h bytes s p e f =
         sense = [];
         residual = residual (unwrap_or h.overflow false) (unwrap_or h.underflow false) (unwrap_or h.residual 0);
         none = refl;
-        outcome = ap (λ (x : List ℕ). Some (done.Command 0 (unwrap_or h.status 0) [] x (residual (unwrap_or h.overflow false) (unwrap_or h.underflow false) (unwrap_or h.residual 0)))) (more_bytes a r.received bytes e);
+        outcome = ap (λ (x : List ℕ). Some (done.Command 0 (unwrap_or h.status 0) [] x (residual (unwrap_or h.overflow false) (unwrap_or h.underflow false)
+            (unwrap_or h.residual 0)))) (more_bytes a r.received bytes e);
       });
     })
 data_gets true false m a r h bytes s p e f =
@@ -105,10 +118,15 @@ data_gets true false m a r h bytes s p e f =
     got (record {
       full = p;
       tiles = one_piece a bytes h.buffer_offset at;
-      now = inl (record { reading = record r { received = r.received ++ bytes; next_data_sn = next_sn r.next_data_sn }; is = refl; received = more_bytes a r.received bytes e });
+      now = inl (record {
+        reading = record r { received = r.received ++ bytes; next_data_sn = next_sn r.next_data_sn };
+        is = refl;
+        received = more_bytes a r.received bytes e;
+      });
     })
 
-response_gets : (o : Option (List ℕ)) (m : Machine) (a : List ℕ) (r : Reading) (h : ScsiResponse) → Stands m a → m.phase ≡ phases.Full → r.received ≡ a → Gets a [] (outcome_with o m r.received h).machine
+response_gets : (o : Option (List ℕ)) (m : Machine) (a : List ℕ) (r : Reading) (h : ScsiResponse) → Stands m a → m.phase ≡ phases.Full → r.received ≡ a →
+    Gets a [] (outcome_with o m r.received h).machine
 response_gets None m a r h s p e = shut refl (stands_at m _ a refl refl s)
 response_gets (Some sense) m a r h s p e =
     got (record {
@@ -120,49 +138,61 @@ response_gets (Some sense) m a r h s p e =
         sense = sense;
         residual = residual h.overflow h.underflow (unwrap_or h.residual 0);
         none = refl;
-        outcome = ap (λ (x : List ℕ). Some (done.Command h.response (unwrap_or h.status 0) sense x (residual h.overflow h.underflow (unwrap_or h.residual 0)))) (e ∙ sym (append-nil a));
+        outcome = ap (λ (x : List ℕ). Some (done.Command h.response (unwrap_or h.status 0) sense x (residual h.overflow h.underflow (unwrap_or h.residual 0))))
+            (e ∙ sym (append-nil a));
       });
     })
 
-some_gets : (a : List ℕ) (ps : Pieces) (m : Machine) (d : Due) (bytes : List ℕ) → Stands m a → Gets a ps (on_due (update_counters m d) d bytes).machine → Gets a ps (takes (Some d) m bytes).machine
+some_gets : (a : List ℕ) (ps : Pieces) (m : Machine) (d : Due) (bytes : List ℕ) → Stands m a → Gets a ps (on_due (update_counters m d) d bytes).machine →
+    Gets a ps (takes (Some d) m bytes).machine
 some_gets a ps m d bytes s g =
     gets_if a ps (nat_lt m.held.initiator_max_recv (length bytes)) _ _ (shut refl (stands_at m _ a refl refl s))
     (gets_if a ps (not (is_in_turn m.exp_stat_sn (checked_stat_sn d))) _ _ (shut refl (stands_at m _ a refl refl s)) g)
 
-due_gets : (q : Option Outstanding) (head : Head) (m : Machine) (bytes a : List ℕ) → m.phase ≡ phases.Full → m.outstanding ≡ q → Stands m a → Gets a (data_piece head bytes) (takes (due_to q head) m bytes).machine
+due_gets : (q : Option Outstanding) (head : Head) (m : Machine) (bytes a : List ℕ) → m.phase ≡ phases.Full → m.outstanding ≡ q → Stands m a →
+    Gets a (data_piece head bytes) (takes (due_to q head) m bytes).machine
 due_gets None head m bytes a p e s = shut refl (stands_at m _ a refl refl s)
 due_gets (Some Ping) head m bytes a p e s = absurd (is_read m a _ e s)
 due_gets (Some Text) head m bytes a p e s = absurd (is_read m a _ e s)
 due_gets (Some Logout) head m bytes a p e s = absurd (is_read m a _ e s)
 due_gets (Some (Out w)) head m bytes a p e s = absurd (is_read m a _ e s)
 due_gets (Some (In r)) (heads.DataIn h) m bytes a p e s =
-    some_gets a _ m (Data r h) bytes s (data_gets (fits_reading r h bytes) h.has_status (update_counters m (Data r h)) a r h bytes (stands_at m _ a refl refl s) p (has m a r e s) refl)
+    some_gets a _ m (Data r h) bytes s (data_gets (fits_reading r h bytes) h.has_status (update_counters m (Data r h)) a r h bytes (stands_at m _ a refl refl s)
+    p (has m a r e s) refl)
 due_gets (Some (In r)) (heads.ScsiResponse h) m bytes a p e s =
-    some_gets a _ m (Response r.received h) bytes s (response_gets (sense_of bytes) (update_counters m (Response r.received h)) a r h (stands_at m _ a refl refl s) p (has m a r e s))
+    some_gets a _ m (Response r.received h) bytes s (response_gets (sense_of bytes)
+    (update_counters m (Response r.received h)) a r h (stands_at m _ a refl refl s) p (has m a r e s))
 due_gets (Some (In r)) _ m bytes a p e s = shut refl (stands_at m _ a refl refl s)
 
-takes_gets : (a : List ℕ) (ps : Pieces) (b : Bool) (x y : Option Due) (m : Machine) (bytes : List ℕ) → Gets a ps (takes x m bytes).machine → Gets a ps (takes y m bytes).machine
+takes_gets : (a : List ℕ) (ps : Pieces) (b : Bool) (x y : Option Due) (m : Machine) (bytes : List ℕ) → Gets a ps (takes x m bytes).machine →
+    Gets a ps (takes y m bytes).machine
     → Gets a ps (takes (if b then x else y) m bytes).machine
 takes_gets a ps true x y m bytes p q = p
 takes_gets a ps false x y m bytes p q = q
 
-answer_gets : (head : Head) (m : Machine) (bytes a : List ℕ) → m.phase ≡ phases.Full → Stands m a → Gets a (data_piece head bytes) (takes (answer_due m head) m bytes).machine
+answer_gets : (head : Head) (m : Machine) (bytes a : List ℕ) → m.phase ≡ phases.Full → Stands m a →
+    Gets a (data_piece head bytes) (takes (answer_due m head) m bytes).machine
 answer_gets head m bytes a p s =
-    takes_gets a (data_piece head bytes) (tag_of head == m.initiator_task_tag) (due_to m.outstanding head) None m bytes (due_gets m.outstanding head m bytes a p refl s) (shut refl (stands_at m _ a refl refl s))
+    takes_gets a (data_piece head bytes) (tag_of head == m.initiator_task_tag) (due_to m.outstanding head) None m bytes
+    (due_gets m.outstanding head m bytes a p refl s) (shut refl (stands_at m _ a refl refl s))
 
-full_gets : (head : Head) (m : Machine) (bytes a : List ℕ) → m.phase ≡ phases.Full → Stands m a → Gets a (data_piece head bytes) (takes (due m head) m bytes).machine
+full_gets : (head : Head) (m : Machine) (bytes a : List ℕ) → m.phase ≡ phases.Full → Stands m a →
+    Gets a (data_piece head bytes) (takes (due m head) m bytes).machine
 full_gets (heads.NopIn h) m bytes a p s =
     takes_gets a [] (h.initiator_task_tag == reserved_tag) (Some (UnsolicitedNopIn h)) (answer_due m (heads.NopIn h)) m bytes
-    (some_gets a [] m (UnsolicitedNopIn h) bytes s (gets_if a [] (is_tag h.target_transfer_tag) _ _ (nothing m _ a p refl refl s) (nothing m _ a p refl refl s)))
+    (some_gets a [] m (UnsolicitedNopIn h) bytes s (gets_if a [] (is_tag h.target_transfer_tag) _ _ (nothing m _ a p refl refl s)
+    (nothing m _ a p refl refl s)))
     (answer_gets (heads.NopIn h) m bytes a p s)
 full_gets (heads.AsyncMessage h) m bytes a p s = some_gets a [] m (Async h) bytes s (nothing m _ a p refl refl s)
 full_gets (heads.Reject h) m bytes a p s = some_gets a [] m (RejectPdu h) bytes s (shut refl (stands_at m _ a refl refl s))
 full_gets head m bytes a p s = answer_gets head m bytes a p s
 
-step_gets : (m : Machine) (message : Message) (a : List ℕ) → m.phase ≡ phases.Full → Stands m a → Gets a (data_piece message.head (segment_bytes message.segment)) (step m message).machine
+step_gets : (m : Machine) (message : Message) (a : List ℕ) → m.phase ≡ phases.Full → Stands m a →
+    Gets a (data_piece message.head (segment_bytes message.segment)) (step m message).machine
 unfolding step
 step_gets m message a p s =
-    subst (λ (x : Phase). Gets a (data_piece message.head (segment_bytes message.segment)) (step_in x m message).machine) (sym p) (full_gets message.head m (segment_bytes message.segment) a p s)
+    subst (λ (x : Phase). Gets a (data_piece message.head (segment_bytes message.segment)) (step_in x m message).machine) (sym p)
+    (full_gets message.head m (segment_bytes message.segment) a p s)
 
 -- ---- many messages
 
@@ -203,7 +233,8 @@ joins : (m : Machine) (a : List ℕ) (message : Message) (messages : List Messag
 joins m a message messages g h =
     let ps : Pieces = data_piece message.head (segment_bytes message.segment) in
     let qs : Pieces = data_pieces h.received in
-    let whole : a ++ data_of ps ++ data_of qs ≡ a ++ data_of (ps ++ qs) = append_assoc a (data_of ps) (data_of qs) ∙ ap (λ (x : List ℕ). a ++ x) (sym (bytes_then ps qs)) in
+    let whole : a ++ data_of ps ++ data_of qs ≡ a ++ data_of (ps ++ qs) = append_assoc a (data_of ps) (data_of qs)
+    ∙ ap (λ (x : List ℕ). a ++ x) (sym (bytes_then ps qs)) in
     let len : length (a ++ data_of ps) ≡ length a + length (data_of ps) = length-append a (data_of ps) in
     let end : length (a ++ data_of ps) + length (data_of qs) ≡ length a + length (data_of (ps ++ qs)) =
     sym (length-append (a ++ data_of ps) (data_of qs)) ∙ ap (λ (x : List ℕ). length x) whole ∙ length-append a (data_of (ps ++ qs)) in
@@ -220,7 +251,8 @@ joins m a message messages g h =
     }
 
 -- the session receives nothing more
-receives_none : (m : Machine) (a : List ℕ) (messages : List Message) → m.phase ≡ phases.Full → ((receives m messages).phase ≡ phases.Full → messages ≡ []) → Stands (receives m messages) a → Received m a messages
+receives_none : (m : Machine) (a : List ℕ) (messages : List Message) → m.phase ≡ phases.Full → ((receives m messages).phase ≡ phases.Full → messages ≡ []) →
+    Stands (receives m messages) a → Received m a messages
 receives_none m a messages p none s = record {
   received = [];
   rest = messages;
@@ -238,10 +270,19 @@ receives_all m a (message ∷ messages) p s =
       | shut e t ↦ (let is : receives (step m message).machine messages ≡ (step m message).machine = closed_receives (step m message).machine messages e in
           receives_none m a (message ∷ messages) p (λ f. absurd (subst (λ (x : Phase). IsShut x) (sym (ap (λ (x : Machine). x.phase) is ∙ e) ∙ f) tt))
           (subst (λ (x : Machine). Stands x a) (sym is) t))
-      | got g ↦ joins m a message messages g (receives_all (step m message).machine (a ++ data_of (data_piece message.head (segment_bytes message.segment))) messages g.full g.now)
+      | got g ↦ joins m a message messages g (receives_all (step m message).machine (a
+          ++ data_of (data_piece message.head (segment_bytes message.segment))) messages g.full g.now)
     ]
 
 pub reads_tile : ReadsTile
 reads_tile m messages p i =
     let h : Received m [] messages = receives_all m [] messages p (inl i) in
-    record { received = h.received; rest = h.rest; parts = h.parts; live = h.live; all = h.all; tiles = subst (λ (n : ℕ). TilesFrom 0 (data_pieces h.received) n) (omega arith) h.tiles; carries = h.now }
+    record {
+      received = h.received;
+      rest = h.rest;
+      parts = h.parts;
+      live = h.live;
+      all = h.all;
+      tiles = subst (λ (n : ℕ). TilesFrom 0 (data_pieces h.received) n) (omega arith) h.tiles;
+      carries = h.now;
+    }

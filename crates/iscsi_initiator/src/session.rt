@@ -9,9 +9,9 @@ ghost use Rattle.iscsi_initiator.specs.Steps.{closed};
 ghost use Rattle.iscsi_initiator.specs.Machine.{step, taken};
 ghost use Rattle.iscsi_initiator.specs.Inside.{Did};
 
-mod responses;
 mod full;
 mod login;
+mod responses;
 mod sequence;
 mod submit;
 
@@ -132,7 +132,7 @@ impl Session {
 
     /// Takes a message, which continues another login PDU or does not. Says which fault it led to, if
     /// it led to one; the session is closed then.
-    #[tactic(auto, using(crate::proofs::Stepping::full_bytes, crate::proofs::Stepping::step_is))]
+    #[tactic(auto, using(crate::proofs::StepLemmas::full_bytes, crate::proofs::StepLemmas::step_is))]
     pub fn step(
         &mut self,
         pdu: &Pdu<'_>,

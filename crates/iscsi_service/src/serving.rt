@@ -23,7 +23,7 @@ use std::net::{Ipv4Addr, TcpListener};
 ///
 /// The session is that of RFC 7143, sections 6 and 11; that it has a connection of its own is own
 /// rule.
-#[tactic(auto, using(crate::proofs::SessionReads::none_executed))]
+#[tactic(auto, using(crate::proofs::SessionReadInvariant::none_executed))]
 pub fn serve_one<S: BlockStore>(
     alloc: Global,
     listener: &TcpListener,

@@ -53,7 +53,7 @@ impl Model for OpenWrite {
 
 impl OpenWrite {
     /// How many bytes came.
-    #[tactic(auto, using(crate::proofs::OpenWrites::data_of_one))]
+    #[tactic(auto, using(crate::proofs::OpenWriteLemmas::data_of_one))]
     pub fn received(&self) -> u32
         ensures value { result ≡ received self.now }
         ensures fits { received self.now ≤ self.now.total }

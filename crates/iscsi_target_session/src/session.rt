@@ -8,10 +8,10 @@ ghost use Rattle.iscsi_target_session.specs.Session.{opening_session, max_cmd_sn
 ghost use Rattle.iscsi_target_session.specs.Rejecting.{reject, breach};
 ghost use Rattle.iscsi_target_session.specs.Replies.{Does};
 
-mod text_request;
 mod login;
 mod login_text;
 mod requests;
+mod text_request;
 
 use crate::config::Config;
 use crate::numbers::Numbers;
@@ -161,7 +161,7 @@ impl Session {
     }
 
     // One answer that carries StatSN and advances it. No rule is broken.
-    #[tactic(auto, using(crate::proofs::Answering::one_answer))]
+    #[tactic(auto, using(crate::proofs::ReplyBytesLemmas::one_answer))]
     fn send_response(
         &mut self,
         head: &Head,

@@ -93,7 +93,7 @@ impl Session {
     }
 
     // A NOP-In that answers no ping; one with a transfer tag is answered.
-    #[tactic(auto, using(crate::proofs::Counters::takes_broken, crate::proofs::Counters::takes_updated, crate::proofs::Writing::one_message))]
+    #[tactic(auto, using(crate::proofs::CounterLemmas::takes_broken, crate::proofs::CounterLemmas::takes_updated, crate::proofs::WritingLemmas::one_message))]
     fn on_nop_in(
         &mut self,
         head: &NopIn,
@@ -135,7 +135,7 @@ impl Session {
     }
 
     // An asynchronous message is counted, and asks for nothing.
-    #[tactic(auto, using(crate::proofs::Counters::takes_broken, crate::proofs::Counters::takes_updated))]
+    #[tactic(auto, using(crate::proofs::CounterLemmas::takes_broken, crate::proofs::CounterLemmas::takes_updated))]
     fn on_async(
         &mut self,
         head: &AsyncMessage,
@@ -155,7 +155,7 @@ impl Session {
     }
 
     // A Reject breaks a rule.
-    #[tactic(auto, using(crate::proofs::Counters::takes_broken, crate::proofs::Counters::takes_updated))]
+    #[tactic(auto, using(crate::proofs::CounterLemmas::takes_broken, crate::proofs::CounterLemmas::takes_updated))]
     fn on_reject(
         &mut self,
         head: &Reject,

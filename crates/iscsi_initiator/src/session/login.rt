@@ -239,7 +239,7 @@ impl Session {
     }
 
     // The present text is sent whole, or its first segment is.
-    #[tactic(auto, using(crate::proofs::Sending::sent_text))]
+    #[tactic(auto, using(crate::proofs::LoginSendLemmas::sent_text))]
     fn send_text(&mut self, out: &mut Vec<u8>) -> Result<(), AllocError>
         ensures ok { OnOk result (Did (sends_text self.old) None
             self.new out.old.items out.new.items) }
@@ -255,7 +255,7 @@ impl Session {
     }
 
     // The next segment of the present text is sent.
-    #[tactic(auto, using(crate::proofs::Sending::sent_more))]
+    #[tactic(auto, using(crate::proofs::LoginSendLemmas::sent_more))]
     fn send_more(&mut self, out: &mut Vec<u8>) -> Result<(), AllocError>
         ensures ok { OnOk result (Did (sends_more self.old) None
             self.new out.old.items out.new.items) }

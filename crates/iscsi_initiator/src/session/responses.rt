@@ -63,7 +63,7 @@ impl Session {
     }
 
     // The answer to a ping.
-    #[tactic(auto, using(crate::proofs::Counters::takes_broken, crate::proofs::Counters::takes_updated))]
+    #[tactic(auto, using(crate::proofs::CounterLemmas::takes_broken, crate::proofs::CounterLemmas::takes_updated))]
     fn on_pong(
         &mut self,
         head: &NopIn,
@@ -89,7 +89,7 @@ impl Session {
     }
 
     // Data of a read; with a status they complete it.
-    #[tactic(auto, using(crate::proofs::Counters::takes_broken, crate::proofs::Counters::takes_updated))]
+    #[tactic(auto, using(crate::proofs::CounterLemmas::takes_broken, crate::proofs::CounterLemmas::takes_updated))]
     fn on_data(
         &mut self,
         head: &DataIn,
@@ -193,12 +193,7 @@ impl Session {
     {
         match self.outstanding.take() {
             Some(Outstanding::In(reading)) => Bytes::from_vec(reading.received),
-            Some(
-                Outstanding::Out(_)
-                | Outstanding::Ping
-                | Outstanding::Text
-                | Outstanding::Logout,
-            )
+            Some(Outstanding::Out(_) | Outstanding::Ping | Outstanding::Text | Outstanding::Logout)
             | None => Bytes::from_vec(Vec::new(alloc)),
         }
     }
@@ -212,7 +207,7 @@ impl Session {
     }
 
     // A response completes its command, unless its sense is cut off.
-    #[tactic(auto, using(crate::proofs::Counters::takes_broken, crate::proofs::Counters::takes_updated))]
+    #[tactic(auto, using(crate::proofs::CounterLemmas::takes_broken, crate::proofs::CounterLemmas::takes_updated))]
     fn on_response(
         &mut self,
         head: &ScsiResponse,
@@ -225,7 +220,10 @@ impl Session {
         ensures err { OnErr result (rolled_back self.old self.new ≡ self.old) }
         ensures unwritten { OnErr result (out.new.items ≡ out.old.items) }
     {
-        if !matches!(self.outstanding, Some(Outstanding::In(_) | Outstanding::Out(_))) {
+        if !matches!(
+            self.outstanding,
+            Some(Outstanding::In(_) | Outstanding::Out(_))
+        ) {
             return Ok(self.protocol_error(KIND_NOT_DUE));
         }
         if let Some(rule) = self.broken_rule(bytes.len(), Some(head.stat_sn)) {
@@ -248,7 +246,7 @@ impl Session {
     }
 
     // An R2T is answered with one sequence.
-    #[tactic(auto, using(crate::proofs::Counters::takes_broken, crate::proofs::Counters::takes_updated))]
+    #[tactic(auto, using(crate::proofs::CounterLemmas::takes_broken, crate::proofs::CounterLemmas::takes_updated))]
     fn on_r2t(
         &mut self,
         head: &ReadyToTransfer,
@@ -355,7 +353,7 @@ impl Session {
     }
 
     // An answer to a text is to be whole.
-    #[tactic(auto, using(crate::proofs::Counters::takes_broken, crate::proofs::Counters::takes_updated))]
+    #[tactic(auto, using(crate::proofs::CounterLemmas::takes_broken, crate::proofs::CounterLemmas::takes_updated))]
     fn on_text_answer(
         &mut self,
         head: &TextResponse,
@@ -384,7 +382,7 @@ impl Session {
     }
 
     // The answer to a logout closes the session.
-    #[tactic(auto, using(crate::proofs::Counters::takes_broken, crate::proofs::Counters::takes_updated))]
+    #[tactic(auto, using(crate::proofs::CounterLemmas::takes_broken, crate::proofs::CounterLemmas::takes_updated))]
     fn on_logout(
         &mut self,
         head: &LogoutResponse,

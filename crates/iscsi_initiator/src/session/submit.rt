@@ -92,7 +92,7 @@ impl Session {
     }
 
     // Appends what an accepted request sends, or leaves `out` as it was.
-    #[tactic(auto, using(crate::proofs::Writing::one_message))]
+    #[tactic(auto, using(crate::proofs::WritingLemmas::one_message))]
     fn write_request(&self, request: &Request, out: &mut Vec<u8>) -> Result<(), AllocError>
         requires { is_too_long self.now request.now ≡ false }
         ensures ok { OnOk result
@@ -126,7 +126,7 @@ impl Session {
     }
 
     // Appends a write's command with its immediate data, and its unsolicited data.
-    #[tactic(auto, using(crate::proofs::Writing::write_sent))]
+    #[tactic(auto, using(crate::proofs::WritingLemmas::write_sent))]
     fn write_out(
         &self,
         lun: u64,

@@ -1,32 +1,6 @@
 -- Both ends of a pair, in every world that it comes to.
-use Rattle.std.proofs.Common.{
-  ◌≡◌,
-  ℕ,
-  Bool,
-  true,
-  false,
-  List,
-  [],
-  ◌∷◌,
-  ◌++◌,
-  length,
-  take,
-  drop,
-  Option,
-  Some,
-  None,
-  Result,
-  Ok,
-  Err,
-  inl,
-  inr,
-  refl,
-  sym,
-  ap,
-  ◌∙◌,
-  subst,
-  append_assoc,
-}
+use Rattle.std.proofs.Common.{◌≡◌, ℕ, Bool, true, false, List, [], ◌∷◌, ◌++◌, length, take, drop, Option, Some, None, Result, Ok, Err, inl, inr, refl, sym, ap}
+use Rattle.std.proofs.Common.{◌∙◌, subst, append_assoc}
 use Rattle.std.specs.Result.{result_err}
 use Rattle.std.proofs.Math.Seq.{drop-append_seam, drop-length}
 use Rattle.std.proofs.lemmas.List.{append-nil, take-append-drop, length-take, drop_min}
@@ -48,45 +22,14 @@ use Rattle.iscsi_initiator.specs.Submitted.{submitted}
 use Rattle.iscsi_initiator.specs.Calls as initiator
 use Rattle.iscsi_initiator.specs.Calls.{received_steps}
 use Rattle.iscsi_pair.specs.declared.step.EndFault.{EndFault}
-use Rattle.iscsi_pair.specs.World.{
-  World,
-  Opening,
-  Event,
-  ToTarget,
-  ToInitiator,
-  Submits,
-  Takes,
-  TargetReceives,
-  InitiatorReceives,
-  MovesToTarget,
-  MovesToInitiator,
-  Asks,
-  Happens,
-  Runs,
-  new_pair,
-  store_of,
-  feed_fault,
-  submit_fault,
-}
+use Rattle.iscsi_pair.specs.World.{World, Opening, Event, ToTarget, ToInitiator, Submits, Takes, TargetReceives, InitiatorReceives, MovesToTarget}
+use Rattle.iscsi_pair.specs.World.{MovesToInitiator, Asks, Happens, Runs, new_pair, store_of, feed_fault, submit_fault}
 use Rattle.iscsi_initiator.specs.Laws as inputs
 use Rattle.iscsi_pair.specs.Traffic.{Traffic, first_traffic, behind, traffic_after, Traces}
-use Rattle.iscsi_pair.proofs.Ends.TargetRun.{
-  TargetSide,
-  target_heard,
-  opening_side as target_opening,
-  front_drops as target_drops,
-  failed_drops as target_failed,
-}
-use Rattle.iscsi_pair.proofs.Ends.InitiatorRun.{
-  InitiatorSide,
-  initiator_heard,
-  initiator_asked,
-  initiator_took_outcome,
-  failed_drops,
-  fault_drops,
-  opening_side as initiator_opening,
-  front_drops as initiator_drops,
-}
+use Rattle.iscsi_pair.proofs.Ends.TargetRun.{TargetSide, target_heard, opening_side as target_opening, front_drops as target_drops}
+use Rattle.iscsi_pair.proofs.Ends.TargetRun.{failed_drops as target_failed}
+use Rattle.iscsi_pair.proofs.Ends.InitiatorRun.{InitiatorSide, initiator_heard, initiator_asked, initiator_took_outcome, failed_drops, fault_drops}
+use Rattle.iscsi_pair.proofs.Ends.InitiatorRun.{opening_side as initiator_opening, front_drops as initiator_drops}
 
 -- what holds of a world and of what went between its ends, where the initiator met these inputs first
 pub record SidesFrom (past : List inputs.Input) (c : Opening) (t : Traffic) (w : World) : Type 0 where
@@ -166,7 +109,8 @@ initiator_grows (Ok phase) old piece new before after e =
 initiator_grows (Err faults.NoMemory) old piece new before after e = grows_none before after e.1.output
 initiator_grows (Err (faults.Stream fault)) old piece new before after e = stream_grows fault old piece new before after e
 initiator_grows (Err (faults.Protocol rule)) old piece new before after e = record { more = canon (received_steps old piece e.0).output; is = e.1.output }
-initiator_grows (Err (faults.Refused class detail)) old piece new before after e = record { more = canon (received_steps old piece e.0).output; is = e.1.output }
+initiator_grows (Err (faults.Refused class detail)) old piece new before after e =
+    record { more = canon (received_steps old piece e.0).output; is = e.1.output }
 initiator_grows (Err (faults.BadAnswer key)) old piece new before after e = record { more = canon (received_steps old piece e.0).output; is = e.1.output }
 initiator_grows (Err faults.Closed) old piece new before after e = grows_none before after e.output
 

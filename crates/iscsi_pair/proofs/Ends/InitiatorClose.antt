@@ -8,8 +8,8 @@ use Rattle.iscsi_pdu.specs.declared.head.Head.TheVariants as heads
 use Rattle.iscsi_pdu.specs.declared.head.login_response.LoginResponse.{LoginResponse}
 use Rattle.iscsi_stream.specs.Segment.{Segment, Text, Bytes, segment_bytes}
 use Rattle.iscsi_stream.specs.Stream.{Message}
-use Rattle.iscsi_stream.proofs.Ready.{apart}
-use Rattle.iscsi_initiator.proofs.OneOutcome.{closed_step}
+use Rattle.iscsi_stream.proofs.ReadyLemmas.{apart}
+use Rattle.iscsi_initiator.proofs.OneOutcomeLaw.{closed_step}
 use Rattle.iscsi_login.specs.declared.phase.Phase.{Phase}
 use Rattle.iscsi_login.specs.declared.phase.Phase.TheVariants as phases
 use Rattle.iscsi_login.specs.declared.stage.Stage.{Stage}
@@ -24,29 +24,12 @@ use Rattle.iscsi_initiator.specs.declared.request.SubmitFault.{SubmitFault}
 use Rattle.iscsi_initiator.specs.State.{Machine, is_closed}
 use Rattle.iscsi_login.specs.Stage.{is_closed_phase}
 use Rattle.iscsi_initiator.specs.Steps.{Stepped, fails, protocol_error, sends}
-use Rattle.iscsi_initiator.specs.Login.{
-  login_step,
-  answered,
-  in_turn,
-  is_expected,
-  goes_on,
-  moves_on,
-  text_answered,
-  judged,
-  begins_stage,
-  requested_stage,
-  counted,
-  sends_more,
-  sends_text,
-  sends_cut,
-  offered,
-  fits_segment,
-  login_message,
-}
+use Rattle.iscsi_initiator.specs.Login.{login_step, answered, in_turn, is_expected, goes_on, moves_on, text_answered, judged, begins_stage, requested_stage}
+use Rattle.iscsi_initiator.specs.Login.{counted, sends_more, sends_text, sends_cut, offered, fits_segment, login_message}
 use Rattle.iscsi_initiator.specs.Full.{due}
 use Rattle.iscsi_initiator.specs.Machine.{step, step_in, steps}
 use Rattle.iscsi_initiator.specs.Submitted.{submitted, or_accepted, accepted, refusal}
-use Rattle.iscsi_initiator.proofs.Stepping.{step_is}
+use Rattle.iscsi_initiator.proofs.StepLemmas.{step_is}
 use Rattle.iscsi_initiator.proofs.HeldLaws.{takes_keeps}
 use Rattle.iscsi_pair.specs.Traffic.{after_all}
 use Rattle.iscsi_initiator.specs.Laws.{Input, Comes, Asks, Takes, met}
@@ -95,14 +78,16 @@ text_well m h (Text pairs) p = judged_well (bad_key (offered m) pairs) m h pairs
 
 turn_well : (left : List ℕ) (m : Machine) (h : LoginResponse) (segment : Segment) → m.phase ≡ phases.Login → EndsWell (in_turn left m h segment)
 turn_well [] m h segment p = by_cases (moves_on m h) (text_answered m h segment) (protocol_error m 7) (text_well m h segment p) (failed m _)
-turn_well (byte ∷ bytes) m h segment p = by_cases (goes_on m h segment) (sends_more (counted m h)) (protocol_error m 7) (goes (sends_more (counted m h)) p) (failed m _)
+turn_well (byte ∷ bytes) m h segment p = by_cases (goes_on m h segment) (sends_more (counted m h)) (protocol_error m 7) (goes (sends_more (counted m h)) p)
+    (failed m _)
 
 answered_well : (m : Machine) (h : LoginResponse) (segment : Segment) → m.phase ≡ phases.Login → EndsWell (answered m h segment)
 answered_well m h segment p =
     by_cases (not (h.status_class == 0)) (fails m (Refused h.status_class h.status_detail)) (if not (is_expected m.exp_stat_sn (unwrap_or h.stat_sn 0)) then
     protocol_error m 6 else in_turn m.unsent_text m h segment)
     (failed m _)
-    (by_cases (not (is_expected m.exp_stat_sn (unwrap_or h.stat_sn 0))) (protocol_error m 6) (in_turn m.unsent_text m h segment) (failed m _) (turn_well m.unsent_text m h segment p))
+    (by_cases (not (is_expected m.exp_stat_sn (unwrap_or h.stat_sn 0))) (protocol_error m 6) (in_turn m.unsent_text m h segment) (failed m _)
+    (turn_well m.unsent_text m h segment p))
 
 login_well : (m : Machine) (head : Head) (segment : Segment) → m.phase ≡ phases.Login → EndsWell (login_step m head segment)
 login_well m (heads.LoginResponse h) segment p = by_cases (h.initiator_task_tag == 0) (answered m h segment) (protocol_error m 1) (answered_well m h segment p)

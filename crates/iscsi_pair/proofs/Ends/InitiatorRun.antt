@@ -1,34 +1,6 @@
 -- The initiator's end of a pair: what it has received and said, whatever came of it.
-use Rattle.std.proofs.Common.{
-  ◌≡◌,
-  ◌≢◌,
-  ℕ,
-  Bool,
-  true,
-  false,
-  List,
-  [],
-  ◌∷◌,
-  ◌++◌,
-  take,
-  drop,
-  map,
-  Option,
-  Some,
-  None,
-  Result,
-  Ok,
-  Err,
-  inl,
-  inr,
-  refl,
-  sym,
-  ap,
-  ◌∙◌,
-  subst,
-  append_assoc,
-  arith,
-}
+use Rattle.std.proofs.Common.{◌≡◌, ◌≢◌, ℕ, Bool, true, false, List, [], ◌∷◌, ◌++◌, take, drop, map, Option, Some, None, Result, Ok, Err, inl, inr, refl, sym}
+use Rattle.std.proofs.Common.{ap, ◌∙◌, subst, append_assoc, arith}
 use Rattle.std.specs.Prelude.{if◌then◌else◌}
 use Rattle.std.specs.Result.{result_err}
 use Rattle.std.proofs.lemmas.List.{append-nil, take-append-drop, take_all}
@@ -38,8 +10,8 @@ use Rattle.iscsi_stream.specs.Canonical.{canon}
 use Rattle.iscsi_stream.specs.declared.fault.StreamFault.{StreamFault}
 use Rattle.iscsi_stream.specs.declared.fault.StreamFault.TheVariants as stream
 use Rattle.iscsi_stream.specs.Framing.{Framing, HasTaken, FeedFails, is_ready}
-use Rattle.iscsi_stream.proofs.Taking.{at_opening}
-use Rattle.iscsi_stream.proofs.Ready.{not_whole-nil, apart}
+use Rattle.iscsi_stream.proofs.TakingLemmas.{at_opening}
+use Rattle.iscsi_stream.proofs.ReadyLemmas.{not_whole-nil, apart}
 use Rattle.iscsi_login.specs.declared.phase.Phase.{Phase}
 use Rattle.iscsi_login.specs.declared.phase.Phase.TheVariants as phases
 use Rattle.iscsi_initiator.specs.declared.fault.InitiatorFault.{InitiatorFault}
@@ -54,22 +26,9 @@ use Rattle.iscsi_text.specs.Canonical.{canonical_text}
 use Rattle.iscsi_initiator.specs.Login.{start_step, fits_segment, offered}
 use Rattle.iscsi_initiator.specs.Machine.{step, steps, taken}
 use Rattle.iscsi_initiator.specs.Submitted.{submitted, or_accepted, refusal, refusal_in}
-use Rattle.iscsi_initiator.specs.Calls.{
-  Connection,
-  Received,
-  received_steps,
-  Feeds,
-  ReceivesAll,
-  ClosesAt,
-  StreamEnds,
-  StreamFails,
-  Stays,
-  Submits,
-  Accepts,
-  after_taking,
-  limit,
-}
-use Rattle.iscsi_initiator.proofs.OneOutcome.{closed_step, no_fault, not_live}
+use Rattle.iscsi_initiator.specs.Calls.{Connection, Received, received_steps, Feeds, ReceivesAll, ClosesAt, StreamEnds, StreamFails, Stays, Submits, Accepts}
+use Rattle.iscsi_initiator.specs.Calls.{after_taking, limit}
+use Rattle.iscsi_initiator.proofs.OneOutcomeLaw.{closed_step, no_fault, not_live}
 use Rattle.iscsi_login.specs.declared.stage.Stage.TheVariants as stages
 use Rattle.iscsi_pair.proofs.Ends.InitiatorClose.{IsFullStage, asked_phase, steps_well, inputs_full, text_goes}
 use Rattle.iscsi_pair.specs.declared.step.EndFault.{EndFault}
@@ -77,7 +36,7 @@ use Rattle.iscsi_pair.specs.declared.step.EndFault.TheVariants as ends
 use Rattle.iscsi_pair.specs.World.{Opening, started, new_pair, feed_fault, submit_fault}
 use Rattle.iscsi_pair.specs.Traffic.{sent_in, after_all, sent, coming, coming_in, demanded, demanded_in}
 use Rattle.iscsi_initiator.specs.Laws.{Input, Comes, Asks, Takes, met}
-use Rattle.iscsi_stream.proofs.Writing.{canon_append}
+use Rattle.iscsi_stream.proofs.WritingLemmas.{canon_append}
 
 -- ---- inputs, one after another
 
@@ -437,7 +396,8 @@ heard_front past c acts moved prior before bytes after lost old new l h out stag
     append_assoc moved (take h.count bytes) (drop h.count bytes) ∙ ap (λ (x : List ℕ). moved ++ x) (take-append-drop h.count bytes) in
     subst (λ (x : List ℕ). InitiatorFront c x (prior ++ after) new) all
     (front_taken c (moved ++ take h.count bytes) (drop h.count bytes) (prior ++ after) lost o.is h.framing new o.taken
-    (append_assoc prior after lost ∙ ap (λ (x : List ℕ). prior ++ x) out ∙ sym (append_assoc prior before (canon (received_steps old bytes h).output)) ∙ o.output)
+    (append_assoc prior after lost ∙ ap (λ (x : List ℕ). prior ++ x) out ∙ sym (append_assoc prior before (canon (received_steps old bytes h).output))
+    ∙ o.output)
     (stage ∙ ap (λ (m : Machine). m.stage) o.machine) (held ∙ ap (λ (m : Machine). m.held) o.machine))
 
 hears_all : (past : List Input) (c : Opening) (acts : List Input) (moved prior before bytes after : List ℕ) (old new : Connection) (phase : Phase)
@@ -494,7 +454,8 @@ closes_ended past c acts moved prior before bytes after old new fault l h e =
       whole = ap (λ (x : List ℕ). moved ++ x) (sym (take-append-drop h.count bytes)) ∙ sym (append_assoc moved (take h.count bytes) (drop h.count bytes))
           ∙ ap (λ (x : List ℕ). x ++ drop h.count bytes) o.taken.whole ∙ append_assoc o.taken.given o.taken.rest (drop h.count bytes);
       reads = o.taken.reads;
-      output = append-nil (prior ++ after) ∙ ap (λ (x : List ℕ). prior ++ x) e.output ∙ sym (append_assoc prior before (canon (received_steps old bytes h).output))
+      output = append-nil (prior ++ after) ∙ ap (λ (x : List ℕ). prior ++ x) e.output
+          ∙ sym (append_assoc prior before (canon (received_steps old bytes h).output))
           ∙ o.output;
       stage = ap (λ (m : Machine). m.stage) e.machine ∙ ap (λ (m : Machine). m.stage) o.machine;
       closed = sym (ap is_closed o.machine) ∙ e.closes;

@@ -5,13 +5,13 @@ use Rattle.std.proofs.lemmas.Bool.{or_parts}
 use Rattle.scsi_disk.specs.Disk.{disk_of}
 use Rattle.iscsi_stream.specs.Stream.{Message}
 use Rattle.iscsi_stream.specs.Framing.{HasTaken}
-use Rattle.iscsi_stream.proofs.Ready.{apart}
+use Rattle.iscsi_stream.proofs.ReadyLemmas.{apart}
 use Rattle.iscsi_login.specs.declared.phase.Phase.{Phase}
 use Rattle.iscsi_target.specs.declared.fault.TargetFault.{TargetFault}
 use Rattle.iscsi_target.specs.declared.fault.TargetFault.TheVariants as target_faults
 use Rattle.iscsi_target.specs.Machine as target_machine
 use Rattle.iscsi_target.specs.Feed as target
-use Rattle.iscsi_target.proofs.OneOutcome.{one_outcome}
+use Rattle.iscsi_target.proofs.OneOutcomeLaw.{one_outcome}
 use Rattle.iscsi_initiator.specs.declared.fault.InitiatorFault.{InitiatorFault}
 use Rattle.iscsi_initiator.specs.declared.fault.InitiatorFault.TheVariants as faults
 use Rattle.iscsi_initiator.specs.declared.request.Refused.{Refused}
@@ -20,34 +20,12 @@ use Rattle.iscsi_initiator.specs.declared.request.SubmitFault.{SubmitFault}
 use Rattle.iscsi_initiator.specs.State.{is_closed}
 use Rattle.iscsi_initiator.specs.Machine.{taken}
 use Rattle.iscsi_initiator.specs.Calls as initiator
-use Rattle.iscsi_initiator.proofs.OneOutcome.{one_feed, one_submit}
+use Rattle.iscsi_initiator.proofs.OneOutcomeLaw.{one_feed, one_submit}
 use Rattle.iscsi_pair.specs.declared.step.EndFault.{EndFault}
 use Rattle.iscsi_pair.specs.declared.step.EndFault.TheVariants as ends
-use Rattle.iscsi_pair.specs.World.{
-  World,
-  Opening,
-  Event,
-  ToTarget,
-  ToInitiator,
-  Submits,
-  Takes,
-  TargetReceives,
-  InitiatorReceives,
-  InitiatorIsAsked,
-  MovesToTarget,
-  MovesToInitiator,
-  Asks,
-  Happens,
-  RunsCalmly,
-  LooksAlike,
-  new_pair,
-  store_of,
-  feed_fault,
-  submit_fault,
-  target_ran_out,
-  initiator_ran_out,
-  keeps_no_memory,
-}
+use Rattle.iscsi_pair.specs.World.{World, Opening, Event, ToTarget, ToInitiator, Submits, Takes, TargetReceives, InitiatorReceives, InitiatorIsAsked}
+use Rattle.iscsi_pair.specs.World.{MovesToTarget, MovesToInitiator, Asks, Happens, RunsCalmly, LooksAlike, new_pair, store_of, feed_fault, submit_fault}
+use Rattle.iscsi_pair.specs.World.{target_ran_out, initiator_ran_out, keeps_no_memory}
 use Rattle.iscsi_pair.specs.Traffic.{Traffic, coming, first_traffic, traffic_after}
 use Rattle.iscsi_pair.proofs.Ends.BothRuns.{Sides, happens_sides, opening_sides}
 

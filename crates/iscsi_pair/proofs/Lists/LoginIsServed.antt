@@ -14,7 +14,7 @@ use Rattle.iscsi_target_session.specs.LoginText.{answer_pairs}
 use Rattle.iscsi_target.specs.State as target
 use Rattle.iscsi_target.specs.Machine as target_machine
 use Rattle.iscsi_target.specs.Machine.{answers}
-use Rattle.iscsi_target.proofs.Continuing.{then_nothing}
+use Rattle.iscsi_target.proofs.ContinuationLemmas.{then_nothing}
 use Rattle.iscsi_initiator.specs.Configured.{IsStart}
 use Rattle.iscsi_initiator.specs.State as initiator
 use Rattle.iscsi_initiator.specs.Steps.{Stepped}
@@ -87,10 +87,15 @@ less_left : (c : Opening) (i : initiator.Machine) (t : target.Machine) (r answer
     → 64 ≤ c.initiator.login_segment → PartTurn i t disk r answer → IsNearer i (step i answer).machine
 less_left c i t r answer disk same least q =
     let left : (step i answer).machine.unsent_text ≡ drop i.settings.login_segment i.unsent_text = ap (λ (x : Stepped). x.machine.unsent_text) q.now in
-    let size : length (drop i.settings.login_segment i.unsent_text) ≡ length i.unsent_text - i.settings.login_segment = length-drop i.settings.login_segment i.unsent_text in
+    let size : length (drop i.settings.login_segment i.unsent_text) ≡ length i.unsent_text - i.settings.login_segment =
+    length-drop i.settings.login_segment i.unsent_text in
     let most : i.settings.login_segment ≡ c.initiator.login_segment = ap (λ (x : initiator.Settings). x.login_segment) same in
     let some = q.some in
-    inl (ap (λ (x : Stepped). x.machine.stage) q.now, subst (λ (x : List ℕ). length x < length i.unsent_text) (sym left) (omega (arith, size, most, least, some)))
+    inl (
+      ap (λ (x : Stepped). x.machine.stage) q.now,
+      subst (λ (x : List ℕ). length x < length i.unsent_text) (sym left)
+          (omega (arith, size, most, least, some)),
+    )
 
 -- one message is one step
 one_step : (t : target.Machine) (disk : Disk) (r : Message) → answers t disk (r ∷ []) ≡ target_machine.step t disk r

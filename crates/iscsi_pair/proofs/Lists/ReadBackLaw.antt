@@ -19,7 +19,7 @@ use Rattle.scsi_disk.specs.declared.order.Plan.TheVariants.{Take, Give}
 use Rattle.iscsi_pdu.specs.Meaning.{AreBytes}
 use Rattle.iscsi_login.specs.Name.{IsName}
 use Rattle.iscsi_login.specs.Negotiation.{IsInRange, standard}
-use Rattle.iscsi_target_session.proofs.Cases.{and_left, and_right}
+use Rattle.iscsi_target_session.proofs.CaseLemmas.{and_left, and_right}
 use Rattle.iscsi_initiator.specs.Block.{record_of}
 use Rattle.iscsi_initiator.specs.declared.request.Done.TheVariants as done
 use Rattle.iscsi_initiator.specs.declared.request.Request.{Request}

@@ -6,12 +6,12 @@ use Rattle.iscsi_stream.specs.declared.logins.Logins.{Logins}
 use Rattle.iscsi_stream.specs.Segment.{after}
 use Rattle.iscsi_stream.specs.Stream.{Message, after_all}
 use Rattle.iscsi_stream.specs.Canonical.{canon}
-use Rattle.iscsi_stream.proofs.Writing.{canon_append}
+use Rattle.iscsi_stream.proofs.WritingLemmas.{canon_append}
 use Rattle.iscsi_login.specs.Held.{Held}
 use Rattle.iscsi_login.specs.Stage.{is_closed_phase}
 use Rattle.iscsi_target.specs.State as target
 use Rattle.iscsi_target.specs.Machine.{answers}
-use Rattle.iscsi_target.proofs.Sound.{IsSound, answers_count, answers_sound}
+use Rattle.iscsi_target.proofs.WriteTilingLaws.{IsSound, answers_count, answers_sound}
 use Rattle.iscsi_initiator.specs.declared.request.Done.{Done}
 use Rattle.iscsi_initiator.specs.declared.request.Request.{Request}
 use Rattle.iscsi_initiator.specs.Laws.{listed}

@@ -1,35 +1,6 @@
 -- Events between two ends of which neither has a begun PDU: where each leads.
-use Rattle.std.proofs.Common.{
-  ◌≡◌,
-  ◌<◌,
-  ◌≤◌,
-  ◌⊎◌,
-  inl,
-  inr,
-  ℕ,
-  ◌+◌,
-  min,
-  max,
-  Bool,
-  true,
-  false,
-  List,
-  [],
-  ◌∷◌,
-  ◌++◌,
-  length,
-  take,
-  drop,
-  None,
-  Ok,
-  refl,
-  sym,
-  ap,
-  ◌∙◌,
-  subst,
-  append_assoc,
-  arith,
-}
+use Rattle.std.proofs.Common.{◌≡◌, ◌<◌, ◌≤◌, ◌⊎◌, inl, inr, ℕ, ◌+◌, min, max, Bool, true, false, List, [], ◌∷◌, ◌++◌, length, take, drop, None, Ok, refl, sym}
+use Rattle.std.proofs.Common.{ap, ◌∙◌, subst, append_assoc, arith}
 use Rattle.std.proofs.Math.Seq.{drop-append_seam, drop-length}
 use Rattle.std.proofs.lemmas.List.{append-nil, drop_at, length-append, nil_from_length, take-append-le, take_all, take_at}
 use Rattle.scsi_disk.specs.Disk.{Disk, disk_of}
@@ -38,11 +9,11 @@ use Rattle.iscsi_stream.specs.Segment.{no_login, after}
 use Rattle.iscsi_stream.specs.Stream.{Message, ReadsAs, after_all, pdu_len}
 use Rattle.iscsi_stream.specs.Canonical.{canon, canonical_bytes}
 use Rattle.iscsi_stream.specs.Framing.{Framing, Moves, begun_len, is_ready, last_place, length_at, longest_of, settled}
-use Rattle.iscsi_stream.proofs.Heads.{length_at-same, means-length}
-use Rattle.iscsi_stream.proofs.Gathered.{begun_len-short}
-use Rattle.iscsi_stream.proofs.Settled.{settled-short, length-settled}
-use Rattle.iscsi_stream.proofs.Ready.{not_whole-nil}
-use Rattle.iscsi_stream.proofs.Writing.{canon_append}
+use Rattle.iscsi_stream.proofs.HeadLemmas.{length_at-same, means-length}
+use Rattle.iscsi_stream.proofs.GatheringLemmas.{begun_len-short}
+use Rattle.iscsi_stream.proofs.SettledBytesLemmas.{settled-short, length-settled}
+use Rattle.iscsi_stream.proofs.ReadyLemmas.{not_whole-nil}
+use Rattle.iscsi_stream.proofs.WritingLemmas.{canon_append}
 use Rattle.iscsi_login.specs.declared.phase.Phase.{Phase}
 use Rattle.iscsi_login.specs.declared.phase.Phase.TheVariants as phases
 use Rattle.iscsi_login.specs.Stage.{is_closed_phase}
@@ -54,7 +25,7 @@ use Rattle.iscsi_target.specs.Laws.{joined_stepped}
 use Rattle.iscsi_target.specs.Machine as target_machine
 use Rattle.iscsi_target.specs.Machine.{MayAnswer, RunsIn, answers}
 use Rattle.iscsi_target.specs.Feed as target_calls
-use Rattle.iscsi_target.proofs.Joining.{answers_joined}
+use Rattle.iscsi_target.proofs.JoiningLemmas.{answers_joined}
 use Rattle.iscsi_initiator.specs.declared.request.Request.{Request}
 use Rattle.iscsi_initiator.specs.State as initiator
 use Rattle.iscsi_initiator.specs.State.{is_closed}
@@ -63,21 +34,8 @@ use Rattle.iscsi_initiator.specs.Submitted.{submitted}
 use Rattle.iscsi_initiator.specs.Calls as calls
 use Rattle.iscsi_initiator.specs.Calls.{received_steps}
 use Rattle.iscsi_initiator.specs.declared.request.Done.{Done}
-use Rattle.iscsi_pair.specs.World.{
-  World,
-  Opening,
-  Event,
-  ToTarget,
-  ToInitiator,
-  Submits,
-  TargetReceives,
-  InitiatorReceives,
-  MovesToTarget,
-  MovesToInitiator,
-  Happens,
-  keeps_no_memory,
-  store_of,
-}
+use Rattle.iscsi_pair.specs.World.{World, Opening, Event, ToTarget, ToInitiator, Submits, TargetReceives, InitiatorReceives, MovesToTarget, MovesToInitiator}
+use Rattle.iscsi_pair.specs.World.{Happens, keeps_no_memory, store_of}
 use Rattle.iscsi_pair.specs.Served.{IsAccepted, RunsServed, requests_of, requests_in, given_in}
 use Rattle.iscsi_pair.proofs.Request.Invariant.{AreWritten, IsWritten}
 use Rattle.iscsi_pair.proofs.Run.QueueReading.{after_all_append, reads_joined, written_reads}
@@ -385,7 +343,8 @@ initiator_asked c i t blocks place place_back there here out back request e = re
 
 pub requests_append : (a b : List Event) → requests_of (a ++ b) ≡ requests_of a ++ requests_of b
 requests_append [] b = refl
-requests_append (event ∷ a) b = ap (λ (x : List Request). requests_in event ++ x) (requests_append a b) ∙ sym (append_assoc (requests_in event) (requests_of a) (requests_of b))
+requests_append (event ∷ a) b = ap (λ (x : List Request). requests_in event ++ x) (requests_append a b)
+    ∙ sym (append_assoc (requests_in event) (requests_of a) (requests_of b))
 
 pub served_more : (old : World) (events : List Event) (mid : World) (outcomes : List Done) (event : Event) (new : World)
     → RunsServed old events mid outcomes → Happens mid event new → IsAccepted event mid

@@ -1,30 +1,6 @@
 -- Two ends that suit each other: the target refuses nothing, and the initiator finds no fault in an answer.
-use Rattle.std.proofs.Common.{
-  ◌≡◌,
-  ◌≢◌,
-  ◌≤◌,
-  ◌⊎◌,
-  inl,
-  inr,
-  ℕ,
-  Bool,
-  true,
-  false,
-  List,
-  [],
-  ◌∷◌,
-  length,
-  Option,
-  Some,
-  None,
-  refl,
-  sym,
-  ap,
-  ◌∙◌,
-  subst,
-  arith,
-  replicate,
-}
+use Rattle.std.proofs.Common.{◌≡◌, ◌≢◌, ◌≤◌, ◌⊎◌, inl, inr, ℕ, Bool, true, false, List, [], ◌∷◌, length, Option, Some, None, refl, sym, ap, ◌∙◌, subst, arith}
+use Rattle.std.proofs.Common.{replicate}
 use Rattle.std.specs.Prelude.{not, ◌&&◌, nat_lt, is_none, if◌then◌else◌, unwrap_or, codes}
 use Rattle.std.specs.List.{AllByRecursion}
 use Rattle.std.proofs.lemmas.Bool.{le-leb}
@@ -46,27 +22,14 @@ use Rattle.iscsi_login.specs.Answer.{max_recv_key}
 use Rattle.iscsi_login.specs.Offers.{Proposal, names, target_pair, offers_at, security_offers, operational_offers, single_offers}
 use Rattle.iscsi_initiator.specs.Configured.{IsStart}
 use Rattle.std.proofs.lemmas.List.{length-append}
-use Rattle.iscsi_text.proofs.Keys.{bytes_eq_same}
-use Rattle.iscsi_text.proofs.Order.{all_in_order}
+use Rattle.iscsi_text.proofs.KeyLemmas.{bytes_eq_same}
+use Rattle.iscsi_text.proofs.OrderLemmas.{all_in_order}
 use Rattle.iscsi_pair.proofs.Wire.TextSizes.{IsShort, text_short, length-in_order, security_short, operational_short, single_short}
 use Rattle.iscsi_target_session.specs.declared.status.Status.{Status}
 use Rattle.iscsi_target_session.specs.Session.{Session as TargetSession}
 use Rattle.scsi_disk.specs.Plan.{first_of}
-use Rattle.iscsi_target_session.specs.LoginText.{
-  answer_pairs,
-  is_normal,
-  session_for,
-  text_refusals,
-  known_keys,
-  repeats_key,
-  seen_with,
-  value_for,
-  is_name,
-  session_in,
-  names_target,
-  demands_authentication,
-  is_bad_length,
-}
+use Rattle.iscsi_target_session.specs.LoginText.{answer_pairs, is_normal, session_for, text_refusals, known_keys, repeats_key, seen_with, value_for, is_name}
+use Rattle.iscsi_target_session.specs.LoginText.{session_in, names_target, demands_authentication, is_bad_length}
 
 -- ---- what a target reads in an offer
 
@@ -240,7 +203,8 @@ asks_for sessions.Discovery e o pairs is t s name =
     let n : is_normal (session_for e pairs) ≡ false = ap is_normal (session_is e pairs o.session t s.session ∙ is) in
     (inl n, inl n)
 
-pub first_text : (e : TargetSession) (o : Proposal) (pairs : Pairs) → e.has_text ≡ false → e.seen_keys ≡ replicate 27 false → IsName o.initiator → SaysWho o pairs
+pub first_text : (e : TargetSession) (o : Proposal) (pairs : Pairs) → e.has_text ≡ false → e.seen_keys ≡ replicate 27 false → IsName o.initiator →
+    SaysWho o pairs
     → (o.session ≡ sessions.Discovery) ⊎ (o.target ≡ e.settings.name) → demands_authentication e.settings.preferences (value_for (codes "AuthMethod") pairs)
     ≡ false
     → is_bad_length (value_for max_recv_key pairs) ≡ false → nat_lt 8192 (length (canonical_text (answer_pairs e pairs))) ≡ false

@@ -5,7 +5,7 @@ use Rattle.iscsi_stream.specs.declared.logins.Logins.{Logins}
 use Rattle.iscsi_stream.specs.Segment.{after as logins_after}
 use Rattle.iscsi_stream.specs.Stream.{Message, ReadsAs}
 use Rattle.iscsi_stream.specs.Canonical.{canon, canonical_bytes}
-use Rattle.iscsi_stream.proofs.Meaning.{no_pdu_none}
+use Rattle.iscsi_stream.proofs.OneMeaningLaw.{no_pdu_none}
 use Rattle.iscsi_login.specs.declared.phase.Phase.{Phase}
 use Rattle.iscsi_login.specs.declared.phase.Phase.TheVariants as phases
 use Rattle.iscsi_login.specs.declared.stage.Stage.TheVariants as stages
@@ -23,7 +23,7 @@ use Rattle.iscsi_initiator.specs.Machine.{step, taken}
 use Rattle.iscsi_initiator.specs.Submitted.{Submitted, submitted, or_accepted, refusal_in}
 use Rattle.iscsi_initiator.specs.Laws as history
 use Rattle.iscsi_initiator.proofs.HeldLaws.{held_stays}
-use Rattle.iscsi_initiator.proofs.OneOutcome.{closed_step}
+use Rattle.iscsi_initiator.proofs.OneOutcomeLaw.{closed_step}
 use Rattle.iscsi_pair.specs.World.{Opening, IsOpening}
 use Rattle.iscsi_pair.specs.Traffic.{after_all, sent, coming}
 use Rattle.iscsi_initiator.specs.Laws.{Input, Comes, Asks, Takes, met}
@@ -32,7 +32,7 @@ use Rattle.iscsi_pair.proofs.Wire.PrefixLemmas.{IsFirst, first_is}
 use Rattle.iscsi_pair.proofs.Login.InitiatorStep.{Closes}
 use Rattle.iscsi_pair.proofs.Login.RoundAgrees.{Agreed, Asking, Asks_on, Round, asking_readable, round}
 use Rattle.iscsi_initiator.specs.Configured.{IsStart}
-use Rattle.iscsi_target.proofs.Keeping.{Stays, IsLater}
+use Rattle.iscsi_target.proofs.KeepingLemmas.{Stays, IsLater}
 use Rattle.iscsi_pair.proofs.Ends.TargetHeldStays.{held_stays as target_stays}
 
 -- ---- what an initiator keeps

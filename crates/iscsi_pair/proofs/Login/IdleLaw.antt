@@ -7,8 +7,8 @@ use Rattle.iscsi_stream.specs.Segment.{no_login, segment_bytes, after as logins_
 use Rattle.iscsi_stream.specs.Stream.{Message, ReadsAs, NoPdu}
 use Rattle.iscsi_stream.specs.Canonical.{canon, canonical_bytes}
 use Rattle.iscsi_stream.specs.Framing.{Framing, HasTaken, is_ready}
-use Rattle.iscsi_stream.proofs.Taking.{splits_taken}
-use Rattle.iscsi_stream.proofs.Ready.{unready_of, apart}
+use Rattle.iscsi_stream.proofs.TakingLemmas.{splits_taken}
+use Rattle.iscsi_stream.proofs.ReadyLemmas.{unready_of, apart}
 use Rattle.iscsi_login.specs.declared.stage.Stage.TheVariants as stages
 use Rattle.iscsi_target.specs.State as target
 use Rattle.iscsi_target_session.specs.Session as target_session
@@ -25,7 +25,8 @@ use Rattle.iscsi_pair.proofs.Ends.TargetRun.{TargetLives, TargetOver}
 use Rattle.iscsi_pair.proofs.Ends.BothRuns.{Sides}
 use Rattle.iscsi_pair.proofs.Wire.PrefixLemmas.{Readable, IsFirst, first_is}
 use Rattle.iscsi_pair.proofs.Login.RoundAgrees.{Round, Asks_on, asking_readable, asking_short, round, first_asks}
-use Rattle.iscsi_pair.proofs.Login.Exchange.{Ended, LoginExchange, Way, Waiting, Closing, Agreeing, any_turns, anything, exchange_ends, first_reached, nothing_read}
+use Rattle.iscsi_pair.proofs.Login.Exchange.{Ended, LoginExchange, Way, Waiting, Closing, Agreeing, any_turns, anything, exchange_ends, first_reached}
+use Rattle.iscsi_pair.proofs.Login.Exchange.{nothing_read}
 
 -- no whole PDU waits in what an end holds
 pub record HoldsNone (limit : ℕ) (rest : List ℕ) : Type 0 where

@@ -7,7 +7,7 @@ use Rattle.iscsi_pdu.specs.declared.head.Head.TheVariants as heads
 use Rattle.iscsi_pdu.specs.declared.head.login_response.LoginResponse.{LoginResponse}
 use Rattle.iscsi_stream.specs.Segment.{Text}
 use Rattle.iscsi_stream.specs.Stream.{Message}
-use Rattle.iscsi_stream.proofs.Ready.{apart}
+use Rattle.iscsi_stream.proofs.ReadyLemmas.{apart}
 use Rattle.iscsi_login.specs.declared.phase.Phase.{Phase}
 use Rattle.iscsi_login.specs.declared.phase.Phase.TheVariants as phases
 use Rattle.iscsi_login.specs.Answer.{initiator_holds}
@@ -15,23 +15,10 @@ use Rattle.iscsi_login.specs.Check.{bad_key}
 use Rattle.iscsi_initiator.specs.declared.fault.InitiatorFault.TheVariants.{Refused}
 use Rattle.iscsi_initiator.specs.State.{Machine}
 use Rattle.iscsi_initiator.specs.Steps.{Stepped, fails, protocol_error}
-use Rattle.iscsi_initiator.specs.Login.{
-  login_step,
-  answered,
-  in_turn,
-  is_expected,
-  goes_on,
-  moves_on,
-  text_answered,
-  judged,
-  begins_stage,
-  requested_stage,
-  counted,
-  sends_more,
-  offered,
-}
+use Rattle.iscsi_initiator.specs.Login.{login_step, answered, in_turn, is_expected, goes_on, moves_on, text_answered, judged, begins_stage, requested_stage}
+use Rattle.iscsi_initiator.specs.Login.{counted, sends_more, offered}
 use Rattle.iscsi_initiator.specs.Machine.{step, step_in}
-use Rattle.iscsi_initiator.proofs.Stepping.{step_is}
+use Rattle.iscsi_initiator.proofs.StepLemmas.{step_is}
 
 -- the message of an answer
 abbrev pub answering : LoginResponse → Pairs → Message
@@ -73,7 +60,8 @@ hears_more m h pairs byte bytes p s tag class left =
     subst (λ (l : List ℕ). P (in_turn l m h (Text pairs))) (sym left) (cond_both (goes_on m h (Text pairs)) (sends_more (counted m h)) (protocol_error m 7) P
     (λ is. inr refl) (λ is. shut 7)) in
     subst P (sym (hears m h pairs p s tag))
-    (cond_both (not (h.status_class == 0)) (fails m (Refused h.status_class h.status_detail)) (if number then protocol_error m 6 else in_turn m.unsent_text m h (Text pairs)) P
+    (cond_both (not (h.status_class == 0)) (fails m (Refused h.status_class h.status_detail))
+    (if number then protocol_error m 6 else in_turn m.unsent_text m h (Text pairs)) P
     (λ is. absurd (apart is (ap (λ (n : ℕ). not (n == 0)) class)))
     (λ is. cond_both number (protocol_error m 6) (in_turn m.unsent_text m h (Text pairs)) P (λ is. shut 6) (λ is. turn)))
 
@@ -97,6 +85,7 @@ hears_answer m h pairs p s tag class left =
     subst (λ (l : List ℕ). P (in_turn l m h (Text pairs))) (sym left) (cond_both (moves_on m h) (text_answered m h (Text pairs)) (protocol_error m 7) P
     (λ is. judges (bad_key (offered m) pairs) m h pairs) (λ is. shut 7)) in
     subst P (sym (hears m h pairs p s tag))
-    (cond_both (not (h.status_class == 0)) (fails m (Refused h.status_class h.status_detail)) (if number then protocol_error m 6 else in_turn m.unsent_text m h (Text pairs)) P
+    (cond_both (not (h.status_class == 0)) (fails m (Refused h.status_class h.status_detail))
+    (if number then protocol_error m 6 else in_turn m.unsent_text m h (Text pairs)) P
     (λ is. absurd (apart is (ap (λ (n : ℕ). not (n == 0)) class)))
     (λ is. cond_both number (protocol_error m 6) (in_turn m.unsent_text m h (Text pairs)) P (λ is. shut 6) (λ is. turn)))

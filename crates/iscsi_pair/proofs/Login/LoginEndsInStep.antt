@@ -30,25 +30,14 @@ use Rattle.iscsi_target_session.specs.LoginText.{answer_pairs, session_for, sess
 use Rattle.iscsi_target_session.specs.Login.{entered, numbered, gather, text_answered}
 use Rattle.iscsi_target.specs.Machine as target_machine
 use Rattle.iscsi_target.specs.Machine.{answers}
-use Rattle.iscsi_target.proofs.Numbers.{IsFit, step_fit}
-use Rattle.iscsi_target.proofs.Reached.{reached_fit}
+use Rattle.iscsi_target.proofs.NumberLaws.{IsFit, step_fit}
+use Rattle.iscsi_target.proofs.ReachableLemmas.{reached_fit}
 use Rattle.iscsi_initiator.specs.Configured.{IsStart}
 use Rattle.iscsi_initiator.specs.State as initiator
 use Rattle.iscsi_initiator.specs.State.{serial}
 use Rattle.iscsi_initiator.specs.Steps.{Stepped, sends}
-use Rattle.iscsi_initiator.specs.Login.{
-  requested_stage,
-  counted,
-  begins_stage,
-  fits_segment,
-  login_message,
-  login_request,
-  offered,
-  sends_cut,
-  sends_more,
-  sends_text,
-  start_step,
-}
+use Rattle.iscsi_initiator.specs.Login.{requested_stage, counted, begins_stage, fits_segment, login_message, login_request, offered, sends_cut, sends_more}
+use Rattle.iscsi_initiator.specs.Login.{sends_text, start_step}
 use Rattle.iscsi_initiator.specs.Machine.{step}
 use Rattle.iscsi_pair.specs.World.{Opening, IsOpening, Suits}
 use Rattle.iscsi_pair.specs.LocalDisk.{AreInStep, window_of_eight}
@@ -56,21 +45,8 @@ use Rattle.iscsi_pair.proofs.Login.InitiatorStep.{with_answer}
 use Rattle.iscsi_pair.proofs.Login.RoundAgrees.{Agreed, Asking, Asks_on, Round}
 use Rattle.iscsi_pair.proofs.Login.Compatible.{says_security, says_single, session_is}
 use Rattle.iscsi_pair.proofs.Wire.WindowLemmas.{IsNear, near_now, tells_eight}
-use Rattle.iscsi_pair.proofs.Login.RoundProgress.{
-  HasNone,
-  HasFirst,
-  Suited,
-  SameState,
-  TextKeeps,
-  LastTurn,
-  PartTurn,
-  emptied,
-  entered_same,
-  part_head,
-  text_head,
-  text_keeps,
-  turns,
-}
+use Rattle.iscsi_pair.proofs.Login.RoundProgress.{HasNone, HasFirst, Suited, SameState, TextKeeps, LastTurn, PartTurn, emptied, entered_same, part_head}
+use Rattle.iscsi_pair.proofs.Login.RoundProgress.{text_head, text_keeps, turns}
 
 -- ---- what is counted
 

@@ -1,34 +1,6 @@
 -- One request of a login and its answer: both ends hold the same, or the initiator gives up.
-use Rattle.std.proofs.Common.{
-  ◌≡◌,
-  ◌<◌,
-  ◌≤◌,
-  ◌⊎◌,
-  inl,
-  inr,
-  ℕ,
-  ◌-◌,
-  Bool,
-  true,
-  false,
-  List,
-  [],
-  ◌∷◌,
-  ◌++◌,
-  length,
-  take,
-  drop,
-  Option,
-  Some,
-  None,
-  refl,
-  sym,
-  ap,
-  ◌∙◌,
-  subst,
-  append_assoc,
-  arith,
-}
+use Rattle.std.proofs.Common.{◌≡◌, ◌<◌, ◌≤◌, ◌⊎◌, inl, inr, ℕ, ◌-◌, Bool, true, false, List, [], ◌∷◌, ◌++◌, length, take, drop, Option, Some, None, refl, sym}
+use Rattle.std.proofs.Common.{ap, ◌∙◌, subst, append_assoc, arith}
 use Rattle.std.specs.Prelude.{not, ◌&&◌, nat_le, is_some, IfSome, ◌^◌, if◌then◌else◌, unwrap_or}
 use Rattle.std.specs.Bool.{then_some}
 use Rattle.std.proofs.Math.Bool.{not-not, and-false}
@@ -54,27 +26,15 @@ use Rattle.iscsi_login.specs.Answer as login
 use Rattle.iscsi_login.specs.Answer.{initiator_holds, target_holds, declared_max_recv}
 use Rattle.iscsi_login.specs.Offers.{offers_at}
 use Rattle.iscsi_login.specs.Stage.{stage_number}
-use Rattle.iscsi_login.proofs.Texts.{texts_agree}
-use Rattle.iscsi_login.proofs.AnswerMeaning.{answer_meaning}
+use Rattle.iscsi_login.proofs.TextAgreementLaw.{texts_agree}
+use Rattle.iscsi_login.proofs.AnswerMeaningLaw.{answer_meaning}
 use Rattle.iscsi_text.proofs.TextLaws as texts
 use Rattle.iscsi_initiator.specs.Configured.{AreValid, IsStart}
 use Rattle.iscsi_initiator.specs.State as initiator
 use Rattle.iscsi_initiator.specs.State.{sent_exp_stat_sn}
 use Rattle.iscsi_initiator.specs.Steps.{Stepped, sends}
-use Rattle.iscsi_initiator.specs.Login.{
-  offered,
-  requested_stage,
-  following_stage,
-  login_request,
-  login_message,
-  counted,
-  sends_cut,
-  sends_more,
-  sends_text,
-  begins_stage,
-  fits_segment,
-  start_step,
-}
+use Rattle.iscsi_initiator.specs.Login.{offered, requested_stage, following_stage, login_request, login_message, counted, sends_cut, sends_more, sends_text}
+use Rattle.iscsi_initiator.specs.Login.{begins_stage, fits_segment, start_step}
 use Rattle.iscsi_initiator.specs.Machine.{step}
 use Rattle.iscsi_target_session.specs.Configured as target_settings
 use Rattle.iscsi_target_session.specs.Session as target_session
@@ -174,7 +134,8 @@ asking_readable c i t logins r o a =
           (request_readable logins (login_request i (is_sent i.unsent_text)) (offered i) w.first (ap (λ (l : List ℕ). not (is_sent l)) w.left) f w.short
           (offered_read c i o a.settings a.stage))
       | inr p ↦ subst (λ (x : Segment). Readable logins (login_message i (is_sent i.unsent_text) x)) (sym p.is)
-          (part_readable logins (login_request i (is_sent i.unsent_text)) p.bytes (ap (λ (b : Bool). not logins.request && b) (not-not (is_sent i.unsent_text)) ∙ p.part) f
+          (part_readable logins (login_request i (is_sent i.unsent_text)) p.bytes (ap (λ (b : Bool). not logins.request && b) (not-not (is_sent i.unsent_text))
+          ∙ p.part) f
           p.short)
     ])
 
@@ -551,7 +512,8 @@ round_at (byte ∷ more) c i t logins r disk o a left =
 pub round : (c : Opening) (i : initiator.Machine) (t : target.Machine) (logins : Logins) (r : Message) (disk : Disk) → IsOpening c → Asking c i t logins r
     → Round c i (target_machine.step t disk r) (after logins r.head)
 round c i t logins r disk o a =
-    subst (λ (x : Message). Round c i (target_machine.step t disk x) (after logins x.head)) (sym a.request) (round_at i.unsent_text c i t logins r disk o a refl)
+    subst (λ (x : Message). Round c i (target_machine.step t disk x) (after logins x.head)) (sym a.request)
+    (round_at i.unsent_text c i t logins r disk o a refl)
 
 -- ---- the first request
 

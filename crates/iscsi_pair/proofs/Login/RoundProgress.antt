@@ -1,33 +1,6 @@
 -- One request of a login and its answer, where both ends suit each other: the login goes on.
-use Rattle.std.proofs.Common.{
-  ◌≡◌,
-  ◌≢◌,
-  ◌<◌,
-  ◌≤◌,
-  ◌⊎◌,
-  inl,
-  inr,
-  ℕ,
-  ◌+◌,
-  Bool,
-  true,
-  false,
-  List,
-  [],
-  ◌∷◌,
-  ◌++◌,
-  length,
-  Option,
-  Some,
-  None,
-  refl,
-  sym,
-  ap,
-  ◌∙◌,
-  subst,
-  arith,
-  replicate,
-}
+use Rattle.std.proofs.Common.{◌≡◌, ◌≢◌, ◌<◌, ◌≤◌, ◌⊎◌, inl, inr, ℕ, ◌+◌, Bool, true, false, List, [], ◌∷◌, ◌++◌, length, Option, Some, None, refl, sym, ap, ◌∙◌}
+use Rattle.std.proofs.Common.{subst, arith, replicate}
 use Rattle.std.specs.Prelude.{not, ◌&&◌, ◌==◌, nat_lt, nat_le, IfSome, ◌^◌, if◌then◌else◌, unwrap_or}
 use Rattle.std.specs.Bool.{then_some}
 use Rattle.std.proofs.lemmas.Bool.{and_from, cond_both, cond-true, cond-false, le-ltb, eq-eqb}
@@ -42,12 +15,12 @@ use Rattle.iscsi_stream.specs.declared.logins.Logins.{Logins}
 use Rattle.iscsi_login.specs.declared.phase.Phase.TheVariants as phases
 use Rattle.iscsi_login.specs.Check.{bad_key, IsOffer}
 use Rattle.iscsi_login.specs.Key.{IsWithin}
-use Rattle.iscsi_login.proofs.Judged.{good_is_taken}
-use Rattle.iscsi_login.proofs.Texts.{good_answer}
-use Rattle.iscsi_login.proofs.OfferMeaning.{security_is_offer, operational_is_offer, single_is_offer}
+use Rattle.iscsi_login.proofs.JudgementLemmas.{good_is_taken}
+use Rattle.iscsi_login.proofs.TextAgreementLaw.{good_answer}
+use Rattle.iscsi_login.proofs.OfferMeaningLaw.{security_is_offer, operational_is_offer, single_is_offer}
 use Rattle.iscsi_stream.specs.Segment.{Segment, Text, Bytes, segment_bytes}
 use Rattle.iscsi_stream.specs.Stream.{Message}
-use Rattle.iscsi_stream.proofs.Ready.{apart}
+use Rattle.iscsi_stream.proofs.ReadyLemmas.{apart}
 use Rattle.iscsi_login.specs.declared.stage.Stage.{Stage}
 use Rattle.iscsi_login.specs.declared.stage.Stage.TheVariants as stages
 use Rattle.iscsi_login.specs.declared.stage.Session.TheVariants as sessions
@@ -60,25 +33,8 @@ use Rattle.iscsi_initiator.specs.Configured.{IsStart}
 use Rattle.iscsi_initiator.specs.State as initiator
 use Rattle.iscsi_initiator.specs.State.{is_closed}
 use Rattle.iscsi_initiator.specs.Steps.{Stepped, sends}
-use Rattle.iscsi_initiator.specs.Login.{
-  offered,
-  requested_stage,
-  following_stage,
-  login_request,
-  login_message,
-  is_expected,
-  goes_on,
-  moves_on,
-  in_turn,
-  judged,
-  begins_stage,
-  counted,
-  sends_more,
-  sends_text,
-  sends_cut,
-  fits_segment,
-  start_step,
-}
+use Rattle.iscsi_initiator.specs.Login.{offered, requested_stage, following_stage, login_request, login_message, is_expected, goes_on, moves_on, in_turn}
+use Rattle.iscsi_initiator.specs.Login.{judged, begins_stage, counted, sends_more, sends_text, sends_cut, fits_segment, start_step}
 use Rattle.iscsi_initiator.specs.Machine.{step}
 use Rattle.iscsi_target_session.specs.declared.status.Status.{Status}
 use Rattle.iscsi_target_session.specs.Configured as target_settings
@@ -87,18 +43,8 @@ use Rattle.iscsi_target.specs.State as target
 use Rattle.scsi_disk.specs.Plan.{first_of}
 use Rattle.iscsi_target_session.specs.LoginText.{known_keys, repeats_key, seen_with, text_refusals, answer_pairs, session_for, declared_tag, declared_length}
 use Rattle.iscsi_target_session.specs.Login as login
-use Rattle.iscsi_target_session.specs.Login.{
-  request_refusals,
-  is_same_stage,
-  stage_named,
-  stage_asked,
-  is_move,
-  numbered,
-  entered,
-  gather,
-  text_answered,
-  text_ending,
-}
+use Rattle.iscsi_target_session.specs.Login.{request_refusals, is_same_stage, stage_named, stage_asked, is_move, numbered, entered, gather, text_answered}
+use Rattle.iscsi_target_session.specs.Login.{text_ending}
 use Rattle.iscsi_pair.specs.World.{Opening, IsOpening, Suits}
 use Rattle.iscsi_target.specs.Machine as target_machine
 use Rattle.iscsi_target.specs.Machine.{is_over_limit}
@@ -106,23 +52,8 @@ use Rattle.iscsi_pair.proofs.Login.TargetStep.{login_step_is, some_if}
 use Rattle.iscsi_pair.proofs.Login.InitiatorStep.{answering, with_answer, hears}
 use Rattle.iscsi_pair.proofs.Login.RoundAgrees.{Agreed, Asking, Asks_on, Leads, Round, IsWhole, IsPart, is_sent, fits_limit, offered_read}
 use Rattle.iscsi_pair.proofs.Wire.TextSizes.{answer_is_short}
-use Rattle.iscsi_pair.proofs.Login.Compatible.{
-  IsFew,
-  offers_few,
-  few_fits,
-  none_of,
-  says_security,
-  says_single,
-  second_gives,
-  security_auth,
-  operational_auth,
-  single_auth,
-  security_length,
-  operational_length,
-  single_length,
-  first_text,
-  second_text,
-}
+use Rattle.iscsi_pair.proofs.Login.Compatible.{IsFew, offers_few, few_fits, none_of, says_security, says_single, second_gives, security_auth, operational_auth}
+use Rattle.iscsi_pair.proofs.Login.Compatible.{single_auth, security_length, operational_length, single_length, first_text, second_text}
 use Rattle.iscsi_pdu.specs.Serial.{next_sn}
 
 -- ---- where the login is, beside what the initiator asks
@@ -228,7 +159,8 @@ text_at : (start stage : Stage) (c : Opening) (i : initiator.Machine) (t : targe
 text_at stages.Security stages.Security c i t e o suits started is same settings (inl f) ok =
     let p : Proposal = c.initiator.proposal in
     let there : e.settings ≡ c.target = same.settings ∙ settings in
-    first_text e p (in_order (security_offers p)) (same.has_text ∙ f.none) (same.seen_keys ∙ f.seen_keys) o.initiator.names.initiator (says_security p.session p refl)
+    first_text e p (in_order (security_offers p)) (same.has_text ∙ f.none) (same.seen_keys
+    ∙ f.seen_keys) o.initiator.names.initiator (says_security p.session p refl)
     (suited_name c e suits there)
     (security_auth p.session p.auth p e.settings.preferences refl refl (demands_chap c suits started)) (security_length p.session p refl)
     (answer_fits c e (in_order (security_offers p)) o there (offers_few stages.Security stages.Security p o.initiator.names.initiator o.initiator.names.target
@@ -252,7 +184,8 @@ text_at stages.Operational stages.Security c i t e o suits started is same setti
 text_at stages.Operational stages.Operational c i t e o suits started is same settings (inl f) ok =
     let p : Proposal = c.initiator.proposal in
     let there : e.settings ≡ c.target = same.settings ∙ settings in
-    first_text e p (in_order (single_offers p)) (same.has_text ∙ f.none) (same.seen_keys ∙ f.seen_keys) o.initiator.names.initiator (says_single p.session p refl)
+    first_text e p (in_order (single_offers p)) (same.has_text ∙ f.none) (same.seen_keys
+    ∙ f.seen_keys) o.initiator.names.initiator (says_single p.session p refl)
     (suited_name c e suits there)
     (single_auth p.session p e.settings.preferences refl) (single_length p.session p o.initiator.in_range.preferences refl)
     (answer_fits c e (in_order (single_offers p)) o there (offers_few stages.Operational stages.Operational p o.initiator.names.initiator
@@ -483,7 +416,8 @@ last_turn c i t logins next r disk segment o suits a s left fits read size turn 
       there = there;
       now = ap (step i) is ∙ hears_last_well i (text_head e h) (answer_pairs e given) a.phase a.started refl refl (ap (is_expected i.exp_stat_sn) same.stat_sn
           ∙ s.expected) left
-          (and_from _ _ (eq-eqb (stage_number i.stage) (stage_number i.stage) refl) (eq-eqb (stage_number (requested_stage i)) (stage_number (requested_stage i)) refl))
+          (and_from _ _ (eq-eqb (stage_number i.stage) (stage_number i.stage) refl)
+          (eq-eqb (stage_number (requested_stage i)) (stage_number (requested_stage i)) refl))
           (takes c i e o a.settings a.stage (same.settings ∙ a.target_settings));
     }
 

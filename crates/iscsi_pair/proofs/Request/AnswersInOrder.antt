@@ -7,14 +7,14 @@ use Rattle.iscsi_pdu.specs.declared.head.Head.{Head}
 use Rattle.iscsi_stream.specs.declared.logins.Logins.{Logins}
 use Rattle.iscsi_stream.specs.Segment.{after, segment_bytes}
 use Rattle.iscsi_stream.specs.Stream.{Message}
-use Rattle.iscsi_stream.proofs.Ready.{apart}
+use Rattle.iscsi_stream.proofs.ReadyLemmas.{apart}
 use Rattle.iscsi_login.specs.declared.phase.Phase.TheVariants as phases
 use Rattle.iscsi_login.specs.Held.{Held}
 use Rattle.iscsi_target_session.specs.Session as target_session
 use Rattle.iscsi_target.specs.State as target
 use Rattle.iscsi_target.specs.Machine as target_machine
 use Rattle.iscsi_target.specs.Machine.{answers}
-use Rattle.iscsi_target.proofs.Numbers.{closed_answers}
+use Rattle.iscsi_target.proofs.NumberLaws.{closed_answers}
 use Rattle.iscsi_initiator.specs.declared.request.Done.{Done}
 use Rattle.iscsi_initiator.specs.declared.request.Request.{Request}
 use Rattle.iscsi_initiator.specs.State as initiator
@@ -124,7 +124,8 @@ hears_quiet held i n t disk m more x e full busy none l = (
 )
 
 -- the last answer on its way, to which these are said
-pub hears_sends : (held : Held) (i n : initiator.Machine) (t : target.Machine) (disk : Disk) (m : Message) (out : List Message) (r : target.Stepped) (x : Exchange)
+pub hears_sends : (held : Held) (i n : initiator.Machine) (t : target.Machine) (disk : Disk) (m : Message) (out : List Message) (r : target.Stepped)
+    (x : Exchange)
     → step i m ≡ sends n out → i.phase ≡ phases.Full → is_some i.outstanding ≡ true
     → i.done ≡ None → AreHeard held t disk out → answers t disk out ≡ r → LeadsTo held n r.machine r.disk r.answers x → LeadsTo held i t disk (m ∷ []) x
 hears_sends held i n t disk m out r x e full busy none heard is l = (

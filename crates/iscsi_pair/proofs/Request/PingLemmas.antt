@@ -19,8 +19,8 @@ use Rattle.iscsi_target.specs.State.{on}
 use Rattle.iscsi_pdu.specs.Serial.{next_sn, is_within}
 use Rattle.iscsi_target_session.specs.Requests.{logged_out, logout_head, nop_in_head}
 use Rattle.iscsi_target.specs.Machine.{answers, having_accepted, step_on}
-use Rattle.iscsi_target.proofs.Alone.{request_alone}
-use Rattle.iscsi_target.proofs.Continuing.{then_nothing}
+use Rattle.iscsi_target.proofs.SingleTaskLemmas.{request_alone}
+use Rattle.iscsi_target.proofs.ContinuationLemmas.{then_nothing}
 use Rattle.iscsi_initiator.specs.declared.outstanding.Outstanding.TheVariants as opens
 use Rattle.iscsi_initiator.specs.declared.request.Done.TheVariants as done
 use Rattle.iscsi_initiator.specs.declared.request.Request.{Request}
@@ -52,7 +52,8 @@ ping_message m bytes = record { head = heads.NopOut (ping m); segment = Bytes by
 ping_taken : (m : initiator.Machine) (t : target.Machine) (disk : Disk) (bytes : List ℕ) → m.cmd_sn < 2 ^ 32 → m.initiator_task_tag ≤ 0xffff_fffe
     → length bytes ≤ t.session.held.target_max_recv → t.session.held.target_max_recv ≤ target_session.limit t.session.settings
     → step_on reliable (ready t m.cmd_sn) disk (ping_message m bytes)
-    ≡ having_accepted (ping_message m bytes ∷ []) (on disk [] (send_response (ready t (next_sn m.cmd_sn)).session (nop_in_head (ready t (next_sn m.cmd_sn)).session 0
+    ≡ having_accepted (ping_message m bytes ∷ []) (on disk [] (send_response (ready t (next_sn m.cmd_sn)).session
+    (nop_in_head (ready t (next_sn m.cmd_sn)).session 0
     (ping m)) (take t.session.held.initiator_max_recv bytes)))
 unfolding segment_bytes
 ping_taken m t disk bytes lt tag short limit =
@@ -131,7 +132,8 @@ local_ping m t disk bytes a e =
     } in
     let is_m : (accepted m request).machine ≡ pinging begun_ m.window = λ i. record begun_ { phase = a.initiator_phase i; outstanding = Some opens.Ping } in
     let answer : Message = target_session.message (nop_in_head t'.session 0 (ping m)) given in
-    let executed : target.Stepped = having_accepted (ping_message m bytes ∷ []) (on disk [] (send_response t'.session (nop_in_head t'.session 0 (ping m)) given)) in
+    let executed : target.Stepped = having_accepted (ping_message m bytes ∷ []) (on disk []
+    (send_response t'.session (nop_in_head t'.session 0 (ping m)) given)) in
     let r : answers t disk (submitted m request).output ≡ executed =
     ap (λ (s : Submitted). answers t disk s.output) sent
     ∙ then_nothing (step_on reliable t disk (ping_message m bytes))

@@ -1,37 +1,8 @@
 -- A read between two ends that are in step: its outcome is that of the disk.
 use Rattle.std.specs.Prelude.{unwrap_or, ◌-◌, ◌*◌, min, nat_lt, ◌==◌, ◌&&◌, ◌||◌, not, if◌then◌else◌, is_some}
 use Rattle.std.specs.List.{flat_map, AllByRecursion}
-use Rattle.std.proofs.Common.{
-  ◌≡◌,
-  inl,
-  ◌<◌,
-  ◌≤◌,
-  ℕ,
-  zero,
-  suc,
-  ◌+◌,
-  ◌^◌,
-  ◌%◌,
-  Bool,
-  true,
-  false,
-  List,
-  [],
-  ◌∷◌,
-  ◌++◌,
-  length,
-  drop,
-  Option,
-  Some,
-  None,
-  refl,
-  sym,
-  ap,
-  ◌∙◌,
-  subst,
-  arith,
-  append_assoc,
-}
+use Rattle.std.proofs.Common.{◌≡◌, inl, ◌<◌, ◌≤◌, ℕ, zero, suc, ◌+◌, ◌^◌, ◌%◌, Bool, true, false, List, [], ◌∷◌, ◌++◌, length, drop, Option, Some, None, refl}
+use Rattle.std.proofs.Common.{sym, ap, ◌∙◌, subst, arith, append_assoc}
 use Rattle.std.proofs.Math.Nat.{mod-eq_of_lt, mod-lt}
 use Rattle.std.proofs.lemmas.Bool.{eq-eqb, le-leb, le-ltb, ltb-false}
 use Rattle.std.proofs.lemmas.List.{append-nil, length-append, length-take, length-drop}
@@ -45,7 +16,7 @@ use Rattle.scsi_disk.specs.declared.order.Plan.TheVariants.{Refuse, Take, Give}
 use Rattle.scsi_disk.specs.Disk.{Disk}
 use Rattle.scsi_disk.specs.Effect.{Effect, effect, outcome_by, wanted_data}
 use Rattle.scsi_disk.specs.Plan.{expected_length, first_refusal, is_unknown, is_write, plan_by, plan_of, refusals, transfer, wanted_length}
-use Rattle.scsi_disk.proofs.Planned.{all_false}
+use Rattle.scsi_disk.proofs.PlanLemmas.{all_false}
 use Rattle.iscsi_pdu.specs.declared.head.Head.TheVariants as heads
 use Rattle.iscsi_pdu.specs.declared.serial.Window.{Window}
 use Rattle.iscsi_pdu.specs.Serial.{moved, next_sn, is_within}
@@ -64,24 +35,14 @@ use Rattle.iscsi_target.specs.State.{max_cmd_sn}
 use Rattle.iscsi_target_session.specs.Session.{message}
 use Rattle.iscsi_target.specs.Command.{order_of, planned}
 use Rattle.iscsi_target.specs.Machine.{answers, having_accepted, step_on}
-use Rattle.iscsi_target.specs.Execution.{
-  command_answers,
-  execute,
-  data_ins,
-  data_in_head,
-  marked,
-  data_in_parts,
-  response_head,
-  sequence_parts,
-  sense_segment,
-  reliable,
-}
+use Rattle.iscsi_target.specs.Execution.{command_answers, execute, data_ins, data_in_head, marked, data_in_parts, response_head, sequence_parts, sense_segment}
+use Rattle.iscsi_target.specs.Execution.{reliable}
 use Rattle.iscsi_stream.specs.Pieces.{chunks_within, chunks}
-use Rattle.iscsi_target.proofs.Telling.{can_give}
-use Rattle.iscsi_target.proofs.Alone.{request_alone}
-use Rattle.iscsi_target.proofs.Continuing.{then_nothing}
-use Rattle.iscsi_target.proofs.DataIns.{Parts, all_given, bytes_of}
-use Rattle.iscsi_stream.proofs.Chunks.{joined, joined_chunks}
+use Rattle.iscsi_target.proofs.SendingLemmas.{can_give}
+use Rattle.iscsi_target.proofs.SingleTaskLemmas.{request_alone}
+use Rattle.iscsi_target.proofs.ContinuationLemmas.{then_nothing}
+use Rattle.iscsi_target.proofs.DataInTilingLaw.{Parts, all_given, bytes_of}
+use Rattle.iscsi_stream.proofs.ChunkLemmas.{joined, joined_chunks}
 use Rattle.iscsi_initiator.specs.declared.request.Done.TheVariants as done
 use Rattle.iscsi_initiator.specs.declared.outstanding.Outstanding.{Outstanding}
 use Rattle.iscsi_initiator.specs.declared.outstanding.Outstanding.TheVariants as opens

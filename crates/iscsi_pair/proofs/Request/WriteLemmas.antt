@@ -2,40 +2,8 @@
 use Rattle.std.specs.Prelude.{IfSome, ◌-◌, ◌*◌, min, nat_le, nat_lt, ◌==◌, ◌&&◌, ◌||◌, not, if◌then◌else◌, is_some}
 use Rattle.std.specs.Bool.{then_some}
 use Rattle.std.specs.List.{AllByRecursion}
-use Rattle.std.proofs.Common.{
-  ◌≡◌,
-  ◌⊎◌,
-  inl,
-  inr,
-  ◌<◌,
-  ◌≤◌,
-  ℕ,
-  zero,
-  suc,
-  ◌+◌,
-  ◌^◌,
-  Bool,
-  true,
-  false,
-  List,
-  [],
-  ◌∷◌,
-  ◌++◌,
-  length,
-  take,
-  drop,
-  Option,
-  Some,
-  None,
-  refl,
-  sym,
-  ap,
-  ◌∙◌,
-  subst,
-  arith,
-  append_assoc,
-  ne_eqb,
-}
+use Rattle.std.proofs.Common.{◌≡◌, ◌⊎◌, inl, inr, ◌<◌, ◌≤◌, ℕ, zero, suc, ◌+◌, ◌^◌, Bool, true, false, List, [], ◌∷◌, ◌++◌, length, take, drop, Option, Some}
+use Rattle.std.proofs.Common.{None, refl, sym, ap, ◌∙◌, subst, arith, append_assoc, ne_eqb}
 use Rattle.std.proofs.Math.Nat.{mod-lt}
 use Rattle.std.proofs.Math.Seq.{take-add}
 use Rattle.std.proofs.lemmas.Bool.{and_parts, eq-eqb, eqb-false, eqb-true, le-leb, le-ltb, lt-leb, lt-ltb, ltb-false, ltb-true, not-false}
@@ -48,7 +16,7 @@ use Rattle.scsi_disk.specs.Plan.{expected_length, first_refusal, is_unknown, is_
 use Rattle.scsi_disk.specs.declared.order.Plan.{Plan}
 use Rattle.scsi_disk.specs.declared.order.Plan.TheVariants.{Refuse, Take, Give}
 use Rattle.scsi_disk.specs.declared.order.Order.{Order}
-use Rattle.scsi_disk.proofs.Planned.{all_false}
+use Rattle.scsi_disk.proofs.PlanLemmas.{all_false}
 use Rattle.iscsi_pdu.specs.declared.head.Head.TheVariants as heads
 use Rattle.iscsi_pdu.specs.declared.head.data_out.DataOut.{DataOut}
 use Rattle.iscsi_pdu.specs.declared.head.scsi_command.ScsiCommand.{ScsiCommand}
@@ -76,9 +44,9 @@ use Rattle.iscsi_target.specs.Transfer.{with_r2t, continued, desired, is_idle, i
 use Rattle.iscsi_target.specs.Execution.{command_answers, execute, data_in_parts, response_head, sense_segment, reliable}
 use Rattle.iscsi_target.specs.Command.{send_r2t, breaks_burst_rules, is_bad_announcement, is_bad_segment, opened, planned, proceed, r2t_head}
 use Rattle.iscsi_target.specs.Machine.{answers, having_accepted, is_closed, step_on, then_stepped}
-use Rattle.iscsi_target.proofs.Alone.{data_alone, request_alone}
-use Rattle.iscsi_target.proofs.Continuing.{then_nothing}
-use Rattle.iscsi_target.proofs.Telling.{can_give}
+use Rattle.iscsi_target.proofs.SingleTaskLemmas.{data_alone, request_alone}
+use Rattle.iscsi_target.proofs.ContinuationLemmas.{then_nothing}
+use Rattle.iscsi_target.proofs.SendingLemmas.{can_give}
 use Rattle.iscsi_initiator.specs.declared.outstanding.Outstanding.{Outstanding}
 use Rattle.iscsi_initiator.specs.declared.outstanding.Outstanding.TheVariants as opens
 use Rattle.iscsi_initiator.specs.declared.request.Done.TheVariants as done
@@ -92,43 +60,17 @@ use Rattle.iscsi_initiator.specs.Submitted.{Submitted, accepted, command, has_mo
 use Rattle.iscsi_initiator.specs.declared.request.Request.{Request}
 use Rattle.iscsi_initiator.specs.declared.request.Request.TheVariants as requests
 use Rattle.iscsi_initiator.specs.Machine.{step, taken}
-use Rattle.iscsi_stream.proofs.Chunks.{joined, joined_chunks}
-use Rattle.iscsi_target.proofs.OpenWrites.{data_of_one}
+use Rattle.iscsi_stream.proofs.ChunkLemmas.{joined, joined_chunks}
+use Rattle.iscsi_target.proofs.OpenWriteLemmas.{data_of_one}
 use Rattle.iscsi_pair.specs.LocalDisk.{AreInStep, Exchange, reported, reported_sense, writing_order}
 use Rattle.iscsi_pair.proofs.Wire.WindowLemmas.{IsNear, last_with, near_next, tells_fewer, tells_eight, tag_after}
 use Rattle.iscsi_pair.proofs.Login.RoundAgrees.{some_then}
 use Rattle.iscsi_pair.proofs.Wire.WrittenPdus.{command_readable, data_out_readable, ready_readable}
 use Rattle.iscsi_pair.proofs.Wire.OutcomeRanges.{outcome_fits}
-use Rattle.iscsi_pair.proofs.Request.AnswersInOrder.{
-  AreHeard,
-  ArePlain,
-  Begins,
-  Ends,
-  LeadsTo,
-  heard_by,
-  hears_quiet,
-  hears_sends,
-  plain_more,
-  plain_one,
-  short_message,
-}
-use Rattle.iscsi_pair.proofs.Request.ReadLemmas.{
-  counted_on,
-  Awaits,
-  command_written,
-  finished,
-  in_step_again,
-  next_small,
-  not_long,
-  outcome_heard,
-  ready,
-  stat_sn_sent,
-  submitted_is,
-  told_window,
-  unrefused,
-  waiting,
-  window_now,
-}
+use Rattle.iscsi_pair.proofs.Request.AnswersInOrder.{AreHeard, ArePlain, Begins, Ends, LeadsTo, heard_by, hears_quiet, hears_sends, plain_more, plain_one}
+use Rattle.iscsi_pair.proofs.Request.AnswersInOrder.{short_message}
+use Rattle.iscsi_pair.proofs.Request.ReadLemmas.{counted_on, Awaits, command_written, finished, in_step_again, next_small, not_long, outcome_heard, ready}
+use Rattle.iscsi_pair.proofs.Request.ReadLemmas.{stat_sn_sent, submitted_is, told_window, unrefused, waiting, window_now}
 use Rattle.std.proofs.Math.Bool.{and-false}
 
 -- ---- a Data-Out
@@ -504,7 +446,8 @@ response_ends m t cmd_sn open_ window bytes order disk tag pieces_ a near d same
           (subst (λ (x : Disk). LeadsTo m.held (waiting m open_ window) (counted_on s) x (response ∷ []) last) (sym disk_is)
           (hears_quiet m.held (waiting m open_ window) ended_ (counted_on s) after.disk response [] last one refl refl a.none_done (0, refl)));
       ended = record {
-        done_is = ap (λ (x : List ℕ). Some (done.Command 0 after.outcome.status (reported_sense after.outcome.sense) x after.outcome.residual)) (sym a.none_given);
+        done_is = ap (λ (x : List ℕ). Some (done.Command 0 after.outcome.status (reported_sense after.outcome.sense) x after.outcome.residual))
+            (sym a.none_given);
         silent = refl;
         disk_is = refl;
         at_rest = inl (
@@ -585,7 +528,8 @@ record Turned (m : initiator.Machine) (t : target.Machine) (cmd_sn : ℕ) (v : W
   n : ℕ
   some : 0 < n
   hand : InHand m (more_sent v n) (more_came t w came) order
-  leads : (x : Exchange) → (let r = proceed reliable (ready t cmd_sn) disk (more_came t w came) in LeadsTo m.held (writing m (more_sent v n) window_now) r.machine
+  leads : (x : Exchange) → (let r = proceed reliable (ready t cmd_sn) disk (more_came t w came) in
+      LeadsTo m.held (writing m (more_sent v n) window_now) r.machine
       r.disk r.answers x)
       → (let r = proceed reliable (ready t cmd_sn) disk w in LeadsTo m.held (writing m v window) r.machine r.disk r.answers x)
 

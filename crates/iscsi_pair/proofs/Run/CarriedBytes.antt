@@ -1,34 +1,6 @@
 -- A world of a served run, and the bytes that reach its target.
-use Rattle.std.proofs.Common.{
-  ◌≡◌,
-  ◌≢◌,
-  inl,
-  inr,
-  ℕ,
-  Bool,
-  true,
-  false,
-  List,
-  [],
-  ◌∷◌,
-  ◌++◌,
-  length,
-  take,
-  drop,
-  Option,
-  Some,
-  None,
-  Result,
-  Ok,
-  Err,
-  refl,
-  sym,
-  ap,
-  ◌∙◌,
-  subst,
-  append_assoc,
-  arith,
-}
+use Rattle.std.proofs.Common.{◌≡◌, ◌≢◌, inl, inr, ℕ, Bool, true, false, List, [], ◌∷◌, ◌++◌, length, take, drop, Option, Some, None, Result, Ok, Err, refl, sym}
+use Rattle.std.proofs.Common.{ap, ◌∙◌, subst, append_assoc, arith}
 use Rattle.std.specs.Result.{result_err}
 use Rattle.std.proofs.lemmas.List.{append-nil, length-take, take-append-drop, drop_min, nil_from_length}
 use Rattle.std.proofs.Math.Seq.{drop-length}
@@ -40,7 +12,7 @@ use Rattle.iscsi_stream.specs.Segment.{no_login}
 use Rattle.iscsi_stream.specs.Stream.{Message, ReadsAs, after_all}
 use Rattle.iscsi_stream.specs.Canonical.{canon}
 use Rattle.iscsi_stream.specs.Framing.{Framing, HasTaken, FeedFails}
-use Rattle.iscsi_stream.proofs.Ready.{apart}
+use Rattle.iscsi_stream.proofs.ReadyLemmas.{apart}
 use Rattle.iscsi_login.specs.declared.phase.Phase.{Phase}
 use Rattle.iscsi_target.specs.declared.fault.TargetFault.{TargetFault}
 use Rattle.iscsi_target.specs.declared.fault.TargetFault.TheVariants as target_faults
@@ -51,9 +23,9 @@ use Rattle.iscsi_target.specs.Machine as target_machine
 use Rattle.iscsi_target.specs.Machine.{answers, then_stepped, first_rule}
 use Rattle.iscsi_target.specs.Laws.{joined_stepped}
 use Rattle.iscsi_target.specs.Feed as target_calls
-use Rattle.iscsi_target.proofs.Appending.{answers_append}
-use Rattle.iscsi_target.proofs.Joining.{answers_joined}
-use Rattle.iscsi_target.proofs.Feeding.{stands}
+use Rattle.iscsi_target.proofs.AppendLemmas.{answers_append}
+use Rattle.iscsi_target.proofs.JoiningLemmas.{answers_joined}
+use Rattle.iscsi_target.proofs.FeedingLemmas.{stands}
 use Rattle.iscsi_initiator.specs.State as initiator
 use Rattle.iscsi_initiator.specs.State.{is_closed}
 use Rattle.iscsi_initiator.specs.Steps as initiator_steps
@@ -62,18 +34,8 @@ use Rattle.iscsi_initiator.specs.Calls as calls
 use Rattle.iscsi_pair.specs.World.{World, Opening, TargetReceives, MovesToTarget, store_of, target_ran_out}
 use Rattle.iscsi_pair.proofs.Request.Invariant.{AreWritten, IsOpenFor, HearsWell, History, Relation, Sends, Goes, IsKept, written_append}
 use Rattle.iscsi_pair.proofs.Login.NoFailure.{both_none}
-use Rattle.iscsi_pair.proofs.Run.QueueReading.{
-  after_all_append,
-  written_parts,
-  refuses_nothing,
-  Unread,
-  Way,
-  MovesOn,
-  moves_on,
-  still_unread,
-  none_more,
-  way_sends,
-}
+use Rattle.iscsi_pair.proofs.Run.QueueReading.{after_all_append, written_parts, refuses_nothing, Unread, Way, MovesOn, moves_on, still_unread, none_more}
+use Rattle.iscsi_pair.proofs.Run.QueueReading.{way_sends}
 
 -- ---- whole messages
 

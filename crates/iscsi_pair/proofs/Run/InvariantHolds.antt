@@ -1,33 +1,6 @@
 -- What both ends keep on whole messages holds in every world of a served run, however the bytes are cut.
-use Rattle.std.proofs.Common.{
-  ◌≡◌,
-  ◌≢◌,
-  inl,
-  inr,
-  ℕ,
-  Bool,
-  true,
-  false,
-  List,
-  [],
-  ◌∷◌,
-  ◌++◌,
-  length,
-  take,
-  drop,
-  Option,
-  Some,
-  None,
-  Result,
-  Ok,
-  Err,
-  refl,
-  sym,
-  ap,
-  ◌∙◌,
-  subst,
-  append_assoc,
-}
+use Rattle.std.proofs.Common.{◌≡◌, ◌≢◌, inl, inr, ℕ, Bool, true, false, List, [], ◌∷◌, ◌++◌, length, take, drop, Option, Some, None, Result, Ok, Err, refl, sym}
+use Rattle.std.proofs.Common.{ap, ◌∙◌, subst, append_assoc}
 use Rattle.std.specs.Result.{result_err}
 use Rattle.std.proofs.lemmas.Bool.{or_parts}
 use Rattle.std.proofs.lemmas.List.{append-nil}
@@ -39,8 +12,8 @@ use Rattle.iscsi_stream.specs.Segment.{no_login, after}
 use Rattle.iscsi_stream.specs.Stream.{Message, ReadsAs, after_all}
 use Rattle.iscsi_stream.specs.Canonical.{canon}
 use Rattle.iscsi_stream.specs.Framing.{Framing, HasTaken, FeedFails, is_ready}
-use Rattle.iscsi_stream.proofs.Taking.{at_opening}
-use Rattle.iscsi_stream.proofs.Ready.{apart, not_whole-nil}
+use Rattle.iscsi_stream.proofs.TakingLemmas.{at_opening}
+use Rattle.iscsi_stream.proofs.ReadyLemmas.{apart, not_whole-nil}
 use Rattle.iscsi_login.specs.declared.phase.Phase.{Phase}
 use Rattle.iscsi_target_session.specs.Session as target_session
 use Rattle.iscsi_target.specs.State as target
@@ -66,45 +39,15 @@ use Rattle.iscsi_initiator.specs.Calls as calls
 use Rattle.iscsi_initiator.specs.Calls.{received_steps}
 use Rattle.iscsi_pair.specs.declared.step.EndFault.{EndFault}
 use Rattle.iscsi_pair.specs.declared.step.EndFault.TheVariants as ends
-use Rattle.iscsi_pair.specs.World.{
-  World,
-  Opening,
-  Event,
-  ToTarget,
-  ToInitiator,
-  Submits,
-  Takes,
-  InitiatorReceives,
-  MovesToInitiator,
-  Asks,
-  Happens,
-  new_pair,
-  feed_fault,
-  submit_fault,
-  target_ran_out,
-  initiator_ran_out,
-  keeps_no_memory,
-}
+use Rattle.iscsi_pair.specs.World.{World, Opening, Event, ToTarget, ToInitiator, Submits, Takes, InitiatorReceives, MovesToInitiator, Asks, Happens, new_pair}
+use Rattle.iscsi_pair.specs.World.{feed_fault, submit_fault, target_ran_out, initiator_ran_out, keeps_no_memory}
 use Rattle.iscsi_pair.specs.Served.{IsServed, IsAccepted, RunsServed, requests_of, requests_in, given_in}
 use Rattle.iscsi_pair.proofs.Login.NoFailure.{both_none}
 use Rattle.iscsi_pair.proofs.Ends.InitiatorRun.{begun, begun_open}
 use Rattle.iscsi_pair.proofs.Request.Invariant.{AreWritten, History, Relation, Sends, IsKept}
 use Rattle.iscsi_pair.proofs.Run.QueueReading.{written_reads, refuses_nothing, Unread, Way, MovesOn, moves_on, still_unread, none_more, way_sends, way_none}
-use Rattle.iscsi_pair.proofs.Run.CarriedBytes.{
-  open_none,
-  Talks,
-  talk_on,
-  HearsOn,
-  initiator_heard,
-  over_none,
-  Stands,
-  Keeps,
-  talks_of,
-  no_bytes,
-  front_moves,
-  some_moves,
-  to_target,
-}
+use Rattle.iscsi_pair.proofs.Run.CarriedBytes.{open_none, Talks, talk_on, HearsOn, initiator_heard, over_none, Stands, Keeps, talks_of, no_bytes, front_moves}
+use Rattle.iscsi_pair.proofs.Run.CarriedBytes.{some_moves, to_target}
 
 -- ---- bytes reach the initiator
 

@@ -9,21 +9,8 @@ use Rattle.iscsi_initiator.specs.Calls.{Submits as Submitted_so}
 use Rattle.iscsi_initiator.specs.Submitted.{submitted}
 use Rattle.iscsi_target.specs.declared.fault.TargetFault.{TargetFault}
 use Rattle.iscsi_pair.specs.declared.step.EndFault.{EndFault}
-use Rattle.iscsi_pair.specs.World.{
-  World,
-  Event,
-  ToTarget,
-  ToInitiator,
-  Submits,
-  Takes,
-  Happens,
-  Runs,
-  MovesToTarget,
-  MovesToInitiator,
-  Asks,
-  keeps_no_memory,
-  submit_fault,
-}
+use Rattle.iscsi_pair.specs.World.{World, Event, ToTarget, ToInitiator, Submits, Takes, Happens, Runs, MovesToTarget, MovesToInitiator, Asks, keeps_no_memory}
+use Rattle.iscsi_pair.specs.World.{submit_fault}
 use Rattle.iscsi_pair.specs.Served.{IsAccepted, IsServed, RunsServed, requests_of, requests_in, given_in}
 use Rattle.iscsi_pair.proofs.Run.MemoryLemmas.{calm_first}
 
@@ -82,7 +69,8 @@ all_parts : {A : Type 0} (P : A → Type 0) (xs ys : List A) → AllByRecursion 
 all_parts P [] ys p = (tt, p)
 all_parts P (x ∷ xs) ys p = (let q = all_parts P xs ys p.1 in ((p.0, q.0), q.1))
 
-pub was_served : (old : World) (events : List Event) (new : World) → Runs old events new → AllByRecursion IsServed (requests_of events) → keeps_no_memory new ≡ false
+pub was_served : (old : World) (events : List Event) (new : World) → Runs old events new → AllByRecursion IsServed (requests_of events) → keeps_no_memory new
+    ≡ false
     → new.initiator_fault ≡ None
     → (outcomes : List Done) × RunsServed old events new outcomes
 unfolding Runs RunsServed

@@ -7,8 +7,8 @@ use Rattle.scsi_cdb.specs.declared.residual.Residual.{Residual}
 use Rattle.scsi_cdb.specs.declared.residual.Residual.TheVariants.{Exact, Under, Over}
 use Rattle.scsi_cdb.specs.declared.sense.Sense.{Sense}
 use Rattle.scsi_cdb.specs.Layout.{HaveRoom}
-use Rattle.scsi_cdb.proofs.Laws.{HaveRoom-filled}
-use Rattle.scsi_cdb.proofs.Records.{IsRecord-room, IsRecord-fits}
+use Rattle.scsi_cdb.proofs.LayoutLemmas.{HaveRoom-filled}
+use Rattle.scsi_cdb.proofs.RecordLemmas.{IsRecord-room, IsRecord-fits}
 use Rattle.scsi_disk.specs.declared.order.Outcome.{Outcome}
 use Rattle.iscsi_pdu.specs.declared.head.Head.{Head}
 use Rattle.iscsi_pdu.specs.declared.head.Head.TheVariants as heads
@@ -17,10 +17,10 @@ use Rattle.iscsi_pdu.specs.declared.head.nop_out.NopOut.{NopOut}
 use Rattle.iscsi_pdu.specs.declared.head.logout_request.LogoutRequest.{LogoutRequest}
 use Rattle.iscsi_pdu.specs.Fields.{is_tag}
 use Rattle.iscsi_pdu.specs.Meaning.{rows, opcode, is_login, AreBytes, FitsBlock, HasBlockRoom, IsWritable}
-use Rattle.iscsi_pdu.proofs.Headers.{writable-means}
+use Rattle.iscsi_pdu.proofs.HeaderLemmas.{writable-means}
 use Rattle.iscsi_stream.specs.declared.logins.Logins.{Logins}
 use Rattle.iscsi_stream.specs.Segment.{Bytes, continues, is_last, segment_bytes}
-use Rattle.iscsi_stream.proofs.Segments.{segment_plain, none_whole}
+use Rattle.iscsi_stream.proofs.SegmentLemmas.{segment_plain, none_whole}
 use Rattle.iscsi_target.specs.State as target
 use Rattle.iscsi_target_session.specs.Session.{message}
 use Rattle.iscsi_target.specs.Write.{Write}

@@ -144,7 +144,7 @@ impl Session {
 }
 
 // The value that a text has of a key, if it has one.
-#[tactic(auto, using(crate::proofs::LoginTexts::first_is))]
+#[tactic(auto, using(crate::proofs::LoginTextLemmas::first_is))]
 fn value_of<'a>(text: &Text<'a>, key: &[u8]) -> Option<Value<'a>>
     ensures { option_map typed result ≡ value_for key.now text.now }
 {
@@ -152,7 +152,7 @@ fn value_of<'a>(text: &Text<'a>, key: &[u8]) -> Option<Value<'a>>
 }
 
 // Whether the text has the key.
-#[tactic(auto, using(crate::proofs::LoginTexts::has_key_is))]
+#[tactic(auto, using(crate::proofs::LoginTextLemmas::has_key_is))]
 fn has_key(text: &Text<'_>, key: &[u8]) -> bool
     ensures { result ≡ has_key key.now text.now }
 {

@@ -1,6 +1,6 @@
 use Rattle.std.proofs.Common.{refl, ap, ◌∙◌}
 use Rattle.iscsi_stream.specs.Framing.{is_ready}
-use Rattle.iscsi_stream.proofs.PassOn.{unready_after}
+use Rattle.iscsi_stream.proofs.PassingLemmas.{unready_after}
 use Rattle.iscsi_initiator.specs.Steps.{closed}
 use Rattle.iscsi_initiator.proofs.initiator.receive_pdu.Goals as goal
 

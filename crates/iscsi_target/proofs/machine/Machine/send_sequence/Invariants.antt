@@ -1,5 +1,5 @@
 use Rattle.std.proofs.Common.{length}
-use Rattle.iscsi_target.proofs.DataInSequences.{GaveUpTo}
+use Rattle.iscsi_target.proofs.DataInSequenceLemmas.{GaveUpTo}
 use Rattle.iscsi_target.proofs.machine.Machine.send_sequence.Given as goal
 
 abbrev pub invariant-loop-rest : goal.invariant-loop-rest

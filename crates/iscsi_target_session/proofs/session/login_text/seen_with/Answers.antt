@@ -2,7 +2,7 @@ use Rattle.std.proofs.Common.{ℕ, List, get_or, false, ◌∙◌, ap, arith}
 use Rattle.std.specs.Prelude.{◌||◌}
 use Rattle.std.proofs.lemmas.List.{length-set}
 use Rattle.iscsi_text.specs.Reading.{has_key}
-use Rattle.iscsi_target_session.proofs.LoginTexts.{seen_more, seen_all}
+use Rattle.iscsi_target_session.proofs.LoginTextLemmas.{seen_more, seen_all}
 use Rattle.iscsi_target_session.proofs.session.login_text.seen_with.Goals as goal
 
 pub loop-n-preserved : goal.loop-n-preserved
