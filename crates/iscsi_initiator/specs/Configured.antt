@@ -2,8 +2,8 @@
 use Rattle.std.specs.Prelude.{◌≡◌, ◌≤◌, Result, Ok, Err}
 use Rattle.iscsi_login.specs.declared.stage.Stage.{Stage}
 use Rattle.iscsi_login.specs.declared.stage.Stage.TheVariants as stages
-use Rattle.iscsi_login.specs.declared.phase.ConfigFault.{ConfigFault}
-use Rattle.iscsi_login.specs.declared.phase.ConfigFault.TheVariants.{NoMemory, BadName, OutOfRange}
+use Rattle.iscsi_login.specs.declared.config_fault.ConfigFault.{ConfigFault}
+use Rattle.iscsi_login.specs.declared.config_fault.ConfigFault.TheVariants.{NoMemory, BadName, OutOfRange}
 use Rattle.iscsi_login.specs.Name.{IsName}
 use Rattle.iscsi_login.specs.Negotiation.{IsInRange}
 use Rattle.iscsi_initiator.specs.State.{Settings}
