@@ -131,7 +131,7 @@ asking_readable c i t logins r o a =
     subst (Readable logins) (sym a.request)
     (elim a.how [
       | inl w ↦ subst (λ (x : Segment). Readable logins (login_message i (is_sent i.unsent_text) x)) (sym w.is)
-          (request_readable logins (login_request i (is_sent i.unsent_text)) (offered i) w.first (ap (λ (l : List ℕ). not (is_sent l)) w.left) f w.short
+          (request_readable logins (login_request i (is_sent i.unsent_text)) (offered i) w.first (ap (λ (l : List ℕ). not (is_sent l)) w.unsent_text) f w.short
           (offered_read c i o a.settings a.stage))
       | inr p ↦ subst (λ (x : Segment). Readable logins (login_message i (is_sent i.unsent_text) x)) (sym p.is)
           (part_readable logins (login_request i (is_sent i.unsent_text)) p.bytes (ap (λ (b : Bool). not logins.request && b) (not-not (is_sent i.unsent_text))
