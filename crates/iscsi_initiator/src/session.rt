@@ -9,9 +9,9 @@ ghost use Rattle.iscsi_initiator.specs.Steps.{closed};
 ghost use Rattle.iscsi_initiator.specs.Machine.{step, taken};
 ghost use Rattle.iscsi_initiator.specs.Inside.{Did};
 
-mod responses;
 mod full;
 mod login;
+mod responses;
 mod sequence;
 mod submit;
 

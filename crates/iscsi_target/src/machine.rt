@@ -10,8 +10,8 @@ ghost use Rattle.iscsi_target.specs.State.{breaks};
 ghost use Rattle.iscsi_target.specs.Machine.{is_closed};
 ghost use Rattle.iscsi_target.specs.Inside.{Leaves};
 
-mod dispatch;
 mod command;
+mod dispatch;
 mod writes;
 
 use crate::tasks::Tasks;

@@ -8,10 +8,10 @@ ghost use Rattle.iscsi_target_session.specs.Session.{opening_session, max_cmd_sn
 ghost use Rattle.iscsi_target_session.specs.Rejecting.{reject, breach};
 ghost use Rattle.iscsi_target_session.specs.Replies.{Does};
 
-mod text_request;
 mod login;
 mod login_text;
 mod requests;
+mod text_request;
 
 use crate::config::Config;
 use crate::numbers::Numbers;

@@ -193,12 +193,7 @@ impl Session {
     {
         match self.outstanding.take() {
             Some(Outstanding::In(reading)) => Bytes::from_vec(reading.received),
-            Some(
-                Outstanding::Out(_)
-                | Outstanding::Ping
-                | Outstanding::Text
-                | Outstanding::Logout,
-            )
+            Some(Outstanding::Out(_) | Outstanding::Ping | Outstanding::Text | Outstanding::Logout)
             | None => Bytes::from_vec(Vec::new(alloc)),
         }
     }
@@ -225,7 +220,10 @@ impl Session {
         ensures err { OnErr result (rolled_back self.old self.new ≡ self.old) }
         ensures unwritten { OnErr result (out.new.items ≡ out.old.items) }
     {
-        if !matches!(self.outstanding, Some(Outstanding::In(_) | Outstanding::Out(_))) {
+        if !matches!(
+            self.outstanding,
+            Some(Outstanding::In(_) | Outstanding::Out(_))
+        ) {
             return Ok(self.protocol_error(KIND_NOT_DUE));
         }
         if let Some(rule) = self.broken_rule(bytes.len(), Some(head.stat_sn)) {
