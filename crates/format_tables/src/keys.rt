@@ -1,73 +1,54 @@
 //! The text keys, section 8 of the page.
 
-use crate::page::{between, cells, quoted};
-use crate::report::Report;
-use anyhow::{Context, Result, ensure};
+use crate::Counts;
+use crate::row::{Row, between, quoted};
 use iscsi_login::{Answered, NegKey, Range, Rule, Session};
 use iscsi_text::{KeyKind, key_kind};
+use std::io;
 
-/// Holds each row of section 8 against the code, and the numbers of keys that it names.
-pub fn hold_keys(section: &str, report: &mut Report<'_>) -> Result<()> {
-    for line in section.lines().filter(|line| line.starts_with('|')).skip(2) {
-        let outcome = hold_row(line, &mut report.keys);
-        report.note(line, outcome)?;
+/// Holds each row of section 8 against the code, and the number of keys that it names.
+pub fn hold_keys(rt: &HostRuntime, section: &str, counts: &mut Counts) -> io::Result<()> {
+    for line in section.lines() {
+        let is_row = line.starts_with("| ") && !line.starts_with("| Key ");
+        if is_row && hold_row(line, &mut counts.keys).is_none() {
+            counts.note(rt, "section 8", line)?;
+        }
     }
-    let known = between(section, "These ", " keys are known");
-    let ruled = between(
-        section,
-        "The first ",
-        " rows are the keys with a result function",
-    );
-    let outcome = hold_numbers(known, ruled, report.keys);
-    report.note("the numbers of keys", outcome)?;
-    Ok(())
-}
-
-fn hold_numbers(known: Option<&str>, ruled: Option<&str>, keys: usize) -> Result<()> {
-    let known = known.context("no number of known keys")?.parse::<usize>()?;
-    ensure!(known == keys, "{keys} rows of {known} known keys");
-    let ruled = ruled
-        .context("no number of negotiated keys")?
-        .parse::<usize>()?;
-    ensure!(ruled == NegKey::ALL.len(), "{ruled} negotiated keys");
+    let known = between(section, "These ", " keys are known").unwrap_or("");
+    if known.parse::<usize>().ok() != Some(counts.keys) {
+        counts.note(rt, "section 8", "its number of keys")?;
+    }
     Ok(())
 }
 
 // Holds a row of one key or two against the code, and counts its keys.
-fn hold_row(line: &str, keys: &mut usize) -> Result<()> {
-    let [names, kind, rule, range, default] = cells(line).context("no row")?;
-    let (names, has_star) = match names.strip_suffix(" *") {
+fn hold_row(line: &str, keys: &mut usize) -> Option<()> {
+    let row = Row::read(line)?;
+    let (names, has_star) = match row.first.strip_suffix(" *") {
         Some(names) => (names, true),
-        None => (names, false),
+        None => (row.first, false),
     };
     for name in names.split(", ") {
-        let name = quoted(name).context("no name")?.as_bytes();
-        let kind = kind_of(kind).context("no type")?;
-        ensure!(key_kind(name) == Some(kind), "its type");
-        let key = NegKey::ALL.get(*keys).copied();
-        *keys = keys.saturating_add(1);
-        ensure!(NegKey::named(name) == key, "its place in the table");
-        match key {
-            Some(key) => {
-                ensure!(
-                    Some(key.rule()) == rule_of(rule, range),
-                    "its result or range"
-                );
-                ensure!(
-                    Some(key.default_value()) == default_of(default),
-                    "its default"
-                );
-                ensure!(
-                    key.is_irrelevant(Session::Discovery) == has_star,
-                    "its star"
-                );
-            }
-            None => {
-                ensure!(!has_star && is_declared(rule), "its result");
-            }
-        }
+        let at = *keys;
+        *keys = at.saturating_add(1);
+        hold_key(quoted(name)?.as_bytes(), at, has_star, &row)?;
     }
-    Ok(())
+    Some(())
+}
+
+// Holds the key at a place of the table against the code.
+fn hold_key(name: &[u8], at: usize, has_star: bool, row: &Row<'_>) -> Option<()> {
+    let kind = kind_of(row.second)?;
+    let key = NegKey::ALL.get(at).copied();
+    let is_so = match key {
+        Some(key) => {
+            key.rule() == rule_of(row.third, row.fourth)?
+                && key.default_value() == default_of(row.fifth)?
+                && key.is_irrelevant(Session::Discovery) == has_star
+        }
+        None => !has_star && is_declared(row.third),
+    };
+    (is_so && key_kind(name) == Some(kind) && NegKey::named(name) == key).then_some(())
 }
 
 fn kind_of(word: &str) -> Option<KeyKind> {
@@ -81,22 +62,21 @@ fn kind_of(word: &str) -> Option<KeyKind> {
 }
 
 fn rule_of(rule: &str, range: &str) -> Option<Rule> {
-    match (rule, range) {
-        ("minimum", range) => Some(Rule::Minimum(range_of(range)?)),
-        ("maximum", range) => Some(Rule::Maximum(range_of(range)?)),
-        ("OR", "") => Some(Rule::Or),
-        ("AND", "") => Some(Rule::And),
-        ("first common item", "") => Some(Rule::NoneItem),
+    match rule {
+        "minimum" => Some(Rule::Minimum(range_of(range)?)),
+        "maximum" => Some(Rule::Maximum(range_of(range)?)),
+        "OR" => Some(Rule::Or),
+        "AND" => Some(Rule::And),
+        "first common item" => Some(Rule::NoneItem),
         _ => None,
     }
 }
 
 fn range_of(text: &str) -> Option<Range> {
     let (low, high) = text.split_once("..")?;
-    Some(Range {
-        low: low.parse::<u32>().ok()?,
-        high: high.parse::<u32>().ok()?,
-    })
+    let low = low.parse::<u32>().ok()?;
+    let high = high.parse::<u32>().ok()?;
+    Some(Range { low, high })
 }
 
 fn default_of(text: &str) -> Option<Answered> {
