@@ -1,7 +1,7 @@
 //! A field of a header: its place, its condition, and what `show` prints for it (FORMATS, sections
 //! 1 and 10).
 
-use crate::row::{Row, quoted};
+use crate::row::{cell, decimal, hex, quoted};
 
 /// The digits that `show` prints.
 const DIGITS: &[u8; 16] = b"0123456789abcdef";
@@ -9,8 +9,8 @@ const DIGITS: &[u8; 16] = b"0123456789abcdef";
 /// Bits of a header: those of the mask in each byte from the first to the last.
 #[derive(Clone, Copy)]
 pub struct Place {
-    first: usize,
-    last: usize,
+    first: u32,
+    last: u32,
     mask: u8,
 }
 
@@ -19,17 +19,19 @@ impl Place {
     pub fn read(text: &str) -> Option<Place> {
         let (bytes, mask) = text.split_once(':').unwrap_or((text, "ff"));
         let (first, last) = bytes.split_once('-').unwrap_or((bytes, bytes));
-        let first = first.parse::<usize>().ok()?;
-        let last = last.parse::<usize>().ok()?;
-        let mask = u8::from_str_radix(mask, 16).ok()?;
-        if first > last || last > 47 || mask == 0 {
+        Place::new(decimal(first)?, decimal(last)?, hex(mask)?)
+    }
+
+    fn new(first: u32, last: u32, mask: u32) -> Option<Place> {
+        if first > last || last > 47 || mask == 0 || mask > 0xff {
             return None;
         }
+        let mask = mask as u8;
         Some(Place { first, last, mask })
     }
 
     /// Which bits of a byte are at the place.
-    pub fn mask_of(&self, at: usize) -> u8 {
+    pub fn mask_of(&self, at: u32) -> u8 {
         if self.first <= at && at <= self.last {
             self.mask
         } else {
@@ -38,7 +40,7 @@ impl Place {
     }
 
     /// Whether all bits are of this byte.
-    pub fn is_within(&self, at: usize) -> bool {
+    pub fn is_within(&self, at: u32) -> bool {
         self.first == at && self.last == at
     }
 
@@ -48,12 +50,12 @@ impl Place {
         (byte & self.mask).checked_shr(low).unwrap_or(0)
     }
 
-    /// The number that stands there; of more than eight bytes the last eight.
-    fn number(&self, header: &[u8; 48]) -> u64 {
-        let mut number = 0u64;
+    /// The number that stands there; of more than four bytes the last four.
+    fn number(&self, header: &[u8; 48]) -> u32 {
+        let mut number = 0u32;
         for at in 0..48 {
             if self.mask_of(at) != 0 {
-                number = number.wrapping_mul(256) | u64::from(self.bits(header[at]));
+                number = number.wrapping_mul(256) | u32::from(self.bits(header[at as usize]));
             }
         }
         number
@@ -64,7 +66,7 @@ impl Place {
         let mut rest = line;
         for at in 0..48 {
             if self.mask_of(at) != 0 {
-                let bits = self.bits(header[at]);
+                let bits = self.bits(header[at as usize]);
                 if self.mask == 0xff || self.mask == 0x7f {
                     rest = strip_digit(rest, bits / 16)?;
                 }
@@ -77,11 +79,8 @@ impl Place {
 
 /// Takes a digit off the front of a line.
 fn strip_digit(line: &[u8], digit: u8) -> Option<&[u8]> {
-    let (first, rest) = line.split_first()?;
-    if *first != DIGITS[usize::from(digit % 16)] {
-        return None;
-    }
-    Some(rest)
+    let digit = DIGITS[usize::from(digit % 16)];
+    line.strip_prefix([digit].as_slice())
 }
 
 /// Where a field has a value: where one of the two places has one of the two numbers, or where one
@@ -90,28 +89,26 @@ fn strip_digit(line: &[u8], digit: u8) -> Option<&[u8]> {
 struct Condition {
     one: Place,
     other: Place,
-    low: u64,
-    high: u64,
+    low: u32,
+    high: u32,
     has: bool,
 }
 
 impl Condition {
-    /// Reads `` `a` is 0 or 5 ``, `` `a` is not 0 ``, `` `a` or `b` `` or `` `a` ``, of fields that
-    /// the rows name.
-    fn read(text: &str, rows: &[Row<'_>]) -> Option<Condition> {
+    /// Reads `` `a` is 0 or 5 ``, `` `a` is not 0 ``, `` `a` or `b` `` or `` `a` ``, of fields of
+    /// the table.
+    fn read(text: &str, table: &str) -> Option<Condition> {
         let (fields, numbers) = text.split_once(" is ").unwrap_or((text, "not 0"));
-        let (has, numbers) = match numbers.strip_prefix("not ") {
-            Some(numbers) => (false, numbers),
-            None => (true, numbers),
-        };
+        let no = numbers.starts_with("not ");
+        let numbers = numbers.strip_prefix("not ").unwrap_or(numbers);
         let (one, other) = fields.split_once(" or ").unwrap_or((fields, fields));
         let (low, high) = numbers.split_once(" or ").unwrap_or((numbers, numbers));
         Some(Condition {
-            one: place_of(one, rows)?,
-            other: place_of(other, rows)?,
-            low: u64::from_str_radix(low, 16).ok()?,
-            high: u64::from_str_radix(high, 16).ok()?,
-            has,
+            one: place_of(one, table)?,
+            other: place_of(other, table)?,
+            low: hex(low)?,
+            high: hex(high)?,
+            has: !no,
         })
     }
 
@@ -119,16 +116,16 @@ impl Condition {
         self.is_met(self.one.number(header)) || self.is_met(self.other.number(header))
     }
 
-    fn is_met(&self, number: u64) -> bool {
+    fn is_met(&self, number: u32) -> bool {
         (number == self.low || number == self.high) == self.has
     }
 }
 
 /// The place of the field that stands so in the first cell of a row.
-fn place_of(field: &str, rows: &[Row<'_>]) -> Option<Place> {
-    for row in rows {
-        if row.first == field {
-            return Place::read(row.second);
+fn place_of(field: &str, table: &str) -> Option<Place> {
+    for row in table.lines() {
+        if cell(row, 1) == field {
+            return Place::read(cell(row, 2));
         }
     }
     None
@@ -138,32 +135,28 @@ fn place_of(field: &str, rows: &[Row<'_>]) -> Option<Place> {
 #[derive(Clone, Copy)]
 pub struct Field<'a> {
     /// The row.
-    pub line: &'a str,
+    pub row: &'a str,
     /// Its bits.
     pub place: Place,
     condition: Option<Condition>,
-    /// Its name in the code.
-    pub name: &'a str,
-    /// Its name in `show`.
+    // Its name in `show`.
     shown: &'a str,
-    /// Whether it is a command's descriptor block, which has a canonical form of its own.
-    pub is_block: bool,
 }
 
 impl<'a> Field<'a> {
-    /// Reads a row, whose condition names fields of the rows.
-    pub fn read(row: &Row<'a>, rows: &[Row<'a>]) -> Option<Field<'a>> {
-        let condition = match row.third {
-            "" => None,
-            text => Some(Condition::read(text, rows)?),
-        };
+    /// Reads a row of a table, of which its condition may name other rows.
+    pub fn read(row: &'a str, table: &'a str) -> Option<Field<'a>> {
+        let place = Place::read(cell(row, 2))?;
+        let text = cell(row, 3);
+        let condition = Condition::read(text, table);
+        if !text.is_empty() && condition.is_none() {
+            return None;
+        }
         Some(Field {
-            line: row.line,
-            place: Place::read(row.second)?,
+            row,
+            place,
             condition,
-            name: quoted(row.first)?,
-            shown: quoted(row.fourth)?,
-            is_block: row.fifth == "CDB, a record of section 4",
+            shown: quoted(cell(row, 4)),
         })
     }
 
@@ -175,11 +168,8 @@ impl<'a> Field<'a> {
         }
     }
 
-    /// Takes what `show` prints for it off the front of a line: nothing where it has no value.
+    /// Takes what `show` prints for it off the front of a line.
     pub fn strip<'b>(&self, header: &[u8; 48], line: &'b [u8]) -> Option<&'b [u8]> {
-        if !self.is_there(header) {
-            return Some(line);
-        }
         let rest = line.strip_prefix(b" ".as_slice())?;
         let rest = rest.strip_prefix(self.shown.as_bytes())?;
         let rest = rest.strip_prefix(b"=".as_slice())?;

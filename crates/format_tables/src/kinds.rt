@@ -2,15 +2,17 @@
 
 use crate::Counts;
 use crate::field::{Field, Place};
-use crate::row::{Row, between};
+use crate::row::{between, hex, is_row};
 use iscsi_pdu::{Pdu, read_head, write_head};
 use iscsi_stream::show_line;
-use scsi_cdb::Cdb;
-use std::alloc::Global;
+use std::alloc::{AllocError, Global};
 use std::io;
 
 /// What stands in section 3 below no heading of a kind.
 const EXAMPLES: &str = "Headers, before and after\n";
+
+/// The first bytes of a table's heading.
+const HEADING: &str = "| Field |";
 
 /// What the page says of a kind, but for its rows.
 #[derive(Clone, Copy)]
@@ -18,10 +20,9 @@ struct Kind<'a> {
     opcode: u8,
     // its name in `show`
     shown: &'a str,
-    // the bits that are free and written 1, and the opcode
-    ones: [u8; 48],
-    // what the page says of the free bits
-    free: &'a str,
+    // the free bits that are written 0, and those that are written 1
+    zeros: &'a str,
+    ones: &'a str,
 }
 
 /// Holds each kind of section 3 against the code, and that there is no other.
@@ -29,128 +30,170 @@ pub fn hold_kinds(rt: &HostRuntime, section: &str, counts: &mut Counts) -> io::R
     let mut seen = [false; 64];
     for block in section.split("\n### ").skip(1) {
         if !block.starts_with(EXAMPLES) {
-            let (title, _) = block.split_once('\n').unwrap_or((block, ""));
-            if let Err(row) = hold_kind(rt.alloc(), block, &mut seen, counts) {
-                counts.note(rt, title, row)?;
+            counts.kinds = counts.kinds.saturating_add(1);
+            let wrong = hold_kind(rt.alloc(), block, &mut seen, counts)?;
+            if let Some(row) = wrong {
+                rt.print("below ")?;
+                rt.println(block.lines().next().unwrap_or(""))?;
+                counts.note(rt, row)?;
             }
         }
     }
-    for opcode in 0..64u8 {
-        let mut header = [0; 48];
-        header[0] = opcode;
-        if read_head(&header).is_ok() != seen[usize::from(opcode)] {
-            println!(rt; "opcode {opcode:02x}")?;
-            counts.note(rt, "section 3", "its opcodes")?;
-        }
+    if !are_all(&seen) {
+        counts.note(rt, "section 3 lacks a kind, or has one that is none")?;
     }
     Ok(())
 }
 
+// Whether these are the opcodes that the code takes.
+fn are_all(seen: &[bool; 64]) -> bool {
+    for opcode in 0..64u8 {
+        let mut header = [0; 48];
+        header[0] = opcode;
+        if read_head(&header).is_ok() != seen[usize::from(opcode)] {
+            return false;
+        }
+    }
+    true
+}
+
+// The first row of a kind that is not as in the code.
 fn hold_kind<'a>(
     alloc: Global,
     block: &'a str,
     seen: &mut [bool; 64],
     counts: &mut Counts,
-) -> Result<(), &'a str> {
-    let fields = fields_of(alloc, block)?;
-    let kind = kind_of(block, &fields)?;
-    counts.kinds = counts.kinds.saturating_add(1);
-    counts.fields = counts.fields.saturating_add(fields.len());
-    let opcode = usize::from(kind.opcode);
-    if opcode >= 64 || seen[opcode] {
-        return Err("its opcode");
+) -> Result<Option<&'a str>, AllocError> {
+    let Some(kind) = kind_of(block) else {
+        return Ok(Some("what stands beside the table"));
+    };
+    if let Some(row) = wrong_row(block) {
+        return Ok(Some(row));
     }
-    seen[opcode] = true;
+    let fields = fields_of(alloc, block)?;
+    counts.fields = counts.fields.saturating_add(fields.len());
+    if !is_new(seen, kind.opcode) {
+        return Ok(Some("its opcode"));
+    }
+    if let Some(row) = uncovered(kind, &fields) {
+        return Ok(Some(row));
+    }
     hold_headers(alloc, kind, &fields)
 }
 
-// The rows of a kind's table.
-fn fields_of<'a>(alloc: Global, block: &'a str) -> Result<Vec<Field<'a>>, &'a str> {
-    let mut rows = Vec::new(alloc);
-    for line in block.lines() {
-        if line.starts_with("| ") {
-            let row = Row::read(line).ok_or(line)?;
-            rows.push(row).ok().ok_or("memory")?;
+// Marks an opcode, where it is one and was not marked.
+fn is_new(seen: &mut [bool; 64], opcode: u8) -> bool {
+    let at = usize::from(opcode);
+    if at >= 64 || seen[at] {
+        return false;
+    }
+    seen[at] = true;
+    true
+}
+
+// The first row of a table that cannot be read.
+fn wrong_row(block: &str) -> Option<&str> {
+    for row in block.lines() {
+        let is_field = row.starts_with("| ") && !row.starts_with(HEADING);
+        if is_field && (!is_row(row) || Field::read(row, block).is_none()) {
+            return Some(row);
         }
     }
+    None
+}
+
+// The rows of a kind's table.
+fn fields_of<'a>(alloc: Global, block: &'a str) -> Result<Vec<Field<'a>>, AllocError> {
     let mut fields = Vec::new(alloc);
-    for row in rows.iter().skip(1) {
-        let field = Field::read(row, &rows).ok_or(row.line)?;
-        fields.push(field).ok().ok_or("memory")?;
+    for row in block.lines() {
+        if let Some(field) = Field::read(row, block) {
+            fields.push(field)?;
+        }
     }
     Ok(fields)
 }
 
-fn kind_of<'a>(block: &'a str, fields: &[Field<'a>]) -> Result<Kind<'a>, &'a str> {
-    let opcode = between(block, "\nOpcode ", ", RFC 7143 section ").ok_or("no opcode")?;
-    let opcode = u8::from_str_radix(opcode, 16).ok().ok_or("no opcode")?;
-    let shown = between(block, "`show` prints `", "`.\n").ok_or("no name in `show`")?;
-    let free = between(block, "\nAlways free, written 0: ", "\n").unwrap_or("");
-    let (zeros, rest) = free
-        .split_once(". Free, written 1: ")
-        .ok_or("no free bits")?;
-    let (ones, _) = rest.split_once('.').ok_or("no bits written 1")?;
-    let mut header = [0; 48];
-    cover(&mut header, "0:3f, 4-7").ok_or("frame")?;
-    cover(&mut header, zeros).ok_or(free)?;
-    cover(&mut header, ones).ok_or(free)?;
-    for field in fields {
-        cover_place(&mut header, &field.place).ok_or(field.line)?;
-    }
-    if header != [0xff; 48] {
-        return Err(free);
-    }
-    let mut header = [0; 48];
-    cover(&mut header, ones).ok_or(free)?;
-    header[0] |= opcode;
-    Ok(Kind {
+fn kind_of(block: &str) -> Option<Kind<'_>> {
+    let opcode = hex(between(block, "\nOpcode ", ", RFC 7143 section ")?)?;
+    let shown = between(block, "`show` prints `", "`.\n")?;
+    let zeros = between(block, "\nAlways free, written 0: ", ". Free, written 1: ")?;
+    let ones = between(block, ". Free, written 1: ", ".")?;
+    let opcode = u8::try_from(opcode).ok()?;
+    Some(Kind {
         opcode,
         shown,
-        ones: header,
-        free,
+        zeros,
+        ones,
     })
 }
 
-// Sets the bits of a list such as `0:80, 2-3`, of which none was set; `none` is no bit.
-fn cover(header: &mut [u8; 48], list: &str) -> Option<()> {
-    if list != "none" {
-        for text in list.split(", ") {
-            let place = Place::read(text)?;
-            cover_place(header, &place)?;
+// The row of bits that stand twice, or the list of free bits where a bit is in no row.
+fn uncovered<'a>(kind: Kind<'a>, fields: &[Field<'a>]) -> Option<&'a str> {
+    let mut header = [0; 48];
+    let is_free = cover(&mut header, "0:3f, 4-7")
+        && cover(&mut header, kind.zeros)
+        && cover(&mut header, kind.ones);
+    for field in fields {
+        if !cover_place(&mut header, &field.place) {
+            return Some(field.row);
         }
     }
-    Some(())
+    if is_free && header == [0xff; 48] {
+        None
+    } else {
+        Some(kind.zeros)
+    }
 }
 
-fn cover_place(header: &mut [u8; 48], place: &Place) -> Option<()> {
-    for at in 0..48 {
-        let mask = place.mask_of(at);
-        if header[at] & mask != 0 {
-            return None;
+// Sets the bits of a list such as `0:80, 2-3`, where none of them was set; `none` is no bit.
+fn cover(header: &mut [u8; 48], list: &str) -> bool {
+    for text in list.split(", ") {
+        let is_free = match Place::read(text) {
+            Some(place) => cover_place(header, &place),
+            None => text == "none",
+        };
+        if !is_free {
+            return false;
         }
-        header[at] |= mask;
     }
-    Some(())
+    true
+}
+
+fn cover_place(header: &mut [u8; 48], place: &Place) -> bool {
+    for at in 0..48u32 {
+        let mask = place.mask_of(at);
+        if header[at as usize] & mask != 0 {
+            return false;
+        }
+        header[at as usize] |= mask;
+    }
+    true
 }
 
 // Holds the headers that differ from all 0 or from all 1 in one bit, or in one byte that has a
 // field within it.
-fn hold_headers<'a>(alloc: Global, kind: Kind<'a>, fields: &[Field<'a>]) -> Result<(), &'a str> {
+fn hold_headers<'a>(
+    alloc: Global,
+    kind: Kind<'a>,
+    fields: &[Field<'a>],
+) -> Result<Option<&'a str>, AllocError> {
     for base in [0x00u8, 0xff] {
         for at in 0..48 {
-            let is_byte = has_field_within(fields, at);
             for byte in 0..=0xff {
-                if is_byte || (byte ^ base).count_ones() < 2 {
+                if (byte ^ base).count_ones() < 2 || has_field_within(fields, at) {
                     let header = header_of(kind, base, at, byte);
-                    hold_header(alloc, kind, fields, &header)?;
+                    let wrong = hold_header(alloc, kind, fields, &header)?;
+                    if wrong.is_some() {
+                        return Ok(wrong);
+                    }
                 }
             }
         }
     }
-    Ok(())
+    Ok(None)
 }
 
-fn has_field_within(fields: &[Field<'_>], at: usize) -> bool {
+fn has_field_within(fields: &[Field<'_>], at: u32) -> bool {
     for field in fields {
         if field.place.is_within(at) {
             return true;
@@ -159,15 +202,20 @@ fn has_field_within(fields: &[Field<'_>], at: usize) -> bool {
     false
 }
 
-// A header of the kind without a segment: all bytes are `base`, but for one.
-fn header_of(kind: Kind<'_>, base: u8, at: usize, byte: u8) -> [u8; 48] {
+// A header of the kind without a segment: all bytes are `base`, but for one. The block of a command
+// is of no record, so that it is kept as it is.
+fn header_of(kind: Kind<'_>, base: u8, at: u32, byte: u8) -> [u8; 48] {
     let mut header = [base; 48];
     if at < 48 {
-        header[at] = byte;
+        header[at as usize] = byte;
     }
     header[0] = (header[0] & 0xc0) | kind.opcode;
-    for at in 4..8 {
-        header[at] = 0;
+    header[4] = 0;
+    header[5] = 0;
+    header[6] = 0;
+    header[7] = 0;
+    if kind.opcode == 0x01 {
+        header[32] = 0xff;
     }
     header
 }
@@ -178,19 +226,16 @@ fn hold_header<'a>(
     kind: Kind<'a>,
     fields: &[Field<'a>],
     header: &[u8; 48],
-) -> Result<(), &'a str> {
+) -> Result<Option<&'a str>, AllocError> {
     let Ok((head, _)) = read_head(header) else {
-        return Err("its opcode");
+        return Ok(Some("its opcode"));
     };
-    let pdu = Pdu { head, bytes: &[] };
     let mut line = Vec::new(alloc);
-    show_line(0, &pdu, &mut line).ok().ok_or("memory")?;
-    let header = with_canonical_block(fields, *header);
-    hold_line(kind, fields, &header, &line)?;
-    if write_head(&head, 0) != canonical(kind, fields, &header) {
-        return Err(kind.free);
+    show_line(0, &Pdu { head, bytes: &[] }, &mut line)?;
+    if write_head(&head, 0) != canonical(kind, fields, header) {
+        return Ok(Some(kind.ones));
     }
-    Ok(())
+    Ok(hold_line(kind, fields, header, &line))
 }
 
 // Takes what each field is due off the line that `show` prints.
@@ -199,49 +244,44 @@ fn hold_line<'a>(
     fields: &[Field<'a>],
     header: &[u8; 48],
     line: &[u8],
-) -> Result<(), &'a str> {
-    let rest = line.strip_prefix(b"0 ".as_slice()).ok_or("its place")?;
-    let mut rest = rest.strip_prefix(kind.shown.as_bytes()).ok_or(kind.shown)?;
+) -> Option<&'a str> {
+    let mut rest = match line.strip_prefix(b"0 ".as_slice()) {
+        Some(rest) => rest,
+        None => return Some("its place"),
+    };
+    rest = match rest.strip_prefix(kind.shown.as_bytes()) {
+        Some(rest) => rest,
+        None => return Some(kind.shown),
+    };
     for field in fields {
-        rest = field.strip(header, rest).ok_or(field.line)?;
+        if field.is_there(header) {
+            rest = match field.strip(header, rest) {
+                Some(rest) => rest,
+                None => return Some(field.row),
+            };
+        }
     }
-    if rest != b" data=0\n".as_slice() {
-        return Err("a row is missing at the end");
+    if rest == b" data=0\n".as_slice() {
+        None
+    } else {
+        Some("a row is missing at the end")
     }
-    Ok(())
 }
 
 fn canonical(kind: Kind<'_>, fields: &[Field<'_>], header: &[u8; 48]) -> [u8; 48] {
-    let mut due = kind.ones;
+    let mut due = [0; 48];
+    cover(&mut due, kind.ones);
+    due[0] |= kind.opcode;
     for field in fields {
         if field.is_there(header) {
-            for at in 0..48 {
-                due[at] |= header[at] & field.place.mask_of(at);
-            }
+            copy(&field.place, header, &mut due);
         }
     }
     due
 }
 
-// The header with the canonical form of a command's descriptor block, where it has one.
-fn with_canonical_block(fields: &[Field<'_>], header: [u8; 48]) -> [u8; 48] {
-    for field in fields {
-        if field.is_block {
-            return replace_block(header);
-        }
+fn copy(place: &Place, from: &[u8; 48], to: &mut [u8; 48]) {
+    for at in 0..48u32 {
+        to[at as usize] |= from[at as usize] & place.mask_of(at);
     }
-    header
-}
-
-fn replace_block(header: [u8; 48]) -> [u8; 48] {
-    let mut block = [0; 16];
-    for at in 0..16 {
-        block[at] = header[32 + at];
-    }
-    let block = Cdb::read(&block).write();
-    let mut header = header;
-    for at in 0..16 {
-        header[32 + at] = block[at];
-    }
-    header
 }

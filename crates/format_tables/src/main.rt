@@ -13,7 +13,7 @@ use crate::row::between;
 use std::process::ExitCode;
 use std::{fs, io};
 
-/// What was held against the code, and how much of it is not so.
+/// What was held against the code, and how many parts of it are not so.
 #[derive(Clone, Copy)]
 pub struct Counts {
     kinds: usize,
@@ -23,43 +23,42 @@ pub struct Counts {
 }
 
 impl Counts {
-    /// Prints a line for a part of the page that is not as in the code.
-    fn note(&mut self, rt: &HostRuntime, part: &str, row: &str) -> io::Result<()> {
+    /// Prints a row that is not as in the code.
+    fn note(&mut self, rt: &HostRuntime, row: &str) -> io::Result<()> {
         self.not_so = self.not_so.saturating_add(1);
-        println!(rt; "{part}: {row}")
+        rt.println(row)
     }
 }
 
-/// Prints a line for each part of the tables that is not as in the code, then one of counts. The
-/// status is 1 where there is such a part.
+/// Prints each row that is not as in the code, and a line of counts. The status is 1 where there is
+/// such a row.
 fn main(rt: HostRuntime) -> io::Result<ExitCode> {
     let page = fs::read_to_string(&rt, "FORMATS.md")?;
-    let page = page.as_str();
-    let kinds = between(page, "\n## 3. The kinds of PDU\n", "\n## ").unwrap_or("");
-    let keys = between(page, "\n## 8. Text keys\n", "\n## ").unwrap_or("");
     let mut counts = Counts {
         kinds: 0,
         fields: 0,
         keys: 0,
         not_so: 0,
     };
-    hold_kinds(&rt, kinds, &mut counts)?;
-    hold_keys(&rt, keys, &mut counts)?;
-    end(&rt, counts)
+    hold_page(&rt, page.as_str(), &mut counts)?;
+    let not_so = counts.not_so;
+    print_counts(&rt, counts)?;
+    Ok(ExitCode::from(if not_so == 0 { 0 } else { 1 }))
 }
 
-fn end(rt: &HostRuntime, counts: Counts) -> io::Result<ExitCode> {
+fn hold_page(rt: &HostRuntime, page: &str, counts: &mut Counts) -> io::Result<()> {
+    let kinds = between(page, "\n## 3. The kinds of PDU\n", "\n## ").unwrap_or("");
+    hold_kinds(rt, kinds, counts)?;
+    let keys = between(page, "\n## 8. Text keys\n", "\n## ").unwrap_or("");
+    hold_keys(rt, keys, counts)
+}
+
+fn print_counts(rt: &HostRuntime, counts: Counts) -> io::Result<()> {
     let Counts {
         kinds,
         fields,
         keys,
         not_so,
     } = counts;
-    print!(rt; "{kinds} kinds, {fields} fields, {keys} keys: ")?;
-    if not_so == 0 {
-        println!(rt; "as in the code")?;
-        return Ok(ExitCode::SUCCESS);
-    }
-    println!(rt; "{not_so} not as in the code")?;
-    Ok(ExitCode::from(1))
+    println!(rt; "{kinds} kinds, {fields} fields, {keys} keys: {not_so} not as in the code")
 }

@@ -1,4 +1,4 @@
-//! Rows of the tables of the page, and other parts of its text.
+//! Parts of the text of the page.
 
 /// What stands between the first `before` and the next `after`.
 pub fn between<'a>(text: &'a str, before: &str, after: &str) -> Option<&'a str> {
@@ -7,43 +7,29 @@ pub fn between<'a>(text: &'a str, before: &str, after: &str) -> Option<&'a str> 
     Some(part)
 }
 
-/// What stands in a cell between backquotes.
-pub fn quoted(cell: &str) -> Option<&str> {
-    cell.strip_prefix('`')?.strip_suffix('`')
+/// Whether a line is a row of five cells.
+pub fn is_row(line: &str) -> bool {
+    line.split('|').count() == 7
 }
 
-/// A row of five cells.
-#[derive(Clone, Copy)]
-pub struct Row<'a> {
-    /// The whole line.
-    pub line: &'a str,
-    /// Its cells, without the blanks around them.
-    pub first: &'a str,
-    pub second: &'a str,
-    pub third: &'a str,
-    pub fourth: &'a str,
-    pub fifth: &'a str,
+/// A cell of a row, counted from 1, without the blanks around it; nothing where there is none.
+pub fn cell(row: &str, at: usize) -> &str {
+    let text = row.split('|').nth(at).unwrap_or("");
+    text.trim()
 }
 
-impl<'a> Row<'a> {
-    /// The row of a line, unless it has more cells or fewer.
-    pub fn read(line: &'a str) -> Option<Row<'a>> {
-        let (before, rest) = line.split_once('|')?;
-        let (first, rest) = rest.split_once('|')?;
-        let (second, rest) = rest.split_once('|')?;
-        let (third, rest) = rest.split_once('|')?;
-        let (fourth, rest) = rest.split_once('|')?;
-        let (fifth, after) = rest.split_once('|')?;
-        if !before.is_empty() || !after.is_empty() {
-            return None;
-        }
-        Some(Row {
-            line,
-            first: first.trim(),
-            second: second.trim(),
-            third: third.trim(),
-            fourth: fourth.trim(),
-            fifth: fifth.trim(),
-        })
-    }
+/// What stands in a cell between backquotes; nothing where there are none.
+pub fn quoted(cell: &str) -> &str {
+    let rest = cell.strip_prefix('`').unwrap_or("");
+    rest.strip_suffix('`').unwrap_or("")
+}
+
+/// The number that is written so in decimal.
+pub fn decimal(text: &str) -> Option<u32> {
+    u32::from_str_radix(text, 10).ok()
+}
+
+/// The number that is written so in hex.
+pub fn hex(text: &str) -> Option<u32> {
+    u32::from_str_radix(text, 16).ok()
 }
