@@ -92,10 +92,9 @@ fn rule_of(rule: &str, range: &str) -> Option<Rule> {
 
 fn range_of(text: &str) -> Option<Range> {
     let (low, high) = text.split_once("..")?;
-    Some(Range {
-        low: decimal(low)?,
-        high: decimal(high)?,
-    })
+    let low = decimal(low)?;
+    let high = decimal(high)?;
+    Some(Range { low, high })
 }
 
 fn default_of(text: &str) -> Option<Answered> {

@@ -114,16 +114,15 @@ fn fields_of<'a>(alloc: Global, block: &'a str) -> Result<Vec<Field<'a>>, AllocE
 }
 
 fn kind_of(block: &str) -> Option<Kind<'_>> {
-    let opcode = hex(between(block, "\nOpcode ", ", RFC 7143 section ")?)?;
-    let shown = between(block, "`show` prints `", "`.\n")?;
-    let zeros = between(block, "\nAlways free, written 0: ", ". Free, written 1: ")?;
-    let ones = between(block, ". Free, written 1: ", ".")?;
-    let opcode = u8::try_from(opcode).ok()?;
+    let opcode = hex(between(block, "\nOpcode ", ", RFC 7143 section ").unwrap_or(""))?;
+    if opcode > 0xff {
+        return None;
+    }
     Some(Kind {
-        opcode,
-        shown,
-        zeros,
-        ones,
+        opcode: opcode as u8,
+        shown: between(block, "`show` prints `", "`.\n").unwrap_or(""),
+        zeros: between(block, "\nAlways free, written 0: ", ". Free, written 1: ").unwrap_or(""),
+        ones: between(block, ". Free, written 1: ", ".").unwrap_or(""),
     })
 }
 
@@ -282,6 +281,7 @@ fn canonical(kind: Kind<'_>, fields: &[Field<'_>], header: &[u8; 48]) -> [u8; 48
 
 fn copy(place: &Place, from: &[u8; 48], to: &mut [u8; 48]) {
     for at in 0..48u32 {
-        to[at as usize] |= from[at as usize] & place.mask_of(at);
+        let bits = from[at as usize] & place.mask_of(at);
+        to[at as usize] |= bits;
     }
 }
