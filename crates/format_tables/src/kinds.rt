@@ -231,10 +231,11 @@ fn hold_header<'a>(
     };
     let mut line = Vec::new(alloc);
     show_line(0, &Pdu { head, bytes: &[] }, &mut line)?;
-    if write_head(&head, 0) != canonical(kind, fields, header) {
-        return Ok(Some(kind.ones));
+    let wrong = hold_line(kind, fields, header, &line);
+    if wrong.is_none() && write_head(&head, 0) != canonical(kind, fields, header) {
+        return Ok(Some("its bits written 0 or 1"));
     }
-    Ok(hold_line(kind, fields, header, &line))
+    Ok(wrong)
 }
 
 // Takes what each field is due off the line that `show` prints.
@@ -253,12 +254,11 @@ fn hold_line<'a>(
         None => return Some(kind.shown),
     };
     for field in fields {
-        if field.is_there(header) {
-            rest = match field.strip(header, rest) {
-                Some(rest) => rest,
-                None => return Some(field.row),
-            };
+        let shown = field.strip(header, rest);
+        if shown.is_some() != field.is_there(header) {
+            return Some(field.row);
         }
+        rest = shown.unwrap_or(rest);
     }
     if rest == b" data=0\n".as_slice() {
         None
