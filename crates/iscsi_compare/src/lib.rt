@@ -1,0 +1,7 @@
+//! Whether two streams of iSCSI PDUs have the same meaning, and where they part (RFC 7143, section 11).
+#![tactic(auto)]
+
+mod fault;
+mod side;
+
+pub use fault::{CompareFault, Which};

@@ -1,0 +1,2 @@
+//! Tests of `iscsi_compare`: two streams by example.
+#![tactic(auto)]
