@@ -1,0 +1,5 @@
+pub mod SameHeads
+pub mod SameJobLaws
+pub mod SameLearning
+pub mod SameNames
+pub mod SameSteps

@@ -1,0 +1,4 @@
+pub mod SameJob
+pub mod SameJobJudge
+pub mod SameJobLearning
+pub mod SameJobNumbers

@@ -2,6 +2,7 @@
 #![tactic(auto)]
 
 mod fault;
+pub mod same_job;
 mod side;
 
 pub use fault::{CompareFault, Which};

@@ -1,0 +1,85 @@
+//! What is known of the numbers that two runs of one job choose differently.
+
+ghost use Rattle.std.specs.Prelude.{◌≡◌, IfOk, OnOk};
+ghost use Rattle.iscsi_compare.specs.SameJob.{Renumbering, renumbered};
+ghost use Rattle.iscsi_compare.specs.SameJobLearning.{Learns};
+ghost use Rattle.iscsi_compare.specs.SameJobNumbers.{renamed};
+ghost use Rattle.iscsi_compare.specs.SameJobJudge.{Allows, IsSoundRenaming};
+
+use crate::same_job::names::Names;
+use crate::same_job::numbers::Numbers;
+use crate::same_job::steps::{step_if, step_some};
+use iscsi_pdu::{Head, RESERVED_TAG};
+use std::alloc::{AllocError, Global};
+
+/// What two runs of one job number differently, as far as their PDUs have said it: names of the one run with those of
+/// the other, and how many steps their serial numbers are apart.
+///
+/// It grows with the number of distinct tags, ISIDs and TSIHs, and takes a time for each PDU that grows with the
+/// logarithm of that number.
+#[derive(Drop)]
+pub struct Renaming {
+    pub(crate) tasks: Names<u32>,
+    pub(crate) transfers: Names<u32>,
+    pub(crate) isids: Names<[u8; 6]>,
+    pub(crate) tsihs: Names<u16>,
+    pub(crate) commands: Option<u32>,
+    pub(crate) statuses: Option<u32>,
+}
+
+impl Renaming {
+    /// Nothing is known but the names that stand for themselves. Answers `AllocError` where memory runs out.
+    pub fn new(alloc: Global) -> Result<Renaming, AllocError>
+        ensures sound { IfOk result IsSoundRenaming }
+        ensures all { IfOk result (λ known. (r : Renumbering) → Allows known r) }
+    {
+        Ok(Renaming {
+            tasks: Names::fixed(alloc, RESERVED_TAG)?,
+            transfers: Names::fixed(alloc, RESERVED_TAG)?,
+            isids: Names::new(alloc),
+            tsihs: Names::fixed(alloc, 0)?,
+            commands: None,
+            statuses: None,
+        })
+    }
+
+    /// Whether some renumbering that agrees with all that is known gives the second head from the first; if so, it
+    /// learns which. Answers `AllocError` where memory runs out; what is known is then of no use.
+    pub fn accepts(&mut self, mine: &Head, other: &Head) -> Result<bool, AllocError>
+        requires sound { IsSoundRenaming self.old }
+        ensures sound { OnOk result (IsSoundRenaming self.new) }
+        ensures learns { IfOk result (Learns (Allows self.old) (Allows self.new)
+            (λ r. renumbered r mine.now ≡ other.now)) }
+    {
+        let others = Numbers::of(other);
+        if others.within(mine) != *other {
+            return Ok(false);
+        }
+        self.learn(&Numbers::of(mine), &others)
+    }
+
+    // The same of the numbers of two heads.
+    fn learn(&mut self, mine: &Numbers, other: &Numbers) -> Result<bool, AllocError>
+        requires sound { IsSoundRenaming self.old }
+        ensures sound { OnOk result (IsSoundRenaming self.new) }
+        ensures learns { IfOk result (Learns (Allows self.old) (Allows self.new)
+            (λ r. renamed r mine.now ≡ other.now)) }
+    {
+        let task = self.tasks.join(mine.task, other.task)?;
+        let referenced_task = self.tasks.join(mine.referenced_task, other.referenced_task)?;
+        let transfer = self.transfers.join(mine.transfer, other.transfer)?;
+        let isid = self.isids.join_some(mine.isid, other.isid)?;
+        let tsih = self.tsihs.join(mine.tsih, other.tsih)?;
+        let command = step_some(&mut self.commands, mine.command, other.command);
+        let last_command = step_some(&mut self.commands, mine.last_command, other.last_command);
+        let referenced_command = step_if(
+            mine.referenced_task != RESERVED_TAG,
+            &mut self.commands,
+            mine.referenced_command,
+            other.referenced_command,
+        );
+        let status = step_some(&mut self.statuses, mine.status, other.status);
+        let names = task & referenced_task & transfer & isid & tsih;
+        Ok(names & command & last_command & referenced_command & status)
+    }
+}
