@@ -1,3 +1,4 @@
+pub mod SameFits
 pub mod SameHeads
 pub mod SameJobLaws
 pub mod SameLearning

@@ -1,18 +1,22 @@
 -- What the numbers of two heads say of a renumbering.
-use Rattle.std.proofs.Common.{◌≡◌, ◌⊎◌, inl, inr, ℕ, Bool, true, false, List, refl, sym, ap, ◌∙◌}
-use Rattle.std.specs.Prelude.{Option, option_map, ◌&&◌, if◌then◌else◌}
+use Rattle.std.proofs.Common.{◌≡◌, ◌⊎◌, inl, inr, ℕ, Bool, true, false, List, refl, sym, ap, subst, ◌∙◌}
+use Rattle.std.specs.Prelude.{Option, Some, None, unwrap_or, option_map, ◌&&◌, if◌then◌else◌}
 use Rattle.std.specs.Ordering.{nat_cmp}
 use Rattle.std.specs.Cmp.Lexicographic.{slice_cmp}
 use Rattle.std.specs.BTreeMap.{BTreeMap}
 use Rattle.std.proofs.lemmas.Bool.{cases_Bool}
 use Rattle.iscsi_pdu.specs.declared.head.Head.{Head}
 use Rattle.iscsi_pdu.specs.Fields.{is_tag}
+use Rattle.iscsi_pdu.specs.Meaning.{Fits}
 use Rattle.iscsi_compare.specs.declared.same_job.numbers.Numbers.{Numbers}
 use Rattle.iscsi_compare.specs.SameJob.{OneToOne, Renumbering, shifted, renumbered}
 use Rattle.iscsi_compare.specs.SameJobNumbers.{numbers, with_numbers, renamed}
 use Rattle.iscsi_compare.specs.SameJobLearning.{Carries, IsSteps, IsLeft, Learns}
+use Rattle.iscsi_compare.specs.declared.same_job.renaming.Renaming.{Renaming}
+use Rattle.iscsi_compare.specs.SameJobJudge.{Allows, IsSoundRenaming}
 use Rattle.iscsi_compare.proofs.SameNames.{apart}
 use Rattle.iscsi_compare.proofs.SameHeads.{renumbered_is, numbers_of, same_numbers}
+use Rattle.iscsi_compare.proofs.SameFits.{fits_renumbered}
 
 true_of : (b : Bool) → (b ≡ false → ⊥) → b ≡ true
 true_of true h = refl
@@ -39,17 +43,17 @@ pub record Nine (mine other : Numbers) (t t' t'' u u' : BTreeMap ℕ ℕ) (i i' 
   pub status : Learns (IsSteps d) (IsSteps d') (λ n. option_map (shifted n) mine.status ≡ other.status) a9
 
 pub learns_nine : (mine other : Numbers) (t t' t'' u u' : BTreeMap ℕ ℕ) (i i' : BTreeMap (List ℕ) (List ℕ)) (s s' : BTreeMap ℕ ℕ) (c c' c'' c''' d d' : Option ℕ) (a1 a2 a3 a4 a5 a6 a7 a8 a9 answer : Bool)
-    → (n : Nine mine other t t' t'' u u' i i' s s' c c' c'' c''' d d' a1 a2 a3 a4 a5 a6 a7 a8 a9) → answer ≡ (((((((((a1 && a2) && a3) && a4) && a5) && a6) && a7) && a8) && a9))
+    → (n : Nine mine other t t' t'' u u' i i' s s' c c' c'' c''' d d' a1 a2 a3 a4 a5 a6 a7 a8 a9) → answer ≡ (a1 && a2 && a3 && a4 && a5 && a6 && a7 && a8 && a9)
     → Learns (IsLeft t u i s c d) (IsLeft t'' u' i' s' c''' d') (λ r. renamed r mine ≡ other) answer
 unfolding renamed
 learns_nine mine other t t' t'' u u' i i' s s' c c' c'' c''' d d' a1 a2 a3 a4 a5 a6 a7 a8 a9 answer n is =
-    let p8 : answer ≡ true → ((((((((a1 && a2) && a3) && a4) && a5) && a6) && a7) && a8) ≡ true = λ e. and_left _ _ (sym is ∙ e) in
-    let p7 : answer ≡ true → (((((((a1 && a2) && a3) && a4) && a5) && a6) && a7) ≡ true) = λ e. and_left _ _ (p8 e) in
-    let p6 : answer ≡ true → ((((((a1 && a2) && a3) && a4) && a5) && a6) ≡ true) = λ e. and_left _ _ (p7 e) in
-    let p5 : answer ≡ true → (((((a1 && a2) && a3) && a4) && a5) ≡ true) = λ e. and_left _ _ (p6 e) in
-    let p4 : answer ≡ true → ((((a1 && a2) && a3) && a4) ≡ true) = λ e. and_left _ _ (p5 e) in
-    let p3 : answer ≡ true → (((a1 && a2) && a3) ≡ true) = λ e. and_left _ _ (p4 e) in
-    let p2 : answer ≡ true → ((a1 && a2) ≡ true) = λ e. and_left _ _ (p3 e) in
+    let p8 : answer ≡ true → (a1 && a2 && a3 && a4 && a5 && a6 && a7 && a8) ≡ true = λ e. and_left _ _ (sym is ∙ e) in
+    let p7 : answer ≡ true → (a1 && a2 && a3 && a4 && a5 && a6 && a7) ≡ true = λ e. and_left _ _ (p8 e) in
+    let p6 : answer ≡ true → (a1 && a2 && a3 && a4 && a5 && a6) ≡ true = λ e. and_left _ _ (p7 e) in
+    let p5 : answer ≡ true → (a1 && a2 && a3 && a4 && a5) ≡ true = λ e. and_left _ _ (p6 e) in
+    let p4 : answer ≡ true → (a1 && a2 && a3 && a4) ≡ true = λ e. and_left _ _ (p5 e) in
+    let p3 : answer ≡ true → (a1 && a2 && a3) ≡ true = λ e. and_left _ _ (p4 e) in
+    let p2 : answer ≡ true → (a1 && a2) ≡ true = λ e. and_left _ _ (p3 e) in
     record {
       less = λ r l. record {
         tasks_left = n.task.less r.tasks (n.referenced_task.less r.tasks l.tasks_left);
@@ -94,20 +98,67 @@ learns_nine mine other t t' t'' u u' i i' s s' c c' c'' c''' d d' a1 a2 a3 a4 a5
           apart (is ∙ (rw (b1, b2, b3, b4, b5, b6, b7, b8, b9) refl)) e;
     }
 
--- what the numbers say, the heads say: where one has the other's numbers, they are equal but for these
-pub learns_heads : (Old New : Renumbering → Type 0) (g h : Head) (answer : Bool) → with_numbers g (numbers h) ≡ h → Learns Old New (λ r. renamed r (numbers g) ≡ numbers h) answer
-    → Learns Old New (λ r. renumbered r g ≡ h) answer
-learns_heads Old New g h answer same l = record {
+steps_known : (known : Option ℕ) → IsSteps known (unwrap_or known 0)
+steps_known None = tt
+steps_known (Some n) = refl
+
+-- ---- heads
+
+-- a renumbering of what is known gives the numbers, so the head with the other's numbers is its other run's head
+pub other_head : (r : Renumbering) (g h : Head) → renamed r (numbers g) ≡ numbers h → with_numbers g (numbers h) ≡ renumbered r g
+other_head r g h e = ap (with_numbers g) (sym e) ∙ sym (renumbered_is r g)
+
+said_numbers : (r : Renumbering) (g h : Head) → renumbered r g ≡ h → renamed r (numbers g) ≡ numbers h
+said_numbers r g h e = sym (numbers_of r g) ∙ ap numbers e
+
+-- where the numbers are learnt, the heads are compared with the other's numbers in both
+pub learns_heads : (Old New : Renumbering → Type 0) (g h : Head) (same : Bool) → (same ≡ true → with_numbers g (numbers h) ≡ h) → (same ≡ false → with_numbers g (numbers h) ≡ h → ⊥)
+    → Learns Old New (λ r. renamed r (numbers g) ≡ numbers h) true → Learns Old New (λ r. renumbered r g ≡ h) same
+learns_heads Old New g h same alike different l = record {
   less = l.less;
-  kept = λ r old e. l.kept r old (sym (numbers_of r g) ∙ ap numbers e);
-  said = λ a r new. renumbered_is r g ∙ ap (with_numbers g) (l.said a r new) ∙ same;
-  none = λ a r old e. l.none a r old (sym (numbers_of r g) ∙ ap numbers e);
+  kept = λ r old e. l.kept r old (said_numbers r g h e);
+  said = λ a r new. sym (other_head r g h (l.said refl r new)) ∙ alike a;
+  none = λ a r old e. different a (other_head r g h (said_numbers r g h e) ∙ e);
 }
 
-pub learns_none : (Old : Renumbering → Type 0) (g h : Head) → (with_numbers g (numbers h) ≡ h → ⊥) → Learns Old Old (λ r. renumbered r g ≡ h) false
-learns_none Old g h differ = record {
-  less = λ r p. p;
-  kept = λ r p e. p;
+-- and where they are not, the heads differ
+pub learns_none : (Old New : Renumbering → Type 0) (g h : Head) → Learns Old New (λ r. renamed r (numbers g) ≡ numbers h) false → Learns Old New (λ r. renumbered r g ≡ h) false
+learns_none Old New g h l = record {
+  less = l.less;
+  kept = λ r old e. l.kept r old (said_numbers r g h e);
   said = λ a. apart a refl;
-  none = λ a r p e. differ (ap (λ (x : Head). with_numbers g (numbers x)) (sym e) ∙ ap (with_numbers g) (numbers_of r g) ∙ sym (renumbered_is r g) ∙ e);
+  none = λ a r old e. l.none refl r old (said_numbers r g h e);
 }
+
+-- some renumbering agrees with what is known
+pub some_left : (known : Renaming) → IsSoundRenaming known → (r : Renumbering) × Allows known r
+some_left known s =
+    let r : Renumbering = record {
+      tasks = s.tasks.some.0;
+      transfers = s.transfers.some.0;
+      isids = s.isids.some.0;
+      tsihs = s.tsihs.some.0;
+      commands = unwrap_or known.commands 0;
+      statuses = unwrap_or known.statuses 0;
+      no_task = s.no_task s.tasks.some.0 s.tasks.some.1;
+      no_transfer = s.no_transfer s.transfers.some.0 s.transfers.some.1;
+      no_session = s.no_session s.tsihs.some.0 s.tsihs.some.1;
+    } in
+    (r, record {
+      tasks_left = s.tasks.some.1;
+      transfers_left = s.transfers.some.1;
+      isids_left = s.isids.some.1;
+      tsihs_left = s.tsihs.some.1;
+      commands_left = steps_known known.commands;
+      statuses_left = steps_known known.statuses;
+    })
+
+-- so the head with the other's numbers can be written where the numbers are learnt
+pub other_fits : (old new : Renaming) (g h : Head) → IsSoundRenaming new → Learns (Allows old) (Allows new) (λ r. renamed r (numbers g) ≡ numbers h) true → Fits g → Fits (with_numbers g (numbers h))
+other_fits old new g h s l fits =
+    let some = some_left new s in
+    subst Fits (sym (other_head some.0 g h (l.said refl some.0 some.1))) (fits_renumbered some.0 g fits)
+
+pub learns_at : (Old New : Renumbering → Type 0) (m m' n n' : Numbers) (b b' : Bool) → m ≡ m' → n ≡ n' → b ≡ b' → Learns Old New (λ r. renamed r m ≡ n) b → Learns Old New (λ r. renamed r m' ≡ n') b'
+learns_at Old New m m' n n' b b' e f a l =
+    subst (λ (x : Numbers). Learns Old New (λ r. renamed r x ≡ n') b') e (subst (λ (x : Numbers). Learns Old New (λ r. renamed r m ≡ x) b') f (subst (Learns Old New (λ r. renamed r m ≡ n)) a l))

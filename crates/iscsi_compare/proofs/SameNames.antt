@@ -74,7 +74,7 @@ some_of : {K : Type 0} (o : Option K) → is_some o ≡ true → (x : K) × (o �
 some_of None e = apart e refl
 some_of (Some x) e = (x, refl)
 
-none_some : {K : Type 0} {P : Type 0} {x : K} {o : Option K} → o ≡ None → o ≡ Some x → P
+pub none_some : {K : Type 0} {P : Type 0} {x : K} {o : Option K} → o ≡ None → o ≡ Some x → P
 none_some p q = cc
 
 -- what the table finds once it has one more pair
@@ -180,3 +180,12 @@ sound_new {K = K} cmp there back e f = record {
 pub none_of : {K : Type 0} (o : Option K) → is_some o ≡ false → o ≡ None
 none_of None e = refl
 none_of (Some x) e = apart refl e
+
+-- a name that was joined with itself first stands for itself
+pub joined_itself : {K : Type 0} (cmp : K → K → Ordering) (old there back : BTreeMap K K) (a : K) (answer : Bool) → IsFresh cmp old → Joins cmp old there back (λ f. f.to a ≡ a) answer
+    → (f : OneToOne K) → Carries cmp there f → f.to a ≡ a
+joined_itself {K = K} cmp old there back a answer fresh j f carries =
+    elim (cases_Bool answer) [
+      | inl e ↦ j.learns.said e f carries
+      | inr e ↦ absurd (j.learns.none e (identity K) (λ x y p. none_some (fresh x) p) refl)
+    ]

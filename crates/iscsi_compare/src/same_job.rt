@@ -1,5 +1,6 @@
 //! Two runs of one job.
 
+mod heads;
 pub mod laws;
 mod names;
 mod numbers;

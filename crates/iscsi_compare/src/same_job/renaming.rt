@@ -1,11 +1,13 @@
 //! What is known of the numbers that two runs of one job choose differently.
 
 ghost use Rattle.std.specs.Prelude.{◌≡◌, IfOk, OnOk};
+ghost use Rattle.iscsi_pdu.specs.Meaning.{Fits};
 ghost use Rattle.iscsi_compare.specs.SameJob.{Renumbering, renumbered};
 ghost use Rattle.iscsi_compare.specs.SameJobLearning.{Learns};
 ghost use Rattle.iscsi_compare.specs.SameJobNumbers.{renamed};
 ghost use Rattle.iscsi_compare.specs.SameJobJudge.{Allows, IsSoundRenaming};
 
+use crate::same_job::heads::is_same_head;
 use crate::same_job::names::Names;
 use crate::same_job::numbers::Numbers;
 use crate::same_job::steps::{step_if, step_some};
@@ -47,15 +49,17 @@ impl Renaming {
     /// learns which. Answers `AllocError` where memory runs out; what is known is then of no use.
     pub fn accepts(&mut self, mine: &Head, other: &Head) -> Result<bool, AllocError>
         requires sound { IsSoundRenaming self.old }
+        requires mine { Fits mine.now }
+        requires other { Fits other.now }
         ensures sound { OnOk result (IsSoundRenaming self.new) }
         ensures learns { IfOk result (Learns (Allows self.old) (Allows self.new)
             (λ r. renumbered r mine.now ≡ other.now)) }
     {
         let others = Numbers::of(other);
-        if others.within(mine) != *other {
+        if !self.learn(&Numbers::of(mine), &others)? {
             return Ok(false);
         }
-        self.learn(&Numbers::of(mine), &others)
+        Ok(is_same_head(&others.within(mine), other))
     }
 
     // The same of the numbers of two heads.
