@@ -3,4 +3,5 @@ pub mod SameHeads
 pub mod SameJobLaws
 pub mod SameLearning
 pub mod SameNames
+pub mod SameSegments
 pub mod SameSteps

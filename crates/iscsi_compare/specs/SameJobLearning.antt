@@ -45,3 +45,8 @@ pub record IsLeft (tasks transfers : BTreeMap ℕ ℕ) (isids : BTreeMap (List �
   pub tsihs_left : Carries nat_cmp tsihs r.tsihs
   pub commands_left : IsSteps commands r.commands
   pub statuses_left : IsSteps statuses r.statuses
+
+-- The answer says truly whether it is so.
+pub record Decides (So : Type 0) (answer : Bool) : Type 0 where
+  pub so : answer ≡ true → So
+  pub not_so : answer ≡ false → So → ⊥

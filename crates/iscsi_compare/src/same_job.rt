@@ -5,6 +5,7 @@ pub mod laws;
 mod names;
 mod numbers;
 mod renaming;
+mod segments;
 mod steps;
 
-pub use self::renaming::Renaming;
+

@@ -20,7 +20,7 @@ use std::alloc::{AllocError, Global};
 /// It grows with the number of distinct tags, ISIDs and TSIHs, and takes a time for each PDU that grows with the
 /// logarithm of that number.
 #[derive(Drop)]
-pub struct Renaming {
+pub(crate) struct Renaming {
     pub(crate) tasks: Names<u32>,
     pub(crate) transfers: Names<u32>,
     pub(crate) isids: Names<[u8; 6]>,
@@ -31,7 +31,7 @@ pub struct Renaming {
 
 impl Renaming {
     /// Nothing is known but the names that stand for themselves. Answers `AllocError` where memory runs out.
-    pub fn new(alloc: Global) -> Result<Renaming, AllocError>
+    pub(crate) fn new(alloc: Global) -> Result<Renaming, AllocError>
         ensures sound { IfOk result IsSoundRenaming }
         ensures all { IfOk result (λ known. (r : Renumbering) → Allows known r) }
     {
@@ -47,7 +47,7 @@ impl Renaming {
 
     /// Whether some renumbering that agrees with all that is known gives the second head from the first; if so, it
     /// learns which. Answers `AllocError` where memory runs out; what is known is then of no use.
-    pub fn accepts(&mut self, mine: &Head, other: &Head) -> Result<bool, AllocError>
+    pub(crate) fn accepts(&mut self, mine: &Head, other: &Head) -> Result<bool, AllocError>
         requires sound { IsSoundRenaming self.old }
         requires mine { Fits mine.now }
         requires other { Fits other.now }

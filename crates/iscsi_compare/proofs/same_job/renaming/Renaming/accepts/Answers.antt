@@ -33,4 +33,4 @@ returns-clause-learns c =
     let new = Allows c.learn.new.self in
     let is = with_is c.args.mine.now c.args.other.now c.within.result c.of-others.result c.within.ensures c.of-others.ensures in
     let l = learns_at old new c.of.result (numbers c.args.mine.now) c.of-others.result (numbers c.args.other.now) c.in_ok-learn.field-0 true c.of.ensures c.of-others.ensures c.if-not-branch.false c.in_ok-learn.ensures.learns in
-    learns_heads old new c.args.mine.now c.args.other.now c.is_same_head.result (λ e. sym is ∙ c.is_same_head.ensures.same e) (λ e same. c.is_same_head.ensures.differ e (is ∙ same)) l
+    learns_heads old new c.args.mine.now c.args.other.now c.is_same_head.result (λ e. sym is ∙ c.is_same_head.ensures.so e) (λ e same. c.is_same_head.ensures.not_so e (is ∙ same)) l
