@@ -1,5 +1,9 @@
 //! Two runs of one job.
 
+ghost use Rattle.std.specs.Prelude.{◌≡◌};
+ghost use Rattle.iscsi_compare.specs.Comparing.{Input, Gave, Tells};
+ghost use Rattle.iscsi_compare.specs.SameJobVerdict.{ComparesJobs};
+
 mod heads;
 pub mod laws;
 mod names;
@@ -8,4 +12,48 @@ mod renaming;
 mod segments;
 mod steps;
 
+use crate::fault::{CompareFault, Which};
+use crate::in_step::write_lines;
+use crate::same_job::renaming::Renaming;
+use crate::side::Side;
+use crate::verdict::Verdict;
+use std::alloc::Global;
+use std::io::Read;
 
+/// Reads two streams in step, PDU by PDU, and says whether they are two runs of one job: equal up to a one-to-one
+/// renaming of task tags, transfer tags, ISIDs and TSIHs, and constant steps of CmdSN and of StatSN. Where they part it
+/// appends two lines as `compare` does.
+///
+/// It reads as far as `compare`, and its faults are those of `compare`, but that the PDUs before are of one job. Beside
+/// what `compare` holds it keeps each distinct tag, ISID and TSIH of both streams, and finds each in a time that grows
+/// with the logarithm of their number.
+pub fn compare_jobs<R: Read, Q: Read>(
+    alloc: Global,
+    mine: &mut R,
+    other: &mut Q,
+    out: &mut Vec<u8>,
+) -> Result<Verdict, CompareFault>
+    ensures compares { (first : Input) × (second : Input) × Gave (R.remaining mine.old) (R.remaining mine.new) first
+        × Gave (Q.remaining other.old) (Q.remaining other.new) second × ComparesJobs result first second }
+    ensures tells { Tells result out.old.items out.new.items }
+{
+    let mut first = Side::new(alloc, Which::First);
+    let mut second = Side::new(alloc, Which::Second);
+    let mut renaming = Renaming::new(alloc)?;
+    loop {
+        let some = first.advance(mine)?;
+        second.advance(other)?;
+        if !renaming.accepts_next(alloc, &first.framer, &second.framer)? {
+            write_lines(&first, &second, out)?;
+            return Ok(Verdict::Differ {
+                place: first.framer.place(),
+                other_place: second.framer.place(),
+            });
+        }
+        if !some {
+            return Ok(Verdict::Same);
+        }
+        first.take();
+        second.take();
+    }
+}

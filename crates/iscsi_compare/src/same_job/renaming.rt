@@ -2,16 +2,19 @@
 
 ghost use Rattle.std.specs.Prelude.{◌≡◌, IfOk, OnOk};
 ghost use Rattle.iscsi_pdu.specs.Meaning.{Fits};
-ghost use Rattle.iscsi_compare.specs.SameJob.{Renumbering, renumbered};
+ghost use Rattle.iscsi_stream.specs.Stream.{message};
+ghost use Rattle.iscsi_compare.specs.SameJob.{Renumbering, renumbered, renumbered_message};
 ghost use Rattle.iscsi_compare.specs.SameJobLearning.{Learns};
 ghost use Rattle.iscsi_compare.specs.SameJobNumbers.{renamed};
-ghost use Rattle.iscsi_compare.specs.SameJobJudge.{Allows, IsSoundRenaming};
+ghost use Rattle.iscsi_compare.specs.SameJobJudge.{Allows, IsSoundRenaming, LearnsNext};
 
 use crate::same_job::heads::is_same_head;
 use crate::same_job::names::Names;
 use crate::same_job::numbers::Numbers;
+use crate::same_job::segments::is_same_segment;
 use crate::same_job::steps::{step_if, step_some};
-use iscsi_pdu::{Head, RESERVED_TAG};
+use iscsi_pdu::{Head, Pdu, RESERVED_TAG};
+use iscsi_stream::Framer;
 use std::alloc::{AllocError, Global};
 
 /// What two runs of one job number differently, as far as their PDUs have said it: names of the one run with those of
@@ -45,9 +48,54 @@ impl Renaming {
         })
     }
 
-    /// Whether some renumbering that agrees with all that is known gives the second head from the first; if so, it
-    /// learns which. Answers `AllocError` where memory runs out; what is known is then of no use.
-    pub(crate) fn accepts(&mut self, mine: &Head, other: &Head) -> Result<bool, AllocError>
+    /// Whether some renumbering that agrees with all that is known gives what stands next in the second stream from what
+    /// stands next in the first: a PDU that is ready in both, or none in either. If so, it learns which. Answers
+    /// `AllocError` where memory runs out; what is known is then of no use.
+    pub(crate) fn accepts_next(
+        &mut self,
+        alloc: Global,
+        first: &Framer,
+        second: &Framer,
+    ) -> Result<bool, AllocError>
+        requires sound { IsSoundRenaming self.old }
+        ensures sound { OnOk result (IsSoundRenaming self.new) }
+        ensures learns { IfOk result (LearnsNext self.old self.new first.now second.now) }
+    {
+        match (first.pdu(), second.pdu()) {
+            (Some(mine), Some(other)) => {
+                self.accepts(alloc, &mine, first.continued(), &other, second.continued())
+            }
+            (None, None) => Ok(true),
+            (Some(_), None) => Ok(false),
+            (None, Some(_)) => Ok(false),
+        }
+    }
+
+    /// The same of two PDUs, each of which continues another login PDU or does not.
+    fn accepts(
+        &mut self,
+        alloc: Global,
+        mine: &Pdu<'_>,
+        mine_continues: bool,
+        other: &Pdu<'_>,
+        other_continues: bool,
+    ) -> Result<bool, AllocError>
+        requires sound { IsSoundRenaming self.old }
+        requires mine { Fits mine.now.head }
+        requires other { Fits other.now.head }
+        ensures sound { OnOk result (IsSoundRenaming self.new) }
+        ensures learns { IfOk result (Learns (Allows self.old) (Allows self.new)
+            (λ r. renumbered_message r (message mine_continues mine.now.head mine.now.bytes.now)
+            ≡ message other_continues other.now.head other.now.bytes.now)) }
+    {
+        if !is_same_segment(alloc, mine, mine_continues, other, other_continues)? {
+            return Ok(false);
+        }
+        self.accepts_head(&mine.head, &other.head)
+    }
+
+    // The same of two heads.
+    fn accepts_head(&mut self, mine: &Head, other: &Head) -> Result<bool, AllocError>
         requires sound { IsSoundRenaming self.old }
         requires mine { Fits mine.now }
         requires other { Fits other.now }

@@ -7,7 +7,7 @@ use Rattle.iscsi_compare.specs.SameJobNumbers.{numbers, with_numbers, renamed}
 use Rattle.iscsi_compare.specs.SameJobLearning.{Learns}
 use Rattle.iscsi_compare.specs.SameJobJudge.{Allows}
 use Rattle.iscsi_compare.proofs.SameLearning.{learns_none, learns_heads, learns_at, other_fits}
-use Rattle.iscsi_compare.proofs.same_job.renaming.Renaming.accepts.Goals as goal
+use Rattle.iscsi_compare.proofs.same_job.renaming.Renaming.accepts_head.Goals as goal
 
 pub returns-then-not-branch-clause-learns : goal.returns-then-not-branch-clause-learns
 returns-then-not-branch-clause-learns c =
