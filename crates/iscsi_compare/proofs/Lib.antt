@@ -1,0 +1,3 @@
+pub mod Sides
+pub mod Steps
+pub mod Wholes

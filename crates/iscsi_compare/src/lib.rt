@@ -2,6 +2,11 @@
 #![tactic(auto)]
 
 mod fault;
+mod in_step;
+pub mod laws;
 mod side;
+mod verdict;
 
 pub use fault::{CompareFault, Which};
+pub use in_step::compare;
+pub use verdict::Verdict;
