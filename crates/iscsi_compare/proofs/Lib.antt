@@ -3,5 +3,9 @@ pub mod SameHeads
 pub mod SameJobLaws
 pub mod SameLearning
 pub mod SameNames
+pub mod SameNext
 pub mod SameSegments
 pub mod SameSteps
+pub mod Sides
+pub mod Steps
+pub mod Wholes
