@@ -4,6 +4,7 @@ pub mod SameJobLaws
 pub mod SameLearning
 pub mod SameNames
 pub mod SameNext
+pub mod SameRuns
 pub mod SameSegments
 pub mod SameSteps
 pub mod Sides

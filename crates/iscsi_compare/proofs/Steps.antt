@@ -135,7 +135,7 @@ at_start a b first second held r s i j w u = record {
   same = refl;
 }
 
-gave : (old mid new : Option (List ℕ)) (read piece : List ℕ) → Consumes old mid read → Consumes mid new piece → AreBytes (read ++ piece) → Gave old new (input_of (read ++ piece) new)
+pub gave : (old mid new : Option (List ℕ)) (read piece : List ℕ) → Consumes old mid read → Consumes mid new piece → AreBytes (read ++ piece) → Gave old new (input_of (read ++ piece) new)
 gave old mid new read piece p q bytes = record { bytes = bytes; consumed = Consumes-trans old mid new read piece p q; left_is = refl }
 
 -- the first stream has a fault
