@@ -82,17 +82,17 @@ begun some side x ms r = begins x.read ms side.framer (pending side) side.reads 
 -- ---- faults
 
 first_fails : (e : CompareFault) (x y : Input) (ms ns : List Message) → SameJob ms ns → SideFails e First x ms → BeginsWith y ns → FailsInJob e x y
-first_fails fault.NoMemory x y ms ns s fails begun = (ms, ns, s, fails, begun)
-first_fails (fault.Stream First f) x y ms ns s fails begun = (ms, ns, s, fails.1, begun)
+first_fails fault.NoMemory x y ms ns s fails begun = (ms, ns, s, (fails, begun))
+first_fails (fault.Stream First f) x y ms ns s fails begun = (ms, ns, s, (fails.1, begun))
 first_fails (fault.Stream Second f) x y ms ns s fails begun = (let no : Second ≡ First = fails.0 in absurd cc)
-first_fails (fault.Read First) x y ms ns s fails begun = (ms, ns, s, fails.1, begun)
+first_fails (fault.Read First) x y ms ns s fails begun = (ms, ns, s, (fails.1, begun))
 first_fails (fault.Read Second) x y ms ns s fails begun = (let no : Second ≡ First = fails.0 in absurd cc)
 
 second_fails : (e : CompareFault) (x y : Input) (ms ns : List Message) → SameJob ms ns → SideFails e Second y ns → BeginsWith x ms → FailsInJob e x y
-second_fails fault.NoMemory x y ms ns s fails begun = (ms, ns, s, begun, fails)
-second_fails (fault.Stream Second f) x y ms ns s fails begun = (ms, ns, s, begun, fails.1)
+second_fails fault.NoMemory x y ms ns s fails begun = (ms, ns, s, (begun, fails))
+second_fails (fault.Stream Second f) x y ms ns s fails begun = (ms, ns, s, (begun, fails.1))
 second_fails (fault.Stream First f) x y ms ns s fails begun = (let no : First ≡ Second = fails.0 in absurd cc)
-second_fails (fault.Read Second) x y ms ns s fails begun = (ms, ns, s, begun, fails.1)
+second_fails (fault.Read Second) x y ms ns s fails begun = (ms, ns, s, (begun, fails.1))
 second_fails (fault.Read First) x y ms ns s fails begun = (let no : First ≡ Second = fails.0 in absurd cc)
 
 -- ---- the loop
@@ -145,7 +145,7 @@ job_not_begun a b first second r s = (
   input_of [] b,
   record { bytes = r.bytes; consumed = Consumes-nil a; left_is = refl },
   record { bytes = s.bytes; consumed = Consumes-nil b; left_is = refl },
-  ([], [], same_self [], begins [] [] first.framer (pending first) first.reads a r, begins [] [] second.framer (pending second) second.reads b s),
+  ([], [], same_self [], (begins [] [] first.framer (pending first) first.reads a r, begins [] [] second.framer (pending second) second.reads b s)),
 )
 
 -- the first stream has a fault
@@ -196,7 +196,7 @@ job_onwards Holds a b c d f h first second first_new second_new known held now p
 
 -- memory runs out
 pub job_memory : (p q : Bool) (first second : Side) (known : Renaming) (x y : Input) (ms ns : List Message) → SameJob ms ns → Knows known ms ns → Stands p first x ms → Stands q second y ns → FailsInJob fault.NoMemory x y
-job_memory p q first second known x y ms ns s k a b = (ms, ns, s, begun p first x ms a, begun q second y ns b)
+job_memory p q first second known x y ms ns s k a b = (ms, ns, s, (begun p first x ms a, begun q second y ns b))
 
 next_at : (v : Framing) (p : Bool) (next : Option Message) → is_ready v ≡ p → NextIs (is_ready v) v next → NextIs p v next
 next_at v p next e n = subst (λ (b : Bool). NextIs b v next) e n
@@ -232,7 +232,7 @@ pub job_agrees : (p q : Bool) (first second : Side) (known : Renaming) → p ≡
     → AgreeOnJob x y
 job_agrees true q first second known e u x y ms ns s k a b = absurd cc
 job_agrees false true first second known e u x y ms ns s k a b = absurd cc
-job_agrees false false first second known e u x y ms ns s k a b = (ms, ns, s, a.1, b.1)
+job_agrees false false first second known e u x y ms ns s k a b = (ms, ns, s, (a.1, b.1))
 
 -- what is known of the PDUs that are given up
 knows_given : (old new : Renaming) (ms ns : List Message) (v w : Framing) (g h : Head) (a b : List ℕ) (next other : Option Message) → next ≡ Some (message_of v g a) → other ≡ Some (message_of w h b)

@@ -1,6 +1,6 @@
--- Two runs of one job (own rule): what they number differently, and what is the same in both. A run chooses its task
--- tags, transfer tags, ISID and TSIH, and where CmdSN and StatSN begin (RFC 7143, sections 4.2.2, 11.2.1.8, 11.7.4,
--- 11.12.5 and 11.12.6). A table of 17 kinds.
+-- Two runs of one job (own rule): what they number differently, and what is the same in both. A run
+-- chooses its task tags, transfer tags, ISID and TSIH, and where CmdSN and StatSN begin (RFC 7143,
+-- sections 4.2.2, 11.2.1.8, 11.7.4, 11.12.5 and 11.12.6). A table of 17 kinds.
 use Rattle.std.specs.Prelude.{◌≡◌, ℕ, ◌+◌, ◌%◌, ◌^◌, nat_lt, if◌then◌else◌, List, Option, option_map, map}
 use Rattle.iscsi_pdu.specs.declared.head.Head.{Head}
 use Rattle.iscsi_pdu.specs.declared.head.Head.TheVariants.{NopOut, ScsiCommand, TaskRequest, LoginRequest, TextRequest, DataOut, LogoutRequest, NopIn, ScsiResponse, TaskResponse, LoginResponse, TextResponse, DataIn, LogoutResponse, ReadyToTransfer, AsyncMessage, Reject}
@@ -14,12 +14,14 @@ pub record OneToOne (A : Type 0) : Type 0 where
   pub there : (name : A) → back (to name) ≡ name
   pub again : (name : A) → to (back name) ≡ name
 
--- a serial number so many steps on, round the circle of 2^32; a number of more bits, which no PDU has, stays
+-- a serial number so many steps on, round the circle of 2^32; a number of more bits, which no PDU
+-- has, stays
 abbrev pub shifted : ℕ → ℕ → ℕ
 shifted steps number = if nat_lt number (2 ^ 32) then (number + steps) % 2 ^ 32 else number
 
--- What one run numbers differently from the other. Initiator task tags and referenced task tags are of one name space.
--- The reserved tags and the TSIH of a new session are no names: they stand for themselves.
+-- What one run numbers differently from the other. Initiator task tags and referenced task tags are
+-- of one name space. The reserved tags and the TSIH of a new session are no names: they stand for
+-- themselves.
 pub record Renumbering : Type 0 where
   pub tasks : OneToOne ℕ
   pub transfers : OneToOne ℕ
@@ -31,8 +33,8 @@ pub record Renumbering : Type 0 where
   pub no_transfer : transfers.to reserved_tag ≡ reserved_tag
   pub no_session : tsihs.to 0 ≡ 0
 
--- The head of the other run. A field that is not named stays as it is. RefCmdSN is a CmdSN where a task is referenced
--- (section 11.5.5).
+-- The head of the other run. A field that is not named stays as it is. RefCmdSN is a CmdSN where a
+-- task is referenced (section 11.5.5).
 unfoldable pub renumbered : Renumbering → Head → Head
 renumbered r (NopOut h) = NopOut (record h {
       initiator_task_tag = r.tasks.to h.initiator_task_tag;
@@ -145,6 +147,7 @@ renumbered r (Reject h) = Reject (record h {
 abbrev pub renumbered_message : Renumbering → Message → Message
 renumbered_message r m = record m { head = renumbered r m.head }
 
--- Two lists of messages are of one job: some renumbering gives the second from the first, message by message.
+-- Two lists of messages are of one job: some renumbering gives the second from the first, message
+-- by message.
 abbrev pub SameJob : List Message → List Message → Type 0
 SameJob ms ns = (r : Renumbering) × (ns ≡ map (renumbered_message r) ms)

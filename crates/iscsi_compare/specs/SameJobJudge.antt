@@ -13,13 +13,16 @@ use Rattle.iscsi_compare.specs.SameJobLearning.{Carries, IsSound, IsLeft, Learns
 
 -- The renumbering agrees with all that is known.
 abbrev pub Allows : Renaming → Renumbering → Type 0
-Allows known r = IsLeft known.tasks.there known.transfers.there known.isids.there known.tsihs.there known.commands known.statuses r
+Allows known r =
+    IsLeft known.tasks.there known.transfers.there known.isids.there known.tsihs.there
+    known.commands known.statuses r
 
 -- every renaming of these names has this one stand for itself
 abbrev pub Fixes : ((OneToOne ℕ) → Type 0) → ℕ → Type 0
 Fixes Left name = (f : OneToOne ℕ) → Left f → f.to name ≡ name
 
--- What is known contradicts nothing: its tables fit each other, and some renumbering agrees with it.
+-- What is known contradicts nothing: its tables fit each other, and some renumbering agrees with
+-- it.
 pub record IsSoundRenaming (known : Renaming) : Type 0 where
   pub tasks : IsSound nat_cmp known.tasks.there known.tasks.back
   pub transfers : IsSound nat_cmp known.transfers.there known.transfers.back
@@ -31,7 +34,9 @@ pub record IsSoundRenaming (known : Renaming) : Type 0 where
 
 -- what stands next: the message of the PDU that is ready, or nothing
 abbrev pub NextIs : Bool → Framing → Option Message → Type 0
-NextIs true v next = (head : Head) × (segment : List ℕ) × Means v.held head segment × (next ≡ Some (message_of v head segment))
+NextIs true v next =
+    (head : Head) × (segment : List ℕ) × Means v.held head segment
+    × (next ≡ Some (message_of v head segment))
 NextIs false v next = next ≡ None
 
 -- What stands next in two streams was learnt.
@@ -40,4 +45,5 @@ pub record LearnsNext (old new : Renaming) (v w : Framing) (answer : Bool) : Typ
   pub other_next : Option Message
   pub next_is : NextIs (is_ready v) v next
   pub other_next_is : NextIs (is_ready w) w other_next
-  pub learns : Learns (Allows old) (Allows new) (λ r. option_map (renumbered_message r) next ≡ other_next) answer
+  pub learns : Learns (Allows old) (Allows new)
+      (λ r. option_map (renumbered_message r) next ≡ other_next) answer

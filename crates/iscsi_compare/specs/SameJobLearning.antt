@@ -1,4 +1,5 @@
--- What is known of a renumbering, and what a pair of numbers adds to it. No reader of the judge's contract needs these.
+-- What is known of a renumbering, and what a pair of numbers adds to it. No reader of the judge's
+-- contract needs these.
 use Rattle.std.specs.Prelude.{◌≡◌, ℕ, ◌%◌, ◌^◌, Bool, true, false, List, Option, Some, None}
 use Rattle.std.specs.Ordering.{nat_cmp}
 use Rattle.std.specs.Cmp.Lexicographic.{slice_cmp}
@@ -6,7 +7,8 @@ use Rattle.std.specs.declared.cmp.Ordering.{Ordering}
 use Rattle.std.specs.BTreeMap.{BTreeMap, get}
 use Rattle.iscsi_compare.specs.SameJob.{OneToOne, Renumbering}
 
--- Of the candidates that are left, those stay of which something is said; and where the answer is no, it is said of none.
+-- Of the candidates that are left, those stay of which something is said; and where the answer is
+-- no, it is said of none.
 pub record Learns {R : Type 0} (Old New Said : R → Type 0) (answer : Bool) : Type 0 where
   pub less : (r : R) → New r → Old r
   pub kept : (r : R) → Old r → Said r → New r
@@ -28,7 +30,8 @@ pub record IsSound {K : Type 0} (cmp : K → K → Ordering) (there back : BTree
   pub some : (f : OneToOne K) × Carries cmp there f
 
 -- A pair of names was learnt.
-pub record Joins {K : Type 0} (cmp : K → K → Ordering) (old there back : BTreeMap K K) (Said : OneToOne K → Type 0) (answer : Bool) : Type 0 where
+pub record Joins {K : Type 0} (cmp : K → K → Ordering) (old there back : BTreeMap K K)
+    (Said : OneToOne K → Type 0) (answer : Bool) : Type 0 where
   pub sound : IsSound cmp there back
   pub learns : Learns (Carries cmp old) (Carries cmp there) Said answer
 
@@ -38,7 +41,8 @@ IsSteps None steps = Unit {0}
 IsSteps (Some known) steps = steps % 2 ^ 32 ≡ known % 2 ^ 32
 
 -- The renumbering is one of those that are left, by each of its parts.
-pub record IsLeft (tasks transfers : BTreeMap ℕ ℕ) (isids : BTreeMap (List ℕ) (List ℕ)) (tsihs : BTreeMap ℕ ℕ) (commands statuses : Option ℕ) (r : Renumbering) : Type 0 where
+pub record IsLeft (tasks transfers : BTreeMap ℕ ℕ) (isids : BTreeMap (List ℕ) (List ℕ))
+    (tsihs : BTreeMap ℕ ℕ) (commands statuses : Option ℕ) (r : Renumbering) : Type 0 where
   pub tasks_left : Carries nat_cmp tasks r.tasks
   pub transfers_left : Carries nat_cmp transfers r.transfers
   pub isids_left : Carries (slice_cmp nat_cmp) isids r.isids

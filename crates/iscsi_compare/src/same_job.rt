@@ -20,21 +20,25 @@ use crate::verdict::Verdict;
 use std::alloc::Global;
 use std::io::Read;
 
-/// Reads two streams in step, PDU by PDU, and says whether they are two runs of one job: equal up to a one-to-one
-/// renaming of task tags, transfer tags, ISIDs and TSIHs, and constant steps of CmdSN and of StatSN. Where they part it
-/// appends two lines as `compare` does.
+/// Reads two streams in step, PDU by PDU, and says whether they are two runs of one job: equal up
+/// to a one-to-one renaming of task tags, transfer tags, ISIDs and TSIHs, and constant steps of
+/// CmdSN and of StatSN. Where they part it appends two lines as `compare` does.
 ///
-/// It reads as far as `compare`, and its faults are those of `compare`, but that the PDUs before are of one job. Beside
-/// what `compare` holds it keeps each distinct tag, ISID and TSIH of both streams, and finds each in a time that grows
-/// with the logarithm of their number.
+/// `Same` says that both streams are of the profile and of one job; `Differ` has the places of the
+/// first PDUs with which they are not, or at which one stream ends. What stands behind a difference
+/// isn't judged. Its faults are those of `compare`, behind PDUs of one job. One PDU of each stream
+/// is held, and each distinct tag, ISID and TSIH of both; a PDU takes a time that grows with the
+/// logarithm of their number.
 pub fn compare_jobs<R: Read, Q: Read>(
     alloc: Global,
     mine: &mut R,
     other: &mut Q,
     out: &mut Vec<u8>,
 ) -> Result<Verdict, CompareFault>
-    ensures compares { (first : Input) × (second : Input) × Gave (R.remaining mine.old) (R.remaining mine.new) first
-        × Gave (Q.remaining other.old) (Q.remaining other.new) second × ComparesJobs result first second }
+    ensures compares { (first : Input) × (second : Input)
+        × Gave (R.remaining mine.old) (R.remaining mine.new) first
+        × Gave (Q.remaining other.old) (Q.remaining other.new) second
+        × ComparesJobs result first second }
     ensures tells { Tells result out.old.items out.new.items }
 {
     let mut first = Side::new(alloc, Which::First);

@@ -8,7 +8,8 @@ ghost use Rattle.iscsi_compare.specs.SameJobLearning.{Carries, IsSound, IsFresh,
 use std::alloc::{AllocError, Global};
 use std::collections::BTreeMap;
 
-/// Names of one run with those of the other, found from either side. It grows with the number of distinct names.
+/// Names of one run with those of the other, found from either side. It grows with the number of
+/// distinct names.
 #[derive(Drop)]
 pub(crate) struct Names<K: Ord> {
     pub(crate) there: BTreeMap<K, K>,
@@ -41,9 +42,9 @@ impl<K: Ord + Copy + Drop> Names<K> {
         Ok(names)
     }
 
-    /// Whether a name of the one run and a name of the other may be of one thing; if so, they are from now on. It looks
-    /// both up, in a time that grows with the logarithm of the number of names. After `AllocError` the names are of no
-    /// use.
+    /// Whether a name of the one run and a name of the other may be of one thing; if so, they are
+    /// from now on. It looks both up, in a time that grows with the logarithm of the number of
+    /// names. After `AllocError` the names are of no use.
     pub(crate) fn join(&mut self, mine: K, other: K) -> Result<bool, AllocError>
         requires exact { CmpEqualImpliesEq K.cmp }
         requires sound { IsSound K.cmp self.old.there self.old.back }

@@ -9,8 +9,8 @@ use iscsi_pdu::{
     TaskResponse, TextRequest, TextResponse,
 };
 
-/// The numbers of a head that two runs of one job may choose differently. Where its kind has no such field, it is the
-/// name that stands for itself, or absent.
+/// The numbers of a head that two runs of one job may choose differently. Where its kind has no
+/// such field, it is the name that stands for itself, or absent.
 #[derive(Clone, Copy, Debug, PartialEq, Eq)]
 pub(crate) struct Numbers {
     pub(crate) task: u32,

@@ -17,11 +17,11 @@ use iscsi_pdu::{Head, Pdu, RESERVED_TAG};
 use iscsi_stream::Framer;
 use std::alloc::{AllocError, Global};
 
-/// What two runs of one job number differently, as far as their PDUs have said it: names of the one run with those of
-/// the other, and how many steps their serial numbers are apart.
+/// What two runs of one job number differently, as far as their PDUs have said it: names of the one
+/// run with those of the other, and how many steps their serial numbers are apart.
 ///
-/// It grows with the number of distinct tags, ISIDs and TSIHs, and takes a time for each PDU that grows with the
-/// logarithm of that number.
+/// It grows with the number of distinct tags, ISIDs and TSIHs, and takes a time for each PDU that
+/// grows with the logarithm of that number.
 #[derive(Drop)]
 pub(crate) struct Renaming {
     pub(crate) tasks: Names<u32>,
@@ -33,7 +33,8 @@ pub(crate) struct Renaming {
 }
 
 impl Renaming {
-    /// Nothing is known but the names that stand for themselves. Answers `AllocError` where memory runs out.
+    /// Nothing is known but the names that stand for themselves. Answers `AllocError` where memory
+    /// runs out.
     pub(crate) fn new(alloc: Global) -> Result<Renaming, AllocError>
         ensures sound { IfOk result IsSoundRenaming }
         ensures all { IfOk result (λ known. (r : Renumbering) → Allows known r) }
@@ -48,9 +49,10 @@ impl Renaming {
         })
     }
 
-    /// Whether some renumbering that agrees with all that is known gives what stands next in the second stream from what
-    /// stands next in the first: a PDU that is ready in both, or none in either. If so, it learns which. Answers
-    /// `AllocError` where memory runs out; what is known is then of no use.
+    /// Whether some renumbering that agrees with all that is known gives what stands next in the
+    /// second stream from what stands next in the first: a PDU that is ready in both, or none in
+    /// either. If so, it learns which. Answers `AllocError` where memory runs out; what is known is
+    /// then of no use.
     pub(crate) fn accepts_next(
         &mut self,
         alloc: Global,

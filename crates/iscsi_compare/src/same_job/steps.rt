@@ -4,8 +4,8 @@ ghost use Rattle.std.specs.Prelude.{◌≡◌, option_map, if◌then◌else◌};
 ghost use Rattle.iscsi_compare.specs.SameJob.{shifted};
 ghost use Rattle.iscsi_compare.specs.SameJobLearning.{IsSteps, Learns};
 
-/// Whether a number of the other run is as many steps after a number of this one as is known; if none are known, they
-/// are from now on.
+/// Whether a number of the other run is as many steps after a number of this one as is known; if
+/// none are known, they are from now on.
 pub(crate) fn step(known: &mut Option<u32>, mine: u32, other: u32) -> bool
     ensures { Learns (IsSteps known.old) (IsSteps known.new) (λ s. shifted s mine ≡ other) result }
 {
