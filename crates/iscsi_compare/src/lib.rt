@@ -1,4 +1,5 @@
-//! Whether two streams of iSCSI PDUs have the same meaning, and where they part (RFC 7143, section 11).
+//! Whether two streams of iSCSI PDUs have the same meaning, and where they part (RFC 7143, section
+//! 11).
 #![tactic(auto)]
 
 mod fault;
