@@ -22,7 +22,7 @@ pub record Input : Type 0 where
 abbrev pub input_of : List ℕ → Option (List ℕ) → Input
 input_of read left = record { read = read; left = left }
 
--- A reader gave this input: the bytes that it had before are those that were read and those that are left.
+-- A reader gave this input: what it had before is what was read and what is left.
 pub record Gave (old new : Option (List ℕ)) (input : Input) : Type 0 where
   pub bytes : AreBytes input.read
   pub consumed : Consumes old new input.read
@@ -30,7 +30,8 @@ pub record Gave (old new : Option (List ℕ)) (input : Input) : Type 0 where
 
 -- PDUs of these meanings begin the stream.
 abbrev pub BeginsWith : Input → List Message → Type 0
-BeginsWith input ms = (given : List ℕ) × (rest : List ℕ) × Reaches longest_segment input.read ms given rest
+BeginsWith input ms =
+    (given : List ℕ) × (rest : List ℕ) × Reaches longest_segment input.read ms given rest
 
 -- The stream was read to its end, and means this.
 abbrev pub MeansAll : Input → List Message → Type 0
@@ -43,13 +44,16 @@ GoesOn input ms None = MeansAll input ms
 
 -- The PDUs before this place have these meanings.
 abbrev pub StandsAt : Input → List Message → ℕ → Type 0
-StandsAt input ms place = (given : List ℕ) × (rest : List ℕ) × Reaches longest_segment input.read ms given rest × (place ≡ length given)
+StandsAt input ms place =
+    (given : List ℕ) × (rest : List ℕ) × Reaches longest_segment input.read ms given rest
+    × (place ≡ length given)
 
 -- Both streams are at their ends, and mean the same.
 abbrev pub Agree : Input → Input → Type 0
 Agree first second = (ms : List Message) × MeansAll first ms × MeansAll second ms
 
--- The streams mean the same up to these places, and there they differ: in the meaning of the PDU, or one of them ends.
+-- The streams mean the same up to these places, and there they differ: in the meaning of the PDU,
+-- or one of them ends.
 pub record Part (first second : Input) (place other_place : ℕ) : Type 0 where
   pub ms : List Message
   pub at : StandsAt first ms place
@@ -70,20 +74,26 @@ EndsIfCut stream.Failed input = Unit {0}
 
 -- No PDU stands behind PDUs of these meanings.
 abbrev pub Stops : Input → List Message → Type 0
-Stops input ms = (given : List ℕ) × (rest : List ℕ) × Splits longest_segment input.read ms given rest
+Stops input ms =
+    (given : List ℕ) × (rest : List ℕ) × Splits longest_segment input.read ms given rest
 
 -- The stream is refused behind PDUs of these meanings, for this reason.
 abbrev pub IsRefused : StreamFault → Input → List Message → Type 0
-IsRefused f input ms = (given : List ℕ) × (rest : List ℕ) × Splits longest_segment input.read ms given rest × RestFails f given rest × EndsIfCut f input
+IsRefused f input ms =
+    (given : List ℕ) × (rest : List ℕ) × Splits longest_segment input.read ms given rest
+    × RestFails f given rest × EndsIfCut f input
 
--- Of both streams the PDUs before are read, and mean the same; this is the first fault behind them, that of the first stream
--- before that of the second.
+-- Of both streams the PDUs before are read, and mean the same; this is the first fault behind them,
+-- that of the first stream before that of the second.
 abbrev pub Fails : CompareFault → Input → Input → Type 0
 Fails fault.NoMemory first second = (ms : List Message) × BeginsWith first ms × BeginsWith second ms
-Fails (fault.Stream First f) first second = (ms : List Message) × IsRefused f first ms × BeginsWith second ms
-Fails (fault.Stream Second f) first second = (ms : List Message) × (next : Option Message) × GoesOn first ms next × IsRefused f second ms
+Fails (fault.Stream First f) first second =
+    (ms : List Message) × IsRefused f first ms × BeginsWith second ms
+Fails (fault.Stream Second f) first second =
+    (ms : List Message) × (next : Option Message) × GoesOn first ms next × IsRefused f second ms
 Fails (fault.Read First) first second = (ms : List Message) × Stops first ms × BeginsWith second ms
-Fails (fault.Read Second) first second = (ms : List Message) × (next : Option Message) × GoesOn first ms next × Stops second ms
+Fails (fault.Read Second) first second =
+    (ms : List Message) × (next : Option Message) × GoesOn first ms next × Stops second ms
 
 -- What was read of the streams where a comparison answers.
 abbrev pub Compares : Result Verdict CompareFault → Input → Input → Type 0
@@ -94,5 +104,7 @@ Compares (Err f) first second = Fails f first second
 -- A line for each stream was appended where they differ, and else nothing.
 abbrev pub Tells : Result Verdict CompareFault → List ℕ → List ℕ → Type 0
 Tells (Ok verdict.Same) before after = after ≡ before
-Tells (Ok (verdict.Differ place other_place)) before after = (line : List ℕ) × (other_line : List ℕ) × IsLine line × IsLine other_line × (after ≡ before ++ (line ++ other_line))
+Tells (Ok (verdict.Differ place other_place)) before after =
+    (line : List ℕ) × (other_line : List ℕ) × IsLine line × IsLine other_line
+    × (after ≡ before ++ (line ++ other_line))
 Tells (Err f) before after = after ≡ before

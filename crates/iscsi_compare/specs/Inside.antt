@@ -1,4 +1,4 @@
--- What one side of a comparison has read, taken and given up. No reader of its contract needs these.
+-- What one side of a comparison has read, taken and given up. No reader of a contract needs these.
 use Rattle.std.specs.Prelude.{◌≡◌, ◌≤◌, ℕ, ◌+◌, ◌-◌, ◌*◌, Bool, true, false, List, [], ◌++◌, length, take, drop, Option}
 use Rattle.std.specs.Io.KnownBytes.{Consumes}
 use Rattle.iscsi_pdu.specs.declared.head.Head.{Head}
@@ -37,8 +37,9 @@ pub record IsOpen (side : Side) : Type 0 where
   pub piece : length side.piece ≡ 4096
   pub reads : side.reads ≤ 16777216
 
--- Of what was read, PDUs of these meanings were given up, and the framer has taken all but the rest.
-pub record ReadTo (read : List ℕ) (ms : List Message) (v : Framing) (rest : List ℕ) (reads : ℕ) : Type 0 where
+-- Of what was read, PDUs of these meanings were given up, and the framer took all but the rest.
+pub record ReadTo (read : List ℕ) (ms : List Message) (v : Framing) (rest : List ℕ) (reads : ℕ)
+    : Type 0 where
   pub front : List ℕ
   pub whole : read ≡ front ++ rest
   pub taken : HasTaken front ms v
@@ -51,10 +52,14 @@ pub record ReadTo (read : List ℕ) (ms : List Message) (v : Framing) (rest : Li
 abbrev pub HasRead : List ℕ → List Message → Side → Type 0
 HasRead read ms side = ReadTo read ms side.framer (pending side) side.reads
 
--- Whatever was read of the side before: a reader gave a piece more, and then this holds of what was read.
-abbrev pub ReadsOn : Side → Option (List ℕ) → Option (List ℕ) → (Input → List Message → Type 0) → Type 0
-ReadsOn side before after Holds = (read : List ℕ) (ms : List Message) → HasRead read ms side
-    → (piece : List ℕ) × Consumes before after piece × AreBytes (read ++ piece) × Holds (input_of (read ++ piece) after) ms
+-- Whatever was read of the side before: a reader gave a piece more, and then this holds of what was
+-- read.
+abbrev pub ReadsOn : Side → Option (List ℕ) → Option (List ℕ) → (Input → List Message → Type 0)
+    → Type 0
+ReadsOn side before after Holds =
+    (read : List ℕ) (ms : List Message) → HasRead read ms side
+    → (piece : List ℕ) × Consumes before after piece × AreBytes (read ++ piece)
+    × Holds (input_of (read ++ piece) after) ms
 
 -- The side has read this, and where no PDU follows the stream has ended.
 abbrev pub Stands : Bool → Side → Input → List Message → Type 0
@@ -69,5 +74,7 @@ SideFails (fault.Read w) which input ms = (w ≡ which) × Stops input ms
 
 -- the canonical form of the PDU that is ready, or nothing
 abbrev pub FormIf : Bool → Framing → List ℕ → Type 0
-FormIf true v form = (head : Head) × (segment : List ℕ) × Means v.held head segment × (form ≡ canonical_bytes (message_of v head segment))
+FormIf true v form =
+    (head : Head) × (segment : List ℕ) × Means v.held head segment
+    × (form ≡ canonical_bytes (message_of v head segment))
 FormIf false v form = form ≡ []

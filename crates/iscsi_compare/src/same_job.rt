@@ -13,7 +13,7 @@ mod segments;
 mod steps;
 
 use crate::fault::{CompareFault, Which};
-use crate::in_step::write_lines;
+use crate::in_step::{difference, write_lines};
 use crate::same_job::renaming::Renaming;
 use crate::side::Side;
 use crate::verdict::Verdict;
@@ -49,10 +49,7 @@ pub fn compare_jobs<R: Read, Q: Read>(
         second.advance(other)?;
         if !renaming.accepts_next(alloc, &first.framer, &second.framer)? {
             write_lines(&first, &second, out)?;
-            return Ok(Verdict::Differ {
-                place: first.framer.place(),
-                other_place: second.framer.place(),
-            });
+            return Ok(difference(&first, &second));
         }
         if !some {
             return Ok(Verdict::Same);

@@ -19,8 +19,8 @@ use std::io::Read;
 /// The longest segment that a header can say.
 const LONGEST_SEGMENT: u32 = 16_777_215;
 
-/// A stream that is read PDU by PDU: its framer, the piece that was read last, of which the framer has not taken the
-/// bytes from `from` to `to`, and how many reads there were.
+/// A stream that is read PDU by PDU: its framer, the piece that was read last, of which the framer
+/// has not taken the bytes from `from` to `to`, and how many reads there were.
 #[derive(Drop)]
 pub(crate) struct Side {
     pub(crate) which: Which,
@@ -48,8 +48,9 @@ impl Side {
         }
     }
 
-    /// Reads on until the next PDU is ready, and says whether there is one: where there is none, the stream has ended
-    /// behind the PDUs before. Puts the canonical form of the PDU into `form`, or nothing.
+    /// Reads on until the next PDU is ready, and says whether there is one: where there is none,
+    /// the stream has ended behind the PDUs before. Puts the canonical form of the PDU into `form`,
+    /// or nothing.
     ///
     /// Its faults are those of `advance`, and `NoMemory` where there is no memory for the form.
     pub(crate) fn next<R: Read>(
@@ -64,8 +65,8 @@ impl Side {
         ensures ready { IfOk result (λ some. is_ready self.new.framer ≡ some) }
         ensures ok { IfOk result (λ some. ReadsOn self.old (R.remaining r.old) (R.remaining r.new)
             (Stands some self.new)) }
-        ensures err { IfErr result (λ fault. ReadsOn self.old (R.remaining r.old) (R.remaining r.new)
-            (SideFails fault self.old.which)) }
+        ensures err { IfErr result (λ fault. ReadsOn self.old
+            (R.remaining r.old) (R.remaining r.new) (SideFails fault self.old.which)) }
         ensures form { IfOk result (λ some. FormIf some self.new.framer form.new.items) }
     {
         let some = self.advance(r)?;
@@ -73,11 +74,12 @@ impl Side {
         Ok(some)
     }
 
-    /// Reads on until the next PDU is ready, and says whether there is one: where there is none, the stream has ended
-    /// behind the PDUs before.
+    /// Reads on until the next PDU is ready, and says whether there is one: where there is none,
+    /// the stream has ended behind the PDUs before.
     ///
-    /// Answers `Stream` where the stream leaves the profile, `Read` where a read fails or 16,777,216 of them did not
-    /// reach the next PDU, and `NoMemory` where there is no memory for its segment.
+    /// Answers `Stream` where the stream leaves the profile, `Read` where a read fails or
+    /// 16,777,216 of them did not reach the next PDU, and `NoMemory` where there is no memory for
+    /// its segment.
     pub(crate) fn advance<R: Read>(&mut self, r: &mut R) -> Result<bool, CompareFault>
         requires inside { IsOpen self.old }
         ensures inside { IsOpen self.new }
@@ -86,8 +88,8 @@ impl Side {
         ensures ready { IfOk result (λ some. is_ready self.new.framer ≡ some) }
         ensures ok { IfOk result (λ some. ReadsOn self.old (R.remaining r.old) (R.remaining r.new)
             (Stands some self.new)) }
-        ensures err { IfErr result (λ fault. ReadsOn self.old (R.remaining r.old) (R.remaining r.new)
-            (SideFails fault self.old.which)) }
+        ensures err { IfErr result (λ fault. ReadsOn self.old
+            (R.remaining r.old) (R.remaining r.new) (SideFails fault self.old.which)) }
     {
         loop {
             if self.feed()? {
@@ -101,7 +103,8 @@ impl Side {
 
     // Puts the canonical form of the PDU that is ready into `form`, or nothing where none is ready.
     fn write_form(&self, form: &mut Vec<u8>) -> Result<(), AllocError>
-        ensures form { OnOk result (FormIf (is_ready self.now.framer) self.now.framer form.new.items) }
+        ensures form { OnOk result
+            (FormIf (is_ready self.now.framer) self.now.framer form.new.items) }
     {
         form.clear();
         let Some(pdu) = self.framer.pdu() else {
@@ -110,8 +113,8 @@ impl Side {
         canonical(&pdu, self.framer.continued(), form)
     }
 
-    /// Appends the line of the PDU that is ready, as `show` writes it, or a line that says that the stream ends, and
-    /// where. Answers `AllocError` where memory runs out.
+    /// Appends the line of the PDU that is ready, as `show` writes it, or a line that says that the
+    /// stream ends, and where. Answers `AllocError` where memory runs out.
     pub(crate) fn write_line(&self, out: &mut Vec<u8>) -> Result<(), AllocError>
         ensures line { OnOk result ((line : List ℕ) × IsLine line
             × (out.new.items ≡ out.old.items ++ line)) }
@@ -127,8 +130,9 @@ impl Side {
         requires inside { IsOpen self.old }
         ensures inside { IsOpen self.new }
         ensures which { self.new.which ≡ self.old.which }
-        ensures taken { (read : List ℕ) (ms : List Message) (head : Head) (segment : List ℕ) → HasRead read ms self.old
-            → is_ready self.old.framer ≡ true → Means self.old.framer.held head segment
+        ensures taken { (read : List ℕ) (ms : List Message) (head : Head) (segment : List ℕ)
+            → HasRead read ms self.old → is_ready self.old.framer ≡ true
+            → Means self.old.framer.held head segment
             → HasRead read (ms ++ message_of self.old.framer head segment ∷ []) self.new }
         ensures fuel { (head : Head) (segment : List ℕ) → is_ready self.old.framer ≡ true
             → Means self.old.framer.held head segment → fuel self.new < fuel self.old }
@@ -171,8 +175,8 @@ impl Side {
         ensures unready { OnOk result (is_ready self.new.framer ≡ false) }
         ensures ok { IfOk result (λ some. ReadsOn self.old (R.remaining r.old) (R.remaining r.new)
             (Stands some self.new)) }
-        ensures err { IfErr result (λ fault. ReadsOn self.old (R.remaining r.old) (R.remaining r.new)
-            (SideFails fault self.old.which)) }
+        ensures err { IfErr result (λ fault. ReadsOn self.old
+            (R.remaining r.old) (R.remaining r.new) (SideFails fault self.old.which)) }
     {
         if self.reads == READS {
             return Err(CompareFault::Read(self.which));
@@ -218,7 +222,8 @@ fn feed_part(
 ) -> Result<usize, StreamFault>
     requires order { from ≤ to }
     requires within { to ≤ length piece.now }
-    ensures ok { IfOk result (λ n. Takes framer.old (take (to - from) (drop from piece.now)) n framer.new) }
+    ensures ok { IfOk result (λ n.
+        Takes framer.old (take (to - from) (drop from piece.now)) n framer.new) }
     ensures err { IfErr result (FeedFails framer.old (take (to - from) (drop from piece.now))) }
     ensures stopped { OnErr result (framer.new ≡ stopped framer.old) }
 {
@@ -237,7 +242,8 @@ fn compare_fault(which: Which, fault: StreamFault) -> CompareFault
 
 // Appends the line that says where a stream ends.
 fn write_end(place: u64, out: &mut Vec<u8>) -> Result<(), AllocError>
-    ensures line { OnOk result ((line : List ℕ) × IsLine line × (out.new.items ≡ out.old.items ++ line)) }
+    ensures line { OnOk result ((line : List ℕ) × IsLine line
+        × (out.new.items ≡ out.old.items ++ line)) }
 {
     let mut decimal = Buffer::new();
     out.extend_from_slice(decimal.format(place).as_bytes())?;

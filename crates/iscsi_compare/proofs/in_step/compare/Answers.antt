@@ -38,7 +38,7 @@ returns-then-not-is_same-clause-compares g c =
     let t = c.next-in-loop-other_form.new.self in
     let p = c.in_ok-some.some in
     let q = c.in_ok-other_some.other_some in
-    rw (c.place.ensures, c.place-then-not-is_same.ensures) (onwards (λ x y. Part x y s.framer.place t.framer.place) (g.R.Read.remaining c.args.mine.now) (g.R.Read.remaining l.mine) (g.R.Read.remaining c.next.new.r) (g.Q.Read.remaining c.args.other.now)
+    rw c.difference.ensures (onwards (λ x y. Part x y s.framer.place t.framer.place) (g.R.Read.remaining c.args.mine.now) (g.R.Read.remaining l.mine) (g.R.Read.remaining c.next.new.r) (g.Q.Read.remaining c.args.other.now)
     (g.Q.Read.remaining l.other) (g.Q.Read.remaining c.next-in-loop-other_form.new.r) l.first l.second s t c.args.out.now.items l.out.items p q l.invariant c.in_ok-some.ensures.ok c.in_ok-other_some.ensures.ok
     (they_part p q s t c.next.new.form.items c.next-in-loop-other_form.new.form.items c.in_ok-some.ensures.form c.in_ok-other_some.ensures.form
     (λ e u. c.is_same.ensures.differ c.if-not-is_same.true e (c.deref.ensures.value ∙ u ∙ sym c.deref-in-loop-other_form.ensures.value))))
@@ -46,7 +46,7 @@ returns-then-not-is_same-clause-compares g c =
 pub returns-then-not-is_same-clause-tells : goal.returns-then-not-is_same-clause-tells
 returns-then-not-is_same-clause-tells g c =
     let lines = c.in_ok-write_lines.ensures.ok in
-    (lines.0, lines.1, lines.2, lines.3, lines.4 ∙ ap (λ (x : List ℕ). x ++ (lines.0 ++ lines.1)) c.loop-other_form.invariant.same)
+    rw c.difference.ensures (lines.0, lines.1, lines.2, lines.3, lines.4 ∙ ap (λ (x : List ℕ). x ++ (lines.0 ++ lines.1)) c.loop-other_form.invariant.same)
 
 pub returns-then-not-some-clause-compares : goal.returns-then-not-some-clause-compares
 returns-then-not-some-clause-compares g c =

@@ -57,7 +57,7 @@ returns-then-not-branch-clause-compares g c =
     let t = c.advance-in-loop-renaming.new.self in
     let p = c.in_ok-some.some in
     let q = c.in_ok-advance.field-0 in
-    rw (c.place.ensures, c.place-then-not-branch.ensures) (job_onwards (λ x y. PartFromJob x y s.framer.place t.framer.place) (g.R.Read.remaining c.args.mine.now) (g.R.Read.remaining l.mine) (g.R.Read.remaining c.advance.new.r)
+    rw c.difference.ensures (job_onwards (λ x y. PartFromJob x y s.framer.place t.framer.place) (g.R.Read.remaining c.args.mine.now) (g.R.Read.remaining l.mine) (g.R.Read.remaining c.advance.new.r)
     (g.Q.Read.remaining c.args.other.now) (g.Q.Read.remaining l.other) (g.Q.Read.remaining c.advance-in-loop-renaming.new.r) l.first l.second s t l.renaming c.args.out.now.items l.out.items p q l.invariant c.in_ok-some.ensures.ok c.in_ok-advance.ensures.ok
     (job_parts p q s t l.renaming c.accepts_next.new.self c.in_ok-some.ensures.ready c.in_ok-advance.ensures.ready
     (subst (LearnsNext l.renaming c.accepts_next.new.self s.framer t.framer) c.if-not-branch.true c.in_ok-accepts_next.ensures.learns)))
