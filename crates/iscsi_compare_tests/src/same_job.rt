@@ -1,10 +1,11 @@
-//! Two runs of one job by example: headers in words of hex, worked out by hand from the tables of
-//! RFC 7143, section 11.
+//! Two runs of one job by example: headers in words of hex, worked out by hand from the tables of RFC 7143, section 11.
 
 use hex::FromHexError;
-use iscsi_compare::Verdict;
 use iscsi_compare::same_job::compare_jobs;
+use iscsi_compare::{CompareFault, Verdict, Which};
 use std::alloc::Global;
+use std::io;
+use std::io::Read;
 use std::process::Abort;
 use std::test::Fail;
 
@@ -293,6 +294,82 @@ fn two_runs(rt: HostRuntime) -> Result<(), Fail> {
     assert_eq!(&rt; rows().split("\n\n").count(), COUNT);
     for row in rows().split("\n\n") {
         check_row(&rt, rt.alloc(), row)?;
+    }
+    Ok(())
+}
+
+// Gives a stream in pieces of 48 bytes, and fails after so many of them.
+#[derive(Drop)]
+struct Failing<'a> {
+    rest: &'a [u8],
+    before: usize,
+}
+
+impl Read for Failing<'_> {
+    fn read(&mut self, buf: &mut [u8]) -> io::Result<usize> {
+        if self.before == 0 {
+            return Err(io::Error::from(io::ErrorKind::Other));
+        }
+        self.before = self.before.saturating_sub(1);
+        let n = buf.len().min(self.rest.len()).min(48);
+        buf[..n].copy_from_slice(&self.rest[..n]);
+        self.rest = &self.rest[n..];
+        Ok(n)
+    }
+}
+
+// Two commands of a run, and the same of another.
+const RUN: &str = "\
+    > 01c10000 00000000 00000000 00000000 00000001 00000200 00000005 00000001 28000000 00001f00 01000000 00000000\n\
+    > 01c10000 00000000 00000000 00000000 00000002 00000200 00000006 00000001 28000000 00002000 01000000 00000000\n\
+    < 01c10000 00000000 00000000 00000000 0000000a 00000200 00000105 00000011 28000000 00001f00 01000000 00000000\n\
+    < 01c10000 00000000 00000000 00000000 0000000b 00000200 00000106 00000011 28000000 00002000 01000000 00000000";
+
+fn run() -> &'static str {
+    RUN
+}
+
+// What is said where the streams fail after so many reads.
+fn said_of(alloc: Global, first: &[u8], second: &[u8], before: (usize, usize)) -> Result<Verdict, CompareFault> {
+    let mut mine = Failing { rest: first, before: before.0 };
+    let mut other = Failing { rest: second, before: before.1 };
+    let mut lines = Vec::new(alloc);
+    compare_jobs(alloc, &mut mine, &mut other, &mut lines)
+}
+
+#[test]
+fn each_read_fails(rt: HostRuntime) -> Result<(), Fail> {
+    let first = marked(rt.alloc(), run(), "> ")?;
+    let second = marked(rt.alloc(), run(), "< ")?;
+    // Two pieces of a stream, and its end.
+    for before in 0..3usize {
+        let due = Err(CompareFault::Read(Which::First));
+        assert_eq!(&rt; said_of(rt.alloc(), &first, &second, (before, 3)), due, "{before}");
+        let due = Err(CompareFault::Read(Which::Second));
+        assert_eq!(&rt; said_of(rt.alloc(), &first, &second, (3, before)), due, "{before}");
+    }
+    assert_eq!(&rt; said_of(rt.alloc(), &first, &second, (3, 3)), Ok(Verdict::Same));
+    Ok(())
+}
+
+// What a test stands on is made again where memory ran out.
+fn ample(alloc: Global, mark: &str) -> Result<Vec<u8>, Fail> {
+    match marked(alloc, run(), mark) {
+        Ok(bytes) => Ok(bytes),
+        Err(_) => Ok(marked(alloc, run(), mark)?),
+    }
+}
+
+/// For `rt try --test --fail-alloc`: nothing but the want of memory may come in place of a verdict.
+#[test]
+fn refused_memory_changes_no_verdict(rt: HostRuntime) -> Result<(), Fail> {
+    let first = ample(rt.alloc(), "> ")?;
+    let second = ample(rt.alloc(), "< ")?;
+    let said = said_of(rt.alloc(), &first, &second, (3, 3));
+    if said == Err(CompareFault::NoMemory) {
+        assert_eq!(&rt; said_of(rt.alloc(), &first, &second, (3, 3)), Ok(Verdict::Same));
+    } else {
+        assert_eq!(&rt; said, Ok(Verdict::Same));
     }
     Ok(())
 }

@@ -65,7 +65,7 @@ returns-then-not-branch-clause-compares g c =
 pub returns-then-not-branch-clause-tells : goal.returns-then-not-branch-clause-tells
 returns-then-not-branch-clause-tells g c =
     let lines = c.in_ok-write_lines.ensures.ok in
-    (lines.0, lines.1, lines.2, lines.3, lines.4 ∙ ap (λ (x : List ℕ). x ++ (lines.0 ++ lines.1)) c.loop-renaming.invariant.same)
+    rw c.difference.ensures (lines.0, lines.1, lines.2, lines.3, lines.4 ∙ ap (λ (x : List ℕ). x ++ (lines.0 ++ lines.1)) c.loop-renaming.invariant.same)
 
 pub returns-then-not-some-clause-compares : goal.returns-then-not-some-clause-compares
 returns-then-not-some-clause-compares g c =
