@@ -1,12 +1,12 @@
 -- The numbers of a head: taken out, renamed and put back.
-use Rattle.std.proofs.Common.{◌≡◌, ℕ, ◌+◌, ◌-◌, ◌%◌, ◌^◌, ◌<◌, ◌≤◌, Bool, true, false, cond, List, refl, sym, ap, ◌∙◌, arith}
-use Rattle.std.specs.Prelude.{Option, Some, None, option_map, not, ◌==◌, if◌then◌else◌}
+use Rattle.std.proofs.Common.{◌≡◌, ℕ, ◌+◌, Bool, true, false, List, refl, sym, ap, ◌∙◌}
+use Rattle.std.specs.Prelude.{Option, option_map, if◌then◌else◌}
 use Rattle.iscsi_pdu.specs.declared.head.Head.{Head}
 use Rattle.iscsi_pdu.specs.declared.head.Head.TheVariants.{NopOut, ScsiCommand, TaskRequest, LoginRequest, TextRequest, DataOut, LogoutRequest, NopIn, ScsiResponse, TaskResponse, LoginResponse, TextResponse, DataIn, LogoutResponse, ReadyToTransfer, AsyncMessage, Reject}
 use Rattle.iscsi_pdu.specs.Fields.{reserved_tag, is_tag}
 use Rattle.iscsi_compare.specs.declared.same_job.numbers.Numbers.{Numbers}
-use Rattle.iscsi_compare.specs.SameJob.{OneToOne, Renumbering, shifted, renumbered}
-use Rattle.iscsi_compare.specs.SameJobNumbers.{none, numbers, with_numbers, renamed}
+use Rattle.iscsi_compare.specs.SameJob.{Renumbering, shifted, renumbered}
+use Rattle.iscsi_compare.specs.SameJobNumbers.{numbers, with_numbers, renamed}
 use Rattle.iscsi_compare.proofs.SameNames.{identity, backward, chained}
 use Rattle.iscsi_compare.proofs.SameSteps.{shifted_none, shifted_twice, shifted_back, steps_back, same_tag, mapped_twice, mapped_same}
 

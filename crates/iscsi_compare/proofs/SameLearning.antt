@@ -1,15 +1,14 @@
 -- What the numbers of two heads say of a renumbering.
-use Rattle.std.proofs.Common.{◌≡◌, ◌⊎◌, inl, inr, ℕ, Bool, true, false, List, refl, sym, ap, subst, ◌∙◌}
+use Rattle.std.proofs.Common.{◌≡◌, ℕ, Bool, true, false, List, refl, sym, ap, subst, ◌∙◌}
 use Rattle.std.specs.Prelude.{Option, Some, None, unwrap_or, option_map, ◌&&◌, if◌then◌else◌}
 use Rattle.std.specs.Ordering.{nat_cmp}
 use Rattle.std.specs.Cmp.Lexicographic.{slice_cmp}
 use Rattle.std.specs.BTreeMap.{BTreeMap}
-use Rattle.std.proofs.lemmas.Bool.{cases_Bool}
 use Rattle.iscsi_pdu.specs.declared.head.Head.{Head}
 use Rattle.iscsi_pdu.specs.Fields.{is_tag}
 use Rattle.iscsi_pdu.specs.Meaning.{Fits}
 use Rattle.iscsi_compare.specs.declared.same_job.numbers.Numbers.{Numbers}
-use Rattle.iscsi_compare.specs.SameJob.{OneToOne, Renumbering, shifted, renumbered}
+use Rattle.iscsi_compare.specs.SameJob.{Renumbering, shifted, renumbered}
 use Rattle.iscsi_compare.specs.SameJobNumbers.{numbers, with_numbers, renamed}
 use Rattle.iscsi_compare.specs.SameJobLearning.{Carries, IsSteps, IsLeft, Learns}
 use Rattle.iscsi_compare.specs.declared.same_job.renaming.Renaming.{Renaming}
@@ -143,15 +142,17 @@ some_left known s =
       no_task = s.no_task s.tasks.some.0 s.tasks.some.1;
       no_transfer = s.no_transfer s.transfers.some.0 s.transfers.some.1;
       no_session = s.no_session s.tsihs.some.0 s.tsihs.some.1;
-    } in
-    (r, record {
-      tasks_left = s.tasks.some.1;
-      transfers_left = s.transfers.some.1;
-      isids_left = s.isids.some.1;
-      tsihs_left = s.tsihs.some.1;
-      commands_left = steps_known known.commands;
-      statuses_left = steps_known known.statuses;
-    })
+    } in (
+      r,
+      record {
+        tasks_left = s.tasks.some.1;
+        transfers_left = s.transfers.some.1;
+        isids_left = s.isids.some.1;
+        tsihs_left = s.tsihs.some.1;
+        commands_left = steps_known known.commands;
+        statuses_left = steps_known known.statuses;
+      },
+    )
 
 -- so the head with the other's numbers can be written where the numbers are learnt
 pub other_fits : (old new : Renaming) (g h : Head) → IsSoundRenaming new → Learns (Allows old) (Allows new) (λ r. renamed r (numbers g) ≡ numbers h) true → Fits g → Fits (with_numbers g (numbers h))

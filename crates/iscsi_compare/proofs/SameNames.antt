@@ -1,8 +1,7 @@
 -- A renaming that has one more pair of names.
 use Rattle.std.proofs.Common.{◌≡◌, ◌⊎◌, inl, inr, Bool, true, false, cond, refl, sym, ap, ◌∙◌}
-use Rattle.std.specs.Prelude.{◌↔◌, Option, Some, None, is_some}
+use Rattle.std.specs.Prelude.{Option, Some, None, is_some}
 use Rattle.std.specs.declared.cmp.Ordering.{Ordering}
-use Rattle.std.specs.declared.cmp.Ordering.TheVariants.{Less, Equal, Greater}
 use Rattle.std.specs.Ordering.{is_eq}
 use Rattle.std.specs.Cmp.{IsTotalOrder}
 use Rattle.std.proofs.lemmas.Cmp.{tied_itself}
@@ -50,13 +49,13 @@ pub exchanged_twice : {K : Type 0} (cmp : K → K → Ordering) → IsTotalOrder
 exchanged_twice cmp o exact a b x =
     elim (cases_Bool (is_eq (cmp x a))) [
       | inl e ↦ ap (exchanged cmp a b) (one cmp a b x e) ∙ (elim (cases_Bool (is_eq (cmp b a))) [
-          | inl f ↦ one cmp a b b f ∙ tells_apart exact b a f ∙ sym (tells_apart exact x a e)
-          | inr f ↦ other cmp a b b f (itself cmp o b) ∙ sym (tells_apart exact x a e)
-        ])
+        | inl f ↦ one cmp a b b f ∙ tells_apart exact b a f ∙ sym (tells_apart exact x a e)
+        | inr f ↦ other cmp a b b f (itself cmp o b) ∙ sym (tells_apart exact x a e)
+      ])
       | inr e ↦ elim (cases_Bool (is_eq (cmp x b))) [
-          | inl f ↦ ap (exchanged cmp a b) (other cmp a b x e f) ∙ one cmp a b a (itself cmp o a) ∙ sym (tells_apart exact x b f)
-          | inr f ↦ ap (exchanged cmp a b) (neither cmp a b x e f) ∙ neither cmp a b x e f
-        ]
+        | inl f ↦ ap (exchanged cmp a b) (other cmp a b x e f) ∙ one cmp a b a (itself cmp o a) ∙ sym (tells_apart exact x b f)
+        | inr f ↦ ap (exchanged cmp a b) (neither cmp a b x e f) ∙ neither cmp a b x e f
+      ]
     ]
 
 abbrev pub exchange : {K : Type 0} (cmp : K → K → Ordering) → IsTotalOrder cmp → CmpEqualImpliesEq cmp → K → K → OneToOne K
@@ -116,9 +115,9 @@ one_more cmp o exact there back there' a b s none none' u f carries q v e =
           elim (cases_Bool (is_eq (cmp (f.to q) (f.to a)))) [
             | inl h ↦ none_some none (ap (λ x. get cmp there x) (sym (one_to_one f q a (tells_apart exact (f.to q) (f.to a) h))) ∙ p)
             | inr h ↦ elim (cases_Bool (is_eq (cmp (f.to q) b))) [
-                | inl i ↦ none_some none' (ap (λ x. get cmp back x) (sym (tells_apart exact (f.to q) b i) ∙ at) ∙ s.forth q v p)
-                | inr i ↦ neither cmp (f.to a) b (f.to q) h i ∙ at
-              ]
+              | inl i ↦ none_some none' (ap (λ x. get cmp back x) (sym (tells_apart exact (f.to q) b i) ∙ at) ∙ s.forth q v p)
+              | inr i ↦ neither cmp (f.to a) b (f.to q) h i ∙ at
+            ]
           ])
     ]
 

@@ -1,11 +1,10 @@
 -- Two runs in step.
-use Rattle.std.proofs.Common.{◌≡◌, ℕ, ◌+◌, Bool, true, false, List, [], ◌∷◌, ◌++◌, length, Option, Some, None, refl, sym, ap, subst, ◌∙◌, append-nil, arith}
+use Rattle.std.proofs.Common.{◌≡◌, ℕ, Bool, true, false, List, [], ◌∷◌, ◌++◌, length, Option, Some, None, refl, sym, ap, subst, ◌∙◌, append-nil, arith}
 use Rattle.std.specs.Prelude.{◌↔◌, map, option_map, option_to_list}
 use Rattle.std.specs.Io.KnownBytes.{Consumes}
 use Rattle.std.proofs.KnownBytes.{Consumes-nil, Consumes-trans}
 use Rattle.std.proofs.lemmas.List.{same_from_push, map_push, length_push, length-map}
 use Rattle.iscsi_pdu.specs.declared.head.Head.{Head}
-use Rattle.iscsi_pdu.specs.Meaning.{Means, AreBytes}
 use Rattle.iscsi_stream.specs.Stream.{Message}
 use Rattle.iscsi_stream.specs.Framing.{Framing, given_up, message_of, is_ready}
 use Rattle.iscsi_compare.specs.declared.fault.Which.{Which}
@@ -14,7 +13,7 @@ use Rattle.iscsi_compare.specs.declared.fault.CompareFault.{CompareFault}
 use Rattle.iscsi_compare.specs.declared.fault.CompareFault.TheVariants as fault
 use Rattle.iscsi_compare.specs.declared.side.Side.{Side}
 use Rattle.iscsi_compare.specs.declared.same_job.renaming.Renaming.{Renaming}
-use Rattle.iscsi_compare.specs.Comparing.{Input, input_of, Gave, BeginsWith, GoesOn}
+use Rattle.iscsi_compare.specs.Comparing.{Input, input_of, BeginsWith, GoesOn}
 use Rattle.iscsi_compare.specs.Inside.{HasRead, IsOpen, ReadsOn, Stands, SideFails, pending}
 use Rattle.iscsi_compare.specs.SameJob.{Renumbering, renumbered_message, SameJob}
 use Rattle.iscsi_compare.specs.SameJobLearning.{Learns}
@@ -43,7 +42,7 @@ knows_more old new ms ns m n k l r = (
   λ allowed. ap (λ (x : List Message). x ++ n ∷ []) ((k r).0 (l.less r allowed)) ∙ ap (λ (x : Message). map (renumbered_message r) ms ++ x ∷ []) (sym (inside (renumbered_message r m) n (l.said refl r allowed)))
       ∙ sym (map_push (renumbered_message r) ms m),
   λ e. (let both = same_from_push ns (map (renumbered_message r) ms) n (renumbered_message r m) (e ∙ map_push (renumbered_message r) ms m) in
-    l.kept r ((k r).1 both.0) (ap Some (sym both.1))),
+      l.kept r ((k r).1 both.0) (ap Some (sym both.1))),
 )
 
 same_length : (ms ns : List Message) → SameJob ms ns → length ns ≡ length ms
@@ -160,7 +159,7 @@ job_first_stops e a b c d f first second known held now step reads =
       gave a b c step.read one.0 step.consumed one.1 one.2,
       record { bytes = step.other_has_read.bytes; consumed = step.other_consumed; left_is = refl },
       first_fails e x y step.ms step.ns (job_of a b d f first second known held now step) (subst (λ (w : Which). SideFails e w x step.ms) step.which one.3)
-      (begins step.other_read step.ns second.framer (pending second) second.reads f step.other_has_read),
+          (begins step.other_read step.ns second.framer (pending second) second.reads f step.other_has_read),
     )
 
 -- the second stream has a fault

@@ -6,7 +6,7 @@ use Rattle.iscsi_text.specs.Canonical.{canonical_text}
 use Rattle.iscsi_text.specs.Reading.{text_in}
 use Rattle.iscsi_text.proofs.TextLaws.{canonical_read}
 use Rattle.iscsi_pdu.specs.declared.head.Head.{Head}
-use Rattle.iscsi_stream.specs.Segment.{Segment, Bytes, Text, is_last, text_or_bytes, segment_if, segment_of}
+use Rattle.iscsi_stream.specs.Segment.{Text, is_last, text_or_bytes, segment_if, segment_of}
 use Rattle.iscsi_compare.specs.SameJobLearning.{Decides}
 
 read_as : (r : Option Pairs) (b : List ℕ) (p : Pairs) → text_in b ≡ r → Text p ≡ text_or_bytes r b → text_in b ≡ Some p

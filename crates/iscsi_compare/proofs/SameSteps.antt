@@ -1,7 +1,7 @@
 -- Serial numbers some steps on: none, on and back, and twice.
-use Rattle.std.proofs.Common.{◌≡◌, ◌⊎◌, inl, inr, ℕ, ◌+◌, ◌-◌, ◌<◌, ◌≤◌, ◌%◌, ◌^◌, Bool, true, false, refl, sym, ap, ◌∙◌, arith}
-use Rattle.std.specs.Prelude.{Option, Some, None, nat_lt, if◌then◌else◌, option_map, not, ◌==◌}
-use Rattle.std.proofs.lemmas.Bool.{cases_lt, cases_Bool, eqb-true, eqb-false, le-ltb}
+use Rattle.std.proofs.Common.{◌≡◌, inl, inr, ℕ, ◌+◌, ◌-◌, ◌<◌, ◌≤◌, ◌%◌, ◌^◌, true, false, refl, sym, ap, ◌∙◌, arith}
+use Rattle.std.specs.Prelude.{Option, Some, None, nat_lt, option_map, not, ◌==◌}
+use Rattle.std.proofs.lemmas.Bool.{cases_lt, cases_Bool, eqb-true}
 use Rattle.iscsi_compare.specs.SameJob.{OneToOne, shifted}
 use Rattle.iscsi_compare.proofs.SameNames.{apart, one_to_one}
 
@@ -49,9 +49,9 @@ same_tag f fixed n e =
     elim (cases_Bool (n == fixed)) [
       | inl p ↦ (let q : f.to n ≡ fixed = ap f.to (eqb-true n fixed p) ∙ e in grind (arith, q))
       | inr p ↦ elim (cases_Bool (f.to n == fixed)) [
-          | inl q ↦ apart (let same : n ≡ fixed = one_to_one f n fixed (eqb-true (f.to n) fixed q ∙ sym e) in grind (arith, same)) p
-          | inr q ↦ ap not (q ∙ sym p)
-        ]
+        | inl q ↦ apart (let same : n ≡ fixed = one_to_one f n fixed (eqb-true (f.to n) fixed q ∙ sym e) in grind (arith, same)) p
+        | inr q ↦ ap not (q ∙ sym p)
+      ]
     ]
 
 pub mapped_twice : {A : Type 0} (f g h : A → A) → ((x : A) → g (f x) ≡ h x) → (o : Option A) → option_map g (option_map f o) ≡ option_map h o

@@ -1,7 +1,7 @@
 -- Two runs of one job (own rule): what they number differently, and what is the same in both. A run
 -- chooses its task tags, transfer tags, ISID and TSIH, and where CmdSN and StatSN begin (RFC 7143,
 -- sections 4.2.2, 11.2.1.8, 11.7.4, 11.12.5 and 11.12.6). A table of 17 kinds.
-use Rattle.std.specs.Prelude.{◌≡◌, ℕ, ◌+◌, ◌%◌, ◌^◌, nat_lt, if◌then◌else◌, List, Option, option_map, map}
+use Rattle.std.specs.Prelude.{◌≡◌, ℕ, ◌+◌, ◌%◌, ◌^◌, nat_lt, if◌then◌else◌, List, option_map, map}
 use Rattle.iscsi_pdu.specs.declared.head.Head.{Head}
 use Rattle.iscsi_pdu.specs.declared.head.Head.TheVariants.{NopOut, ScsiCommand, TaskRequest, LoginRequest, TextRequest, DataOut, LogoutRequest, NopIn, ScsiResponse, TaskResponse, LoginResponse, TextResponse, DataIn, LogoutResponse, ReadyToTransfer, AsyncMessage, Reject}
 use Rattle.iscsi_pdu.specs.Fields.{reserved_tag, is_tag}
@@ -37,111 +37,111 @@ pub record Renumbering : Type 0 where
 -- task is referenced (section 11.5.5).
 unfoldable pub renumbered : Renumbering → Head → Head
 renumbered r (NopOut h) = NopOut (record h {
-      initiator_task_tag = r.tasks.to h.initiator_task_tag;
-      target_transfer_tag = r.transfers.to h.target_transfer_tag;
-      cmd_sn = shifted r.commands h.cmd_sn;
-      exp_stat_sn = shifted r.statuses h.exp_stat_sn;
-    })
+  initiator_task_tag = r.tasks.to h.initiator_task_tag;
+  target_transfer_tag = r.transfers.to h.target_transfer_tag;
+  cmd_sn = shifted r.commands h.cmd_sn;
+  exp_stat_sn = shifted r.statuses h.exp_stat_sn;
+})
 renumbered r (ScsiCommand h) = ScsiCommand (record h {
-      initiator_task_tag = r.tasks.to h.initiator_task_tag;
-      cmd_sn = shifted r.commands h.cmd_sn;
-      exp_stat_sn = shifted r.statuses h.exp_stat_sn;
-    })
+  initiator_task_tag = r.tasks.to h.initiator_task_tag;
+  cmd_sn = shifted r.commands h.cmd_sn;
+  exp_stat_sn = shifted r.statuses h.exp_stat_sn;
+})
 renumbered r (TaskRequest h) = TaskRequest (record h {
-      initiator_task_tag = r.tasks.to h.initiator_task_tag;
-      referenced_task_tag = r.tasks.to h.referenced_task_tag;
-      cmd_sn = shifted r.commands h.cmd_sn;
-      exp_stat_sn = shifted r.statuses h.exp_stat_sn;
-      ref_cmd_sn =
-          if is_tag h.referenced_task_tag then shifted r.commands h.ref_cmd_sn else h.ref_cmd_sn;
-    })
+  initiator_task_tag = r.tasks.to h.initiator_task_tag;
+  referenced_task_tag = r.tasks.to h.referenced_task_tag;
+  cmd_sn = shifted r.commands h.cmd_sn;
+  exp_stat_sn = shifted r.statuses h.exp_stat_sn;
+  ref_cmd_sn =
+      if is_tag h.referenced_task_tag then shifted r.commands h.ref_cmd_sn else h.ref_cmd_sn;
+})
 renumbered r (LoginRequest h) = LoginRequest (record h {
-      isid = r.isids.to h.isid;
-      tsih = r.tsihs.to h.tsih;
-      initiator_task_tag = r.tasks.to h.initiator_task_tag;
-      cmd_sn = shifted r.commands h.cmd_sn;
-      exp_stat_sn = shifted r.statuses h.exp_stat_sn;
-    })
+  isid = r.isids.to h.isid;
+  tsih = r.tsihs.to h.tsih;
+  initiator_task_tag = r.tasks.to h.initiator_task_tag;
+  cmd_sn = shifted r.commands h.cmd_sn;
+  exp_stat_sn = shifted r.statuses h.exp_stat_sn;
+})
 renumbered r (TextRequest h) = TextRequest (record h {
-      initiator_task_tag = r.tasks.to h.initiator_task_tag;
-      target_transfer_tag = r.transfers.to h.target_transfer_tag;
-      cmd_sn = shifted r.commands h.cmd_sn;
-      exp_stat_sn = shifted r.statuses h.exp_stat_sn;
-    })
+  initiator_task_tag = r.tasks.to h.initiator_task_tag;
+  target_transfer_tag = r.transfers.to h.target_transfer_tag;
+  cmd_sn = shifted r.commands h.cmd_sn;
+  exp_stat_sn = shifted r.statuses h.exp_stat_sn;
+})
 renumbered r (DataOut h) = DataOut (record h {
-      initiator_task_tag = r.tasks.to h.initiator_task_tag;
-      target_transfer_tag = r.transfers.to h.target_transfer_tag;
-      exp_stat_sn = shifted r.statuses h.exp_stat_sn;
-    })
+  initiator_task_tag = r.tasks.to h.initiator_task_tag;
+  target_transfer_tag = r.transfers.to h.target_transfer_tag;
+  exp_stat_sn = shifted r.statuses h.exp_stat_sn;
+})
 renumbered r (LogoutRequest h) = LogoutRequest (record h {
-      initiator_task_tag = r.tasks.to h.initiator_task_tag;
-      cmd_sn = shifted r.commands h.cmd_sn;
-      exp_stat_sn = shifted r.statuses h.exp_stat_sn;
-    })
+  initiator_task_tag = r.tasks.to h.initiator_task_tag;
+  cmd_sn = shifted r.commands h.cmd_sn;
+  exp_stat_sn = shifted r.statuses h.exp_stat_sn;
+})
 renumbered r (NopIn h) = NopIn (record h {
-      initiator_task_tag = r.tasks.to h.initiator_task_tag;
-      target_transfer_tag = r.transfers.to h.target_transfer_tag;
-      stat_sn = shifted r.statuses h.stat_sn;
-      exp_cmd_sn = shifted r.commands h.exp_cmd_sn;
-      max_cmd_sn = shifted r.commands h.max_cmd_sn;
-    })
+  initiator_task_tag = r.tasks.to h.initiator_task_tag;
+  target_transfer_tag = r.transfers.to h.target_transfer_tag;
+  stat_sn = shifted r.statuses h.stat_sn;
+  exp_cmd_sn = shifted r.commands h.exp_cmd_sn;
+  max_cmd_sn = shifted r.commands h.max_cmd_sn;
+})
 renumbered r (ScsiResponse h) = ScsiResponse (record h {
-      initiator_task_tag = r.tasks.to h.initiator_task_tag;
-      stat_sn = shifted r.statuses h.stat_sn;
-      exp_cmd_sn = shifted r.commands h.exp_cmd_sn;
-      max_cmd_sn = shifted r.commands h.max_cmd_sn;
-    })
+  initiator_task_tag = r.tasks.to h.initiator_task_tag;
+  stat_sn = shifted r.statuses h.stat_sn;
+  exp_cmd_sn = shifted r.commands h.exp_cmd_sn;
+  max_cmd_sn = shifted r.commands h.max_cmd_sn;
+})
 renumbered r (TaskResponse h) = TaskResponse (record h {
-      initiator_task_tag = r.tasks.to h.initiator_task_tag;
-      stat_sn = shifted r.statuses h.stat_sn;
-      exp_cmd_sn = shifted r.commands h.exp_cmd_sn;
-      max_cmd_sn = shifted r.commands h.max_cmd_sn;
-    })
+  initiator_task_tag = r.tasks.to h.initiator_task_tag;
+  stat_sn = shifted r.statuses h.stat_sn;
+  exp_cmd_sn = shifted r.commands h.exp_cmd_sn;
+  max_cmd_sn = shifted r.commands h.max_cmd_sn;
+})
 renumbered r (LoginResponse h) = LoginResponse (record h {
-      isid = r.isids.to h.isid;
-      tsih = r.tsihs.to h.tsih;
-      initiator_task_tag = r.tasks.to h.initiator_task_tag;
-      stat_sn = option_map (shifted r.statuses) h.stat_sn;
-      exp_cmd_sn = shifted r.commands h.exp_cmd_sn;
-      max_cmd_sn = shifted r.commands h.max_cmd_sn;
-    })
+  isid = r.isids.to h.isid;
+  tsih = r.tsihs.to h.tsih;
+  initiator_task_tag = r.tasks.to h.initiator_task_tag;
+  stat_sn = option_map (shifted r.statuses) h.stat_sn;
+  exp_cmd_sn = shifted r.commands h.exp_cmd_sn;
+  max_cmd_sn = shifted r.commands h.max_cmd_sn;
+})
 renumbered r (TextResponse h) = TextResponse (record h {
-      initiator_task_tag = r.tasks.to h.initiator_task_tag;
-      target_transfer_tag = r.transfers.to h.target_transfer_tag;
-      stat_sn = shifted r.statuses h.stat_sn;
-      exp_cmd_sn = shifted r.commands h.exp_cmd_sn;
-      max_cmd_sn = shifted r.commands h.max_cmd_sn;
-    })
+  initiator_task_tag = r.tasks.to h.initiator_task_tag;
+  target_transfer_tag = r.transfers.to h.target_transfer_tag;
+  stat_sn = shifted r.statuses h.stat_sn;
+  exp_cmd_sn = shifted r.commands h.exp_cmd_sn;
+  max_cmd_sn = shifted r.commands h.max_cmd_sn;
+})
 renumbered r (DataIn h) = DataIn (record h {
-      initiator_task_tag = r.tasks.to h.initiator_task_tag;
-      target_transfer_tag = r.transfers.to h.target_transfer_tag;
-      stat_sn = option_map (shifted r.statuses) h.stat_sn;
-      exp_cmd_sn = shifted r.commands h.exp_cmd_sn;
-      max_cmd_sn = shifted r.commands h.max_cmd_sn;
-    })
+  initiator_task_tag = r.tasks.to h.initiator_task_tag;
+  target_transfer_tag = r.transfers.to h.target_transfer_tag;
+  stat_sn = option_map (shifted r.statuses) h.stat_sn;
+  exp_cmd_sn = shifted r.commands h.exp_cmd_sn;
+  max_cmd_sn = shifted r.commands h.max_cmd_sn;
+})
 renumbered r (LogoutResponse h) = LogoutResponse (record h {
-      initiator_task_tag = r.tasks.to h.initiator_task_tag;
-      stat_sn = shifted r.statuses h.stat_sn;
-      exp_cmd_sn = shifted r.commands h.exp_cmd_sn;
-      max_cmd_sn = shifted r.commands h.max_cmd_sn;
-    })
+  initiator_task_tag = r.tasks.to h.initiator_task_tag;
+  stat_sn = shifted r.statuses h.stat_sn;
+  exp_cmd_sn = shifted r.commands h.exp_cmd_sn;
+  max_cmd_sn = shifted r.commands h.max_cmd_sn;
+})
 renumbered r (ReadyToTransfer h) = ReadyToTransfer (record h {
-      initiator_task_tag = r.tasks.to h.initiator_task_tag;
-      target_transfer_tag = r.transfers.to h.target_transfer_tag;
-      stat_sn = shifted r.statuses h.stat_sn;
-      exp_cmd_sn = shifted r.commands h.exp_cmd_sn;
-      max_cmd_sn = shifted r.commands h.max_cmd_sn;
-    })
+  initiator_task_tag = r.tasks.to h.initiator_task_tag;
+  target_transfer_tag = r.transfers.to h.target_transfer_tag;
+  stat_sn = shifted r.statuses h.stat_sn;
+  exp_cmd_sn = shifted r.commands h.exp_cmd_sn;
+  max_cmd_sn = shifted r.commands h.max_cmd_sn;
+})
 renumbered r (AsyncMessage h) = AsyncMessage (record h {
-      stat_sn = shifted r.statuses h.stat_sn;
-      exp_cmd_sn = shifted r.commands h.exp_cmd_sn;
-      max_cmd_sn = shifted r.commands h.max_cmd_sn;
-    })
+  stat_sn = shifted r.statuses h.stat_sn;
+  exp_cmd_sn = shifted r.commands h.exp_cmd_sn;
+  max_cmd_sn = shifted r.commands h.max_cmd_sn;
+})
 renumbered r (Reject h) = Reject (record h {
-      stat_sn = shifted r.statuses h.stat_sn;
-      exp_cmd_sn = shifted r.commands h.exp_cmd_sn;
-      max_cmd_sn = shifted r.commands h.max_cmd_sn;
-    })
+  stat_sn = shifted r.statuses h.stat_sn;
+  exp_cmd_sn = shifted r.commands h.exp_cmd_sn;
+  max_cmd_sn = shifted r.commands h.max_cmd_sn;
+})
 
 -- the message of the other run: its segment means the same
 abbrev pub renumbered_message : Renumbering → Message → Message

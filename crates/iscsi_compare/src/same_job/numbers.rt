@@ -4,9 +4,9 @@ ghost use Rattle.std.specs.Prelude.{◌≡◌};
 ghost use Rattle.iscsi_compare.specs.SameJobNumbers.{none, numbers, with_numbers};
 
 use iscsi_pdu::{
-    AsyncMessage, DataIn, DataOut, Head, LoginRequest, LoginResponse, LogoutRequest, LogoutResponse,
-    NopIn, NopOut, RESERVED_TAG, ReadyToTransfer, Reject, ScsiCommand, ScsiResponse, TaskRequest,
-    TaskResponse, TextRequest, TextResponse,
+    AsyncMessage, DataIn, DataOut, Head, LoginRequest, LoginResponse, LogoutRequest,
+    LogoutResponse, NopIn, NopOut, RESERVED_TAG, ReadyToTransfer, Reject, ScsiCommand,
+    ScsiResponse, TaskRequest, TaskResponse, TextRequest, TextResponse,
 };
 
 /// The numbers of a head that two runs of one job may choose differently. Where its kind has no

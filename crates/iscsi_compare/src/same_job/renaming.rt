@@ -120,7 +120,9 @@ impl Renaming {
             (λ r. renamed r mine.now ≡ other.now)) }
     {
         let task = self.tasks.join(mine.task, other.task)?;
-        let referenced_task = self.tasks.join(mine.referenced_task, other.referenced_task)?;
+        let referenced_task = self
+            .tasks
+            .join(mine.referenced_task, other.referenced_task)?;
         let transfer = self.transfers.join(mine.transfer, other.transfer)?;
         let isid = self.isids.join_some(mine.isid, other.isid)?;
         let tsih = self.tsihs.join(mine.tsih, other.tsih)?;

@@ -1,4 +1,4 @@
-use Rattle.std.proofs.Common.{◌++◌, ◌∙◌, List, ℕ, Bool, true, false, ap, sym, subst}
+use Rattle.std.proofs.Common.{◌++◌, ◌∙◌, List, ℕ, ap, sym, subst}
 use Rattle.std.proofs.lemmas.Result.{err_from_is_err_and}
 use Rattle.iscsi_compare.specs.declared.fault.CompareFault.TheVariants as fault
 use Rattle.iscsi_compare.specs.SameJobJudge.{LearnsNext}

@@ -2,9 +2,7 @@ use Rattle.std.proofs.Common.{◌≡◌, true, false, sym, ap, subst, ◌∙◌}
 use Rattle.iscsi_pdu.specs.declared.head.Head.{Head}
 use Rattle.iscsi_pdu.specs.Meaning.{Fits}
 use Rattle.iscsi_compare.specs.declared.same_job.numbers.Numbers.{Numbers}
-use Rattle.iscsi_compare.specs.SameJob.{Renumbering}
-use Rattle.iscsi_compare.specs.SameJobNumbers.{numbers, with_numbers, renamed}
-use Rattle.iscsi_compare.specs.SameJobLearning.{Learns}
+use Rattle.iscsi_compare.specs.SameJobNumbers.{numbers, with_numbers}
 use Rattle.iscsi_compare.specs.SameJobJudge.{Allows}
 use Rattle.iscsi_compare.proofs.SameLearning.{learns_none, learns_heads, learns_at, other_fits}
 use Rattle.iscsi_compare.proofs.same_job.renaming.Renaming.accepts_head.Goals as goal

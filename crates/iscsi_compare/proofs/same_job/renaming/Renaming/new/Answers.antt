@@ -1,4 +1,3 @@
-use Rattle.std.proofs.Common.{sym, ◌∙◌, None, Some}
 use Rattle.iscsi_compare.proofs.SameNames.{none_some}
 use Rattle.iscsi_compare.proofs.same_job.renaming.Renaming.new.Goals as goal
 
