@@ -1,0 +1,12 @@
+pub mod SameFits
+pub mod SameHeads
+pub mod SameJobLaws
+pub mod SameLearning
+pub mod SameNames
+pub mod SameNext
+pub mod SameRuns
+pub mod SameSegments
+pub mod SameSteps
+pub mod Sides
+pub mod Steps
+pub mod Wholes

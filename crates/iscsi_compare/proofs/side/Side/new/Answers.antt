@@ -1,0 +1,5 @@
+use Rattle.iscsi_compare.proofs.Sides.{read_none}
+use Rattle.iscsi_compare.proofs.side.Side.new.Goals as goal
+
+pub returns-clause-none : goal.returns-clause-none
+returns-clause-none c = rw c.new.ensures read_none

@@ -1,0 +1,43 @@
+//! Laws of verdicts: functions that do nothing, whose contracts are the theorems. They speak of the
+//! definitions in `specs`, which the contract of `compare` cites too.
+
+ghost use Rattle.std.specs.Prelude.{◌≡◌, ◌++◌, ℕ, List, Some, Option, Ok, Err, ◌↔◌};
+ghost use Rattle.std.specs.Io.KnownBytes.{IsAtEnd};
+ghost use Rattle.iscsi_pdu.specs.Meaning.{AreBytes};
+ghost use Rattle.iscsi_stream.specs.declared.fault.StreamFault.{StreamFault};
+ghost use Rattle.iscsi_stream.specs.Stream.{Message, StreamMeans};
+ghost use Rattle.iscsi_stream.specs.Canonical.{canon};
+ghost use Rattle.iscsi_compare.specs.declared.fault.Which.{Which};
+ghost use Rattle.iscsi_compare.specs.declared.fault.CompareFault.TheVariants as fault;
+ghost use Rattle.iscsi_compare.specs.declared.verdict.Verdict.TheVariants as verdict;
+ghost use Rattle.iscsi_compare.specs.Comparing.{Input, Gave, Compares};
+
+/// Of streams that were read to their ends, it is said that they are the same exactly if their
+/// meanings are one, and exactly if their canonical streams are equal.
+pub fn same_meaning()
+    ensures meanings { (first second : Input) (ms ns : List Message) → IsAtEnd first.left
+        → IsAtEnd second.left → StreamMeans first.read ms → StreamMeans second.read ns
+        → Compares (Ok verdict.Same) first second ↔ (ms ≡ ns) }
+    ensures forms { (first second : Input) (ms ns : List Message) → AreBytes first.read
+        → AreBytes second.read → IsAtEnd first.left → IsAtEnd second.left
+        → StreamMeans first.read ms → StreamMeans second.read ns
+        → Compares (Ok verdict.Same) first second ↔ (canon ms ≡ canon ns) }
+{}
+
+/// Of two streams of the profile, of which as much was read as was needed: a verdict says truly
+/// whether their meanings are one, and no fault of a stream is answered.
+pub fn whole_streams()
+    ensures same { (s t : List ℕ) (ms ns : List Message) (left other_left : Option (List ℕ))
+        (first second : Input) → Gave (Some s) left first → Gave (Some t) other_left second
+        → StreamMeans s ms → StreamMeans t ns
+        → Compares (Ok verdict.Same) first second → ms ≡ ns }
+    ensures differ { (s t : List ℕ) (ms ns : List Message) (left other_left : Option (List ℕ))
+        (first second : Input) (place other_place : ℕ) → Gave (Some s) left first
+        → Gave (Some t) other_left second
+        → StreamMeans s ms → StreamMeans t ns
+        → Compares (Ok (verdict.Differ place other_place)) first second → ms ≡ ns → ⊥ }
+    ensures no_fault { (s t : List ℕ) (ms ns : List Message) (left other_left : Option (List ℕ))
+        (first second : Input) (which : Which) (f : StreamFault) → Gave (Some s) left first
+        → Gave (Some t) other_left second → StreamMeans s ms → StreamMeans t ns
+        → Compares (Err (fault.Stream which f)) first second → ⊥ }
+{}
