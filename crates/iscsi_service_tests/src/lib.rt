@@ -3,3 +3,4 @@
 
 #[cfg(test)]
 mod tests;
+pub mod uses;

@@ -1,0 +1,28 @@
+//! What another program does with `iscsi_service`.
+
+ghost use Rattle.std.specs.Prelude.{◌≡◌, ◌++◌, List, ℕ};
+ghost use Rattle.iscsi_login.specs.Negotiation.{IsInRange};
+ghost use Rattle.iscsi_service.specs.Session.{HasExecuted, Serves};
+
+use iscsi_service::{SessionFault, serve_stream};
+use iscsi_target::Config;
+use scsi_disk::BlockStore;
+use std::alloc::Global;
+
+/// Appends a target's answers to a stream that is there as a whole.
+pub fn answer_all<S: BlockStore>(
+    alloc: Global,
+    config: Config,
+    stream: &[u8],
+    store: &mut S,
+    answers: &mut Vec<u8>,
+) -> Result<(), SessionFault>
+    ensures serves { (read : List ℕ) × (written : List ℕ)
+        × (answers.new.items ≡ answers.old.items ++ written)
+        × (IsInRange config.preferences → S.failures store.new ≡ S.failures store.old
+        → Serves config (S.disk store.old) result read (S.disk store.new) written) }
+    ensures blocks { HasExecuted (S.disk store.old) (S.disk store.new) }
+{
+    let mut rest = stream;
+    serve_stream(alloc, config, store, &mut rest, answers)
+}
