@@ -1,10 +1,9 @@
 -- The record of a block is the one that it means.
-use Rattle.std.proofs.Common.{◌≡◌, refl, ap, sym, ◌∙◌, subst, Bool, true, false, List, ℕ, Some, length, arith}
+use Rattle.std.proofs.Common.{◌≡◌, refl, ap, sym, ◌∙◌, subst, Bool, true, false, List, ℕ, Some, length}
 use Rattle.std.specs.Prelude.{if◌then◌else◌, ◌&&◌, ◌||◌, ◌==◌}
 use Rattle.std.proofs.lemmas.Bool.{eqb-true, eqb-false, ne_eqb, and_parts}
-use Rattle.std.proofs.lemmas.List.{take_all}
 use Rattle.scsi_cdb.specs.declared.cdb.Cdb.{Cdb}
-use Rattle.scsi_cdb.specs.Layout.{number_at, bits_at, part}
+use Rattle.scsi_cdb.specs.Layout.{number_at, bits_at}
 use Rattle.scsi_cdb.specs.Blocks.{IsRecord, is_listed}
 use Rattle.iscsi_initiator.specs.Block.{record_of, record_by}
 use Rattle.scsi_cdb.proofs.RecordLemmas.{part-whole}

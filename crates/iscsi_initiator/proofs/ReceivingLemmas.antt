@@ -2,14 +2,14 @@
 use Rattle.std.proofs.Common.{◌≡◌, inl, inr, ◌∙◌, ℕ, List, [], ◌∷◌, ◌++◌, Bool, true, false, length, take, drop, Option, Some, None, true≢false, refl, sym, ap}
 use Rattle.std.proofs.Common.{subst, arith, append-nil, append_assoc}
 use Rattle.std.specs.Prelude.{if◌then◌else◌, Result, Ok, Err}
-use Rattle.std.proofs.lemmas.List.{length-append, take-append-drop, take_at, drop_at}
+use Rattle.std.proofs.lemmas.List.{length-append, take_at, drop_at}
 use Rattle.std.proofs.lemmas.List.Concat.{flat_map-append}
 use Rattle.iscsi_stream.specs.declared.fault.StreamFault.{StreamFault}
 use Rattle.iscsi_stream.specs.declared.fault.StreamFault.TheVariants as stream
 use Rattle.iscsi_stream.specs.Stream.{Message}
 use Rattle.iscsi_stream.specs.Canonical.{canon, canonical_bytes}
 use Rattle.iscsi_stream.specs.Framing.{Framing, Takes, Moves, FeedFails, is_ready, given_up, message_of}
-use Rattle.iscsi_stream.proofs.TakingLemmas.{moves_none, moves_fed, moves_gave, moves_then, taken_more, moves_taken}
+use Rattle.iscsi_stream.proofs.TakingLemmas.{moves_none, moves_gave, moves_then, taken_more, moves_taken}
 use Rattle.iscsi_stream.proofs.PassingLemmas.{unready_after}
 use Rattle.iscsi_login.specs.declared.phase.Phase.{Phase}
 use Rattle.iscsi_login.specs.declared.phase.Phase.TheVariants as phases

@@ -1,13 +1,12 @@
 -- Sequences of Data-Out PDUs tile their bytes.
-use Rattle.std.proofs.Common.{◌≡◌, refl, ap, sym, ◌∙◌, subst, List, [], ◌∷◌, ◌++◌, ℕ, zero, suc, ◌+◌, ◌<◌, ◌≤◌, Option, length, take, drop, arith}
-use Rattle.std.proofs.Common.{take-append-drop, add_assoc, length-append}
-use Rattle.std.proofs.lemmas.List.{length-drop}
+use Rattle.std.proofs.Common.{◌≡◌, refl, ap, sym, ◌∙◌, subst, List, [], ◌∷◌, ◌++◌, ℕ, ◌+◌, ◌<◌, Option, length, arith}
+use Rattle.std.proofs.Common.{add_assoc, length-append}
 use Rattle.iscsi_pdu.specs.declared.head.data_out.DataOut.{DataOut}
 use Rattle.iscsi_stream.specs.Segment.{segment_bytes}
 use Rattle.iscsi_initiator.specs.State.{Machine}
 use Rattle.iscsi_pdu.specs.Serial.{next_sn}
 use Rattle.iscsi_initiator.specs.Full.{data_outs, sequence}
-use Rattle.iscsi_stream.specs.Pieces.{chunks_within, chunks, TilesFrom, data_pieces, data_of}
+use Rattle.iscsi_stream.specs.Pieces.{chunks, TilesFrom, data_pieces, data_of}
 use Rattle.iscsi_initiator.specs.Laws.{IsSequence}
 use Rattle.iscsi_stream.proofs.ChunkLemmas.{joined, joined_chunks}
 

@@ -1,5 +1,5 @@
 -- A sequence of Data-Out PDUs, one piece after another.
-use Rattle.std.proofs.Common.{◌≡◌, ◌<◌, ◌≤◌, ℕ, ◌+◌, ◌^◌, zero, suc, List, [], ◌∷◌, ◌++◌, length, take, drop, Bool, true, false, refl, sym, ap, ◌∙◌}
+use Rattle.std.proofs.Common.{◌≡◌, ◌<◌, ◌≤◌, ℕ, ◌+◌, ◌^◌, suc, List, [], ◌∷◌, ◌++◌, length, take, drop, Bool, true, false, refl, sym, ap, ◌∙◌}
 use Rattle.std.proofs.Common.{append_assoc, arith}
 use Rattle.std.specs.Prelude.{◌==◌}
 use Rattle.std.proofs.lemmas.List.{length-take, length-append, take-append-le, take-append-drop}
@@ -11,7 +11,7 @@ use Rattle.iscsi_stream.specs.Segment.{segment_bytes}
 use Rattle.iscsi_stream.specs.Canonical.{canon}
 use Rattle.iscsi_pdu.specs.Serial.{next_sn}
 use Rattle.iscsi_initiator.specs.Full.{data_outs, is_last}
-use Rattle.iscsi_stream.specs.Pieces.{chunks_within, chunks}
+use Rattle.iscsi_stream.specs.Pieces.{chunks}
 use Rattle.iscsi_stream.proofs.ChunkLemmas.{chunks_step}
 
 -- what is written of the sequence, and what is left to write

@@ -1,5 +1,5 @@
 -- The initiator in full feature phase (RFC 7143, sections 4.2 and 11).
-use Rattle.std.specs.Prelude.{ℕ, Bool, true, false, not, ◌+◌, ◌*◌, ◌==◌, ◌&&◌, nat_le, nat_lt, if◌then◌else◌, List, [], ◌∷◌, ◌++◌, length, take, drop, zero, suc, Option, Some, None, unwrap_or}
+use Rattle.std.specs.Prelude.{ℕ, Bool, true, false, not, ◌+◌, ◌*◌, ◌==◌, ◌&&◌, nat_le, nat_lt, if◌then◌else◌, List, [], ◌∷◌, ◌++◌, length, take, drop, Option, Some, None, unwrap_or}
 use Rattle.std.specs.Bool.{then_some}
 use Rattle.scsi_cdb.specs.declared.residual.Residual.{Residual}
 use Rattle.scsi_cdb.specs.declared.residual.Residual.TheVariants.{Exact, Under, Over}
@@ -20,8 +20,7 @@ use Rattle.iscsi_pdu.specs.Fields.{is_tag, reserved_tag}
 use Rattle.iscsi_pdu.specs.Serial.{moved, next_sn}
 use Rattle.iscsi_stream.specs.Segment.{Bytes}
 use Rattle.iscsi_stream.specs.Stream.{Message}
-use Rattle.iscsi_login.specs.declared.key.NegKey.TheVariants.{MaxBurstLength}
-use Rattle.iscsi_login.specs.Held.{held_value, number_of, max_burst}
+use Rattle.iscsi_login.specs.Held.{max_burst}
 use Rattle.iscsi_initiator.specs.declared.request.Done.{Done}
 use Rattle.iscsi_initiator.specs.declared.request.Done.TheVariants as done
 use Rattle.iscsi_initiator.specs.declared.outstanding.Outstanding.{Outstanding}

@@ -1,5 +1,5 @@
 -- What the functions of a session and of its stream see (RFC 7143, section 4).
-use Rattle.std.specs.Prelude.{◌≡◌, ◌≢◌, ◌⊎◌, ℕ, Bool, true, false, not, nat_lt, length, take, if◌then◌else◌, List, [], ◌++◌, Option, None, Some, Result, Err}
+use Rattle.std.specs.Prelude.{◌≡◌, ◌≢◌, ◌⊎◌, ℕ, Bool, true, false, not, nat_lt, length, take, if◌then◌else◌, List, [], ◌++◌, Option, None, Some, Result, Err, IfOk, OnOk, OnErr}
 use Rattle.iscsi_pdu.specs.Serial.{moved}
 use Rattle.iscsi_pdu.specs.declared.head.data_out.DataOut.{DataOut}
 use Rattle.iscsi_pdu.specs.declared.head.data_in.DataIn.{DataIn}
@@ -34,6 +34,27 @@ pub record Did (stepped : Stepped) (fault : Option InitiatorFault) (new : Machin
 -- What a message counts before it is answered is rolled back.
 abbrev pub rolled_back : Machine → Machine → Machine
 rolled_back old new = record new { exp_stat_sn = old.exp_stat_sn; window = old.window }
+
+-- What was done with a message: the step was taken; without memory all is as it was.
+pub record Handles {E : Type 0} (stepped : Stepped) (result : Result (Option InitiatorFault) E)
+    (old new : Machine) (before after : List ℕ) : Type 0 where
+  pub ok : IfOk result (λ fault. Did stepped fault new before after)
+  pub err : OnErr result (new ≡ old)
+  pub unwritten : OnErr result (after ≡ before)
+
+-- The same, but without memory the message's numbers may be counted.
+pub record Counts {E : Type 0} (stepped : Stepped) (result : Result (Option InitiatorFault) E)
+    (old new : Machine) (before after : List ℕ) : Type 0 where
+  pub ok : IfOk result (λ fault. Did stepped fault new before after)
+  pub err : OnErr result (rolled_back old new ≡ old)
+  pub unwritten : OnErr result (after ≡ before)
+
+-- A step that leads to no fault was taken; without memory all is as it was.
+pub record Sends {E : Type 0} (stepped : Stepped) (result : Result (Unit {0}) E)
+    (old new : Machine) (before after : List ℕ) : Type 0 where
+  pub ok : OnOk result (Did stepped None new before after)
+  pub err : OnErr result (new ≡ old)
+  pub unwritten : OnErr result (after ≡ before)
 
 -- The rule that a message breaks that is due, by the length of its segment and the StatSN that has
 -- to be the expected one (sections 4.2.2.2 and 13.12).

@@ -1,5 +1,5 @@
 -- The state of an initiator's session between two messages (RFC 7143, sections 4 and 6).
-use Rattle.std.specs.Prelude.{ℕ, Bool, true, false, List, [], ◌+◌, ◌^◌, ◌%◌, ◌==◌, if◌then◌else◌, Option, None, unwrap_or}
+use Rattle.std.specs.Prelude.{ℕ, Bool, false, List, [], ◌+◌, ◌==◌, if◌then◌else◌, Option, None, unwrap_or}
 use Rattle.iscsi_pdu.specs.declared.serial.Serial.{Serial}
 use Rattle.iscsi_pdu.specs.declared.serial.Window.{Window}
 use Rattle.iscsi_pdu.specs.Serial.{one_before}

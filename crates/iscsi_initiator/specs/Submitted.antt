@@ -1,20 +1,17 @@
 -- A request is handed in (RFC 7143, sections 4.2 and 11.3).
-use Rattle.std.specs.Prelude.{ℕ, Bool, true, false, not, ◌+◌, ◌^◌, ◌==◌, ◌&&◌, ◌||◌, nat_le, nat_lt, if◌then◌else◌, List, [], ◌∷◌, length, take, drop, min, Option, Some, None, is_some}
+use Rattle.std.specs.Prelude.{ℕ, Bool, true, false, not, ◌+◌, ◌==◌, ◌&&◌, ◌||◌, nat_lt, if◌then◌else◌, List, [], ◌∷◌, length, take, drop, min, Option, Some, None, is_some}
 use Rattle.iscsi_pdu.specs.declared.head.Head.TheVariants as heads
 use Rattle.iscsi_pdu.specs.declared.head.scsi_command.ScsiCommand.{ScsiCommand}
 use Rattle.iscsi_pdu.specs.declared.head.nop_out.NopOut.{NopOut}
 use Rattle.iscsi_pdu.specs.declared.head.text_request.TextRequest.{TextRequest}
 use Rattle.iscsi_pdu.specs.declared.head.logout_request.LogoutRequest.{LogoutRequest}
-use Rattle.iscsi_pdu.specs.declared.serial.Window.{Window}
-use Rattle.iscsi_pdu.specs.Serial.{distance, next_sn, is_within}
+use Rattle.iscsi_pdu.specs.Serial.{next_sn, is_within}
 use Rattle.iscsi_stream.specs.Segment.{Bytes}
 use Rattle.iscsi_stream.specs.Stream.{Message}
 use Rattle.iscsi_login.specs.declared.key.NegKey.TheVariants.{InitialR2T, ImmediateData}
-use Rattle.iscsi_login.specs.declared.preferences.Answered.{Answered}
-use Rattle.iscsi_login.specs.declared.preferences.Answered.TheVariants.{Flag}
 use Rattle.iscsi_login.specs.declared.phase.Phase.{Phase}
 use Rattle.iscsi_login.specs.declared.phase.Phase.TheVariants as phases
-use Rattle.iscsi_login.specs.Held.{held_value, first_burst, is_on, unasked}
+use Rattle.iscsi_login.specs.Held.{is_on, unasked}
 use Rattle.iscsi_initiator.specs.declared.request.Request.{Request}
 use Rattle.iscsi_initiator.specs.declared.request.Request.TheVariants.{In, Out, Ping, Text, Logout}
 use Rattle.iscsi_initiator.specs.declared.request.SubmitFault.{SubmitFault}

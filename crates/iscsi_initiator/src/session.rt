@@ -1,13 +1,13 @@
 //! A session between two messages.
 
-ghost use Rattle.std.specs.Prelude.{◌≡◌, Some, IfOk, OnErr};
+ghost use Rattle.std.specs.Prelude.{◌≡◌, Some};
 ghost use Rattle.iscsi_pdu.specs.Meaning.{Fits};
 ghost use Rattle.iscsi_stream.specs.Stream.{message};
 ghost use Rattle.iscsi_initiator.specs.declared.fault.InitiatorFault.TheVariants.{Protocol};
 ghost use Rattle.iscsi_initiator.specs.State.{opening, is_closed, sent_exp_stat_sn};
 ghost use Rattle.iscsi_initiator.specs.Steps.{closed};
 ghost use Rattle.iscsi_initiator.specs.Machine.{step, taken};
-ghost use Rattle.iscsi_initiator.specs.Inside.{Did};
+ghost use Rattle.iscsi_initiator.specs.Inside.{Handles};
 
 mod full;
 mod login;
@@ -140,11 +140,8 @@ impl Session {
         out: &mut Vec<u8>,
     ) -> Result<Option<InitiatorFault>, AllocError>
         requires fits { Fits pdu.now.head }
-        ensures ok { IfOk result (λ fault. Did
-            (step self.old (message continued pdu.now.head pdu.now.bytes.now)) fault
-            self.new out.old.items out.new.items) }
-        ensures err { OnErr result (self.new ≡ self.old) }
-        ensures unwritten { OnErr result (out.new.items ≡ out.old.items) }
+        ensures { Handles (step self.old (message continued pdu.now.head pdu.now.bytes.now))
+            result self.old self.new out.old.items out.new.items }
     {
         match self.phase {
             Phase::Login if !self.started => Ok(self.protocol_error(KIND_NOT_DUE)),

@@ -1,10 +1,10 @@
 //! Full feature phase (RFC 7143, sections 4.2 and 11).
 
-ghost use Rattle.std.specs.Prelude.{◌≡◌, ℕ, List, Some, OnErr, IfOk};
+ghost use Rattle.std.specs.Prelude.{◌≡◌, Some};
 ghost use Rattle.iscsi_pdu.specs.Meaning.{Fits};
 ghost use Rattle.iscsi_pdu.specs.declared.head.Head.TheVariants as heads;
 ghost use Rattle.iscsi_initiator.specs.Full.{UnsolicitedNopIn, Async, RejectPdu, tag_of, answer_due, nop_answer, takes, full_step};
-ghost use Rattle.iscsi_initiator.specs.Inside.{Did, rolled_back, broken_rule, update_counters_by};
+ghost use Rattle.iscsi_initiator.specs.Inside.{Handles, Counts, broken_rule, update_counters_by};
 
 use super::Session;
 use crate::fault::InitiatorFault;
@@ -21,10 +21,8 @@ impl Session {
         out: &mut Vec<u8>,
     ) -> Result<Option<InitiatorFault>, AllocError>
         requires fits { Fits pdu.now.head }
-        ensures ok { IfOk result (λ fault. Did (full_step self.old pdu.now.head pdu.now.bytes.now)
-            fault self.new out.old.items out.new.items) }
-        ensures err { OnErr result (self.new ≡ self.old) }
-        ensures unwritten { OnErr result (out.new.items ≡ out.old.items) }
+        ensures { Handles (full_step self.old pdu.now.head pdu.now.bytes.now)
+            result self.old self.new out.old.items out.new.items }
     {
         let (exp_stat_sn, window) = (self.exp_stat_sn, self.window);
         let result = self.on_message(&pdu.head, pdu.bytes, out);
@@ -43,10 +41,8 @@ impl Session {
         out: &mut Vec<u8>,
     ) -> Result<Option<InitiatorFault>, AllocError>
         requires fits { Fits head.now }
-        ensures ok { IfOk result (λ fault. Did (full_step self.old head.now bytes.now)
-            fault self.new out.old.items out.new.items) }
-        ensures err { OnErr result (rolled_back self.old self.new ≡ self.old) }
-        ensures unwritten { OnErr result (out.new.items ≡ out.old.items) }
+        ensures { Counts (full_step self.old head.now bytes.now)
+            result self.old self.new out.old.items out.new.items }
     {
         match head {
             Head::NopIn(head) if head.initiator_task_tag == RESERVED_TAG => self.on_nop_in(
@@ -80,10 +76,8 @@ impl Session {
         out: &mut Vec<u8>,
     ) -> Result<Option<InitiatorFault>, AllocError>
         requires fits { Fits head.now }
-        ensures ok { IfOk result (λ fault. Did (takes (answer_due self.old head.now) self.old
-            bytes.now) fault self.new out.old.items out.new.items) }
-        ensures err { OnErr result (rolled_back self.old self.new ≡ self.old) }
-        ensures unwritten { OnErr result (out.new.items ≡ out.old.items) }
+        ensures { Counts (takes (answer_due self.old head.now) self.old bytes.now)
+            result self.old self.new out.old.items out.new.items }
     {
         if tag_of(head) == self.initiator_task_tag {
             self.on_answer(head, bytes, out)
@@ -101,11 +95,8 @@ impl Session {
         out: &mut Vec<u8>,
     ) -> Result<Option<InitiatorFault>, AllocError>
         requires fits { Fits (heads.NopIn head.now) }
-        ensures ok { IfOk result (λ fault. Did
-            (takes (Some (UnsolicitedNopIn head.now)) self.old bytes.now)
-            fault self.new out.old.items out.new.items) }
-        ensures err { OnErr result (rolled_back self.old self.new ≡ self.old) }
-        ensures unwritten { OnErr result (out.new.items ≡ out.old.items) }
+        ensures { Counts (takes (Some (UnsolicitedNopIn head.now)) self.old bytes.now)
+            result self.old self.new out.old.items out.new.items }
     {
         if let Some(rule) = self.broken_rule(bytes.len(), None) {
             return Ok(self.protocol_error(rule));
@@ -142,10 +133,8 @@ impl Session {
         bytes: &[u8],
         out: &mut Vec<u8>,
     ) -> Result<Option<InitiatorFault>, AllocError>
-        ensures ok { IfOk result (λ fault. Did (takes (Some (Async head.now)) self.old bytes.now)
-            fault self.new out.old.items out.new.items) }
-        ensures err { OnErr result (rolled_back self.old self.new ≡ self.old) }
-        ensures unwritten { OnErr result (out.new.items ≡ out.old.items) }
+        ensures { Counts (takes (Some (Async head.now)) self.old bytes.now)
+            result self.old self.new out.old.items out.new.items }
     {
         if let Some(rule) = self.broken_rule(bytes.len(), Some(head.stat_sn)) {
             return Ok(self.protocol_error(rule));
@@ -162,11 +151,8 @@ impl Session {
         bytes: &[u8],
         out: &mut Vec<u8>,
     ) -> Result<Option<InitiatorFault>, AllocError>
-        ensures ok { IfOk result (λ fault. Did
-            (takes (Some (RejectPdu head.now)) self.old bytes.now)
-            fault self.new out.old.items out.new.items) }
-        ensures err { OnErr result (rolled_back self.old self.new ≡ self.old) }
-        ensures unwritten { OnErr result (out.new.items ≡ out.old.items) }
+        ensures { Counts (takes (Some (RejectPdu head.now)) self.old bytes.now)
+            result self.old self.new out.old.items out.new.items }
     {
         if let Some(rule) = self.broken_rule(bytes.len(), Some(head.stat_sn)) {
             return Ok(self.protocol_error(rule));

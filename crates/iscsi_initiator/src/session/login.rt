@@ -8,7 +8,7 @@ ghost use Rattle.iscsi_pdu.specs.declared.head.Head.TheVariants as heads;
 ghost use Rattle.iscsi_stream.specs.Segment.{Text as Whole, segment_of, text_or_bytes};
 ghost use Rattle.iscsi_login.specs.Answer.{DeclaresWell, initiator_holds};
 ghost use Rattle.iscsi_initiator.specs.Login.{requested_stage, following_stage, login_request, fits_segment, sends_text, sends_more, is_expected, counted, begins_stage, text_answered, is_empty_segment, goes_on, moves_on, in_turn, answered, login_step, start_step};
-ghost use Rattle.iscsi_initiator.specs.Inside.{Did, rolled_back};
+ghost use Rattle.iscsi_initiator.specs.Inside.{Handles, Sends};
 
 use super::Session;
 use crate::fault::InitiatorFault;
@@ -22,10 +22,8 @@ use std::alloc::AllocError;
 impl Session {
     /// Starts the login: its first text is sent, or a part of it. A second start breaks a rule.
     pub fn start(&mut self, out: &mut Vec<u8>) -> Result<Option<InitiatorFault>, AllocError>
-        ensures ok { IfOk result (λ fault. Did (start_step self.old) fault
-            self.new out.old.items out.new.items) }
-        ensures err { OnErr result (self.new ≡ self.old) }
-        ensures unwritten { OnErr result (out.new.items ≡ out.old.items) }
+        ensures { Handles (start_step self.old)
+            result self.old self.new out.old.items out.new.items }
     {
         if self.started {
             return Ok(self.protocol_error(KIND_NOT_DUE));
@@ -42,11 +40,9 @@ impl Session {
         continued: bool,
         out: &mut Vec<u8>,
     ) -> Result<Option<InitiatorFault>, AllocError>
-        ensures ok { IfOk result (λ fault. Did (login_step self.old pdu.now.head
-            (segment_of continued pdu.now.head pdu.now.bytes.now)) fault
-            self.new out.old.items out.new.items) }
-        ensures err { OnErr result (self.new ≡ self.old) }
-        ensures unwritten { OnErr result (out.new.items ≡ out.old.items) }
+        ensures { Handles (login_step self.old pdu.now.head
+            (segment_of continued pdu.now.head pdu.now.bytes.now))
+            result self.old self.new out.old.items out.new.items }
     {
         let Head::LoginResponse(response) = &pdu.head else {
             return Ok(self.protocol_error(KIND_NOT_DUE));
@@ -66,11 +62,9 @@ impl Session {
         bytes: &[u8],
         out: &mut Vec<u8>,
     ) -> Result<Option<InitiatorFault>, AllocError>
-        ensures ok { IfOk result (λ fault. Did (answered self.old response.now
-            (text_or_bytes (option_map (λ t. t.now) text.entry) bytes.now)) fault
-            self.new out.old.items out.new.items) }
-        ensures err { OnErr result (self.new ≡ self.old) }
-        ensures unwritten { OnErr result (out.new.items ≡ out.old.items) }
+        ensures { Handles (answered self.old response.now
+            (text_or_bytes (option_map (λ t. t.now) text.entry) bytes.now))
+            result self.old self.new out.old.items out.new.items }
     {
         if response.status_class != 0 {
             return Ok(self.fails(InitiatorFault::Refused(
@@ -97,11 +91,9 @@ impl Session {
         out: &mut Vec<u8>,
     ) -> Result<Option<InitiatorFault>, AllocError>
         requires { self.old.unsent_text ≢ [] }
-        ensures ok { IfOk result (λ fault. Did (in_turn self.old.unsent_text self.old response.now
-            (text_or_bytes (option_map (λ t. t.now) text.entry) bytes.now)) fault
-            self.new out.old.items out.new.items) }
-        ensures err { OnErr result (self.new ≡ self.old) }
-        ensures unwritten { OnErr result (out.new.items ≡ out.old.items) }
+        ensures { Handles (in_turn self.old.unsent_text self.old response.now
+            (text_or_bytes (option_map (λ t. t.now) text.entry) bytes.now))
+            result self.old self.new out.old.items out.new.items }
     {
         if !self.goes_on(response, text, bytes) {
             return Ok(self.protocol_error(LOGIN_OUT_OF_TURN));
@@ -124,12 +116,10 @@ impl Session {
         out: &mut Vec<u8>,
     ) -> Result<Option<InitiatorFault>, AllocError>
         requires { self.old.unsent_text ≡ [] }
-        ensures ok { IfOk result (λ fault. (bytes : List ℕ) → Did
+        ensures { (bytes : List ℕ) → Handles
             (in_turn self.old.unsent_text self.old response.now
-            (text_or_bytes (option_map (λ t. t.now) text.entry) bytes)) fault
-            self.new out.old.items out.new.items) }
-        ensures err { OnErr result (self.new ≡ self.old) }
-        ensures unwritten { OnErr result (out.new.items ≡ out.old.items) }
+            (text_or_bytes (option_map (λ t. t.now) text.entry) bytes))
+            result self.old self.new out.old.items out.new.items }
     {
         if !self.moves_on(response) {
             return Ok(self.protocol_error(LOGIN_OUT_OF_TURN));
@@ -147,10 +137,8 @@ impl Session {
         answer: &Text<'_>,
         out: &mut Vec<u8>,
     ) -> Result<Option<InitiatorFault>, AllocError>
-        ensures ok { IfOk result (λ fault. Did (text_answered self.old response.now
-            (Whole answer.now)) fault self.new out.old.items out.new.items) }
-        ensures err { OnErr result (self.new ≡ self.old) }
-        ensures unwritten { OnErr result (out.new.items ≡ out.old.items) }
+        ensures { Handles (text_answered self.old response.now (Whole answer.now))
+            result self.old self.new out.old.items out.new.items }
     {
         if let Some(key) = self.config.bad_key(self.stage, answer) {
             return Ok(self.fails(InitiatorFault::BadAnswer(key)));
@@ -178,10 +166,8 @@ impl Session {
 
     // The stage moves, and the next text is sent, if there is one.
     fn begin_stage(&mut self, stage: Stage, out: &mut Vec<u8>) -> Result<(), AllocError>
-        ensures ok { OnOk result (Did (begins_stage stage self.old) None
-            self.new out.old.items out.new.items) }
-        ensures err { OnErr result (self.new ≡ self.old) }
-        ensures unwritten { OnErr result (out.new.items ≡ out.old.items) }
+        ensures { Sends (begins_stage stage self.old)
+            result self.old self.new out.old.items out.new.items }
     {
         let before = self.stage;
         self.stage = stage;
@@ -241,10 +227,8 @@ impl Session {
     // The present text is sent whole, or its first segment is.
     #[tactic(auto, using(crate::proofs::LoginSendLemmas::sent_text))]
     fn send_text(&mut self, out: &mut Vec<u8>) -> Result<(), AllocError>
-        ensures ok { OnOk result (Did (sends_text self.old) None
-            self.new out.old.items out.new.items) }
-        ensures err { OnErr result (self.new ≡ self.old) }
-        ensures unwritten { OnErr result (out.new.items ≡ out.old.items) }
+        ensures { Sends (sends_text self.old)
+            result self.old self.new out.old.items out.new.items }
     {
         let mut text = Vec::new(*out.allocator());
         self.config.write_text(self.stage, &mut text)?;
@@ -257,10 +241,8 @@ impl Session {
     // The next segment of the present text is sent.
     #[tactic(auto, using(crate::proofs::LoginSendLemmas::sent_more))]
     fn send_more(&mut self, out: &mut Vec<u8>) -> Result<(), AllocError>
-        ensures ok { OnOk result (Did (sends_more self.old) None
-            self.new out.old.items out.new.items) }
-        ensures err { OnErr result (self.new ≡ self.old) }
-        ensures unwritten { OnErr result (out.new.items ≡ out.old.items) }
+        ensures { Sends (sends_more self.old)
+            result self.old self.new out.old.items out.new.items }
     {
         let len = self.write_segment(&self.unsent_text, out)?;
         drop_front(&mut self.unsent_text, len);

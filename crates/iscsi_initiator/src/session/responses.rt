@@ -1,7 +1,7 @@
 //! Responses to the outstanding request (RFC 7143, section 11). One file: a method for each kind of
 //! PDU that may answer, and what they all look at first.
 
-ghost use Rattle.std.specs.Prelude.{◌≡◌, ◌<◌, ◌^◌, false, ◌++◌, ◌==◌, not, ℕ, List, None, Some, OnErr, IfOk};
+ghost use Rattle.std.specs.Prelude.{◌≡◌, ◌<◌, ◌^◌, false, None, Some};
 ghost use Rattle.std.specs.Bool.{then_some};
 ghost use Rattle.std.specs.Option.{option_map};
 ghost use Rattle.iscsi_pdu.specs.Meaning.{Fits};
@@ -10,7 +10,7 @@ ghost use Rattle.iscsi_pdu.specs.declared.head.Head.TheVariants as heads;
 ghost use Rattle.iscsi_initiator.specs.State.{sent_exp_stat_sn};
 ghost use Rattle.iscsi_initiator.specs.Full.{due_to, takes, residual, sense_of, read_outcome, on_data, on_r2t};
 ghost use Rattle.iscsi_initiator.specs.declared.outstanding.Outstanding.TheVariants as opens;
-ghost use Rattle.iscsi_initiator.specs.Inside.{Did, rolled_back, with_outstanding, data_received, r2t_received, received_by};
+ghost use Rattle.iscsi_initiator.specs.Inside.{Handles, Counts, with_outstanding, data_received, r2t_received, received_by};
 
 use super::Session;
 use super::sequence::write_sequence;
@@ -35,11 +35,8 @@ impl Session {
         out: &mut Vec<u8>,
     ) -> Result<Option<InitiatorFault>, AllocError>
         requires fits { Fits head.now }
-        ensures ok { IfOk result (λ fault. Did
-            (takes (due_to self.old.outstanding head.now) self.old bytes.now)
-            fault self.new out.old.items out.new.items) }
-        ensures err { OnErr result (rolled_back self.old self.new ≡ self.old) }
-        ensures unwritten { OnErr result (out.new.items ≡ out.old.items) }
+        ensures { Counts (takes (due_to self.old.outstanding head.now) self.old bytes.now)
+            result self.old self.new out.old.items out.new.items }
     {
         match head {
             Head::NopIn(head) => self.on_pong(head, bytes, out),
@@ -70,11 +67,9 @@ impl Session {
         bytes: &[u8],
         out: &mut Vec<u8>,
     ) -> Result<Option<InitiatorFault>, AllocError>
-        ensures ok { IfOk result (λ fault. Did
-            (takes (due_to self.old.outstanding (heads.NopIn head.now)) self.old bytes.now)
-            fault self.new out.old.items out.new.items) }
-        ensures err { OnErr result (rolled_back self.old self.new ≡ self.old) }
-        ensures unwritten { OnErr result (out.new.items ≡ out.old.items) }
+        ensures { Counts (takes
+            (due_to self.old.outstanding (heads.NopIn head.now)) self.old bytes.now)
+            result self.old self.new out.old.items out.new.items }
     {
         let Some(Outstanding::Ping) = self.outstanding else {
             return Ok(self.protocol_error(KIND_NOT_DUE));
@@ -96,11 +91,9 @@ impl Session {
         bytes: &[u8],
         out: &mut Vec<u8>,
     ) -> Result<Option<InitiatorFault>, AllocError>
-        ensures ok { IfOk result (λ fault. Did
-            (takes (due_to self.old.outstanding (heads.DataIn head.now)) self.old bytes.now)
-            fault self.new out.old.items out.new.items) }
-        ensures err { OnErr result (rolled_back self.old self.new ≡ self.old) }
-        ensures unwritten { OnErr result (out.new.items ≡ out.old.items) }
+        ensures { Counts (takes
+            (due_to self.old.outstanding (heads.DataIn head.now)) self.old bytes.now)
+            result self.old self.new out.old.items out.new.items }
     {
         let Some(Outstanding::In(_)) = &self.outstanding else {
             return Ok(self.protocol_error(KIND_NOT_DUE));
@@ -119,11 +112,8 @@ impl Session {
         bytes: &[u8],
         out: &mut Vec<u8>,
     ) -> Result<Option<InitiatorFault>, AllocError>
-        ensures ok { IfOk result (λ fault. Did
-            (data_received self.old.outstanding self.old head.now bytes.now)
-            fault self.new out.old.items out.new.items) }
-        ensures err { OnErr result (self.new ≡ self.old) }
-        ensures unwritten { OnErr result (out.new.items ≡ out.old.items) }
+        ensures { Handles (data_received self.old.outstanding self.old head.now bytes.now)
+            result self.old self.new out.old.items out.new.items }
     {
         match self.outstanding.take() {
             Some(Outstanding::In(reading)) => self.receive_for(reading, head, bytes, out),
@@ -142,11 +132,10 @@ impl Session {
         bytes: &[u8],
         out: &mut Vec<u8>,
     ) -> Result<Option<InitiatorFault>, AllocError>
-        ensures ok { IfOk result (λ fault. Did
+        ensures { Handles
             (on_data (with_outstanding self.old (opens.In reading)) reading head.now bytes.now)
-            fault self.new out.old.items out.new.items) }
-        ensures err { OnErr result (self.new ≡ with_outstanding self.old (opens.In reading)) }
-        ensures unwritten { OnErr result (out.new.items ≡ out.old.items) }
+            result (with_outstanding self.old (opens.In reading)) self.new
+            out.old.items out.new.items }
     {
         if !reading.fits(head, bytes) {
             self.outstanding = Some(Outstanding::In(reading));
@@ -214,11 +203,9 @@ impl Session {
         bytes: &[u8],
         out: &mut Vec<u8>,
     ) -> Result<Option<InitiatorFault>, AllocError>
-        ensures ok { IfOk result (λ fault. Did
-            (takes (due_to self.old.outstanding (heads.ScsiResponse head.now)) self.old bytes.now)
-            fault self.new out.old.items out.new.items) }
-        ensures err { OnErr result (rolled_back self.old self.new ≡ self.old) }
-        ensures unwritten { OnErr result (out.new.items ≡ out.old.items) }
+        ensures { Counts (takes
+            (due_to self.old.outstanding (heads.ScsiResponse head.now)) self.old bytes.now)
+            result self.old self.new out.old.items out.new.items }
     {
         if !matches!(
             self.outstanding,
@@ -253,11 +240,9 @@ impl Session {
         bytes: &[u8],
         out: &mut Vec<u8>,
     ) -> Result<Option<InitiatorFault>, AllocError>
-        ensures ok { IfOk result (λ fault. Did
-            (takes (due_to self.old.outstanding (heads.ReadyToTransfer head.now)) self.old bytes.now)
-            fault self.new out.old.items out.new.items) }
-        ensures err { OnErr result (rolled_back self.old self.new ≡ self.old) }
-        ensures unwritten { OnErr result (out.new.items ≡ out.old.items) }
+        ensures { Counts (takes
+            (due_to self.old.outstanding (heads.ReadyToTransfer head.now)) self.old bytes.now)
+            result self.old self.new out.old.items out.new.items }
     {
         let Some(Outstanding::Out(_)) = &self.outstanding else {
             return Ok(self.protocol_error(KIND_NOT_DUE));
@@ -275,11 +260,8 @@ impl Session {
         head: &ReadyToTransfer,
         out: &mut Vec<u8>,
     ) -> Result<Option<InitiatorFault>, AllocError>
-        ensures ok { IfOk result (λ fault. Did
-            (r2t_received self.old.outstanding self.old head.now)
-            fault self.new out.old.items out.new.items) }
-        ensures err { OnErr result (self.new ≡ self.old) }
-        ensures unwritten { OnErr result (out.new.items ≡ out.old.items) }
+        ensures { Handles (r2t_received self.old.outstanding self.old head.now)
+            result self.old self.new out.old.items out.new.items }
     {
         match self.outstanding.take() {
             Some(Outstanding::Out(writing)) => self.answer_r2t_for(writing, head, out),
@@ -297,11 +279,9 @@ impl Session {
         head: &ReadyToTransfer,
         out: &mut Vec<u8>,
     ) -> Result<Option<InitiatorFault>, AllocError>
-        ensures ok { IfOk result (λ fault. Did
-            (on_r2t (with_outstanding self.old (opens.Out writing)) writing head.now)
-            fault self.new out.old.items out.new.items) }
-        ensures err { OnErr result (self.new ≡ with_outstanding self.old (opens.Out writing)) }
-        ensures unwritten { OnErr result (out.new.items ≡ out.old.items) }
+        ensures { Handles (on_r2t (with_outstanding self.old (opens.Out writing)) writing head.now)
+            result (with_outstanding self.old (opens.Out writing)) self.new
+            out.old.items out.new.items }
     {
         if !writing.fits(head, self.held.number(NegKey::MaxBurstLength)) {
             self.outstanding = Some(Outstanding::Out(writing));
@@ -360,11 +340,9 @@ impl Session {
         bytes: &[u8],
         out: &mut Vec<u8>,
     ) -> Result<Option<InitiatorFault>, AllocError>
-        ensures ok { IfOk result (λ fault. Did
-            (takes (due_to self.old.outstanding (heads.TextResponse head.now)) self.old bytes.now)
-            fault self.new out.old.items out.new.items) }
-        ensures err { OnErr result (rolled_back self.old self.new ≡ self.old) }
-        ensures unwritten { OnErr result (out.new.items ≡ out.old.items) }
+        ensures { Counts (takes
+            (due_to self.old.outstanding (heads.TextResponse head.now)) self.old bytes.now)
+            result self.old self.new out.old.items out.new.items }
     {
         let Some(Outstanding::Text) = self.outstanding else {
             return Ok(self.protocol_error(KIND_NOT_DUE));
@@ -389,11 +367,9 @@ impl Session {
         bytes: &[u8],
         out: &mut Vec<u8>,
     ) -> Result<Option<InitiatorFault>, AllocError>
-        ensures ok { IfOk result (λ fault. Did
-            (takes (due_to self.old.outstanding (heads.LogoutResponse head.now)) self.old bytes.now)
-            fault self.new out.old.items out.new.items) }
-        ensures err { OnErr result (self.new ≡ self.old) }
-        ensures unwritten { OnErr result (out.new.items ≡ out.old.items) }
+        ensures { Handles (takes
+            (due_to self.old.outstanding (heads.LogoutResponse head.now)) self.old bytes.now)
+            result self.old self.new out.old.items out.new.items }
     {
         let Some(Outstanding::Logout) = self.outstanding else {
             return Ok(self.protocol_error(KIND_NOT_DUE));
