@@ -78,7 +78,7 @@ abbrev pub following : Option Message → List Message → List Message
 following None behind = []
 following (Some m) behind = m ∷ behind
 
-follows : (s : List ℕ) (ms before : List Message) (x : Input) (next : Option Message) → Rest s x → StreamMeans s ms → GoesOn x before next → (behind : List Message) × (ms ≡ before ++ following next behind)
+pub follows : (s : List ℕ) (ms before : List Message) (x : Input) (next : Option Message) → Rest s x → StreamMeans s ms → GoesOn x before next → (behind : List Message) × (ms ≡ before ++ following next behind)
 follows s ms before x None a p goes =
     ([], one_meaning longest_segment no_login s ms before p (subst (λ (z : List ℕ). StreamMeans z before) (sym (all_read s x a goes.1)) goes.0) ∙ sym (append-nil before))
 follows s ms before x (Some m) a p goes =
@@ -103,7 +103,7 @@ other_wholes s t ms ns x y place other_place a b p q part e =
 nothing_behind : (s given rest : List ℕ) (ms ns : List Message) → StreamMeans s ns → Splits longest_segment s ms given rest → length rest ≡ 0
 nothing_behind s given rest ms ns means splits = ap length (all_given s given rest ms ns means splits)
 
-refused_whole : (f : StreamFault) (s : List ℕ) (ns ms : List Message) (x : Input) → Rest s x → StreamMeans s ns → IsRefused f x ms → ⊥
+pub refused_whole : (f : StreamFault) (s : List ℕ) (ns ms : List Message) (x : Input) → Rest s x → StreamMeans s ns → IsRefused f x ms → ⊥
 refused_whole stream.NoMemory s ns ms x a means r = absurd r.3
 refused_whole (stream.Head f place) s ns ms x a means r =
     let on = splits_more longest_segment x.read a.more ms r.0 r.1 f r.2 r.3.0 r.3.1 in
