@@ -9,7 +9,8 @@ It looks at:
 - Rust between fences: it stands so in a file of crates/;
 - each row of docs/THEOREMS.md: the call stands in a file of its row, and a call of the row has each clause;
 - the tables of docs/FORMATS.md: the fields of each kind of PDU against specs/Fields.antt, specs/Meaning.antt and the
-  words of `show`; the text keys against both specs/Key.antt;
+  words of `show`; the text keys against both specs/Key.antt; the copy of the page that crates/format_tables holds
+  against the code in the gate (rt ci takes no link in the place of a file);
 - the figures of docs/TRUST.md: they are those that tools/reach counts;
 - wrong bodies, in the gate and beside it: each old text stands in its file once.
 
@@ -183,6 +184,11 @@ def camel(kind):
     return "".join(word.capitalize() for word in kind.split("_"))
 
 
+def check_copy():
+    copy = "crates/format_tables/data/FORMATS.md"
+    look(read(copy) == read("docs/FORMATS.md"), "docs/FORMATS.md", f"{copy} is another page: copy it there")
+
+
 def check_kinds():
     fields, meaning = read("crates/iscsi_pdu/specs/Fields.antt"), read("crates/iscsi_pdu/specs/Meaning.antt")
     show = read("crates/iscsi_stream/src/lines/fields.rt")
@@ -261,6 +267,7 @@ def main():
         check_page(page)
     check_snippets(pages)
     check_claims()
+    check_copy()
     check_kinds()
     check_keys()
     check_figures()

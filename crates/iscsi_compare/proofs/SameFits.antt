@@ -2,7 +2,9 @@
 use Rattle.std.proofs.Common.{◌≡◌, ℕ, refl}
 use Rattle.std.specs.Prelude.{Option, Some, None, is_some, option_map}
 use Rattle.iscsi_pdu.specs.declared.head.Head.{Head}
-use Rattle.iscsi_pdu.specs.declared.head.Head.TheVariants.{NopOut, ScsiCommand, TaskRequest, LoginRequest, TextRequest, DataOut, LogoutRequest, NopIn, ScsiResponse, TaskResponse, LoginResponse, TextResponse, DataIn, LogoutResponse, ReadyToTransfer, AsyncMessage, Reject}
+use Rattle.iscsi_pdu.specs.declared.head.Head.TheVariants.{NopOut, ScsiCommand, TaskRequest, LoginRequest, TextRequest, DataOut, LogoutRequest, NopIn}
+use Rattle.iscsi_pdu.specs.declared.head.Head.TheVariants.{ScsiResponse, TaskResponse, LoginResponse, TextResponse, DataIn, LogoutResponse, ReadyToTransfer}
+use Rattle.iscsi_pdu.specs.declared.head.Head.TheVariants.{AsyncMessage, Reject}
 use Rattle.iscsi_pdu.specs.Fields.{reserved_tag, is_tag}
 use Rattle.iscsi_pdu.specs.Meaning.{Fits}
 use Rattle.iscsi_compare.specs.SameJob.{Renumbering, shifted, renumbered}
@@ -29,7 +31,10 @@ fits_renumbered r (ScsiResponse h) fits = record { filled = fits.filled; block =
 fits_renumbered r (TaskResponse h) fits = record { filled = fits.filled; block = fits.block }
 fits_renumbered r (LoginResponse h) fits = record { filled = rw (is_some_mapped (shifted r.statuses) h.stat_sn) fits.filled; block = fits.block }
 fits_renumbered r (TextResponse h) fits = record { filled = rw (same_transfer r h.target_transfer_tag) fits.filled; block = fits.block }
-fits_renumbered r (DataIn h) fits = record { filled = rw (same_transfer r h.target_transfer_tag, is_some_mapped (shifted r.statuses) h.stat_sn) fits.filled; block = fits.block }
+fits_renumbered r (DataIn h) fits = record {
+  filled = rw (same_transfer r h.target_transfer_tag, is_some_mapped (shifted r.statuses) h.stat_sn) fits.filled;
+  block = fits.block;
+}
 fits_renumbered r (LogoutResponse h) fits = record { filled = fits.filled; block = fits.block }
 fits_renumbered r (ReadyToTransfer h) fits = record { filled = fits.filled; block = fits.block }
 fits_renumbered r (AsyncMessage h) fits = record { filled = fits.filled; block = fits.block }

@@ -2,7 +2,9 @@
 use Rattle.std.proofs.Common.{◌≡◌, ℕ, ◌+◌, Bool, true, false, List, refl, sym, ap, ◌∙◌}
 use Rattle.std.specs.Prelude.{Option, option_map, if◌then◌else◌}
 use Rattle.iscsi_pdu.specs.declared.head.Head.{Head}
-use Rattle.iscsi_pdu.specs.declared.head.Head.TheVariants.{NopOut, ScsiCommand, TaskRequest, LoginRequest, TextRequest, DataOut, LogoutRequest, NopIn, ScsiResponse, TaskResponse, LoginResponse, TextResponse, DataIn, LogoutResponse, ReadyToTransfer, AsyncMessage, Reject}
+use Rattle.iscsi_pdu.specs.declared.head.Head.TheVariants.{NopOut, ScsiCommand, TaskRequest, LoginRequest, TextRequest, DataOut, LogoutRequest, NopIn}
+use Rattle.iscsi_pdu.specs.declared.head.Head.TheVariants.{ScsiResponse, TaskResponse, LoginResponse, TextResponse, DataIn, LogoutResponse, ReadyToTransfer}
+use Rattle.iscsi_pdu.specs.declared.head.Head.TheVariants.{AsyncMessage, Reject}
 use Rattle.iscsi_pdu.specs.Fields.{reserved_tag, is_tag}
 use Rattle.iscsi_compare.specs.declared.same_job.numbers.Numbers.{Numbers}
 use Rattle.iscsi_compare.specs.SameJob.{Renumbering, shifted, renumbered}
@@ -136,7 +138,8 @@ both r q = record {
 }
 
 -- the numbers of a head, from each of them
-pub same_numbers : (m n : Numbers) → m.task ≡ n.task → m.referenced_task ≡ n.referenced_task → m.transfer ≡ n.transfer → m.isid ≡ n.isid → m.tsih ≡ n.tsih → m.command ≡ n.command
+pub same_numbers : (m n : Numbers) → m.task ≡ n.task → m.referenced_task ≡ n.referenced_task → m.transfer ≡ n.transfer → m.isid ≡ n.isid → m.tsih ≡ n.tsih →
+    m.command ≡ n.command
     → m.last_command ≡ n.last_command → m.referenced_command ≡ n.referenced_command → m.status ≡ n.status → m ≡ n
 same_numbers m n a b c d e f g h i = let same : ◌≡◌ {A = Numbers} (record m { task = m.task }) (record n { task = n.task }) = cc in same
 
@@ -148,14 +151,17 @@ referenced_back : (b c : Bool) (s n : ℕ) → c ≡ b → (if c then shifted (s
 referenced_back true c s n e = rw e (shifted_back s n)
 referenced_back false c s n e = rw e refl
 
-referenced_both : (b c : Bool) (s t n : ℕ) → c ≡ b → (if c then shifted t (if b then shifted s n else n) else (if b then shifted s n else n)) ≡ (if b then shifted (s + t) n else n)
+referenced_both : (b c : Bool) (s t n : ℕ) → c ≡ b → (if c then shifted t (if b then shifted s n else n) else (if b then shifted s n else n))
+    ≡ (if b then shifted (s + t) n else n)
 referenced_both true c s t n e = rw e (shifted_twice s t n)
 referenced_both false c s t n e = rw e refl
 
 pub renamed_nothing : (n : Numbers) → renamed nothing n ≡ n
 unfolding renamed
-renamed_nothing n = same_numbers (renamed nothing n) n refl refl refl (mapped_same (λ x. x) (λ x. refl) n.isid) refl (mapped_same (shifted 0) shifted_none n.command)
-    (mapped_same (shifted 0) shifted_none n.last_command) (referenced_none (is_tag n.referenced_task) n.referenced_command) (mapped_same (shifted 0) shifted_none n.status)
+renamed_nothing n = same_numbers (renamed nothing n) n refl refl refl (mapped_same (λ x. x) (λ x. refl) n.isid) refl
+    (mapped_same (shifted 0) shifted_none n.command)
+    (mapped_same (shifted 0) shifted_none n.last_command) (referenced_none (is_tag n.referenced_task) n.referenced_command)
+    (mapped_same (shifted 0) shifted_none n.status)
 
 back_and : {A : Type 0} (f g : A → A) → ((x : A) → g (f x) ≡ x) → (o : Option A) → option_map g (option_map f o) ≡ o
 back_and f g e o = mapped_twice f g (λ x. x) e o ∙ mapped_same (λ x. x) (λ x. refl) o
@@ -166,7 +172,8 @@ renamed_back r n = same_numbers (renamed (inverse r) (renamed r n)) n (r.tasks.t
     (back_and r.isids.to r.isids.back r.isids.there n.isid) (r.tsihs.there n.tsih)
     (back_and (shifted r.commands) (shifted (steps_back r.commands)) (shifted_back r.commands) n.command)
     (back_and (shifted r.commands) (shifted (steps_back r.commands)) (shifted_back r.commands) n.last_command)
-    (referenced_back (is_tag n.referenced_task) (is_tag (r.tasks.to n.referenced_task)) r.commands n.referenced_command (same_tag r.tasks reserved_tag n.referenced_task r.no_task))
+    (referenced_back (is_tag n.referenced_task) (is_tag (r.tasks.to n.referenced_task)) r.commands n.referenced_command
+    (same_tag r.tasks reserved_tag n.referenced_task r.no_task))
     (back_and (shifted r.statuses) (shifted (steps_back r.statuses)) (shifted_back r.statuses) n.status)
 
 pub renamed_both : (r q : Renumbering) (n : Numbers) → renamed q (renamed r n) ≡ renamed (both r q) n
@@ -175,7 +182,8 @@ renamed_both r q n = same_numbers (renamed q (renamed r n)) (renamed (both r q) 
     (mapped_twice r.isids.to q.isids.to (λ x. q.isids.to (r.isids.to x)) (λ x. refl) n.isid) refl
     (mapped_twice (shifted r.commands) (shifted q.commands) (shifted (r.commands + q.commands)) (shifted_twice r.commands q.commands) n.command)
     (mapped_twice (shifted r.commands) (shifted q.commands) (shifted (r.commands + q.commands)) (shifted_twice r.commands q.commands) n.last_command)
-    (referenced_both (is_tag n.referenced_task) (is_tag (r.tasks.to n.referenced_task)) r.commands q.commands n.referenced_command (same_tag r.tasks reserved_tag n.referenced_task r.no_task))
+    (referenced_both (is_tag n.referenced_task) (is_tag (r.tasks.to n.referenced_task)) r.commands q.commands n.referenced_command
+    (same_tag r.tasks reserved_tag n.referenced_task r.no_task))
     (mapped_twice (shifted r.statuses) (shifted q.statuses) (shifted (r.statuses + q.statuses)) (shifted_twice r.statuses q.statuses) n.status)
 
 -- ---- heads
@@ -189,7 +197,8 @@ head_back r h =
     ∙ ap (with_numbers (renumbered r h)) (renamed_back r (numbers h)) ∙ with_back r h
 
 -- the numbers of a third run fill the other run's head as they fill the first's
-with_third : (r q : Renumbering) (h : Head) → with_numbers (renumbered r h) (renamed q (renamed r (numbers h))) ≡ with_numbers h (renamed q (renamed r (numbers h)))
+with_third : (r q : Renumbering) (h : Head) → with_numbers (renumbered r h) (renamed q (renamed r (numbers h)))
+    ≡ with_numbers h (renamed q (renamed r (numbers h)))
 unfolding renumbered numbers with_numbers renamed
 with_third r q (NopOut h) = refl
 with_third r q (ScsiCommand h) = refl

@@ -17,14 +17,17 @@ all_nothing (m ∷ ms) = let first : m ≡ renumbered_message nothing m = with_h
 pub all_back : (r : Renumbering) (ms : List Message) → ms ≡ map (renumbered_message (inverse r)) (map (renumbered_message r) ms)
 all_back r [] = refl
 all_back r (m ∷ ms) =
-    let first : m ≡ renumbered_message (inverse r) (renumbered_message r m) = with_head m m.head (renumbered (inverse r) (renumbered r m.head)) (sym (head_back r m.head)) in
+    let first : m ≡ renumbered_message (inverse r) (renumbered_message r m) = with_head m m.head (renumbered (inverse r) (renumbered r m.head))
+    (sym (head_back r m.head)) in
     ap (λ (x : Message). x ∷ ms) first ∙ ap (λ (xs : List Message). renumbered_message (inverse r) (renumbered_message r m) ∷ xs) (all_back r ms)
 
 pub all_both : (r q : Renumbering) (ms : List Message) → map (renumbered_message q) (map (renumbered_message r) ms) ≡ map (renumbered_message (both r q)) ms
 all_both r q [] = refl
 all_both r q (m ∷ ms) =
-    let first : renumbered_message q (renumbered_message r m) ≡ renumbered_message (both r q) m = with_head m (renumbered q (renumbered r m.head)) (renumbered (both r q) m.head) (head_both r q m.head) in
-    ap (λ (x : Message). x ∷ map (renumbered_message q) (map (renumbered_message r) ms)) first ∙ ap (λ (xs : List Message). renumbered_message (both r q) m ∷ xs) (all_both r q ms)
+    let first : renumbered_message q (renumbered_message r m) ≡ renumbered_message (both r q) m =
+    with_head m (renumbered q (renumbered r m.head)) (renumbered (both r q) m.head) (head_both r q m.head) in
+    ap (λ (x : Message). x ∷ map (renumbered_message q) (map (renumbered_message r) ms)) first
+    ∙ ap (λ (xs : List Message). renumbered_message (both r q) m ∷ xs) (all_both r q ms)
 
 pub same_self : (ms : List Message) → SameJob ms ms
 same_self ms = (nothing, all_nothing ms)

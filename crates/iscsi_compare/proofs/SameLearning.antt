@@ -30,7 +30,8 @@ and_right true b e = e
 and_right false b e = apart e refl
 
 -- the nine facts, each over what the one before it left
-pub record Nine (mine other : Numbers) (t t' t'' u u' : BTreeMap ℕ ℕ) (i i' : BTreeMap (List ℕ) (List ℕ)) (s s' : BTreeMap ℕ ℕ) (c c' c'' c''' d d' : Option ℕ) (a1 a2 a3 a4 a5 a6 a7 a8 a9 : Bool) : Type 0 where
+pub record Nine (mine other : Numbers) (t t' t'' u u' : BTreeMap ℕ ℕ) (i i' : BTreeMap (List ℕ) (List ℕ)) (s s' : BTreeMap ℕ ℕ) (c c' c'' c''' d d' : Option ℕ)
+    (a1 a2 a3 a4 a5 a6 a7 a8 a9 : Bool) : Type 0 where
   pub task : Learns (Carries nat_cmp t) (Carries nat_cmp t') (λ f. f.to mine.task ≡ other.task) a1
   pub referenced_task : Learns (Carries nat_cmp t') (Carries nat_cmp t'') (λ f. f.to mine.referenced_task ≡ other.referenced_task) a2
   pub transfer : Learns (Carries nat_cmp u) (Carries nat_cmp u') (λ f. f.to mine.transfer ≡ other.transfer) a3
@@ -38,11 +39,14 @@ pub record Nine (mine other : Numbers) (t t' t'' u u' : BTreeMap ℕ ℕ) (i i' 
   pub tsih : Learns (Carries nat_cmp s) (Carries nat_cmp s') (λ f. f.to mine.tsih ≡ other.tsih) a5
   pub command : Learns (IsSteps c) (IsSteps c') (λ n. option_map (shifted n) mine.command ≡ other.command) a6
   pub last_command : Learns (IsSteps c') (IsSteps c'') (λ n. option_map (shifted n) mine.last_command ≡ other.last_command) a7
-  pub referenced_command : Learns (IsSteps c'') (IsSteps c''') (λ n. (if is_tag mine.referenced_task then shifted n mine.referenced_command else mine.referenced_command) ≡ other.referenced_command) a8
+  pub referenced_command : Learns (IsSteps c'') (IsSteps c''') (λ n. (if is_tag mine.referenced_task then shifted n mine.referenced_command else
+      mine.referenced_command) ≡ other.referenced_command) a8
   pub status : Learns (IsSteps d) (IsSteps d') (λ n. option_map (shifted n) mine.status ≡ other.status) a9
 
-pub learns_nine : (mine other : Numbers) (t t' t'' u u' : BTreeMap ℕ ℕ) (i i' : BTreeMap (List ℕ) (List ℕ)) (s s' : BTreeMap ℕ ℕ) (c c' c'' c''' d d' : Option ℕ) (a1 a2 a3 a4 a5 a6 a7 a8 a9 answer : Bool)
-    → (n : Nine mine other t t' t'' u u' i i' s s' c c' c'' c''' d d' a1 a2 a3 a4 a5 a6 a7 a8 a9) → answer ≡ (a1 && a2 && a3 && a4 && a5 && a6 && a7 && a8 && a9)
+pub learns_nine : (mine other : Numbers) (t t' t'' u u' : BTreeMap ℕ ℕ) (i i' : BTreeMap (List ℕ) (List ℕ)) (s s' : BTreeMap ℕ ℕ)
+    (c c' c'' c''' d d' : Option ℕ) (a1 a2 a3 a4 a5 a6 a7 a8 a9 answer : Bool)
+    → (n : Nine mine other t t' t'' u u' i i' s s' c c' c'' c''' d d' a1 a2 a3 a4 a5 a6 a7 a8 a9) → answer
+    ≡ (a1 && a2 && a3 && a4 && a5 && a6 && a7 && a8 && a9)
     → Learns (IsLeft t u i s c d) (IsLeft t'' u' i' s' c''' d') (λ r. renamed r mine ≡ other) answer
 unfolding renamed
 learns_nine mine other t t' t'' u u' i i' s s' c c' c'' c''' d d' a1 a2 a3 a4 a5 a6 a7 a8 a9 answer n is =
@@ -63,11 +67,13 @@ learns_nine mine other t t' t'' u u' i i' s s' c c' c'' c''' d d' a1 a2 a3 a4 a5
         statuses_left = n.status.less r.statuses l.statuses_left;
       };
       kept = λ r l e. record {
-        tasks_left = n.referenced_task.kept r.tasks (n.task.kept r.tasks l.tasks_left (ap (λ (x : Numbers). x.task) e)) (ap (λ (x : Numbers). x.referenced_task) e);
+        tasks_left = n.referenced_task.kept r.tasks (n.task.kept r.tasks l.tasks_left (ap (λ (x : Numbers). x.task) e))
+            (ap (λ (x : Numbers). x.referenced_task) e);
         transfers_left = n.transfer.kept r.transfers l.transfers_left (ap (λ (x : Numbers). x.transfer) e);
         isids_left = n.isid.kept r.isids l.isids_left (ap (λ (x : Numbers). x.isid) e);
         tsihs_left = n.tsih.kept r.tsihs l.tsihs_left (ap (λ (x : Numbers). x.tsih) e);
-        commands_left = n.referenced_command.kept r.commands (n.last_command.kept r.commands (n.command.kept r.commands l.commands_left (ap (λ (x : Numbers). x.command) e))
+        commands_left = n.referenced_command.kept r.commands (n.last_command.kept r.commands
+            (n.command.kept r.commands l.commands_left (ap (λ (x : Numbers). x.command) e))
             (ap (λ (x : Numbers). x.last_command) e)) (ap (λ (x : Numbers). x.referenced_command) e);
         statuses_left = n.status.kept r.statuses l.statuses_left (ap (λ (x : Numbers). x.status) e);
       };
@@ -111,7 +117,8 @@ said_numbers : (r : Renumbering) (g h : Head) → renumbered r g ≡ h → renam
 said_numbers r g h e = sym (numbers_of r g) ∙ ap numbers e
 
 -- where the numbers are learnt, the heads are compared with the other's numbers in both
-pub learns_heads : (Old New : Renumbering → Type 0) (g h : Head) (same : Bool) → (same ≡ true → with_numbers g (numbers h) ≡ h) → (same ≡ false → with_numbers g (numbers h) ≡ h → ⊥)
+pub learns_heads : (Old New : Renumbering → Type 0) (g h : Head) (same : Bool) → (same ≡ true → with_numbers g (numbers h) ≡ h) →
+    (same ≡ false → with_numbers g (numbers h) ≡ h → ⊥)
     → Learns Old New (λ r. renamed r (numbers g) ≡ numbers h) true → Learns Old New (λ r. renumbered r g ≡ h) same
 learns_heads Old New g h same alike different l = record {
   less = l.less;
@@ -121,7 +128,8 @@ learns_heads Old New g h same alike different l = record {
 }
 
 -- and where they are not, the heads differ
-pub learns_none : (Old New : Renumbering → Type 0) (g h : Head) → Learns Old New (λ r. renamed r (numbers g) ≡ numbers h) false → Learns Old New (λ r. renumbered r g ≡ h) false
+pub learns_none : (Old New : Renumbering → Type 0) (g h : Head) → Learns Old New (λ r. renamed r (numbers g) ≡ numbers h) false →
+    Learns Old New (λ r. renumbered r g ≡ h) false
 learns_none Old New g h l = record {
   less = l.less;
   kept = λ r old e. l.kept r old (said_numbers r g h e);
@@ -155,11 +163,14 @@ some_left known s =
     )
 
 -- so the head with the other's numbers can be written where the numbers are learnt
-pub other_fits : (old new : Renaming) (g h : Head) → IsSoundRenaming new → Learns (Allows old) (Allows new) (λ r. renamed r (numbers g) ≡ numbers h) true → Fits g → Fits (with_numbers g (numbers h))
+pub other_fits : (old new : Renaming) (g h : Head) → IsSoundRenaming new → Learns (Allows old) (Allows new) (λ r. renamed r (numbers g) ≡ numbers h) true →
+    Fits g → Fits (with_numbers g (numbers h))
 other_fits old new g h s l fits =
     let some = some_left new s in
     subst Fits (sym (other_head some.0 g h (l.said refl some.0 some.1))) (fits_renumbered some.0 g fits)
 
-pub learns_at : (Old New : Renumbering → Type 0) (m m' n n' : Numbers) (b b' : Bool) → m ≡ m' → n ≡ n' → b ≡ b' → Learns Old New (λ r. renamed r m ≡ n) b → Learns Old New (λ r. renamed r m' ≡ n') b'
+pub learns_at : (Old New : Renumbering → Type 0) (m m' n n' : Numbers) (b b' : Bool) → m ≡ m' → n ≡ n' → b ≡ b' → Learns Old New (λ r. renamed r m ≡ n) b →
+    Learns Old New (λ r. renamed r m' ≡ n') b'
 learns_at Old New m m' n n' b b' e f a l =
-    subst (λ (x : Numbers). Learns Old New (λ r. renamed r x ≡ n') b') e (subst (λ (x : Numbers). Learns Old New (λ r. renamed r m ≡ x) b') f (subst (Learns Old New (λ r. renamed r m ≡ n)) a l))
+    subst (λ (x : Numbers). Learns Old New (λ r. renamed r x ≡ n') b') e (subst (λ (x : Numbers). Learns Old New (λ r. renamed r m ≡ x) b') f
+    (subst (Learns Old New (λ r. renamed r m ≡ n)) a l))

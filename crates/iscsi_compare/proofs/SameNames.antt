@@ -45,7 +45,8 @@ neither cmp a b x e f = rw (e, f) refl
 pub itself : {K : Type 0} (cmp : K → K → Ordering) → IsTotalOrder cmp → (x : K) → is_eq (cmp x x) ≡ true
 itself cmp o x = ap is_eq (tied_itself o x)
 
-pub exchanged_twice : {K : Type 0} (cmp : K → K → Ordering) → IsTotalOrder cmp → CmpEqualImpliesEq cmp → (a b x : K) → exchanged cmp a b (exchanged cmp a b x) ≡ x
+pub exchanged_twice : {K : Type 0} (cmp : K → K → Ordering) → IsTotalOrder cmp → CmpEqualImpliesEq cmp → (a b x : K) → exchanged cmp a b (exchanged cmp a b x)
+    ≡ x
 exchanged_twice cmp o exact a b x =
     elim (cases_Bool (is_eq (cmp x a))) [
       | inl e ↦ ap (exchanged cmp a b) (one cmp a b x e) ∙ (elim (cases_Bool (is_eq (cmp b a))) [
@@ -77,7 +78,8 @@ pub none_some : {K : Type 0} {P : Type 0} {x : K} {o : Option K} → o ≡ None 
 none_some p q = cc
 
 -- what the table finds once it has one more pair
-found : {K : Type 0} (cmp : K → K → Ordering) → CmpEqualImpliesEq cmp → (old new : BTreeMap K K) (a b q v : K) → Updates cmp old new a (Some b) → get cmp new q ≡ Some v
+found : {K : Type 0} (cmp : K → K → Ordering) → CmpEqualImpliesEq cmp → (old new : BTreeMap K K) (a b q v : K) → Updates cmp old new a (Some b) → get cmp new q
+    ≡ Some v
     → ((a ≡ q) × (b ≡ v)) ⊎ (get cmp old q ≡ Some v)
 found cmp exact old new a b q v u e =
     elim (cases_Bool (is_eq (cmp a q))) [
@@ -88,7 +90,8 @@ found cmp exact old new a b q v u e =
     ]
 
 -- and what it found before
-kept : {K : Type 0} (cmp : K → K → Ordering) → CmpEqualImpliesEq cmp → (old new : BTreeMap K K) (a b q v : K) → Updates cmp old new a (Some b) → get cmp old a ≡ None → get cmp old q ≡ Some v
+kept : {K : Type 0} (cmp : K → K → Ordering) → CmpEqualImpliesEq cmp → (old new : BTreeMap K K) (a b q v : K) → Updates cmp old new a (Some b) → get cmp old a
+    ≡ None → get cmp old q ≡ Some v
     → get cmp new q ≡ Some v
 kept cmp exact old new a b q v u none e =
     elim (cases_Bool (is_eq (cmp a q))) [
@@ -97,7 +100,8 @@ kept cmp exact old new a b q v u none e =
     ]
 
 forth : {K : Type 0} (cmp : K → K → Ordering) → CmpEqualImpliesEq cmp → (there back there' back' : BTreeMap K K) (a b : K)
-    → ((q v : K) → get cmp there q ≡ Some v → get cmp back v ≡ Some q) → get cmp back b ≡ None → Updates cmp there there' a (Some b) → Updates cmp back back' b (Some a)
+    → ((q v : K) → get cmp there q ≡ Some v → get cmp back v ≡ Some q) → get cmp back b ≡ None → Updates cmp there there' a (Some b) →
+    Updates cmp back back' b (Some a)
     → (q v : K) → get cmp there' q ≡ Some v → get cmp back' v ≡ Some q
 forth cmp exact there back there' back' a b before none u w q v e =
     elim (found cmp exact there there' a b q v u e) [
@@ -106,8 +110,10 @@ forth cmp exact there back there' back' a b before none u w q v e =
     ]
 
 -- a renaming that has the pair too
-one_more : {K : Type 0} (cmp : K → K → Ordering) (o : IsTotalOrder cmp) (exact : CmpEqualImpliesEq cmp) (there back there' : BTreeMap K K) (a b : K) → IsSound cmp there back
-    → get cmp there a ≡ None → get cmp back b ≡ None → Updates cmp there there' a (Some b) → (f : OneToOne K) → Carries cmp there f → Carries cmp there' (chained f (exchange cmp o exact (f.to a) b))
+one_more : {K : Type 0} (cmp : K → K → Ordering) (o : IsTotalOrder cmp) (exact : CmpEqualImpliesEq cmp) (there back there' : BTreeMap K K) (a b : K) →
+    IsSound cmp there back
+    → get cmp there a ≡ None → get cmp back b ≡ None → Updates cmp there there' a (Some b) → (f : OneToOne K) → Carries cmp there f →
+    Carries cmp there' (chained f (exchange cmp o exact (f.to a) b))
 one_more cmp o exact there back there' a b s none none' u f carries q v e =
     elim (found cmp exact there there' a b q v u e) [
       | inl p ↦ ap (λ x. exchanged cmp (f.to a) b (f.to x)) (sym p.0) ∙ one cmp (f.to a) b (f.to a) (itself cmp o (f.to a)) ∙ p.1
@@ -121,8 +127,10 @@ one_more cmp o exact there back there' a b s none none' u f carries q v e =
           ])
     ]
 
-pub joins_new : {K : Type 0} (cmp : K → K → Ordering) → IsTotalOrder cmp → CmpEqualImpliesEq cmp → (there back there' back' : BTreeMap K K) (a b : K) → IsSound cmp there back
-    → get cmp there a ≡ None → get cmp back b ≡ None → Updates cmp there there' a (Some b) → Updates cmp back back' b (Some a) → Joins cmp there there' back' (λ f. f.to a ≡ b) true
+pub joins_new : {K : Type 0} (cmp : K → K → Ordering) → IsTotalOrder cmp → CmpEqualImpliesEq cmp → (there back there' back' : BTreeMap K K) (a b : K) →
+    IsSound cmp there back
+    → get cmp there a ≡ None → get cmp back b ≡ None → Updates cmp there there' a (Some b) → Updates cmp back back' b (Some a) →
+    Joins cmp there there' back' (λ f. f.to a ≡ b) true
 joins_new cmp o exact there back there' back' a b s none none' u w = record {
   sound = record {
     forth = forth cmp exact there back there' back' a b s.forth none' u w;
@@ -140,7 +148,8 @@ joins_new cmp o exact there back there' back' a b s none none' u w = record {
   };
 }
 
-pub joins_taken : {K : Type 0} (cmp : K → K → Ordering) (there back : BTreeMap K K) (a b : K) → IsSound cmp there back → get cmp there a ≡ None → is_some (get cmp back b) ≡ true
+pub joins_taken : {K : Type 0} (cmp : K → K → Ordering) (there back : BTreeMap K K) (a b : K) → IsSound cmp there back → get cmp there a ≡ None →
+    is_some (get cmp back b) ≡ true
     → Joins cmp there there back (λ f. f.to a ≡ b) false
 joins_taken cmp there back a b s none taken =
     let x = some_of (get cmp back b) taken in
@@ -150,11 +159,13 @@ joins_taken cmp there back a b s none taken =
         less = λ f p. p;
         kept = λ f p at. p;
         said = λ e. apart e refl;
-        none = λ e f carries at. none_some none (ap (λ y. get cmp there y) (sym (one_to_one f x.0 a (carries x.0 b (s.return x.0 b x.1) ∙ sym at))) ∙ s.return x.0 b x.1);
+        none = λ e f carries at. none_some none (ap (λ y. get cmp there y) (sym (one_to_one f x.0 a (carries x.0 b (s.return x.0 b x.1) ∙ sym at)))
+            ∙ s.return x.0 b x.1);
       };
     }
 
-pub joins_known : {K : Type 0} (cmp : K → K → Ordering) → IsTotalOrder cmp → CmpEqualImpliesEq cmp → (there back : BTreeMap K K) (a b x : K) (answer : Bool) → IsSound cmp there back
+pub joins_known : {K : Type 0} (cmp : K → K → Ordering) → IsTotalOrder cmp → CmpEqualImpliesEq cmp → (there back : BTreeMap K K) (a b x : K) (answer : Bool) →
+    IsSound cmp there back
     → get cmp there a ≡ Some x → answer ≡ is_eq (cmp x b) → Joins cmp there there back (λ f. f.to a ≡ b) answer
 joins_known cmp o exact there back a b x answer s at is = record {
   sound = s;
@@ -181,7 +192,8 @@ none_of None e = refl
 none_of (Some x) e = apart refl e
 
 -- a name that was joined with itself first stands for itself
-pub joined_itself : {K : Type 0} (cmp : K → K → Ordering) (old there back : BTreeMap K K) (a : K) (answer : Bool) → IsFresh cmp old → Joins cmp old there back (λ f. f.to a ≡ a) answer
+pub joined_itself : {K : Type 0} (cmp : K → K → Ordering) (old there back : BTreeMap K K) (a : K) (answer : Bool) → IsFresh cmp old →
+    Joins cmp old there back (λ f. f.to a ≡ a) answer
     → (f : OneToOne K) → Carries cmp there f → f.to a ≡ a
 joined_itself {K = K} cmp old there back a answer fresh j f carries =
     elim (cases_Bool answer) [

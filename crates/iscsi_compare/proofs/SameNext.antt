@@ -25,7 +25,8 @@ unready_of false h = refl
 inside : {A : Type 0} (x y : A) → Some x ≡ Some y → x ≡ y
 inside x y e = cc
 
-learns_some : (Old New : Renumbering → Type 0) (m n : Message) (answer : Bool) → Learns Old New (λ r. renumbered_message r m ≡ n) answer → Learns Old New (λ r. option_map (renumbered_message r) (Some m) ≡ Some n) answer
+learns_some : (Old New : Renumbering → Type 0) (m n : Message) (answer : Bool) → Learns Old New (λ r. renumbered_message r m ≡ n) answer →
+    Learns Old New (λ r. option_map (renumbered_message r) (Some m) ≡ Some n) answer
 learns_some Old New m n answer l = record {
   less = l.less;
   kept = λ r old e. l.kept r old (inside (renumbered_message r m) n e);
@@ -33,8 +34,10 @@ learns_some Old New m n answer l = record {
   none = λ a r old e. l.none a r old (inside (renumbered_message r m) n e);
 }
 
-pub both_next : (old new : Renaming) (v w : Framing) (g h : Head) (a b : List ℕ) (c d : Bool) {E : Type 0} (result : Result Bool E) → is_ready v ≡ true → is_ready w ≡ true → Means v.held g a → Means w.held h b
-    → c ≡ continues v.logins g → d ≡ continues w.logins h → IfOk result (Learns (Allows old) (Allows new) (λ r. renumbered_message r (message c g a) ≡ message d h b)) → IfOk result (LearnsNext old new v w)
+pub both_next : (old new : Renaming) (v w : Framing) (g h : Head) (a b : List ℕ) (c d : Bool) {E : Type 0} (result : Result Bool E) → is_ready v ≡ true →
+    is_ready w ≡ true → Means v.held g a → Means w.held h b
+    → c ≡ continues v.logins g → d ≡ continues w.logins h → IfOk result (Learns (Allows old) (Allows new)
+    (λ r. renumbered_message r (message c g a) ≡ message d h b)) → IfOk result (LearnsNext old new v w)
 both_next old new v w g h a b c d (Ok answer) ready other_ready means other_means e f l = record {
   next = Some (message_of v g a);
   other_next = Some (message_of w h b);
@@ -46,7 +49,8 @@ both_next old new v w g h a b c d (Ok answer) ready other_ready means other_mean
 }
 both_next old new v w g h a b c d (Err x) ready other_ready means other_means e f l = tt
 
-pub first_next : (known : Renaming) (v w : Framing) (g : Head) (a : List ℕ) → is_ready v ≡ true → Means v.held g a → is_ready w ≡ false → LearnsNext known known v w false
+pub first_next : (known : Renaming) (v w : Framing) (g : Head) (a : List ℕ) → is_ready v ≡ true → Means v.held g a → is_ready w ≡ false →
+    LearnsNext known known v w false
 first_next known v w g a ready means unready = record {
   next = Some (message_of v g a);
   other_next = None;
@@ -60,7 +64,8 @@ first_next known v w g a ready means unready = record {
   };
 }
 
-pub second_next : (known : Renaming) (v w : Framing) (h : Head) (b : List ℕ) → is_ready v ≡ false → is_ready w ≡ true → Means w.held h b → LearnsNext known known v w false
+pub second_next : (known : Renaming) (v w : Framing) (h : Head) (b : List ℕ) → is_ready v ≡ false → is_ready w ≡ true → Means w.held h b →
+    LearnsNext known known v w false
 second_next known v w h b unready ready means = record {
   next = None;
   other_next = Some (message_of w h b);

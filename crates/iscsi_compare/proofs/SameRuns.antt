@@ -36,10 +36,12 @@ same_job known ms ns s k = let some = some_left known s in (some.0, (k some.0).0
 inside : {A : Type 0} (x y : A) → Some x ≡ Some y → x ≡ y
 inside x y e = cc
 
-pub knows_more : (old new : Renaming) (ms ns : List Message) (m n : Message) → Knows old ms ns → Learns (Allows old) (Allows new) (λ r. option_map (renumbered_message r) (Some m) ≡ Some n) true
+pub knows_more : (old new : Renaming) (ms ns : List Message) (m n : Message) → Knows old ms ns →
+    Learns (Allows old) (Allows new) (λ r. option_map (renumbered_message r) (Some m) ≡ Some n) true
     → Knows new (ms ++ m ∷ []) (ns ++ n ∷ [])
 knows_more old new ms ns m n k l r = (
-  λ allowed. ap (λ (x : List Message). x ++ n ∷ []) ((k r).0 (l.less r allowed)) ∙ ap (λ (x : Message). map (renumbered_message r) ms ++ x ∷ []) (sym (inside (renumbered_message r m) n (l.said refl r allowed)))
+  λ allowed. ap (λ (x : List Message). x ++ n ∷ []) ((k r).0 (l.less r allowed))
+      ∙ ap (λ (x : Message). map (renumbered_message r) ms ++ x ∷ []) (sym (inside (renumbered_message r m) n (l.said refl r allowed)))
       ∙ sym (map_push (renumbered_message r) ms m),
   λ e. (let both = same_from_push ns (map (renumbered_message r) ms) n (renumbered_message r m) (e ∙ map_push (renumbered_message r) ms m) in
       l.kept r ((k r).1 both.0) (ap Some (sym both.1))),
@@ -55,7 +57,8 @@ too_short : (ms ns : List Message) (n : Message) → SameJob ms ns → SameJob (
 too_short ms ns n s t = omega (arith, same_length ms ns s, same_length (ms ++ []) (ns ++ n ∷ []) t, length_push ns n, ap length (append-nil ms))
 
 pub no_job : (old new : Renaming) (ms ns : List Message) (next other : Option Message) → SameJob ms ns → Knows old ms ns
-    → Learns (Allows old) (Allows new) (λ r. option_map (renumbered_message r) next ≡ other) false → SameJob (ms ++ option_to_list next) (ns ++ option_to_list other) → ⊥
+    → Learns (Allows old) (Allows new) (λ r. option_map (renumbered_message r) next ≡ other) false →
+    SameJob (ms ++ option_to_list next) (ns ++ option_to_list other) → ⊥
 no_job old new ms ns (Some m) (Some n) s k l t =
     let both = same_from_push ns (map (renumbered_message t.0) ms) n (renumbered_message t.0 m) (t.1 ∙ map_push (renumbered_message t.0) ms m) in
     l.none refl t.0 ((k t.0).1 both.0) (ap Some (sym both.1))
@@ -65,10 +68,12 @@ no_job old new ms ns None None s k l t = l.none refl s.0 ((k s.0).1 s.1) refl
 
 -- ---- what stands next
 
-pub goes_on : (some : Bool) (side : Side) (x : Input) (ms : List Message) (next : Option Message) → Stands some side x ms → NextIs some side.framer next → GoesOn x ms next
+pub goes_on : (some : Bool) (side : Side) (x : Input) (ms : List Message) (next : Option Message) → Stands some side x ms → NextIs some side.framer next →
+    GoesOn x ms next
 goes_on true side x ms next r f =
     subst (GoesOn x ms) (sym f.3)
-    (begins x.read (ms ++ message_of side.framer f.0 f.1 ∷ []) (given_up side.framer f.0) (pending side) side.reads x.left (read_given x.read ms side.framer (pending side) side.reads f.0 f.1 r f.2))
+    (begins x.read (ms ++ message_of side.framer f.0 f.1 ∷ []) (given_up side.framer f.0)
+    (pending side) side.reads x.left (read_given x.read ms side.framer (pending side) side.reads f.0 f.1 r f.2))
 goes_on false side x ms next r f = subst (GoesOn x ms) (sym f) r.1
 
 has_read : (some : Bool) (side : Side) (x : Input) (ms : List Message) → Stands some side x ms → HasRead x.read ms side
@@ -114,10 +119,12 @@ pub record JobInStep (mine_old mine_new other_old other_new : Option (List ℕ))
   pub knows : Knows known ms ns
   pub same : now ≡ held
 
-job_of : (a b c d : Option (List ℕ)) (first second : Side) (known : Renaming) (held now : List ℕ) (step : JobInStep a b c d first second known held now) → SameJob step.ms step.ns
+job_of : (a b c d : Option (List ℕ)) (first second : Side) (known : Renaming) (held now : List ℕ) (step : JobInStep a b c d first second known held now) →
+    SameJob step.ms step.ns
 job_of a b c d first second known held now step = same_job known step.ms step.ns step.sound step.knows
 
-pub job_at_start : (a b : Option (List ℕ)) (first second : Side) (known : Renaming) (held : List ℕ) → HasRead [] [] first → HasRead [] [] second → IsOpen first → IsOpen second → first.which ≡ First
+pub job_at_start : (a b : Option (List ℕ)) (first second : Side) (known : Renaming) (held : List ℕ) → HasRead [] [] first → HasRead [] [] second → IsOpen first
+    → IsOpen second → first.which ≡ First
     → second.which ≡ Second → IsSoundRenaming known → ((r : Renumbering) → Allows known r) → JobInStep a a b b first second known held held
 job_at_start a b first second known held r s i j w u sound all = record {
   read = [];
@@ -148,7 +155,8 @@ job_not_begun a b first second r s = (
 )
 
 -- the first stream has a fault
-pub job_first_stops : (e : CompareFault) (a b c d f : Option (List ℕ)) (first second : Side) (known : Renaming) (held now : List ℕ) → JobInStep a b d f first second known held now
+pub job_first_stops : (e : CompareFault) (a b c d f : Option (List ℕ)) (first second : Side) (known : Renaming) (held now : List ℕ) →
+    JobInStep a b d f first second known held now
     → ReadsOn first b c (SideFails e first.which) → Compared (FailsInJob e) a c d f
 job_first_stops e a b c d f first second known held now step reads =
     let one = reads step.read step.ms step.has_read in
@@ -163,7 +171,8 @@ job_first_stops e a b c d f first second known held now step reads =
     )
 
 -- the second stream has a fault
-pub job_second_stops : (e : CompareFault) (a b c d f h : Option (List ℕ)) (first second first_new : Side) (known : Renaming) (held now : List ℕ) (p : Bool) → JobInStep a b d f first second known held now
+pub job_second_stops : (e : CompareFault) (a b c d f h : Option (List ℕ)) (first second first_new : Side) (known : Renaming) (held now : List ℕ) (p : Bool) →
+    JobInStep a b d f first second known held now
     → ReadsOn first b c (Stands p first_new) → ReadsOn second f h (SideFails e second.which) → Compared (FailsInJob e) a c d h
 job_second_stops e a b c d f h first second first_new known held now p step reads others =
     let one = reads step.read step.ms step.has_read in
@@ -174,13 +183,16 @@ job_second_stops e a b c d f h first second first_new known held now p step read
       y,
       gave a b c step.read one.0 step.consumed one.1 one.2,
       gave d f h step.other_read two.0 step.other_consumed two.1 two.2,
-      second_fails e x y step.ms step.ns (job_of a b d f first second known held now step) (subst (λ (w : Which). SideFails e w y step.ns) step.other_which two.3) (begun p first_new x step.ms one.3),
+      second_fails e x y step.ms step.ns (job_of a b d f first second known held now step)
+          (subst (λ (w : Which). SideFails e w y step.ns) step.other_which two.3) (begun p first_new x step.ms one.3),
     )
 
 -- both went on
-pub job_onwards : (Holds : Input → Input → Type 0) (a b c d f h : Option (List ℕ)) (first second first_new second_new : Side) (known : Renaming) (held now : List ℕ) (p q : Bool)
+pub job_onwards : (Holds : Input → Input → Type 0) (a b c d f h : Option (List ℕ)) (first second first_new second_new : Side) (known : Renaming)
+    (held now : List ℕ) (p q : Bool)
     → JobInStep a b d f first second known held now → ReadsOn first b c (Stands p first_new) → ReadsOn second f h (Stands q second_new)
-    → ((x y : Input) (ms ns : List Message) → SameJob ms ns → Knows known ms ns → Stands p first_new x ms → Stands q second_new y ns → Holds x y) → Compared Holds a c d h
+    → ((x y : Input) (ms ns : List Message) → SameJob ms ns → Knows known ms ns → Stands p first_new x ms → Stands q second_new y ns → Holds x y) →
+    Compared Holds a c d h
 job_onwards Holds a b c d f h first second first_new second_new known held now p q step reads others so =
     let one = reads step.read step.ms step.has_read in
     let two = others step.other_read step.ns step.other_has_read in
@@ -194,14 +206,17 @@ job_onwards Holds a b c d f h first second first_new second_new known held now p
     )
 
 -- memory runs out
-pub job_memory : (p q : Bool) (first second : Side) (known : Renaming) (x y : Input) (ms ns : List Message) → SameJob ms ns → Knows known ms ns → Stands p first x ms → Stands q second y ns → FailsInJob fault.NoMemory x y
+pub job_memory : (p q : Bool) (first second : Side) (known : Renaming) (x y : Input) (ms ns : List Message) → SameJob ms ns → Knows known ms ns →
+    Stands p first x ms → Stands q second y ns → FailsInJob fault.NoMemory x y
 job_memory p q first second known x y ms ns s k a b = (ms, ns, s, (begun p first x ms a, begun q second y ns b))
 
 next_at : (v : Framing) (p : Bool) (next : Option Message) → is_ready v ≡ p → NextIs (is_ready v) v next → NextIs p v next
 next_at v p next e n = subst (λ (b : Bool). NextIs b v next) e n
 
-pub job_parts : (p q : Bool) (first second : Side) (old new : Renaming) → is_ready first.framer ≡ p → is_ready second.framer ≡ q → LearnsNext old new first.framer second.framer false
-    → (x y : Input) (ms ns : List Message) → SameJob ms ns → Knows old ms ns → Stands p first x ms → Stands q second y ns → PartFromJob x y first.framer.place second.framer.place
+pub job_parts : (p q : Bool) (first second : Side) (old new : Renaming) → is_ready first.framer ≡ p → is_ready second.framer ≡ q →
+    LearnsNext old new first.framer second.framer false
+    → (x y : Input) (ms ns : List Message) → SameJob ms ns → Knows old ms ns → Stands p first x ms → Stands q second y ns →
+    PartFromJob x y first.framer.place second.framer.place
 job_parts p q first second old new e f l x y ms ns s k a b = record {
   ms = ms;
   ns = ns;
@@ -216,7 +231,8 @@ job_parts p q first second old new e f l x y ms ns s k a b = record {
 }
 
 -- where what stands next is learnt, both streams go on or both end
-both_alike : (f : Message → Message) (next other : Option Message) (p q : Bool) (v w : Framing) → option_map f next ≡ other → NextIs p v next → NextIs q w other → p ≡ q
+both_alike : (f : Message → Message) (next other : Option Message) (p q : Bool) (v w : Framing) → option_map f next ≡ other → NextIs p v next → NextIs q w other
+    → p ≡ q
 both_alike f next other true true v w e n o = refl
 both_alike f next other false false v w e n o = refl
 both_alike f next other true false v w e n o = absurd (let no : Some (f (message_of v n.0 n.1)) ≡ None = ap (option_map f) (sym n.3) ∙ e ∙ o in cc)
@@ -225,29 +241,38 @@ both_alike f next other false true v w e n o = absurd (let no : None ≡ Some (m
 pub alike : (p q : Bool) (v w : Framing) (old new : Renaming) → IsSoundRenaming new → is_ready v ≡ p → is_ready w ≡ q → LearnsNext old new v w true → p ≡ q
 alike p q v w old new s e f l =
     let some = some_left new s in
-    both_alike (renumbered_message some.0) l.next l.other_next p q v w (l.learns.said refl some.0 some.1) (next_at v p l.next e l.next_is) (next_at w q l.other_next f l.other_next_is)
+    both_alike (renumbered_message some.0) l.next l.other_next p q v w (l.learns.said refl some.0 some.1) (next_at v p l.next e l.next_is)
+    (next_at w q l.other_next f l.other_next_is)
 
-pub job_agrees : (p q : Bool) (first second : Side) (known : Renaming) → p ≡ false → q ≡ false → (x y : Input) (ms ns : List Message) → SameJob ms ns → Knows known ms ns → Stands p first x ms → Stands q second y ns
+pub job_agrees : (p q : Bool) (first second : Side) (known : Renaming) → p ≡ false → q ≡ false → (x y : Input) (ms ns : List Message) → SameJob ms ns →
+    Knows known ms ns → Stands p first x ms → Stands q second y ns
     → AgreeOnJob x y
 job_agrees true q first second known e u x y ms ns s k a b = absurd cc
 job_agrees false true first second known e u x y ms ns s k a b = absurd cc
 job_agrees false false first second known e u x y ms ns s k a b = (ms, ns, s, (a.1, b.1))
 
 -- what is known of the PDUs that are given up
-knows_given : (old new : Renaming) (ms ns : List Message) (v w : Framing) (g h : Head) (a b : List ℕ) (next other : Option Message) → next ≡ Some (message_of v g a) → other ≡ Some (message_of w h b)
-    → Knows old ms ns → Learns (Allows old) (Allows new) (λ r. option_map (renumbered_message r) next ≡ other) true → Knows new (ms ++ message_of v g a ∷ []) (ns ++ message_of w h b ∷ [])
+knows_given : (old new : Renaming) (ms ns : List Message) (v w : Framing) (g h : Head) (a b : List ℕ) (next other : Option Message) → next
+    ≡ Some (message_of v g a) → other ≡ Some (message_of w h b)
+    → Knows old ms ns → Learns (Allows old) (Allows new) (λ r. option_map (renumbered_message r) next ≡ other) true →
+    Knows new (ms ++ message_of v g a ∷ []) (ns ++ message_of w h b ∷ [])
 knows_given old new ms ns v w g h a b next other e f k l =
     knows_more old new ms ns (message_of v g a) (message_of w h b) k
     (subst (λ (x : Option Message). Learns (Allows old) (Allows new) (λ r. option_map (renumbered_message r) x ≡ Some (message_of w h b)) true) e
     (subst (λ (x : Option Message). Learns (Allows old) (Allows new) (λ r. option_map (renumbered_message r) next ≡ x) true) f l))
 
 -- both gave up a PDU
-pub job_one_more : (a b c d f h : Option (List ℕ)) (first second first_new second_new first_last second_last : Side) (old new : Renaming) (held now : List ℕ) (p q : Bool) → p ≡ true → q ≡ true
-    → JobInStep a b d f first second old held now → ReadsOn first b c (Stands p first_new) → ReadsOn second f h (Stands q second_new) → is_ready first_new.framer ≡ p → is_ready second_new.framer ≡ q
+pub job_one_more : (a b c d f h : Option (List ℕ)) (first second first_new second_new first_last second_last : Side) (old new : Renaming) (held now : List ℕ)
+    (p q : Bool) → p ≡ true → q ≡ true
+    → JobInStep a b d f first second old held now → ReadsOn first b c (Stands p first_new) → ReadsOn second f h (Stands q second_new) →
+    is_ready first_new.framer ≡ p → is_ready second_new.framer ≡ q
     → IsSoundRenaming new → LearnsNext old new first_new.framer second_new.framer true → GivesUp first_new first_last → GivesUp second_new second_last
-    → IsOpen first_last → IsOpen second_last → first_last.which ≡ first.which → second_last.which ≡ second.which → JobInStep a c d h first_last second_last new held now
-job_one_more a b c d f h first second first_new second_new first_last second_last old new held now false q i j step reads others r s sound l up down o t w u = absurd cc
-job_one_more a b c d f h first second first_new second_new first_last second_last old new held now true false i j step reads others r s sound l up down o t w u = absurd cc
+    → IsOpen first_last → IsOpen second_last → first_last.which ≡ first.which → second_last.which ≡ second.which →
+    JobInStep a c d h first_last second_last new held now
+job_one_more a b c d f h first second first_new second_new first_last second_last old new held now false q i j step reads others r s sound l up down o t w u =
+    absurd cc
+job_one_more a b c d f h first second first_new second_new first_last second_last old new held now true false i j step reads others r s sound l up down o t w u
+    = absurd cc
 job_one_more a b c d f h first second first_new second_new first_last second_last old new held now true true i j step reads others r s sound l up down o t w u =
     let one = reads step.read step.ms step.has_read in
     let two = others step.other_read step.ns step.other_has_read in

@@ -27,7 +27,8 @@ inside p q e = cc
 inside_text : (p q : Pairs) → Text p ≡ Text q → p ≡ q
 inside_text p q e = cc
 
-pub same_texts : (c d : Bool) (g h : Head) (a b : List ℕ) (p q : Pairs) (answer : Bool) → Text p ≡ segment_of c g a → Text q ≡ segment_of d h b → Decides (canonical_text p ≡ canonical_text q) answer
+pub same_texts : (c d : Bool) (g h : Head) (a b : List ℕ) (p q : Pairs) (answer : Bool) → Text p ≡ segment_of c g a → Text q ≡ segment_of d h b →
+    Decides (canonical_text p ≡ canonical_text q) answer
     → Decides (segment_of c g a ≡ segment_of d h b) answer
 same_texts c d g h a b p q answer m n l = record {
   so = λ e.
@@ -36,7 +37,8 @@ same_texts c d g h a b p q answer m n l = record {
   not_so = λ e same. l.not_so e (ap canonical_text (inside_text p q (m ∙ same ∙ sym n)));
 }
 
-pub same_texts_if : (c d : Bool) (g h : Head) (a b : List ℕ) (p q : Pairs) (r s : Option Pairs) {E : Type 0} (result : Result Bool E) → text_or_bytes r a ≡ segment_of c g a → text_or_bytes s b ≡ segment_of d h b
+pub same_texts_if : (c d : Bool) (g h : Head) (a b : List ℕ) (p q : Pairs) (r s : Option Pairs) {E : Type 0} (result : Result Bool E) → text_or_bytes r a
+    ≡ segment_of c g a → text_or_bytes s b ≡ segment_of d h b
     → r ≡ Some p → s ≡ Some q → IfOk result (Decides (canonical_text p ≡ canonical_text q)) → IfOk result (Decides (segment_of c g a ≡ segment_of d h b))
 same_texts_if c d g h a b p q r s (Ok answer) m n e f l =
     same_texts c d g h a b p q answer (sym (ap (λ x. text_or_bytes x a) e) ∙ m) (sym (ap (λ x. text_or_bytes x b) f) ∙ n) l

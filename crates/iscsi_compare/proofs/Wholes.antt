@@ -10,7 +10,7 @@ use Rattle.iscsi_stream.specs.declared.logins.Logins.{Logins}
 use Rattle.iscsi_stream.specs.Segment.{no_login, continues, after, segment_of}
 use Rattle.iscsi_stream.specs.Stream.{Message, ReadsAs, StreamMeans, Splits, longest_segment}
 use Rattle.iscsi_stream.specs.Canonical.{canon}
-use Rattle.iscsi_stream.proofs.Meaning.{canon_again, one_meaning, same_begin, same_message, splits_more, all_given}
+use Rattle.iscsi_stream.proofs.OneMeaningLaw.{canon_again, one_meaning, same_begin, same_message, splits_more, all_given}
 use Rattle.iscsi_compare.specs.declared.fault.Which.{Which}
 use Rattle.iscsi_compare.specs.declared.fault.Which.TheVariants.{First, Second}
 use Rattle.iscsi_compare.specs.declared.fault.CompareFault.TheVariants as fault
@@ -22,12 +22,14 @@ pub agree_means : (first second : Input) (ms ns : List Message) → StreamMeans 
 agree_means first second ms ns p q agree =
     one_meaning longest_segment no_login first.read ms agree.0 p agree.1.0 ∙ one_meaning longest_segment no_login second.read agree.0 ns agree.2.0 q
 
-pub means_agree : (first second : Input) (ms ns : List Message) → IsAtEnd first.left → IsAtEnd second.left → StreamMeans first.read ms → StreamMeans second.read ns → ms ≡ ns → Agree first second
+pub means_agree : (first second : Input) (ms ns : List Message) → IsAtEnd first.left → IsAtEnd second.left → StreamMeans first.read ms →
+    StreamMeans second.read ns → ms ≡ ns → Agree first second
 means_agree first second ms ns end end' p q same = (ms, (p, end), (subst (StreamMeans second.read) (sym same) q, end'))
 
 pub same_forms : (s t : List ℕ) (ms ns : List Message) → AreBytes s → AreBytes t → StreamMeans s ms → StreamMeans t ns → canon ms ≡ canon ns → ms ≡ ns
 same_forms s t ms ns b c p q e =
-    one_meaning longest_segment no_login (canon ms) ms ns (canon_again longest_segment no_login s ms b p) (subst (λ (x : List ℕ). ReadsAs longest_segment no_login x ns) (sym e) (canon_again longest_segment no_login t ns c q))
+    one_meaning longest_segment no_login (canon ms) ms ns (canon_again longest_segment no_login s ms b p)
+    (subst (λ (x : List ℕ). ReadsAs longest_segment no_login x ns) (sym e) (canon_again longest_segment no_login t ns c q))
 
 -- ---- what was read of a stream that is known
 
@@ -51,12 +53,14 @@ all_read s x rest end =
 
 pub same_wholes : (s t : List ℕ) (ms ns : List Message) (x y : Input) → Rest s x → Rest t y → StreamMeans s ms → StreamMeans t ns → Agree x y → ms ≡ ns
 same_wholes s t ms ns x y a b p q agree =
-    agree_means x y ms ns (subst (λ (z : List ℕ). StreamMeans z ms) (all_read s x a agree.1.1) p) (subst (λ (z : List ℕ). StreamMeans z ns) (all_read t y b agree.2.1) q) agree
+    agree_means x y ms ns (subst (λ (z : List ℕ). StreamMeans z ms) (all_read s x a agree.1.1) p)
+    (subst (λ (z : List ℕ). StreamMeans z ns) (all_read t y b agree.2.1) q) agree
 
 -- ---- where they differ
 
 -- PDUs that begin a stream are the first that it means
-front_of : (limit : ℕ) (logins : Logins) (given rest s : List ℕ) (ms ns : List Message) → ReadsAs limit logins given ms → ReadsAs limit logins s ns → s ≡ given ++ rest → (more : List Message) × (ns ≡ ms ++ more)
+front_of : (limit : ℕ) (logins : Logins) (given rest s : List ℕ) (ms ns : List Message) → ReadsAs limit logins given ms → ReadsAs limit logins s ns → s ≡ given
+    ++ rest → (more : List Message) × (ns ≡ ms ++ more)
 unfolding ReadsAs
 front_of limit logins given rest s [] ns p q e = (ns, refl)
 front_of limit logins given rest s (m ∷ ms) [] p q e =
@@ -68,9 +72,11 @@ front_of limit logins given rest s (m ∷ ms) (n ∷ ns) p q e =
     let whole : p.0 ++ (p.2 ++ rest) ≡ q.0 ++ q.2 = sym (append_assoc p.0 p.2 rest) ∙ ap (λ (x : List ℕ). x ++ rest) (sym b.whole) ∙ sym e ∙ c.whole in
     let same = same_begin p.0 (p.2 ++ rest) q.0 q.2 m.head n.head p.1 q.1 whole b.means c.means in
     let segment : m.segment ≡ n.segment =
-    b.meaning ∙ ap (λ (h : Head). segment_of (continues logins h) h p.1) same.head ∙ ap (segment_of (continues logins n.head) n.head) same.segment ∙ sym c.meaning in
+    b.meaning ∙ ap (λ (h : Head). segment_of (continues logins h) h p.1) same.head ∙ ap (segment_of (continues logins n.head) n.head) same.segment
+    ∙ sym c.meaning in
     let one : m ≡ n = same_message m n same.head segment in
-    let more = front_of limit (after logins m.head) p.2 rest q.2 ms ns p.4 (subst (λ (h : Head). ReadsAs limit (after logins h) q.2 ns) (sym same.head) q.4) (sym same.rest) in
+    let more = front_of limit (after logins m.head) p.2 rest q.2 ms ns p.4 (subst (λ (h : Head). ReadsAs limit (after logins h) q.2 ns) (sym same.head) q.4)
+    (sym same.rest) in
     (more.0, ap (λ (x : Message). x ∷ ns) (sym one) ∙ ap (λ (xs : List Message). m ∷ xs) more.1)
 
 -- what follows, with the PDUs behind it
@@ -78,12 +84,17 @@ abbrev pub following : Option Message → List Message → List Message
 following None behind = []
 following (Some m) behind = m ∷ behind
 
-pub follows : (s : List ℕ) (ms before : List Message) (x : Input) (next : Option Message) → Rest s x → StreamMeans s ms → GoesOn x before next → (behind : List Message) × (ms ≡ before ++ following next behind)
-follows s ms before x None a p goes =
-    ([], one_meaning longest_segment no_login s ms before p (subst (λ (z : List ℕ). StreamMeans z before) (sym (all_read s x a goes.1)) goes.0) ∙ sym (append-nil before))
+pub follows : (s : List ℕ) (ms before : List Message) (x : Input) (next : Option Message) → Rest s x → StreamMeans s ms → GoesOn x before next →
+    (behind : List Message) × (ms ≡ before ++ following next behind)
+follows s ms before x None a p goes = (
+  [],
+  one_meaning longest_segment no_login s ms before p (subst (λ (z : List ℕ). StreamMeans z before) (sym (all_read s x a goes.1)) goes.0)
+      ∙ sym (append-nil before),
+)
 follows s ms before x (Some m) a p goes =
     let r = goes.2 in
-    let front = front_of longest_segment no_login goes.0 (goes.1 ++ a.more) s (before ++ m ∷ []) ms r.reads p (a.whole ∙ ap (λ (z : List ℕ). z ++ a.more) r.whole ∙ append_assoc goes.0 goes.1 a.more) in
+    let front = front_of longest_segment no_login goes.0 (goes.1 ++ a.more) s (before ++ m ∷ []) ms r.reads p (a.whole
+    ∙ ap (λ (z : List ℕ). z ++ a.more) r.whole ∙ append_assoc goes.0 goes.1 a.more) in
     (front.0, front.1 ∙ append_assoc before (m ∷ []) front.0)
 
 same_following : (p q : Option Message) (behind other : List Message) → following p behind ≡ following q other → p ≡ q
@@ -92,11 +103,13 @@ same_following None (Some n) behind other e = absurd cc
 same_following (Some m) None behind other e = absurd cc
 same_following (Some m) (Some n) behind other e = cc
 
-pub other_wholes : (s t : List ℕ) (ms ns : List Message) (x y : Input) (place other_place : ℕ) → Rest s x → Rest t y → StreamMeans s ms → StreamMeans t ns → Part x y place other_place → ms ≡ ns → ⊥
+pub other_wholes : (s t : List ℕ) (ms ns : List Message) (x y : Input) (place other_place : ℕ) → Rest s x → Rest t y → StreamMeans s ms → StreamMeans t ns →
+    Part x y place other_place → ms ≡ ns → ⊥
 other_wholes s t ms ns x y place other_place a b p q part e =
     let one = follows s ms part.ms x part.next a p part.goes_on in
     let two = follows t ns part.ms y part.other_next b q part.other_goes_on in
-    part.differ (same_following part.next part.other_next one.0 two.0 (append_cancel_left part.ms (following part.next one.0) (following part.other_next two.0) (sym one.1 ∙ e ∙ two.1)))
+    part.differ (same_following part.next part.other_next one.0 two.0 (append_cancel_left part.ms (following part.next one.0) (following part.other_next two.0)
+    (sym one.1 ∙ e ∙ two.1)))
 
 -- ---- no fault
 
@@ -113,6 +126,7 @@ refused_whole (stream.Truncated place) s ns ms x a means r =
     omega (arith, nothing_behind x.read r.0 r.1 ms ns (subst (λ (z : List ℕ). StreamMeans z ns) (all_read s x a r.4) means) r.2, r.3.0)
 refused_whole stream.Failed s ns ms x a means r = absurd r.3
 
-pub no_refusal : (which : Which) (f : StreamFault) (s t : List ℕ) (ms ns : List Message) (x y : Input) → Rest s x → Rest t y → StreamMeans s ms → StreamMeans t ns → Fails (fault.Stream which f) x y → ⊥
+pub no_refusal : (which : Which) (f : StreamFault) (s t : List ℕ) (ms ns : List Message) (x y : Input) → Rest s x → Rest t y → StreamMeans s ms →
+    StreamMeans t ns → Fails (fault.Stream which f) x y → ⊥
 no_refusal First f s t ms ns x y a b p q fails = refused_whole f s ms fails.0 x a p fails.1
 no_refusal Second f s t ms ns x y a b p q fails = refused_whole f t ns fails.0 y b q fails.3

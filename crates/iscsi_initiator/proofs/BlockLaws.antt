@@ -3,11 +3,11 @@ use Rattle.std.proofs.Common.{◌≡◌, refl, ap, sym, ◌∙◌, subst, Bool, 
 use Rattle.std.specs.Prelude.{if◌then◌else◌, ◌&&◌, ◌||◌, ◌==◌}
 use Rattle.std.proofs.lemmas.Bool.{eqb-true, eqb-false, ne_eqb, and_parts}
 use Rattle.std.proofs.lemmas.List.{take_all}
-use Rattle.scsi_cdb.specs.declared.block.Cdb.{Cdb}
+use Rattle.scsi_cdb.specs.declared.cdb.Cdb.{Cdb}
 use Rattle.scsi_cdb.specs.Layout.{number_at, bits_at, part}
 use Rattle.scsi_cdb.specs.Blocks.{IsRecord, is_listed}
 use Rattle.iscsi_initiator.specs.Block.{record_of, record_by}
-use Rattle.scsi_cdb.proofs.Records.{part-whole}
+use Rattle.scsi_cdb.proofs.RecordLemmas.{part-whole}
 
 by_test : (b : List ℕ) (t : Bool) (x y : Cdb) → (t ≡ true → IsRecord b x) → (t ≡ false → IsRecord b y) → IsRecord b (if t then x else y)
 by_test b true x y p q = p refl
@@ -35,7 +35,18 @@ by_code b code len e =
     by_test b (code == 0x88) _ _ (λ t. record { size = len; rows = (coded b code 0x88 e t, (refl, (refl, (refl, (refl, (refl, tt)))))); unlisted = tt }) (λ f5.
     by_test b (code == 0x8a) _ _ (λ t. record { size = len; rows = (coded b code 0x8a e t, (refl, (refl, (refl, (refl, (refl, tt)))))); unlisted = tt }) (λ f6.
     by_test b (code == 0x9e && bits_at 1 0x1f b == 0x10) _ _
-    (λ t. record { size = len; rows = (coded b code 0x9e e (and_parts _ _ t).0, (ap (λ (n : ℕ). Some n) (sym (eqb-true (bits_at 1 0x1f b) 0x10 (and_parts _ _ t).1)), (refl, (refl, tt)))); unlisted = tt }) (λ f7.
+    (λ t. record {
+      size = len;
+      rows = (
+        coded b code 0x9e e (and_parts _ _ t).0,
+        (
+          ap (λ (n : ℕ). Some n)
+              (sym (eqb-true (bits_at 1 0x1f b) 0x10 (and_parts _ _ t).1)),
+          (refl, (refl, tt)),
+        ),
+      );
+      unlisted = tt;
+    }) (λ f7.
     by_test b (code == 0xa0) _ _ (λ t. record { size = len; rows = (coded b code 0xa0 e t, (refl, (refl, (refl, tt)))); unlisted = tt }) (λ f8.
     record {
       size = len;
@@ -43,8 +54,10 @@ by_code b code len e =
       unlisted =
           subst (λ (x : List ℕ). is_listed x ≡ false) (sym (part-whole b len))
           (or_false _ _
-          (or_false _ _ (other b code 0x00 e f0) (or_false _ _ (other b code 0x12 e f1) (or_false _ _ (other b code 0x25 e f2) (or_false _ _ (other b code 0x28 e f3)
-          (or_false _ _ (other b code 0x2a e f4) (or_false _ _ (other b code 0x35 e f9) (or_false _ _ (other b code 0x88 e f5) (or_false _ _ (other b code 0x8a e f6) (or_false _ _ (other b code 0xa0 e f8) refl)))))))))
+          (or_false _ _ (other b code 0x00 e f0) (or_false _ _ (other b code 0x12 e f1)
+          (or_false _ _ (other b code 0x25 e f2) (or_false _ _ (other b code 0x28 e f3)
+          (or_false _ _ (other b code 0x2a e f4) (or_false _ _ (other b code 0x35 e f9)
+          (or_false _ _ (other b code 0x88 e f5) (or_false _ _ (other b code 0x8a e f6) (or_false _ _ (other b code 0xa0 e f8) refl)))))))))
           (subst (λ (n : ℕ). (n == 0x9e && bits_at 1 0x1f b == 0x10) ≡ false) (sym e) f7));
     }))))))))))
 

@@ -1,7 +1,7 @@
 -- Worked commands, computed.
 use Rattle.std.proofs.Common.{◌≡◌, refl, ℕ, Bool, true, false, List, [], ◌∷◌, length, map, Some, None, take}
 use Rattle.std.specs.Prelude.{replicate, if◌then◌else◌}
-use Rattle.scsi_cdb.specs.declared.block.Cdb.TheVariants.{Write10}
+use Rattle.scsi_cdb.specs.declared.cdb.Cdb.TheVariants.{Write10}
 use Rattle.scsi_cdb.specs.declared.residual.Residual.TheVariants.{Under}
 use Rattle.scsi_cdb.specs.Layout.{bits_at, number_at, put_bit, put_number, put_bytes, put_raw}
 use Rattle.iscsi_pdu.specs.declared.head.Head.{Head}
@@ -39,7 +39,8 @@ ready = record (opening (loop_settings Security 8192)) {
   exp_stat_sn = Some 3;
   window = record { exp = record { 0 = 1 }; max = record { 0 = 1 } };
   held = record {
-    values = Number 1 ∷ Flag false ∷ Flag true ∷ Number 1024 ∷ Number 65536 ∷ Number 2 ∷ Number 20 ∷ Number 1 ∷ Flag true ∷ Flag true ∷ Number 0 ∷ NoneItem ∷ NoneItem ∷ NoneItem ∷ [];
+    values = Number 1 ∷ Flag false ∷ Flag true ∷ Number 1024 ∷ Number 65536 ∷ Number 2 ∷ Number 20 ∷ Number 1 ∷ Flag true ∷ Flag true ∷ Number 0 ∷ NoneItem ∷
+        NoneItem ∷ NoneItem ∷ [];
     initiator_max_recv = 8192;
     target_max_recv = 512;
   };
@@ -50,8 +51,10 @@ abbrev bit : Bool → ℕ
 bit b = if b then 1 else 0
 
 abbrev shape_of : Head → List ℕ → List ℕ
-shape_of (heads.ScsiCommand h) bytes = 1 ∷ bit h.is_final ∷ h.initiator_task_tag ∷ h.cmd_sn ∷ h.exp_stat_sn ∷ h.expected_data_transfer_length ∷ length bytes ∷ []
-shape_of (heads.DataOut h) bytes = 5 ∷ bit h.is_final ∷ h.initiator_task_tag ∷ h.target_transfer_tag ∷ h.exp_stat_sn ∷ h.data_sn ∷ h.buffer_offset ∷ length bytes ∷ []
+shape_of (heads.ScsiCommand h) bytes = 1 ∷ bit h.is_final ∷ h.initiator_task_tag ∷ h.cmd_sn ∷ h.exp_stat_sn ∷ h.expected_data_transfer_length ∷ length bytes ∷
+    []
+shape_of (heads.DataOut h) bytes = 5 ∷ bit h.is_final ∷ h.initiator_task_tag ∷ h.target_transfer_tag ∷ h.exp_stat_sn ∷ h.data_sn ∷ h.buffer_offset ∷ length
+    bytes ∷ []
 shape_of _ bytes = []
 
 abbrev shape : Message → List ℕ
@@ -68,7 +71,21 @@ abbrev wrote : Submitted
 wrote = submitted ready (requests.Out 0 write8 (replicate 4096 0x5a))
 
 abbrev r2t : ℕ → ℕ → ℕ → Message
-r2t n offset desired_data_transfer_length = record { head = heads.ReadyToTransfer (record { lun = 0; initiator_task_tag = 1; target_transfer_tag = n; stat_sn = 3; exp_cmd_sn = 2; max_cmd_sn = 1; r2t_sn = n; buffer_offset = offset; desired_data_transfer_length = desired_data_transfer_length }); segment = Bytes [] }
+r2t n offset desired_data_transfer_length = record {
+  head = heads.ReadyToTransfer
+      (record {
+        lun = 0;
+        initiator_task_tag = 1;
+        target_transfer_tag = n;
+        stat_sn = 3;
+        exp_cmd_sn = 2;
+        max_cmd_sn = 1;
+        r2t_sn = n;
+        buffer_offset = offset;
+        desired_data_transfer_length = desired_data_transfer_length;
+      });
+  segment = Bytes [];
+}
 
 first_burst_out : map shape wrote.output ≡ (1 ∷ 0 ∷ 1 ∷ 1 ∷ 3 ∷ 4096 ∷ 512 ∷ []) ∷ (5 ∷ 1 ∷ 1 ∷ 0xffffffff ∷ 3 ∷ 0 ∷ 512 ∷ 512 ∷ []) ∷ []
 unfolding submitted segment_bytes
@@ -82,7 +99,8 @@ unfolding submitted step segment_bytes
 second_burst_out = refl
 
 -- DataSN begins again in each sequence
-third_burst_out : map shape (step solicited.machine (r2t 1 2048 1024)).output ≡ (5 ∷ 0 ∷ 1 ∷ 1 ∷ 3 ∷ 0 ∷ 2048 ∷ 512 ∷ []) ∷ (5 ∷ 1 ∷ 1 ∷ 1 ∷ 3 ∷ 1 ∷ 2560 ∷ 512 ∷ []) ∷ []
+third_burst_out : map shape (step solicited.machine (r2t 1 2048 1024)).output ≡ (5 ∷ 0 ∷ 1 ∷ 1 ∷ 3 ∷ 0 ∷ 2048 ∷ 512 ∷ []) ∷
+    (5 ∷ 1 ∷ 1 ∷ 1 ∷ 3 ∷ 1 ∷ 2560 ∷ 512 ∷ []) ∷ []
 unfolding submitted step segment_bytes
 third_burst_out = refl
 
@@ -94,10 +112,46 @@ abbrev read1 : List ℕ
 read1 = 0x28 ∷ 0 ∷ 0 ∷ 0 ∷ 0 ∷ 0 ∷ 0 ∷ 0 ∷ 1 ∷ 0 ∷ 0 ∷ 0 ∷ 0 ∷ 0 ∷ 0 ∷ 0 ∷ []
 
 abbrev data_in : ℕ → ℕ → List ℕ → Message
-data_in n offset bytes = record { head = heads.DataIn (record { is_final = true; acknowledge = false; overflow = None; underflow = None; has_status = false; status = None; lun = None; initiator_task_tag = 1; target_transfer_tag = 0xffffffff; stat_sn = None; exp_cmd_sn = 2; max_cmd_sn = 2; data_sn = n; buffer_offset = offset; residual = None }); segment = Bytes bytes }
+data_in n offset bytes = record {
+  head = heads.DataIn (record {
+    is_final = true;
+    acknowledge = false;
+    overflow = None;
+    underflow = None;
+    has_status = false;
+    status = None;
+    lun = None;
+    initiator_task_tag = 1;
+    target_transfer_tag = 0xffffffff;
+    stat_sn = None;
+    exp_cmd_sn = 2;
+    max_cmd_sn = 2;
+    data_sn = n;
+    buffer_offset = offset;
+    residual = None;
+  });
+  segment = Bytes bytes;
+}
 
 abbrev response : ℕ → Message
-response stat_sn = record { head = heads.ScsiResponse (record { bidirectional_overflow = false; bidirectional_underflow = false; overflow = false; underflow = true; response = 0; status = Some 0; initiator_task_tag = 1; stat_sn = stat_sn; exp_cmd_sn = 2; max_cmd_sn = 2; exp_data_sn = Some 2; bidirectional_residual = None; residual = Some 1 }); segment = Bytes [] }
+response stat_sn = record {
+  head = heads.ScsiResponse (record {
+    bidirectional_overflow = false;
+    bidirectional_underflow = false;
+    overflow = false;
+    underflow = true;
+    response = 0;
+    status = Some 0;
+    initiator_task_tag = 1;
+    stat_sn = stat_sn;
+    exp_cmd_sn = 2;
+    max_cmd_sn = 2;
+    exp_data_sn = Some 2;
+    bidirectional_residual = None;
+    residual = Some 1;
+  });
+  segment = Bytes [];
+}
 
 abbrev reading : Machine
 reading = (submitted ready (requests.In 0 read1 5)).machine
@@ -105,7 +159,8 @@ reading = (submitted ready (requests.In 0 read1 5)).machine
 abbrev read_done : Stepped
 read_done = step (step (step reading (data_in 0 0 (1 ∷ 2 ∷ []))).machine (data_in 1 2 (3 ∷ 4 ∷ []))).machine (response 3)
 
-read_outcome : (read_done.machine.done ≡ Some (done.Command 0 0 [] (1 ∷ 2 ∷ 3 ∷ 4 ∷ []) (Under 1))) × (read_done.machine.open_request ≡ None) × (read_done.machine.exp_stat_sn ≡ Some 4)
+read_outcome : (read_done.machine.done ≡ Some (done.Command 0 0 [] (1 ∷ 2 ∷ 3 ∷ 4 ∷ []) (Under 1))) × (read_done.machine.outstanding ≡ None)
+    × (read_done.machine.exp_stat_sn ≡ Some 4)
 unfolding submitted step segment_bytes
 read_outcome = (refl, refl, refl)
 

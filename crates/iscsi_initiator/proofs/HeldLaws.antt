@@ -21,9 +21,11 @@ use Rattle.iscsi_initiator.specs.declared.request.Request.{Request}
 use Rattle.iscsi_initiator.specs.declared.request.Request.TheVariants.{In, Out, Ping, Text, Logout}
 use Rattle.iscsi_initiator.specs.declared.request.SubmitFault.{SubmitFault}
 use Rattle.iscsi_initiator.specs.State.{Settings, Machine, opening, is_closed}
-use Rattle.iscsi_initiator.specs.Steps.{Stepped, closed, breaks}
-use Rattle.iscsi_initiator.specs.Login.{counted, fits_segment, moves_on, goes_on, is_expected, start_step, login_step, enters, judged, offered, text_answered, in_turn, answered, asked, sends_text}
-use Rattle.iscsi_initiator.specs.Full.{Due, Asked, Pong, Data, Ready, Response, TextAnswer, LogoutAnswer, Notice, Refusal, on_due, outcome_with, sense_of, takes, due, fits_reading, fits_writing, passed, is_in_turn, checked_stat_sn}
+use Rattle.iscsi_initiator.specs.Steps.{Stepped, closed, protocol_error}
+use Rattle.iscsi_initiator.specs.Login.{counted, fits_segment, moves_on, goes_on, is_expected, start_step, login_step, begins_stage, judged, offered}
+use Rattle.iscsi_initiator.specs.Login.{text_answered, in_turn, answered, requested_stage, sends_text}
+use Rattle.iscsi_initiator.specs.Full.{Due, UnsolicitedNopIn, Pong, Data, R2t, Response, TextAnswer, LogoutAnswer, Async, RejectPdu, on_due, outcome_with}
+use Rattle.iscsi_initiator.specs.Full.{sense_of, takes, due, fits_reading, fits_writing, update_counters, is_in_turn, checked_stat_sn}
 use Rattle.iscsi_initiator.specs.Machine.{step, step_in, taken}
 use Rattle.iscsi_initiator.specs.Submitted.{submitted, or_accepted, accepted, refusal}
 use Rattle.iscsi_initiator.specs.Configured.{IsStart}
@@ -62,7 +64,8 @@ keeps_if m false x y p q = q
 kept : (m : Machine) (r : Stepped) → r.machine.stage ≡ m.stage → r.machine.held ≡ m.held → r.machine.started ≡ m.started → r.machine.phase ≡ m.phase → Keeps m r
 kept m r a b c e = record { stage = a; held = b; started = c; phase = λ f. sym e ∙ f }
 
-shuts : (m : Machine) (r : Stepped) → r.machine.stage ≡ m.stage → r.machine.held ≡ m.held → r.machine.started ≡ m.started → r.machine.phase ≡ phases.Closed → Keeps m r
+shuts : (m : Machine) (r : Stepped) → r.machine.stage ≡ m.stage → r.machine.held ≡ m.held → r.machine.started ≡ m.started → r.machine.phase ≡ phases.Closed →
+    Keeps m r
 shuts m r a b c e = record { stage = a; held = b; started = c; phase = λ f. absurd (subst (λ (p : Phase). IsShut p) (sym e ∙ f) tt) }
 
 outcome_keeps : (o : Option (List ℕ)) (m : Machine) (received : List ℕ) (h : ScsiResponse) → Keeps m (outcome_with o m received h)
@@ -70,25 +73,27 @@ outcome_keeps None m received h = shuts m _ refl refl refl refl
 outcome_keeps (Some sense) m received h = kept m _ refl refl refl refl
 
 on_due_keeps : (m : Machine) (d : Due) (bytes : List ℕ) → Keeps m (on_due m d bytes)
-on_due_keeps m (Asked h) bytes = keeps_if m (is_tag h.target_transfer_tag) _ _ (kept m _ refl refl refl refl) (kept m _ refl refl refl refl)
+on_due_keeps m (UnsolicitedNopIn h) bytes = keeps_if m (is_tag h.target_transfer_tag) _ _ (kept m _ refl refl refl refl) (kept m _ refl refl refl refl)
 on_due_keeps m (Pong h) bytes = kept m _ refl refl refl refl
 on_due_keeps m (Data r h) bytes =
-    keeps_if m (not (fits_reading r h bytes)) _ _ (shuts m _ refl refl refl refl) (keeps_if m h.has_status _ _ (kept m _ refl refl refl refl) (kept m _ refl refl refl refl))
-on_due_keeps m (Ready w h) bytes = keeps_if m (fits_writing m w h) _ _ (kept m _ refl refl refl refl) (shuts m _ refl refl refl refl)
+    keeps_if m (not (fits_reading r h bytes)) _ _ (shuts m _ refl refl refl refl)
+    (keeps_if m h.has_status _ _ (kept m _ refl refl refl refl) (kept m _ refl refl refl refl))
+on_due_keeps m (R2t w h) bytes = keeps_if m (fits_writing m w h) _ _ (kept m _ refl refl refl refl) (shuts m _ refl refl refl refl)
 on_due_keeps m (Response received h) bytes = outcome_keeps (sense_of bytes) m received h
 on_due_keeps m (TextAnswer h) bytes = keeps_if m (h.is_final && not h.continues) _ _ (kept m _ refl refl refl refl) (shuts m _ refl refl refl refl)
 on_due_keeps m (LogoutAnswer h) bytes = shuts m _ refl refl refl refl
-on_due_keeps m (Notice h) bytes = kept m _ refl refl refl refl
-on_due_keeps m (Refusal h) bytes = shuts m _ refl refl refl refl
+on_due_keeps m (Async h) bytes = kept m _ refl refl refl refl
+on_due_keeps m (RejectPdu h) bytes = shuts m _ refl refl refl refl
 
-passed_keeps : (m : Machine) (d : Due) (r : Stepped) → Keeps (passed m d) r → Keeps m r
+passed_keeps : (m : Machine) (d : Due) (r : Stepped) → Keeps (update_counters m d) r → Keeps m r
 passed_keeps m d r k = record { stage = k.stage; held = k.held; started = k.started; phase = k.phase }
 
 pub takes_keeps : (o : Option Due) (m : Machine) (bytes : List ℕ) → Keeps m (takes o m bytes)
 takes_keeps None m bytes = shuts m _ refl refl refl refl
 takes_keeps (Some d) m bytes =
     keeps_if m (nat_lt m.held.initiator_max_recv (length bytes)) _ _ (shuts m _ refl refl refl refl)
-    (keeps_if m (not (is_in_turn m.exp_stat_sn (checked_stat_sn d))) _ _ (shuts m _ refl refl refl refl) (passed_keeps m d _ (on_due_keeps (passed m d) d bytes)))
+    (keeps_if m (not (is_in_turn m.exp_stat_sn (checked_stat_sn d))) _ _ (shuts m _ refl refl refl refl)
+    (passed_keeps m d _ (on_due_keeps (update_counters m d) d bytes)))
 
 -- ---- the invariant: a login that goes on has not reached the last stage
 
@@ -106,18 +111,25 @@ closed_sound m s = record { login = λ e f. subst (λ (p : Phase). IsShut p) e t
 
 text_sound : (m : Machine) → Sound m → Sound (sends_text m).machine
 text_sound m s =
-    sound_if (fits_segment m (canonical_text (offered m))) _ _ (record { login = s.login; started = s.started }) (record { login = s.login; started = s.started })
+    sound_if (fits_segment m (canonical_text (offered m))) _ _ (record { login = s.login; started = s.started })
+    (record { login = s.login; started = s.started })
 
-enters_sound : (stage : Stage) (m : Machine) → m.started ≡ true → Sound (enters stage m).machine
+enters_sound : (stage : Stage) (m : Machine) → m.started ≡ true → Sound (begins_stage stage m).machine
 enters_sound stages.Full m t = record { login = λ e f. subst (λ (p : Phase). IsFull p) e tt; started = λ f. t }
 enters_sound stages.Security m t =
-    let n : Machine = record m { stage = stages.Security } in text_sound n (record { login = λ e f. subst (λ (p : Stage). IsLast p) (sym f) tt; started = λ f. t })
+    let n : Machine = record m { stage = stages.Security } in text_sound n (record {
+      login = λ e f. subst (λ (p : Stage). IsLast p) (sym f) tt;
+      started = λ f. t;
+    })
 enters_sound stages.Operational m t =
-    let n : Machine = record m { stage = stages.Operational } in text_sound n (record { login = λ e f. subst (λ (p : Stage). IsLast p) (sym f) tt; started = λ f. t })
+    let n : Machine = record m { stage = stages.Operational } in text_sound n (record {
+      login = λ e f. subst (λ (p : Stage). IsLast p) (sym f) tt;
+      started = λ f. t;
+    })
 
 judged_sound : (o : Option (List ℕ)) (m : Machine) (h : LoginResponse) (answer : Pairs) → Sound m → m.started ≡ true → Sound (judged o m h answer).machine
 judged_sound (Some key) m h answer s t = closed_sound m s
-judged_sound None m h answer s t = let n : Machine = record (counted m h) { held = initiator_holds None answer m.held } in enters_sound (asked m) n t
+judged_sound None m h answer s t = let n : Machine = record (counted m h) { held = initiator_holds None answer m.held } in enters_sound (requested_stage m) n t
 
 text_answered_sound : (m : Machine) (h : LoginResponse) (segment : Segment) → Sound m → m.started ≡ true → Sound (text_answered m h segment).machine
 text_answered_sound m h (Bytes bytes) s t = closed_sound m s
@@ -130,7 +142,7 @@ in_turn_sound (byte ∷ bytes) m h segment s t = sound_if (goes_on m h segment) 
 answered_sound : (m : Machine) (h : LoginResponse) (segment : Segment) → Sound m → m.started ≡ true → Sound (answered m h segment).machine
 answered_sound m h segment s t =
     sound_if (not (h.status_class == 0)) _ _ (closed_sound m s)
-    (sound_if (not (is_expected m.exp_stat_sn (unwrap_or h.stat_sn 0))) _ _ (closed_sound m s) (in_turn_sound m.left m h segment s t))
+    (sound_if (not (is_expected m.exp_stat_sn (unwrap_or h.stat_sn 0))) _ _ (closed_sound m s) (in_turn_sound m.unsent_text m h segment s t))
 
 login_sound : (m : Machine) (head : Head) (segment : Segment) → Sound m → m.started ≡ true → Sound (login_step m head segment).machine
 login_sound m (heads.LoginResponse h) segment s t = sound_if (h.initiator_task_tag == 0) _ _ (answered_sound m h segment s t) (closed_sound m s)
@@ -147,7 +159,7 @@ goes_by : (m n : Machine) → Sound m → n.stage ≡ m.stage → n.held ≡ m.h
 goes_by m n s a b t e = record { sound = record { login = λ f g. s.login (e f) (sym a ∙ g); started = λ g. t ∙ s.started (sym a ∙ g) }; stays = λ f. (a, b) }
 
 login_goes : (b : Bool) (m : Machine) (message : Message) → m.started ≡ b → m.phase ≡ phases.Login → Sound m
-    → Goes m (if b then login_step m message.head message.segment else breaks m 1).machine
+    → Goes m (if b then login_step m message.head message.segment else protocol_error m 1).machine
 login_goes true m message t e s = record { sound = login_sound m message.head message.segment s t; stays = λ f. absurd (s.login e f) }
 login_goes false m message t e s = record { sound = closed_sound m s; stays = λ f. absurd (s.login e f) }
 
@@ -172,7 +184,7 @@ start_sound : (m : Machine) → (m.stage ≡ stages.Full → ⊥) → Sound (sen
 start_sound m f = let n : Machine = record m { started = true } in text_sound n (record { login = λ a b. f b; started = λ a. refl })
 
 -- a start in full feature phase, which breaks a rule, keeps what is agreed
-started_goes : (c : Bool) (m : Machine) → m.started ≡ c → Sound m → Goes m (if c then breaks m 1 else sends_text (record m { started = true })).machine
+started_goes : (c : Bool) (m : Machine) → m.started ≡ c → Sound m → Goes m (if c then protocol_error m 1 else sends_text (record m { started = true })).machine
 started_goes true m d s = goes_by m (closed m) s refl refl refl (λ g. absurd (subst (λ (p : Phase). IsShut p) g tt))
 started_goes false m d s =
     let never : m.stage ≡ stages.Full → ⊥ = λ g. subst (λ (b : Bool). IsYes b) (sym (s.started g) ∙ d) tt in

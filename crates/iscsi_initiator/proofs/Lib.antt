@@ -2,14 +2,14 @@ pub mod Rows
 mod CommandRows
 pub mod HeldLaws
 pub mod SequenceLaws
-pub mod Sending
-pub mod Passing
-pub mod Writing
-pub mod Stepping
-pub mod Faults
-pub mod Hearing
-pub mod Pieces
+pub mod LoginSendLemmas
+pub mod CounterLemmas
+pub mod WritingLemmas
+pub mod StepLemmas
+pub mod FaultLemmas
+pub mod ReceivingLemmas
+pub mod SequenceLemmas
 pub mod OutcomeLaws
 pub mod BlockLaws
 pub mod ReadLaws
-pub mod OneOutcome
+pub mod OneOutcomeLaw

@@ -1,5 +1,6 @@
 -- Each outcome is that of its request.
-use Rattle.std.proofs.Common.{◌≡◌, refl, ap, sym, ◌∙◌, subst, Bool, true, false, List, [], ◌∷◌, ◌++◌, ℕ, ◌+◌, ◌≤◌, Option, Some, None, length, is_some, append_assoc, append-nil, arith, length-append}
+use Rattle.std.proofs.Common.{◌≡◌, refl, ap, sym, ◌∙◌, subst, Bool, true, false, List, [], ◌∷◌, ◌++◌, ℕ, ◌+◌, ◌≤◌, Option, Some, None, length, is_some}
+use Rattle.std.proofs.Common.{append_assoc, append-nil, arith, length-append}
 use Rattle.std.specs.Prelude.{if◌then◌else◌, not, ◌&&◌, ◌==◌, nat_lt, unwrap_or, ◌||◌}
 use Rattle.std.proofs.lemmas.Bool.{leb-true}
 use Rattle.iscsi_pdu.specs.Fields.{is_tag, reserved_tag}
@@ -25,21 +26,25 @@ use Rattle.iscsi_initiator.specs.declared.request.Done.TheVariants as done
 use Rattle.iscsi_initiator.specs.declared.request.Request.{Request}
 use Rattle.iscsi_initiator.specs.declared.request.Request.TheVariants as requests
 use Rattle.iscsi_initiator.specs.declared.request.SubmitFault.{SubmitFault}
-use Rattle.iscsi_initiator.specs.declared.open.Open.{Open}
-use Rattle.iscsi_initiator.specs.declared.open.Open.TheVariants.{In, Out, Ping, Text, Logout}
+use Rattle.iscsi_initiator.specs.declared.outstanding.Outstanding.{Outstanding}
+use Rattle.iscsi_initiator.specs.declared.outstanding.Outstanding.TheVariants.{In, Out, Ping, Text, Logout}
 use Rattle.iscsi_initiator.specs.Progress.{Reading, Writing}
 use Rattle.iscsi_initiator.specs.State.{Settings, Machine, opening, is_closed}
 use Rattle.iscsi_pdu.specs.Serial.{next_sn}
-use Rattle.iscsi_initiator.specs.Steps.{Stepped, closed, breaks, quiet}
-use Rattle.iscsi_initiator.specs.Login.{counted, fits_segment, moves_on, goes_on, is_expected, start_step, login_step, enters, judged, offered, text_answered, in_turn, answered, asked, sends_text}
-use Rattle.iscsi_initiator.specs.Full.{Due, Asked, Pong, Data, Ready, Response, TextAnswer, LogoutAnswer, Notice, Refusal, on_due, outcome_with, sense_of, takes, due, due_to, answer_due, tag_of, fits_reading, fits_writing, passed, is_in_turn, checked_stat_sn, completes, has_received, read_outcome, residual}
+use Rattle.iscsi_initiator.specs.Steps.{Stepped, closed, protocol_error, quiet}
+use Rattle.iscsi_initiator.specs.Login.{counted, fits_segment, moves_on, goes_on, is_expected, start_step, login_step, begins_stage, judged, offered}
+use Rattle.iscsi_initiator.specs.Login.{text_answered, in_turn, answered, requested_stage, sends_text}
+use Rattle.iscsi_initiator.specs.Full.{Due, UnsolicitedNopIn, Pong, Data, R2t, Response, TextAnswer, LogoutAnswer, Async, RejectPdu, on_due, outcome_with}
+use Rattle.iscsi_initiator.specs.Full.{sense_of, takes, due, due_to, answer_due, tag_of, fits_reading, fits_writing, update_counters, is_in_turn}
+use Rattle.iscsi_initiator.specs.Full.{checked_stat_sn, completes, has_received, read_outcome, residual}
 use Rattle.iscsi_initiator.specs.Machine.{step, step_in, taken}
 use Rattle.iscsi_initiator.specs.Submitted.{submitted, or_accepted, accepted as accept, refusal, refusal_in}
 use Rattle.iscsi_initiator.specs.declared.request.SubmitFault.TheVariants as refusals
-use Rattle.iscsi_initiator.specs.Laws.{Event, Starts, Meets, Comes, Asks, Takes, Ends, after, run, accepted, accepted_in, accepted_if, given, given_in, listed, IsOutcomeOf, AreOutcomesOf, OutcomesInOrder}
+use Rattle.iscsi_initiator.specs.Laws.{Event, Starts, Meets, Comes, Asks, Takes, Ends, after, run, accepted, accepted_in, accepted_if, given, given_in, listed}
+use Rattle.iscsi_initiator.specs.Laws.{IsOutcomeOf, AreOutcomesOf, OutcomesInOrder}
 
--- an open request as it was handed in
-abbrev pub IsFor : Open → Request → Type 0
+-- an outstanding request as it was handed in
+abbrev pub IsFor : Outstanding → Request → Type 0
 IsFor (In r) (requests.In lun cdb expected) = (r.expected ≡ expected) × (length r.received ≤ expected)
 IsFor (Out w) (requests.Out lun cdb bytes) = Unit {0}
 IsFor Ping (requests.Ping bytes) = Unit {0}
@@ -50,22 +55,22 @@ IsFor _ _ = ⊥
 -- ---- what one step does to the open request and its outcome
 
 pub record Same (m n : Machine) : Type 0 where
-  pub request : n.open_request ≡ m.open_request
+  pub request : n.outstanding ≡ m.outstanding
   pub outcome : n.done ≡ m.done
 
 pub record Further (m n : Machine) : Type 0 where
-  pub old : Open
-  pub new : Open
-  pub was : m.open_request ≡ Some old
-  pub is : n.open_request ≡ Some new
+  pub old : Outstanding
+  pub new : Outstanding
+  pub was : m.outstanding ≡ Some old
+  pub is : n.outstanding ≡ Some new
   pub outcome : n.done ≡ m.done
   pub fits : (r : Request) → IsFor old r → IsFor new r
 
 pub record Completed (m n : Machine) : Type 0 where
-  pub old : Open
+  pub old : Outstanding
   pub outcome : Done
-  pub was : m.open_request ≡ Some old
-  pub is : n.open_request ≡ None
+  pub was : m.outstanding ≡ Some old
+  pub is : n.outstanding ≡ None
   pub given : n.done ≡ Some outcome
   pub fits : (r : Request) → IsFor old r → IsOutcomeOf r outcome
 
@@ -78,7 +83,7 @@ turn_if : (m : Machine) (b : Bool) (x y : Stepped) → Turn m x.machine → Turn
 turn_if m true x y p q = p
 turn_if m false x y p q = q
 
-same : (m n : Machine) → n.open_request ≡ m.open_request → n.done ≡ m.done → Turn m n
+same : (m n : Machine) → n.outstanding ≡ m.outstanding → n.done ≡ m.done → Turn m n
 same m n a b = stays (record { request = a; outcome = b })
 
 -- ---- in full feature phase
@@ -90,13 +95,18 @@ IsNo false = Unit {0}
 -- more data are received, within what is expected
 more_fits : (r : Reading) (bytes : List ℕ) (n : ℕ) → length r.received + length bytes ≤ r.expected → (q : Request) → IsFor (In r) q
     → IsFor (In (record r { received = r.received ++ bytes; next_data_sn = n })) q
-more_fits r bytes n le (requests.In lun cdb expected) f = (f.0, rw (length-append r.received bytes) (subst (λ (e : ℕ). length r.received + length bytes ≤ e) f.0 le))
+more_fits r bytes n le (requests.In lun cdb expected) f = (
+  f.0,
+  rw (length-append r.received bytes)
+      (subst (λ (e : ℕ). length r.received + length bytes ≤ e) f.0 le),
+)
 more_fits r bytes n le (requests.Out lun cdb sent) f = absurd f
 more_fits r bytes n le (requests.Ping sent) f = absurd f
 more_fits r bytes n le (requests.Text sent) f = absurd f
 more_fits r bytes n le requests.Logout f = absurd f
 
-read_fits : (r : Reading) (bytes sense : List ℕ) (response status : ℕ) (q : Request) (o : Done) → o ≡ o → length bytes ≤ r.expected → IsFor (In r) q → (residual : _) → IsOutcomeOf q (done.Command response status sense bytes residual)
+read_fits : (r : Reading) (bytes sense : List ℕ) (response status : ℕ) (q : Request) (o : Done) → o ≡ o → length bytes ≤ r.expected → IsFor (In r) q →
+    (residual : _) → IsOutcomeOf q (done.Command response status sense bytes residual)
 read_fits r bytes sense response status (requests.In lun cdb expected) o e le f residual = subst (λ (n : ℕ). length bytes ≤ n) f.0 le
 read_fits r bytes sense response status (requests.Out lun cdb sent) o e le f residual = absurd f
 read_fits r bytes sense response status (requests.Ping sent) o e le f residual = absurd f
@@ -107,8 +117,8 @@ and_right : (a b : Bool) → (a && b) ≡ true → b ≡ true
 and_right true b e = e
 and_right false b e = absurd (subst (λ (x : Bool). IsNo x) e tt)
 
-data_turn : (b c : Bool) (m : Machine) (r : Reading) (h : DataIn) (bytes : List ℕ) → m.open_request ≡ Some (In r) → fits_reading r h bytes ≡ b
-    → Turn m (if not b then breaks m 3 else (if c then completes m (read_outcome (r.received ++ bytes) h) else quiet (has_received m r bytes))).machine
+data_turn : (b c : Bool) (m : Machine) (r : Reading) (h : DataIn) (bytes : List ℕ) → m.outstanding ≡ Some (In r) → fits_reading r h bytes ≡ b
+    → Turn m (if not b then protocol_error m 3 else (if c then completes m (read_outcome (r.received ++ bytes) h) else quiet (has_received m r bytes))).machine
 data_turn false c m r h bytes e f = same m (closed m) refl refl
 data_turn true true m r h bytes e f =
     let le : length r.received + length bytes ≤ r.expected = leb-true _ _ (and_right _ _ f) in
@@ -139,14 +149,16 @@ out_more w v (requests.Ping sent) f = absurd f
 out_more w v (requests.Text sent) f = absurd f
 out_more w v requests.Logout f = absurd f
 
-out_done : (w : Writing) (sense : List ℕ) (response status : ℕ) (left : Residual) (q : Request) → IsFor (Out w) q → IsOutcomeOf q (done.Command response status sense [] left)
+out_done : (w : Writing) (sense : List ℕ) (response status : ℕ) (left : Residual) (q : Request) → IsFor (Out w) q →
+    IsOutcomeOf q (done.Command response status sense [] left)
 out_done w sense response status left (requests.In lun cdb expected) f = absurd f
 out_done w sense response status left (requests.Out lun cdb sent) f = refl
 out_done w sense response status left (requests.Ping sent) f = absurd f
 out_done w sense response status left (requests.Text sent) f = absurd f
 out_done w sense response status left requests.Logout f = absurd f
 
-in_done : (r : Reading) (sense : List ℕ) (response status : ℕ) (left : Residual) (q : Request) → IsFor (In r) q → IsOutcomeOf q (done.Command response status sense r.received left)
+in_done : (r : Reading) (sense : List ℕ) (response status : ℕ) (left : Residual) (q : Request) → IsFor (In r) q →
+    IsOutcomeOf q (done.Command response status sense r.received left)
 in_done r sense response status left (requests.In lun cdb expected) f = f.1
 in_done r sense response status left (requests.Out lun cdb sent) f = absurd f
 in_done r sense response status left (requests.Ping sent) f = absurd f
@@ -174,7 +186,8 @@ logout_done (requests.Ping sent) f = absurd f
 logout_done (requests.Text sent) f = absurd f
 logout_done requests.Logout f = tt
 
-in_response : (o : Option (List ℕ)) (m : Machine) (r : Reading) (h : ScsiResponse) → m.open_request ≡ Some (In r) → Turn m (outcome_with o m r.received h).machine
+in_response : (o : Option (List ℕ)) (m : Machine) (r : Reading) (h : ScsiResponse) → m.outstanding ≡ Some (In r) →
+    Turn m (outcome_with o m r.received h).machine
 in_response None m r h e = same m (closed m) refl refl
 in_response (Some sense) m r h e =
     ends (record {
@@ -186,7 +199,7 @@ in_response (Some sense) m r h e =
       fits = in_done r sense h.response (unwrap_or h.status 0) (residual h.overflow h.underflow (unwrap_or h.residual 0));
     })
 
-out_response : (o : Option (List ℕ)) (m : Machine) (w : Writing) (h : ScsiResponse) → m.open_request ≡ Some (Out w) → Turn m (outcome_with o m [] h).machine
+out_response : (o : Option (List ℕ)) (m : Machine) (w : Writing) (h : ScsiResponse) → m.outstanding ≡ Some (Out w) → Turn m (outcome_with o m [] h).machine
 out_response None m w h e = same m (closed m) refl refl
 out_response (Some sense) m w h e =
     ends (record {
@@ -198,12 +211,13 @@ out_response (Some sense) m w h e =
       fits = out_done w sense h.response (unwrap_or h.status 0) (residual h.overflow h.underflow (unwrap_or h.residual 0));
     })
 
-unpassed : (m : Machine) (d : Due) (n : Machine) → Turn (passed m d) n → Turn m n
+unpassed : (m : Machine) (d : Due) (n : Machine) → Turn (update_counters m d) n → Turn m n
 unpassed m d n (stays s) = stays (record { request = s.request; outcome = s.outcome })
 unpassed m d n (goes s) = goes (record { old = s.old; new = s.new; was = s.was; is = s.is; outcome = s.outcome; fits = s.fits })
 unpassed m d n (ends s) = ends (record { old = s.old; outcome = s.outcome; was = s.was; is = s.is; given = s.given; fits = s.fits })
 
-some_turn : (m : Machine) (d : Due) (bytes : List ℕ) → Turn (passed m d) (on_due (passed m d) d bytes).machine → Turn m (takes (Some d) m bytes).machine
+some_turn : (m : Machine) (d : Due) (bytes : List ℕ) → Turn (update_counters m d) (on_due (update_counters m d) d bytes).machine →
+    Turn m (takes (Some d) m bytes).machine
 some_turn m d bytes t =
     turn_if m (nat_lt m.held.initiator_max_recv (length bytes)) _ _ (same m (closed m) refl refl)
     (turn_if m (not (is_in_turn m.exp_stat_sn (checked_stat_sn d))) _ _ (same m (closed m) refl refl) (unpassed m d _ t))
@@ -211,52 +225,59 @@ some_turn m d bytes t =
 none_turn : (m : Machine) (bytes : List ℕ) → Turn m (takes None m bytes).machine
 none_turn m bytes = same m (closed m) refl refl
 
-due_turn : (q : Option Open) (head : Head) (m : Machine) (bytes : List ℕ) → m.open_request ≡ q → Turn m (takes (due_to q head) m bytes).machine
+due_turn : (q : Option Outstanding) (head : Head) (m : Machine) (bytes : List ℕ) → m.outstanding ≡ q → Turn m (takes (due_to q head) m bytes).machine
 due_turn (Some Ping) (heads.NopIn h) m bytes e =
     some_turn m (Pong h) bytes (ends (record { old = Ping; outcome = done.Ping bytes; was = e; is = refl; given = refl; fits = ping_done bytes }))
-due_turn (Some (In r)) (heads.DataIn h) m bytes e = some_turn m (Data r h) bytes (data_turn (fits_reading r h bytes) h.has_status (passed m (Data r h)) r h bytes e refl)
-due_turn (Some (In r)) (heads.ScsiResponse h) m bytes e = some_turn m (Response r.received h) bytes (in_response (sense_of bytes) (passed m (Response r.received h)) r h e)
+due_turn (Some (In r)) (heads.DataIn h) m bytes e = some_turn m (Data r h) bytes
+    (data_turn (fits_reading r h bytes) h.has_status (update_counters m (Data r h)) r h bytes e refl)
+due_turn (Some (In r)) (heads.ScsiResponse h) m bytes e = some_turn m (Response r.received h) bytes (in_response (sense_of bytes)
+    (update_counters m (Response r.received h)) r h e)
 due_turn (Some (Out w)) (heads.ReadyToTransfer h) m bytes e =
     let v : Writing = record w { sent = w.sent + h.desired_data_transfer_length; next_r2t_sn = next_sn w.next_r2t_sn } in
-    some_turn m (Ready w h) bytes (turn_if (passed m (Ready w h)) (fits_writing (passed m (Ready w h)) w h) _ _
+    some_turn m (R2t w h) bytes (turn_if (update_counters m (R2t w h)) (fits_writing (update_counters m (R2t w h)) w h) _ _
     (goes (record { old = Out w; new = Out v; was = e; is = refl; outcome = refl; fits = out_more w v }))
     (same _ _ refl refl))
-due_turn (Some (Out w)) (heads.ScsiResponse h) m bytes e = some_turn m (Response [] h) bytes (out_response (sense_of bytes) (passed m (Response [] h)) w h e)
+due_turn (Some (Out w)) (heads.ScsiResponse h) m bytes e = some_turn m (Response [] h) bytes (out_response (sense_of bytes)
+    (update_counters m (Response [] h)) w h e)
 due_turn (Some Text) (heads.TextResponse h) m bytes e =
-    some_turn m (TextAnswer h) bytes (turn_if (passed m (TextAnswer h)) (h.is_final && not h.continues) _ _
+    some_turn m (TextAnswer h) bytes (turn_if (update_counters m (TextAnswer h)) (h.is_final && not h.continues) _ _
     (ends (record { old = Text; outcome = done.Text bytes; was = e; is = refl; given = refl; fits = text_done bytes })) (same _ _ refl refl))
 due_turn (Some Logout) (heads.LogoutResponse h) m bytes e =
     some_turn m (LogoutAnswer h) bytes (ends (record { old = Logout; outcome = done.Closed; was = e; is = refl; given = refl; fits = logout_done }))
 due_turn _ _ m bytes e = none_turn m bytes
 
-takes_if : (b : Bool) (x y : Option Due) (m : Machine) (bytes : List ℕ) → Turn m (takes x m bytes).machine → Turn m (takes y m bytes).machine → Turn m (takes (if b then x else y) m bytes).machine
+takes_if : (b : Bool) (x y : Option Due) (m : Machine) (bytes : List ℕ) → Turn m (takes x m bytes).machine → Turn m (takes y m bytes).machine →
+    Turn m (takes (if b then x else y) m bytes).machine
 takes_if true x y m bytes p q = p
 takes_if false x y m bytes p q = q
 
 answer_turn : (head : Head) (m : Machine) (bytes : List ℕ) → Turn m (takes (answer_due m head) m bytes).machine
-answer_turn head m bytes = takes_if (tag_of head == m.initiator_task_tag) (due_to m.open_request head) None m bytes (due_turn m.open_request head m bytes refl) (none_turn m bytes)
+answer_turn head m bytes = takes_if (tag_of head == m.initiator_task_tag) (due_to m.outstanding head) None m bytes (due_turn m.outstanding head m bytes refl)
+    (none_turn m bytes)
 
 full_turn : (head : Head) (m : Machine) (bytes : List ℕ) → Turn m (takes (due m head) m bytes).machine
 full_turn (heads.NopIn h) m bytes =
-    takes_if (h.initiator_task_tag == reserved_tag) (Some (Asked h)) (answer_due m (heads.NopIn h)) m bytes
-    (some_turn m (Asked h) bytes (turn_if (passed m (Asked h)) (is_tag h.target_transfer_tag) _ _ (same _ _ refl refl) (same _ _ refl refl))) (answer_turn (heads.NopIn h) m bytes)
-full_turn (heads.AsyncMessage h) m bytes = some_turn m (Notice h) bytes (same _ _ refl refl)
-full_turn (heads.Reject h) m bytes = some_turn m (Refusal h) bytes (same _ _ refl refl)
+    takes_if (h.initiator_task_tag == reserved_tag) (Some (UnsolicitedNopIn h)) (answer_due m (heads.NopIn h)) m bytes
+    (some_turn m (UnsolicitedNopIn h) bytes (turn_if (update_counters m (UnsolicitedNopIn h)) (is_tag h.target_transfer_tag) _ _ (same _ _ refl refl)
+    (same _ _ refl refl))) (answer_turn (heads.NopIn h) m bytes)
+full_turn (heads.AsyncMessage h) m bytes = some_turn m (Async h) bytes (same _ _ refl refl)
+full_turn (heads.Reject h) m bytes = some_turn m (RejectPdu h) bytes (same _ _ refl refl)
 full_turn head m bytes = answer_turn head m bytes
 
 -- ---- in the login
 
-text_turn : (m n : Machine) → n.open_request ≡ m.open_request → n.done ≡ m.done → Turn m (sends_text n).machine
+text_turn : (m n : Machine) → n.outstanding ≡ m.outstanding → n.done ≡ m.done → Turn m (sends_text n).machine
 text_turn m n a b = turn_if m (fits_segment n (canonical_text (offered n))) _ _ (same m _ a b) (same m _ a b)
 
-enters_turn : (stage : Stage) (m n : Machine) → n.open_request ≡ m.open_request → n.done ≡ m.done → Turn m (enters stage n).machine
+enters_turn : (stage : Stage) (m n : Machine) → n.outstanding ≡ m.outstanding → n.done ≡ m.done → Turn m (begins_stage stage n).machine
 enters_turn stages.Full m n a b = same m _ a b
 enters_turn stages.Security m n a b = let x : Machine = record n { stage = stages.Security } in text_turn m x a b
 enters_turn stages.Operational m n a b = let x : Machine = record n { stage = stages.Operational } in text_turn m x a b
 
 judged_turn : (o : Option (List ℕ)) (m : Machine) (h : LoginResponse) (answer : Pairs) → Turn m (judged o m h answer).machine
 judged_turn (Some key) m h answer = same m (closed m) refl refl
-judged_turn None m h answer = let n : Machine = record (counted m h) { held = initiator_holds None answer m.held } in enters_turn (asked m) m n refl refl
+judged_turn None m h answer = let n : Machine = record (counted m h) { held = initiator_holds None answer m.held } in
+    enters_turn (requested_stage m) m n refl refl
 
 text_answered_turn : (m : Machine) (h : LoginResponse) (segment : Segment) → Turn m (text_answered m h segment).machine
 text_answered_turn m h (Bytes bytes) = same m (closed m) refl refl
@@ -269,7 +290,7 @@ in_turn_turn (byte ∷ bytes) m h segment = turn_if m (goes_on m h segment) _ _ 
 answered_turn : (m : Machine) (h : LoginResponse) (segment : Segment) → Turn m (answered m h segment).machine
 answered_turn m h segment =
     turn_if m (not (h.status_class == 0)) _ _ (same m (closed m) refl refl)
-    (turn_if m (not (is_expected m.exp_stat_sn (unwrap_or h.stat_sn 0))) _ _ (same m (closed m) refl refl) (in_turn_turn m.left m h segment))
+    (turn_if m (not (is_expected m.exp_stat_sn (unwrap_or h.stat_sn 0))) _ _ (same m (closed m) refl refl) (in_turn_turn m.unsent_text m h segment))
 
 login_turn : (m : Machine) (head : Head) (segment : Segment) → Turn m (login_step m head segment).machine
 login_turn m (heads.LoginResponse h) segment = turn_if m (h.initiator_task_tag == 0) _ _ (answered_turn m h segment) (same m (closed m) refl refl)
@@ -296,16 +317,16 @@ AllOutcomes (request ∷ requests) (outcome ∷ outcomes) = IsOutcomeOf request 
 AllOutcomes _ _ = ⊥
 
 pub record Idle (m : Machine) (asked : List Request) (taken_so_far : List Done) : Type 0 where
-  pub none : m.open_request ≡ None
+  pub none : m.outstanding ≡ None
   pub all : AllOutcomes asked (taken_so_far ++ listed m.done)
 
 pub record Waits (m : Machine) (asked : List Request) (taken_so_far : List Done) : Type 0 where
   pub front : List Request
   pub request : Request
-  pub open_request : Open
+  pub outstanding : Outstanding
   pub split : asked ≡ front ++ request ∷ []
-  pub is : m.open_request ≡ Some open_request
-  pub fits : IsFor open_request request
+  pub is : m.outstanding ≡ Some outstanding
+  pub fits : IsFor outstanding request
   pub outcome : m.done ≡ None
   pub all : AllOutcomes front taken_so_far
 
@@ -319,44 +340,55 @@ all_snoc [] (x ∷ ds) r d a i = absurd a
 all_snoc (x ∷ rs) [] r d a i = absurd a
 all_snoc (x ∷ rs) (y ∷ ds) r d a i = (a.0, all_snoc rs ds r d a.1 i)
 
-abbrev IsNone : Option Open → Type 0
+abbrev IsNone : Option Outstanding → Type 0
 IsNone None = Unit {0}
 IsNone (Some o) = ⊥
 
-never_both : (o : Option Open) (x : Open) → o ≡ None → o ≡ Some x → ⊥
-never_both o x e f = subst (λ (p : Option Open). IsNone p) (sym e ∙ f) tt
+never_both : (o : Option Outstanding) (x : Outstanding) → o ≡ None → o ≡ Some x → ⊥
+never_both o x e f = subst (λ (p : Option Outstanding). IsNone p) (sym e ∙ f) tt
 
-abbrev or_open : Option Open → Open → Open
+abbrev or_open : Option Outstanding → Outstanding → Outstanding
 or_open None d = d
 or_open (Some o) d = o
 
-one_open : (o : Option Open) (x y : Open) → o ≡ Some x → o ≡ Some y → x ≡ y
-one_open o x y e f = ap (λ (p : Option Open). or_open p x) (sym e ∙ f)
+one_open : (o : Option Outstanding) (x y : Outstanding) → o ≡ Some x → o ≡ Some y → x ≡ y
+one_open o x y e f = ap (λ (p : Option Outstanding). or_open p x) (sym e ∙ f)
 
 turn_inv : (m n : Machine) (rs : List Request) (ds : List Done) → Turn m n → Inv m rs ds → Inv n rs ds
 turn_inv m n rs ds (stays s) (idle i) =
     idle (record { none = s.request ∙ i.none; all = subst (λ (d : Option Done). AllOutcomes rs (ds ++ listed d)) (sym s.outcome) i.all })
 turn_inv m n rs ds (stays s) (waits w) =
-    waits (record { front = w.front; request = w.request; open_request = w.open_request; split = w.split; is = s.request ∙ w.is; fits = w.fits; outcome = s.outcome ∙ w.outcome; all = w.all })
-turn_inv m n rs ds (goes g) (idle i) = absurd (never_both m.open_request g.old i.none g.was)
+    waits (record {
+      front = w.front;
+      request = w.request;
+      outstanding = w.outstanding;
+      split = w.split;
+      is = s.request ∙ w.is;
+      fits = w.fits;
+      outcome = s.outcome ∙ w.outcome;
+      all = w.all;
+    })
+turn_inv m n rs ds (goes g) (idle i) = absurd (never_both m.outstanding g.old i.none g.was)
 turn_inv m n rs ds (goes g) (waits w) =
     waits (record {
       front = w.front;
       request = w.request;
-      open_request = g.new;
+      outstanding = g.new;
       split = w.split;
       is = g.is;
-      fits = g.fits w.request (subst (λ (o : Open). IsFor o w.request) (one_open m.open_request w.open_request g.old w.is g.was) w.fits);
+      fits = g.fits w.request (subst (λ (o : Outstanding). IsFor o w.request) (one_open m.outstanding w.outstanding g.old w.is g.was) w.fits);
       outcome = g.outcome ∙ w.outcome;
       all = w.all;
     })
-turn_inv m n rs ds (ends g) (idle i) = absurd (never_both m.open_request g.old i.none g.was)
+turn_inv m n rs ds (ends g) (idle i) = absurd (never_both m.outstanding g.old i.none g.was)
 turn_inv m n rs ds (ends g) (waits w) =
-    let o : IsOutcomeOf w.request g.outcome = g.fits w.request (subst (λ (o : Open). IsFor o w.request) (one_open m.open_request w.open_request g.old w.is g.was) w.fits) in
+    let o : IsOutcomeOf w.request g.outcome = g.fits w.request (subst (λ (o : Outstanding). IsFor o w.request)
+    (one_open m.outstanding w.outstanding g.old w.is g.was) w.fits) in
     idle (record {
       none = g.is;
       all = subst (λ (xs : List Request). AllOutcomes xs (ds ++ listed n.done)) (sym w.split)
-          (subst (λ (d : Option Done). AllOutcomes (w.front ++ w.request ∷ []) (ds ++ listed d)) (sym g.given) (all_snoc w.front ds w.request g.outcome w.all o));
+          (subst (λ (d : Option Done). AllOutcomes (w.front ++ w.request ∷ []) (ds ++ listed d)) (sym g.given)
+          (all_snoc w.front ds w.request g.outcome w.all o));
     })
 
 -- ---- requests
@@ -365,7 +397,7 @@ abbrev IsYes : Bool → Type 0
 IsYes true = Unit {0}
 IsYes false = ⊥
 
-is_none_of : (o : Option Open) (d : Option Done) → (is_some o || is_some d) ≡ false → (o ≡ None) × (d ≡ None)
+is_none_of : (o : Option Outstanding) (d : Option Done) → (is_some o || is_some d) ≡ false → (o ≡ None) × (d ≡ None)
 is_none_of None None e = (refl, refl)
 is_none_of None (Some d) e = absurd (subst (λ (x : Bool). IsYes x) e tt)
 is_none_of (Some o) d e = absurd (subst (λ (x : Bool). IsYes x) e tt)
@@ -377,32 +409,37 @@ IsFault (Some f) = Unit {0}
 no_fault : (f : SubmitFault) → Some f ≡ None → ⊥
 no_fault f e = subst (λ (x : Option SubmitFault). IsFault x) e tt
 
-full_free : (b : Bool) (m : Machine) (rest : Option SubmitFault) → (is_some m.open_request || is_some m.done) ≡ b → (if b then Some refusals.Busy else rest) ≡ None → (m.open_request ≡ None) × (m.done ≡ None)
+full_free : (b : Bool) (m : Machine) (rest : Option SubmitFault) → (is_some m.outstanding || is_some m.done) ≡ b → (if b then Some refusals.Busy else rest)
+    ≡ None → (m.outstanding ≡ None) × (m.done ≡ None)
 full_free true m rest e f = absurd (no_fault refusals.Busy f)
-full_free false m rest e f = is_none_of m.open_request m.done e
+full_free false m rest e f = is_none_of m.outstanding m.done e
 
-free_in : (p : Phase) (m : Machine) (r : Request) → refusal_in p m r ≡ None → (m.open_request ≡ None) × (m.done ≡ None)
+free_in : (p : Phase) (m : Machine) (r : Request) → refusal_in p m r ≡ None → (m.outstanding ≡ None) × (m.done ≡ None)
 free_in phases.Closed m r f = absurd (no_fault refusals.Closed f)
 free_in phases.Login m r f = absurd (no_fault refusals.NotReady f)
-free_in phases.Full m r f = full_free (is_some m.open_request || is_some m.done) m _ refl f
+free_in phases.Full m r f = full_free (is_some m.outstanding || is_some m.done) m _ refl f
 
-waits_for : (m n : Machine) (rs : List Request) (ds : List Done) (r : Request) (o : Open) → m.done ≡ None → AllOutcomes rs (ds ++ listed m.done) → n.open_request ≡ Some o → n.done ≡ m.done → IsFor o r
+waits_for : (m n : Machine) (rs : List Request) (ds : List Done) (r : Request) (o : Outstanding) → m.done ≡ None → AllOutcomes rs (ds ++ listed m.done) →
+    n.outstanding ≡ Some o → n.done ≡ m.done → IsFor o r
     → Inv n (rs ++ r ∷ []) ds
 waits_for m n rs ds r o e a is same_outcome f =
-    let all : AllOutcomes rs ds = subst (λ (xs : List Done). AllOutcomes rs xs) (append-nil ds) (subst (λ (d : Option Done). AllOutcomes rs (ds ++ listed d)) e a) in
-    waits (record { front = rs; request = r; open_request = o; split = refl; is = is; fits = f; outcome = same_outcome ∙ e; all = all })
+    let all : AllOutcomes rs ds = subst (λ (xs : List Done). AllOutcomes rs xs) (append-nil ds)
+    (subst (λ (d : Option Done). AllOutcomes rs (ds ++ listed d)) e a) in
+    waits (record { front = rs; request = r; outstanding = o; split = refl; is = is; fits = f; outcome = same_outcome ∙ e; all = all })
 
-accept_inv : (m : Machine) (r : Request) (rs : List Request) (ds : List Done) → m.done ≡ None → AllOutcomes rs (ds ++ listed m.done) → Inv (accept m r).machine (rs ++ r ∷ []) ds
+accept_inv : (m : Machine) (r : Request) (rs : List Request) (ds : List Done) → m.done ≡ None → AllOutcomes rs (ds ++ listed m.done) →
+    Inv (accept m r).machine (rs ++ r ∷ []) ds
 accept_inv m (requests.In lun cdb expected) rs ds e a = waits_for m _ rs ds _ _ e a refl refl (refl, omega arith)
 accept_inv m (requests.Out lun cdb bytes) rs ds e a = waits_for m _ rs ds _ _ e a refl refl tt
 accept_inv m (requests.Ping bytes) rs ds e a = waits_for m _ rs ds _ _ e a refl refl tt
 accept_inv m (requests.Text bytes) rs ds e a = waits_for m _ rs ds _ _ e a refl refl tt
 accept_inv m requests.Logout rs ds e a = waits_for m _ rs ds _ _ e a refl refl tt
 
-asks_inv : (o : Option SubmitFault) (m : Machine) (r : Request) (rs : List Request) (ds : List Done) → refusal m r ≡ o → Inv m rs ds → Inv (or_accepted o m r).machine (rs ++ accepted_if o r) ds
+asks_inv : (o : Option SubmitFault) (m : Machine) (r : Request) (rs : List Request) (ds : List Done) → refusal m r ≡ o → Inv m rs ds →
+    Inv (or_accepted o m r).machine (rs ++ accepted_if o r) ds
 asks_inv (Some f) m r rs ds e i = subst (λ (xs : List Request). Inv m xs ds) (sym (append-nil rs)) i
 asks_inv None m r rs ds e (idle i) = accept_inv m r rs ds (free_in m.phase m r e).1 i.all
-asks_inv None m r rs ds e (waits w) = absurd (never_both m.open_request w.open_request (free_in m.phase m r e).0 w.is)
+asks_inv None m r rs ds e (waits w) = absurd (never_both m.outstanding w.outstanding (free_in m.phase m r e).0 w.is)
 
 takes_inv : (m : Machine) (rs : List Request) (ds : List Done) → Inv m rs ds → Inv (taken m) rs (ds ++ listed m.done)
 takes_inv m rs ds (idle i) = idle (record { none = i.none; all = subst (λ (xs : List Done). AllOutcomes rs xs) (sym (append-nil (ds ++ listed m.done))) i.all })
@@ -410,34 +447,41 @@ takes_inv m rs ds (waits w) =
     waits (record {
       front = w.front;
       request = w.request;
-      open_request = w.open_request;
+      outstanding = w.outstanding;
       split = w.split;
       is = w.is;
       fits = w.fits;
       outcome = refl;
-      all = subst (λ (d : Option Done). AllOutcomes w.front (ds ++ listed d)) (sym w.outcome) (subst (λ (xs : List Done). AllOutcomes w.front xs) (sym (append-nil ds)) w.all);
+      all = subst (λ (d : Option Done). AllOutcomes w.front (ds ++ listed d)) (sym w.outcome)
+          (subst (λ (xs : List Done). AllOutcomes w.front xs) (sym (append-nil ds)) w.all);
     })
 
 none_more : (m n : Machine) (rs : List Request) (ds : List Done) → Turn m n → Inv m rs ds → Inv n (rs ++ []) (ds ++ [])
 none_more m n rs ds t i =
-    subst (λ (xs : List Request). Inv n xs (ds ++ [])) (sym (append-nil rs)) (subst (λ (ys : List Done). Inv n rs ys) (sym (append-nil ds)) (turn_inv m n rs ds t i))
+    subst (λ (xs : List Request). Inv n xs (ds ++ [])) (sym (append-nil rs)) (subst (λ (ys : List Done). Inv n rs ys) (sym (append-nil ds))
+    (turn_inv m n rs ds t i))
 
-event_inv : (m : Machine) (event : Event) (rs : List Request) (ds : List Done) → Inv m rs ds → Inv (after m event) (rs ++ accepted_in m event) (ds ++ given_in m event)
+event_inv : (m : Machine) (event : Event) (rs : List Request) (ds : List Done) → Inv m rs ds →
+    Inv (after m event) (rs ++ accepted_in m event) (ds ++ given_in m event)
 unfolding step submitted
 event_inv m Starts rs ds i = none_more m _ rs ds (if_turn (is_closed m) m (start_step m).machine (start_turn m)) i
 event_inv m (Meets (Comes message)) rs ds i = none_more m _ rs ds (step_turn m.phase m message) i
 event_inv m (Meets (Asks request)) rs ds i =
-    subst (λ (ys : List Done). Inv (or_accepted (refusal m request) m request).machine (rs ++ accepted_if (refusal m request) request) ys) (sym (append-nil ds)) (asks_inv (refusal m request) m request rs ds refl i)
+    subst (λ (ys : List Done). Inv (or_accepted (refusal m request) m request).machine (rs ++ accepted_if (refusal m request) request) ys) (sym (append-nil ds))
+    (asks_inv (refusal m request) m request rs ds refl i)
 event_inv m (Meets Takes) rs ds i = subst (λ (xs : List Request). Inv (taken m) xs (ds ++ listed m.done)) (sym (append-nil rs)) (takes_inv m rs ds i)
 event_inv m Ends rs ds i = none_more m (closed m) rs ds (same m (closed m) refl refl) i
 
 -- ---- runs
 
-run_inv : (m : Machine) (events : List Event) (rs : List Request) (ds : List Done) → Inv m rs ds → Inv (run m events) (rs ++ accepted m events) (ds ++ given m events)
+run_inv : (m : Machine) (events : List Event) (rs : List Request) (ds : List Done) → Inv m rs ds →
+    Inv (run m events) (rs ++ accepted m events) (ds ++ given m events)
 run_inv m [] rs ds i = none_more m m rs ds (same m m refl refl) i
 run_inv m (event ∷ events) rs ds i =
-    subst (λ (xs : List Request). Inv (run (after m event) events) xs (ds ++ (given_in m event ++ given (after m event) events))) (append_assoc rs (accepted_in m event) (accepted (after m event) events))
-    (subst (λ (ys : List Done). Inv (run (after m event) events) (rs ++ accepted_in m event ++ accepted (after m event) events) ys) (append_assoc ds (given_in m event) (given (after m event) events))
+    subst (λ (xs : List Request). Inv (run (after m event) events) xs (ds ++ (given_in m event ++ given (after m event) events)))
+    (append_assoc rs (accepted_in m event) (accepted (after m event) events))
+    (subst (λ (ys : List Done). Inv (run (after m event) events) (rs ++ accepted_in m event ++ accepted (after m event) events) ys)
+    (append_assoc ds (given_in m event) (given (after m event) events))
     (run_inv (after m event) events (rs ++ accepted_in m event) (ds ++ given_in m event) (event_inv m event rs ds i)))
 
 all_are : (rs : List Request) (ds : List Done) → AllOutcomes rs ds → AreOutcomesOf rs ds
@@ -457,7 +501,8 @@ inv_says m rs ds (idle i) = all_are rs (ds ++ listed m.done) i.all
 inv_says m rs ds (waits w) =
     subst (λ (xs : List Request). AreOutcomesOf xs (ds ++ listed m.done)) (sym w.split)
     (all_but_one w.front w.request (ds ++ listed m.done)
-    (subst (λ (d : Option Done). AllOutcomes w.front (ds ++ listed d)) (sym w.outcome) (subst (λ (xs : List Done). AllOutcomes w.front xs) (sym (append-nil ds)) w.all)))
+    (subst (λ (d : Option Done). AllOutcomes w.front (ds ++ listed d)) (sym w.outcome)
+    (subst (λ (xs : List Done). AllOutcomes w.front xs) (sym (append-nil ds)) w.all)))
 
 pub outcomes_in_order : (settings : Settings) → OutcomesInOrder settings
 outcomes_in_order settings events = inv_says (run (opening settings) events) (accepted (opening settings) events) (given (opening settings) events)

@@ -28,10 +28,22 @@ use Rattle.iscsi_initiator.specs.Machine.{step}
 use Rattle.iscsi_initiator.specs.Submitted.{submitted}
 
 abbrev pub loop_proposal : Proposal
-loop_proposal = record { initiator = codes "iqn.2026-01.example:host"; target = codes "iqn.2026-01.example:disk"; session = Normal; auth = auths.None; prefs = standard }
+loop_proposal = record {
+  initiator = codes "iqn.2026-01.example:host";
+  target = codes "iqn.2026-01.example:disk";
+  session = Normal;
+  auth = auths.None;
+  prefs = standard;
+}
 
 abbrev pub loop_settings : Stage → ℕ → Settings
-loop_settings start segment = record { proposal = loop_proposal; start = start; isid = 0x40 ∷ 0 ∷ 0 ∷ 1 ∷ 0 ∷ 0 ∷ []; first_cmd_sn = 1; login_segment = segment }
+loop_settings start segment = record {
+  proposal = loop_proposal;
+  start = start;
+  isid = 0x40 ∷ 0 ∷ 0 ∷ 1 ∷ 0 ∷ 0 ∷ [];
+  first_cmd_sn = 1;
+  login_segment = segment;
+}
 
 -- the first text of a login that starts at the security stage
 abbrev pub first_pairs : Pairs
@@ -42,7 +54,10 @@ abbrev pub first_answer : Pairs
 first_answer = (codes "AuthMethod", values.Items (codes "None")) ∷ (codes "TargetPortalGroupTag", values.Number 1) ∷ []
 
 abbrev pub second_pairs : Pairs
-second_pairs = (codes "DataDigest", values.Items (codes "None")) ∷ (codes "DataPDUInOrder", values.Boolean true) ∷ (codes "DataSequenceInOrder", values.Boolean true)
+second_pairs = (codes "DataDigest", values.Items (codes "None")) ∷ (codes "DataPDUInOrder", values.Boolean true) ∷ (
+  codes "DataSequenceInOrder",
+  values.Boolean true,
+)
     ∷ (codes "DefaultTime2Retain", values.Number 20) ∷ (codes "DefaultTime2Wait", values.Number 2) ∷ (codes "ErrorRecoveryLevel", values.Number 0)
     ∷ (codes "FirstBurstLength", values.Number 65536) ∷ (codes "HeaderDigest", values.Items (codes "None")) ∷ (codes "ImmediateData", values.Boolean true)
     ∷ (codes "InitialR2T", values.Boolean false) ∷ (codes "MaxBurstLength", values.Number 262144) ∷ (codes "MaxConnections", values.Number 1)
@@ -80,7 +95,20 @@ abbrev pub started : Stepped
 started = start_step (opening (loop_settings Security 8192))
 
 start_writes : started.output ≡ record {
-  head = heads.LoginRequest (record { transits = true; continues = false; current_stage = 0; next_stage = Some 1; version_max = 0; version_min = 0; isid = 0x40 ∷ 0 ∷ 0 ∷ 1 ∷ 0 ∷ 0 ∷ []; tsih = 0; initiator_task_tag = 0; connection_id = 0; cmd_sn = 1; exp_stat_sn = 0 });
+  head = heads.LoginRequest (record {
+    transits = true;
+    continues = false;
+    current_stage = 0;
+    next_stage = Some 1;
+    version_max = 0;
+    version_min = 0;
+    isid = 0x40 ∷ 0 ∷ 0 ∷ 1 ∷ 0 ∷ 0 ∷ [];
+    tsih = 0;
+    initiator_task_tag = 0;
+    connection_id = 0;
+    cmd_sn = 1;
+    exp_stat_sn = 0;
+  });
   segment = segments.Text first_pairs;
 } ∷ []
 start_writes = refl
@@ -92,7 +120,20 @@ abbrev pub secured : Stepped
 secured = step started.machine answer1
 
 second_writes : secured.output ≡ record {
-  head = heads.LoginRequest (record { transits = true; continues = false; current_stage = 1; next_stage = Some 3; version_max = 0; version_min = 0; isid = 0x40 ∷ 0 ∷ 0 ∷ 1 ∷ 0 ∷ 0 ∷ []; tsih = 0; initiator_task_tag = 0; connection_id = 0; cmd_sn = 1; exp_stat_sn = 2 });
+  head = heads.LoginRequest (record {
+    transits = true;
+    continues = false;
+    current_stage = 1;
+    next_stage = Some 3;
+    version_max = 0;
+    version_min = 0;
+    isid = 0x40 ∷ 0 ∷ 0 ∷ 1 ∷ 0 ∷ 0 ∷ [];
+    tsih = 0;
+    initiator_task_tag = 0;
+    connection_id = 0;
+    cmd_sn = 1;
+    exp_stat_sn = 2;
+  });
   segment = segments.Text second_pairs;
 } ∷ []
 unfolding step digits segment_bytes
@@ -105,12 +146,14 @@ second_length = refl
 abbrev pub logged_in : Stepped
 logged_in = step secured.machine (answer2 second_pairs)
 
-is_logged_in : (logged_in.output ≡ []) × (logged_in.fault ≡ None) × (logged_in.machine.phase ≡ phases.Full) × (logged_in.machine.stage ≡ Full) × (logged_in.machine.exp_stat_sn ≡ Some 3)
+is_logged_in : (logged_in.output ≡ []) × (logged_in.fault ≡ None) × (logged_in.machine.phase ≡ phases.Full) × (logged_in.machine.stage ≡ Full)
+    × (logged_in.machine.exp_stat_sn ≡ Some 3)
 unfolding step digits segment_bytes
 is_logged_in = (refl, refl, refl, refl, refl)
 
 holds : logged_in.machine.held ≡ record {
-  values = Number 1 ∷ Flag false ∷ Flag true ∷ Number 262144 ∷ Number 65536 ∷ Number 2 ∷ Number 20 ∷ Number 1 ∷ Flag true ∷ Flag true ∷ Number 0 ∷ NoneItem ∷ NoneItem ∷ NoneItem ∷ [];
+  values = Number 1 ∷ Flag false ∷ Flag true ∷ Number 262144 ∷ Number 65536 ∷ Number 2 ∷ Number 20 ∷ Number 1 ∷ Flag true ∷ Flag true ∷ Number 0 ∷ NoneItem ∷
+      NoneItem ∷ NoneItem ∷ [];
   initiator_max_recv = 8192;
   target_max_recv = 8192;
 }
@@ -151,7 +194,8 @@ unfolding step submitted digits segment_bytes
 closed_then = refl
 
 abbrev shut : Machine
-shut = (step (step started.machine (login_answer true 0 (Some 1) 0 1 0 (segments.Text first_answer))).machine (login_answer true 1 (Some 3) 1 2 0 (segments.Text second_pairs))).machine
+shut = (step (step started.machine (login_answer true 0 (Some 1) 0 1 0 (segments.Text first_answer))).machine
+    (login_answer true 1 (Some 3) 1 2 0 (segments.Text second_pairs))).machine
 
 is_shut : (submitted shut requests.Logout).refusal ≡ Some refusals.Shut
 unfolding step submitted digits segment_bytes

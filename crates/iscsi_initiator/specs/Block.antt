@@ -1,11 +1,11 @@
 -- The record of a descriptor block, computed. That it is the one that the block means is the law
 -- `record_of_a_block`.
 use Rattle.std.specs.Prelude.{ℕ, ◌==◌, ◌&&◌, if◌then◌else◌, List}
-use Rattle.scsi_cdb.specs.declared.block.Cdb.{Cdb}
-use Rattle.scsi_cdb.specs.declared.block.Cdb.TheVariants.{TestUnitReady, Inquiry, Capacity10, Read10, Write10, SyncCache10, Read16, Write16, Capacity16, ReportLuns, Unknown}
-use Rattle.scsi_cdb.specs.declared.block.Transfer10.{Transfer10}
-use Rattle.scsi_cdb.specs.declared.block.Transfer16.{Transfer16}
-use Rattle.scsi_cdb.specs.declared.block.Synchronize10.{Synchronize10}
+use Rattle.scsi_cdb.specs.declared.cdb.Cdb.{Cdb}
+use Rattle.scsi_cdb.specs.declared.cdb.Cdb.TheVariants.{TestUnitReady, Inquiry, Capacity10, Read10, Write10, SyncCache10, Read16, Write16, Capacity16, ReportLuns, Unknown}
+use Rattle.scsi_cdb.specs.declared.cdb.Transfer10.{Transfer10}
+use Rattle.scsi_cdb.specs.declared.cdb.Transfer16.{Transfer16}
+use Rattle.scsi_cdb.specs.declared.cdb.Synchronize10.{Synchronize10}
 use Rattle.scsi_cdb.specs.Layout.{is_set, bits_at, number_at, part}
 
 -- READ(10) and WRITE(10), past their codes (SBC-3).

@@ -1,5 +1,5 @@
--- What the calls of an initiator do: a stream that comes in pieces, and requests (RFC 7143, sections
--- 4 and 11; own rule).
+-- What the calls of an initiator do: a stream that comes in pieces, and requests (RFC 7143,
+-- sections 4 and 11).
 use Rattle.std.specs.Prelude.{◌≡◌, ◌≢◌, ℕ, ◌≤◌, ◌⊎◌, true, false, max, List, [], ◌++◌, length, take, drop, Option, Some, None, Result, Ok, Err}
 use Rattle.iscsi_stream.specs.declared.fault.StreamFault.{StreamFault}
 use Rattle.iscsi_stream.specs.declared.fault.StreamFault.TheVariants as stream
@@ -21,16 +21,16 @@ use Rattle.iscsi_initiator.specs.Login.{start_step}
 use Rattle.iscsi_initiator.specs.Machine.{steps, taken}
 use Rattle.iscsi_initiator.specs.Submitted.{submitted}
 
--- An initiator between two calls: its session, and what it has of the next PDU (own rule).
+-- An initiator between two calls: its session, and what it has of the next PDU.
 pub record Connection : Type 0 where
   pub machine : Machine
   pub framing : Framing
 
--- The longest segment that an initiator takes (section 13.12; the 8192 are own profile).
+-- The longest segment that an initiator takes (section 13.12; that 8,192 bytes fit is own rule).
 abbrev pub limit : Settings → ℕ
 limit settings = max 8192 settings.proposal.prefs.max_recv
 
--- An initiator to which nothing came (own rule).
+-- An initiator to which nothing came.
 abbrev pub opening_connection : Settings → Connection
 opening_connection settings = record {
   machine = opening settings;
@@ -39,25 +39,25 @@ opening_connection settings = record {
 
 -- ---- one step
 
--- The call left what the step leaves, and appended what it sends (own rule).
+-- The call left what the step leaves, and appended what it sends.
 pub record StepDone (stepped : Stepped) (old new : Connection) (before after : List ℕ) : Type 0 where
   pub machine : new.machine ≡ stepped.machine
   pub output : after ≡ before ++ canon stepped.output
   pub framing : new.framing ≡ old.framing
 
--- Memory ran out: nothing is written, and the session is closed (own rule).
+-- Memory ran out: nothing is written, and the session is closed.
 pub record OutOfMemory (old new : Connection) (before after : List ℕ) : Type 0 where
   pub live : is_closed old.machine ≡ false
   pub machine : new.machine ≡ closed old.machine
   pub output : after ≡ before
 
--- A closed session stays as it is (own rule).
+-- A closed session stays as it is.
 pub record Stays (old new : Connection) (before after : List ℕ) : Type 0 where
   pub closed : is_closed old.machine ≡ true
   pub connection : new ≡ old
   pub output : after ≡ before
 
--- What a start leaves that failed (section 6.3; own rule).
+-- What a start leaves that failed (section 6.3).
 abbrev pub StartFails : InitiatorFault → Connection → Connection → List ℕ → List ℕ → Type 0
 StartFails faults.NoMemory old new before after = OutOfMemory old new before after
 StartFails faults.Closed old new before after = Stays old new before after
@@ -74,8 +74,8 @@ Starts (Err fault) old new before after = StartFails fault old new before after
 
 -- ---- a call of feed
 
--- What a call heard of its piece: so many bytes, which complete PDUs of these meanings (own rule).
-pub record Heard (old : Connection) (piece : List ℕ) : Type 0 where
+-- What a call received of its piece: so many bytes, which complete PDUs of these meanings.
+pub record Received (old : Connection) (piece : List ℕ) : Type 0 where
   pub count : ℕ
   pub some : count ≤ length piece
   pub messages : List Message
@@ -83,82 +83,82 @@ pub record Heard (old : Connection) (piece : List ℕ) : Type 0 where
   pub moves : Moves old.framing framing (take count piece) messages
   pub limit : framing.limit ≡ old.framing.limit
 
--- The steps that these PDUs lead to (own rule).
-abbrev pub heard_steps : (old : Connection) (piece : List ℕ) → Heard old piece → Stepped
-heard_steps old piece heard = steps old.machine heard.messages
+-- The steps that these PDUs lead to.
+abbrev pub received_steps : (old : Connection) (piece : List ℕ) → Received old piece → Stepped
+received_steps old piece received = steps old.machine received.messages
 
--- The whole piece is heard, and the session is open (own rule).
-pub record HearsAll (old : Connection) (piece : List ℕ) (heard : Heard old piece)
+-- The whole piece is received, and the session is open.
+pub record ReceivesAll (old : Connection) (piece : List ℕ) (received : Received old piece)
     (new : Connection) (before after : List ℕ) (phase : Phase) : Type 0 where
-  pub all : heard.count ≡ length piece
-  pub live : is_closed (heard_steps old piece heard).machine ≡ false
-  pub unready : is_ready heard.framing ≡ false
+  pub all : received.count ≡ length piece
+  pub live : is_closed (received_steps old piece received).machine ≡ false
+  pub unready : is_ready received.framing ≡ false
   pub connection : new
-      ≡ record { machine = (heard_steps old piece heard).machine; framing = heard.framing }
-  pub output : after ≡ before ++ canon (heard_steps old piece heard).output
-  pub answered : phase ≡ (heard_steps old piece heard).machine.phase
+      ≡ record { machine = (received_steps old piece received).machine; framing = received.framing }
+  pub output : after ≡ before ++ canon (received_steps old piece received).output
+  pub answered : phase ≡ (received_steps old piece received).machine.phase
 
--- The last PDU that is heard closes the session; the rest of the piece is dropped (own rule).
-pub record ClosesAt (old : Connection) (piece : List ℕ) (heard : Heard old piece)
+-- The last PDU that is received closes the session; the rest of the piece is dropped.
+pub record ClosesAt (old : Connection) (piece : List ℕ) (received : Received old piece)
     (new : Connection) (before after : List ℕ) (fault : Option InitiatorFault) : Type 0 where
-  pub closes : is_closed (heard_steps old piece heard).machine ≡ true
-  pub machine : new.machine ≡ (heard_steps old piece heard).machine
-  pub output : after ≡ before ++ canon (heard_steps old piece heard).output
-  pub cause : (heard_steps old piece heard).fault ≡ fault
+  pub closes : is_closed (received_steps old piece received).machine ≡ true
+  pub machine : new.machine ≡ (received_steps old piece received).machine
+  pub output : after ≡ before ++ canon (received_steps old piece received).output
+  pub cause : (received_steps old piece received).fault ≡ fault
 
--- What follows the PDUs that are heard is refused by the framer (own rule).
-pub record StreamEnds (old : Connection) (piece : List ℕ) (heard : Heard old piece)
+-- What follows the PDUs that are received is refused by the framer.
+pub record StreamEnds (old : Connection) (piece : List ℕ) (received : Received old piece)
     (new : Connection) (before after : List ℕ) (fault : StreamFault) : Type 0 where
-  pub live : is_closed (heard_steps old piece heard).machine ≡ false
-  pub refused : FeedFails heard.framing (drop heard.count piece) fault
-  pub machine : new.machine ≡ closed (heard_steps old piece heard).machine
-  pub output : after ≡ before ++ canon (heard_steps old piece heard).output
+  pub live : is_closed (received_steps old piece received).machine ≡ false
+  pub refused : FeedFails received.framing (drop received.count piece) fault
+  pub machine : new.machine ≡ closed (received_steps old piece received).machine
+  pub output : after ≡ before ++ canon (received_steps old piece received).output
 
--- Memory ran out behind some PDUs: nothing is written, and the session is closed (own rule).
-pub record MemoryEnds (old : Connection) (piece : List ℕ) (heard : Heard old piece)
+-- Memory ran out behind some PDUs: nothing is written, and the session is closed.
+pub record MemoryEnds (old : Connection) (piece : List ℕ) (received : Received old piece)
     (new : Connection) (before after : List ℕ) : Type 0 where
-  pub live : is_closed (heard_steps old piece heard).machine ≡ false
-  pub machine : new.machine ≡ closed (heard_steps old piece heard).machine
+  pub live : is_closed (received_steps old piece received).machine ≡ false
+  pub machine : new.machine ≡ closed (received_steps old piece received).machine
   pub output : after ≡ before
 
--- No fault of the stream is `NoMemory` (own rule).
+-- No fault of the stream is `NoMemory`.
 abbrev pub StreamFails : StreamFault → (old : Connection) (piece : List ℕ) → Connection → List ℕ → List ℕ → Type 0
 StreamFails stream.NoMemory old piece new before after = ⊥
 StreamFails fault old piece new before after =
-    (heard : Heard old piece) × StreamEnds old piece heard new before after fault
+    (received : Received old piece) × StreamEnds old piece received new before after fault
 
--- What a call of feed leaves that failed (own rule).
+-- What a call of feed leaves that failed.
 abbrev pub FeedEnds : InitiatorFault → (old : Connection) (piece : List ℕ) → Connection → List ℕ → List ℕ → Type 0
 FeedEnds faults.NoMemory old piece new before after =
-    (heard : Heard old piece) × MemoryEnds old piece heard new before after
+    (received : Received old piece) × MemoryEnds old piece received new before after
 FeedEnds (faults.Stream fault) old piece new before after =
     StreamFails fault old piece new before after
 FeedEnds faults.Closed old piece new before after = Stays old new before after
 FeedEnds fault old piece new before after =
-    (heard : Heard old piece) × ClosesAt old piece heard new before after (Some fault)
+    (received : Received old piece) × ClosesAt old piece received new before after (Some fault)
 
--- What a call of feed does with a piece of the stream (own rule).
+-- What a call of feed does with a piece of the stream.
 abbrev pub Feeds : Result Phase InitiatorFault → (old : Connection) (piece : List ℕ) → Connection → List ℕ → List ℕ → Type 0
 Feeds (Ok phase) old piece new before after = (is_closed old.machine ≡ false)
-    × ((heard : Heard old piece) × (HearsAll old piece heard new before after phase
-    ⊎ (ClosesAt old piece heard new before after None × (phase ≡ phases.Closed))))
+    × ((received : Received old piece) × (ReceivesAll old piece received new before after phase
+    ⊎ (ClosesAt old piece received new before after None × (phase ≡ phases.Closed))))
 Feeds (Err fault) old piece new before after = FeedEnds fault old piece new before after
 
 -- ---- a call of submit
 
--- A request was accepted, and is written (own rule).
+-- A request was accepted, and is written.
 pub record Accepts (old : Connection) (request : Request) (new : Connection)
     (before after : List ℕ) : Type 0 where
   pub none : (submitted old.machine request).refusal ≡ None
   pub connection : new ≡ record old { machine = (submitted old.machine request).machine }
   pub output : after ≡ before ++ canon (submitted old.machine request).output
 
--- What the machine refuses the request for; `NoMemory` comes last (own rule).
+-- What the machine refuses the request for; `NoMemory` comes last.
 abbrev pub refused_for : SubmitFault → Option SubmitFault
 refused_for refusals.NoMemory = None
 refused_for fault = Some fault
 
--- A request was refused, and comes back (own rule).
+-- A request was refused, and comes back.
 pub record HandsBack (old : Connection) (request : Request) (new : Connection)
     (before after : List ℕ) (refused : Refused) : Type 0 where
   pub same : refused.request ≡ request
@@ -166,14 +166,14 @@ pub record HandsBack (old : Connection) (request : Request) (new : Connection)
   pub connection : new ≡ old
   pub output : after ≡ before
 
--- What a call of submit does (own rule).
+-- What a call of submit does.
 abbrev pub Submits : Result (Unit {0}) Refused → Connection → Request → Connection → List ℕ → List ℕ → Type 0
 Submits (Ok _) old request new before after = Accepts old request new before after
 Submits (Err refused) old request new before after = HandsBack old request new before after refused
 
 -- ---- the other calls
 
--- What a call of finish leaves that failed (own rule).
+-- What a call of finish leaves that failed.
 abbrev pub FinishEnds : InitiatorFault → Connection → Connection → Type 0
 FinishEnds faults.Closed old new = (is_closed old.machine ≡ true) × (new ≡ old)
 FinishEnds (faults.Stream fault) old new =
@@ -181,32 +181,32 @@ FinishEnds (faults.Stream fault) old new =
     × (new.machine ≡ closed old.machine)
 FinishEnds _ old new = ⊥
 
--- What a call of finish does: the stream ends between two PDUs, or within one (own rule).
+-- What a call of finish does: the stream ends between two PDUs, or within one.
 abbrev pub Finishes : Result (Unit {0}) InitiatorFault → Connection → Connection → Type 0
 Finishes (Ok _) old new =
     (is_closed old.machine ≡ false) × (old.framing.held ≡ []) × (new ≡ old)
 Finishes (Err fault) old new = FinishEnds fault old new
 
--- The outcome is taken (own rule).
+-- The outcome is taken.
 abbrev pub after_taking : Connection → Connection
 after_taking old = record old { machine = taken old.machine }
 
 -- ---- one outcome
 
 -- Two initiators that do the same from now on: while the session goes on they have the same of the
--- next PDU too (own rule).
+-- next PDU too.
 pub record Alike (a b : Connection) : Type 0 where
   pub machine : b.machine ≡ a.machine
   pub framing : is_closed a.machine ≡ false → b.framing ≡ a.framing
 
--- Two calls that answered the same, and left and wrote the same (own rule).
+-- Two calls that answered the same, and left and wrote the same.
 pub record CalledAlike {R : Type 0} (result other : R) (a b : Connection)
     (written rewritten : List ℕ) : Type 0 where
   pub answered : other ≡ result
   pub alike : Alike a b
   pub output : rewritten ≡ written
 
--- The request wasn't refused when out of memory (own rule).
+-- The request wasn't refused when out of memory.
 abbrev pub HadMemory : Result (Unit {0}) Refused → Type 0
 HadMemory (Ok done) = Unit {0}
 HadMemory (Err refused) = refused.fault ≢ refusals.NoMemory

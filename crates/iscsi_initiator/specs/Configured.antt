@@ -1,9 +1,9 @@
--- What an initiator is configured with, and what is refused (RFC 7143, section 6.3; own rule).
+-- What an initiator is configured with, and what is refused (RFC 7143, section 6.3).
 use Rattle.std.specs.Prelude.{◌≡◌, ◌≤◌, Result, Ok, Err}
 use Rattle.iscsi_login.specs.declared.stage.Stage.{Stage}
 use Rattle.iscsi_login.specs.declared.stage.Stage.TheVariants as stages
-use Rattle.iscsi_login.specs.declared.phase.ConfigFault.{ConfigFault}
-use Rattle.iscsi_login.specs.declared.phase.ConfigFault.TheVariants.{NoMemory, BadName, OutOfRange}
+use Rattle.iscsi_login.specs.declared.config_fault.ConfigFault.{ConfigFault}
+use Rattle.iscsi_login.specs.declared.config_fault.ConfigFault.TheVariants.{NoMemory, BadName, OutOfRange}
 use Rattle.iscsi_login.specs.Name.{IsName}
 use Rattle.iscsi_login.specs.Negotiation.{IsInRange}
 use Rattle.iscsi_initiator.specs.State.{Settings}
@@ -26,12 +26,12 @@ pub record AreInRange (settings : Settings) : Type 0 where
   pub least : 64 ≤ settings.login_segment
   pub most : settings.login_segment ≤ 8192
 
--- Settings that are not refused (own rule).
+-- Settings that are not refused.
 pub record AreValid (settings : Settings) : Type 0 where
   pub names : AreNames settings
   pub in_range : AreInRange settings
 
--- The settings are those that were given; each fault has its cause, the names' first (own rule).
+-- The settings are those that were given; each fault has its cause, the names' first.
 abbrev pub Configures : Settings → Result Settings ConfigFault → Type 0
 Configures given (Ok settings) = AreValid given × (settings ≡ given)
 Configures given (Err BadName) = ¬ AreNames given

@@ -24,36 +24,36 @@ use Rattle.iscsi_login.specs.declared.key.NegKey.TheVariants.{MaxBurstLength}
 use Rattle.iscsi_login.specs.Held.{held_value, number_of, max_burst}
 use Rattle.iscsi_initiator.specs.declared.request.Done.{Done}
 use Rattle.iscsi_initiator.specs.declared.request.Done.TheVariants as done
-use Rattle.iscsi_initiator.specs.declared.open.Open.{Open}
-use Rattle.iscsi_initiator.specs.declared.open.Open.TheVariants.{In, Out, Ping, Text, Logout}
+use Rattle.iscsi_initiator.specs.declared.outstanding.Outstanding.{Outstanding}
+use Rattle.iscsi_initiator.specs.declared.outstanding.Outstanding.TheVariants.{In, Out, Ping, Text, Logout}
 use Rattle.iscsi_initiator.specs.State.{Machine, serial, sent_exp_stat_sn}
 use Rattle.iscsi_initiator.specs.Progress.{Reading, Writing}
 use Rattle.iscsi_initiator.specs.Login.{is_expected}
-use Rattle.iscsi_initiator.specs.Steps.{Stepped, closed, breaks, quiet, sends}
+use Rattle.iscsi_initiator.specs.Steps.{Stepped, closed, protocol_error, quiet, sends}
 use Rattle.iscsi_stream.specs.Pieces.{chunks}
 use Rattle.iscsi_pdu.specs.Rules.{data_out_of_order, kind_not_due, rejected, segment_too_long, status_out_of_order, text_at_fault}
 
 -- ---- which messages are due
 
--- A message that is due, with what it is due to (section 11.2.1.8). Asked is a NOP-In that answers
--- no ping, Response an answer to a command that has received these bytes.
+-- A message that is due, with what it is due to (section 11.2.1.8). UnsolicitedNopIn is a NOP-In
+-- that answers no ping, Response an answer to a command that has received these bytes.
 pub data Due : Type 0 where
-  Asked : NopIn → Due
+  UnsolicitedNopIn : NopIn → Due
   Pong : NopIn → Due
   Data : Reading → DataIn → Due
-  Ready : Writing → ReadyToTransfer → Due
+  R2t : Writing → ReadyToTransfer → Due
   Response : List ℕ → ScsiResponse → Due
   TextAnswer : TextResponse → Due
   LogoutAnswer : LogoutResponse → Due
-  Notice : AsyncMessage → Due
-  Refusal : Reject → Due
+  Async : AsyncMessage → Due
+  RejectPdu : Reject → Due
 
--- What a message is due to, by the open request and the message's kind (section 11).
-abbrev pub due_to : Option Open → Head → Option Due
+-- What a message is due to, by the outstanding request and the message's kind (section 11).
+abbrev pub due_to : Option Outstanding → Head → Option Due
 due_to (Some Ping) (heads.NopIn h) = Some (Pong h)
 due_to (Some (In r)) (heads.DataIn h) = Some (Data r h)
 due_to (Some (In r)) (heads.ScsiResponse h) = Some (Response r.received h)
-due_to (Some (Out w)) (heads.ReadyToTransfer h) = Some (Ready w h)
+due_to (Some (Out w)) (heads.ReadyToTransfer h) = Some (R2t w h)
 due_to (Some (Out w)) (heads.ScsiResponse h) = Some (Response [] h)
 due_to (Some Text) (heads.TextResponse h) = Some (TextAnswer h)
 due_to (Some Logout) (heads.LogoutResponse h) = Some (LogoutAnswer h)
@@ -67,45 +67,56 @@ tag_of (heads.ScsiResponse h) = h.initiator_task_tag
 tag_of (heads.ReadyToTransfer h) = h.initiator_task_tag
 tag_of (heads.TextResponse h) = h.initiator_task_tag
 tag_of (heads.LogoutResponse h) = h.initiator_task_tag
-tag_of _ = reserved_tag
+tag_of (heads.NopOut h) = reserved_tag
+tag_of (heads.ScsiCommand h) = reserved_tag
+tag_of (heads.TaskRequest h) = reserved_tag
+tag_of (heads.LoginRequest h) = reserved_tag
+tag_of (heads.TextRequest h) = reserved_tag
+tag_of (heads.DataOut h) = reserved_tag
+tag_of (heads.LogoutRequest h) = reserved_tag
+tag_of (heads.TaskResponse h) = reserved_tag
+tag_of (heads.LoginResponse h) = reserved_tag
+tag_of (heads.AsyncMessage h) = reserved_tag
+tag_of (heads.Reject h) = reserved_tag
 
--- What answers the open request has its tag (section 11.2.1.8).
+-- What answers the outstanding request has its tag (section 11.2.1.8).
 abbrev pub answer_due : Machine → Head → Option Due
-answer_due m head = if tag_of head == m.initiator_task_tag then due_to m.open_request head else None
+answer_due m head = if tag_of head == m.initiator_task_tag then due_to m.outstanding head else None
 
 -- What a message is due to, if it is due (section 11).
 abbrev pub due : Machine → Head → Option Due
 due m (heads.NopIn h) =
-    if h.initiator_task_tag == reserved_tag then Some (Asked h) else answer_due m (heads.NopIn h)
-due m (heads.AsyncMessage h) = Some (Notice h)
-due m (heads.Reject h) = Some (Refusal h)
+    if h.initiator_task_tag == reserved_tag then Some (UnsolicitedNopIn h)
+    else answer_due m (heads.NopIn h)
+due m (heads.AsyncMessage h) = Some (Async h)
+due m (heads.Reject h) = Some (RejectPdu h)
 due m head = answer_due m head
 
 -- ---- what each of them counts
 
 -- The StatSN that has to be the expected one (section 4.2.2.2).
 abbrev pub checked_stat_sn : Due → Option ℕ
-checked_stat_sn (Asked h) = None
+checked_stat_sn (UnsolicitedNopIn h) = None
 checked_stat_sn (Pong h) = Some h.stat_sn
 checked_stat_sn (Data r h) = h.stat_sn
-checked_stat_sn (Ready w h) = None
+checked_stat_sn (R2t w h) = None
 checked_stat_sn (Response received h) = Some h.stat_sn
 checked_stat_sn (TextAnswer h) = Some h.stat_sn
 checked_stat_sn (LogoutAnswer h) = Some h.stat_sn
-checked_stat_sn (Notice h) = Some h.stat_sn
-checked_stat_sn (Refusal h) = Some h.stat_sn
+checked_stat_sn (Async h) = Some h.stat_sn
+checked_stat_sn (RejectPdu h) = Some h.stat_sn
 
 -- The window after a message that is due (section 4.2.2.1).
 abbrev pub window_after : Window → Due → Window
-window_after w (Asked h) = moved w (serial h.exp_cmd_sn) (serial h.max_cmd_sn)
+window_after w (UnsolicitedNopIn h) = moved w (serial h.exp_cmd_sn) (serial h.max_cmd_sn)
 window_after w (Pong h) = moved w (serial h.exp_cmd_sn) (serial h.max_cmd_sn)
 window_after w (Data r h) = moved w (serial h.exp_cmd_sn) (serial h.max_cmd_sn)
-window_after w (Ready x h) = moved w (serial h.exp_cmd_sn) (serial h.max_cmd_sn)
+window_after w (R2t x h) = moved w (serial h.exp_cmd_sn) (serial h.max_cmd_sn)
 window_after w (Response received h) = moved w (serial h.exp_cmd_sn) (serial h.max_cmd_sn)
 window_after w (TextAnswer h) = moved w (serial h.exp_cmd_sn) (serial h.max_cmd_sn)
 window_after w (LogoutAnswer h) = moved w (serial h.exp_cmd_sn) (serial h.max_cmd_sn)
-window_after w (Notice h) = moved w (serial h.exp_cmd_sn) (serial h.max_cmd_sn)
-window_after w (Refusal h) = moved w (serial h.exp_cmd_sn) (serial h.max_cmd_sn)
+window_after w (Async h) = moved w (serial h.exp_cmd_sn) (serial h.max_cmd_sn)
+window_after w (RejectPdu h) = moved w (serial h.exp_cmd_sn) (serial h.max_cmd_sn)
 
 -- A StatSN that has to be the expected one is (section 4.2.2.2).
 abbrev pub is_in_turn : Option ℕ → Option ℕ → Bool
@@ -117,18 +128,18 @@ abbrev pub stat_sn_after : Option ℕ → Option ℕ → Option ℕ
 stat_sn_after expected None = expected
 stat_sn_after expected (Some stat_sn) = Some (next_sn stat_sn)
 
--- The session once a message has passed (section 4.2.2).
-abbrev pub passed : Machine → Due → Machine
-passed m d = record m {
+-- The session once a message's numbers are counted (section 4.2.2).
+abbrev pub update_counters : Machine → Due → Machine
+update_counters m d = record m {
   exp_stat_sn = stat_sn_after m.exp_stat_sn (checked_stat_sn d);
   window = window_after m.window d;
 }
 
 -- ---- what each of them does
 
--- The open request has this outcome (section 11).
+-- The outstanding request has this outcome (section 11).
 abbrev pub completes : Machine → Done → Stepped
-completes m outcome = quiet (record m { open_request = None; done = Some outcome })
+completes m outcome = quiet (record m { outstanding = None; done = Some outcome })
 
 -- The residual that a response names; overflow is looked at first (sections 11.4.1 and 11.4.5).
 abbrev pub residual : Bool → Bool → ℕ → Residual
@@ -148,8 +159,8 @@ nop_answer m h = record {
 }
 
 -- A NOP-In of the target's own is answered where it has a transfer tag (section 11.19).
-abbrev pub on_asked : Machine → NopIn → Stepped
-on_asked m h =
+abbrev pub on_nop_in : Machine → NopIn → Stepped
+on_nop_in m h =
     if is_tag h.target_transfer_tag
     then sends m (record { head = heads.NopOut (nop_answer m h); segment = Bytes [] } ∷ [])
     else quiet m
@@ -157,7 +168,7 @@ on_asked m h =
 -- The read has received these bytes more (section 11.7).
 abbrev pub has_received : Machine → Reading → List ℕ → Machine
 has_received m r bytes = record m {
-  open_request = Some (In (record r {
+  outstanding = Some (In (record r {
     received = r.received ++ bytes;
     next_data_sn = next_sn r.next_data_sn;
   }));
@@ -177,7 +188,7 @@ read_outcome received h = done.Command 0 (unwrap_or h.status 0) [] received
 -- Data of a read; with a status they complete it (section 11.7).
 abbrev pub on_data : Machine → Reading → DataIn → List ℕ → Stepped
 on_data m r h bytes =
-    if not (fits_reading r h bytes) then breaks m data_out_of_order
+    if not (fits_reading r h bytes) then protocol_error m data_out_of_order
     else (if h.has_status then completes m (read_outcome (r.received ++ bytes) h)
     else quiet (has_received m r bytes))
 
@@ -218,20 +229,20 @@ fits_writing m w h =
     && nat_le h.desired_data_transfer_length (max_burst m.held)
     && nat_le (w.sent + h.desired_data_transfer_length) (length w.bytes)
 
--- The write has sent so many bytes more, and was asked once more (section 11.8).
+-- The write has sent so many bytes more, on one R2T more (section 11.8).
 abbrev pub has_sent : Machine → Writing → ℕ → Machine
 has_sent m w n = record m {
-  open_request = Some (Out (record w { sent = w.sent + n; next_r2t_sn = next_sn w.next_r2t_sn }));
+  outstanding = Some (Out (record w { sent = w.sent + n; next_r2t_sn = next_sn w.next_r2t_sn }));
 }
 
--- A request for data is answered with one sequence (section 11.8).
-abbrev pub on_ready : Machine → Writing → ReadyToTransfer → Stepped
-on_ready m w h =
+-- An R2T is answered with one sequence (section 11.8).
+abbrev pub on_r2t : Machine → Writing → ReadyToTransfer → Stepped
+on_r2t m w h =
     if fits_writing m w h
     then sends (has_sent m w h.desired_data_transfer_length)
     (sequence m (then_some (is_tag h.target_transfer_tag) h.lun) h.target_transfer_tag w.sent
     (take h.desired_data_transfer_length (drop w.sent w.bytes)))
-    else breaks m data_out_of_order
+    else protocol_error m data_out_of_order
 
 -- The sense bytes behind their length; none where the segment is empty (section 11.4.7).
 abbrev pub sense_of : List ℕ → Option (List ℕ)
@@ -242,35 +253,37 @@ sense_of (high ∷ low ∷ bytes) =
 
 -- A response completes its command, unless its sense is cut off (section 11.4).
 abbrev pub outcome_with : Option (List ℕ) → Machine → List ℕ → ScsiResponse → Stepped
-outcome_with None m received h = breaks m data_out_of_order
+outcome_with None m received h = protocol_error m data_out_of_order
 outcome_with (Some sense) m received h =
     completes m (done.Command h.response (unwrap_or h.status 0) sense received
     (residual h.overflow h.underflow (unwrap_or h.residual 0)))
 
--- An answer to a text is to be whole (section 11.11.1; own profile).
+-- An answer to a text is to be whole (section 11.11.1; own rule).
 abbrev pub on_text : Machine → TextResponse → List ℕ → Stepped
 on_text m h bytes =
-    if h.is_final && not h.continues then completes m (done.Text bytes) else breaks m text_at_fault
+    if h.is_final && not h.continues then completes m (done.Text bytes)
+    else protocol_error m text_at_fault
 
--- What a message that passed does (section 11).
+-- What a message does once its numbers are counted (section 11).
 abbrev pub on_due : Machine → Due → List ℕ → Stepped
-on_due m (Asked h) bytes = on_asked m h
+on_due m (UnsolicitedNopIn h) bytes = on_nop_in m h
 on_due m (Pong h) bytes = completes m (done.Ping bytes)
 on_due m (Data r h) bytes = on_data m r h bytes
-on_due m (Ready w h) bytes = on_ready m w h
+on_due m (R2t w h) bytes = on_r2t m w h
 on_due m (Response received h) bytes = outcome_with (sense_of bytes) m received h
 on_due m (TextAnswer h) bytes = on_text m h bytes
 on_due m (LogoutAnswer h) bytes = completes (closed m) done.Closed
-on_due m (Notice h) bytes = quiet m
-on_due m (Refusal h) bytes = breaks m rejected
+on_due m (Async h) bytes = quiet m
+on_due m (RejectPdu h) bytes = protocol_error m rejected
 
 -- Kind and tag come first, then the length of the segment, then StatSN (section 7.7; own rule).
 abbrev pub takes : Option Due → Machine → List ℕ → Stepped
-takes None m bytes = breaks m kind_not_due
+takes None m bytes = protocol_error m kind_not_due
 takes (Some d) m bytes =
-    if nat_lt m.held.initiator_max_recv (length bytes) then breaks m segment_too_long
-    else (if not (is_in_turn m.exp_stat_sn (checked_stat_sn d)) then breaks m status_out_of_order
-    else on_due (passed m d) d bytes)
+    if nat_lt m.held.initiator_max_recv (length bytes) then protocol_error m segment_too_long
+    else (if not (is_in_turn m.exp_stat_sn (checked_stat_sn d))
+    then protocol_error m status_out_of_order
+    else on_due (update_counters m d) d bytes)
 
 -- A message in full feature phase (section 4.2).
 abbrev pub full_step : Machine → Head → List ℕ → Stepped

@@ -13,7 +13,7 @@ use Rattle.iscsi_initiator.specs.declared.request.Done.TheVariants as done
 use Rattle.iscsi_initiator.specs.declared.request.Request.{Request}
 use Rattle.iscsi_initiator.specs.declared.request.Request.TheVariants as requests
 use Rattle.iscsi_initiator.specs.declared.request.SubmitFault.{SubmitFault}
-use Rattle.iscsi_initiator.specs.declared.open.Open.TheVariants as opens
+use Rattle.iscsi_initiator.specs.declared.outstanding.Outstanding.TheVariants as opens
 use Rattle.iscsi_initiator.specs.Progress.{Reading}
 use Rattle.iscsi_initiator.specs.State.{Settings, Machine, opening, is_closed}
 use Rattle.iscsi_initiator.specs.Steps.{closed}
@@ -131,14 +131,14 @@ pub record IsSequence (offset : ℕ) (bytes : List ℕ) (messages : List Message
 -- ---- what a read receives
 
 -- The session after these messages.
-abbrev pub hears : Machine → List Message → Machine
-hears m [] = m
-hears m (message ∷ messages) = hears (step m message).machine messages
+abbrev pub receives : Machine → List Message → Machine
+receives m [] = m
+receives m (message ∷ messages) = receives (step m message).machine messages
 
--- The open read has received these bytes (section 11.7).
+-- The outstanding read has received these bytes (section 11.7).
 pub record IsReceiving (m : Machine) (bytes : List ℕ) : Type 0 where
   pub reading : Reading
-  pub is : m.open_request ≡ Some (opens.In reading)
+  pub is : m.outstanding ≡ Some (opens.In reading)
   pub received : reading.received ≡ bytes
 
 -- The read is completed, and these bytes are its data (sections 11.4 and 11.7).
@@ -147,21 +147,21 @@ pub record HasReceived (m : Machine) (bytes : List ℕ) : Type 0 where
   pub status : ℕ
   pub sense : List ℕ
   pub residual : Residual
-  pub none : m.open_request ≡ None
+  pub none : m.outstanding ≡ None
   pub outcome : m.done ≡ Some (done.Command response status sense bytes residual)
 
--- What came for an open read, until a fault closed the session if one did: its Data-In tile its
--- data, each lies where the last one ended, and what is received, or the outcome has, are their
--- bytes (section 11.7.5). A closed session hears nothing.
+-- What came for an outstanding read, until a fault closed the session if one did: its Data-In tile
+-- its data, each lies where the last one ended, and what is received, or the outcome has, are their
+-- bytes (section 11.7.5). A closed session receives nothing.
 pub record TilesRead (m : Machine) (messages : List Message) : Type 0 where
-  pub heard : List Message
+  pub received : List Message
   pub rest : List Message
-  pub parts : messages ≡ heard ++ rest
-  pub live : (hears m heard).phase ≡ phases.Full
-  pub all : (hears m messages).phase ≡ phases.Full → rest ≡ []
-  pub tiles : TilesFrom 0 (data_pieces heard) (length (data_of (data_pieces heard)))
-  pub carries : IsReceiving (hears m messages) (data_of (data_pieces heard))
-      ⊎ HasReceived (hears m messages) (data_of (data_pieces heard))
+  pub parts : messages ≡ received ++ rest
+  pub live : (receives m received).phase ≡ phases.Full
+  pub all : (receives m messages).phase ≡ phases.Full → rest ≡ []
+  pub tiles : TilesFrom 0 (data_pieces received) (length (data_of (data_pieces received)))
+  pub carries : IsReceiving (receives m messages) (data_of (data_pieces received))
+      ⊎ HasReceived (receives m messages) (data_of (data_pieces received))
 
 -- So it is of every read.
 abbrev pub ReadsTile : Type 0

@@ -20,7 +20,7 @@ use Rattle.iscsi_login.specs.Stage.{stage_number}
 use Rattle.iscsi_login.specs.Offers.{offers_at}
 use Rattle.iscsi_initiator.specs.declared.fault.InitiatorFault.TheVariants.{Refused, BadAnswer}
 use Rattle.iscsi_initiator.specs.State.{Machine, serial, sent_exp_stat_sn}
-use Rattle.iscsi_initiator.specs.Steps.{Stepped, fails, breaks, quiet, sends}
+use Rattle.iscsi_initiator.specs.Steps.{Stepped, fails, protocol_error, quiet, sends}
 use Rattle.iscsi_pdu.specs.Rules.{kind_not_due, login_out_of_turn, status_out_of_order, text_at_fault}
 
 -- ---- what is sent
@@ -29,14 +29,16 @@ use Rattle.iscsi_pdu.specs.Rules.{kind_not_due, login_out_of_turn, status_out_of
 abbrev pub offered : Machine → Pairs
 offered m = in_order (offers_at m.settings.proposal m.settings.start m.stage)
 
--- The stage that a text of this stage asks for (section 11.12.3; that none is left out is own rule).
-abbrev pub asked_from : Stage → Stage
-asked_from Security = Operational
-asked_from _ = Full
+-- The next stage that a text of this stage requests (section 11.12.3; that none is left out is own
+-- rule).
+abbrev pub following_stage : Stage → Stage
+following_stage Security = Operational
+following_stage Operational = Full
+following_stage Full = Full
 
--- The stage that the present text asks for (section 11.12.3).
-abbrev pub asked : Machine → Stage
-asked m = asked_from m.stage
+-- The next stage that the present text requests (section 11.12.3).
+abbrev pub requested_stage : Machine → Stage
+requested_stage m = following_stage m.stage
 
 -- The head of a login PDU, which is the last of its text or is not (section 11.12).
 abbrev pub login_request : Machine → Bool → LoginRequest
@@ -44,7 +46,7 @@ login_request m is_last = record {
   transits = is_last;
   continues = not is_last;
   current_stage = stage_number m.stage;
-  next_stage = then_some is_last (stage_number (asked m));
+  next_stage = then_some is_last (stage_number (requested_stage m));
   version_max = 0;
   version_min = 0;
   isid = m.settings.isid;
@@ -60,25 +62,25 @@ abbrev pub login_message : Machine → Bool → Segment → Message
 login_message m is_last segment =
     record { head = heads.LoginRequest (login_request m is_last); segment = segment }
 
--- The text fits one segment (own rule).
+-- The text fits one segment.
 abbrev pub fits_segment : Machine → List ℕ → Bool
 fits_segment m text = nat_le (length text) m.settings.login_segment
 
 -- A longer text goes in segments of that length, and the rest waits (sections 6.2 and 11.12.2).
 abbrev pub sends_cut : Machine → List ℕ → Bool → Stepped
-sends_cut m text is_last = sends (record m { left = drop m.settings.login_segment text })
+sends_cut m text is_last = sends (record m { unsent_text = drop m.settings.login_segment text })
     (login_message m is_last (Bytes (take m.settings.login_segment text)) ∷ [])
 
 -- The present text goes whole, or its first segment does (sections 6.2 and 11.12.2).
 abbrev pub sends_text : Machine → Stepped
 sends_text m =
     if fits_segment m (canonical_text (offered m))
-    then sends (record m { left = [] }) (login_message m true (Text (offered m)) ∷ [])
+    then sends (record m { unsent_text = [] }) (login_message m true (Text (offered m)) ∷ [])
     else sends_cut m (canonical_text (offered m)) false
 
 -- The next segment of the present text goes (sections 6.2 and 11.12.2).
 abbrev pub sends_more : Machine → Stepped
-sends_more m = sends_cut m m.left (fits_segment m m.left)
+sends_more m = sends_cut m m.unsent_text (fits_segment m m.unsent_text)
 
 -- ---- an answer
 
@@ -94,23 +96,24 @@ counted m h = record m {
   window = moved m.window (serial h.exp_cmd_sn) (serial h.max_cmd_sn);
 }
 
--- The stage moves, and the next text goes out, if there is one (section 6.3).
-abbrev pub enters : Stage → Machine → Stepped
-enters Full m = quiet (record m { stage = Full; phase = phases.Full })
-enters stage m = sends_text (record m { stage = stage })
+-- The stage moves, and the next text is sent, if there is one (section 6.3).
+abbrev pub begins_stage : Stage → Machine → Stepped
+begins_stage Full m = quiet (record m { stage = Full; phase = phases.Full })
+begins_stage stage m = sends_text (record m { stage = stage })
 
 -- An answer is judged; a good one settles what is held (section 6.2).
 abbrev pub judged : Option (List ℕ) → Machine → LoginResponse → Pairs → Stepped
 judged (Some key) m h answer = fails m (BadAnswer key)
 judged None m h answer =
-    enters (asked m) (record (counted m h) { held = initiator_holds None answer m.held })
+    begins_stage (requested_stage m)
+    (record (counted m h) { held = initiator_holds None answer m.held })
 
 -- The text that answers the present one; bytes that are no text break a rule (section 6.1).
 abbrev pub text_answered : Machine → LoginResponse → Segment → Stepped
-text_answered m h (Bytes bytes) = breaks m text_at_fault
+text_answered m h (Bytes bytes) = protocol_error m text_at_fault
 text_answered m h (Text answer) = judged (bad_key (offered m) answer) m h answer
 
--- There is nothing in the segment (own rule).
+-- There is nothing in the segment.
 abbrev pub is_empty_segment : Segment → Bool
 is_empty_segment (Text pairs) = length pairs == 0
 is_empty_segment (Bytes bytes) = length bytes == 0
@@ -125,27 +128,45 @@ goes_on m h segment =
 abbrev pub moves_on : Machine → LoginResponse → Bool
 moves_on m h =
     h.transits && not h.continues && (h.current_stage == stage_number m.stage)
-    && (unwrap_or h.next_stage 0 == stage_number (asked m))
+    && (unwrap_or h.next_stage 0 == stage_number (requested_stage m))
 
 -- An answer to a segment: with a part of the text left, it was not the last (section 11.13).
 abbrev pub in_turn : List ℕ → Machine → LoginResponse → Segment → Stepped
-in_turn [] m h segment = if moves_on m h then text_answered m h segment else breaks m login_out_of_turn
+in_turn [] m h segment =
+    if moves_on m h then text_answered m h segment else protocol_error m login_out_of_turn
 in_turn (byte ∷ bytes) m h segment =
-    if goes_on m h segment then sends_more (counted m h) else breaks m login_out_of_turn
+    if goes_on m h segment then sends_more (counted m h) else protocol_error m login_out_of_turn
 
 -- An answer: a refusal, a wrong StatSN, or one in turn (sections 11.13.5 and 4.2.2.2).
 abbrev pub answered : Machine → LoginResponse → Segment → Stepped
 answered m h segment =
     if not (h.status_class == 0) then fails m (Refused h.status_class h.status_detail)
-    else (if not (is_expected m.exp_stat_sn (unwrap_or h.stat_sn 0)) then breaks m status_out_of_order
-    else in_turn m.left m h segment)
+    else (if not (is_expected m.exp_stat_sn (unwrap_or h.stat_sn 0))
+    then protocol_error m status_out_of_order
+    else in_turn m.unsent_text m h segment)
 
 -- A message in the login; another kind or tag is not due (section 6.3).
 abbrev pub login_step : Machine → Head → Segment → Stepped
 login_step m (heads.LoginResponse h) segment =
-    if h.initiator_task_tag == 0 then answered m h segment else breaks m kind_not_due
-login_step m _ segment = breaks m kind_not_due
+    if h.initiator_task_tag == 0 then answered m h segment else protocol_error m kind_not_due
+login_step m (heads.NopOut h) segment = protocol_error m kind_not_due
+login_step m (heads.ScsiCommand h) segment = protocol_error m kind_not_due
+login_step m (heads.TaskRequest h) segment = protocol_error m kind_not_due
+login_step m (heads.LoginRequest h) segment = protocol_error m kind_not_due
+login_step m (heads.TextRequest h) segment = protocol_error m kind_not_due
+login_step m (heads.DataOut h) segment = protocol_error m kind_not_due
+login_step m (heads.LogoutRequest h) segment = protocol_error m kind_not_due
+login_step m (heads.NopIn h) segment = protocol_error m kind_not_due
+login_step m (heads.ScsiResponse h) segment = protocol_error m kind_not_due
+login_step m (heads.TaskResponse h) segment = protocol_error m kind_not_due
+login_step m (heads.TextResponse h) segment = protocol_error m kind_not_due
+login_step m (heads.DataIn h) segment = protocol_error m kind_not_due
+login_step m (heads.LogoutResponse h) segment = protocol_error m kind_not_due
+login_step m (heads.ReadyToTransfer h) segment = protocol_error m kind_not_due
+login_step m (heads.AsyncMessage h) segment = protocol_error m kind_not_due
+login_step m (heads.Reject h) segment = protocol_error m kind_not_due
 
 -- The login is started; a second start breaks a rule (section 6.3; own rule).
 abbrev pub start_step : Machine → Stepped
-start_step m = if m.started then breaks m kind_not_due else sends_text (record m { started = true })
+start_step m =
+    if m.started then protocol_error m kind_not_due else sends_text (record m { started = true })

@@ -5,7 +5,7 @@ use Rattle.iscsi_login.specs.declared.phase.Phase.TheVariants.{Login, Full, Clos
 use Rattle.iscsi_stream.specs.Segment.{segment_bytes}
 use Rattle.iscsi_stream.specs.Stream.{Message}
 use Rattle.iscsi_initiator.specs.State.{Machine, is_closed}
-use Rattle.iscsi_initiator.specs.Steps.{Stepped, breaks, quiet}
+use Rattle.iscsi_initiator.specs.Steps.{Stepped, protocol_error, quiet}
 use Rattle.iscsi_initiator.specs.Login.{login_step}
 use Rattle.iscsi_initiator.specs.Full.{full_step}
 use Rattle.iscsi_pdu.specs.Rules.{kind_not_due}
@@ -13,7 +13,7 @@ use Rattle.iscsi_pdu.specs.Rules.{kind_not_due}
 -- A message comes in this phase; a closed session drops it (section 6.3; dropping is own rule).
 abbrev pub step_in : Phase → Machine → Message → Stepped
 step_in Login m message =
-    if m.started then login_step m message.head message.segment else breaks m kind_not_due
+    if m.started then login_step m message.head message.segment else protocol_error m kind_not_due
 step_in Full m message = full_step m message.head (segment_bytes message.segment)
 step_in Closed m message = quiet m
 
@@ -21,15 +21,15 @@ step_in Closed m message = quiet m
 unfoldable pub step : Machine → Message → Stepped
 step m message = step_in m.phase m message
 
--- The outcome is taken (own rule).
+-- The outcome is taken.
 abbrev pub taken : Machine → Machine
 taken m = record m { done = None }
 
--- A step, and then others (own rule).
+-- A step, and then others.
 abbrev pub then_steps : Stepped → Stepped → Stepped
 then_steps a b = record b { output = a.output ++ b.output }
 
--- Several messages come, up to the first at which the session closes (section 4; own rule).
+-- Several messages come, up to the first at which the session closes (section 4).
 unfoldable pub steps : Machine → List Message → Stepped
 steps m [] = quiet m
 steps m (message ∷ messages) =

@@ -9,10 +9,10 @@ use Rattle.iscsi_login.specs.declared.phase.Phase.TheVariants as phases
 use Rattle.iscsi_login.specs.Offers.{Proposal}
 use Rattle.iscsi_login.specs.Held.{Held, defaults}
 use Rattle.iscsi_initiator.specs.declared.request.Done.{Done}
-use Rattle.iscsi_initiator.specs.declared.open.Open.{Open}
+use Rattle.iscsi_initiator.specs.declared.outstanding.Outstanding.{Outstanding}
 use Rattle.iscsi_login.specs.Stage.{is_closed_phase}
 
--- What an initiator was told: what it offers, and how it logs in (section 6.3).
+-- What an initiator is configured with: what it offers, and how it logs in (section 6.3).
 pub record Settings : Type 0 where
   pub proposal : Proposal
   -- the stage where the login starts
@@ -29,8 +29,8 @@ pub record Machine : Type 0 where
   pub phase : Phase
   -- where the login is, or was when the session closed
   pub stage : Stage
-  -- what is left of the login text behind the segments sent
-  pub left : List ℕ
+  -- what is not sent of the login text
+  pub unsent_text : List ℕ
   -- one more than the last StatSN received, once there was one
   pub exp_stat_sn : Option ℕ
   pub held : Held
@@ -40,7 +40,7 @@ pub record Machine : Type 0 where
   pub cmd_sn : ℕ
   -- the tag of the last request
   pub initiator_task_tag : ℕ
-  pub open_request : Option Open
+  pub outstanding : Option Outstanding
   -- the outcome that is not yet taken
   pub done : Option Done
 
@@ -67,7 +67,7 @@ opening settings = record {
   started = false;
   phase = phases.Login;
   stage = settings.start;
-  left = [];
+  unsent_text = [];
   exp_stat_sn = None;
   held = record defaults { initiator_max_recv = settings.proposal.prefs.max_recv };
   window = record {
@@ -76,10 +76,10 @@ opening settings = record {
   };
   cmd_sn = settings.first_cmd_sn;
   initiator_task_tag = 0;
-  open_request = None;
+  outstanding = None;
   done = None;
 }
 
--- The session is over (own rule).
+-- The session is over.
 abbrev pub is_closed : Machine → Bool
 is_closed m = is_closed_phase m.phase

@@ -1,4 +1,4 @@
--- What one step of an initiator gives (RFC 7143, section 6).
+-- What one step of an initiator leads to (RFC 7143, section 6).
 use Rattle.std.specs.Prelude.{ℕ, List, [], Option, Some, None}
 use Rattle.iscsi_login.specs.declared.phase.Phase.TheVariants.{Closed}
 use Rattle.iscsi_stream.specs.Stream.{Message}
@@ -6,13 +6,13 @@ use Rattle.iscsi_initiator.specs.declared.fault.InitiatorFault.{InitiatorFault}
 use Rattle.iscsi_initiator.specs.declared.fault.InitiatorFault.TheVariants.{Protocol}
 use Rattle.iscsi_initiator.specs.State.{Machine}
 
--- The session after a step, what it sends, and the fault, if there is one (own rule).
+-- The session after a step, what it sends, and the fault, if there is one.
 pub record Stepped : Type 0 where
   pub machine : Machine
   pub output : List Message
   pub fault : Option InitiatorFault
 
--- Closing keeps all but the phase (own rule).
+-- Closing keeps all but the phase.
 abbrev pub closed : Machine → Machine
 closed m = record m { phase = Closed }
 
@@ -20,14 +20,14 @@ closed m = record m { phase = Closed }
 abbrev pub fails : Machine → InitiatorFault → Stepped
 fails m fault = record { machine = closed m; output = []; fault = Some fault }
 
--- The target broke this rule (section 7.7; the numbers of the rules are own profile).
-abbrev pub breaks : Machine → ℕ → Stepped
-breaks m rule = fails m (Protocol rule)
+-- The target broke this rule (section 7.7; the numbers are own rule).
+abbrev pub protocol_error : Machine → ℕ → Stepped
+protocol_error m rule = fails m (Protocol rule)
 
--- A step that sends nothing (own rule).
+-- A step that sends nothing.
 abbrev pub quiet : Machine → Stepped
 quiet m = record { machine = m; output = []; fault = None }
 
--- A step that sends these (own rule).
+-- A step that sends these.
 abbrev pub sends : Machine → List Message → Stepped
 sends m messages = record { machine = m; output = messages; fault = None }

@@ -19,14 +19,14 @@ use Rattle.iscsi_initiator.specs.declared.request.Request.{Request}
 use Rattle.iscsi_initiator.specs.declared.request.Request.TheVariants.{In, Out, Ping, Text, Logout}
 use Rattle.iscsi_initiator.specs.declared.request.SubmitFault.{SubmitFault}
 use Rattle.iscsi_initiator.specs.declared.request.SubmitFault.TheVariants as refusals
-use Rattle.iscsi_initiator.specs.declared.open.Open.{Open}
-use Rattle.iscsi_initiator.specs.declared.open.Open.TheVariants as opens
+use Rattle.iscsi_initiator.specs.declared.outstanding.Outstanding.{Outstanding}
+use Rattle.iscsi_initiator.specs.declared.outstanding.Outstanding.TheVariants as opens
 use Rattle.iscsi_initiator.specs.State.{Machine, next_tag, sent_exp_stat_sn}
 use Rattle.iscsi_pdu.specs.Fields.{reserved_tag}
 use Rattle.iscsi_initiator.specs.Block.{record_of}
 use Rattle.iscsi_initiator.specs.Full.{sequence}
 
--- The session after a request, what is sent, and why it is refused, if it is (own rule).
+-- The session after a request, what is sent, and why it is refused, if it is.
 pub record Submitted : Type 0 where
   pub machine : Machine
   pub output : List Message
@@ -34,12 +34,11 @@ pub record Submitted : Type 0 where
 
 -- ---- refusals, in their order
 
--- The most bytes that one command moves (own profile).
+-- The most bytes that one command moves (own rule).
 abbrev pub most_bytes : ℕ
 most_bytes = 4194304
 
--- The request has or asks for more bytes than may go (section 13.12; that of commands is own
--- profile).
+-- The request has or asks for more bytes than may go (section 13.12; that of commands is own rule).
 abbrev pub is_too_long : Machine → Request → Bool
 is_too_long m (In lun cdb expected) = nat_lt most_bytes expected
 is_too_long m (Out lun cdb bytes) = nat_lt most_bytes (length bytes)
@@ -50,31 +49,31 @@ is_too_long m Logout = false
 -- Why a request is refused in full feature phase (own rule).
 abbrev pub refusal_when_full : Machine → Request → Option SubmitFault
 refusal_when_full m request =
-    if is_some m.open_request || is_some m.done then Some refusals.Busy
+    if is_some m.outstanding || is_some m.done then Some refusals.Busy
     else (if not (is_within m.cmd_sn m.window.exp.0 m.window.max.0) then Some refusals.Shut
     else (if is_too_long m request then Some refusals.TooLong else None))
 
--- Why a request is refused, by the phase (own rule).
+-- Why a request is refused, by the phase.
 abbrev pub refusal_in : Phase → Machine → Request → Option SubmitFault
 refusal_in phases.Closed m request = Some refusals.Closed
 refusal_in phases.Login m request = Some refusals.NotReady
 refusal_in phases.Full m request = refusal_when_full m request
 
--- Why a request is refused, if it is (own rule).
+-- Why a request is refused, if it is.
 abbrev pub refusal : Machine → Request → Option SubmitFault
 refusal m request = refusal_in m.phase m request
 
 -- ---- requests that are accepted
 
 -- The session with a new request, whose tag and CmdSN are the next (section 4.2.2.1).
-abbrev pub begun : Machine → Open → Machine
+abbrev pub begun : Machine → Outstanding → Machine
 begun m request = record m {
   initiator_task_tag = next_tag m.initiator_task_tag;
   cmd_sn = next_sn m.cmd_sn;
-  open_request = Some request;
+  outstanding = Some request;
 }
 
--- A request is accepted, and these go out (own rule).
+-- A request is accepted, and these go out.
 abbrev pub accepts : Machine → List Message → Submitted
 accepts m messages = record { machine = m; output = messages; refusal = None }
 
@@ -217,7 +216,7 @@ accepted m (Ping bytes) = pings m bytes
 accepted m (Text bytes) = asks m bytes
 accepted m Logout = leaves m
 
--- A refused request changes and sends nothing (own rule).
+-- A refused request changes and sends nothing.
 abbrev pub or_accepted : Option SubmitFault → Machine → Request → Submitted
 or_accepted None m request = accepted m request
 or_accepted (Some fault) m request = record { machine = m; output = []; refusal = Some fault }

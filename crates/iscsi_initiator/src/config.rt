@@ -152,7 +152,7 @@ impl Config {
         self.login_segment
     }
 
-    // What the initiator says at each stage of the login.
+    // What the initiator offers at each stage of the login.
     pub(crate) fn offers(&self) -> Offers<'_>
         ensures { proposed result ≡ self.now.proposal }
     {

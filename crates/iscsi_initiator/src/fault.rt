@@ -63,7 +63,7 @@ pub enum InitiatorFault {
     /// The bytes that came are no stream of PDUs within the limit.
     #[error(transparent)]
     Stream(StreamFault),
-    /// The target broke the rule of this number (own profile: the rules stand in `docs/FORMATS.md`).
+    /// The target broke the rule of this number (`docs/FORMATS.md` has the rules).
     #[error("protocol: rule {0}")]
     Protocol(u8),
     /// The target refused the login with this class and detail (RFC 7143, section 11.13.5).

@@ -5,7 +5,7 @@ ghost use Rattle.iscsi_stream.specs.Framing.{Takes, is_ready, stopped};
 ghost use Rattle.iscsi_initiator.specs.State.{is_closed};
 ghost use Rattle.iscsi_initiator.specs.Steps.{closed};
 ghost use Rattle.iscsi_initiator.specs.Calls.{opening_connection, Starts, Feeds, Submits, Finishes, after_taking};
-ghost use Rattle.iscsi_initiator.specs.Inside.{connection, initiator_fault, HearsReady, ShutsReady, RestFails, FedUntil, has_run_out};
+ghost use Rattle.iscsi_initiator.specs.Inside.{connection, initiator_fault, ReceivesPdu, ShutsReady, RestFails, FedUntil, has_run_out};
 
 use crate::config::Config;
 use crate::fault::InitiatorFault;
@@ -17,7 +17,7 @@ use iscsi_stream::{Framer, StreamFault};
 use std::alloc::{AllocError, Global};
 use std::marker::Model;
 
-/// An initiator's session: it takes the bytes of a target, appends what it sends, and gives the
+/// An initiator's session: it takes the bytes of a target, appends what it sends, and returns the
 /// outcome of each request.
 ///
 /// | Phase | What holds |
@@ -75,8 +75,8 @@ impl Initiator {
         }
     }
 
-    /// Takes a piece of the stream, and appends what the PDUs lead to that it completes. Says in which
-    /// phase the session is then.
+    /// Takes a piece of the stream, and appends what the PDUs lead to that it completes. Returns
+    /// the phase of the session then.
     ///
     /// The answer to a logout answers `Closed`, and the rest of the piece is dropped. After a fault the
     /// session is closed: `out` has what the PDUs before the one at fault led to, but after `NoMemory`
@@ -180,7 +180,7 @@ fn feed_all(
     while !rest.is_empty() {
         let taken = take_bytes(session, framer, rest)?;
         rest = &rest[taken..];
-        let fault = hear_ready(session, framer, out)?;
+        let fault = receive_pdu(session, framer, out)?;
         if session.is_closed() {
             return match fault {
                 Some(fault) => Err(fault),
@@ -222,15 +222,15 @@ fn stream_fault(fault: StreamFault) -> InitiatorFault
     }
 }
 
-// Takes the PDU that is ready, if one is, and gives it up. Says which fault it led to, if it led to
-// one. Being out of memory closes the session.
-fn hear_ready(
+// Receives the PDU that is ready, if one is, and frees the framer for the next one. Returns the
+// fault that it led to, if it led to one. Being out of memory closes the session.
+fn receive_pdu(
     session: &mut Session,
     framer: &mut Framer,
     out: &mut Vec<u8>,
 ) -> Result<Option<InitiatorFault>, AllocError>
     requires live { is_closed session.old ≡ false }
-    ensures ok { IfOk result (λ fault. HearsReady (connection session.old framer.old) fault
+    ensures ok { IfOk result (λ fault. ReceivesPdu (connection session.old framer.old) fault
         (connection session.new framer.new) out.old.items out.new.items) }
     ensures err { OnErr result (ShutsReady (connection session.old framer.old)
         (connection session.new framer.new) out.old.items out.new.items) }

@@ -5,7 +5,7 @@ mod config;
 mod fault;
 mod initiator;
 pub mod laws;
-mod open;
+mod outstanding;
 mod request;
 mod session;
 

@@ -3,10 +3,10 @@
 use scsi_cdb::{Bytes, Residual};
 use thiserror::Error;
 
-/// What is asked of a target.
+/// What is requested of a target.
 #[derive(Drop)]
 pub enum Request {
-    /// A command that may give data to the initiator (RFC 7143, section 11.3).
+    /// A command that may return data to the initiator (RFC 7143, section 11.3).
     In {
         /// The logical unit, as its 8 bytes.
         lun: u64,

@@ -9,15 +9,15 @@ ghost use Rattle.iscsi_initiator.specs.Steps.{closed};
 ghost use Rattle.iscsi_initiator.specs.Machine.{step, taken};
 ghost use Rattle.iscsi_initiator.specs.Inside.{Did};
 
-mod answers;
 mod full;
 mod login;
+mod responses;
 mod sequence;
 mod submit;
 
 use crate::config::Config;
 use crate::fault::InitiatorFault;
-use crate::open::Open;
+use crate::outstanding::Outstanding;
 use crate::request::Done;
 use iscsi_login::{Params, Phase, Stage};
 use iscsi_pdu::rule::KIND_NOT_DUE;
@@ -33,13 +33,13 @@ pub struct Session {
     started: bool,
     phase: Phase,
     stage: Stage,
-    left: Vec<u8>,
+    unsent_text: Vec<u8>,
     exp_stat_sn: Option<u32>,
     held: Params,
     window: Window,
     cmd_sn: u32,
     initiator_task_tag: u32,
-    open_request: Option<Open>,
+    outstanding: Option<Outstanding>,
     done: Option<Done>,
 }
 
@@ -54,13 +54,13 @@ impl Model for Session {
       started = s.started;
       phase = s.phase;
       stage = s.stage;
-      left = s.left.items;
+      unsent_text = s.unsent_text.items;
       exp_stat_sn = s.exp_stat_sn;
       held = s.held;
       window = s.window;
       cmd_sn = s.cmd_sn;
       initiator_task_tag = s.initiator_task_tag;
-      open_request = s.open_request;
+      outstanding = s.outstanding;
       done = s.done;
     } };
 
@@ -81,7 +81,7 @@ impl Session {
             started: false,
             phase: Phase::Login,
             stage,
-            left: Vec::new(alloc),
+            unsent_text: Vec::new(alloc),
             exp_stat_sn: None,
             held,
             window: Window {
@@ -90,7 +90,7 @@ impl Session {
             },
             cmd_sn: first_cmd_sn,
             initiator_task_tag: 0,
-            open_request: None,
+            outstanding: None,
             done: None,
         }
     }
@@ -132,7 +132,7 @@ impl Session {
 
     /// Takes a message, which continues another login PDU or does not. Says which fault it led to, if
     /// it led to one; the session is closed then.
-    #[tactic(auto, using(crate::proofs::Stepping::full_bytes, crate::proofs::Stepping::step_is))]
+    #[tactic(auto, using(crate::proofs::StepLemmas::full_bytes, crate::proofs::StepLemmas::step_is))]
     pub fn step(
         &mut self,
         pdu: &Pdu<'_>,
@@ -147,7 +147,7 @@ impl Session {
         ensures unwritten { OnErr result (out.new.items ≡ out.old.items) }
     {
         match self.phase {
-            Phase::Login if !self.started => Ok(self.breaks(KIND_NOT_DUE)),
+            Phase::Login if !self.started => Ok(self.protocol_error(KIND_NOT_DUE)),
             Phase::Login => self.login_step(pdu, continued, out),
             Phase::Full => self.full_step(pdu, out),
             Phase::Closed => Ok(None),
@@ -172,7 +172,7 @@ impl Session {
     }
 
     // The target broke this rule, which closes the session.
-    fn breaks(&mut self, rule: u8) -> Option<InitiatorFault>
+    fn protocol_error(&mut self, rule: u8) -> Option<InitiatorFault>
         ensures fault { result ≡ Some (Protocol rule) }
         ensures closed { self.new ≡ closed self.old }
     {

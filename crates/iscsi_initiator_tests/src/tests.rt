@@ -1,10 +1,11 @@
 //! An initiator by example.
 
-use hex::{FromHex, FromHexError};
+use hex::FromHex;
+use iscsi_examples::{append_pdu, segment_of};
 use iscsi_initiator::{Config, Initiator, InitiatorFault, Request};
 use iscsi_login::{Auth, ConfigFault, Offers, Phase, Preferences, Session, Stage};
 use scsi_cdb::Bytes;
-use std::alloc::{AllocError, Global};
+use std::alloc::Global;
 use std::test::Fail;
 
 mod breaches;
@@ -14,9 +15,6 @@ mod logins;
 mod preludes;
 mod requests;
 mod words;
-
-/// How many characters a header has in a line of a dialogue.
-const HEADER: usize = 107;
 
 // The lines that go before.
 fn lines_before(before: &str) -> &'static str {
@@ -86,82 +84,21 @@ fn initiator_of(alloc: Global, setup: &str) -> Result<Box<Initiator>, Fail> {
     Ok(Box::new(alloc, Initiator::new(alloc, config))?)
 }
 
-// The bytes of hex text, in which blanks part the words.
-fn bytes_of(alloc: Global, text: &str) -> Result<Vec<u8>, FromHexError> {
-    let digits: Vec<u8> = text
-        .as_bytes()
-        .iter()
-        .copied()
-        .filter(|b| *b != b' ')
-        .collect(alloc)?;
-    hex::decode(alloc, digits)
-}
-
-// Appends the bytes of a text, in which `|` stands for a byte 00.
-fn text_of(text: &str, out: &mut Vec<u8>) -> Result<(), AllocError> {
-    for byte in text.bytes() {
-        out.push(if byte == b'|' { 0 } else { byte })?;
-    }
-    Ok(())
-}
-
-// The bytes of a word of hex, or so many of a byte.
-fn word_of(alloc: Global, word: &str) -> Result<Vec<u8>, Fail> {
-    let Some((byte, count)) = word.split_once('*') else {
-        return Ok(bytes_of(alloc, word)?);
-    };
-    let byte = u8::from_str_radix(byte, 16)?;
-    let count = count.parse::<u32>()?;
-    Ok(vec![in alloc; byte; count as usize]?)
-}
-
-// Appends the bytes of words of hex.
-fn words_of(alloc: Global, words: &str, out: &mut Vec<u8>) -> Result<(), Fail> {
-    for word in words.split(' ') {
-        out.extend_from_slice(&word_of(alloc, word)?)?;
-    }
-    Ok(())
-}
-
-// The bytes of a segment: the text that `@` stands for, a text behind an apostrophe, or words of hex.
-fn segment_of(alloc: Global, segment: &str, out: &mut Vec<u8>) -> Result<(), Fail> {
-    let segment = if segment == "@" {
-        preludes::SECOND
-    } else {
-        segment
-    };
-    match segment.strip_prefix('\'') {
-        Some(text) => Ok(text_of(text, out)?),
-        None => words_of(alloc, segment, out),
-    }
-}
-
-// The bytes that fill a segment of this length up to whole words.
-fn padding_of(len: usize) -> &'static [u8] {
-    match len % 4 {
-        1 => &[0, 0, 0],
-        2 => &[0, 0],
-        3 => &[0],
-        _ => &[],
-    }
-}
-
-// The PDU of a line of a dialogue, behind its mark: header, segment and padding.
+// The PDU of a line of a dialogue, behind its mark: header, segment and padding. `@` stands for the
+// standard text.
 fn pdu_of(alloc: Global, line: &str, out: &mut Vec<u8>) -> Result<(), Fail> {
-    let header = line.get(..HEADER).ok_or("no header")?;
-    let mut segment = Vec::new(alloc);
-    segment_of(alloc, line.get(HEADER..).unwrap_or("").trim(), &mut segment)?;
-    out.extend_from_slice(&bytes_of(alloc, header)?)?;
-    out.extend_from_slice(&segment)?;
-    out.extend_from_slice(padding_of(segment.len()))?;
-    Ok(())
+    let Some(header) = line.strip_suffix('@') else {
+        return Ok(append_pdu(line, out)?);
+    };
+    let mut whole = String::new(alloc);
+    whole.push_str(header)?;
+    whole.push_str(preludes::SECOND)?;
+    Ok(append_pdu(&whole, out)?)
 }
 
 // The data of a request.
 fn data_of(alloc: Global, segment: &str) -> Result<Bytes, Fail> {
-    let mut bytes = Vec::new(alloc);
-    segment_of(alloc, segment, &mut bytes)?;
-    Ok(Bytes::from_vec(bytes))
+    Ok(Bytes::from_vec(segment_of(alloc, segment)?))
 }
 
 // The request of a line of a dialogue.

@@ -1,4 +1,5 @@
--- The target's answer to a login text, and what each end holds after it (RFC 7143, sections 6.2 and 13).
+-- The target's answer to a login text, and what each end holds after it (RFC 7143, sections 6.2 and
+-- 13).
 use Rattle.std.specs.Prelude.{ℕ, Bool, false, ◌&&◌, nat_le, List, [], ◌∷◌, ◌++◌, map, unwrap_or, Option, Some, None, is_some, if◌then◌else◌, codes}
 use Rattle.std.specs.List.{flat_map}
 use Rattle.std.specs.Option.{option_map, option_map_or}
@@ -26,7 +27,8 @@ answer_to session p key offer =
 -- What the target holds once it has answered this offer (section 6.2).
 abbrev pub held_by_target : Session → Preferences → NegKey → Typed → Answered
 held_by_target session p key offer =
-    if is_irrelevant session key then default_of key else or_default (result_of key offer p) (default_of key)
+    if is_irrelevant session key then default_of key
+    else or_default (result_of key offer p) (default_of key)
 
 -- What the initiator holds once it has this answer: the words are no values (section 6.2).
 abbrev pub held_by_initiator : NegKey → Typed → Answered
@@ -38,11 +40,13 @@ held_by_initiator key answer = or_default (value_of (rule_of key) answer) (defau
 abbrev pub answered_no : List (List ℕ)
 answered_no = codes "IFMarker" ∷ codes "OFMarker" ∷ []
 
--- Known keys that are answered `Reject` in a login (RFC 3720, appendix A, and section 13.3; own rule).
+-- Known keys that are answered `Reject` in a login (RFC 3720, appendix A, and section 13.3; own
+-- rule).
 abbrev pub rejected : List (List ℕ)
 rejected = codes "IFMarkInt" ∷ codes "OFMarkInt" ∷ codes "SendTargets" ∷ []
 
--- The answer to a key that isn't negotiated: none to the other known keys, which are declared (section 6.2).
+-- The answer to a key that isn't negotiated: none to the other known keys, which are declared
+-- (section 6.2).
 abbrev pub other_answer : List ℕ → Option Typed
 other_answer key =
     if is_among answered_no key then Some (values.Boolean false) else (
@@ -51,7 +55,8 @@ other_answer key =
 
 -- The answer to a value of a key, if it has one (section 6.2).
 abbrev pub answer_value : Session → Preferences → List ℕ → Typed → Option Typed
-answer_value session p key offer = option_map_or (λ k. Some (answer_to session p k offer)) (key_named key) (other_answer key)
+answer_value session p key offer = option_map_or (λ k. Some (answer_to session p k offer))
+    (key_named key) (other_answer key)
 
 -- The pair of a key and its value, if it has one (section 6.1).
 abbrev pub pairs_with : List ℕ → Option Typed → Pairs
@@ -73,7 +78,8 @@ max_recv_key = codes "MaxRecvDataSegmentLength"
 -- What the target declares of itself, where it is given (sections 13.9 and 13.12).
 abbrev pub declarations : Option ℕ → Option ℕ → Pairs
 declarations tag max_recv =
-    pairs_with max_recv_key (option_map values.Number max_recv) ++ pairs_with tag_key (option_map values.Number tag)
+    pairs_with max_recv_key (option_map values.Number max_recv)
+    ++ pairs_with tag_key (option_map values.Number tag)
 
 -- The answer to a text: what is declared, and an answer to each pair that has one (section 6.2).
 abbrev pub answer : Session → Preferences → Option ℕ → Option ℕ → Pairs → Pairs
@@ -121,7 +127,8 @@ abbrev pub value_after_offers : Session → Preferences → Pairs → Held → N
 value_after_offers session p given held key =
     first_or (held_by_target session p key) (held_value held key) (values_of (name_of key) given)
 
--- The target once it has answered the given text and, if given, declared this length (sections 6.2 and 13.12).
+-- The target once it has answered the given text and, if given, declared this length (sections 6.2
+-- and 13.12).
 abbrev pub target_holds : Session → Preferences → Option ℕ → Pairs → Held → Held
 target_holds session p max_recv given held = record {
   values = map (value_after_offers session p given held) all_keys;
@@ -134,7 +141,8 @@ abbrev pub value_after_answer : Pairs → Held → NegKey → Answered
 value_after_answer answered held key =
     first_or (held_by_initiator key) (held_value held key) (values_of (name_of key) answered)
 
--- The initiator once it has the answer and, if given, declared this length in its text (sections 6.2 and 13.12).
+-- The initiator once it has the answer and, if given, declared this length in its text (sections
+-- 6.2 and 13.12).
 abbrev pub initiator_holds : Option ℕ → Pairs → Held → Held
 initiator_holds max_recv answered held = record {
   values = map (value_after_answer answered held) all_keys;

@@ -10,7 +10,8 @@ use Rattle.iscsi_login.specs.Key.{name_of, all_keys, key_named}
 use Rattle.iscsi_login.specs.Negotiation.{IsLegal, is_legal}
 use Rattle.iscsi_login.specs.Answer.{max_recv_key, tag_key, IsSegmentLength, is_segment_length}
 
--- An offered value has one answer, a legal one, and a key that wasn't offered has none (section 6.2).
+-- An offered value has one answer, a legal one, and a key that wasn't offered has none (section
+-- 6.2).
 abbrev pub Answers : NegKey → List Typed → List Typed → Type 0
 Answers key [] [] = Unit {0}
 Answers key (offer ∷ []) (answer ∷ []) = IsLegal key offer answer
@@ -42,9 +43,10 @@ is_bad offered pair = not (is_good_pair (key_named pair.0) offered pair)
 
 -- An offered key with a result function that the answer leaves out (section 6.2).
 abbrev pub is_unanswered : Pairs → List ℕ × Typed → Bool
-is_unanswered answer pair = is_some (key_named pair.0) && is_none (slice_get (values_of pair.0 answer) 0)
+is_unanswered answer pair = is_some (key_named pair.0)
+    && is_none (slice_get (values_of pair.0 answer) 0)
 
--- The key of a pair, or another (own rule).
+-- The key of a pair, or another.
 abbrev pub key_or : Option (List ℕ × Typed) → Option (List ℕ) → Option (List ℕ)
 key_or None other = other
 key_or (Some pair) other = Some pair.0
@@ -60,15 +62,18 @@ bad_key offered answer =
 abbrev pub described : List (List ℕ)
 described = codes "InitiatorName" ∷ codes "SessionType" ∷ codes "TargetName" ∷ max_recv_key ∷ []
 
--- What an initiator may say: each key once, and no keys but the negotiated ones and its own (section 6.2).
+-- What an initiator may say: each key once, and no keys but the negotiated ones and its own
+-- (section 6.2).
 pub record IsOffer (offered : Pairs) : Type 0 where
   pub single : IsSingle offered
   pub keys : (key : List ℕ) → 0 < length (values_of key offered) →
       is_among (map name_of all_keys ++ described) key ≡ true
 
--- One legal answer to each negotiated key that was offered, and no key that an initiator refuses (section 6.2).
+-- One legal answer to each negotiated key that was offered, and no key that an initiator refuses
+-- (section 6.2).
 pub record IsGoodAnswer (offered answer : Pairs) : Type 0 where
-  pub negotiated : (key : NegKey) → Answers key (values_of (name_of key) offered) (values_of (name_of key) answer)
+  pub negotiated : (key : NegKey) → Answers key (values_of (name_of key) offered)
+      (values_of (name_of key) answer)
   pub max_recv : AllByRecursion IsSegmentLength (values_of max_recv_key answer)
   pub others : (key : List ℕ) → 0 < length (values_of key answer) →
       is_among (map name_of all_keys ++ declarable) key ≡ true

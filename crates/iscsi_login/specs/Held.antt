@@ -1,4 +1,5 @@
--- What an end holds of a login: a value of each negotiated key, and what each end takes (RFC 7143, section 13).
+-- What an end holds of a login: a value of each negotiated key, and what each end takes (RFC 7143,
+-- section 13).
 use Rattle.std.specs.Prelude.{ℕ, Bool, false, List, map, min, slice_index_or}
 use Rattle.iscsi_login.specs.declared.key.NegKey.{NegKey}
 use Rattle.iscsi_login.specs.declared.key.NegKey.TheVariants as keys
@@ -23,7 +24,7 @@ defaults = record {
   target_max_recv = 8192;
 }
 
--- A key's place in `all_keys` (own rule).
+-- A key's place in `all_keys`.
 abbrev pub place_of : NegKey → ℕ
 place_of keys.MaxConnections = 0
 place_of keys.InitialR2T = 1
@@ -40,7 +41,7 @@ place_of keys.HeaderDigest = 11
 place_of keys.DataDigest = 12
 place_of keys.AuthMethod = 13
 
--- The value at a key's place (own rule).
+-- The value at a key's place.
 abbrev pub value_at : List Answered → NegKey → Answered
 value_at values key = slice_index_or values (place_of key) Reject
 

@@ -35,7 +35,8 @@ IsWithin range n = (range.low ≤ n) × (n ≤ range.high)
 abbrev pub between : ℕ → ℕ → Range
 between low high = record { low = low; high = high }
 
--- The table: name, rule, default, irrelevant in a discovery session (sections 13.1, 13.2, 13.10 to 13.20, 12.1).
+-- The table: name, rule, default, irrelevant in a discovery session (sections 13.1, 13.2, 13.10 to
+-- 13.20, 12.1).
 abbrev pub row : NegKey → Row
 row keys.MaxConnections = line (codes "MaxConnections") (Minimum (between 1 65535)) (answers.Number 1) true
 row keys.InitialR2T = line (codes "InitialR2T") Or (answers.Flag true) true
@@ -80,7 +81,8 @@ default_of key = (row key).default
 abbrev pub key_named : List ℕ → Option NegKey
 key_named name = find (λ key. bytes_eq (name_of key) name) all_keys
 
--- The session answers the key by `Irrelevant` (section 6.2; that it does in each discovery session is own rule).
+-- The session answers the key by `Irrelevant` (section 6.2; that it does in each discovery session
+-- is own rule).
 abbrev pub is_irrelevant : Session → NegKey → Bool
 is_irrelevant Normal key = false
 is_irrelevant Discovery key = (row key).irrelevant

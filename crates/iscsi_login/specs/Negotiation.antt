@@ -1,4 +1,5 @@
--- What an offer and a preference give, and which answers are legal (RFC 7143, sections 6.2, 13 and 12.1).
+-- What an offer and a preference give, and which answers are legal (RFC 7143, sections 6.2, 13 and
+-- 12.1).
 use Rattle.std.specs.Prelude.{◌≡◌, ℕ, ◌==◌, ◌⊎◌, Bool, true, false, not, ◌&&◌, ◌||◌, IsTrue, List, [], ◌∷◌, nat_le, min, max, if◌then◌else◌, codes}
 use Rattle.std.specs.List.{list_any, slice_split}
 use Rattle.std.specs.Str.{bytes_eq}
@@ -77,7 +78,8 @@ has_none items = list_any (λ item. bytes_eq item (codes "None")) (slice_split (
 abbrev pub in_range : Range → ℕ → Answered
 in_range range n = if nat_le range.low n && nat_le n range.high then Number n else Reject
 
--- The value that the rule allows and a typed value stands for, or `Reject` where there is none (section 6.2).
+-- The value that the rule allows and a typed value stands for, or `Reject` where there is none
+-- (section 6.2).
 abbrev pub value_of : Rule → Typed → Answered
 value_of (rules.Minimum range) (values.Number n) = in_range range n
 value_of (rules.Maximum range) (values.Number n) = in_range range n
@@ -130,7 +132,8 @@ answered_value rule (Flag b) = values.Boolean b
 answered_value rule NoneItem = values.Items (codes "None")
 answered_value rule Reject = word rule (codes "Reject")
 
--- The answer is what the offer and some preference that the key allows give, and a value of the key (section 6.2).
+-- The answer is what the offer and some preference that the key allows give, and a value of the key
+-- (section 6.2).
 pub record IsChoice (key : NegKey) (offer answer : Typed) : Type 0 where
   pub preferred : Answered
   pub allowed : Allows (rule_of key) preferred

@@ -73,7 +73,8 @@ max_recv_pair p = (max_recv_key, values.Number p.max_recv)
 abbrev pub operational_offers : Proposal → Pairs
 operational_offers o = max_recv_pair o.prefs ∷ map (preferred_pair o.prefs) operational_keys
 
--- Both, without the authentication, where a login starts in the operational stage (section 6.3; own rule).
+-- Both, without the authentication, where a login starts in the operational stage (section 6.3; own
+-- rule).
 abbrev pub single_offers : Proposal → Pairs
 single_offers o = names o ++ operational_offers o
 
@@ -83,6 +84,6 @@ offers_at proposal start Security = security_offers proposal
 offers_at proposal Operational stage = single_offers proposal
 offers_at proposal start stage = operational_offers proposal
 
--- The canonical text of these pairs (own rule of section 6.1).
+-- The canonical text of these pairs (section 6.1).
 abbrev pub text_of : Pairs → List ℕ
 text_of pairs = canonical_text (in_order pairs)

@@ -4,6 +4,7 @@
 
 mod answer;
 mod check;
+mod config_fault;
 mod key;
 pub mod laws;
 mod name;
@@ -15,11 +16,12 @@ mod preferences;
 mod stage;
 
 pub use answer::answer_text;
+pub use config_fault::ConfigFault;
 pub use key::{NegKey, Range, Rule};
 pub use name::is_name;
 pub use negotiation::{legal_answer, result};
 pub use offers::{Auth, Offers};
 pub use params::{Params, declares_well};
-pub use phase::{ConfigFault, Phase};
+pub use phase::Phase;
 pub use preferences::{Answered, Preferences};
 pub use stage::{Session, Stage};

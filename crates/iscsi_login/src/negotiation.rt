@@ -23,7 +23,7 @@ pub fn result(key: NegKey, offer: &Value, preferences: &Preferences) -> Answered
 /// Whether the answer to this offer is a legal one: one of the words `Reject`, `Irrelevant` and
 /// `NotUnderstood`, or a value that the key's function gives from this offer for some preference
 /// that the key allows (RFC 7143, section 6.2).
-#[tactic(auto, using(crate::proofs::Legal::legal_from, crate::proofs::Legal::legal_passes))]
+#[tactic(auto, using(crate::proofs::LegalAnswerLemmas::legal_from, crate::proofs::LegalAnswerLemmas::legal_passes))]
 pub fn legal_answer(key: NegKey, offer: &Value, answer: &Value) -> bool
     ensures legal { IsTrue result ↔ IsLegal key (typed offer.now) (typed answer.now) }
 {

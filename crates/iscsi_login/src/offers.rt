@@ -196,7 +196,8 @@ impl Offers<'_> {
 
     // What the session is for.
     fn session_type(&self) -> Pair<'static>
-        ensures { shown result ≡ (codes "SessionType", values.Plain (session_name self.now.session)) }
+        ensures { shown result ≡
+            (codes "SessionType", values.Plain (session_name self.now.session)) }
     {
         Pair {
             key: b"SessionType",

@@ -1,8 +1,8 @@
--- A write and a read of the same blocks, and two ends with the standard preferences
--- (RFC 7143, section 13; SBC-3; own rule).
+-- A write and a read of the same blocks, and two ends with the standard preferences (RFC 7143,
+-- section 13; SBC-3).
 use Rattle.std.specs.Prelude.{◌≡◌, ℕ, ◌+◌, ◌*◌, ◌/◌, ◌<◌, ◌≤◌, List, [], ◌∷◌, length, bit_and, codes}
-use Rattle.scsi_cdb.specs.declared.block.Cdb.TheVariants.{Read10, Write10}
-use Rattle.scsi_cdb.specs.declared.block.Transfer10.{Transfer10}
+use Rattle.scsi_cdb.specs.declared.cdb.Cdb.TheVariants.{Read10, Write10}
+use Rattle.scsi_cdb.specs.declared.cdb.Transfer10.{Transfer10}
 use Rattle.scsi_cdb.specs.declared.residual.Residual.TheVariants.{Exact}
 use Rattle.iscsi_login.specs.Negotiation.{standard}
 use Rattle.iscsi_login.specs.declared.stage.Stage.TheVariants as stages
@@ -15,7 +15,7 @@ use Rattle.iscsi_pair.specs.World.{Opening}
 use Rattle.iscsi_pair.specs.Served.{HasRoom}
 
 -- A WRITE(10) and a READ(10) of the same blocks, which the disk has, at most as many as one command
--- may name and without protection, and as many bytes (SBC-3; the most is own profile).
+-- may name and without protection, and as many bytes (SBC-3; the most is own rule).
 pub record NameSame (c : Opening) (write_cdb read_cdb bytes : List ℕ) : Type 0 where
   pub named : Transfer10
   pub writes : record_of write_cdb ≡ Write10 named

@@ -1,5 +1,5 @@
 -- One local disk: what requests do where the disk is here; two ends that are in step, and what a
--- request leads them to, answer by answer (RFC 7143, sections 11.3 and 11.4; own rule).
+-- request leads them to, answer by answer (RFC 7143, sections 11.3 and 11.4).
 use Rattle.std.specs.Prelude.{◌≡◌, ◌⊎◌, ℕ, ◌+◌, ◌%◌, ◌<◌, ◌≤◌, ◌^◌, ◌==◌, zero, suc, false, not, List, [], ◌∷◌, ◌++◌, length, take, Option, Some, None}
 use Rattle.scsi_cdb.specs.Sense.{sense_bytes}
 use Rattle.scsi_cdb.specs.declared.sense.Sense.{Sense}
@@ -45,26 +45,26 @@ writing_order lun cdb bytes = record {
 }
 
 -- The sense bytes, where there are any (section 11.4.7).
-abbrev pub told_sense : Option Sense → List ℕ
-told_sense None = []
-told_sense (Some sense) = sense_bytes sense
+abbrev pub reported_sense : Option Sense → List ℕ
+reported_sense None = []
+reported_sense (Some sense) = sense_bytes sense
 
--- What is told of what an order answered (section 11.4).
-abbrev pub told : Outcome → Done
-told outcome =
-    done.Command 0 outcome.status (told_sense outcome.sense) outcome.bytes outcome.residual
+-- The outcome of a request, by what its order answered (section 11.4).
+abbrev pub reported : Outcome → Done
+reported outcome =
+    done.Command 0 outcome.status (reported_sense outcome.sense) outcome.bytes outcome.residual
 
--- An outcome, and the disk after it (own rule).
+-- An outcome, and the disk after it.
 pub record Local : Type 0 where
   pub outcome : Done
   pub disk : Disk
 
 -- A command was executed on a disk that is here (sections 11.3 and 11.4).
 abbrev pub local_command : Effect → Local
-local_command after = record { outcome = told after.outcome; disk = after.disk }
+local_command after = record { outcome = reported after.outcome; disk = after.disk }
 
--- What a request does where the disk is here. A ping gives the first of its bytes, at most so many;
--- texts and logouts are nothing to a disk (sections 11.3, 11.4 and 11.18; own rule).
+-- What a request does where the disk is here. A ping returns the first of its bytes, at most so
+-- many; texts and logouts are nothing to a disk (sections 11.3, 11.4 and 11.18).
 abbrev pub local : ℕ → Disk → Request → Local
 local most disk (requests.In lun cdb expected) =
     local_command (effect disk (reading_order lun cdb expected) [])
@@ -75,13 +75,13 @@ local most disk (requests.Ping bytes) =
 local most disk (requests.Text bytes) = record { outcome = done.Text []; disk = disk }
 local most disk requests.Logout = record { outcome = done.Closed; disk = disk }
 
--- The outcomes of requests, one after another on one disk (own rule).
+-- The outcomes of requests, one after another on one disk.
 unfoldable pub local_outcomes : ℕ → Disk → List Request → List Done
 local_outcomes most disk [] = []
 local_outcomes most disk (request ∷ more) =
     (local most disk request).outcome ∷ local_outcomes most (local most disk request).disk more
 
--- The disk after all of them (own rule).
+-- The disk after all of them.
 unfoldable pub local_disk : ℕ → Disk → List Request → Disk
 local_disk most disk [] = disk
 local_disk most disk (request ∷ more) = local_disk most (local most disk request).disk more
@@ -101,7 +101,7 @@ pub record AreInStep (m : initiator.Machine) (t : target.Machine) : Type 0 where
   pub initiator_phase : m.phase ≡ phases.Full
   pub target_phase : t.session.phase ≡ phases.Full
   pub session : t.session.session_type ≡ sessions.Normal
-  pub none_open : m.open_request ≡ None
+  pub none_open : m.outstanding ≡ None
   pub none_done : m.done ≡ None
   pub no_task : t.tasks ≡ []
   pub held : t.session.held ≡ m.held
@@ -120,27 +120,26 @@ pub record AreInStep (m : initiator.Machine) (t : target.Machine) : Type 0 where
 pub record HaveParted (m : initiator.Machine) (t : target.Machine) : Type 0 where
   pub initiator_phase : m.phase ≡ phases.Closed
   pub target_phase : t.session.phase ≡ phases.Closed
-  pub none_open : m.open_request ≡ None
+  pub none_open : m.outstanding ≡ None
 
--- Both ends are in step and hold this, or have parted after this outcome, that of a logout (own
--- rule).
+-- Both ends are in step and hold this, or have parted after this outcome, that of a logout.
 abbrev pub AreAtRest : Held → Done → initiator.Machine → target.Machine → Type 0
 AreAtRest held outcome m t =
     (AreInStep m t × (m.held ≡ held)) ⊎ (HaveParted m t × (outcome ≡ done.Closed))
 
 -- ---- answers, one by one
 
--- Both ends, the disk, and the answers on their way, where the target has heard all that was sent
--- (own rule).
-pub record Stand : Type 0 where
+-- Both ends, the disk, and the answers on their way, where the target has received all that was
+-- sent.
+pub record Exchange : Type 0 where
   pub initiator : initiator.Machine
   pub target : target.Machine
   pub disk : Disk
   pub answers : List Message
 
 -- A message reaches the initiator, and what it sends then the target; these answers came before
--- (section 4.2; own rule).
-abbrev pub after_answer : Stand → Message → List Message → Stand
+-- (section 4.2).
+abbrev pub after_answer : Exchange → Message → List Message → Exchange
 after_answer x m more =
     let heard = step x.initiator m in
     let answered = answers x.target x.disk heard.output in
@@ -151,18 +150,18 @@ after_answer x m more =
       answers = more ++ answered.answers;
     }
 
--- The next answer reaches the initiator, if one is on its way (own rule).
-abbrev pub after_next : Stand → List Message → Stand
+-- The next answer reaches the initiator, if one is on its way.
+abbrev pub after_next : Exchange → List Message → Exchange
 after_next x [] = x
 after_next x (m ∷ more) = after_answer x m more
 
--- So many answers, one after another (own rule).
-abbrev pub after_answers : ℕ → Stand → Stand
+-- So many answers, one after another.
+abbrev pub after_answers : ℕ → Exchange → Exchange
 after_answers zero x = x
 after_answers (suc more) x = after_answers more (after_next x x.answers)
 
--- A request is handed in, and the target hears what goes out (section 4.2).
-abbrev pub handed_in : initiator.Machine → target.Machine → Disk → Request → Stand
+-- A request is handed in, and the target receives what is sent (section 4.2).
+abbrev pub handed_in : initiator.Machine → target.Machine → Disk → Request → Exchange
 handed_in m t disk request =
     let answered = answers t disk (submitted m request).output in
     record {
@@ -173,13 +172,13 @@ handed_in m t disk request =
     }
 
 -- The request has this outcome and left this disk, no answer is on its way, and once the outcome is
--- taken both ends are in step and hold this, or have parted (section 4.2; own rule).
-pub record HasEnded (held : Held) (outcome : Done) (disk_now : Disk) (x : Stand) : Type 0 where
+-- taken both ends are in step and hold this, or have parted (section 4.2).
+pub record HasEnded (held : Held) (outcome : Done) (disk_now : Disk) (x : Exchange) : Type 0 where
   pub done_is : x.initiator.done ≡ Some outcome
   pub silent : x.answers ≡ []
   pub disk_is : x.disk ≡ disk_now
   pub at_rest : AreAtRest held outcome (taken x.initiator) x.target
 
--- After some answers it has (own rule).
-abbrev pub ComesTo : Held → Done → Disk → Stand → Type 0
+-- After some answers it has.
+abbrev pub ComesTo : Held → Done → Disk → Exchange → Type 0
 ComesTo held outcome disk_now x = (n : ℕ) × HasEnded held outcome disk_now (after_answers n x)

@@ -1,4 +1,4 @@
--- Runs in which memory is there and every request is accepted (RFC 7143, section 4.2; own rule).
+-- Runs in which memory is there and every request is accepted (RFC 7143, section 4.2).
 use Rattle.std.specs.Prelude.{◌≡◌, ◌⊎◌, ℕ, ◌<◌, ◌≤◌, ◌^◌, false, List, [], ◌∷◌, ◌++◌, length, None}
 use Rattle.scsi_disk.specs.Disk.{Disk, disk_of}
 use Rattle.iscsi_pdu.specs.Meaning.{AreBytes}
@@ -17,7 +17,7 @@ use Rattle.iscsi_pair.specs.LocalDisk.{AreInStep, HaveParted, local_disk, local_
 abbrev pub HasRoom : ℕ → List ℕ → Type 0
 HasRoom lun cdb = (lun < 2 ^ 64) × (length cdb ≡ 16) × AreBytes cdb
 
--- A command, a ping or a logout, as a program can say it (sections 11.3, 11.14 and 11.18).
+-- A command, a ping or a logout, as a program can write it (sections 11.3, 11.14 and 11.18).
 abbrev pub IsServed : Request → Type 0
 IsServed (requests.In lun cdb expected) = HasRoom lun cdb
 IsServed (requests.Out lun cdb bytes) = HasRoom lun cdb
@@ -40,23 +40,23 @@ IsAccepted (Submits request) w =
     IsServed request × ((submitted w.initiator.machine request).refusal ≡ None)
 IsAccepted _ w = Unit {0}
 
--- The request that is handed in (own rule).
-abbrev pub asked_in : Event → List Request
-asked_in (Submits request) = request ∷ []
-asked_in _ = []
+-- The request that is handed in.
+abbrev pub requests_in : Event → List Request
+requests_in (Submits request) = request ∷ []
+requests_in _ = []
 
--- The requests that are handed in, in their order (own rule).
-abbrev pub asked : List Event → List Request
-asked [] = []
-asked (event ∷ events) = asked_in event ++ asked events
+-- The requests that are handed in, in their order.
+abbrev pub requests_of : List Event → List Request
+requests_of [] = []
+requests_of (event ∷ events) = requests_in event ++ requests_of events
 
--- The outcome that is taken, if there is one (own rule).
+-- The outcome that is taken, if there is one.
 abbrev pub given_in : Event → World → List Done
 given_in Takes w = listed w.initiator.machine.done
 given_in _ w = []
 
 -- Events, one after another, in which no growth is refused and each request is accepted, and the
--- outcomes that were taken, in their order (own rule).
+-- outcomes that were taken, in their order.
 unfoldable pub RunsServed : World → List Event → World → List Done → Type 0
 RunsServed old [] new outcomes = (new ≡ old) × (outcomes ≡ [])
 RunsServed old (event ∷ events) new outcomes =
@@ -65,11 +65,11 @@ RunsServed old (event ∷ events) new outcomes =
     × RunsServed mid events new later
 
 -- Some run is served in which these requests are handed in and these outcomes taken, and after
--- which nothing is on its way (own rule).
+-- which nothing is on its way.
 pub record SomeRunServes (c : Opening) (all : List Request) (outcomes : List Done) : Type 0 where
   pub events : List Event
   pub world : World
-  pub asked_are : asked events ≡ all
+  pub requests_are : requests_of events ≡ all
   pub runs : RunsServed (new_pair c) events world outcomes
   pub none_out : world.to_target ≡ []
   pub none_back : world.to_initiator ≡ []
@@ -81,11 +81,11 @@ pub record IsNormal (c : Opening) : Type 0 where
   pub session : c.initiator.proposal.session ≡ sessions.Normal
 
 -- The outcomes that requests have on one local disk: that of the pair at first, with pings of as
--- many bytes as the initiator takes (own rule).
+-- many bytes as the initiator takes.
 abbrev pub disk_outcomes : Opening → List Request → List Done
 disk_outcomes c = local_outcomes c.initiator.proposal.prefs.max_recv (disk_of c.blocks)
 
--- The disk after them (own rule).
+-- The disk after them.
 abbrev pub disk_after : Opening → List Request → Disk
 disk_after c = local_disk c.initiator.proposal.prefs.max_recv (disk_of c.blocks)
 
@@ -93,6 +93,6 @@ disk_after c = local_disk c.initiator.proposal.prefs.max_recv (disk_of c.blocks)
 abbrev pub EndsInLogout : List Request → Type 0
 EndsInLogout all = (past : List Request) × (all ≡ past ++ requests.Logout ∷ [])
 
--- Both ends are in step, or have parted after a logout, the last of these requests (own rule).
+-- Both ends are in step, or have parted after a logout, the last of these requests.
 abbrev pub AreAtEnd : List Request → initiator.Machine → target.Machine → Type 0
 AreAtEnd all m t = AreInStep m t ⊎ (HaveParted m t × EndsInLogout all)

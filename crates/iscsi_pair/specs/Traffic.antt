@@ -1,4 +1,4 @@
--- What went between two ends, and what the initiator did with it (RFC 7143, section 4; own rule).
+-- What went between two ends, and what the initiator did with it (RFC 7143, section 4).
 use Rattle.std.specs.Prelude.{◌≡◌, ℕ, false, List, [], ◌∷◌, ◌++◌, length, take, drop}
 use Rattle.scsi_disk.specs.Disk.{disk_of}
 use Rattle.iscsi_stream.specs.Segment.{no_login}
@@ -21,7 +21,7 @@ use Rattle.iscsi_initiator.specs.Laws.{Input, Comes, Asks, Takes, met}
 -- ---- bytes
 
 -- All bytes that were moved to each end, all that were queued for it, and what was asked of the
--- initiator and taken from it (own rule).
+-- initiator and taken from it.
 pub record Traffic : Type 0 where
   pub moved_to_target : List ℕ
   pub moved_to_initiator : List ℕ
@@ -39,11 +39,11 @@ first_traffic c = record {
   demands = [];
 }
 
--- The bytes that stand behind so many (own rule).
+-- The bytes that stand behind so many.
 abbrev pub behind : List ℕ → List ℕ → List ℕ
 behind before after = drop (length before) after
 
--- What an event adds (own rule).
+-- What an event adds.
 abbrev pub traffic_after : Traffic → World → Event → World → Traffic
 traffic_after t old (world.ToTarget k) new = record t {
   moved_to_target = t.moved_to_target ++ take k old.to_target;
@@ -59,7 +59,7 @@ traffic_after t old (world.Submits request) new = record t {
 }
 traffic_after t old world.Takes new = record t { demands = t.demands ++ Takes ∷ [] }
 
--- Events, one after another, and what went between the ends before and after them (own rule).
+-- Events, one after another, and what went between the ends before and after them.
 unfoldable pub Traces : Traffic → World → List Event → World → Traffic → Type 0
 Traces t old [] new u = (new ≡ old) × (u ≡ t)
 Traces t old (event ∷ events) new u =
@@ -67,52 +67,52 @@ Traces t old (event ∷ events) new u =
 
 -- ---- messages
 
--- What it sends then (own rule).
+-- What it sends then.
 abbrev pub sent_in : Machine → Input → List Message
 sent_in m (Comes message) = (step m message).output
 sent_in m (Asks request) = (submitted m request).output
 sent_in m Takes = []
 
--- The session after all of these (own rule).
+-- The session after all of these.
 abbrev pub after_all : Machine → List Input → Machine
 after_all m [] = m
 after_all m (input ∷ inputs) = after_all (met m input) inputs
 
--- What it sends in all of these (own rule).
+-- What it sends in all of these.
 abbrev pub sent : Machine → List Input → List Message
 sent m [] = []
 sent m (input ∷ inputs) = sent_in m input ++ sent (met m input) inputs
 
--- The message that comes in it (own rule).
+-- The message that comes in it.
 abbrev pub coming_in : Input → List Message
 coming_in (Comes message) = message ∷ []
 coming_in _ = []
 
--- The messages that come in these (own rule).
+-- The messages that come in these.
 abbrev pub coming : List Input → List Message
 coming [] = []
 coming (input ∷ inputs) = coming_in input ++ coming inputs
 
--- What is demanded in it (own rule).
+-- What is demanded in it.
 abbrev pub demanded_in : Input → List Input
 demanded_in (Comes message) = []
 demanded_in input = input ∷ []
 
--- What is demanded in these, in their order (own rule).
+-- What is demanded in these, in their order.
 abbrev pub demanded : List Input → List Input
 demanded [] = []
 demanded (input ∷ inputs) = demanded_in input ++ demanded inputs
 
 -- ---- where each end stands
 
--- All that these messages lead a new target to (own rule).
+-- All that these messages lead a new target to.
 abbrev pub said : Opening → List Message → Stepped
 said c messages = answers (opening c.target c.first_stat_sn) (disk_of c.blocks) messages
 
 -- The target is where its machine goes with these PDUs, which are the first of what was moved to
 -- it, and so are the blocks; its answers are all that was queued for the initiator. While its
 -- session goes on it has taken all that was moved; behind the end of its session the rest is
--- dropped (own rule).
+-- dropped.
 pub record TargetStands (c : Opening) (t : Traffic) (w : World) : Type 0 where
   pub messages : List Message
   pub given : List ℕ
@@ -130,7 +130,7 @@ pub record TargetStands (c : Opening) (t : Traffic) (w : World) : Type 0 where
 
 -- The initiator is where its machine goes with these inputs: the PDUs that are the first of what
 -- was moved to it, the requests handed in and the outcomes taken. What it sent is all that was
--- queued for the target. While its session goes on it has taken all that was moved (own rule).
+-- queued for the target. While its session goes on it has taken all that was moved.
 pub record InitiatorStands (c : Opening) (inputs : List Input) (t : Traffic) (w : World)
     : Type 0 where
   pub given : List ℕ

@@ -1,4 +1,4 @@
--- Two ends of a session, and the bytes on their way between them (RFC 7143, section 4; own rule).
+-- Two ends of a session, and the bytes on their way between them (RFC 7143, section 4).
 use Rattle.std.specs.Prelude.{◌≡◌, ◌≢◌, ◌⊎◌, ◌<◌, ◌^◌, ℕ, Bool, true, false, ◌||◌, List, [], ◌∷◌, length, take, drop, Option, Some, None, Result}
 use Rattle.std.specs.Result.{result_err}
 use Rattle.scsi_disk.specs.Disk.{disk_of}
@@ -27,7 +27,7 @@ use Rattle.iscsi_pair.specs.declared.step.Step.{Step}
 use Rattle.iscsi_pair.specs.declared.step.Step.TheVariants as steps
 
 -- Both ends, the bytes of the target's blocks, the bytes queued for each end, and the first fault
--- of each end, if it has failed (own rule).
+-- of each end, if it has failed.
 pub record World : Type 0 where
   pub target : target.Connection
   pub blocks : List ℕ
@@ -37,7 +37,7 @@ pub record World : Type 0 where
   pub target_fault : Option TargetFault
   pub initiator_fault : Option EndFault
 
--- What a pair is made of (own rule).
+-- What a pair is made of.
 pub record Opening : Type 0 where
   pub initiator : initiator_state.Settings
   pub target : target_settings.Settings
@@ -62,40 +62,40 @@ new_pair c = record {
   initiator_fault = None;
 }
 
--- The store of the target: it never fails (own rule).
+-- The store of the target: it never fails.
 abbrev pub store_of : List ℕ → target.Store
 store_of blocks = record { disk = disk_of blocks; failures = 0 }
 
 -- ---- faults
 
--- The fault of a piece that the initiator was fed (own rule).
+-- The fault of a piece that the initiator was fed.
 abbrev pub feed_fault : Option InitiatorFault → Option EndFault
 feed_fault None = None
 feed_fault (Some fault) = Some (ends.Feed fault)
 
--- The fault of a request that the initiator refused (own rule).
+-- The fault of a request that the initiator refused.
 abbrev pub submit_fault : Option Refused → Option EndFault
 submit_fault None = None
 submit_fault (Some refused) = Some (ends.Submit refused.fault)
 
--- Memory ran out at the target (own rule).
+-- Memory ran out at the target.
 abbrev pub target_ran_out : Option TargetFault → Bool
 target_ran_out (Some target_faults.NoMemory) = true
 target_ran_out _ = false
 
--- Memory ran out at the initiator (own rule).
+-- Memory ran out at the initiator.
 abbrev pub initiator_ran_out : Option EndFault → Bool
 initiator_ran_out (Some (ends.Feed initiator_faults.NoMemory)) = true
 initiator_ran_out (Some (ends.Submit refusals.NoMemory)) = true
 initiator_ran_out _ = false
 
--- An end keeps that memory ran out there (own rule).
+-- An end keeps that memory ran out there.
 abbrev pub keeps_no_memory : World → Bool
 keeps_no_memory w = target_ran_out w.target_fault || initiator_ran_out w.initiator_fault
 
 -- ---- what can happen
 
--- What happens to a pair: a step, or the taking of an outcome (own rule).
+-- What happens to a pair: a step, or the taking of an outcome.
 pub data Event : Type 0 where
   -- so many bytes of a queue reach the end that they are for
   ToTarget : ℕ → Event
@@ -105,8 +105,8 @@ pub data Event : Type 0 where
   -- the outcome is taken
   Takes : Event
 
--- Bytes reach the target, as one piece; a fault is kept (section 4; own rule).
-pub record TargetHears (moved : List ℕ) (old new : World) : Type 0 where
+-- Bytes reach the target, as one piece; a fault is kept (section 4).
+pub record TargetReceives (moved : List ℕ) (old new : World) : Type 0 where
   pub result : Result Phase TargetFault
   pub fed : target.Fed old.target (store_of old.blocks) old.to_initiator moved result
       new.target (store_of new.blocks) new.to_initiator
@@ -115,8 +115,8 @@ pub record TargetHears (moved : List ℕ) (old new : World) : Type 0 where
   pub fault : new.target_fault ≡ result_err result
   pub other_fault : new.initiator_fault ≡ old.initiator_fault
 
--- Bytes reach the initiator, as one piece; a fault is kept (section 4; own rule).
-pub record InitiatorHears (moved : List ℕ) (old new : World) : Type 0 where
+-- Bytes reach the initiator, as one piece; a fault is kept (section 4).
+pub record InitiatorReceives (moved : List ℕ) (old new : World) : Type 0 where
   pub result : Result Phase InitiatorFault
   pub fed : initiator.Feeds result old.initiator moved new.initiator old.to_target new.to_target
   pub dropped : new.to_initiator ≡ drop (length moved) old.to_initiator
@@ -125,7 +125,7 @@ pub record InitiatorHears (moved : List ℕ) (old new : World) : Type 0 where
   pub fault : new.initiator_fault ≡ feed_fault (result_err result)
   pub other_fault : new.target_fault ≡ old.target_fault
 
--- A request is handed to the initiator; a refusal is kept (own rule).
+-- A request is handed to the initiator; a refusal is kept.
 pub record InitiatorIsAsked (request : Request) (old new : World) : Type 0 where
   pub result : Result (Unit {0}) Refused
   pub submitted : initiator.Submits result old.initiator request new.initiator
@@ -136,28 +136,27 @@ pub record InitiatorIsAsked (request : Request) (old new : World) : Type 0 where
   pub fault : new.initiator_fault ≡ submit_fault (result_err result)
   pub other_fault : new.target_fault ≡ old.target_fault
 
--- Bytes move to the target; one that has failed drops them, and no bytes change nothing (own rule).
+-- Bytes move to the target; one that has failed drops them, and no bytes change nothing.
 abbrev pub MovesToTarget : Option TargetFault → List ℕ → World → World → Type 0
 MovesToTarget fault [] old new = new ≡ old
-MovesToTarget None (byte ∷ bytes) old new = TargetHears (byte ∷ bytes) old new
+MovesToTarget None (byte ∷ bytes) old new = TargetReceives (byte ∷ bytes) old new
 MovesToTarget (Some fault) (byte ∷ bytes) old new =
     new ≡ record old { to_target = drop (length (byte ∷ bytes)) old.to_target }
 
--- Bytes move to the initiator; one that has failed drops them, and no bytes change nothing (own
--- rule).
+-- Bytes move to the initiator; one that has failed drops them, and no bytes change nothing.
 abbrev pub MovesToInitiator : Option EndFault → List ℕ → World → World → Type 0
 MovesToInitiator fault [] old new = new ≡ old
-MovesToInitiator None (byte ∷ bytes) old new = InitiatorHears (byte ∷ bytes) old new
+MovesToInitiator None (byte ∷ bytes) old new = InitiatorReceives (byte ∷ bytes) old new
 MovesToInitiator (Some fault) (byte ∷ bytes) old new =
     new ≡ record old { to_initiator = drop (length (byte ∷ bytes)) old.to_initiator }
 
--- A request is handed in; an initiator that has failed drops it (own rule).
+-- A request is handed in; an initiator that has failed drops it.
 abbrev pub Asks : Option EndFault → Request → World → World → Type 0
 Asks None request old new = InitiatorIsAsked request old new
 Asks (Some fault) request old new = new ≡ old
 
 -- What an event may lead to. A growth may be refused in any of them; the end then keeps that memory
--- ran out (own rule).
+-- ran out.
 abbrev pub Happens : World → Event → World → Type 0
 Happens old (ToTarget k) new = MovesToTarget old.target_fault (take k old.to_target) old new
 Happens old (ToInitiator k) new =
@@ -165,16 +164,16 @@ Happens old (ToInitiator k) new =
 Happens old (Submits request) new = Asks old.initiator_fault request old new
 Happens old Takes new = new ≡ record old { initiator = initiator.after_taking old.initiator }
 
--- Events, one after another (own rule).
+-- Events, one after another.
 unfoldable pub Runs : World → List Event → World → Type 0
 Runs old [] new = new ≡ old
 Runs old (event ∷ events) new = (mid : World) × Happens old event mid × Runs mid events new
 
--- A world that a new pair may come to (own rule).
+-- A world that a new pair may come to.
 abbrev pub Reached : Opening → List Event → World → Type 0
 Reached c events w = Runs (new_pair c) events w
 
--- The step that a program takes (own rule).
+-- The step that a program takes.
 abbrev pub event_of : Step → Event
 event_of (steps.ToTarget k) = ToTarget k
 event_of (steps.ToInitiator k) = ToInitiator k
@@ -200,12 +199,12 @@ pub record Suits (c : Opening) : Type 0 where
       ⊎ (c.initiator.proposal.target ≡ c.target.name)
   pub auth : (c.initiator.start ≡ stages.Operational) ⊎ (c.initiator.proposal.auth ≢ auths.Chap)
 
--- A request is handed in once the initiator has completed its login (own rule).
+-- A request is handed in once the initiator has completed its login.
 abbrev pub IsInTime : Event → World → Type 0
 IsInTime (Submits request) w = w.initiator.machine.stage ≡ stages.Full
 IsInTime _ w = Unit {0}
 
--- Events, one after another, of which no request comes before its time (own rule).
+-- Events, one after another, of which no request comes before its time.
 unfoldable pub RunsInTime : World → List Event → World → Type 0
 RunsInTime old [] new = new ≡ old
 RunsInTime old (event ∷ events) new =
@@ -214,7 +213,7 @@ RunsInTime old (event ∷ events) new =
 -- ---- runs in which memory is there
 
 -- Events, one after another, in which no growth is refused: none leaves an end that keeps that
--- memory ran out (own rule).
+-- memory ran out.
 unfoldable pub RunsCalmly : World → List Event → World → Type 0
 RunsCalmly old [] new = new ≡ old
 RunsCalmly old (event ∷ events) new =
@@ -222,7 +221,7 @@ RunsCalmly old (event ∷ events) new =
     × RunsCalmly mid events new
 
 -- Two worlds of which nothing differs that matters from now on: an end whose session is over has no
--- use for the bytes that it had of a PDU (own rule).
+-- use for the bytes that it had of a PDU.
 pub record LooksAlike (v w : World) : Type 0 where
   pub target : target.Alike v.target w.target
   pub disk : disk_of w.blocks ≡ disk_of v.blocks

@@ -18,7 +18,7 @@ ghost use Rattle.iscsi_initiator.specs.State as initiator;
 ghost use Rattle.iscsi_initiator.specs.Submitted.{is_too_long, submitted};
 ghost use Rattle.iscsi_pair.specs.LocalDisk.{AreInStep, ComesTo, handed_in, local};
 ghost use Rattle.iscsi_pair.specs.Example.{NameSame, first_read, first_written, good, standard_opening};
-ghost use Rattle.iscsi_pair.specs.Served.{AreAtEnd, IsAlwaysTaken, IsNormal, IsServed, RunsServed, SomeRunServes, asked, disk_after, disk_outcomes};
+ghost use Rattle.iscsi_pair.specs.Served.{AreAtEnd, IsAlwaysTaken, IsNormal, IsServed, RunsServed, SomeRunServes, requests_of, disk_after, disk_outcomes};
 ghost use Rattle.iscsi_pair.specs.World.{Event, IsOpening, LooksAlike, Opening, Reached, RunsCalmly, RunsInTime, Suits, World, keeps_no_memory, new_pair};
 ghost use Rattle.iscsi_pair.specs.Traffic.{Traffic, Traces, first_traffic, TargetStands, InitiatorStands};
 
@@ -57,8 +57,8 @@ pub fn ends()
         → (later : List Input) × InitiatorStands c (inputs ++ later) t w }
 {}
 
-/// One world: where no growth is refused, the events alone say to which world a pair comes, however
-/// its ends use their memory.
+/// One world: where no growth is refused, the events alone determine to which world a pair comes,
+/// however its ends use their memory.
 pub fn one_world()
     ensures one { (c : Opening) (events : List Event) (v w : World)
         → RunsCalmly (new_pair c) events v → RunsCalmly (new_pair c) events w → LooksAlike v w }
@@ -120,7 +120,7 @@ pub fn one_request()
 /// to be commands, pings and logouts.
 pub fn served_runs()
     ensures served { (c : Opening) (events : List Event) (w : World) → Reached c events w
-        → AllByRecursion IsServed (asked events) → keeps_no_memory w ≡ false
+        → AllByRecursion IsServed (requests_of events) → keeps_no_memory w ≡ false
         → w.initiator_fault ≡ None
         → (outcomes : List Done) × RunsServed (new_pair c) events w outcomes }
 {}
@@ -137,22 +137,22 @@ pub fn one_local_disk()
     // request may be still to come.
     ensures outcomes { (c : Opening) (events : List Event) (w : World) (outcomes : List Done)
         → IsNormal c → RunsServed (new_pair c) events w outcomes → (later : List Done)
-        × (length later ≤ 1) × (outcomes ++ later ≡ disk_outcomes c (asked events)) }
+        × (length later ≤ 1) × (outcomes ++ later ≡ disk_outcomes c (requests_of events)) }
     // With nothing on its way no request is open,
     ensures idle { (c : Opening) (events : List Event) (w : World) (outcomes : List Done)
         → IsNormal c → RunsServed (new_pair c) events w outcomes
-        → w.to_target ≡ [] → w.to_initiator ≡ [] → w.initiator.machine.open_request ≡ None }
+        → w.to_target ≡ [] → w.to_initiator ≡ [] → w.initiator.machine.outstanding ≡ None }
     // each has its outcome, and the blocks are those that all of them leave,
     ensures whole { (c : Opening) (events : List Event) (w : World) (outcomes : List Done)
         → IsNormal c → RunsServed (new_pair c) events w outcomes
         → w.to_target ≡ [] → w.to_initiator ≡ []
-        → (outcomes ++ listed w.initiator.machine.done ≡ disk_outcomes c (asked events))
-        × (disk_of w.blocks ≡ disk_after c (asked events)) }
+        → (outcomes ++ listed w.initiator.machine.done ≡ disk_outcomes c (requests_of events))
+        × (disk_of w.blocks ≡ disk_after c (requests_of events)) }
     // and once the last outcome is taken both ends are in step, or have parted after a logout.
     ensures rests { (c : Opening) (events : List Event) (w : World) (outcomes : List Done)
         → IsNormal c → RunsServed (new_pair c) events w outcomes
         → w.to_target ≡ [] → w.to_initiator ≡ []
-        → AreAtEnd (asked events) (taken w.initiator.machine) w.target.machine }
+        → AreAtEnd (requests_of events) (taken w.initiator.machine) w.target.machine }
 {}
 
 /// Every list of commands and pings can be served: where each is one that any target takes, there

@@ -195,8 +195,8 @@ impl Pair {
     #[tactic(auto, using(crate::proofs::Run::MemoryLemmas::calm))]
     pub fn run(&mut self, steps: Vec<Step>)
         ensures ran { Runs self.old (map event_of steps.items) self.new }
-        // Where no end keeps that memory ran out, no growth was refused: then the steps alone say
-        // to which world they lead (`laws::one_world`).
+        // Where no end keeps that memory ran out, no growth was refused: then the steps alone
+        // determine to which world they lead (`laws::one_world`).
         ensures calm { keeps_no_memory self.new ≡ false
             → RunsCalmly self.old (map event_of steps.items) self.new }
     {

@@ -3,7 +3,7 @@
 -- condition does not hold, are free.
 -- `always` is a field that every PDU of the kind has, and `only_if` one with a condition.
 use Rattle.std.specs.Prelude.{ℕ, Bool, not, ◌==◌, ◌||◌, List, [], ◌∷◌}
-use Rattle.scsi_cdb.specs.declared.block.Cdb.{Cdb}
+use Rattle.scsi_cdb.specs.declared.cdb.Cdb.{Cdb}
 use Rattle.scsi_cdb.specs.Layout.{Row, always, only_if}
 use Rattle.scsi_cdb.specs.Layout.Row.{bit, bits, bytes, raw}
 use Rattle.scsi_cdb.specs.Blocks.{canonical}
@@ -61,7 +61,7 @@ scsi_command h =
     ∷ []
 
 -- Task Management Function Request, RFC 7143, section 11.5; each field is kept whatever the
--- function (own profile)
+-- function (own rule)
 abbrev pub task_request : TaskRequest → List Row
 task_request h =
     bit 0 0x40 (always h.immediate)
@@ -92,7 +92,7 @@ login_request h =
     ∷ bytes 28 31 (always h.exp_stat_sn)
     ∷ []
 
--- Text Request, RFC 7143, section 11.10; the condition of the LUN is own profile
+-- Text Request, RFC 7143, section 11.10; the condition of the LUN is own rule
 abbrev pub text_request : TextRequest → List Row
 text_request h =
     bit 0 0x40 (always h.immediate)
@@ -140,7 +140,7 @@ nop_in h =
     ∷ []
 
 -- SCSI Response, RFC 7143, section 11.4; the SNACK tag, bytes 20 to 23, means nothing at recovery
--- level 0 (own profile)
+-- level 0 (own rule)
 abbrev pub scsi_response : ScsiResponse → List Row
 scsi_response h =
     bit 1 0x10 (always h.bidirectional_overflow)
@@ -187,7 +187,7 @@ login_response h =
     ∷ bytes 37 37 (always h.status_detail)
     ∷ []
 
--- Text Response, RFC 7143, section 11.11; the condition of the LUN is own profile
+-- Text Response, RFC 7143, section 11.11; the condition of the LUN is own rule
 abbrev pub text_response : TextResponse → List Row
 text_response h =
     bit 1 0x80 (always h.is_final)
@@ -200,7 +200,7 @@ text_response h =
     ∷ bytes 32 35 (always h.max_cmd_sn)
     ∷ []
 
--- SCSI Data-In, RFC 7143, section 11.7; the condition of the LUN is own profile
+-- SCSI Data-In, RFC 7143, section 11.7; the condition of the LUN is own rule
 abbrev pub data_in : DataIn → List Row
 data_in h =
     bit 1 0x80 (always h.is_final)
@@ -260,7 +260,7 @@ async_message h =
     ∷ bytes 42 43 (always h.parameter3)
     ∷ []
 
--- Reject, RFC 7143, section 11.17; bytes 36 to 39 mean nothing at recovery level 0 (own profile)
+-- Reject, RFC 7143, section 11.17; bytes 36 to 39 mean nothing at recovery level 0 (own rule)
 abbrev pub reject : Reject → List Row
 reject h =
     bytes 2 2 (always h.reason)

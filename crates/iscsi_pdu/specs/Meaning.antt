@@ -119,7 +119,8 @@ pub record Fits (h : Head) : Type 0 where
 -- The one header of a head and a length: each free bit is 0, but for the ones.
 unfoldable pub header : Head → ℕ → List ℕ
 header h len =
-    put_all (rows h ++ blocks h) (put_all (frame (opcode h) len) (put_all (ones h) (replicate 48 0)))
+    put_all (rows h ++ blocks h) (put_all (frame (opcode h) len)
+    (put_all (ones h) (replicate 48 0)))
 
 -- how many bytes a segment is padded with (RFC 7143, section 11.1)
 abbrev pub padding : ℕ → ℕ
@@ -174,4 +175,5 @@ abbrev pub fault_of : List ℕ → Option HeadFault
 fault_of b =
     if not (is_opcode (bits_at 0 0x3f b)) then Some UnknownOpcode
     else (if not (number_at 4 4 b == 0) then Some Additional
-    else (if is_login (bits_at 0 0x3f b) && nat_lt 8192 (number_at 5 7 b) then Some TooLong else None))
+    else (if is_login (bits_at 0 0x3f b) && nat_lt 8192 (number_at 5 7 b) then Some TooLong
+    else None))

@@ -1,5 +1,5 @@
--- The rules of a session by their numbers, which both ends share (own rule), and the reasons of a Reject (RFC 7143,
--- section 11.17.1).
+-- The rules of a session by their numbers, which both ends share, and the reasons of a Reject (RFC
+-- 7143, section 11.17.1).
 use Rattle.std.specs.Prelude.{ℕ}
 
 -- a kind of PDU, or a task tag, is not due in this phase
@@ -10,7 +10,8 @@ kind_not_due = 1
 abbrev pub segment_too_long : ℕ
 segment_too_long = 2
 
--- data, or a request for data, come out of order or past a burst (sections 11.7, 11.8, 13.10, 13.11 and 13.14)
+-- data, or a request for data, come out of order or past a burst (sections 11.7, 11.8, 13.10, 13.11
+-- and 13.14)
 abbrev pub data_out_of_order : ℕ
 data_out_of_order = 3
 

@@ -50,7 +50,7 @@ use thiserror::Error;
 ///
 /// A field with a condition is an `Option`, and has a value exactly where its condition holds. Bits
 /// of no field are
-/// ignored on receipt, those that the standard wants to be 1 too (own profile).
+/// ignored on receipt, those that the standard wants to be 1 too (own rule).
 #[derive(Clone, Copy, Debug, PartialEq, Eq)]
 pub enum Head {
     /// Opcode 00 (section 11.18).
@@ -95,7 +95,7 @@ pub enum HeadFault {
     /// The opcode is none of the 17 (RFC 7143, section 11.2.1.2).
     #[error("unknown opcode")]
     UnknownOpcode,
-    /// TotalAHSLength, byte 4, is not 0: no additional header segments are taken (own profile).
+    /// TotalAHSLength, byte 4, is not 0: no additional header segments are taken (own rule).
     #[error("additional header")]
     Additional,
     /// The data segment of a login PDU is over 8,192 bytes.
@@ -133,7 +133,8 @@ impl Head {
     /// The head of its kind, where the opcode is one.
     fn read(bytes: &[u8; 48]) -> Option<Head>
         ensures { MatchOption result (is_opcode (bits_at 0 63 bytes.now) ≡ false)
-            (λ h. (opcode h ≡ bits_at 0 63 bytes.now) × Hold bytes.now (rows h) × HasBlock bytes.now h) }
+            (λ h. (opcode h ≡ bits_at 0 63 bytes.now) × Hold bytes.now (rows h)
+            × HasBlock bytes.now h) }
     {
         match bits(bytes, 0, 0x3f) {
             0x00 => Some(Head::NopOut(NopOut::read(bytes))),

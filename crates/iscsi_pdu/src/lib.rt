@@ -13,8 +13,8 @@ pub use head::{
     LogoutResponse, NopIn, NopOut, ReadyToTransfer, Reject, ScsiCommand, ScsiResponse, TaskRequest,
     TaskResponse, TextRequest, TextResponse, read_head, write_head,
 };
-pub use pdu::Pdu;
-pub use serial::{Serial, Window, pad};
+pub use pdu::{Pdu, pad};
+pub use serial::{Serial, Window};
 
 /// The reserved tag, ffffffff: as an initiator task tag it names no task, as a target transfer tag
 /// no transfer (RFC 7143, sections 11.2.1.8 and 11.7.4).

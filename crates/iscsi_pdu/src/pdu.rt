@@ -1,4 +1,7 @@
-//! A whole PDU: its head and the data of its segment.
+//! A whole PDU: its head and the data of its segment, and its padding.
+
+ghost use Rattle.std.specs.Prelude.{◌≡◌};
+ghost use Rattle.iscsi_pdu.specs.Meaning.{padding};
 
 use crate::Head;
 
@@ -9,4 +12,12 @@ pub struct Pdu<'a> {
     pub head: Head,
     /// The bytes of the data segment, without padding.
     pub bytes: &'a [u8],
+}
+
+/// How many bytes of padding follow a data segment of `len` bytes: 0 to 3, up to a multiple of 4
+/// (RFC 7143, section 11.1).
+pub fn pad(len: u32) -> u32
+    ensures { result ≡ padding len }
+{
+    (4 - len % 4) % 4
 }

@@ -1,4 +1,4 @@
-//! The rules of a session by their numbers, which both ends share (own rule), and the reasons of a
+//! The rules of a session by their numbers, which both ends share, and the reasons of a
 //! Reject (RFC 7143, section 11.17.1).
 
 /// A kind of PDU, or a task tag, is not due in this phase.

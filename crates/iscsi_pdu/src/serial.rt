@@ -1,7 +1,6 @@
-//! Serial numbers, the window of commands, and padding (RFC 7143, sections 4.2.2 and 11.1).
+//! Serial numbers and the window of commands (RFC 7143, section 4.2.2).
 
 ghost use Rattle.std.specs.Prelude.{◌≡◌, ◌↔◌, ◌<◌, ◌≤◌, ◌+◌, ◌^◌, ◌%◌, IsTrue};
-ghost use Rattle.iscsi_pdu.specs.Meaning.{padding};
 ghost use Rattle.iscsi_pdu.specs.Serial.{distance, moved, IsBefore};
 
 /// A sequence number, as CmdSN and StatSN: after 2^32 - 1 comes 0 (RFC 7143, section 4.2.2; RFC
@@ -65,12 +64,4 @@ impl Window {
             self.max = max;
         }
     }
-}
-
-/// How many bytes of padding follow a data segment of `len` bytes: 0 to 3, up to a multiple of 4
-/// (RFC 7143, section 11.1).
-pub fn pad(len: u32) -> u32
-    ensures { result ≡ padding len }
-{
-    (4 - len % 4) % 4
 }

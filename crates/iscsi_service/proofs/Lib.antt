@@ -1,8 +1,8 @@
-pub mod SessionEnds
-pub mod SessionReads
-pub mod Scripts
-pub mod Reported
-pub mod Histories
-pub mod PairSteps
-pub mod Requests
-pub mod OnDisk
+pub mod SessionEndLemmas
+pub mod SessionReadInvariant
+pub mod ScriptLemmas
+pub mod ReportLemmas
+pub mod HistoryLemmas
+pub mod PairStepLemmas
+pub mod RequestLemmas
+pub mod OnDiskLaw

@@ -1,9 +1,9 @@
 -- The requests that the commands of a script are (SPC-4 and SBC-3; which there are is own rule).
 use Rattle.std.specs.Prelude.{ℕ, ◌*◌, ◌^◌, ◌<◌, Bool, true, false, nat_lt, if◌then◌else◌, replicate}
-use Rattle.scsi_cdb.specs.declared.block.Cdb.{Cdb}
-use Rattle.scsi_cdb.specs.declared.block.Cdb.TheVariants as cdb
-use Rattle.scsi_cdb.specs.declared.block.Transfer10.{Transfer10}
-use Rattle.scsi_cdb.specs.declared.block.Transfer16.{Transfer16}
+use Rattle.scsi_cdb.specs.declared.cdb.Cdb.{Cdb}
+use Rattle.scsi_cdb.specs.declared.cdb.Cdb.TheVariants as cdb
+use Rattle.scsi_cdb.specs.declared.cdb.Transfer10.{Transfer10}
+use Rattle.scsi_cdb.specs.declared.cdb.Transfer16.{Transfer16}
 use Rattle.scsi_cdb.specs.Blocks.{canonical}
 use Rattle.iscsi_initiator.specs.declared.request.Request.{Request}
 use Rattle.iscsi_initiator.specs.declared.request.Request.TheVariants as requests
@@ -55,10 +55,10 @@ flush logical_block_address blocks = cdb.SyncCache10 (record {
   control = 0;
 })
 
--- A command to a unit that may give so many bytes; the unit's number is byte 1 of the LUN, the
+-- A command to a unit that may return so many bytes; the unit's number is byte 1 of the LUN, the
 -- second from above (SAM-5, section 4.7).
-abbrev pub asked : ℕ → Cdb → ℕ → Request
-asked unit block expected = requests.In (unit * 2 ^ 48) (canonical block) expected
+abbrev pub data_in_request : ℕ → Cdb → ℕ → Request
+data_in_request unit block expected = requests.In (unit * 2 ^ 48) (canonical block) expected
 
 -- A WRITE of so many blocks of 512 bytes, all of them this byte (SBC-3).
 abbrev pub written : ℕ → ℕ → ℕ → Request
@@ -70,20 +70,21 @@ written logical_block_address blocks byte =
 -- READ, WRITE and SYNCHRONIZE CACHE(10) SBC-3's, a ping and a logout those of RFC 7143, sections
 -- 11.18 and 11.14 (what stands in their other fields is own rule).
 abbrev pub request_of : Command → Request
-request_of (TestUnitReady unit) = asked unit (cdb.TestUnitReady 0) 0
+request_of (TestUnitReady unit) = data_in_request unit (cdb.TestUnitReady 0) 0
 request_of (Inquiry unit allocation_length) =
-    asked unit (cdb.Inquiry false 0 allocation_length 0) allocation_length
-request_of Capacity = asked 0 (cdb.Capacity10 0) 8
-request_of Capacity16 = asked 0 (cdb.Capacity16 32 0) 32
-request_of Luns = asked 0 (cdb.ReportLuns 0 16 0) 16
+    data_in_request unit (cdb.Inquiry false 0 allocation_length 0) allocation_length
+request_of Capacity = data_in_request 0 (cdb.Capacity10 0) 8
+request_of Capacity16 = data_in_request 0 (cdb.Capacity16 32 0) 32
+request_of Luns = data_in_request 0 (cdb.ReportLuns 0 16 0) 16
 request_of (Read logical_block_address blocks) =
-    asked 0 (reading logical_block_address blocks) (512 * blocks)
+    data_in_request 0 (reading logical_block_address blocks) (512 * blocks)
 request_of (Write logical_block_address blocks byte) = written logical_block_address blocks byte
-request_of (Sync logical_block_address blocks) = asked 0 (flush logical_block_address blocks) 0
+request_of (Sync logical_block_address blocks) =
+    data_in_request 0 (flush logical_block_address blocks) 0
 request_of (Ping bytes) = requests.Ping bytes
 request_of Logout = requests.Logout
 
--- The numbers of a command are those of their fields (own rule).
+-- The numbers of a command are those of their fields.
 abbrev pub HasNumbers : Command → Type 0
 HasNumbers (TestUnitReady unit) = unit < 256
 HasNumbers (Inquiry unit allocation_length) = (unit < 256) × (allocation_length < 2 ^ 16)

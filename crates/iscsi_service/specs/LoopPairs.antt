@@ -1,5 +1,5 @@
 -- Both ends of a loop, as a pair: what they have served, and what that is on one local disk (RFC
--- 7143, section 4.2; own rule).
+-- 7143, section 4.2).
 use Rattle.std.specs.Prelude.{◌≡◌, ◌⊎◌, ℕ, ◌*◌, List, [], ◌∷◌, ◌++◌, map, replicate, take, None, Option, Result, Ok, Err}
 use Rattle.std.specs.Io.KnownBytes.{Appends}
 use Rattle.scsi_disk.specs.Disk.{Disk, disk_of, zeros}
@@ -10,7 +10,7 @@ use Rattle.iscsi_initiator.specs.declared.request.Done.{Done}
 use Rattle.iscsi_initiator.specs.declared.request.Request.{Request}
 use Rattle.iscsi_pair.specs.World.{World, Opening, Event, new_pair}
 use Rattle.iscsi_pair.specs.LocalDisk.{local}
-use Rattle.iscsi_pair.specs.Served.{RunsServed, asked, disk_after, disk_outcomes}
+use Rattle.iscsi_pair.specs.Served.{RunsServed, requests_of, disk_after, disk_outcomes}
 use Rattle.iscsi_service.specs.declared.command.Command.{Command}
 use Rattle.iscsi_service.specs.declared.serve_fault.ServeFault.{ServeFault}
 use Rattle.iscsi_service.specs.Commands.{request_of}
@@ -19,12 +19,11 @@ use Rattle.iscsi_service.specs.Session.{target_settings}
 use Rattle.iscsi_service.specs.Reports.{report}
 use Rattle.iscsi_service.specs.Looping.{initiator_settings, reports, transcript, up_to_logout}
 
--- A carrier gives what was written to it (own rule).
+-- A carrier returns what was written to it.
 abbrev pub IsFaithful : (List ℕ → List ℕ → Type 0) → Type 0
 IsFaithful carries = (written read : List ℕ) → carries written read → read ≡ written
 
--- What the pair of a loop is made of: the settings of the programs, and so many blocks of 00 (own
--- rule).
+-- What the pair of a loop is made of: the settings of the programs, and so many blocks of 00.
 abbrev pub loop_opening : ℕ → Opening
 loop_opening blocks = record {
   initiator = initiator_settings;
@@ -35,8 +34,7 @@ loop_opening blocks = record {
 
 -- ---- what was served
 
--- Both ends, the target's disk, and the bytes on their way to the target and to the initiator (own
--- rule).
+-- Both ends, the target's disk, and the bytes on their way to the target and to the initiator.
 pub record Ends : Type 0 where
   pub initiator : initiator.Connection
   pub target : target.Connection
@@ -44,17 +42,17 @@ pub record Ends : Type 0 where
   pub out : List ℕ
   pub back : List ℕ
 
--- These five together (own rule).
+-- These five together.
 abbrev pub ends_of : initiator.Connection → target.Connection → Disk → List ℕ → List ℕ → Ends
 ends_of initiator target disk out back =
     record { initiator = initiator; target = target; disk = disk; out = out; back = back }
 
--- Both ends before the login, over so many blocks of 00 (own rule).
+-- Both ends before the login, over so many blocks of 00.
 abbrev pub new_ends : ℕ → Ends
 new_ends blocks = ends_of (initiator.opening_connection initiator_settings)
     (target.opening_connection target_settings 1) (zeros blocks) [] []
 
--- These ends as a pair of which none has failed, with the bytes of its blocks (own rule).
+-- These ends as a pair of which none has failed, with the bytes of its blocks.
 abbrev pub world_of : Ends → List ℕ → World
 world_of ends bytes = record {
   target = ends.target;
@@ -67,17 +65,16 @@ world_of ends bytes = record {
 }
 
 -- A new pair came to these ends in a run in which no growth was refused and each request was
--- accepted; these requests were handed in, and these outcomes taken (own rule).
+-- accepted; these requests were handed in, and these outcomes taken.
 pub record HaveServed (blocks : ℕ) (requests : List Request) (outcomes : List Done) (ends : Ends)
     : Type 0 where
   pub events : List Event
   pub bytes : List ℕ
   pub disk_is : disk_of bytes ≡ ends.disk
-  pub asked_are : asked events ≡ requests
+  pub requests_are : requests_of events ≡ requests
   pub runs : RunsServed (new_pair (loop_opening blocks)) events (world_of ends bytes) outcomes
 
--- Whatever the ends had served before, they have served then, and nothing more was asked or taken
--- (own rule).
+-- Whatever the ends had served before, they have served then, and nothing more was asked or taken.
 abbrev pub GoOn : Ends → Ends → Type 0
 GoOn old new = (blocks : ℕ) (requests : List Request) (outcomes : List Done)
     → HaveServed blocks requests outcomes old → HaveServed blocks requests outcomes new
@@ -93,17 +90,17 @@ abbrev pub outcome_on : ℕ → List Request → Request → Done
 outcome_on blocks past request =
     (local initiator_settings.proposal.prefs.max_recv (disk_after (loop_opening blocks) past) request).outcome
 
--- The ends have served these requests as one local disk does, and nothing is on its way (own rule).
+-- The ends have served these requests as one local disk does, and nothing is on its way.
 abbrev pub AreOneDisk : ℕ → List Request → Ends → Type 0
 AreOneDisk blocks requests ends = HaveServed blocks requests (outcomes_on blocks requests) ends
 
--- A request's outcome is that of one local disk, and so are all with it (own rule).
+-- A request's outcome is that of one local disk, and so are all with it.
 abbrev pub Performs : Ends → Request → Done → Ends → Type 0
 Performs old request done new = (blocks : ℕ) (past : List Request) → AreOneDisk blocks past old
     → (done ≡ outcome_on blocks past request) × AreOneDisk blocks (past ++ request ∷ []) new
 
--- The line of a request's outcome on one local disk is written, and the ends have served it; before a
--- fault a front of that line is (own rule).
+-- The line of a request's outcome on one local disk is written, and the ends have served it; before
+-- a fault a front of that line is.
 abbrev pub WritesLine : Result (Unit {0}) ServeFault → ℕ → List Request → Request → Ends
     → Option (List ℕ) → Option (List ℕ) → Type 0
 WritesLine (Ok done) blocks past request ends contents_old contents_new =
@@ -112,11 +109,11 @@ WritesLine (Ok done) blocks past request ends contents_old contents_new =
 WritesLine (Err fault) blocks past request ends contents_old contents_new =
     WroteFront contents_old contents_new (report (outcome_on blocks past request))
 
--- What the commands up to the first logout lead to on one local disk of so many blocks (own rule).
+-- What the commands up to the first logout lead to on one local disk of so many blocks.
 abbrev pub command_outcomes : ℕ → List Command → List Done
 command_outcomes blocks commands = outcomes_on blocks (map request_of (up_to_logout commands))
 
--- The lines of one local disk are written, whole or, before a fault, a front of them (own rule).
+-- The lines of one local disk are written, whole or, before a fault, a front of them.
 abbrev pub WritesOnDisk : ℕ → List Command → Result (Unit {0}) ServeFault → Option (List ℕ)
     → Option (List ℕ) → Type 0
 WritesOnDisk blocks commands (Ok done) contents_old contents_new =
@@ -125,7 +122,7 @@ WritesOnDisk blocks commands (Err fault) contents_old contents_new =
     WroteFront contents_old contents_new (reports (command_outcomes blocks commands))
 
 -- What is written is what the script leads to on one local disk of so many blocks of 00: all of its
--- lines or, before a fault, a front of them (own rule).
+-- lines or, before a fault, a front of them.
 abbrev pub LoopsOnDisk : ℕ → Result (Unit {0}) ServeFault → List ℕ → List ℕ → Type 0
 LoopsOnDisk blocks (Ok done) script written = (commands : List Command)
     × IsScript script commands × (written ≡ transcript (command_outcomes blocks commands))

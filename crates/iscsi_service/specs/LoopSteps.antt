@@ -1,4 +1,4 @@
--- The steps of a loop: what they write, and what happens to the initiator (own rule).
+-- The steps of a loop: what they write, and what happens to the initiator.
 use Rattle.std.specs.Prelude.{◌≡◌, List, [], ◌∷◌, ℕ, Option}
 use Rattle.std.specs.Io.KnownBytes.{Appends}
 use Rattle.iscsi_initiator.specs.declared.fault.InitiatorFault.TheVariants as initiator
@@ -16,7 +16,7 @@ use Rattle.iscsi_service.specs.Commands.{request_of}
 use Rattle.iscsi_service.specs.Reports.{report}
 use Rattle.iscsi_service.specs.Looping.{HaveOutcomes, FirstHaveOutcomes, reports, up_to_logout}
 
--- The faults of the session itself (own rule).
+-- The faults of the session itself.
 abbrev pub IsOfSession : ServeFault → Type 0
 IsOfSession serve.NoMemory = Unit {0}
 IsOfSession serve.Network = Unit {0}
@@ -26,14 +26,13 @@ IsOfSession (serve.Script n) = ⊥
 IsOfSession serve.Read = ⊥
 IsOfSession serve.Write = ⊥
 
--- A request that is refused counts as handed to a closed session, but where memory ran out (own
--- rule).
+-- A request that is refused counts as handed to a closed session, but where memory ran out.
 abbrev pub refusal_fault : SubmitFault → ServeFault
 refusal_fault refusals.NoMemory = serve.NoMemory
 refusal_fault _ = serve.Initiator initiator.Closed
 
 -- A session's fault comes behind the lines of the first commands' outcomes, and a failed write
--- leaves a front of such lines (own rule).
+-- leaves a front of such lines.
 abbrev pub Stops : ServeFault → List Command → Option (List ℕ) → Option (List ℕ) → Type 0
 Stops serve.Write commands contents_old contents_new =
     (outcomes : List Done) × FirstHaveOutcomes (up_to_logout commands) outcomes
@@ -42,8 +41,7 @@ Stops fault commands contents_old contents_new = IsOfSession fault
     × ((outcomes : List Done) × FirstHaveOutcomes (up_to_logout commands) outcomes
     × Appends contents_old contents_new (reports outcomes))
 
--- The commands up to the first logout were done, and the lines of their outcomes written (own
--- rule).
+-- The commands up to the first logout were done, and the lines of their outcomes written.
 abbrev pub Runs : List Command → Option (List ℕ) → Option (List ℕ) → Type 0
 Runs commands contents_old contents_new =
     (outcomes : List Done) × HaveOutcomes (up_to_logout commands) outcomes
@@ -52,7 +50,7 @@ Runs commands contents_old contents_new =
 -- ---- the initiator's part
 
 -- Events led the initiator from one state to the other, in which these requests were accepted and
--- these outcomes taken (own rule).
+-- these outcomes taken.
 pub record Continues (old : Machine) (asked : List Request) (taken : List Done) (new : Machine)
     : Type 0 where
   pub events : List Event
@@ -61,7 +59,7 @@ pub record Continues (old : Machine) (asked : List Request) (taken : List Done) 
   pub outcomes : given old events ≡ taken
 
 -- A command's fault: one of the session comes before its line is written, and a failed write leaves
--- a front of the line of an outcome that the initiator gave (own rule).
+-- a front of the line of an outcome that the initiator gave.
 abbrev pub Fails : ServeFault → Machine → Command → Machine → Option (List ℕ) → Option (List ℕ) → Type 0
 Fails serve.Write old command new contents_old contents_new =
     (done : Done) × Continues old (request_of command ∷ []) (done ∷ []) new

@@ -1,4 +1,4 @@
--- A session of an initiator and a target, as a script says (own rule).
+-- A session of an initiator and a target, as a script says.
 use Rattle.std.specs.Prelude.{◌≡◌, ◌⊎◌, ℕ, List, [], ◌∷◌, ◌++◌, take, Option, Result, Ok, Err, codes, if◌then◌else◌}
 use Rattle.std.specs.Io.KnownBytes.{IsAtEnd}
 use Rattle.std.specs.List.{flat_map}
@@ -16,7 +16,7 @@ use Rattle.iscsi_service.specs.Commands.{request_of, is_logout}
 use Rattle.iscsi_service.specs.Script.{IsScript, ScriptFails}
 use Rattle.iscsi_service.specs.Reports.{report}
 
--- What the initiator is configured with (own rule).
+-- What the initiator is configured with.
 abbrev pub initiator_settings : Settings
 initiator_settings = record {
   proposal = record {
@@ -34,54 +34,54 @@ initiator_settings = record {
 
 -- ---- what is done and written
 
--- The commands up to the first logout (own rule).
+-- The commands up to the first logout.
 abbrev pub up_to_logout : List Command → List Command
 up_to_logout [] = []
 up_to_logout (command ∷ commands) =
     if is_logout command then command ∷ [] else command ∷ up_to_logout commands
 
--- Each command has an outcome of its request's kind, in order (own rule).
+-- Each command has an outcome of its request's kind, in order.
 abbrev pub HaveOutcomes : List Command → List Done → Type 0
 HaveOutcomes [] [] = Unit {0}
 HaveOutcomes (command ∷ commands) (outcome ∷ outcomes) =
     IsOutcomeOf (request_of command) outcome × HaveOutcomes commands outcomes
 HaveOutcomes _ _ = ⊥
 
--- The first of these commands have outcomes of their requests' kinds, in order (own rule).
+-- The first of these commands have outcomes of their requests' kinds, in order.
 abbrev pub FirstHaveOutcomes : List Command → List Done → Type 0
 FirstHaveOutcomes commands [] = Unit {0}
 FirstHaveOutcomes (command ∷ commands) (outcome ∷ outcomes) =
     IsOutcomeOf (request_of command) outcome × FirstHaveOutcomes commands outcomes
 FirstHaveOutcomes [] (outcome ∷ outcomes) = ⊥
 
--- The lines of outcomes (own rule).
+-- The lines of outcomes.
 abbrev pub reports : List Done → List ℕ
 reports outcomes = flat_map report outcomes
 
--- The line of the login, and those of outcomes (own rule).
+-- The line of the login, and those of outcomes.
 abbrev pub transcript : List Done → List ℕ
 transcript outcomes = codes "login" ++ 0x0a ∷ [] ++ reports outcomes
 
--- The script was read and done, and what came of each command is written (own rule).
+-- The script was read and done, and what came of each command is written.
 abbrev pub DoesScript : List ℕ → List ℕ → Type 0
 DoesScript script written =
     (commands : List Command) × (outcomes : List Done) × IsScript script commands
     × HaveOutcomes (up_to_logout commands) outcomes × (written ≡ transcript outcomes)
 
--- Nothing is written, or the lines of the login and of the first commands' outcomes (own rule).
+-- Nothing is written, or the lines of the login and of the first commands' outcomes.
 abbrev pub StopsWithin : List ℕ → List ℕ → Type 0
 StopsWithin script written = (written ≡ [])
     ⊎ ((commands : List Command) × (outcomes : List Done) × IsScript script commands
     × FirstHaveOutcomes (up_to_logout commands) outcomes × (written ≡ transcript outcomes))
 
--- A front of the lines of the login and of the first commands' outcomes (own rule).
+-- A front of the lines of the login and of the first commands' outcomes.
 abbrev pub WritesFront : List ℕ → List ℕ → Type 0
 WritesFront script written =
     (commands : List Command) × (outcomes : List Done) × IsScript script commands
     × FirstHaveOutcomes (up_to_logout commands) outcomes
     × ((n : ℕ) × (written ≡ take n (transcript outcomes)))
 
--- What is written where a loop ends (own rule).
+-- What is written where a loop ends.
 abbrev pub Loops : Result (Unit {0}) ServeFault → List ℕ → List ℕ → Type 0
 Loops (Ok done) script written = DoesScript script written
 Loops (Err (serve.Script n)) script written =
@@ -93,7 +93,7 @@ Loops (Err serve.Network) script written = StopsWithin script written
 Loops (Err (serve.Target fault)) script written = StopsWithin script written
 Loops (Err (serve.Initiator fault)) script written = StopsWithin script written
 
--- The script is read to its end before anything is sent or written (own rule).
+-- The script is read to its end before anything is sent or written.
 abbrev pub ReadsFirst : Result (Unit {0}) ServeFault → List ℕ → Option (List ℕ) → Type 0
 ReadsFirst (Err (serve.Script n)) written left = Unit {0}
 ReadsFirst (Err serve.Read) written left = Unit {0}

@@ -1,4 +1,4 @@
--- Sessions over a socket: what ends them, and the exit status that says it (own rule).
+-- Sessions over a socket: what ends them, and the exit status for it.
 use Rattle.std.specs.Prelude.{◌≡◌, ℕ, List, Result, Ok, Err}
 use Rattle.scsi_disk.specs.Disk.{Disk}
 use Rattle.iscsi_target.specs.declared.fault.TargetFault.{TargetFault}
@@ -12,8 +12,8 @@ use Rattle.iscsi_service.specs.declared.serve_fault.ServeFault.{ServeFault}
 use Rattle.iscsi_service.specs.declared.serve_fault.ServeFault.TheVariants as serve
 use Rattle.iscsi_service.specs.Session.{ServesAll, ServesFirst, EndsBy}
 
--- The exit status that says a fault: 1 where what came is refused, 3 for memory, 4 for reading,
--- writing and the network (own rule).
+-- The exit status of a fault: 1 where what came is refused, 3 for memory, 4 for reading, writing
+-- and the network.
 abbrev pub exit_status : ServeFault → ℕ
 exit_status serve.NoMemory = 3
 exit_status (serve.Target fault) = 1
@@ -23,14 +23,14 @@ exit_status serve.Network = 4
 exit_status serve.Read = 4
 exit_status serve.Write = 4
 
--- A target's fault; its `NoMemory` is the session's own (own rule).
+-- A target's fault; its `NoMemory` is the session's own.
 abbrev pub target_fault : TargetFault → ServeFault
 target_fault target.NoMemory = serve.NoMemory
 target_fault (target.Stream fault) = serve.Target (target.Stream fault)
 target_fault (target.Protocol rule) = serve.Target (target.Protocol rule)
 target_fault target.Closed = serve.Target target.Closed
 
--- An initiator's fault; its `NoMemory` is the session's own (own rule).
+-- An initiator's fault; its `NoMemory` is the session's own.
 abbrev pub initiator_fault : InitiatorFault → ServeFault
 initiator_fault initiator.NoMemory = serve.NoMemory
 initiator_fault (initiator.Stream fault) = serve.Initiator (initiator.Stream fault)
@@ -40,14 +40,14 @@ initiator_fault (initiator.Refused status detail) =
 initiator_fault (initiator.BadAnswer key) = serve.Initiator (initiator.BadAnswer key)
 initiator_fault initiator.Closed = serve.Initiator initiator.Closed
 
--- A session's fault over a stream; its `NoMemory` is the session's own (own rule).
+-- A session's fault over a stream; its `NoMemory` is the session's own.
 abbrev pub session_fault : SessionFault → ServeFault
 session_fault (session.Target fault) = target_fault fault
 session_fault session.Read = serve.Read
 session_fault session.Write = serve.Write
 
 -- What a session over a socket leaves where it ends, and why it ends so: nothing is done where no
--- connection was accepted; where a write failed, nothing is said of it (own rule).
+-- connection was accepted; where a write failed, nothing is stated of it.
 abbrev pub ServesOne : Settings → Disk → Result (Unit {0}) ServeFault → List ℕ → Disk → List ℕ
     → Type 0
 ServesOne settings disk (Ok done) read disk_now written =
@@ -64,7 +64,7 @@ ServesOne settings disk (Err serve.Write) read disk_now written = Unit {0}
 ServesOne settings disk (Err (serve.Initiator fault)) read disk_now written = ⊥
 ServesOne settings disk (Err (serve.Script line)) read disk_now written = ⊥
 
--- The faults of a session that end the service (own rule).
+-- The faults of a session that end the service.
 abbrev pub EndsService : ServeFault → Type 0
 EndsService serve.NoMemory = Unit {0}
 EndsService serve.Network = Unit {0}

@@ -22,7 +22,7 @@ use Rattle.iscsi_target.specs.Laws.{Leads}
 use Rattle.iscsi_service.specs.declared.session.SessionFault.{SessionFault}
 use Rattle.iscsi_service.specs.declared.session.SessionFault.TheVariants as session
 
--- What the target of the programs is configured with (own rule).
+-- What the target of the programs is configured with.
 abbrev pub target_settings : Settings
 target_settings = record {
   name = codes "iqn.2026-01.example:disk";
@@ -31,54 +31,53 @@ target_settings = record {
   preferences = standard;
 }
 
--- Commands that were executed, one after another, lead from one disk to another (own rule).
+-- Commands that were executed, one after another, lead from one disk to another.
 abbrev pub HasExecuted : Disk → Disk → Type 0
 HasExecuted before after = (executed : List Execution) × Leads before executed after
 
 -- The target has answered all PDUs of what was read, of its longest prefix in the profile: what is
--- written and the blocks are those that they lead to (own rule).
+-- written and the blocks are those that they lead to.
 abbrev pub ServesAll : Settings → Disk → List ℕ → Disk → List ℕ → Type 0
 ServesAll settings disk read disk_now written =
     (ms : List Message) (given rest : List ℕ) → Splits longest_segment read ms given rest
     → Writes settings 1 disk ms disk_now written
 
--- The first PDUs of what was read, within the limit of the target's framer, and what follows them
--- (own rule).
-pub record Hears (settings : Settings) (read : List ℕ) : Type 0 where
+-- The first PDUs of what was read, within the limit of the target's framer, and what follows them.
+pub record Receives (settings : Settings) (read : List ℕ) : Type 0 where
   pub messages : List Message
   pub given : List ℕ
   pub rest : List ℕ
   pub whole : read ≡ given ++ rest
   pub reads : ReadsAs (limit settings) no_login given messages
 
--- What these PDUs lead to (own rule).
-abbrev pub led : (settings : Settings) → Disk → (read : List ℕ) → Hears settings read → Stepped
-led settings disk read hears = answers (opening settings 1) disk hears.messages
+-- What these PDUs lead to.
+abbrev pub led : (settings : Settings) → Disk → (read : List ℕ) → Receives settings read → Stepped
+led settings disk read receives = answers (opening settings 1) disk receives.messages
 
 -- Some tasks of the PDU behind those that were answered were done, in their order, over a device
--- that did not fail (own rule).
-pub record DoesSome (settings : Settings) (disk : Disk) (read : List ℕ) (hears : Hears settings read)
+-- that did not fail.
+pub record DoesSome (settings : Settings) (disk : Disk) (read : List ℕ) (receives : Receives settings read)
     (front : Stepped) : Type 0 where
   pub message : Message
   -- what was read begins with these PDUs and that one
-  pub more : Hears settings read
-  pub behind : more.messages ≡ hears.messages ++ message ∷ []
+  pub more : Receives settings read
+  pub behind : more.messages ≡ receives.messages ++ message ∷ []
   pub failures : ℕ
-  pub stops : MayStop (led settings disk read hears).machine (led settings disk read hears).disk
+  pub stops : MayStop (led settings disk read receives).machine (led settings disk read receives).disk
       failures message front failures
 
 -- The answers to some first PDUs of what was read are written, whole, and the blocks are those that
--- these PDUs lead to; of the PDU behind them some tasks may have been done, whole (own rule).
+-- these PDUs lead to; of the PDU behind them some tasks may have been done, whole.
 pub record ServesFirst (settings : Settings) (disk : Disk) (read : List ℕ) (disk_now : Disk)
     (written : List ℕ) : Type 0 where
-  pub hears : Hears settings read
+  pub receives : Receives settings read
   pub front : Stepped
-  pub stops : (front ≡ unchanged (led settings disk read hears).machine
-      (led settings disk read hears).disk) ⊎ DoesSome settings disk read hears front
+  pub stops : (front ≡ unchanged (led settings disk read receives).machine
+      (led settings disk read receives).disk) ⊎ DoesSome settings disk read receives front
   pub disk_is : disk_now ≡ front.disk
-  pub output_is : written ≡ canon ((led settings disk read hears).answers ++ front.answers)
+  pub output_is : written ≡ canon ((led settings disk read receives).answers ++ front.answers)
 
--- What a session leaves where it ends; where a write failed, nothing is said of it (own rule).
+-- What a session leaves where it ends; where a write failed, nothing is stated of it.
 abbrev pub Serves : Settings → Disk → Result (Unit {0}) SessionFault → List ℕ → Disk → List ℕ
     → Type 0
 Serves settings disk (Ok done) read disk_now written = ServesAll settings disk read disk_now written
@@ -96,18 +95,18 @@ Serves settings disk (Err session.Write) read disk_now written = Unit {0}
 -- The session was closed by the first PDUs of what was read, and none of them broke a rule: by a
 -- logout or a refused login (RFC 7143, sections 11.13 and 11.14).
 abbrev pub IsOver : Settings → Disk → List ℕ → Type 0
-IsOver settings disk read = (hears : Hears settings read)
-    × ((led settings disk read hears).rule ≡ None)
-    × (is_closed (led settings disk read hears).machine ≡ true)
+IsOver settings disk read = (receives : Receives settings read)
+    × ((led settings disk read receives).rule ≡ None)
+    × (is_closed (led settings disk read receives).machine ≡ true)
 
--- The session goes on, and no rule was broken, behind the PDUs that what was read has (own rule).
-abbrev pub GoesOnBehind : (settings : Settings) → Disk → (read : List ℕ) → Hears settings read
+-- The session goes on, and no rule was broken, behind the PDUs that what was read has.
+abbrev pub GoesOnBehind : (settings : Settings) → Disk → (read : List ℕ) → Receives settings read
     → Type 0
-GoesOnBehind settings disk read hears = ((led settings disk read hears).rule ≡ None)
-    × (is_closed (led settings disk read hears).machine ≡ false)
+GoesOnBehind settings disk read receives = ((led settings disk read receives).rule ≡ None)
+    × (is_closed (led settings disk read receives).machine ≡ false)
 
--- The bytes behind PDUs are what the framer refuses, or a PDU that is begun and not whole; the fault
--- names their place (own rule).
+-- The bytes behind PDUs are what the framer refuses, or a PDU that is begun and not whole; the
+-- fault names their place.
 abbrev pub RestFails : ℕ → StreamFault → List ℕ → List ℕ → Type 0
 RestFails limit (stream.Head fault place) given rest = (48 ≤ length rest)
     × (fault_of (take 48 rest) ≡ Some fault) × (place ≡ min (length given) last_place)
@@ -119,28 +118,29 @@ RestFails limit (stream.Truncated place) given rest = (0 < length rest)
 RestFails limit stream.NoMemory given rest = ⊥
 RestFails limit stream.Failed given rest = ⊥
 
--- Why a session ends, told by the PDUs of what was read; where memory is wanting, or a write failed,
--- nothing is said of it (own rule).
+-- Why a session ends, by the PDUs of what was read; where memory ran out, or a write failed,
+-- nothing is stated of it.
 abbrev pub EndsBy : Settings → Disk → Result (Unit {0}) SessionFault → List ℕ → Type 0
 -- it was closed, or what was read ends behind its last PDU
 EndsBy settings disk (Ok done) read = IsOver settings disk read
-    ⊎ ((hears : Hears settings read) × GoesOnBehind settings disk read hears × (hears.rest ≡ []))
+    ⊎ ((receives : Receives settings read) × GoesOnBehind settings disk read receives
+    × (receives.rest ≡ []))
 -- the last PDU broke this rule
 EndsBy settings disk (Err (session.Target (faults.Protocol rule))) read =
-    (hears : Hears settings read) × ((led settings disk read hears).rule ≡ Some rule)
+    (receives : Receives settings read) × ((led settings disk read receives).rule ≡ Some rule)
 -- the bytes behind the PDUs are refused
 EndsBy settings disk (Err (session.Target (faults.Stream fault))) read =
-    (hears : Hears settings read) × GoesOnBehind settings disk read hears
-    × RestFails (limit settings) fault hears.given hears.rest
+    (receives : Receives settings read) × GoesOnBehind settings disk read receives
+    × RestFails (limit settings) fault receives.given receives.rest
 -- no fault came before the read that failed
 EndsBy settings disk (Err session.Read) read =
-    (hears : Hears settings read) × GoesOnBehind settings disk read hears
-    × IsBegun (limit settings) hears.rest × NoPdu (limit settings) hears.rest
+    (receives : Receives settings read) × GoesOnBehind settings disk read receives
+    × IsBegun (limit settings) receives.rest × NoPdu (limit settings) receives.rest
 EndsBy settings disk (Err (session.Target faults.NoMemory)) read = Unit {0}
 EndsBy settings disk (Err session.Write) read = Unit {0}
 EndsBy settings disk (Err (session.Target faults.Closed)) read = ⊥
 
--- A session that ended well has read its reader to the end, or was closed (own rule).
+-- A session that ended well has read its reader to the end, or was closed.
 abbrev pub EndsWell : Settings → Disk → Option (List ℕ) → Option (List ℕ) → Type 0
 EndsWell settings disk before after =
     IsAtEnd after ⊎ ((read : List ℕ) × Consumes before after read × IsOver settings disk read)

@@ -11,7 +11,7 @@ use Rattle.iscsi_service.specs.declared.session.SessionFault.{SessionFault}
 use Rattle.iscsi_service.specs.declared.session.SessionFault.TheVariants as session
 
 -- This stream was fed in pieces, from the first store on; of the answers some were sent, and the
--- others wait. What is said of them holds where no failure was counted (own rule).
+-- others wait. What is said of them holds where no failure was counted.
 pub record ServedUpTo (settings : Settings) (first : Store) (stream : List ℕ)
     (target : Connection) (store : Store) (start contents : Option (List ℕ))
     (waiting : List ℕ) : Type 0 where
@@ -25,14 +25,14 @@ pub record ServedUpTo (settings : Settings) (first : Store) (stream : List ℕ)
       FedAll (opening_connection settings 1) first [] pieces target store (sent ++ waiting)
   pub executed : HasExecuted first.disk store.disk
 
--- A target, its store, what a writer got, and the answers that wait (own rule).
+-- A target, its store, what a writer got, and the answers that wait.
 pub record Service : Type 0 where
   pub target : Connection
   pub store : Store
   pub contents : Option (List ℕ)
   pub waiting : List ℕ
 
--- These four together (own rule).
+-- These four together.
 abbrev pub service : Connection → Store → Option (List ℕ) → List ℕ → Service
 service target store contents waiting = record {
   target = target;
@@ -41,21 +41,21 @@ service target store contents waiting = record {
   waiting = waiting;
 }
 
--- What was served up to here is served with these bytes more (own rule).
+-- What was served up to here is served with these bytes more.
 abbrev pub Goes : Service → List ℕ → Service → Type 0
 Goes old bytes new =
     (settings : Settings) (first : Store) (stream : List ℕ) (start : Option (List ℕ))
     → ServedUpTo settings first stream old.target old.store start old.contents old.waiting
     → ServedUpTo settings first (stream ++ bytes) new.target new.store start new.contents new.waiting
 
--- These bytes close the session, where no failure was counted up to this store (own rule).
+-- These bytes close the session, where no failure was counted up to this store.
 abbrev pub ClosesBy : Service → List ℕ → Store → Type 0
 ClosesBy old bytes after =
     (settings : Settings) (first : Store) (stream : List ℕ) (start : Option (List ℕ))
     → ServedUpTo settings first stream old.target old.store start old.contents old.waiting
     → after.failures ≡ first.failures → IsOver settings first.disk (stream ++ bytes)
 
--- Something was sent, and the blocks are those that commands left (own rule).
+-- Something was sent, and the blocks are those that commands left.
 abbrev pub Loses : Service → Service → Type 0
 Loses old new =
     (settings : Settings) (first : Store) (stream : List ℕ) (start : Option (List ℕ))
@@ -63,14 +63,14 @@ Loses old new =
     → (sent : List ℕ) × Appends start new.contents sent × AreBytes sent
     × HasExecuted first.disk new.store.disk
 
--- These bytes are why the session ends so, where no failure was counted up to this store (own rule).
+-- These bytes are why the session ends so, where no failure was counted up to this store.
 abbrev pub Tells : Service → List ℕ → SessionFault → Store → Type 0
 Tells old bytes fault after =
     (settings : Settings) (first : Store) (stream : List ℕ) (start : Option (List ℕ))
     → ServedUpTo settings first stream old.target old.store start old.contents old.waiting
     → after.failures ≡ first.failures → EndsBy settings first.disk (Err fault) (stream ++ bytes)
 
--- The answers to some first PDUs were sent, and the blocks are those that commands left (own rule).
+-- The answers to some first PDUs were sent, and the blocks are those that commands left.
 abbrev pub RunsOut : Service → List ℕ → Service → Type 0
 RunsOut old bytes new =
     (settings : Settings) (first : Store) (stream : List ℕ) (start : Option (List ℕ))
@@ -80,7 +80,7 @@ RunsOut old bytes new =
     × (new.store.failures ≡ first.failures
     → ServesFirst settings first.disk (stream ++ bytes) new.store.disk sent)
 
--- What is left where a session ends by a fault at these bytes (own rule).
+-- What is left where a session ends by a fault at these bytes.
 abbrev pub Breaks : Service → List ℕ → SessionFault → Service → Type 0
 Breaks old bytes (session.Target faults.NoMemory) new = RunsOut old bytes new
 Breaks old bytes (session.Target (faults.Stream fault)) new =

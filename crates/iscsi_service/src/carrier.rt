@@ -8,7 +8,7 @@ use crate::serve_fault::ServeFault;
 /// A connection of an initiator and a target that are both here. What one end writes is read at the
 /// other, piece by piece.
 ///
-/// Contracts see a carrier as what may be read where some bytes were written (own rule).
+/// Contracts see a carrier as what may be read where some bytes were written.
 pub trait Carrier: Drop {
     /// What was written to it, and what may then be read from it.
     ghost carries: { List ℕ → List ℕ → Type 0 };
@@ -34,7 +34,7 @@ pub trait Carrier: Drop {
         ensures err { IfErr result IsOfSession };
 }
 
-/// A connection in memory: it gives what was written to it, and has no fault.
+/// A connection in memory: it returns what was written to it, and has no fault.
 #[derive(Drop)]
 pub struct Channel;
 

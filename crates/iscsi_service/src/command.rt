@@ -1,9 +1,9 @@
 //! The commands of a script, and the requests that they are.
 
 ghost use Rattle.std.specs.Prelude.{◌≡◌, false, IfOk};
-ghost use Rattle.scsi_cdb.specs.declared.block.Cdb.TheVariants as cdb;
+ghost use Rattle.scsi_cdb.specs.declared.cdb.Cdb.TheVariants as cdb;
 ghost use Rattle.scsi_cdb.specs.Blocks.{Fits};
-ghost use Rattle.iscsi_service.specs.Commands.{HasNumbers, request_of, is_logout, asked, written, reading, writing, flush, transfer, long_transfer};
+ghost use Rattle.iscsi_service.specs.Commands.{HasNumbers, request_of, is_logout, data_in_request, written, reading, writing, flush, transfer, long_transfer};
 
 use iscsi_initiator::Request;
 use scsi_cdb::{Bytes, Cdb, Synchronize10, Transfer10, Transfer16};
@@ -78,23 +78,23 @@ impl Command {
     {
         match self {
             Command::TestUnitReady { unit } => {
-                Ok(asking(unit, Cdb::TestUnitReady { control: 0 }, 0))
+                Ok(data_in_request(unit, Cdb::TestUnitReady { control: 0 }, 0))
             }
             Command::Inquiry {
                 unit,
                 allocation_length,
-            } => Ok(asking(
+            } => Ok(data_in_request(
                 unit,
                 standard_data(allocation_length),
                 u32::from(allocation_length),
             )),
-            Command::Capacity => Ok(asking(0, Cdb::Capacity10 { control: 0 }, 8)),
-            Command::Capacity16 => Ok(asking(0, long_capacity(32), 32)),
-            Command::Luns => Ok(asking(0, list_of_units(16), 16)),
+            Command::Capacity => Ok(data_in_request(0, Cdb::Capacity10 { control: 0 }, 8)),
+            Command::Capacity16 => Ok(data_in_request(0, long_capacity(32), 32)),
+            Command::Luns => Ok(data_in_request(0, list_of_units(16), 16)),
             Command::Read {
                 logical_block_address,
                 blocks,
-            } => Ok(asking(
+            } => Ok(data_in_request(
                 0,
                 reading(logical_block_address, blocks),
                 512 * u32::from(blocks),
@@ -107,17 +107,17 @@ impl Command {
             Command::Sync {
                 logical_block_address,
                 blocks,
-            } => Ok(asking(0, flush(logical_block_address, blocks), 0)),
+            } => Ok(data_in_request(0, flush(logical_block_address, blocks), 0)),
             Command::Ping(bytes) => Ok(Request::Ping { bytes }),
             Command::Logout => Ok(Request::Logout),
         }
     }
 }
 
-// A command that may give so many bytes.
-fn asking(unit: u8, cdb: Cdb, expected: u32) -> Request
+// A command that may return so many bytes.
+fn data_in_request(unit: u8, cdb: Cdb, expected: u32) -> Request
     requires { Fits cdb }
-    ensures { result ≡ asked unit cdb expected }
+    ensures { result ≡ data_in_request unit cdb expected }
 {
     Request::In {
         lun: u64::from(unit) << 48,

@@ -1,4 +1,5 @@
-//! A session of an initiator and a target over a socket, as a script says.
+//! A session of an initiator and a target over a socket, as a script says. One file: both ends, and
+//! the commands that drive them; more than half of it are the contracts.
 
 ghost use Rattle.std.specs.Prelude.{◌≡◌, ◌<◌, ◌≤◌, ◌∷◌, [], ℕ, List, IfOk, IfErr, OnOk};
 ghost use Rattle.scsi_disk.specs.Disk.{most_blocks};
@@ -33,16 +34,16 @@ use scsi_disk::{BlockStore, SparseStore};
 use std::alloc::{AllocError, Global};
 use std::io::{Read, Write};
 
-/// The most bytes of a piece, which one end writes before the other reads them (own rule).
+/// The most bytes of a piece, which one end writes before the other reads them.
 pub const LONGEST_PIECE: u32 = 4096;
 
-/// The name of the initiator (own rule).
+/// The name of the initiator.
 const INITIATOR_NAME: &[u8] = b"iqn.2026-01.example:host";
 /// The initiator's part of the session's identifier (RFC 7143, section 11.12.5).
 const ISID: [u8; 6] = [0x40, 0, 0, 1, 0, 0];
-/// The CmdSN of the login and of the first request (own rule).
+/// The CmdSN of the login and of the first request.
 const FIRST_CMD_SN: u32 = 1;
-/// How often one end answers the other before the connection counts as failed (own rule).
+/// How often one end answers the other before the connection counts as failed.
 const TURNS: u32 = 16_777_216;
 
 /// Logs an initiator in to a target with a disk of so many blocks of 00, over a socket of this
@@ -54,7 +55,7 @@ const TURNS: u32 = 16_777_216;
 /// the first byte too many where the script has more than 1,048,576 bytes; `Read` where a read
 /// fails or 16,777,216 of them did not reach the end. `NoMemory` comes where memory runs out, then
 /// or later. `Target` and `Initiator` are the first fault of an end. A refused request and one
-/// without an outcome are `Initiator` with `Closed`: these ends give no cause for it. `Network`
+/// without an outcome are `Initiator` with `Closed`: these ends have no cause for it. `Network`
 /// comes where a socket fails, or the ends answered each other 16,777,216 times, and `Write` where
 /// a line can't be written.
 ///
@@ -96,14 +97,14 @@ pub fn run_over<C: Carrier, R: Read, W: Write>(
         × Consumes (R.remaining r.old) (R.remaining r.new) script
         × Appends (W.contents w.old) (W.contents w.new) written
         × Loops result script written × ReadsFirst result written (R.remaining r.new) }
-    // Over a connection that gives what was written to it, the lines are those of one local disk.
+    // Over a connection that returns what was written to it, the lines are those of one local disk.
     ensures on_disk { IsFaithful C.carries → (script : List ℕ) × (written : List ℕ)
         × Consumes (R.remaining r.old) (R.remaining r.new) script
         × Appends (W.contents w.old) (W.contents w.new) written
         × LoopsOnDisk blocks result script written }
 {
     let commands = read_script(rt.alloc(), r)?;
-    let mut ends = Ends::<C>::open(rt, blocks, piece as usize)?;
+    let mut ends = LoopbackSession::<C>::open(rt, blocks, piece as usize)?;
     ends.log_in()?;
     write_line(w, b"login\n")?;
     run_commands(&mut ends, commands, w)?;
@@ -112,7 +113,7 @@ pub fn run_over<C: Carrier, R: Read, W: Write>(
 
 // Does the commands up to the first logout, with a line for each.
 fn run_commands<C: Carrier, W: Write>(
-    ends: &mut Ends<C>,
+    ends: &mut LoopbackSession<C>,
     commands: Vec<Command>,
     w: &mut W,
 ) -> Result<(), ServeFault>
@@ -136,7 +137,7 @@ fn run_commands<C: Carrier, W: Write>(
 
 // Does a command, and writes the line of its outcome.
 fn run_command<C: Carrier, W: Write>(
-    ends: &mut Ends<C>,
+    ends: &mut LoopbackSession<C>,
     command: Command,
     w: &mut W,
 ) -> Result<(), ServeFault>
@@ -170,9 +171,9 @@ fn write_line<W: Write>(w: &mut W, line: &[u8]) -> Result<(), ServeFault>
     }
 }
 
-/// Both ends of a session, and the connection between them.
+/// A session of both ends, over a connection between them.
 #[derive(Drop)]
-struct Ends<C> {
+struct LoopbackSession<C> {
     alloc: Global,
     initiator: Initiator,
     target: Target,
@@ -184,9 +185,9 @@ struct Ends<C> {
     ghost short: { piece ≤ 4096 },
 }
 
-impl<C: Carrier> Ends<C> {
+impl<C: Carrier> LoopbackSession<C> {
     // Both ends of a session that is not started.
-    fn open(rt: &HostRuntime, blocks: u64, piece: usize) -> Result<Ends<C>, ServeFault>
+    fn open(rt: &HostRuntime, blocks: u64, piece: usize) -> Result<LoopbackSession<C>, ServeFault>
         requires some { 0 < blocks }
         requires few { blocks ≤ most_blocks }
         requires moves { 0 < piece }
@@ -198,7 +199,7 @@ impl<C: Carrier> Ends<C> {
         ensures err { IfErr result IsOfSession }
     {
         let alloc = rt.alloc();
-        Ok(Ends {
+        Ok(LoopbackSession {
             alloc,
             initiator: Initiator::new(alloc, initiator_configuration(alloc)?),
             target: Target::new(alloc, configuration(alloc)?, FIRST_STAT_SN),
@@ -227,7 +228,7 @@ impl<C: Carrier> Ends<C> {
         }
     }
 
-    // Hands in a command, and gives what came of it.
+    // Hands in a command, and returns what came of it.
     fn perform(&mut self, command: Command) -> Result<Done, ServeFault>
         ensures continues { IfOk result (λ done. Continues self.old.initiator.machine
             (request_of command ∷ []) (done ∷ []) self.new.initiator.machine) }
@@ -250,8 +251,7 @@ impl<C: Carrier> Ends<C> {
         }
     }
 
-    // Carries what the initiator sends to the target, and its answers back, until neither has more
-    // to say.
+    // Moves what the initiator sends to the target, and its answers back, until neither sends more.
     fn settle(&mut self, requests: Vec<u8>) -> Result<(), ServeFault>
         ensures continues { OnOk result
             (Continues self.old.initiator.machine [] [] self.new.initiator.machine) }
@@ -265,14 +265,14 @@ impl<C: Carrier> Ends<C> {
             if requests.is_empty() {
                 return Ok(());
             }
-            let answers = self.ask(&requests)?;
-            requests = self.hear(&answers)?;
+            let answers = self.feed_target(&requests)?;
+            requests = self.feed_initiator(&answers)?;
         }
         Err(ServeFault::Network)
     }
 
-    // Carries requests to the target, and gives its answers.
-    fn ask(&mut self, requests: &[u8]) -> Result<Vec<u8>, ServeFault>
+    // Moves requests to the target, and returns its answers.
+    fn feed_target(&mut self, requests: &[u8]) -> Result<Vec<u8>, ServeFault>
         ensures kept { self.new.initiator ≡ self.old.initiator }
         ensures served { IsFaithful C.carries → IfOk result (λ answers. GoOn
             (ends_of self.old.initiator self.old.target (disk_in self.old.store) requests.now [])
@@ -295,8 +295,8 @@ impl<C: Carrier> Ends<C> {
         Ok(answers)
     }
 
-    // Carries answers to the initiator, and gives what it sends then.
-    fn hear(&mut self, answers: &[u8]) -> Result<Vec<u8>, ServeFault>
+    // Moves answers to the initiator, and returns what it sends then.
+    fn feed_initiator(&mut self, answers: &[u8]) -> Result<Vec<u8>, ServeFault>
         ensures continues { OnOk result
             (Continues self.old.initiator.machine [] [] self.new.initiator.machine) }
         ensures served { IsFaithful C.carries → IfOk result (λ requests. GoOn
@@ -318,11 +318,11 @@ impl<C: Carrier> Ends<C> {
         Ok(requests)
     }
 
-    // Closes the connection. The target is told of it, unless the session was closed before.
+    // Closes the connection. The target's stream ends then, unless the session was closed before.
     fn close(self) -> Result<(), ServeFault>
         ensures err { IfErr result IsOfSession }
     {
-        let Ends {
+        let LoopbackSession {
             mut target,
             carrier,
             ..
@@ -341,7 +341,11 @@ fn refusal(fault: SubmitFault) -> ServeFault
 {
     match fault {
         SubmitFault::NoMemory => ServeFault::NoMemory,
-        _ => no_outcome(),
+        SubmitFault::Closed
+        | SubmitFault::NotReady
+        | SubmitFault::Busy
+        | SubmitFault::Shut
+        | SubmitFault::TooLong => no_outcome(),
     }
 }
 
@@ -363,7 +367,7 @@ fn initiator_configuration(alloc: Global) -> Result<Config, AllocError>
         auth: Auth::None,
         prefs: Preferences::standard(),
     };
-    // Names and numbers are in range, so memory alone can be wanting.
+    // Names and numbers are in range, so only memory can run out.
     Config::new(
         alloc,
         offers,

@@ -86,7 +86,7 @@ fn hexadecimal(alloc: Global, n: u8) -> Result<String, AllocError>
 }
 
 // A byte as two hex digits.
-#[tactic(auto, using(crate::proofs::Reported::as_two_digits))]
+#[tactic(auto, using(crate::proofs::ReportLemmas::as_two_digits))]
 fn two_digits(alloc: Global, byte: u8) -> Result<String, AllocError>
     ensures { IfOk result (λ text. string_bytes text ≡ two_digits byte) }
 {

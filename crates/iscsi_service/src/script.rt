@@ -45,7 +45,7 @@ const PING: &[u8] = b"ping";
 
 const LOGOUT: &[u8] = b"logout";
 
-/// Reads a script to its end and gives its commands.
+/// Reads a script to its end and returns its commands.
 ///
 /// A line is `tur U`, `inquiry U A`, `capacity`, `capacity16`, `luns`, `read LBA N`, `write LBA N
 /// BB`, `sync LBA N`, `ping HEX` or `logout`, its words parted by one blank: decimal numbers, of
@@ -96,7 +96,7 @@ fn too_long_at(script: &[u8]) -> u64
 }
 
 // The commands of the lines.
-#[tactic(auto, using(crate::proofs::Scripts::commands_more, crate::proofs::Scripts::commands_stop, crate::proofs::Scripts::commands_end))]
+#[tactic(auto, using(crate::proofs::ScriptLemmas::commands_more, crate::proofs::ScriptLemmas::commands_stop, crate::proofs::ScriptLemmas::commands_end))]
 fn commands(alloc: Global, script: &[u8]) -> Result<Vec<Command>, ServeFault>
     ensures ok { IfOk result (λ commands. AreCommands script.now commands.items) }
     ensures ranges { IfOk result (λ commands. AreInRange commands.items) }
@@ -118,7 +118,7 @@ fn commands(alloc: Global, script: &[u8]) -> Result<Vec<Command>, ServeFault>
 }
 
 // The first line without its end, and what is behind it.
-#[tactic(auto, using(crate::proofs::Scripts::lines_split, crate::proofs::Scripts::lines_last, crate::proofs::Scripts::shorter))]
+#[tactic(auto, using(crate::proofs::ScriptLemmas::lines_split, crate::proofs::ScriptLemmas::lines_last, crate::proofs::ScriptLemmas::shorter))]
 fn first_line(script: &[u8]) -> (&[u8], &[u8])
     requires { 0 < length script.now }
     ensures lines { lines_of script.now ≡ result.0.now ∷ lines_of result.1.now }
@@ -131,7 +131,7 @@ fn first_line(script: &[u8]) -> (&[u8], &[u8])
 }
 
 // What stands before the first such byte, and what behind it, if there is one.
-#[tactic(auto, using(crate::proofs::Scripts::found_front, crate::proofs::Scripts::found_behind, crate::proofs::Scripts::lacking_front, crate::proofs::Scripts::lacking_behind))]
+#[tactic(auto, using(crate::proofs::ScriptLemmas::found_front, crate::proofs::ScriptLemmas::found_behind, crate::proofs::ScriptLemmas::lacking_front, crate::proofs::ScriptLemmas::lacking_behind))]
 fn parted(bytes: &[u8], byte: u8) -> (&[u8], Option<&[u8]>)
     ensures front { result.0.now ≡ (parted byte bytes.now).0 }
     ensures behind { option_map (λ rest. rest.now) result.1 ≡ (parted byte bytes.now).1 }
@@ -288,7 +288,7 @@ fn byte_of(digits: &[u8]) -> Option<u8>
 }
 
 // The number that decimal digits make, leading zeros among them, if it is at most this.
-#[tactic(auto, using(crate::proofs::Scripts::number_more, crate::proofs::Scripts::number_no_digit, crate::proofs::Scripts::number_too_large))]
+#[tactic(auto, using(crate::proofs::ScriptLemmas::number_more, crate::proofs::ScriptLemmas::number_no_digit, crate::proofs::ScriptLemmas::number_too_large))]
 fn number(digits: &[u8], most: u64) -> Option<u64>
     ensures number { result ≡ number most digits.now }
     ensures most { IfSome result (λ n. n ≤ most) }

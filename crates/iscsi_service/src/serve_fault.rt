@@ -1,4 +1,4 @@
-//! Why a session over a socket ends before its time.
+//! Why a session over a socket ends early.
 
 ghost use Rattle.std.specs.Prelude.{◌≡◌};
 ghost use Rattle.iscsi_service.specs.Serving.{exit_status};
@@ -9,7 +9,7 @@ use iscsi_target::TargetFault;
 use std::alloc::AllocError;
 use thiserror::Error;
 
-/// Why a session over a socket ends before its time (own rule).
+/// Why a session over a socket ends early.
 #[derive(Debug, Drop, Error)]
 pub enum ServeFault {
     /// Memory ran out.
@@ -24,8 +24,8 @@ pub enum ServeFault {
     /// The line of this number, counted from 1, is no line of a script.
     #[error("script: line {0}")]
     Script(u64),
-    /// A socket could not be opened or failed, no connection was accepted, or two ends came to no
-    /// end.
+    /// A socket could not be opened or failed, no connection was accepted, or the two ends kept
+    /// exchanging PDUs past the limit.
     #[error("network failed")]
     Network,
     /// A read failed, or there were 16,777,216 of them.
@@ -37,8 +37,8 @@ pub enum ServeFault {
 }
 
 impl ServeFault {
-    /// The exit status that says the fault: 1 where what came is refused, 3 for memory, 4 for
-    /// reading, writing and the network (own rule).
+    /// The exit status of the fault: 1 where what came is refused, 3 for memory, 4 for reading,
+    /// writing and the network.
     pub fn status(&self) -> u8
         ensures status { result ≡ exit_status self.now }
     {

@@ -23,7 +23,7 @@ use std::net::{Ipv4Addr, TcpListener};
 ///
 /// The session is that of RFC 7143, sections 6 and 11; that it has a connection of its own is own
 /// rule.
-#[tactic(auto, using(crate::proofs::SessionReads::none_executed))]
+#[tactic(auto, using(crate::proofs::SessionReadInvariant::none_executed))]
 pub fn serve_one<S: BlockStore>(
     alloc: Global,
     listener: &TcpListener,
@@ -51,7 +51,7 @@ pub fn serve_one<S: BlockStore>(
 ///
 /// A session that ends with a fault has the fault's line on standard error, and the next one is
 /// served. Only being out of memory and a fault of the network end the service; `Write` is answered
-/// where `listening` cannot be printed (own rule).
+/// where `listening` cannot be printed.
 pub fn serve(rt: &HostRuntime, port: u16, blocks: u64, sessions: u16) -> Result<(), ServeFault>
     requires some { 0 < blocks }
     requires few { blocks ≤ most_blocks }

@@ -19,27 +19,27 @@ use std::alloc::{AllocError, Global};
 use std::io::{Read, Write};
 use thiserror::Error;
 
-/// The name of the target (own rule).
+/// The name of the target.
 pub(crate) const TARGET_NAME: &[u8] = b"iqn.2026-01.example:disk";
-/// The tag of its portal group (own rule).
+/// The tag of its portal group.
 const GROUP: u16 = 1;
-/// The TSIH of a session that has logged in (own rule).
+/// The TSIH of a session that has logged in.
 const TSIH: u16 = 1;
-/// The StatSN of the first answer (own rule).
+/// The StatSN of the first answer.
 pub(crate) const FIRST_STAT_SN: u32 = 1;
-/// So many bytes of answers may wait while the PDUs of a read are answered (own rule).
+/// So many bytes of answers may wait while the PDUs of a read are answered.
 const MOST_WAITING: usize = 65_536;
 
 /// What the target of the programs is configured with: its name, portal group 1, TSIH 1, and the
-/// standard preferences of `iscsi_login` (own rule). The only error is that memory ran out.
+/// standard preferences of `iscsi_login`. The only error is that memory ran out.
 pub fn configuration(alloc: Global) -> Result<Config, AllocError>
     ensures settings { IfOk result (λ config. config ≡ target_settings) }
 {
-    // Name and numbers are in range, so memory alone can be wanting.
+    // Name and numbers are in range, so only memory can run out.
     Config::new(alloc, TARGET_NAME, GROUP, TSIH, Preferences::standard()).map_err(|_| AllocError)
 }
 
-/// Why a session over a stream ends before its time (own rule).
+/// Why a session over a stream ends early.
 #[derive(Clone, Copy, Debug, PartialEq, Eq, Error)]
 pub enum SessionFault {
     /// The target refuses what its initiator sent, or memory ran out.
@@ -53,10 +53,10 @@ pub enum SessionFault {
     Write,
 }
 
-/// Runs the session of a target with a store over a stream: takes what a reader gives, in reads of
-/// at most 4,096 bytes, and writes the answers, as soon as more than 65,536 bytes of them wait and at
-/// the end of each read. It stops where the session is closed, by a logout or a refused login, and
-/// where the stream ends.
+/// Runs the session of a target with a store over a stream: takes what a reader returns, in reads
+/// of at most 4,096 bytes, and writes the answers, as soon as more than 65,536 bytes of them wait
+/// and at the end of each read. It stops where the session is closed, by a logout or a refused
+/// login, and where the stream ends.
 ///
 /// Where the store counted no failure, what is written are the answers to all PDUs of what was read,
 /// and the store has the blocks that they leave; when out of memory those of some first PDUs, whole, and of some first tasks of the

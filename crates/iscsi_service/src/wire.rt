@@ -10,7 +10,7 @@ use std::io;
 use std::io::Read;
 use std::net::{Ipv4Addr, SocketAddr, TcpListener, TcpStream};
 
-/// How many connections of others are closed before the port counts as failed (own rule).
+/// How many connections of others are closed before the port counts as failed.
 const STRANGERS: u32 = 16_777_216;
 
 /// A TCP connection whose two sockets are both here.

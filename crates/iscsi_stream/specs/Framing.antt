@@ -9,9 +9,10 @@ use Rattle.iscsi_stream.specs.declared.logins.Logins.{Logins}
 use Rattle.iscsi_stream.specs.Segment.{no_login, continues, after}
 use Rattle.iscsi_stream.specs.Stream.{pdu_len, Message, message, ReadsAs, after_all}
 
--- A framer as its callers see it: the longest segment that it takes, the place of the PDU that is ready, begun or
--- next, what the login PDUs before it said, the bytes gathered of it, how long a segment its buffer has room for, and
--- whether there was a fault. Padding counts as gathered, but its bytes are not kept: they stand as 0.
+-- A framer as its callers see it: the longest segment that it takes, the place of the PDU that is
+-- ready, begun or next, what the login PDUs before it said, the bytes gathered of it, how long a
+-- segment its buffer has room for, and whether there was a fault. Padding counts as gathered, but
+-- its bytes are not kept: they stand as 0.
 pub record Framing : Type 0 where
   pub limit : ℕ
   pub place : ℕ
@@ -22,7 +23,14 @@ pub record Framing : Type 0 where
 
 -- a framer at the beginning of a stream
 abbrev pub opening : ℕ → Framing
-opening limit = record { limit = limit; place = 0; logins = no_login; held = []; room = 0; failed = false }
+opening limit = record {
+  limit = limit;
+  place = 0;
+  logins = no_login;
+  held = [];
+  room = 0;
+  failed = false;
+}
 
 -- the length of the segment, as bytes 5 to 7 say it
 abbrev pub length_at : List ℕ → ℕ
@@ -83,12 +91,17 @@ pub record Completes (held piece : List ℕ) (head : Head) (len : ℕ) : Type 0 
   pub reaches : ReachesHeader held piece
   pub header : IsHeader (take 48 (held ++ piece)) head len
 
--- When feed answers each fault: `NoMemory` where a header is whole, for its segment alone, and where the buffer has no
--- room for it.
+-- When feed answers each fault: `NoMemory` where a header is whole, for its segment alone, and
+-- where the buffer has no room for it.
 abbrev pub FeedFails : Framing → List ℕ → StreamFault → Type 0
-FeedFails old piece faults.NoMemory = (old.failed ≡ false) × ((head : Head) × (len : ℕ) × Completes old.held piece head len × (old.room < len) × (len ≤ old.limit))
-FeedFails old piece (faults.Head fault place) = (old.failed ≡ false) × ReachesHeader old.held piece × (fault_of (take 48 (old.held ++ piece)) ≡ Some fault) × (place ≡ old.place)
-FeedFails old piece (faults.OverLimit place) = (old.failed ≡ false) × ((head : Head) × (len : ℕ) × Completes old.held piece head len × (old.limit < len)) × (place ≡ old.place)
+FeedFails old piece faults.NoMemory = (old.failed ≡ false)
+    × ((head : Head) × (len : ℕ) × Completes old.held piece head len × (old.room < len)
+    × (len ≤ old.limit))
+FeedFails old piece (faults.Head fault place) = (old.failed ≡ false) × ReachesHeader old.held piece
+    × (fault_of (take 48 (old.held ++ piece)) ≡ Some fault) × (place ≡ old.place)
+FeedFails old piece (faults.OverLimit place) = (old.failed ≡ false)
+    × ((head : Head) × (len : ℕ) × Completes old.held piece head len × (old.limit < len))
+    × (place ≡ old.place)
 FeedFails old piece (faults.Truncated place) = ⊥
 FeedFails old piece faults.Failed = old.failed ≡ true
 
@@ -97,7 +110,8 @@ abbrev pub FinishFails : Framing → StreamFault → Type 0
 FinishFails old faults.NoMemory = ⊥
 FinishFails old (faults.Head fault place) = ⊥
 FinishFails old (faults.OverLimit place) = ⊥
-FinishFails old (faults.Truncated place) = (old.failed ≡ false) × (0 < length old.held) × (is_whole old.held ≡ false) × (place ≡ old.place)
+FinishFails old (faults.Truncated place) = (old.failed ≡ false) × (0 < length old.held)
+    × (is_whole old.held ≡ false) × (place ≡ old.place)
 FinishFails old faults.Failed = old.failed ≡ true
 
 -- a framer that answers Failed from now on, and holds nothing
@@ -106,7 +120,11 @@ stopped v = record v { held = []; failed = true }
 
 -- A PDU with this head is given up.
 abbrev pub given_up : Framing → Head → Framing
-given_up v head = record v { place = min (v.place + length v.held) last_place; logins = after v.logins head; held = [] }
+given_up v head = record v {
+  place = min (v.place + length v.held) last_place;
+  logins = after v.logins head;
+  held = [];
+}
 
 -- the message of a PDU that is ready
 abbrev pub message_of : Framing → Head → List ℕ → Message
@@ -115,9 +133,11 @@ message_of v head segment = message (continues v.logins head) head segment
 -- the longest segment of the PDUs of these meanings that begin the bytes
 unfoldable pub longest_of : List Message → List ℕ → ℕ
 longest_of [] bytes = 0
-longest_of (m ∷ ms) bytes = max (length_at bytes) (longest_of ms (drop (pdu_len (length_at bytes)) bytes))
+longest_of (m ∷ ms) bytes = max (length_at bytes)
+    (longest_of ms (drop (pdu_len (length_at bytes)) bytes))
 
--- A framer that has taken these bytes of a stream and given up PDUs of these meanings, whichever pieces the bytes came in.
+-- A framer that has taken these bytes of a stream and given up PDUs of these meanings, whichever
+-- pieces the bytes came in.
 pub record HasTaken (stream : List ℕ) (ms : List Message) (v : Framing) : Type 0 where
   pub given : List ℕ
   pub rest : List ℕ
@@ -132,4 +152,5 @@ pub record HasTaken (stream : List ℕ) (ms : List Message) (v : Framing) : Type
 
 -- Between the two states the framer took these bytes and gave up PDUs of these meanings.
 abbrev pub Moves : Framing → Framing → List ℕ → List Message → Type 0
-Moves old new bytes more = (stream : List ℕ) (ms : List Message) → HasTaken stream ms old → HasTaken (stream ++ bytes) (ms ++ more) new
+Moves old new bytes more = (stream : List ℕ) (ms : List Message) → HasTaken stream ms old →
+    HasTaken (stream ++ bytes) (ms ++ more) new

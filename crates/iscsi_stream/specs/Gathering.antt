@@ -14,7 +14,8 @@ gathered header segment (Header filled) = take filled header
 gathered header segment (Body head len padded) = header ++ (segment ++ replicate padded 0)
 
 -- What is kept of a PDU whose header is whole, in a buffer with room for so many bytes.
-pub record IsBody (limit : ℕ) (header segment : List ℕ) (room : ℕ) (head : Head) (len padded : ℕ) : Type 0 where
+pub record IsBody (limit : ℕ) (header segment : List ℕ) (room : ℕ) (head : Head)
+    (len padded : ℕ) : Type 0 where
   pub says : IsHeader header head len
   pub fits : Fits head
   pub within : len ≤ limit
@@ -29,8 +30,10 @@ HasRoom limit capacity room = (room ≤ limit) × (room ≤ capacity)
 
 -- this holds of what a framer keeps
 abbrev pub IsKept : ℕ → List ℕ → List ℕ → ℕ → Stage → Type 0
-IsKept limit header segment room (Header filled) = (length header ≡ 48) × (filled < 48) × (segment ≡ [])
-IsKept limit header segment room (Body head len padded) = (length header ≡ 48) × IsBody limit header segment room head len padded
+IsKept limit header segment room (Header filled) = (length header ≡ 48) × (filled < 48)
+    × (segment ≡ [])
+IsKept limit header segment room (Body head len padded) = (length header ≡ 48)
+    × IsBody limit header segment room head len padded
 
 -- The first n bytes of the piece are gathered: all of the piece, or as many as make a whole PDU.
 pub record Gathers (limit : ℕ) (old piece : List ℕ) (n : ℕ) (new : List ℕ) : Type 0 where
@@ -39,8 +42,10 @@ pub record Gathers (limit : ℕ) (old piece : List ℕ) (n : ℕ) (new : List �
   pub begun : IsBegun limit new
   pub stops : n < length piece → is_whole new ≡ true
 
--- The first n bytes of the piece go to the segment and then to its padding: all of the piece, or as many as are missing.
-pub record FillsBody (len : ℕ) (segment : List ℕ) (padded : ℕ) (piece : List ℕ) (n : ℕ) (segment_new : List ℕ) (padded_new : ℕ) : Type 0 where
+-- The first n bytes of the piece go to the segment and then to its padding: all of the piece, or as
+-- many as are missing.
+pub record FillsBody (len : ℕ) (segment : List ℕ) (padded : ℕ) (piece : List ℕ) (n : ℕ)
+    (segment_new : List ℕ) (padded_new : ℕ) : Type 0 where
   pub count : ℕ
   pub bound : n ≤ length piece
   pub parts : n + padded ≡ count + padded_new
@@ -53,16 +58,22 @@ pub record FillsBody (len : ℕ) (segment : List ℕ) (padded : ℕ) (piece : Li
 
 -- when a whole header is refused
 abbrev pub HeaderFails : List ℕ → ℕ → ℕ → ℕ → StreamFault → Type 0
-HeaderFails header limit place room faults.NoMemory = (head : Head) × (len : ℕ) × IsHeader header head len × (room < len) × (len ≤ limit)
-HeaderFails header limit place room (faults.Head fault at) = (fault_of header ≡ Some fault) × (at ≡ place)
-HeaderFails header limit place room (faults.OverLimit at) = ((head : Head) × (len : ℕ) × IsHeader header head len × (limit < len)) × (at ≡ place)
+HeaderFails header limit place room faults.NoMemory = (head : Head) × (len : ℕ)
+    × IsHeader header head len × (room < len) × (len ≤ limit)
+HeaderFails header limit place room (faults.Head fault at) = (fault_of header ≡ Some fault)
+    × (at ≡ place)
+HeaderFails header limit place room (faults.OverLimit at) =
+    ((head : Head) × (len : ℕ) × IsHeader header head len × (limit < len)) × (at ≡ place)
 HeaderFails header limit place room (faults.Truncated at) = ⊥
 HeaderFails header limit place room faults.Failed = ⊥
 
 -- when bytes of a piece are refused
 abbrev pub GatherFails : ℕ → ℕ → ℕ → List ℕ → List ℕ → StreamFault → Type 0
-GatherFails limit place room held piece faults.NoMemory = (head : Head) × (len : ℕ) × Completes held piece head len × (room < len) × (len ≤ limit)
-GatherFails limit place room held piece (faults.Head fault at) = ReachesHeader held piece × (fault_of (take 48 (held ++ piece)) ≡ Some fault) × (at ≡ place)
-GatherFails limit place room held piece (faults.OverLimit at) = ((head : Head) × (len : ℕ) × Completes held piece head len × (limit < len)) × (at ≡ place)
+GatherFails limit place room held piece faults.NoMemory = (head : Head) × (len : ℕ)
+    × Completes held piece head len × (room < len) × (len ≤ limit)
+GatherFails limit place room held piece (faults.Head fault at) = ReachesHeader held piece
+    × (fault_of (take 48 (held ++ piece)) ≡ Some fault) × (at ≡ place)
+GatherFails limit place room held piece (faults.OverLimit at) =
+    ((head : Head) × (len : ℕ) × Completes held piece head len × (limit < len)) × (at ≡ place)
 GatherFails limit place room held piece (faults.Truncated at) = ⊥
 GatherFails limit place room held piece faults.Failed = ⊥

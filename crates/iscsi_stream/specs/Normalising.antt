@@ -12,13 +12,15 @@ use Rattle.iscsi_stream.specs.Canonical.{canon}
 use Rattle.iscsi_stream.specs.Shown.{AreLines}
 use Rattle.iscsi_stream.specs.Framing.{IsBegun}
 
--- The rest begins with a header that is refused, or it is begun and not whole; the fault names its place. No segment
--- is over the limit.
+-- The rest begins with a header that is refused, or it is begun and not whole; the fault names its
+-- place. No segment is over the limit.
 abbrev pub RestFails : StreamFault → List ℕ → List ℕ → Type 0
 RestFails stream.NoMemory given rest = ⊥
-RestFails (stream.Head fault place) given rest = (48 ≤ length rest) × (fault_of (take 48 rest) ≡ Some fault) × (place ≡ length given)
+RestFails (stream.Head fault place) given rest = (48 ≤ length rest)
+    × (fault_of (take 48 rest) ≡ Some fault) × (place ≡ length given)
 RestFails (stream.OverLimit place) given rest = ⊥
-RestFails (stream.Truncated place) given rest = (0 < length rest) × IsBegun longest_segment rest × (place ≡ length given)
+RestFails (stream.Truncated place) given rest = (0 < length rest) × IsBegun longest_segment rest
+    × (place ≡ length given)
 RestFails stream.Failed given rest = ⊥
 
 -- The counts are exact.
@@ -28,17 +30,20 @@ pub record AreCounts (counts : Counts) (ms : List Message) (read written : List 
   pub bytes_out : counts.bytes_out ≡ length written
 
 -- The PDUs of what was read are these, and what is due for them was written.
-pub record Wrote (Due : List Message → List ℕ → Type 0) (read : List ℕ) (ms : List Message) (given rest written : List ℕ) : Type 0 where
+pub record Wrote (Due : List Message → List ℕ → Type 0) (read : List ℕ) (ms : List Message)
+    (given rest written : List ℕ) : Type 0 where
   pub splits : Splits longest_segment read ms given rest
   pub due : Due ms written
 
 -- What is due for the first PDUs of what was read was written.
-pub record WroteSome (Due : List Message → List ℕ → Type 0) (read : List ℕ) (ms : List Message) (given rest written : List ℕ) : Type 0 where
+pub record WroteSome (Due : List Message → List ℕ → Type 0) (read : List ℕ) (ms : List Message)
+    (given rest written : List ℕ) : Type 0 where
   pub reaches : Reaches longest_segment read ms given rest
   pub due : Due ms written
 
 -- A part of what is due for the first PDUs of what was read was written.
-pub record WrotePart (Due : List Message → List ℕ → Type 0) (read : List ℕ) (ms : List Message) (given rest written : List ℕ) : Type 0 where
+pub record WrotePart (Due : List Message → List ℕ → Type 0) (read : List ℕ) (ms : List Message)
+    (given rest written : List ℕ) : Type 0 where
   pub reaches : Reaches longest_segment read ms given rest
   pub bytes : List ℕ
   pub due : Due ms bytes
@@ -50,18 +55,24 @@ Parts P = (ms : List Message) × (given : List ℕ) × (rest : List ℕ) × P ms
 
 -- what was read and written where a fault is answered
 abbrev pub WritesUntil : (List Message → List ℕ → Type 0) → ToolFault → List ℕ → List ℕ → Type 0
-WritesUntil Due tool.NoMemory read written = Parts (λ ms given rest. WroteSome Due read ms given rest written)
-WritesUntil Due (tool.Stream fault) read written = Parts (λ ms given rest. Wrote Due read ms given rest written × RestFails fault given rest)
-WritesUntil Due tool.Read read written = Parts (λ ms given rest. Wrote Due read ms given rest written)
-WritesUntil Due tool.Write read written = Parts (λ ms given rest. WrotePart Due read ms given rest written)
+WritesUntil Due tool.NoMemory read written = Parts
+    (λ ms given rest. WroteSome Due read ms given rest written)
+WritesUntil Due (tool.Stream fault) read written =
+    Parts (λ ms given rest. Wrote Due read ms given rest written × RestFails fault given rest)
+WritesUntil Due tool.Read read written = Parts
+    (λ ms given rest. Wrote Due read ms given rest written)
+WritesUntil Due tool.Write read written = Parts
+    (λ ms given rest. WrotePart Due read ms given rest written)
 WritesUntil Due (tool.Text fault) read written = ⊥
 WritesUntil Due tool.TextTooLong read written = ⊥
 WritesUntil Due tool.NotHex read written = ⊥
 WritesUntil Due (tool.Protocol rule) read written = ⊥
 
 -- What was read and written where a call answers that writes what is due for each PDU.
-abbrev pub Writes : (List Message → List ℕ → Type 0) → Result Counts ToolFault → List ℕ → List ℕ → Type 0
-Writes Due (Ok counts) read written = (ms : List Message) × StreamMeans read ms × Due ms written × AreCounts counts ms read written
+abbrev pub Writes : (List Message → List ℕ → Type 0) → Result Counts ToolFault → List ℕ → List ℕ →
+    Type 0
+Writes Due (Ok counts) read written = (ms : List Message) × StreamMeans read ms × Due ms written
+    × AreCounts counts ms read written
 Writes Due (Err fault) read written = WritesUntil Due fault read written
 
 -- Normalising writes the canonical stream of the PDUs.

@@ -6,8 +6,8 @@ use Rattle.iscsi_stream.specs.declared.fault.ToolFault.TheVariants as tool
 use Rattle.iscsi_stream.specs.declared.counts.Counts.{Counts}
 use Rattle.iscsi_stream.specs.Stream.{Message, longest_segment, NoPdu, Reaches}
 use Rattle.iscsi_pdu.specs.Meaning.{AreBytes}
-use Rattle.iscsi_stream.specs.declared.output.Form.{Form}
-use Rattle.iscsi_stream.specs.declared.output.Form.TheVariants.{Canonical, Line}
+use Rattle.iscsi_stream.specs.declared.normalising.Form.{Form}
+use Rattle.iscsi_stream.specs.declared.normalising.Form.TheVariants.{Canonical, Line}
 use Rattle.iscsi_stream.specs.Framing.{Framing, HasTaken, Moves, is_ready}
 use Rattle.iscsi_stream.specs.Shown.{AreLines}
 use Rattle.iscsi_stream.specs.Normalising.{IsCanonical, RestFails}
@@ -21,10 +21,13 @@ IsDue Line = AreLines
 pub record Counted (old new : Counts) (ms : List Message) (bytes : List ℕ) : Type 0 where
   pub pdus : old.pdus + length ms < 2 ^ 64 → new.pdus ≡ old.pdus + length ms
   pub bytes_in : new.bytes_in ≡ old.bytes_in
-  pub bytes_out : old.bytes_out + length bytes < 2 ^ 64 → new.bytes_out ≡ old.bytes_out + length bytes
+  pub bytes_out : old.bytes_out + length bytes < 2 ^ 64 →
+      new.bytes_out ≡ old.bytes_out + length bytes
 
--- The framer took the bytes, and what is due for the PDUs that it gave up was appended. No PDU is ready.
-pub record PassesOn (form : Form) (old new : Framing) (bytes : List ℕ) (more : List Message) (before after : List ℕ) (counts_old counts_new : Counts) : Type 0 where
+-- The framer took the bytes, and what is due for the PDUs that it gave up was appended. No PDU is
+-- ready.
+pub record PassesOn (form : Form) (old new : Framing) (bytes : List ℕ) (more : List Message)
+    (before after : List ℕ) (counts_old counts_new : Counts) : Type 0 where
   pub moves : Moves old new bytes more
   pub limit : new.limit ≡ old.limit
   pub unready : is_ready new ≡ false
@@ -39,22 +42,27 @@ pub record Appended (form : Form) (old : Framing) (piece before after : List ℕ
   pub out : List ℕ
   pub due : IsDue form more out
   pub appended : after ≡ before ++ out
-  pub reaches : (stream : List ℕ) (ms : List Message) → HasTaken stream ms old → (given : List ℕ) × (rest : List ℕ) × Reaches longest_segment (stream ++ piece) (ms ++ more) given rest
+  pub reaches : (stream : List ℕ) (ms : List Message) → HasTaken stream ms old → (given : List ℕ)
+      × (rest : List ℕ) × Reaches longest_segment (stream ++ piece) (ms ++ more) given rest
 
 -- What is due for all PDUs before a rest that is refused was appended.
-pub record StopsAt (form : Form) (old : Framing) (piece before after : List ℕ) (Fails : List ℕ → List ℕ → Type 0) : Type 0 where
+pub record StopsAt (form : Form) (old : Framing) (piece before after : List ℕ)
+    (Fails : List ℕ → List ℕ → Type 0) : Type 0 where
   pub more : List Message
   pub out : List ℕ
   pub due : IsDue form more out
   pub appended : after ≡ before ++ out
-  pub stops : (stream : List ℕ) (ms : List Message) → HasTaken stream ms old → AreBytes (stream ++ piece) → length (stream ++ piece) < 2 ^ 64
-      → (given : List ℕ) × (rest : List ℕ) × Reaches longest_segment (stream ++ piece) (ms ++ more) given rest × NoPdu longest_segment rest × Fails given rest
+  pub stops : (stream : List ℕ) (ms : List Message) → HasTaken stream ms old →
+      AreBytes (stream ++ piece) → length (stream ++ piece) < 2 ^ 64
+      → (given : List ℕ) × (rest : List ℕ) × Reaches longest_segment (stream ++ piece)
+      (ms ++ more) given rest × NoPdu longest_segment rest × Fails given rest
 
 -- what was appended where passing a piece on fails
 abbrev pub PassFails : Form → Framing → List ℕ → List ℕ → List ℕ → ToolFault → Type 0
 PassFails form old piece before after tool.NoMemory = Unit {0}
 PassFails form old piece before after (tool.Stream (stream.Truncated place)) = ⊥
-PassFails form old piece before after (tool.Stream fault) = StopsAt form old piece before after (RestFails fault)
+PassFails form old piece before after (tool.Stream fault) =
+    StopsAt form old piece before after (RestFails fault)
 PassFails form old piece before after tool.Read = ⊥
 PassFails form old piece before after tool.Write = ⊥
 PassFails form old piece before after (tool.Text fault) = ⊥

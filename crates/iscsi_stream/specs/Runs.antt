@@ -1,4 +1,5 @@
--- Whole runs of a framer: any pieces, fed in any way, and each ready PDU taken when its caller likes.
+-- Whole runs of a framer: any pieces, fed in any way, and each ready PDU taken when its caller
+-- likes.
 use Rattle.std.specs.Prelude.{◌≡◌, ℕ, List, [], ◌∷◌, ◌++◌, take}
 use Rattle.iscsi_pdu.specs.declared.head.Head.{Head}
 use Rattle.iscsi_pdu.specs.Meaning.{Means}
@@ -16,8 +17,10 @@ pub data Call : Type 0 where
 -- the calls lead from one state to the other
 unfoldable pub Runs : Framing → List Call → Framing → Type 0
 Runs old [] new = old ≡ new
-Runs old (Feed piece taken ∷ calls) new = (mid : Framing) × Takes old piece taken mid × Runs mid calls new
-Runs old (Take head segment ∷ calls) new = IsTrue (is_ready old) × Means old.held head segment × Runs (given_up old head) calls new
+Runs old (Feed piece taken ∷ calls) new = (mid : Framing) × Takes old piece taken mid
+    × Runs mid calls new
+Runs old (Take head segment ∷ calls) new = IsTrue (is_ready old) × Means old.held head segment
+    × Runs (given_up old head) calls new
 
 -- the bytes that the calls took, in order
 unfoldable pub bytes_of : List Call → List ℕ
@@ -29,4 +32,6 @@ bytes_of (Take head segment ∷ calls) = bytes_of calls
 unfoldable pub messages_of : Logins → List Call → List Message
 messages_of logins [] = []
 messages_of logins (Feed piece taken ∷ calls) = messages_of logins calls
-messages_of logins (Take head segment ∷ calls) = (record { head = head; segment = segment_of (continues logins head) head segment }) ∷ messages_of (after logins head) calls
+messages_of logins (Take head segment ∷ calls) =
+    (record { head = head; segment = segment_of (continues logins head) head segment }) ∷
+    messages_of (after logins head) calls

@@ -1,4 +1,5 @@
--- What a PDU's segment means, and which login PDU continues another (RFC 7143, sections 6.2, 11.12 and 11.13).
+-- What a PDU's segment means, and which login PDU continues another (RFC 7143, sections 6.2, 11.12
+-- and 11.13).
 use Rattle.std.specs.Prelude.{ℕ, Bool, true, false, not, ◌&&◌, List, Option, Some, None}
 use Rattle.iscsi_text.specs.Text.{Pairs}
 use Rattle.iscsi_text.specs.Canonical.{canonical_text}
@@ -44,8 +45,9 @@ abbrev pub segment_if : Bool → List ℕ → Segment
 segment_if true bytes = text_or_bytes (text_in bytes) bytes
 segment_if false bytes = Bytes bytes
 
--- What the bytes of a segment mean behind a head, in a PDU that continues another or does not: a login PDU that neither
--- continues one nor is continued has a whole text, and every other segment means its bytes.
+-- What the bytes of a segment mean behind a head, in a PDU that continues another or does not: a
+-- login PDU that neither continues one nor is continued has a whole text, and every other segment
+-- means its bytes.
 unfoldable pub segment_of : Bool → Head → List ℕ → Segment
 segment_of continued head bytes = segment_if (not continued && is_last head) bytes
 

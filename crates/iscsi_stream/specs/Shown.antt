@@ -1,4 +1,5 @@
--- What showing a stream writes: a line for each PDU, one after another. What a line says is not stated.
+-- What showing a stream writes: a line for each PDU, one after another. What a line says is not
+-- stated.
 use Rattle.std.specs.Prelude.{◌≡◌, ◌≤◌, ℕ, List, [], ◌∷◌, ◌++◌, length}
 use Rattle.iscsi_stream.specs.Stream.{Message}
 
@@ -11,4 +12,5 @@ pub record IsLine (line : List ℕ) : Type 0 where
 -- The bytes are a line for each of the PDUs, in their order.
 abbrev pub AreLines : List Message → List ℕ → Type 0
 AreLines [] bytes = bytes ≡ []
-AreLines (m ∷ ms) bytes = (line : List ℕ) × (more : List ℕ) × IsLine line × (bytes ≡ line ++ more) × AreLines ms more
+AreLines (m ∷ ms) bytes = (line : List ℕ) × (more : List ℕ) × IsLine line × (bytes ≡ line ++ more)
+    × AreLines ms more

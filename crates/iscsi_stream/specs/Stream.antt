@@ -1,4 +1,5 @@
--- Streams of PDUs, and what they mean (RFC 7143, section 11: PDUs follow one another without a gap).
+-- Streams of PDUs, and what they mean (RFC 7143, section 11: PDUs follow one another without a
+-- gap).
 use Rattle.std.specs.Prelude.{◌≡◌, ◌≤◌, ℕ, ◌+◌, Bool, List, [], ◌∷◌, ◌++◌, length}
 use Rattle.iscsi_pdu.specs.declared.head.Head.{Head}
 use Rattle.iscsi_pdu.specs.Meaning.{Means, padding}
@@ -18,8 +19,10 @@ pub record Message : Type 0 where
 abbrev pub message : Bool → Head → List ℕ → Message
 message continued head bytes = record { head = head; segment = segment_of continued head bytes }
 
--- The stream begins with a PDU of this meaning, whose segment is within the limit; the rest follows it.
-pub record Begins (limit : ℕ) (logins : Logins) (stream : List ℕ) (m : Message) (bytes segment rest : List ℕ) : Type 0 where
+-- The stream begins with a PDU of this meaning, whose segment is within the limit; the rest follows
+-- it.
+pub record Begins (limit : ℕ) (logins : Logins) (stream : List ℕ) (m : Message)
+    (bytes segment rest : List ℕ) : Type 0 where
   pub whole : stream ≡ bytes ++ rest
   pub means : Means bytes m.head segment
   pub within : length segment ≤ limit
@@ -28,7 +31,8 @@ pub record Begins (limit : ℕ) (logins : Logins) (stream : List ℕ) (m : Messa
 -- The stream is PDUs of these meanings, one after another, each with a segment within the limit.
 unfoldable pub ReadsAs : ℕ → Logins → List ℕ → List Message → Type 0
 ReadsAs limit logins stream [] = stream ≡ []
-ReadsAs limit logins stream (m ∷ ms) = (bytes : List ℕ) × (segment : List ℕ) × (rest : List ℕ) × Begins limit logins stream m bytes segment rest × ReadsAs limit (after logins m.head) rest ms
+ReadsAs limit logins stream (m ∷ ms) = (bytes : List ℕ) × (segment : List ℕ) × (rest : List ℕ)
+    × Begins limit logins stream m bytes segment rest × ReadsAs limit (after logins m.head) rest ms
 
 -- No segment is longer: its length has three bytes.
 abbrev pub longest_segment : ℕ
@@ -45,15 +49,19 @@ after_all logins (m ∷ ms) = after_all (after logins m.head) ms
 
 -- No PDU with a segment within the limit begins the bytes.
 abbrev pub NoPdu : ℕ → List ℕ → Type 0
-NoPdu limit rest = (bytes segment more : List ℕ) (head : Head) → rest ≡ bytes ++ more → Means bytes head segment → length segment ≤ limit → ⊥
+NoPdu limit rest = (bytes segment more : List ℕ) (head : Head) → rest ≡ bytes ++ more →
+    Means bytes head segment → length segment ≤ limit → ⊥
 
 -- The stream begins with PDUs of these meanings, which have the given bytes; the rest follows them.
-pub record Reaches (limit : ℕ) (stream : List ℕ) (ms : List Message) (given rest : List ℕ) : Type 0 where
+pub record Reaches (limit : ℕ) (stream : List ℕ) (ms : List Message)
+    (given rest : List ℕ) : Type 0 where
   pub whole : stream ≡ given ++ rest
   pub reads : ReadsAs limit no_login given ms
 
--- The same, and no PDU begins the rest: given is the longest prefix of the stream that is PDUs within the limit.
-pub record Splits (limit : ℕ) (stream : List ℕ) (ms : List Message) (given rest : List ℕ) : Type 0 where
+-- The same, and no PDU begins the rest: given is the longest prefix of the stream that is PDUs
+-- within the limit.
+pub record Splits (limit : ℕ) (stream : List ℕ) (ms : List Message)
+    (given rest : List ℕ) : Type 0 where
   pub whole : stream ≡ given ++ rest
   pub reads : ReadsAs limit no_login given ms
   pub no_more : NoPdu limit rest

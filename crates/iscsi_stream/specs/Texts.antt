@@ -22,7 +22,8 @@ longest_text = 16384
 
 -- The bytes mean a map, of which this is the canonical text.
 abbrev pub CanonicalOf : List ℕ → List ℕ → Type 0
-CanonicalOf bytes canonical = (pairs : Pairs) × TextMeans bytes pairs × (canonical ≡ canonical_text pairs)
+CanonicalOf bytes canonical = (pairs : Pairs) × TextMeans bytes pairs
+    × (canonical ≡ canonical_text pairs)
 
 -- why bytes have no canonical text: their first fault, or that memory is out
 abbrev pub TextRefused : List ℕ → ToolFault → Type 0
@@ -39,10 +40,12 @@ TextRefused bytes (tool.Protocol rule) = ⊥
 abbrev pub TextFails : ToolFault → List ℕ → List ℕ → Type 0
 TextFails tool.NoMemory read written = written ≡ []
 TextFails (tool.Stream fault) read written = ⊥
-TextFails (tool.Text fault) read written = IsFirstFault read fault × (length read ≤ longest_text) × (written ≡ [])
+TextFails (tool.Text fault) read written = IsFirstFault read fault × (length read ≤ longest_text)
+    × (written ≡ [])
 TextFails tool.TextTooLong read written = (longest_text < length read) × (written ≡ [])
 TextFails tool.Read read written = written ≡ []
-TextFails tool.Write read written = (canonical : List ℕ) × (n : ℕ) × CanonicalOf read canonical × (written ≡ take n canonical)
+TextFails tool.Write read written = (canonical : List ℕ) × (n : ℕ) × CanonicalOf read canonical
+    × (written ≡ take n canonical)
 TextFails tool.NotHex read written = ⊥
 TextFails (tool.Protocol rule) read written = ⊥
 

@@ -8,8 +8,8 @@ use iscsi_text::TextFault;
 use std::alloc::AllocError;
 use thiserror::Error;
 
-/// Why a framer refuses its stream. A place is the number of stream bytes before the first byte of the PDU, up to
-/// 2^64 - 1, where it stays.
+/// Why a framer refuses its stream. A place is the number of stream bytes before the first byte of
+/// the PDU, up to 2^64 - 1, where it stays.
 #[derive(Clone, Copy, Debug, PartialEq, Eq, Error)]
 pub enum StreamFault {
     /// There is no memory for the segment of the PDU whose header is whole.
@@ -61,8 +61,8 @@ pub enum ToolFault {
     /// The input is not hex text, or is over its limit. No function of this crate answers it.
     #[error("input: not hex")]
     NotHex,
-    /// The initiator broke the rule of this number (own profile: `docs/FORMATS.md` has the rules). No function of this
-    /// crate answers it.
+    /// The initiator broke the rule of this number (own rule: `docs/FORMATS.md` has the rules). No
+    /// function of this crate answers it.
     #[error("protocol: rule {0}")]
     Protocol(u8),
 }

@@ -13,8 +13,9 @@ use iscsi_pdu::{Pdu, pad};
 use std::alloc::Global;
 use std::marker::Model;
 
-/// Gathers the PDUs of a stream, one at a time, from pieces of any length. It has one buffer, which is kept from PDU to
-/// PDU: a segment no longer than an earlier one asks for no memory, and a longer one for its own length.
+/// Gathers the PDUs of a stream, one at a time, from pieces of any length. It has one buffer, which
+/// is kept from PDU to PDU: a segment no longer than an earlier one asks for no memory, and a
+/// longer one for its own length.
 #[derive(Drop)]
 pub struct Framer {
     limit: u32,
@@ -34,13 +35,23 @@ impl Model for Framer {
 
     ghost Value = { Framing };
 
-    ghost view = { λ f. record { limit = f.limit; place = f.place; logins = f.logins; held = if f.failed then [] else gathered f.header f.buffer.segment.items f.stage; room = f.buffer.room; failed = f.failed } };
+    ghost view = { λ f. record {
+      limit = f.limit;
+      place = f.place;
+      logins = f.logins;
+      held = if f.failed then [] else gathered f.header f.buffer.segment.items f.stage;
+      room = f.buffer.room;
+      failed = f.failed;
+    } };
 
-    ghost invariant = { λ f. (f.limit < 2 ^ 24) × (f.failed ≡ false → IsKept f.limit f.header f.buffer.segment.items f.buffer.room f.stage) × HasRoom f.limit (vec_capacity f.buffer.segment) f.buffer.room };
+    ghost invariant = { λ f. (f.limit < 2 ^ 24) × (f.failed ≡ false →
+        IsKept f.limit f.header f.buffer.segment.items f.buffer.room f.stage)
+        × HasRoom f.limit (vec_capacity f.buffer.segment) f.buffer.room };
 }
 
 impl Framer {
-    /// A framer at the beginning of a stream, for segments of at most `limit` bytes. It takes no memory.
+    /// A framer at the beginning of a stream, for segments of at most `limit` bytes. It takes no
+    /// memory.
     pub fn new(alloc: Global, limit: u32) -> Framer
         requires { limit < 2 ^ 24 }
         ensures { result ≡ opening limit }
@@ -59,12 +70,13 @@ impl Framer {
         }
     }
 
-    /// Takes bytes of the piece until a PDU is ready, and says how many it took: all of them, or fewer where a PDU is
-    /// ready then; none while one is ready already.
+    /// Takes bytes of the piece until a PDU is ready, and says how many it took: all of them, or
+    /// fewer where a PDU is ready then; none while one is ready already.
     ///
-    /// With the last byte of a header it answers `Head` where the header is refused, `OverLimit` where its segment is
-    /// longer than the limit, and `NoMemory` where it is longer than each before it and there is no memory for it. After
-    /// a fault it answers `Failed`, and holds nothing.
+    /// With the last byte of a header it answers `Head` where the header is refused, `OverLimit`
+    /// where its segment is longer than the limit, and `NoMemory` where it is longer than each
+    /// before it and there is no memory for it. After a fault it answers `Failed`, and holds
+    /// nothing.
     pub fn feed(&mut self, piece: &[u8]) -> Result<usize, StreamFault>
         ensures ok { IfOk result (λ n. Takes self.old piece.now n self.new) }
         ensures err { IfErr result (FeedFails self.old piece.now) }
@@ -162,8 +174,8 @@ impl Framer {
         self.stage = Stage::Header(0);
     }
 
-    /// Ends the stream. Answers `Truncated` where a PDU is begun and not whole, and `Failed` after a fault; a PDU that is
-    /// ready is none.
+    /// Ends the stream. Answers `Truncated` where a PDU is begun and not whole, and `Failed` after
+    /// a fault; a PDU that is ready is none.
     pub fn finish(&mut self) -> Result<(), StreamFault>
         ensures ok { OnOk result ((self.old.failed ≡ false)
             × ((self.old.held ≡ []) ⊎ IsTrue (is_ready self.old)) × (self.new ≡ self.old)) }

@@ -18,12 +18,13 @@ pub(crate) const HEADER: usize = 48;
 pub(crate) enum Stage {
     /// So many bytes of the header, fewer than 48.
     Header(usize),
-    /// The whole header, which says this head and so many bytes of segment; and so many bytes of padding, which are
-    /// counted and not kept.
+    /// The whole header, which says this head and so many bytes of segment; and so many bytes of
+    /// padding, which are counted and not kept.
     Body(Head, u32, u32),
 }
 
-/// The bytes of a segment, and the length of the longest one for which memory was asked. It is kept from PDU to PDU.
+/// The bytes of a segment, and the length of the longest one for which memory was asked. It is kept
+/// from PDU to PDU.
 #[derive(Drop)]
 pub(crate) struct Buffer {
     pub(crate) segment: Vec<u8>,
@@ -44,8 +45,8 @@ fn fill_header(header: &mut [u8; 48], filled: usize, piece: &[u8]) -> usize
     taken
 }
 
-// The head that a whole header says, and the length of its segment, for which the buffer then has room: what it had, or
-// that length and no more.
+// The head that a whole header says, and the length of its segment, for which the buffer then has
+// room: what it had, or that length and no more.
 fn begin(
     header: &[u8; 48],
     buffer: &mut Buffer,
@@ -76,8 +77,8 @@ fn begin(
     Ok((head, len))
 }
 
-// Takes bytes of the piece into a segment of this length, then into the padding, of which so many are there. Says how
-// many it took, and how many bytes of padding are there then.
+// Takes bytes of the piece into a segment of this length, then into the padding, of which so many
+// are there. Says how many it took, and how many bytes of padding are there then.
 fn fill_body(segment: &mut Vec<u8>, len: u32, padded: u32, piece: &[u8]) -> (usize, u32)
     requires room { len ≤ vec_capacity segment.old }
     requires segment { length segment.old.items ≤ len }

@@ -1,5 +1,6 @@
-//! Laws of streams, canonical streams and framers: functions that do nothing, whose contracts are the theorems. They
-//! speak of the definitions in `specs`, which the contracts of the working functions cite too.
+//! Laws of streams, canonical streams and framers: functions that do nothing, whose contracts are
+//! the theorems. They speak of the definitions in `specs`, which the contracts of the working
+//! functions cite too.
 
 ghost use Rattle.std.specs.Prelude.{◌≡◌, ◌≤◌, ◌<◌, ◌+◌, ◌++◌, ◌∷◌, [], ◌↔◌, ℕ, List, length, take, drop, min, false, Some, Result, Err, IfOk, IfErr};
 ghost use Rattle.iscsi_pdu.specs.declared.head.Head.{Head};
@@ -68,15 +69,17 @@ pub fn no_rest()
         → Splits longest_segment stream ms given rest → rest ≡ [] }
 {}
 
-/// Cuts make no difference: a framer that took some bytes goes on to take the next, whatever pieces they come in.
+/// Cuts make no difference: a framer that took some bytes goes on to take the next, whatever pieces
+/// they come in.
 pub fn any_pieces()
     ensures { (stream piece : List ℕ) (ms : List Message) (n : ℕ) (old new : Framing)
         → HasTaken stream ms old → Takes old piece n new
         → HasTaken (stream ++ take n piece) ms new }
 {}
 
-/// The PDU that is ready stands in the stream at the framer's place, behind the PDUs that were given up: its header and
-/// its segment are the bytes there, and it continues another where these PDUs say so.
+/// The PDU that is ready stands in the stream at the framer's place, behind the PDUs that were
+/// given up: its header and its segment are the bytes there, and it continues another where these
+/// PDUs say so.
 pub fn ready_pdu()
     ensures { (stream segment : List ℕ) (ms : List Message) (head : Head) (v : Framing)
         → HasTaken stream ms v → Means v.held head segment
@@ -94,9 +97,9 @@ pub fn next_given()
         → HasTaken stream (ms ++ message_of old head segment ∷ []) (given_up old head) }
 {}
 
-/// Where no PDU is ready, the PDUs that a framer gave up are those of the longest prefix of what it took, and its place
-/// is the length of that prefix. The rest begins with no header that is refused or says a segment over the limit: that
-/// would have been a fault.
+/// Where no PDU is ready, the PDUs that a framer gave up are those of the longest prefix of what it
+/// took, and its place is the length of that prefix. The rest begins with no header that is refused
+/// or says a segment over the limit: that would have been a fault.
 pub fn given_so_far()
     ensures { (stream : List ℕ) (ms : List Message) (v : Framing) → HasTaken stream ms v
         → is_ready v ≡ false → (given : List ℕ) × (rest : List ℕ)
@@ -104,9 +107,9 @@ pub fn given_so_far()
         × (v.place ≡ min (length given) last_place) }
 {}
 
-/// Whichever pieces the bytes come in, and however they are fed and taken: a new framer gives up the PDUs of the longest
-/// prefix of the bytes that it took, but for the one that is ready. Where no fault came, the rest begins with no header
-/// that is refused or says a segment over the limit.
+/// Whichever pieces the bytes come in, and however they are fed and taken: a new framer gives up
+/// the PDUs of the longest prefix of the bytes that it took, but for the one that is ready. Where
+/// no fault came, the rest begins with no header that is refused or says a segment over the limit.
 pub fn every_run()
     ensures { (limit : ℕ) (calls : List Call) (v : Framing) → Runs (opening limit) calls v
         → is_ready v ≡ false
@@ -115,7 +118,8 @@ pub fn every_run()
         × IsBegun limit rest × (v.place ≡ min (length given) last_place) }
 {}
 
-/// A fault of a header comes where the rest begins with such a header, and names the place of the rest.
+/// A fault of a header comes where the rest begins with such a header, and names the place of the
+/// rest.
 pub fn header_fault()
     ensures { (stream piece : List ℕ) (ms : List Message) (fault : HeadFault) (place : ℕ)
         (v : Framing) → HasTaken stream ms v → FeedFails v piece (faults.Head fault place)
@@ -124,8 +128,8 @@ pub fn header_fault()
         × (place ≡ min (length given) last_place) }
 {}
 
-/// The other way: where the rest of what a framer took and of a piece begins with a header that is refused, `feed` of
-/// the piece answers that fault and nothing else.
+/// The other way: where the rest of what a framer took and of a piece begins with a header that is
+/// refused, `feed` of the piece answers that fault and nothing else.
 pub fn header_refused()
     ensures { (stream piece given rest : List ℕ) (ms : List Message) (fault : HeadFault)
         (v new : Framing) (result : Result ℕ StreamFault) → HasTaken stream ms v
@@ -134,8 +138,8 @@ pub fn header_refused()
         → IfErr result (FeedFails v piece) → result ≡ Err (faults.Head fault v.place) }
 {}
 
-/// A segment is refused where the rest begins with a header that says one over the limit, and the fault names the place
-/// of the rest.
+/// A segment is refused where the rest begins with a header that says one over the limit, and the
+/// fault names the place of the rest.
 pub fn limit_fault()
     ensures { (stream piece : List ℕ) (ms : List Message) (place : ℕ) (v : Framing)
         → HasTaken stream ms v → FeedFails v piece (faults.OverLimit place)
@@ -145,7 +149,8 @@ pub fn limit_fault()
         × (place ≡ min (length given) last_place) }
 {}
 
-/// The other way: where the rest begins with such a header, `feed` of the piece answers that fault and nothing else.
+/// The other way: where the rest begins with such a header, `feed` of the piece answers that fault
+/// and nothing else.
 pub fn limit_refused()
     ensures { (stream piece given rest : List ℕ) (ms : List Message) (head : Head) (len : ℕ)
         (v new : Framing) (result : Result ℕ StreamFault) → HasTaken stream ms v
@@ -154,8 +159,8 @@ pub fn limit_refused()
         → IfErr result (FeedFails v piece) → result ≡ Err (faults.OverLimit v.place) }
 {}
 
-/// Where no fault came before, the end of the stream is one exactly where the rest is begun and no PDU: `finish` then
-/// names the place of the rest.
+/// Where no fault came before, the end of the stream is one exactly where the rest is begun and no
+/// PDU: `finish` then names the place of the rest.
 pub fn end_fault()
     ensures { (stream : List ℕ) (ms : List Message) (place : ℕ) (v : Framing)
         → HasTaken stream ms v → FinishFails v (faults.Truncated place)

@@ -5,8 +5,8 @@ ghost use Rattle.iscsi_stream.specs.Segment.{no_login, continues, after};
 
 use iscsi_pdu::Head;
 
-/// What the last login PDU of each kind said: whether its text goes on in the next one of the kind (RFC 7143, section
-/// 11.12.2, the C bit).
+/// What the last login PDU of each kind said: whether its text goes on in the next one of the kind
+/// (RFC 7143, section 11.12.2, the C bit).
 #[derive(Clone, Copy, Debug, PartialEq, Eq)]
 pub struct Logins {
     /// The last Login Request is continued.

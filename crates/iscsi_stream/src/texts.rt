@@ -5,8 +5,7 @@ ghost use Rattle.std.specs.Io.KnownBytes.{Appends, Consumes, IsAtEnd};
 ghost use Rattle.iscsi_stream.specs.Texts.{NormalisesText, TextAtEnd, CanonicalOf, TextRefused};
 
 use crate::fault::ToolFault;
-use crate::input::read_within;
-use crate::output::write_fully;
+use crate::io::{read_within, write_fully};
 use iscsi_text::{Text, TextFault};
 use std::alloc::Global;
 use std::io::{Read, Write};
@@ -39,12 +38,12 @@ fn canonical_text(alloc: Global, bytes: &[u8]) -> Result<Vec<u8>, ToolFault>
     Ok(out)
 }
 
-/// Reads one text to its end and writes its canonical form (RFC 7143, section 6.1). Nothing is written before all is
-/// read.
+/// Reads one text to its end and writes its canonical form (RFC 7143, section 6.1). Nothing is
+/// written before all is read.
 ///
-/// Answers `Text` where the text has a fault, `TextTooLong` where it has more than 16,384 bytes, `Read` where a read
-/// fails, `NoMemory` where memory runs out, having written nothing; and `Write` where a write fails, having written a
-/// part of the canonical text.
+/// Answers `Text` where the text has a fault, `TextTooLong` where it has more than 16,384 bytes,
+/// `Read` where a read fails, `NoMemory` where memory runs out, having written nothing; and `Write`
+/// where a write fails, having written a part of the canonical text.
 pub fn normalise_text<R: Read, W: Write>(
     alloc: Global,
     r: &mut R,

@@ -1,6 +1,6 @@
 //! Streams by example: headers in words of hex, worked out by hand from the tables of RFC 7143, section 11.
 
-use hex::FromHexError;
+use iscsi_examples::{LineFault, bytes_of, segment_of};
 use iscsi_stream::{Counts, Framer, ToolFault, canonical};
 use std::alloc::Global;
 use std::fmt::Debug;
@@ -26,41 +26,8 @@ fn same<T: PartialEq + Debug>(rt: &impl Abort, value: &T, due: &T, row: &impl De
     assert_eq!(rt; *value, *due, "{row:?}");
 }
 
-// The bytes of hex text, in which blanks part the words.
-fn bytes_of(alloc: Global, text: &str) -> Result<Vec<u8>, FromHexError> {
-    let digits: Vec<u8> = text
-        .as_bytes()
-        .iter()
-        .copied()
-        .filter(|b| *b != b' ')
-        .collect(alloc)?;
-    hex::decode(alloc, digits)
-}
-
-// A segment with its padding, as a row spells it.
-fn segment_of(alloc: Global, segment: &str) -> Result<Vec<u8>, FromHexError> {
-    if let Some(text) = segment.strip_prefix('\'') {
-        return Ok(
-            text.bytes()
-                .map(|byte| match byte {
-                    b'|' => 0,
-                    b'~' => 0xff,
-                    _ => byte,
-                })
-                .collect(alloc)?,
-        );
-    }
-    let (bytes, count) = segment.split_once('*').unwrap_or((segment, "1"));
-    let bytes = bytes_of(alloc, bytes)?;
-    let mut out = Vec::new(alloc);
-    for _ in 0..count.parse::<u32>().unwrap_or(0) {
-        out.extend_from_slice(&bytes)?;
-    }
-    Ok(out)
-}
-
-// The PDU of a line of a row, behind its mark: header, segment and padding.
-fn pdu_of(alloc: Global, line: &str, out: &mut Vec<u8>) -> Result<(), FromHexError> {
+// Appends the PDU of a line of a row, behind its mark: header and segment, which has its padding.
+fn pdu_of(alloc: Global, line: &str, out: &mut Vec<u8>) -> Result<(), LineFault> {
     let (header, segment) = line.split_at_checked(HEADER).unwrap_or((line, ""));
     out.extend_from_slice(&bytes_of(alloc, header)?)?;
     out.extend_from_slice(&segment_of(alloc, segment.trim())?)?;
@@ -68,7 +35,7 @@ fn pdu_of(alloc: Global, line: &str, out: &mut Vec<u8>) -> Result<(), FromHexErr
 }
 
 // The PDUs of the lines of a row that have this mark.
-fn marked(alloc: Global, lines: &str, mark: &str) -> Result<Vec<u8>, FromHexError> {
+fn marked(alloc: Global, lines: &str, mark: &str) -> Result<Vec<u8>, LineFault> {
     let mut stream = Vec::new(alloc);
     for line in lines.lines() {
         if let Some(pdu) = line.strip_prefix(mark) {
@@ -79,12 +46,12 @@ fn marked(alloc: Global, lines: &str, mark: &str) -> Result<Vec<u8>, FromHexErro
 }
 
 // The stream of a row that comes.
-fn came_of(alloc: Global, lines: &str) -> Result<Vec<u8>, FromHexError> {
+fn came_of(alloc: Global, lines: &str) -> Result<Vec<u8>, LineFault> {
     marked(alloc, lines, "> ")
 }
 
 // Its canonical stream.
-fn written_of(alloc: Global, lines: &str) -> Result<Vec<u8>, FromHexError> {
+fn written_of(alloc: Global, lines: &str) -> Result<Vec<u8>, LineFault> {
     marked(alloc, lines, "< ")
 }
 

@@ -2,7 +2,7 @@
 use Rattle.std.specs.Prelude.{◌≡◌, true, false, [], ◌∷◌, ◌++◌, take, drop, replicate, Some, None, codes, refl, List, ℕ}
 use Rattle.std.specs.Fmt.{digits}
 use Rattle.scsi_cdb.specs.Layout.{put_bit, put_number, put_bytes, put_raw}
-use Rattle.scsi_cdb.specs.declared.block.Cdb.TheVariants as cdbs
+use Rattle.scsi_cdb.specs.declared.cdb.Cdb.TheVariants as cdbs
 use Rattle.scsi_disk.specs.Disk.{cut, joined, overlaid, zero_blocks}
 use Rattle.iscsi_pdu.specs.Meaning.{header, whole}
 use Rattle.iscsi_pdu.specs.declared.head.Head.TheVariants as heads
@@ -14,7 +14,8 @@ use Rattle.iscsi_stream.specs.Canonical.{canon}
 use Rattle.iscsi_login.specs.declared.phase.Phase.TheVariants as phases
 use Rattle.iscsi_target.specs.Machine.{answers, done_in_turn}
 use Rattle.iscsi_target.specs.Sessions.{LoginIsAnswered, LoginLeads}
-use Rattle.iscsi_target.specs.Worked.{hex, entry, login, first, second, segment, says, command, orders, initiator_name, target_name, first_text, second_text, fresh, blank, logged_in, Row}
+use Rattle.iscsi_target.specs.Worked.{hex, entry, login, first, second, segment, says, command, orders, initiator_name, target_name, first_text, second_text}
+use Rattle.iscsi_target.specs.Worked.{fresh, blank, logged_in, Row}
 
 -- The first request of a login is answered, with the tag of the portal group.
 pub first_request_is_answered : Row fresh
@@ -163,7 +164,9 @@ pub login_in_full_phase : Row logged_in
     ∷ [])
     ((hex (codes "43870000 00000014 40000001 00000000 00000000 00000000 00000001 00000003 00000000 00000000 00000000 00000000"))
     ++ entry (codes "MaxBurstLength=1024"))
-    (hex (codes "3f800400 00000030 00000000 00000000 ffffffff 00000000 00000003 00000001 00000008 00000000 00000000 00000000 43870000 00000014 40000001 00000000 00000000 00000000 00000001 00000003 00000000 00000000 00000000 00000000"))
+    (hex
+    (codes
+    "3f800400 00000030 00000000 00000000 ffffffff 00000000 00000003 00000001 00000008 00000000 00000000 00000000 43870000 00000014 40000001 00000000 00000000 00000000 00000001 00000003 00000000 00000000 00000000 00000000"))
     (Some 1)
 unfolding answers done_in_turn digits header whole put_bit put_number put_bytes put_raw kind_of cut joined overlaid zero_blocks segment_of segment_bytes
 login_in_full_phase = (refl, refl, refl)
@@ -174,7 +177,9 @@ pub login_in_full_phase_by_hex : Row logged_in
     ∷ [])
     ((hex (codes "43870000 00000014 40000001 00000000 00000000 00000000 00000001 00000003 00000000 00000000 00000000 00000000"))
     ++ entry (codes "MaxBurstLength=1024"))
-    (hex (codes "3f800400 00000030 00000000 00000000 ffffffff 00000000 00000003 00000001 00000008 00000000 00000000 00000000 43870000 00000014 40000001 00000000 00000000 00000000 00000001 00000003 00000000 00000000 00000000 00000000"))
+    (hex
+    (codes
+    "3f800400 00000030 00000000 00000000 ffffffff 00000000 00000003 00000001 00000008 00000000 00000000 00000000 43870000 00000014 40000001 00000000 00000000 00000000 00000001 00000003 00000000 00000000 00000000 00000000"))
     (Some 1)
 unfolding answers done_in_turn digits header whole put_bit put_number put_bytes put_raw kind_of cut joined overlaid zero_blocks segment_of segment_bytes
 login_in_full_phase_by_hex = (refl, refl, refl)
@@ -228,7 +233,9 @@ pub command_in_discovery : Row fresh
     ((hex (codes "23810000 00000000 40000001 00000000 00000000 00000000 00000001 00000001 00000008 00000000 00000000 00000000"))
     ++ (hex (codes "23870000 00000038 40000001 00000001 00000000 00000000 00000002 00000001 00000008 00000000 00000000 00000000"))
     ++ entry (codes "MaxBurstLength=Irrelevant") ++ entry (codes "MaxRecvDataSegmentLength=8192")
-    ++ (hex (codes "3f800400 00000030 00000000 00000000 ffffffff 00000000 00000003 00000001 00000008 00000000 00000000 00000000 01810000 00000000 00000000 00000000 00000001 00000000 00000001 00000003 00000000 00000000 00000000 00000000")))
+    ++ (hex
+    (codes
+    "3f800400 00000030 00000000 00000000 ffffffff 00000000 00000003 00000001 00000008 00000000 00000000 00000000 01810000 00000000 00000000 00000000 00000001 00000000 00000001 00000003 00000000 00000000 00000000 00000000")))
     (Some 1)
 unfolding answers done_in_turn digits header whole put_bit put_number put_bytes put_raw kind_of cut joined overlaid zero_blocks segment_of segment_bytes
 command_in_discovery = (refl, refl, refl)
@@ -253,7 +260,8 @@ pub cmd_sn_counts_round : Row fresh
     ((hex (codes "23810000 00000027 40000001 00000000 00000000 00000000 00000001 ffffffff 00000006 00000000 00000000 00000000"))
     ++ (entry (codes "AuthMethod=None") ++ entry (codes "TargetPortalGroupTag=1") ++ 0 ∷ [])
     ++ (hex (codes "23870000 00000073 40000001 00000001 00000000 00000000 00000002 ffffffff 00000006 00000000 00000000 00000000"))
-    ++ (entry (codes "HeaderDigest=None") ++ entry (codes "IFMarker=No") ++ entry (codes "InitialR2T=No") ++ entry (codes "MaxBurstLength=1024") ++ entry (codes "MaxRecvDataSegmentLength=8192") ++ entry (codes "X-test=NotUnderstood") ++ 0 ∷ [])
+    ++ (entry (codes "HeaderDigest=None") ++ entry (codes "IFMarker=No") ++ entry (codes "InitialR2T=No") ++ entry (codes "MaxBurstLength=1024")
+    ++ entry (codes "MaxRecvDataSegmentLength=8192") ++ entry (codes "X-test=NotUnderstood") ++ 0 ∷ [])
     ++ (hex (codes "21800000 00000000 00000000 00000000 00000001 00000000 00000003 00000000 00000007 00000000 00000000 00000000"))
     ++ (hex (codes "21800000 00000000 00000000 00000000 00000002 00000000 00000004 00000001 00000008 00000000 00000000 00000000")))
     None
@@ -338,7 +346,8 @@ pub target_before_authentication : Refused first (initiator_name ++ entry (codes
 unfolding answers done_in_turn digits header whole put_bit put_number put_bytes put_raw kind_of segment_of segment_bytes
 target_before_authentication = refl
 
-pub authentication_before_length : Refused first (initiator_name ++ target_name ++ entry (codes "AuthMethod=CHAP") ++ entry (codes "MaxRecvDataSegmentLength=511")) 0x02 0x01
+pub authentication_before_length : Refused first (initiator_name ++ target_name ++ entry (codes "AuthMethod=CHAP")
+    ++ entry (codes "MaxRecvDataSegmentLength=511")) 0x02 0x01
 unfolding answers done_in_turn digits header whole put_bit put_number put_bytes put_raw kind_of segment_of segment_bytes
 authentication_before_length = refl
 
@@ -359,6 +368,7 @@ no_move_back = refl
 
 -- An unknown key may be given again; a request that does not move holds the stage.
 pub unknown_key_again : (answers fresh blank
-    (says (login false false 0 None 0) (first_text ++ entry (codes "X=1")) ∷ says first (entry (codes "X=2")) ∷ says second [] ∷ [])).machine.session.phase ≡ phases.Full
+    (says (login false false 0 None 0) (first_text ++ entry (codes "X=1")) ∷ says first (entry (codes "X=2")) ∷ says second [] ∷ [])).machine.session.phase
+    ≡ phases.Full
 unfolding answers done_in_turn digits header whole put_bit put_number put_bytes put_raw kind_of segment_of segment_bytes
 unknown_key_again = refl

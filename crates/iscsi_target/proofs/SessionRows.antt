@@ -2,7 +2,7 @@
 use Rattle.std.specs.Prelude.{◌≡◌, true, false, [], ◌∷◌, ◌++◌, replicate, Some, None, codes, refl}
 use Rattle.std.specs.Fmt.{digits}
 use Rattle.scsi_cdb.specs.Layout.{put_bit, put_number, put_bytes, put_raw}
-use Rattle.scsi_cdb.specs.declared.block.Cdb.TheVariants as cdbs
+use Rattle.scsi_cdb.specs.declared.cdb.Cdb.TheVariants as cdbs
 use Rattle.scsi_disk.specs.Disk.{cut, joined, overlaid, zero_blocks, blocks_from}
 use Rattle.iscsi_pdu.specs.Meaning.{header, whole}
 use Rattle.iscsi_pdu.specs.declared.head.Head.TheVariants as heads
@@ -30,7 +30,8 @@ write_in_bursts = (refl, refl, refl)
 
 -- It leaves its eight blocks, and no other changes.
 pub write_leaves_its_blocks : blocks_from (answers logged_in blank
-    (orders (command true false true 4096 (cdbs.Write10 (record { options = 0; logical_block_address = 0; group_number = 0; blocks = 8; control = 0 }))) (fill 1)
+    (orders (command true false true 4096 (cdbs.Write10 (record { options = 0; logical_block_address = 0; group_number = 0; blocks = 8; control = 0 })))
+    (fill 1)
     ∷ sends 0 0 512 (fill 2 ++ fill 3)
     ∷ sends 1 0 1536 (fill 4 ++ fill 5)
     ∷ sends 2 0 2560 (fill 6 ++ fill 7)
@@ -42,7 +43,8 @@ write_leaves_its_blocks = refl
 
 -- Before the last Data-Out no block changes.
 pub write_waits_for_all : blocks_from (answers logged_in blank
-    (orders (command true false true 4096 (cdbs.Write10 (record { options = 0; logical_block_address = 0; group_number = 0; blocks = 8; control = 0 }))) (fill 1)
+    (orders (command true false true 4096 (cdbs.Write10 (record { options = 0; logical_block_address = 0; group_number = 0; blocks = 8; control = 0 })))
+    (fill 1)
     ∷ sends 0 0 512 (fill 2 ++ fill 3)
     ∷ sends 1 0 1536 (fill 4 ++ fill 5)
     ∷ sends 2 0 2560 (fill 6 ++ fill 7)
@@ -108,7 +110,13 @@ read_too_many_blocks = (refl, refl, refl)
 
 -- A block number of 64 bits doesn't count round.
 pub read_at_the_last_number : Row logged_in
-    (orders (command true true false 512 (cdbs.Read16 (record { options = 0; logical_block_address = 0xffff_ffff_ffff_ffff; group_number = 0; blocks = 1; control = 0 }))) []
+    (orders (command true true false 512 (cdbs.Read16 (record {
+      options = 0;
+      logical_block_address = 0xffff_ffff_ffff_ffff;
+      group_number = 0;
+      blocks = 1;
+      control = 0;
+    }))) []
     ∷ [])
     (hex (codes "01c10000 00000000 00000000 00000000 00000001 00000200 00000001 00000003 8800ffff ffffffff ffff0000 00010000"))
     ((hex (codes "21820002 00000014 00000000 00000000 00000001 00000000 00000003 00000002 00000009 00000000 00000000 00000200"))
@@ -202,7 +210,8 @@ unknown_command_at_another_unit = (refl, refl, refl)
 
 -- A Data-Out with another DataSN is rejected.
 pub data_sn_out_of_order : Row logged_in
-    (orders (command true false true 4096 (cdbs.Write10 (record { options = 0; logical_block_address = 0; group_number = 0; blocks = 8; control = 0 }))) (fill 1)
+    (orders (command true false true 4096 (cdbs.Write10 (record { options = 0; logical_block_address = 0; group_number = 0; blocks = 8; control = 0 })))
+    (fill 1)
     ∷ sends 0 1 512 (replicate 1024 0)
     ∷ [])
     ((hex (codes "01a10000 00000200 00000000 00000000 00000001 00001000 00000001 00000003 2a000000 00000000 08000000 00000000"))
@@ -218,7 +227,8 @@ data_sn_out_of_order = (refl, refl, refl)
 
 -- So is one that goes past its burst.
 pub data_past_the_burst : Row logged_in
-    (orders (command true false true 4096 (cdbs.Write10 (record { options = 0; logical_block_address = 0; group_number = 0; blocks = 8; control = 0 }))) (fill 1)
+    (orders (command true false true 4096 (cdbs.Write10 (record { options = 0; logical_block_address = 0; group_number = 0; blocks = 8; control = 0 })))
+    (fill 1)
     ∷ sends 0 0 512 (replicate 1028 0)
     ∷ [])
     ((hex (codes "01a10000 00000200 00000000 00000000 00000001 00001000 00000001 00000003 2a000000 00000000 08000000 00000000"))
@@ -234,7 +244,8 @@ data_past_the_burst = (refl, refl, refl)
 
 -- While a write is open there is no room for a ping; the write goes on.
 pub ping_while_a_write_is_open : Row logged_in
-    (orders (command true false true 4096 (cdbs.Write10 (record { options = 0; logical_block_address = 0; group_number = 0; blocks = 8; control = 0 }))) (fill 1)
+    (orders (command true false true 4096 (cdbs.Write10 (record { options = 0; logical_block_address = 0; group_number = 0; blocks = 8; control = 0 })))
+    (fill 1)
     ∷ ping 2
     ∷ sends 0 0 512 (fill 2 ++ fill 3)
     ∷ [])
@@ -254,7 +265,8 @@ ping_while_a_write_is_open = (refl, refl, refl)
 
 -- Data that come unasked end a sequence of their own.
 pub unsolicited_data : Row logged_in
-    (orders (command false false true 4096 (cdbs.Write10 (record { options = 0; logical_block_address = 0; group_number = 0; blocks = 8; control = 0 }))) (fill 1)
+    (orders (command false false true 4096 (cdbs.Write10 (record { options = 0; logical_block_address = 0; group_number = 0; blocks = 8; control = 0 })))
+    (fill 1)
     ∷ volunteers 512 (fill 2)
     ∷ sends 0 0 1024 (fill 3 ++ fill 4)
     ∷ sends 1 0 2048 (fill 5 ++ fill 6)
@@ -280,7 +292,8 @@ unsolicited_data = (refl, refl, refl)
 
 -- Where the first burst is there, no more may be announced.
 pub first_burst_and_more : Row logged_in
-    (orders (command false false true 4096 (cdbs.Write10 (record { options = 0; logical_block_address = 0; group_number = 0; blocks = 8; control = 0 }))) (replicate 1024 0)
+    (orders (command false false true 4096 (cdbs.Write10 (record { options = 0; logical_block_address = 0; group_number = 0; blocks = 8; control = 0 })))
+    (replicate 1024 0)
     ∷ [])
     ((hex (codes "01210000 00000400 00000000 00000000 00000001 00001000 00000001 00000003 2a000000 00000000 08000000 00000000"))
     ++ replicate 1024 0)
@@ -399,7 +412,8 @@ unfolding answers done_in_turn digits header whole put_bit put_number put_bytes 
 ping_before_login = (refl, refl, refl)
 
 -- A segment longer than the target declared is rejected.
-pub segment_past_what_was_declared : Row (record logged_in { session = record logged_in.session { held = record agreed { target_max_recv = 2 } } }) (ping 1 ∷ [])
+pub segment_past_what_was_declared : Row (record logged_in { session = record logged_in.session { held = record agreed { target_max_recv = 2 } } })
+    (ping 1 ∷ [])
     (hex (codes "40800000 00000003 00000000 00000000 00000001 ffffffff 00000001 00000003 00000000 00000000 00000000 00000000 61626300"))
     (hex (codes "3f800400 00000030 00000000 00000000 ffffffff 00000000 00000003 00000001 00000008 00000000 00000000 00000000")
     ++ hex (codes "40800000 00000003 00000000 00000000 00000001 ffffffff 00000001 00000003 00000000 00000000 00000000 00000000"))

@@ -20,7 +20,7 @@ use Rattle.iscsi_target.specs.State.{Machine, Stepped, unchanged, waiting}
 use Rattle.iscsi_target.specs.declared.due.Due.TheVariants.{Nothing, Unsolicited}
 use Rattle.iscsi_pdu.specs.Rules.{data_out_of_order}
 use Rattle.iscsi_target.specs.State.{breaks}
-use Rattle.iscsi_target.specs.Transfer.{received, with_piece, is_whole, asking, desired, is_idle}
+use Rattle.iscsi_target.specs.Transfer.{received, with_piece, is_whole, with_r2t, desired, is_idle}
 use Rattle.iscsi_target.specs.Execution.{Device, execute}
 
 -- ---- a command
@@ -53,16 +53,16 @@ breaks_burst_rules held h n = is_bad_segment held h n || is_bad_announcement hel
 
 -- ---- a write
 
--- The head of the R2T that goes out next, while so many tasks wait (section 11.8).
+-- The head of the next R2T, while so many tasks wait (section 11.8).
 abbrev pub r2t_head : Session → ℕ → Write → Head
 r2t_head s waiting w = heads.ReadyToTransfer (record {
   lun = w.order.lun;
   initiator_task_tag = w.initiator_task_tag;
-  target_transfer_tag = w.asked;
+  target_transfer_tag = w.r2t_count;
   stat_sn = s.stat_sn;
   exp_cmd_sn = s.exp_cmd_sn;
   max_cmd_sn = max_cmd_sn_with s waiting;
-  r2t_sn = w.asked;
+  r2t_sn = w.r2t_count;
   buffer_offset = received w;
   desired_data_transfer_length = desired s.held w;
 })
@@ -71,19 +71,19 @@ r2t_head s waiting w = heads.ReadyToTransfer (record {
 abbrev pub led_by : Write → Machine → Machine
 led_by w s = record s { tasks = Data w ∷ s.tasks }
 
--- An R2T goes out, which advances no StatSN (section 11.8).
-abbrev pub ask : Machine → Disk → Write → Stepped
-ask s disk w = record (unchanged (led_by (asking s.session.held w) s) disk) {
+-- An R2T is sent, which advances no StatSN (section 11.8).
+abbrev pub send_r2t : Machine → Disk → Write → Stepped
+send_r2t s disk w = record (unchanged (led_by (with_r2t s.session.held w) s) disk) {
   answers = message (r2t_head s.session (waiting (led_by w s).tasks) w) [] ∷ [];
 }
 
 -- The first task is a write, with these behind it: it is executed when all bytes are there; else an
--- R2T goes out where no sequence is due (sections 4.2.5.2 and 11.8; that all blocks are written at
+-- R2T is sent where no sequence is due (sections 4.2.5.2 and 11.8; that all blocks are written at
 -- once is own rule).
 abbrev pub proceed : Device → Machine → Disk → Write → Stepped
 proceed device s disk w =
     if is_whole w then execute device s disk w.initiator_task_tag w.order w.pieces
-    else if is_idle w.due then ask s disk w
+    else if is_idle w.due then send_r2t s disk w
     else unchanged (led_by w s) disk
 
 -- The write of so many bytes that a command with these immediate bytes opens (section 11.3).
@@ -95,7 +95,7 @@ opened h total bytes = record {
   total = total;
   pieces = with_piece [] 0 bytes;
   due = if h.is_final then Nothing else Unsolicited 0;
-  asked = 0;
+  r2t_count = 0;
 }
 
 -- A command by its plan, with the tasks behind it: a write is opened, any other command is executed.

@@ -19,24 +19,24 @@ use Rattle.iscsi_target.specs.State.{Machine, Execution, Stepped, waiting}
 use Rattle.iscsi_stream.specs.Pieces.{Pieces, data_of, chunks}
 use Rattle.iscsi_pdu.specs.Fields.{reserved_tag}
 
--- What a store does with the n-th order of a message, from 0, and its data (own rule).
+-- What a store does with the n-th order of a message, from 0, and its data.
 abbrev pub Device : Type 0
 Device = ℕ → Disk → Order → List ℕ → Effect
 
--- A store that doesn't fail does each time what the order does (own rule).
+-- A store that doesn't fail does each time what the order does.
 abbrev pub reliable : Device
 reliable n = effect
 
--- What is left of it behind one order (own rule).
+-- What is left of it behind one order.
 abbrev pub device_next : Device → Device
 device_next device n = device (n + 1)
 
--- What is left of it behind these orders (own rule).
+-- What is left of it behind these orders.
 abbrev pub device_after : List Execution → Device → Device
 device_after [] device = device
 device_after (e ∷ es) device = device_after es (device_next device)
 
--- ---- data that a command gives
+-- ---- data that a command returns
 
 -- The parts of a run, of which the last is marked (section 11.7.1).
 abbrev pub marked : List (List ℕ) → List (List ℕ × Bool)
@@ -45,12 +45,12 @@ marked (part ∷ []) = (part, true) ∷ []
 marked (part ∷ next ∷ more) = (part, false) ∷ marked (next ∷ more)
 
 -- A run of data in parts, each of at most what the initiator takes in one segment (section 13.12).
-abbrev pub run_given : Held → List ℕ → List (List ℕ × Bool)
-run_given held run = marked (chunks held.initiator_max_recv run)
+abbrev pub sequence_parts : Held → List ℕ → List (List ℕ × Bool)
+sequence_parts held run = marked (chunks held.initiator_max_recv run)
 
 -- Data in runs of MaxBurstLength bytes (sections 11.7.1 and 13.13).
-abbrev pub parts_given : Held → List ℕ → List (List ℕ × Bool)
-parts_given held bytes = flat_map (run_given held) (chunks (max_burst held) bytes)
+abbrev pub data_in_parts : Held → List ℕ → List (List ℕ × Bool)
+data_in_parts held bytes = flat_map (sequence_parts held) (chunks (max_burst held) bytes)
 
 -- The head of a Data-In, while so many tasks wait; the status comes in a response of its own (section
 -- 11.7; own rule).
@@ -129,13 +129,13 @@ command_answers s waiting tag outcome given =
     ∷ []
 
 -- An order was executed with this effect: its data go out, and its response (section 11.4).
-abbrev pub told : Machine → Execution → Effect → Stepped
-told s e effect = record {
+abbrev pub send_outcome : Machine → Execution → Effect → Stepped
+send_outcome s e effect = record {
   machine = record s { session = counted s.session };
   disk = effect.disk;
   answers =
       command_answers s.session (waiting s.tasks) e.initiator_task_tag effect.outcome
-      (parts_given s.session.held effect.outcome.bytes);
+      (data_in_parts s.session.held effect.outcome.bytes);
   rule = None;
   accepted = [];
   executed = e ∷ [];
@@ -144,5 +144,6 @@ told s e effect = record {
 -- An order of a task is executed, with the data of these pieces (section 11.4).
 abbrev pub execute : Device → Machine → Disk → ℕ → Order → Pieces → Stepped
 execute device s disk tag order pieces =
-    told s (record { initiator_task_tag = tag; disk = disk; order = order; pieces = pieces })
+    send_outcome s
+    (record { initiator_task_tag = tag; disk = disk; order = order; pieces = pieces })
     (device 0 disk order (data_of pieces))

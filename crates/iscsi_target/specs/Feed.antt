@@ -1,4 +1,4 @@
--- What the calls of a target do: a stream that comes in pieces (RFC 7143, section 11; own rule).
+-- What the calls of a target do: a stream that comes in pieces (RFC 7143, section 11).
 use Rattle.std.specs.Prelude.{◌≡◌, ◌≢◌, ◌≤◌, ◌<◌, ◌⊎◌, ℕ, Bool, true, false, List, [], ◌∷◌, ◌++◌, length, take, drop, Some, None, Result, Ok, Err}
 use Rattle.std.specs.List.{flat_map}
 use Rattle.scsi_disk.specs.Disk.{Disk}
@@ -19,19 +19,19 @@ use Rattle.iscsi_target.specs.State.{Machine, Stepped, closed, opening, unchange
 use Rattle.iscsi_target.specs.State.{joined}
 use Rattle.iscsi_target.specs.Machine.{is_closed, answers, MayAnswer, MayStop}
 
--- A target between two calls: its session, and what it has of the next PDU (own rule).
+-- A target between two calls: its session, and what it has of the next PDU.
 pub record Connection : Type 0 where
   pub machine : Machine
   pub framing : Framing
 
--- A target to which nothing came (own rule).
+-- A target to which nothing came.
 abbrev pub opening_connection : Settings → ℕ → Connection
 opening_connection settings first_stat_sn = record {
   machine = opening settings first_stat_sn;
   framing = framing.opening (limit settings);
 }
 
--- A store: its blocks, and how often its device failed (own rule).
+-- A store: its blocks, and how often its device failed.
 pub record Store : Type 0 where
   pub disk : Disk
   pub failures : ℕ
@@ -51,23 +51,23 @@ pub record Answers (old : Connection) (before : Store) (bytes : List ℕ) (frami
   pub may : MayAnswer old.machine before.disk before.failures ms r failures
   pub works : after.failures ≡ before.failures → r ≡ answers old.machine before.disk ms
 
--- The session is closed by a fault, with what it held and the stage that it was in (own rule).
+-- The session is closed by a fault, with what it held and the stage that it was in.
 abbrev pub IsShut : Machine → Machine → Type 0
 IsShut machine new = new ≡ closed machine
 
--- The session goes on, and the whole piece was taken (own rule).
+-- The session goes on, and the whole piece was taken.
 pub record GoesOn (piece : List ℕ) (framing : Framing) (n : ℕ) (r : Stepped)
     (new : Connection) : Type 0 where
   pub live : is_closed r.machine ≡ false
   pub all : n ≡ length piece
   pub framing_is : new.framing ≡ framing
 
--- No rule was broken, and the session isn't closed (own rule).
+-- No rule was broken, and the session isn't closed.
 pub record IsLive (r : Stepped) : Type 0 where
   pub rule : r.rule ≡ None
   pub live : is_closed r.machine ≡ false
 
--- What the call answers says what the last PDU led to, and what follows it (own rule).
+-- The call returns what the last PDU led to, and what follows it.
 abbrev pub Ends : List ℕ → Result Phase TargetFault → Framing → ℕ → Stepped → Connection → Type 0
 -- it goes on; or it was closed, and the rest of the piece is dropped
 Ends piece (Ok phase) framing n r new =
@@ -85,14 +85,14 @@ Ends piece (Err (faults.Protocol rule)) framing n r new =
 Ends piece (Err faults.Closed) framing n r new = ⊥
 
 -- The blocks and what was written are those of the PDUs that were answered; no failure was counted
--- behind them (own rule).
+-- behind them.
 pub record Stands (output : List ℕ) (r : Stepped) (counted : ℕ) (after : Store)
     (written : List ℕ) : Type 0 where
   pub failures : after.failures ≡ counted
   pub disk : after.disk ≡ r.disk
   pub output_is : written ≡ output ++ canon r.answers
 
--- The next PDU, of which some tasks were done (own rule).
+-- The next PDU, of which some tasks were done.
 pub record StopsAt (framing : Framing) (rest : List ℕ) (r : Stepped) (counted : ℕ)
     (front : Stepped) (after : ℕ) : Type 0 where
   pub message : Message
@@ -103,7 +103,7 @@ pub record StopsAt (framing : Framing) (rest : List ℕ) (r : Stepped) (counted 
   pub stops : MayStop r.machine r.disk counted message front after
 
 -- Memory ran out behind the PDUs that were answered: nothing more was done, or some tasks of the
--- next PDU. The session is closed (own rule).
+-- next PDU. The session is closed.
 pub record StopsShort (output : List ℕ) (framing : Framing) (rest : List ℕ) (r : Stepped)
     (counted : ℕ) (new : Machine) (after : Store) (written : List ℕ) : Type 0 where
   pub front : Stepped
@@ -114,7 +114,7 @@ pub record StopsShort (output : List ℕ) (framing : Framing) (rest : List ℕ) 
   pub disk : after.disk ≡ front.disk
   pub output_is : written ≡ output ++ canon (r.answers ++ front.answers)
 
--- What a call left, by what it answers (own rule).
+-- What a call left, by what it answers.
 abbrev pub LeavesBy : Result Phase TargetFault → List ℕ → Framing → List ℕ → Stepped → ℕ
     → Machine → Store → List ℕ → Type 0
 LeavesBy (Err faults.NoMemory) output framing rest r counted new after written =
@@ -123,7 +123,7 @@ LeavesBy _ output framing rest r counted new after written =
     Stands output r counted after written
 
 -- A call in a session that isn't closed took the first bytes of the piece, and answered the PDUs
--- that they complete (own rule).
+-- that they complete.
 pub record Feeds (old : Connection) (before : Store) (output piece : List ℕ)
     (result : Result Phase TargetFault) (new : Connection) (after : Store)
     (written : List ℕ) : Type 0 where
@@ -137,7 +137,7 @@ pub record Feeds (old : Connection) (before : Store) (output piece : List ℕ)
       new.machine after written
   pub ends : Ends piece result framing count stepped new
 
--- A closed session stays as it is (own rule).
+-- A closed session stays as it is.
 pub record Stays (old : Connection) (before : Store) (output : List ℕ)
     (result : Result Phase TargetFault) (new : Connection) (after : Store)
     (written : List ℕ) : Type 0 where
@@ -146,7 +146,7 @@ pub record Stays (old : Connection) (before : Store) (output : List ℕ)
   pub store : after ≡ before
   pub output_is : written ≡ output
 
--- What a call of feed does, by whether the session is closed (own rule).
+-- What a call of feed does, by whether the session is closed.
 abbrev pub FedIf : Bool → Connection → Store → List ℕ → List ℕ → Result Phase TargetFault
     → Connection → Store → List ℕ → Type 0
 FedIf true old before output piece result new after written =
@@ -154,7 +154,7 @@ FedIf true old before output piece result new after written =
 FedIf false old before output piece result new after written =
     Feeds old before output piece result new after written
 
--- What a call of feed does with a piece of the stream (own rule).
+-- What a call of feed does with a piece of the stream.
 abbrev pub Fed : Connection → Store → List ℕ → List ℕ → Result Phase TargetFault
     → Connection → Store → List ℕ → Type 0
 Fed old before output piece result new after written =
@@ -163,7 +163,7 @@ Fed old before output piece result new after written =
 -- ---- a call of feed_next
 
 -- A call in a session that isn't closed took the first n bytes, did with them what feed does, and
--- answered one PDU at most (own rule).
+-- answered one PDU at most.
 pub record FeedsOne (old : Connection) (before : Store) (output piece : List ℕ) (n : ℕ)
     (phase : Phase) (new : Connection) (after : Store) (written : List ℕ) : Type 0 where
   pub bound : n ≤ length piece
@@ -171,7 +171,7 @@ pub record FeedsOne (old : Connection) (before : Store) (output piece : List ℕ
   pub fed : Feeds old before output (take n piece) (Ok phase) new after written
   pub one : length fed.messages ≤ 1
 
--- A call that fails is one of feed with the piece (own rule).
+-- A call that fails is one of feed with the piece.
 abbrev pub FeedsNext : Connection → Store → List ℕ → List ℕ → Result (ℕ × Phase) TargetFault
     → Connection → Store → List ℕ → Type 0
 FeedsNext old before output piece (Ok done) new after written =
@@ -179,7 +179,7 @@ FeedsNext old before output piece (Ok done) new after written =
 FeedsNext old before output piece (Err fault) new after written =
     Feeds old before output piece (Err fault) new after written
 
--- What a call of feed_next does, by whether the session is closed (own rule).
+-- What a call of feed_next does, by whether the session is closed.
 abbrev pub FedNextIf : Bool → Connection → Store → List ℕ → List ℕ
     → Result (ℕ × Phase) TargetFault → Connection → Store → List ℕ → Type 0
 FedNextIf true old before output piece result new after written =
@@ -187,7 +187,7 @@ FedNextIf true old before output piece result new after written =
 FedNextIf false old before output piece result new after written =
     FeedsNext old before output piece result new after written
 
--- What a call of feed_next does with a piece of the stream (own rule).
+-- What a call of feed_next does with a piece of the stream.
 abbrev pub FedNext : Connection → Store → List ℕ → List ℕ → Result (ℕ × Phase) TargetFault
     → Connection → Store → List ℕ → Type 0
 FedNext old before output piece result new after written =
@@ -195,7 +195,7 @@ FedNext old before output piece result new after written =
 
 -- ---- a call of finish
 
--- What a call of finish does: the stream ends between two PDUs, or within one (own rule).
+-- What a call of finish does: the stream ends between two PDUs, or within one.
 abbrev pub Finishes : Connection → Result (Unit {0}) TargetFault → Connection → Type 0
 Finishes old (Ok _) new = (is_closed old.machine ≡ false) × (new ≡ old) × (old.framing.held ≡ [])
 Finishes old (Err faults.Closed) new = (is_closed old.machine ≡ true) × (new ≡ old)
@@ -206,7 +206,7 @@ Finishes old (Err (faults.Protocol rule)) new = ⊥
 
 -- ---- a whole stream, in whatever pieces
 
--- From the opening state this stream was taken, and these bytes were written (own rule).
+-- From the opening state this stream was taken, and these bytes were written.
 pub record HasAnswered (settings : Settings) (first_stat_sn : ℕ) (disk : Disk) (stream : List ℕ)
     (now : Connection) (disk_now : Disk) (written : List ℕ) : Type 0 where
   pub messages : List Message
@@ -216,16 +216,16 @@ pub record HasAnswered (settings : Settings) (first_stat_sn : ℕ) (disk : Disk)
   pub disk_is : disk_now ≡ (answers (opening settings first_stat_sn) disk messages).disk
   pub output_is : written ≡ canon (answers (opening settings first_stat_sn) disk messages).answers
 
--- The stream that comes in these pieces (own rule).
+-- The stream that comes in these pieces.
 abbrev pub stream_of : List (List ℕ) → List ℕ
 stream_of pieces = flat_map (λ piece. piece) pieces
 
--- Memory was there, and the device didn't fail (own rule).
+-- Memory was there, and the device didn't fail.
 pub record GoesWell (result : Result Phase TargetFault) (before after : Store) : Type 0 where
   pub memory : result ≢ Err faults.NoMemory
   pub device : after.failures ≡ before.failures
 
--- Calls of feed with pieces of a stream, one after another, which all go well (own rule).
+-- Calls of feed with pieces of a stream, one after another, which all go well.
 unfoldable pub FedAll : Connection → Store → List ℕ → List (List ℕ)
     → Connection → Store → List ℕ → Type 0
 FedAll old before output [] new after written =
@@ -236,7 +236,7 @@ FedAll old before output (piece ∷ pieces) new after written =
     × FedAll now store out pieces new after written
 
 -- The target is where these messages lead to from the opening state, and so are the blocks and what
--- was written; of each write the program keeps the bytes as one piece (own rule).
+-- was written; of each write the program keeps the bytes as one piece.
 pub record Meets (settings : Settings) (first_stat_sn : ℕ) (disk : Disk) (messages : List Message)
     (now : Connection) (disk_now : Disk) (written : List ℕ) : Type 0 where
   pub machine :
@@ -244,8 +244,7 @@ pub record Meets (settings : Settings) (first_stat_sn : ℕ) (disk : Disk) (mess
   pub disk_is : disk_now ≡ (answers (opening settings first_stat_sn) disk messages).disk
   pub output_is : written ≡ canon (answers (opening settings first_stat_sn) disk messages).answers
 
--- The blocks and what was written are those that these messages lead to from the opening state (own
--- rule).
+-- The blocks and what was written are those that these messages lead to from the opening state.
 pub record Writes (settings : Settings) (first_stat_sn : ℕ) (disk : Disk) (messages : List Message)
     (disk_now : Disk) (written : List ℕ) : Type 0 where
   pub disk_is : disk_now ≡ (answers (opening settings first_stat_sn) disk messages).disk
@@ -260,7 +259,7 @@ Refuses limit bytes =
     ⊎ ((head : Head) × (len : ℕ) × IsHeader (take 48 bytes) head len × (limit < len)))
 
 -- The session is where these messages lead to from the opening state, or was closed there. It is
--- closed where they close it, and where the rest begins with a header that is refused (own rule).
+-- closed where they close it, and where the rest begins with a header that is refused.
 pub record Holds (settings : Settings) (first_stat_sn : ℕ) (disk : Disk) (messages : List Message)
     (rest : List ℕ) (now : Machine) : Type 0 where
   pub machine : closed now ≡ closed (answers (opening settings first_stat_sn) disk messages).machine
@@ -271,8 +270,8 @@ pub record Holds (settings : Settings) (first_stat_sn : ℕ) (disk : Disk) (mess
       ⊎ Refuses (limit settings) rest
   pub refuses : Refuses (limit settings) rest → is_closed now ≡ true
 
--- Two sessions hold the same values, are in the same stage and phase, and are equal while they go on
--- (own rule).
+-- Two sessions hold the same values, are in the same stage and phase, and are equal while they go
+-- on.
 pub record SameSession (a b : Machine) : Type 0 where
   pub held : b.session.held ≡ a.session.held
   pub stage : b.session.stage ≡ a.session.stage
@@ -281,13 +280,13 @@ pub record SameSession (a b : Machine) : Type 0 where
 
 -- ---- one outcome
 
--- Two targets that do the same from now on: while the session goes on they have the same of the next
--- PDU too (own rule).
+-- Two targets that do the same from now on: while the session goes on they have the same of the
+-- next PDU too.
 pub record Alike (a b : Connection) : Type 0 where
   pub machine : b.machine ≡ a.machine
   pub framing : is_closed a.machine ≡ false → b.framing ≡ a.framing
 
--- Two calls of feed that answered the same, and left the same (own rule).
+-- Two calls of feed that answered the same, and left the same.
 pub record FedAlike (result other : Result Phase TargetFault) (a b : Connection)
     (disk_now other_disk : Disk) (written rewritten : List ℕ) : Type 0 where
   pub answered : other ≡ result

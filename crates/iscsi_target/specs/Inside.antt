@@ -30,7 +30,7 @@ use Rattle.iscsi_target.specs.declared.due.Due.TheVariants.{Solicited}
 
 -- ---- tasks as a program keeps them
 
--- The tasks behind the first (own rule).
+-- The tasks behind the first.
 abbrev pub behind : List Task → List Task
 behind [] = []
 behind (task ∷ more) = more
@@ -39,12 +39,12 @@ behind (task ∷ more) = more
 abbrev pub TakePlaces : List Task → Type 0
 TakePlaces tasks = AllByRecursion (λ task. takes_place task ≡ true) tasks
 
--- The first alone may be an immediate one, and the bytes of each write stand as one piece (own rule).
+-- The first alone may be an immediate one, and the bytes of each write stand as one piece.
 pub record AreInPlace (tasks : List Task) : Type 0 where
   pub places : TakePlaces (behind tasks)
   pub joined : map joined_task tasks ≡ tasks
 
--- The write with this tag stands at this place; put back there it is the one in its place (own rule).
+-- The write with this tag stands at this place; put back there it is the one in its place.
 pub record IsWriteAt (tag : ℕ) (tasks : List Task) (place : ℕ) : Type 0 where
   pub write : Write
   pub within : place < length tasks
@@ -55,30 +55,29 @@ pub record IsWriteAt (tag : ℕ) (tasks : List Task) (place : ℕ) : Type 0 wher
 
 -- ---- tasks between two PDUs
 
--- The first task is a write that waits for data (own rule).
+-- The first task is a write that waits for data.
 abbrev pub IsPending : List Task → Type 0
 IsPending [] = Unit {0}
 IsPending (Request m ∷ more) = ⊥
 IsPending (Data w ∷ more) = (is_whole w ≡ false) × (is_idle w.due ≡ false)
 
--- No R2T went out for what is due (section 11.8).
+-- No R2T was sent for what is due (section 11.8).
 abbrev pub is_unasked : Due → Bool
 is_unasked (Solicited tag data_sn end) = false
 is_unasked _ = true
 
--- No R2T went out for the task (section 11.8).
+-- No R2T was sent for the task (section 11.8).
 abbrev pub IsUnasked : Task → Type 0
 IsUnasked (Request m) = Unit {0}
 IsUnasked (Data w) = is_unasked w.due ≡ true
 
--- The first task is a write that waits for data, and no R2T went out for one behind it (section
+-- The first task is a write that waits for data, and no R2T was sent for one behind it (section
 -- 11.8).
 pub record AreKept (tasks : List Task) : Type 0 where
   pub pending : IsPending tasks
   pub unasked : AllByRecursion IsUnasked (behind tasks)
 
--- The rule that a request breaks as it is accepted, if it breaks one (sections 11.2.1.8 and 13.14;
--- own rule).
+-- The rule that a request breaks as it is accepted, if it breaks one (sections 11.2.1.8 and 13.14).
 abbrev pub refusal : Machine → Message → Option ℕ
 refusal s m =
     if is_tag_of s.tasks (tag_of m.head) then Some kind_not_due
@@ -89,7 +88,7 @@ refusal s m =
 -- ---- a step
 
 -- What was done with a message that leaves the disk: it was answered so, or memory ran out, with
--- the target as it was but for what a closed one drops (own rule).
+-- the target as it was but for what a closed one drops.
 pub record Leaves {E : Type 0} (r : Stepped) (result : Result (Option ℕ) E) (old new : Machine)
     (before after : List ℕ) : Type 0 where
   pub machine : OnOk result (new ≡ r.machine)
@@ -99,7 +98,7 @@ pub record Leaves {E : Type 0} (r : Stepped) (result : Result (Option ℕ) E) (o
   pub unwritten : OnErr result (after ≡ before)
 
 -- What any message leads to, over a store whose failures were counted before and after, execution
--- by execution (own rule).
+-- by execution.
 pub record Serves (failures_before failures_after : ℕ) (step : Device → Stepped) (broken : Option ℕ)
     (new : Machine) (now : Disk) (before after : List ℕ) : Type 0 where
   pub device : Device
@@ -112,7 +111,7 @@ pub record Serves (failures_before failures_after : ℕ) (step : Device → Step
   pub rule_is : broken ≡ (step device).rule
 
 -- A message was not answered: nothing was written, no block changed, and but for what a closed
--- session drops the session is as it was (own rule).
+-- session drops the session is as it was.
 pub record GivesUp (failures_before failures_after : ℕ) (old new : Machine) (disk now : Disk)
     (before after : List ℕ) : Type 0 where
   pub machine : closed new ≡ closed old
@@ -120,7 +119,7 @@ pub record GivesUp (failures_before failures_after : ℕ) (old new : Machine) (d
   pub disk_is : now ≡ disk
   pub unwritten : after ≡ before
 
--- What was done with a task, over a store: it was handled so, or memory ran out (own rule).
+-- What was done with a task, over a store: it was handled so, or memory ran out.
 pub record Handles {E : Type 0} (step : Device → Stepped) (result : Result (Option ℕ) E)
     (old : Machine) (before : Store) (output : List ℕ)
     (new : Machine) (after : Store) (written : List ℕ) : Type 0 where
@@ -129,7 +128,7 @@ pub record Handles {E : Type 0} (step : Device → Stepped) (result : Result (Op
   pub err : OnErr result (GivesUp before.failures after.failures
       old new before.disk after.disk output written)
 
--- Memory ran out at one of these tasks: those before it were done, and it changed nothing (own rule).
+-- Memory ran out at one of these tasks: those before it were done, and it changed nothing.
 pub record Stops (failures_before failures_after : ℕ) (session : Session) (disk : Disk)
     (tasks : List Task) (new : Machine) (now : Disk) (before after : List ℕ) : Type 0 where
   pub done : ℕ
@@ -142,7 +141,7 @@ pub record Stops (failures_before failures_after : ℕ) (session : Session) (dis
   pub disk_is : now ≡ (done_first done device session disk tasks).disk
   pub output : after ≡ before ++ canon (done_first done device session disk tasks).answers
 
--- What was done with tasks in their turn, over a store (own rule).
+-- What was done with tasks in their turn, over a store.
 pub record Works {E : Type 0} (session : Session) (tasks : List Task) (result : Result (Option ℕ) E)
     (before : Store) (output : List ℕ)
     (new : Machine) (after : Store) (written : List ℕ) : Type 0 where
@@ -152,13 +151,13 @@ pub record Works {E : Type 0} (session : Session) (tasks : List Task) (result : 
   pub err : OnErr result (Stops before.failures after.failures session before.disk tasks
       new after.disk output written)
 
--- Memory ran out at what comes of a PDU: at one of the tasks, or before anything was done (own rule).
+-- Memory ran out at what comes of a PDU: at one of the tasks, or before anything was done.
 abbrev pub Halts : ℕ → ℕ → Machine → Disk → Next → Machine → Disk → List ℕ → List ℕ → Type 0
 Halts fb fa old disk (Queued session tasks) new now before after =
     Stops fb fa session disk tasks new now before after
 Halts fb fa old disk _ new now before after = GivesUp fb fa old new disk now before after
 
--- What was done with a PDU of which this comes, over a store (own rule).
+-- What was done with a PDU of which this comes, over a store.
 pub record Follows {E : Type 0} (next : Next) (result : Result (Option ℕ) E)
     (old : Machine) (before : Store) (output : List ℕ)
     (new : Machine) (after : Store) (written : List ℕ) : Type 0 where
@@ -168,15 +167,14 @@ pub record Follows {E : Type 0} (next : Next) (result : Result (Option ℕ) E)
   pub err : OnErr result (Halts before.failures after.failures old before.disk next
       new after.disk output written)
 
--- Memory ran out at a message: at one of the tasks that it leads to, or before anything was done (own
--- rule).
+-- Memory ran out at a message: at one of the tasks that it leads to, or before anything was done.
 abbrev pub HaltsAt : ℕ → ℕ → Machine → Disk → Message → Machine → Disk → List ℕ → List ℕ → Type 0
 HaltsAt fb fa old disk m new now before after =
     GivesUp fb fa old new disk now before after
     ⊎ ((old.session.phase ≡ phases.Full)
     × Halts fb fa old disk (full_met old disk.count m).next new now before after)
 
--- What was done with a message, over a store (own rule).
+-- What was done with a message, over a store.
 pub record Answers {E : Type 0} (m : Message) (result : Result (Option ℕ) E)
     (old : Machine) (before : Store) (output : List ℕ)
     (new : Machine) (after : Store) (written : List ℕ) : Type 0 where
@@ -188,15 +186,15 @@ pub record Answers {E : Type 0} (m : Message) (result : Result (Option ℕ) E)
 
 -- ---- the next PDU
 
--- The two parts of a target between two calls (own rule).
+-- The two parts of a target between two calls.
 abbrev pub connection : Machine → Framing → Connection
 connection machine framing = record { machine = machine; framing = framing }
 
--- The two facts of a store (own rule).
+-- The two facts of a store.
 abbrev pub store_of : Disk → ℕ → Store
 store_of disk failures = record { disk = disk; failures = failures }
 
--- No PDU is ready, and nothing was done (own rule).
+-- No PDU is ready, and nothing was done.
 pub record IsUnready (old : Connection) (before : Store) (output : List ℕ)
     (broken : Option ℕ) (new : Connection) (after : Store) (written : List ℕ) : Type 0 where
   pub unready : is_ready old.framing ≡ false
@@ -205,7 +203,7 @@ pub record IsUnready (old : Connection) (before : Store) (output : List ℕ)
   pub output_is : written ≡ output
   pub rule_is : broken ≡ None
 
--- The PDU that is ready was answered and given up (own rule).
+-- The PDU that is ready was answered, and the framer is free for the next one.
 pub record IsAnswered (old : Connection) (before : Store) (output : List ℕ)
     (broken : Option ℕ) (new : Connection) (after : Store) (written : List ℕ) : Type 0 where
   pub head : Head
@@ -216,15 +214,14 @@ pub record IsAnswered (old : Connection) (before : Store) (output : List ℕ)
       (λ device. step_on device old.machine before.disk (message_of old.framing head segment))
       broken new.machine after.disk output written
 
--- The PDU that is ready was answered, if one is (own rule).
+-- The PDU that is ready was answered, if one is.
 abbrev pub AnswersReady : Connection → Store → List ℕ → Option ℕ → Connection → Store → List ℕ
     → Type 0
 AnswersReady old before output broken new after written =
     IsUnready old before output broken new after written
     ⊎ IsAnswered old before output broken new after written
 
--- Memory ran out at the PDU that is ready: the session is closed, and the PDU is given up (own
--- rule).
+-- Memory ran out at the PDU that is ready: the session is closed, and the PDU is dropped.
 pub record ShutsReady (old : Connection) (before : Store) (output : List ℕ)
     (new : Connection) (after : Store) (written : List ℕ) : Type 0 where
   pub head : Head
@@ -237,7 +234,7 @@ pub record ShutsReady (old : Connection) (before : Store) (output : List ℕ)
   pub halts : HaltsAt before.failures after.failures old.machine before.disk
       (message_of old.framing head segment) new.machine after.disk output written
 
--- The rest of a stream is refused so (own rule).
+-- The rest of a stream is refused so.
 abbrev pub RestFails : Framing → List ℕ → TargetFault → Type 0
 RestFails framing rest faults.NoMemory = Unit {0}
 RestFails framing rest (faults.Stream fault) =
@@ -245,15 +242,14 @@ RestFails framing rest (faults.Stream fault) =
 RestFails framing rest (faults.Protocol rule) = ⊥
 RestFails framing rest faults.Closed = ⊥
 
--- Bytes were taken up to the end of a PDU or of the piece, and the PDU was answered if it is whole
--- (own rule).
+-- Bytes were taken up to the end of a PDU or of the piece, and the PDU was answered if it is whole.
 pub record TakesOne (old : Connection) (before : Store) (output piece : List ℕ) (n : ℕ)
     (broken : Option ℕ) (new : Connection) (after : Store) (written : List ℕ) : Type 0 where
   pub framing : Framing
   pub takes : Takes old.framing piece n framing
   pub answers : AnswersReady (connection old.machine framing) before output broken new after written
 
--- The bytes are refused: the session is closed (own rule).
+-- The bytes are refused: the session is closed.
 pub record AreRefused (old : Connection) (before : Store) (output piece : List ℕ)
     (fault : TargetFault) (new : Connection) (after : Store) (written : List ℕ) : Type 0 where
   pub fails : RestFails old.framing piece fault
@@ -261,7 +257,7 @@ pub record AreRefused (old : Connection) (before : Store) (output piece : List �
   pub store_is : after ≡ before
   pub output_is : written ≡ output
 
--- Memory ran out at the PDU that they complete (own rule).
+-- Memory ran out at the PDU that they complete.
 pub record RunsOut (old : Connection) (before : Store) (output piece : List ℕ)
     (fault : TargetFault) (new : Connection) (after : Store) (written : List ℕ) : Type 0 where
   pub memory : fault ≡ faults.NoMemory
@@ -270,14 +266,14 @@ pub record RunsOut (old : Connection) (before : Store) (output piece : List ℕ)
   pub takes : Takes old.framing piece count framing
   pub shuts : ShutsReady (connection old.machine framing) before output new after written
 
--- Why no bytes could be taken, or no PDU answered (own rule).
+-- Why no bytes could be taken, or no PDU answered.
 abbrev pub FailsOne : Connection → Store → List ℕ → List ℕ → TargetFault
     → Connection → Store → List ℕ → Type 0
 FailsOne old before output piece fault new after written =
     AreRefused old before output piece fault new after written
     ⊎ RunsOut old before output piece fault new after written
 
--- A stream's `NoMemory` is the target's own (own rule).
+-- A stream's `NoMemory` is the target's own.
 abbrev pub target_fault : StreamFault → TargetFault
 target_fault stream.NoMemory = faults.NoMemory
 target_fault (stream.Head fault place) = faults.Stream (stream.Head fault place)

@@ -27,7 +27,7 @@ use Rattle.iscsi_target.specs.Machine.{is_closed, is_due_kind, is_too_long}
 abbrev pub CountOn : ℕ → List ℕ → Type 0
 CountOn n numbers = (k : ℕ) → k < length numbers → slice_index numbers k ≡ (n + k) % 2 ^ 32
 
--- The numbers that there are (own rule).
+-- The numbers that there are.
 abbrev pub given_number : Option ℕ → List ℕ
 given_number None = []
 given_number (Some n) = n ∷ []
@@ -108,14 +108,14 @@ abbrev pub supplied : Execution → Supplied
 supplied e = (e.order, data_of e.pieces)
 
 -- What was executed did what the order does, or what it may do where the device fails, and left
--- this (own rule).
+-- this.
 abbrev pub MayLeave : Execution → Effect → Type 0
 MayLeave e after =
     (after ≡ effect e.disk e.order (data_of e.pieces))
     ⊎ FailsBy (plan_of e.order e.disk.count) e.disk e.order (data_of e.pieces) after
 
 -- What was executed, one after another, leads from one disk to another, each on the disk that the
--- one before left (own rule).
+-- one before left.
 unfoldable pub Leads : Disk → List Execution → Disk → Type 0
 Leads disk [] last = last ≡ disk
 Leads disk (e ∷ es) last =
@@ -160,11 +160,11 @@ pub record IsOutside (s : Machine) (m : Message) : Type 0 where
 
 -- ---- pieces joined
 
--- What was executed, with its bytes as one piece (own rule).
+-- What was executed, with its bytes as one piece.
 abbrev pub joined_execution : Execution → Execution
 joined_execution e = record e { pieces = with_piece [] 0 (data_of e.pieces) }
 
--- What a message does, with the bytes of each write as one piece (own rule).
+-- What a message does, with the bytes of each write as one piece.
 abbrev pub joined_stepped : Stepped → Stepped
 joined_stepped r = record r {
   machine = joined r.machine;

@@ -2,7 +2,7 @@
 --
 -- `step` is one message, and `answers` any number of them. What comes of a PDU in full feature phase
 -- (`full_met`) is apart from the tasks that are done (`done_in_turn`). A login stands in `Login`,
--- SCSI commands in `Command`, the other requests in `Requests` and `Discovery`.
+-- SCSI commands in `Command`, the other requests in `Requests` and `TextRequests`.
 use Rattle.std.specs.Prelude.{◌≡◌, ◌≤◌, ℕ, zero, suc, Bool, true, false, not, ◌==◌, ◌||◌, nat_lt, if◌then◌else◌, List, [], ◌∷◌, ◌++◌, length, Option, Some, None}
 use Rattle.std.specs.List.{list_any}
 use Rattle.scsi_disk.specs.Disk.{Disk}
@@ -45,7 +45,17 @@ is_due_kind session (heads.LogoutRequest h) = true
 is_due_kind session (heads.ScsiCommand h) = is_normal session
 is_due_kind session (heads.DataOut h) = is_normal session
 is_due_kind session (heads.TaskRequest h) = is_normal session
-is_due_kind session _ = false
+is_due_kind session (heads.LoginRequest h) = false
+is_due_kind session (heads.NopIn h) = false
+is_due_kind session (heads.ScsiResponse h) = false
+is_due_kind session (heads.TaskResponse h) = false
+is_due_kind session (heads.LoginResponse h) = false
+is_due_kind session (heads.TextResponse h) = false
+is_due_kind session (heads.DataIn h) = false
+is_due_kind session (heads.LogoutResponse h) = false
+is_due_kind session (heads.ReadyToTransfer h) = false
+is_due_kind session (heads.AsyncMessage h) = false
+is_due_kind session (heads.Reject h) = false
 
 -- A request that is the first task, with those behind it (section 4.2.4).
 abbrev pub handled : Device → Machine → Disk → Message → Head → Stepped
@@ -61,25 +71,25 @@ abbrev pub begun : Device → Machine → Disk → Task → Stepped
 begun device s disk (Request m) = handled device s disk m m.head
 begun device s disk (Data w) = proceed device s disk w
 
--- With these behind it the task stays the first: a write whose data are not all there (own rule).
+-- With these behind it the task stays the first: a write whose data are not all there.
 abbrev pub stays : List Task → Stepped → Bool
 stays more r = nat_lt (length more) (length r.machine.tasks)
 
--- The session is over (own rule).
+-- The session is over.
 abbrev pub is_closed : Machine → Bool
 is_closed s = is_closed_phase s.session.phase
 
--- There is a task (own rule).
+-- There is a task.
 abbrev pub is_busy : List Task → Bool
 is_busy [] = false
 is_busy (task ∷ more) = true
 
--- The rule that was broken first (own rule).
+-- The rule that was broken first.
 abbrev pub first_rule : Option ℕ → Option ℕ → Option ℕ
 first_rule None later = later
 first_rule (Some rule) later = Some rule
 
--- What came first, and what came then (own rule).
+-- What came first, and what came then.
 abbrev pub then_stepped : Stepped → Stepped → Stepped
 then_stepped first later = record {
   machine = later.machine;
@@ -100,7 +110,7 @@ done_in_turn device s disk (task ∷ more) =
     else then_stepped r
     (done_in_turn (device_after r.executed device) r.machine.session r.disk more)
 
--- So many tasks in their order, as far as they are done (own rule).
+-- So many tasks in their order, as far as they are done.
 unfoldable pub done_first : ℕ → Device → Session → Disk → List Task → Stepped
 done_first zero device s disk tasks =
     unchanged (record { session = s; tasks = tasks }) disk
@@ -113,19 +123,19 @@ done_first (suc k) device s disk (task ∷ more) =
 
 -- ---- what comes of a PDU
 
--- What comes of a PDU: it is dropped, it is answered at once, or a task begins or goes on, and tasks
--- are done in their turn (own rule).
+-- What comes of a PDU: it is dropped, it is answered at once, or a task begins or goes on, and
+-- tasks are done in their turn.
 pub data Next : Type 0 where
   Dropped : Next
   Answered : Reply → Next
   Queued : Session → List Task → Next
 
--- What comes of a PDU, and the request that was accepted, if it is one (own rule).
+-- What comes of a PDU, and the request that was accepted, if it is one.
 pub record Met : Type 0 where
   pub accepted : List Message
   pub next : Next
 
--- It is no request that is accepted (own rule).
+-- It is no request that is accepted.
 abbrev pub plainly : Next → Met
 plainly next = record { accepted = []; next = next }
 
@@ -133,7 +143,7 @@ plainly next = record { accepted = []; next = next }
 abbrev pub accepting : Message → Next → Met
 accepting m next = record { accepted = m ∷ []; next = next }
 
--- The PDU broke the rule (own rule).
+-- The PDU broke the rule.
 abbrev pub broken : Machine → ℕ → Message → Next
 broken s rule m = Answered (breach s.session (waiting s.tasks) rule m)
 
@@ -151,7 +161,7 @@ write_of (Request m ∷ more) tag = write_of more tag
 write_of (Data w ∷ more) tag =
     if w.initiator_task_tag == tag then Some w else write_of more tag
 
--- The tasks with this write in place of the one with its tag (own rule).
+-- The tasks with this write in place of the one with its tag.
 abbrev pub with_write : Write → List Task → List Task
 with_write v [] = []
 with_write v (Request m ∷ more) = Request m ∷ with_write v more
@@ -184,14 +194,25 @@ tag_of (heads.ScsiCommand h) = Some h.initiator_task_tag
 tag_of (heads.TaskRequest h) = Some h.initiator_task_tag
 tag_of (heads.TextRequest h) = Some h.initiator_task_tag
 tag_of (heads.LogoutRequest h) = Some h.initiator_task_tag
-tag_of _ = None
+tag_of (heads.LoginRequest h) = None
+tag_of (heads.DataOut h) = None
+tag_of (heads.NopIn h) = None
+tag_of (heads.ScsiResponse h) = None
+tag_of (heads.TaskResponse h) = None
+tag_of (heads.LoginResponse h) = None
+tag_of (heads.TextResponse h) = None
+tag_of (heads.DataIn h) = None
+tag_of (heads.LogoutResponse h) = None
+tag_of (heads.ReadyToTransfer h) = None
+tag_of (heads.AsyncMessage h) = None
+tag_of (heads.Reject h) = None
 
 -- The tag of a task (section 11.2.1.8).
 abbrev pub task_tag : Task → Option ℕ
 task_tag (Request m) = tag_of m.head
 task_tag (Data w) = Some w.initiator_task_tag
 
--- Both are there, and alike (own rule).
+-- Both are there, and alike.
 abbrev pub is_same_tag : Option ℕ → Option ℕ → Bool
 is_same_tag (Some a) (Some b) = a == b
 is_same_tag _ _ = false
@@ -246,7 +267,17 @@ due_met s count m (heads.TaskRequest h) = request s count m h.immediate h.cmd_sn
 due_met s count m (heads.TextRequest h) = request s count m h.immediate h.cmd_sn
 due_met s count m (heads.LogoutRequest h) = request s count m h.immediate h.cmd_sn
 due_met s count m (heads.ScsiCommand h) = request s count m h.immediate h.cmd_sn
-due_met s count m _ = plainly (broken s kind_not_due m)
+due_met s count m (heads.LoginRequest h) = plainly (broken s kind_not_due m)
+due_met s count m (heads.NopIn h) = plainly (broken s kind_not_due m)
+due_met s count m (heads.ScsiResponse h) = plainly (broken s kind_not_due m)
+due_met s count m (heads.TaskResponse h) = plainly (broken s kind_not_due m)
+due_met s count m (heads.LoginResponse h) = plainly (broken s kind_not_due m)
+due_met s count m (heads.TextResponse h) = plainly (broken s kind_not_due m)
+due_met s count m (heads.DataIn h) = plainly (broken s kind_not_due m)
+due_met s count m (heads.LogoutResponse h) = plainly (broken s kind_not_due m)
+due_met s count m (heads.ReadyToTransfer h) = plainly (broken s kind_not_due m)
+due_met s count m (heads.AsyncMessage h) = plainly (broken s kind_not_due m)
+due_met s count m (heads.Reject h) = plainly (broken s kind_not_due m)
 
 -- The segment has more bytes than the target takes (section 13.12).
 abbrev pub is_too_long : Machine → Message → Bool
@@ -260,7 +291,7 @@ full_met s count m =
     else if is_too_long s m then plainly (broken s segment_too_long m)
     else due_met s count m m.head
 
--- What comes of it, over a store that does so with orders (own rule).
+-- What comes of it, over a store that does so with orders.
 abbrev pub followed : Device → Machine → Disk → Next → Stepped
 followed device s disk Dropped = unchanged s disk
 followed device s disk (Answered r) = on disk s.tasks r
@@ -278,7 +309,7 @@ full_step device s disk m =
 
 -- ---- one message
 
--- A segment is longer than the framer takes (own rule).
+-- A segment is longer than the framer takes.
 abbrev pub is_over_limit : Machine → Segment → Bool
 is_over_limit s (Bytes bytes) = nat_lt (limit s.session.settings) (length bytes)
 is_over_limit s (Text pairs) = false
@@ -297,13 +328,13 @@ step_on device s disk m =
     else if is_over_limit s m.segment then shut_down s disk
     else phase_step device s.session.phase s disk m
 
--- One message, over a store that doesn't fail (own rule).
+-- One message, over a store that doesn't fail.
 abbrev pub step : Machine → Disk → Message → Stepped
 step s disk m = step_on reliable s disk m
 
 -- ---- messages one after another
 
--- Any messages, over a store that doesn't fail (own rule).
+-- Any messages, over a store that doesn't fail.
 unfoldable pub answers : Machine → Disk → List Message → Stepped
 answers s disk [] = unchanged s disk
 answers s disk (m ∷ ms) =
@@ -311,8 +342,8 @@ answers s disk (m ∷ ms) =
 
 -- ---- a store that may fail
 
--- The orders were executed one after another, from one count of the store's failures to another: each did what the
--- order does where the count stayed, and failed where it rose (own rule).
+-- The orders were executed one after another, from one count of the store's failures to another:
+-- each did what the order does where the count stayed, and failed where it rose.
 abbrev pub RunsIn : Device → ℕ → List Execution → ℕ → Type 0
 RunsIn device before [] after = after ≡ before
 RunsIn device before (e ∷ es) after =
@@ -321,8 +352,7 @@ RunsIn device before (e ∷ es) after =
     (device 0 e.disk e.order (data_of e.pieces))
     × RunsIn (device_next device) now es after
 
--- One message, over a store that may fail, whose failures were counted before and behind it (own
--- rule).
+-- One message, over a store that may fail, whose failures were counted before and behind it.
 pub record MayStep (s : Machine) (disk : Disk) (before : ℕ) (m : Message) (r : Stepped)
     (after : ℕ) : Type 0 where
   pub device : Device
@@ -330,7 +360,7 @@ pub record MayStep (s : Machine) (disk : Disk) (before : ℕ) (m : Message) (r :
   pub runs : RunsIn device before r.executed after
 
 -- One message at which memory ran out, over a store that may fail: some of the tasks were done, in
--- their order, and the one at which it ran out changed nothing (own rule).
+-- their order, and the one at which it ran out changed nothing.
 pub record MayStop (s : Machine) (disk : Disk) (before : ℕ) (m : Message) (r : Stepped)
     (after : ℕ) : Type 0 where
   pub full : s.session.phase ≡ phases.Full
@@ -345,7 +375,7 @@ pub record MayStop (s : Machine) (disk : Disk) (before : ℕ) (m : Message) (r :
   pub runs : RunsIn device before r.executed failures
   pub rises : failures ≤ after
 
--- Any messages, over a store that may fail (own rule).
+-- Any messages, over a store that may fail.
 unfoldable pub MayAnswer : Machine → Disk → ℕ → List Message → Stepped → ℕ → Type 0
 MayAnswer s disk before [] r after = (r ≡ unchanged s disk) × (after ≡ before)
 MayAnswer s disk before (m ∷ ms) r after =

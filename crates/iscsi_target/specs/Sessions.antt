@@ -1,8 +1,8 @@
 -- Three worked sessions: a login, where it leads, and a write (RFC 7143, sections 6.3 and 4.2.5.2).
 -- Others are computed in the proofs of the law `worked_sessions`.
 use Rattle.std.specs.Prelude.{◌≡◌, ℕ, Bool, true, false, List, [], ◌∷◌, ◌++◌, Some, None, codes}
-use Rattle.scsi_cdb.specs.declared.block.Cdb.{Cdb}
-use Rattle.scsi_cdb.specs.declared.block.Cdb.TheVariants as cdbs
+use Rattle.scsi_cdb.specs.declared.cdb.Cdb.{Cdb}
+use Rattle.scsi_cdb.specs.declared.cdb.Cdb.TheVariants as cdbs
 use Rattle.scsi_disk.specs.Disk.{blocks_from}
 use Rattle.iscsi_pdu.specs.declared.head.Head.TheVariants as heads
 use Rattle.iscsi_stream.specs.Segment.{Bytes}
@@ -91,7 +91,7 @@ read_of_one = cdbs.Read10 (record {
   control = 0;
 })
 
--- A read waits for a write before it, and gives what that wrote (section 4.2.2.1).
+-- A read waits for a write before it, and returns what that wrote (section 4.2.2.1).
 abbrev pub ReadWaits : Type 0
 ReadWaits = Row logged_in
     (orders (command true false true 4096 write_of_eight) (fill 1)

@@ -36,7 +36,7 @@ abbrev pub opening : Settings → ℕ → Machine
 opening settings first_stat_sn =
     record { session = opening_session settings first_stat_sn; tasks = [] }
 
--- The session is over; what was gathered is dropped, and so are the tasks (own rule).
+-- The session is over; what was gathered is dropped, and so are the tasks.
 abbrev pub closed : Machine → Machine
 closed s = record { session = ended s.session; tasks = [] }
 
@@ -44,26 +44,26 @@ closed s = record { session = ended s.session; tasks = [] }
 abbrev pub max_cmd_sn : Machine → ℕ
 max_cmd_sn s = max_cmd_sn_with s.session (waiting s.tasks)
 
--- The task with the bytes of its write as one piece (own rule).
+-- The task with the bytes of its write as one piece.
 abbrev pub joined_task : Task → Task
 joined_task (Request m) = Request m
 joined_task (Data w) = Data (joined_write w)
 
--- The session with the bytes of each of its writes as one piece (own rule).
+-- The session with the bytes of each of its writes as one piece.
 abbrev pub joined : Machine → Machine
 joined s = record s { tasks = map joined_task s.tasks }
 
 -- ---- what a message does
 
--- An order that was executed: its tag, the disk before it, and the pieces of its data (own rule).
+-- An order that was executed: its tag, the disk before it, and the pieces of its data.
 pub record Execution : Type 0 where
   pub initiator_task_tag : ℕ
   pub disk : Disk
   pub order : Order
   pub pieces : Pieces
 
--- What any message does. The last two fields tell what laws speak of: the requests that were
--- accepted, and the orders that were executed (own rule).
+-- What any message does. The last two fields have what laws speak of: the requests that were
+-- accepted, and the orders that were executed.
 pub record Stepped : Type 0 where
   pub machine : Machine
   pub disk : Disk
@@ -72,11 +72,11 @@ pub record Stepped : Type 0 where
   pub accepted : List Message
   pub executed : List Execution
 
--- The tasks that are left with a session: none where that is over (own rule).
+-- The tasks that are left with a session: none where that is over.
 abbrev pub left : Session → List Task → List Task
 left session tasks = if is_closed_phase session.phase then [] else tasks
 
--- What a session replied, beside the disk and the tasks (own rule).
+-- What a session replied, beside the disk and the tasks.
 abbrev pub on : Disk → List Task → Reply → Stepped
 on disk tasks r = record {
   machine = record { session = r.session; tasks = left r.session tasks };
@@ -87,7 +87,7 @@ on disk tasks r = record {
   executed = [];
 }
 
--- Nothing is answered, and nothing changes (own rule).
+-- Nothing is answered, and nothing changes.
 abbrev pub unchanged : Machine → Disk → Stepped
 unchanged s disk = record {
   machine = s;
@@ -98,12 +98,12 @@ unchanged s disk = record {
   executed = [];
 }
 
--- The session is closed without an answer (own rule).
+-- The session is closed without an answer.
 abbrev pub shut_down : Machine → Disk → Stepped
 shut_down s disk = unchanged (closed s) disk
 
 -- ---- a broken rule
 
--- The PDU broke the rule: it is rejected, and the session is closed (own rule).
+-- The PDU broke the rule: it is rejected, and the session is closed.
 abbrev pub breaks : Machine → Disk → ℕ → Message → Stepped
 breaks s disk rule m = on disk s.tasks (breach s.session (waiting s.tasks) rule m)

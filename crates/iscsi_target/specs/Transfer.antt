@@ -79,25 +79,25 @@ taken first_burst w h bytes =
 
 -- ---- R2Ts
 
--- Nothing is due: an R2T goes out next (section 11.8).
+-- Nothing is due: an R2T is sent next (section 11.8).
 abbrev pub is_idle : Due → Bool
 is_idle Nothing = true
-is_idle _ = false
+is_idle (Unsolicited data_sn) = false
+is_idle (Solicited tag data_sn end) = false
 
 -- How many bytes the next R2T asks for: a burst, or the rest (section 11.8.4).
 abbrev pub desired : Held → Write → ℕ
 desired held w = min (w.total - received w) (max_burst held)
 
--- The write once an R2T went out: its sequence is due (section 11.8).
-abbrev pub asking : Held → Write → Write
-asking held w = record w {
-  due = Solicited w.asked 0 (received w + desired held w);
-  asked = w.asked + 1;
+-- The write once an R2T was sent: its sequence is due (section 11.8).
+abbrev pub with_r2t : Held → Write → Write
+with_r2t held w = record w {
+  due = Solicited w.r2t_count 0 (received w + desired held w);
+  r2t_count = w.r2t_count + 1;
 }
 
 -- ---- a write as a program keeps it
 
--- The write with its bytes as one piece: where one ended and the next began, no step looks at (own
--- rule).
+-- The write with its bytes as one piece: where one ended and the next began, no step looks at.
 abbrev pub joined_write : Write → Write
 joined_write w = record w { pieces = with_piece [] 0 (data_of w.pieces) }

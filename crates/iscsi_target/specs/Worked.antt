@@ -1,7 +1,7 @@
 -- Words of worked sessions: bytes by hex text, the PDUs that an initiator sends, the session that
--- they begin in, and what is said of them (own rule).
+-- they begin in, and what is stated of them.
 use Rattle.std.specs.Prelude.{◌≡◌, ℕ, ◌+◌, ◌-◌, ◌*◌, ◌==◌, nat_le, Bool, true, false, not, List, [], ◌∷◌, ◌++◌, filter, replicate, Option, Some, None, if◌then◌else◌, codes}
-use Rattle.scsi_cdb.specs.declared.block.Cdb.{Cdb}
+use Rattle.scsi_cdb.specs.declared.cdb.Cdb.{Cdb}
 use Rattle.scsi_disk.specs.Disk.{Disk, zeros}
 use Rattle.iscsi_pdu.specs.declared.head.Head.TheVariants as heads
 use Rattle.iscsi_pdu.specs.declared.head.login_request.LoginRequest.{LoginRequest}
@@ -216,7 +216,7 @@ logged_in = record {
     stage = stages.Full;
     begun = true;
     gathered = [];
-    given = keys_given;
+    seen_keys = keys_given;
     has_text = true;
     has_operational_text = true;
     session_type = session_types.Normal;
@@ -227,7 +227,7 @@ logged_in = record {
   tasks = [];
 }
 
--- ---- what is said of a row
+-- ---- what is stated of a row
 
 -- The messages have these bytes in their canonical form, and are answered by those; this rule is
 -- broken, if one is.

@@ -15,5 +15,5 @@ pub record Write : Type 0 where
   -- what came, in order of arrival; pieces of no bytes are left out
   pub pieces : Pieces
   pub due : Due
-  -- how many R2Ts went out, which is the next one's tag and R2TSN
-  pub asked : ℕ
+  -- how many R2Ts were sent, which is the next one's tag and R2TSN
+  pub r2t_count : ℕ

@@ -74,7 +74,7 @@ pub fn status_numbers()
 {}
 
 /// Tiling: whatever came before, the Data-In that a message leads to are those of the commands that
-/// are executed, one after another, and tile what each gives; and the pieces of a write that is
+/// are executed, one after another, and tile the data of each; and the pieces of a write that is
 /// executed tile its transfer.
 pub fn tiling()
     ensures data_in { (settings : Settings) (n : ℕ) (disk : Disk) (ms : List Message) (m : Message)

@@ -10,8 +10,8 @@ ghost use Rattle.iscsi_target.specs.State.{breaks};
 ghost use Rattle.iscsi_target.specs.Machine.{is_closed};
 ghost use Rattle.iscsi_target.specs.Inside.{Leaves};
 
-mod answering;
 mod command;
+mod dispatch;
 mod writes;
 
 use crate::tasks::Tasks;
@@ -20,8 +20,8 @@ use iscsi_target_session::{Config, Numbers, Received, Session};
 use std::alloc::{AllocError, Global};
 use std::marker::Model;
 
-/// A session and its tasks, between two PDUs. Where a call runs out of memory, what is left of the
-/// session is good for nothing but to be closed.
+/// A session and its tasks, between two PDUs. Where a call runs out of memory, the session can then
+/// only be closed.
 #[derive(Drop)]
 pub struct Machine {
     session: Session,
@@ -60,6 +60,7 @@ impl Machine {
         // The bytes of each write stand as one piece.
         ensures joined { joined self.now ≡ self.now }
     {
+        // Opens the invariant.
         let _tasks = self.tasks.len();
         self.session.phase()
     }
@@ -86,7 +87,7 @@ impl Machine {
         self.tasks.waiting()
     }
 
-    // What an answer says of its number and of the window.
+    // The serial numbers that an answer carries.
     fn numbers(&self) -> Numbers
         ensures stat_sn { result.stat_sn ≡ self.now.session.stat_sn }
         ensures exp_cmd_sn { result.exp_cmd_sn ≡ self.now.session.exp_cmd_sn }
@@ -97,7 +98,7 @@ impl Machine {
         self.session.numbers(self.waiting())
     }
 
-    // An answer went out that carries StatSN and advances it.
+    // An answer was sent that carries StatSN and advances it.
     fn count(&mut self)
         ensures { self.new ≡ record self.old { session = counted self.old.session } }
     {

@@ -1,7 +1,7 @@
 //! The write that is open.
 
 ghost use Rattle.std.specs.Prelude.{◌≡◌, ◌<◌, ◌≤◌, ◌^◌, ◌+◌, ◌-◌, ◌==◌, ◌&&◌, true, false, length, min, IfOk, OnErr, IsTrue};
-ghost use Rattle.iscsi_target.specs.Staged.{asking_for};
+ghost use Rattle.iscsi_target.specs.Staged.{with_r2t_for};
 ghost use Rattle.iscsi_target.specs.Transfer.{received, is_whole, is_idle, is_in_sequence, with_data, joined_write, continued};
 
 use crate::due::Due;
@@ -25,8 +25,8 @@ pub struct OpenWrite {
     pub data: Vec<u8>,
     /// Which data may come next.
     pub due: Due,
-    /// How many R2Ts went out.
-    pub asked: u32,
+    /// How many R2Ts were sent.
+    pub r2t_count: u32,
 }
 
 impl Model for OpenWrite {
@@ -45,19 +45,20 @@ impl Model for OpenWrite {
       total = w.total;
       pieces = with_piece [] 0 w.data.items;
       due = w.due;
-      asked = w.asked;
+      r2t_count = w.r2t_count;
     } };
 
-    ghost invariant = { λ w. IsStaged w.order w.total w.data.items w.due w.asked };
+    ghost invariant = { λ w. IsStaged w.order w.total w.data.items w.due w.r2t_count };
 }
 
 impl OpenWrite {
     /// How many bytes came.
-    #[tactic(auto, using(crate::proofs::OpenWrites::data_of_one))]
+    #[tactic(auto, using(crate::proofs::OpenWriteLemmas::data_of_one))]
     pub fn received(&self) -> u32
         ensures value { result ≡ received self.now }
         ensures fits { received self.now ≤ self.now.total }
     {
+        // Opens the invariant.
         let _total = self.total;
         self.data.len() as u32
     }
@@ -69,7 +70,7 @@ impl OpenWrite {
         self.total == self.received()
     }
 
-    /// Whether nothing is due: an R2T goes out next, or all bytes are there.
+    /// Whether nothing is due: an R2T is sent next, or all bytes are there.
     pub fn is_idle(&self) -> bool
         ensures { result ≡ is_idle self.now.due }
     {
@@ -83,19 +84,19 @@ impl OpenWrite {
         (self.total - self.received()).min(burst)
     }
 
-    /// An R2T for so many bytes went out: its sequence is due.
+    /// An R2T for so many bytes was sent: its sequence is due.
     pub fn await_sequence(&mut self, desired: u32)
         requires idle { is_idle self.old.due ≡ true }
         requires some { 0 < desired }
         requires fits { received self.old + desired ≤ self.old.total }
-        ensures { self.new ≡ asking_for desired self.old }
+        ensures { self.new ≡ with_r2t_for desired self.old }
     {
         self.due = Due::Solicited {
-            target_transfer_tag: self.asked,
+            target_transfer_tag: self.r2t_count,
             data_sn: 0,
             end: self.received() + desired,
         };
-        self.asked += 1;
+        self.r2t_count += 1;
     }
 
     /// Takes the bytes of a Data-Out, where it is due; so many bytes may come unasked. Where memory

@@ -91,10 +91,10 @@ impl Target {
         feed_all(&mut self.machine, &mut self.framer, piece, store, out)
     }
 
-    /// Takes bytes of a piece up to the end of one PDU, answers it, and says how many bytes it took and
-    /// in which phase the session is then: `feed`, one PDU at a time, for a caller that writes the
-    /// answers before it goes on. A piece that completes no PDU is taken whole. Faults and what they
-    /// leave are those of `feed` with the piece.
+    /// Takes bytes of a piece up to the end of one PDU, answers it, and returns how many bytes it
+    /// took and in which phase the session is then: `feed`, one PDU at a time, for a caller that
+    /// writes the answers before it goes on. A piece that completes no PDU is taken whole. Faults
+    /// and what they leave are those of `feed` with the piece.
     pub fn feed_next<S: BlockStore>(
         &mut self,
         piece: &[u8],
@@ -270,8 +270,8 @@ fn stream_fault(fault: StreamFault) -> TargetFault
     }
 }
 
-// Answers the PDU that is ready, if one is, and gives it up. Says which rule it broke, if it broke
-// one. Being out of memory closes the session.
+// Answers the PDU that is ready, if one is, and frees the framer for the next one. Returns the rule
+// that it broke, if it broke one. Being out of memory closes the session.
 fn answer_ready<S: BlockStore>(
     machine: &mut Machine,
     framer: &mut Framer,

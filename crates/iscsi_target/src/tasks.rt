@@ -150,7 +150,7 @@ impl Tasks {
 }
 
 impl Tasks {
-    /// Takes the write with this tag out, if there is one, and says where it stood.
+    /// Takes the write with this tag out, if there is one, and returns its place.
     pub fn take_write(&mut self, tag: u32) -> Option<(usize, OpenWrite)>
         ensures none { IfNone result (write_of self.old tag ≡ None) }
         ensures kept { IfNone result (self.new ≡ self.old) }
@@ -162,7 +162,7 @@ impl Tasks {
         ensures in_place { IfSome result (λ x. (v : Write) → v.immediate ≡ x.1.immediate
             → joined_write v ≡ v → AreInPlace (insert self.new x.0 (Data v))) }
     {
-        // (that there are nine at most)
+        // Opens the invariant: there are nine at most.
         let _len = self.list.len();
         let place = self.place_of(tag)?;
         match self.list.remove(place) {

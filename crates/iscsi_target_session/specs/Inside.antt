@@ -10,29 +10,29 @@ use Rattle.iscsi_target_session.specs.Login.{answered}
 
 -- ---- the login
 
--- What a request says of the session before it is answered is taken back (own rule).
-abbrev pub left_by : Session → Session → Session
-left_by old new =
+-- What a request changes in the session before it is answered is rolled back.
+abbrev pub rolled_back : Session → Session → Session
+rolled_back old new =
     record new { begun = old.begun; exp_cmd_sn = old.exp_cmd_sn; stage = old.stage }
 
--- An answer of class 0 with this text (own rule).
+-- An answer of class 0 with this text.
 abbrev pub login_answer : Session → LoginResponse → Pairs → Reply
 login_answer s h pairs =
     record { session = counted s; answers = answered s h pairs; rule = None }
 
 -- ---- text requests
 
--- The first pair has this key (own rule).
+-- The first pair has this key.
 abbrev pub has_first : List ℕ → Pairs → Bool
 has_first key [] = false
 has_first key (p ∷ pairs) = bytes_eq p.0 key
 
--- The key has an answer of its own (own rule).
+-- The key has an answer of its own.
 abbrev pub has_reply : Bool → List ℕ → Bool
 has_reply asked key =
     not (bytes_eq key (codes "SendTargets")) && not (asked && bytes_eq key (codes "TargetName"))
 
--- A pair, if there is one (own rule).
+-- A pair, if there is one.
 abbrev pub shown_option : Option Pair → Pairs
 shown_option None = []
 shown_option (Some p) = shown p ∷ []

@@ -3,7 +3,7 @@ pub mod Session
 pub mod Rejecting
 pub mod LoginText
 pub mod Login
-pub mod Discovery
+pub mod TextRequests
 pub mod Requests
 pub mod Replies
 pub mod Inside

@@ -18,7 +18,7 @@ use Rattle.iscsi_target_session.specs.Session.{Session, Reply, shut, ended, coun
 use Rattle.scsi_disk.specs.Plan.{first_of}
 use Rattle.iscsi_pdu.specs.Rules.{kind_not_due}
 use Rattle.iscsi_target_session.specs.declared.status.Status.{Status}
-use Rattle.iscsi_target_session.specs.LoginText.{initiator_error, unsupported_version, session_does_not_exist, out_of_resources, is_operational, known_keys, given_with, session_for, answer_pairs, held_after, text_refusals}
+use Rattle.iscsi_target_session.specs.LoginText.{initiator_error, unsupported_version, session_does_not_exist, out_of_resources, is_operational, known_keys, seen_with, session_for, answer_pairs, held_after, text_refusals}
 
 -- ---- stages
 
@@ -59,8 +59,9 @@ is_due_stage s r =
 
 -- The phase that goes with a stage (section 6.3).
 abbrev pub phase_at : Stage → Phase
+phase_at stages.Security = phases.Login
+phase_at stages.Operational = phases.Login
 phase_at stages.Full = phases.Full
-phase_at _ = phases.Login
 
 -- ---- answers
 
@@ -111,8 +112,9 @@ answered s h pairs = login_message (record h { stat_sn = Some s.stat_sn }) pairs
 
 -- The session's number goes with the move to full feature phase (section 11.13.3).
 abbrev pub tsih_at : Session → Stage → ℕ
+tsih_at s stages.Security = 0
+tsih_at s stages.Operational = 0
 tsih_at s stages.Full = s.settings.tsih
-tsih_at s _ = 0
 
 -- The head of the answer to a text: it moves where the request does (section 11.13).
 abbrev pub text_response : Session → LoginRequest → LoginResponse
@@ -130,7 +132,7 @@ after_text s r pairs = record s {
   has_text = true;
   has_operational_text = s.has_operational_text || is_operational s.stage;
   session_type = session_for s pairs;
-  given = given_with known_keys s.given pairs;
+  seen_keys = seen_with known_keys s.seen_keys pairs;
   held = held_after s pairs;
 }
 
@@ -173,8 +175,8 @@ segment_taken s r segment =
     else whole_text (record s { gathered = [] }) r (text_ending s.gathered segment)
 
 -- The reasons to refuse a request by its head, in their order (sections 11.12 and 11.13.5; the
--- order is own rule): its version; a session to join; its stage; a text that goes on and a move at
--- once; a move that is none.
+-- order is own rule): its version; a session to join; its stage; a text that goes on and a transit
+-- at once; a transit to a stage that cannot follow.
 abbrev pub request_refusals : Session → LoginRequest → List (Bool × Status)
 request_refusals s r =
     (nat_lt 0 r.version_min, unsupported_version)
@@ -201,7 +203,22 @@ login_request s r segment =
 -- Before full feature phase any other PDU closes the session (section 6.3; own rule).
 abbrev pub login_in : Session → Head → Segment → Reply
 login_in s (heads.LoginRequest r) segment = login_request s r segment
-login_in s _ segment = shut s (Some kind_not_due)
+login_in s (heads.NopOut h) segment = shut s (Some kind_not_due)
+login_in s (heads.ScsiCommand h) segment = shut s (Some kind_not_due)
+login_in s (heads.TaskRequest h) segment = shut s (Some kind_not_due)
+login_in s (heads.TextRequest h) segment = shut s (Some kind_not_due)
+login_in s (heads.DataOut h) segment = shut s (Some kind_not_due)
+login_in s (heads.LogoutRequest h) segment = shut s (Some kind_not_due)
+login_in s (heads.NopIn h) segment = shut s (Some kind_not_due)
+login_in s (heads.ScsiResponse h) segment = shut s (Some kind_not_due)
+login_in s (heads.TaskResponse h) segment = shut s (Some kind_not_due)
+login_in s (heads.LoginResponse h) segment = shut s (Some kind_not_due)
+login_in s (heads.TextResponse h) segment = shut s (Some kind_not_due)
+login_in s (heads.DataIn h) segment = shut s (Some kind_not_due)
+login_in s (heads.LogoutResponse h) segment = shut s (Some kind_not_due)
+login_in s (heads.ReadyToTransfer h) segment = shut s (Some kind_not_due)
+login_in s (heads.AsyncMessage h) segment = shut s (Some kind_not_due)
+login_in s (heads.Reject h) segment = shut s (Some kind_not_due)
 
 -- A message before full feature phase (section 6.3).
 abbrev pub login_step : Session → Message → Reply

@@ -1,5 +1,5 @@
--- What a login text says, why it is refused, and what answers it (RFC 7143, sections 6.3, 11.13.5
--- and 13).
+-- What a login text declares, why it is refused, and what answers it (RFC 7143, sections 6.3,
+-- 11.13.5 and 13).
 use Rattle.std.specs.Prelude.{ℕ, Bool, true, false, not, ◌&&◌, ◌||◌, nat_lt, if◌then◌else◌, List, [], ◌∷◌, ◌++◌, length, Option, Some, None, is_none, unwrap_or, codes}
 use Rattle.std.specs.Str.{bytes_eq}
 use Rattle.iscsi_text.specs.Key.{number_keys, boolean_keys, items_keys, plain_keys, target_address}
@@ -71,24 +71,24 @@ first_value (value ∷ vs) = Some value
 abbrev pub value_for : List ℕ → Pairs → Option Typed
 value_for key pairs = first_value (values_of key pairs)
 
--- The known keys, in an order of their own (section 13; own rule).
+-- The known keys, in an order of their own (section 13).
 abbrev pub known_keys : List (List ℕ)
 known_keys = number_keys ++ boolean_keys ++ items_keys ++ plain_keys
 
--- A known key that may stand once was given before, and is given again (section 6.2).
-abbrev pub gives_again : List (List ℕ) → List Bool → Pairs → Bool
-gives_again (key ∷ more) (was ∷ given) pairs =
+-- A known key that may stand once was seen before, and stands again (section 6.2).
+abbrev pub repeats_key : List (List ℕ) → List Bool → Pairs → Bool
+repeats_key (key ∷ more) (was ∷ seen) pairs =
     (was && (not (bytes_eq key target_address) && has_key key pairs))
-    || gives_again more given pairs
-gives_again _ _ pairs = false
+    || repeats_key more seen pairs
+repeats_key _ _ pairs = false
 
--- Of each known key, whether it was given before or is given now (section 6.2).
-abbrev pub given_with : List (List ℕ) → List Bool → Pairs → List Bool
-given_with (key ∷ more) (was ∷ given) pairs =
-    (was || has_key key pairs) ∷ given_with more given pairs
-given_with _ _ pairs = []
+-- Of each known key, whether it was seen before or stands in this text (section 6.2).
+abbrev pub seen_with : List (List ℕ) → List Bool → Pairs → List Bool
+seen_with (key ∷ more) (was ∷ seen) pairs =
+    (was || has_key key pairs) ∷ seen_with more seen pairs
+seen_with _ _ pairs = []
 
--- ---- what the first whole text says
+-- ---- what the first whole text declares
 
 -- There is a name, and it isn't empty (section 13.5).
 abbrev pub is_name : Option Typed → Bool
@@ -124,7 +124,7 @@ names_target name _ = false
 
 -- ---- what any whole text says
 
--- There is no value (own rule).
+-- There is no value.
 abbrev pub is_reject : Answered → Bool
 is_reject answers.Reject = true
 is_reject _ = false
@@ -145,8 +145,9 @@ is_bad_length (Some _) = true
 
 -- The session is in operational negotiation (section 6.3.3).
 abbrev pub is_operational : Stage → Bool
+is_operational stages.Security = false
 is_operational stages.Operational = true
-is_operational _ = false
+is_operational stages.Full = false
 
 -- The tag of the portal group goes with the first text of a normal session (section 13.9).
 abbrev pub declared_tag : Session → Pairs → Option ℕ
@@ -173,14 +174,14 @@ held_after s pairs =
     target_holds (session_for s pairs) s.settings.preferences (declared_length s) pairs s.held
 
 -- The reasons to refuse a text, in their order (section 11.13.5; the order is own rule): a key is
--- given again; the first text has no initiator's name, another type of session, in a normal session
--- no target's name or another's; authentication is demanded; the declared length may not be; the
+-- repeated; the first text has no initiator's name, another type of session, in a normal session no
+-- target's name or another's; authentication is demanded; the declared length may not be; the
 -- answer is too long.
 abbrev pub text_refusals : Session → Pairs → List (Bool × Status)
 text_refusals s pairs =
     let is_first = not s.has_text in
     let wants_target = is_first && is_normal (session_for s pairs) in
-    (gives_again known_keys s.given pairs, initiator_error)
+    (repeats_key known_keys s.seen_keys pairs, initiator_error)
     ∷ (is_first && not (is_name (value_for (codes "InitiatorName") pairs)), missing_parameter)
     ∷ (is_first && is_none (session_in pairs), unsupported_session_type)
     ∷ (wants_target && is_none (value_for (codes "TargetName") pairs), missing_parameter)

@@ -4,7 +4,7 @@ use Rattle.iscsi_pdu.specs.declared.head.Head.{Head}
 use Rattle.iscsi_pdu.specs.declared.head.Head.TheVariants as heads
 use Rattle.iscsi_stream.specs.Stream.{Message}
 use Rattle.iscsi_stream.specs.Canonical.{canonical_header}
-use Rattle.iscsi_target_session.specs.Session.{Session, Reply, say, counted, ended, max_cmd_sn_with}
+use Rattle.iscsi_target_session.specs.Session.{Session, Reply, send_response, counted, ended, max_cmd_sn_with}
 use Rattle.iscsi_pdu.specs.Rules.{protocol_error}
 
 -- The head of a Reject (section 11.17).
@@ -18,7 +18,7 @@ reject_head s waiting reason = heads.Reject (record {
 
 -- A Reject of a PDU with this header; the session goes on (section 11.17).
 abbrev pub rejected : Session → ℕ → ℕ → List ℕ → Reply
-rejected s waiting reason header = say s (reject_head s waiting reason) header
+rejected s waiting reason header = send_response s (reject_head s waiting reason) header
 
 -- A Reject carries the header of the PDU's canonical form (section 11.17; that form is own rule).
 abbrev pub reject : Session → ℕ → ℕ → Message → Reply
@@ -32,6 +32,6 @@ breached s waiting rule header = record {
   rule = Some rule;
 }
 
--- A PDU broke the rule (own rule).
+-- A PDU broke the rule.
 abbrev pub breach : Session → ℕ → ℕ → Message → Reply
 breach s waiting rule m = breached s waiting rule (canonical_header m)

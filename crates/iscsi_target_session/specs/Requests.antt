@@ -1,5 +1,5 @@
 -- Requests with one answer: pings, task management and logouts (RFC 7143, sections 11.5, 11.6,
--- 11.14, 11.15, 11.18 and 11.19). Their answers say how many commands wait.
+-- 11.14, 11.15, 11.18 and 11.19). Their answers depend on how many commands wait.
 use Rattle.std.specs.Prelude.{ℕ, ◌==◌, nat_le, if◌then◌else◌, List, [], take, None}
 use Rattle.iscsi_pdu.specs.declared.head.nop_out.NopOut.{NopOut}
 use Rattle.iscsi_pdu.specs.declared.head.task_request.TaskRequest.{TaskRequest}
@@ -8,10 +8,10 @@ use Rattle.iscsi_pdu.specs.declared.head.Head.{Head}
 use Rattle.iscsi_pdu.specs.declared.head.Head.TheVariants as heads
 use Rattle.iscsi_stream.specs.Stream.{Message}
 use Rattle.iscsi_stream.specs.Canonical.{canonical_header}
-use Rattle.iscsi_target_session.specs.Session.{Session, Reply, nothing, say, ended, max_cmd_sn_with}
+use Rattle.iscsi_target_session.specs.Session.{Session, Reply, nothing, send_response, ended, max_cmd_sn_with}
 use Rattle.iscsi_pdu.specs.Fields.{reserved_tag}
 use Rattle.iscsi_target_session.specs.Rejecting.{breach, breached}
-use Rattle.iscsi_target_session.specs.Discovery.{text_request}
+use Rattle.iscsi_target_session.specs.TextRequests.{text_request}
 use Rattle.iscsi_pdu.specs.Rules.{kind_not_due, logout_reason}
 use Rattle.iscsi_stream.specs.Segment.{segment_bytes}
 
@@ -31,7 +31,7 @@ nop_in_head s waiting h = heads.NopIn (record {
 abbrev pub nop_out : Session → ℕ → NopOut → List ℕ → Reply
 nop_out s waiting h bytes =
     if h.initiator_task_tag == reserved_tag then nothing s
-    else say s (nop_in_head s waiting h) (take s.held.initiator_max_recv bytes)
+    else send_response s (nop_in_head s waiting h) (take s.held.initiator_max_recv bytes)
 
 -- The head of the answer that a function isn't supported (section 11.6.1).
 abbrev pub task_response_head : Session → ℕ → TaskRequest → Head
@@ -43,9 +43,9 @@ task_response_head s waiting h = heads.TaskResponse (record {
   max_cmd_sn = max_cmd_sn_with s waiting;
 })
 
--- No task management function is supported (section 11.5; own profile).
+-- No task management function is supported (section 11.5; own rule).
 abbrev pub task_request : Session → ℕ → TaskRequest → Reply
-task_request s waiting h = say s (task_response_head s waiting h) []
+task_request s waiting h = send_response s (task_response_head s waiting h) []
 
 -- The head of the answer that session or connection is closed (section 11.15).
 abbrev pub logout_head : Session → ℕ → LogoutRequest → Head
@@ -59,11 +59,11 @@ logout_head s waiting h = heads.LogoutResponse (record {
   time2retain = 0;
 })
 
--- A Logout Response goes out, and the session is closed (section 11.15).
+-- A Logout Response is sent, and the session is closed (section 11.15).
 abbrev pub logged_out : Session → ℕ → LogoutRequest → Reply
 logged_out s waiting h = record {
-  session = ended (say s (logout_head s waiting h) []).session;
-  answers = (say s (logout_head s waiting h) []).answers;
+  session = ended (send_response s (logout_head s waiting h) []).session;
+  answers = (send_response s (logout_head s waiting h) []).answers;
   rule = None;
 }
 
@@ -87,4 +87,16 @@ request_answered s waiting m (heads.TaskRequest h) = task_request s waiting h
 request_answered s waiting m (heads.TextRequest h) =
     text_request s waiting m h (segment_bytes m.segment)
 request_answered s waiting m (heads.LogoutRequest h) = logout_request s waiting m h
-request_answered s waiting m _ = breach s waiting kind_not_due m
+request_answered s waiting m (heads.ScsiCommand h) = breach s waiting kind_not_due m
+request_answered s waiting m (heads.LoginRequest h) = breach s waiting kind_not_due m
+request_answered s waiting m (heads.DataOut h) = breach s waiting kind_not_due m
+request_answered s waiting m (heads.NopIn h) = breach s waiting kind_not_due m
+request_answered s waiting m (heads.ScsiResponse h) = breach s waiting kind_not_due m
+request_answered s waiting m (heads.TaskResponse h) = breach s waiting kind_not_due m
+request_answered s waiting m (heads.LoginResponse h) = breach s waiting kind_not_due m
+request_answered s waiting m (heads.TextResponse h) = breach s waiting kind_not_due m
+request_answered s waiting m (heads.DataIn h) = breach s waiting kind_not_due m
+request_answered s waiting m (heads.LogoutResponse h) = breach s waiting kind_not_due m
+request_answered s waiting m (heads.ReadyToTransfer h) = breach s waiting kind_not_due m
+request_answered s waiting m (heads.AsyncMessage h) = breach s waiting kind_not_due m
+request_answered s waiting m (heads.Reject h) = breach s waiting kind_not_due m

@@ -26,7 +26,7 @@ pub record Session : Type 0 where
   -- the bytes of a login text that is not whole
   pub gathered : List ℕ
   -- of each known key, whether a text of the login gave it
-  pub given : List Bool
+  pub seen_keys : List Bool
   -- whether a whole text came, and whether one came in the operational stage
   pub has_text : Bool
   pub has_operational_text : Bool
@@ -36,7 +36,7 @@ pub record Session : Type 0 where
   pub exp_cmd_sn : ℕ
   pub stat_sn : ℕ
 
--- A session in which nothing came: none of the 27 known keys was given (section 6.3).
+-- A session in which nothing came: none of the 27 known keys was seen (section 6.3).
 abbrev pub opening_session : Settings → ℕ → Session
 opening_session settings first_stat_sn = record {
   settings = settings;
@@ -44,7 +44,7 @@ opening_session settings first_stat_sn = record {
   stage = stages.Security;
   begun = false;
   gathered = [];
-  given = replicate 27 false;
+  seen_keys = replicate 27 false;
   has_text = false;
   has_operational_text = false;
   session_type = session_types.Normal;
@@ -58,7 +58,7 @@ opening_session settings first_stat_sn = record {
 abbrev pub limit : Settings → ℕ
 limit settings = max 8192 settings.preferences.max_recv
 
--- A session that is over; what was gathered is dropped (own rule).
+-- A session that is over; what was gathered is dropped.
 abbrev pub ended : Session → Session
 ended s = record s { phase = phases.Closed; gathered = [] }
 
@@ -69,24 +69,24 @@ ended s = record s { phase = phases.Closed; gathered = [] }
 abbrev pub max_cmd_sn_with : Session → ℕ → ℕ
 max_cmd_sn_with s waiting = (s.exp_cmd_sn + (2 ^ 32 + 7 - waiting)) % 2 ^ 32
 
--- An answer went out that carries StatSN and advances it (section 4.2.2.2).
+-- An answer was sent that carries StatSN and advances it (section 4.2.2.2).
 abbrev pub counted : Session → Session
 counted s = record s { stat_sn = next_sn s.stat_sn }
 
 -- ---- answers
 
 -- What a message does that no command needs: the session after it, the answers, and the rule that
--- it broke (own rule).
+-- it broke.
 pub record Reply : Type 0 where
   pub session : Session
   pub answers : List Message
   pub rule : Option ℕ
 
--- Nothing is answered, and nothing changes (own rule).
+-- Nothing is answered, and nothing changes.
 abbrev pub nothing : Session → Reply
 nothing s = record { session = s; answers = []; rule = None }
 
--- The session is closed without an answer (own rule).
+-- The session is closed without an answer.
 abbrev pub shut : Session → Option ℕ → Reply
 shut s rule = record { session = ended s; answers = []; rule = rule }
 
@@ -95,6 +95,6 @@ abbrev pub message : Head → List ℕ → Message
 message head bytes = record { head = head; segment = Bytes bytes }
 
 -- One answer that carries StatSN and advances it (section 4.2.2.2).
-abbrev pub say : Session → Head → List ℕ → Reply
-say s head bytes =
+abbrev pub send_response : Session → Head → List ℕ → Reply
+send_response s head bytes =
     record { session = counted s; answers = message head bytes ∷ []; rule = None }

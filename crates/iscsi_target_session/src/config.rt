@@ -76,14 +76,14 @@ impl Config {
         &self.name
     }
 
-    // The number of its portal group.
+    // The tag of its portal group.
     pub(crate) fn group(&self) -> u16
         ensures { result ≡ self.now.group }
     {
         self.group
     }
 
-    // The number that it gives its session.
+    // The TSIH of its session.
     pub(crate) fn tsih(&self) -> u16
         ensures { result ≡ self.now.tsih }
     {

@@ -1,6 +1,6 @@
-//! What an answer says of its number and of the window.
+//! The serial numbers that an answer carries.
 
-/// What an answer says of its number and of the window.
+/// The serial numbers that an answer carries.
 #[derive(Clone, Copy, Debug, PartialEq, Eq)]
 pub struct Numbers {
     /// The StatSN of the answer.

@@ -4,14 +4,14 @@
 ghost use Rattle.std.specs.Prelude.{◌≡◌, ◌<◌, ◌^◌, length};
 ghost use Rattle.iscsi_pdu.specs.Meaning.{Fits};
 ghost use Rattle.iscsi_login.specs.Stage.{is_closed_phase};
-ghost use Rattle.iscsi_target_session.specs.Session.{opening_session, max_cmd_sn_with, say, counted, ended};
+ghost use Rattle.iscsi_target_session.specs.Session.{opening_session, max_cmd_sn_with, send_response, counted, ended};
 ghost use Rattle.iscsi_target_session.specs.Rejecting.{reject, breach};
 ghost use Rattle.iscsi_target_session.specs.Replies.{Does};
 
-mod discovery;
 mod login;
 mod login_text;
 mod requests;
+mod text_request;
 
 use crate::config::Config;
 use crate::numbers::Numbers;
@@ -26,9 +26,9 @@ use std::marker::Model;
 /// How many commands that aren't immediate may wait (RFC 7143, section 4.2.2.1; own rule).
 const WINDOW: u32 = 8;
 
-/// A session between two PDUs. It knows no disk and no command; what it says of the window it is told:
-/// how many tasks wait. Where a call runs out of memory it has written nothing, and what is left of
-/// the session is good for nothing but to be closed.
+/// A session between two PDUs. It knows no disk and no command. Each call is given how many tasks
+/// wait, on which the window depends. Where a call runs out of memory it has written nothing, and
+/// the session can then only be closed.
 #[derive(Drop)]
 pub struct Session {
     config: Config,
@@ -36,7 +36,7 @@ pub struct Session {
     stage: Stage,
     begun: bool,
     gathered: Vec<u8>,
-    given: [bool; 27],
+    seen_keys: [bool; 27],
     has_text: bool,
     has_operational_text: bool,
     session_type: iscsi_login::Session,
@@ -56,7 +56,7 @@ impl Model for Session {
       stage = s.stage;
       begun = s.begun;
       gathered = s.gathered.items;
-      given = s.given;
+      seen_keys = s.seen_keys;
       has_text = s.has_text;
       has_operational_text = s.has_operational_text;
       session_type = s.session_type;
@@ -77,7 +77,7 @@ impl Session {
             stage: Stage::Security,
             begun: false,
             gathered: Vec::new(alloc),
-            given: [false; 27],
+            seen_keys: [false; 27],
             has_text: false,
             has_operational_text: false,
             session_type: iscsi_login::Session::Normal,
@@ -122,7 +122,7 @@ impl Session {
         self.session_type
     }
 
-    /// What an answer says of its number and of the window, while so many tasks wait.
+    /// The serial numbers of an answer, while so many tasks wait.
     pub fn numbers(&self, waiting: u32) -> Numbers
         ensures stat_sn { result.stat_sn ≡ self.now.stat_sn }
         ensures exp_cmd_sn { result.exp_cmd_sn ≡ self.now.exp_cmd_sn }
@@ -138,7 +138,7 @@ impl Session {
         }
     }
 
-    /// An answer went out that carries StatSN and advances it (RFC 7143, section 4.2.2.2).
+    /// An answer was sent that carries StatSN and advances it (RFC 7143, section 4.2.2.2).
     pub fn count(&mut self)
         ensures { self.new ≡ counted self.old }
     {
@@ -161,7 +161,7 @@ impl Session {
     }
 
     // One answer that carries StatSN and advances it. No rule is broken.
-    #[tactic(auto, using(crate::proofs::Answering::one_answer))]
+    #[tactic(auto, using(crate::proofs::ReplyBytesLemmas::one_answer))]
     fn send_response(
         &mut self,
         head: &Head,
@@ -170,7 +170,7 @@ impl Session {
     ) -> Result<Option<u8>, AllocError>
         requires fits { Fits head.now }
         requires short { length bytes.now < 2 ^ 24 }
-        ensures { Does (say self.old head.now bytes.now) result
+        ensures { Does (send_response self.old head.now bytes.now) result
             self.old self.new out.old.items out.new.items }
     {
         write_pdu(head, bytes, out)?;

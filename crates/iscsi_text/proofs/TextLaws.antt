@@ -7,10 +7,10 @@ use Rattle.iscsi_text.specs.declared.fault.TextFault.TheVariants.{NoMemory}
 use Rattle.iscsi_text.specs.Fault.{IsFirstFault}
 use Rattle.iscsi_text.specs.Canonical.{canonical_text}
 use Rattle.iscsi_text.specs.Reading.{text_in}
-use Rattle.iscsi_text.proofs.Canonical as canonical
-use Rattle.iscsi_text.proofs.Computed as computed
-use Rattle.iscsi_text.proofs.Faults.{no_meaning}
-use Rattle.iscsi_text.proofs.Rows as rows
+use Rattle.iscsi_text.proofs.CanonicalLemmas as canonical
+use Rattle.iscsi_text.proofs.ReadingLemmas as computed
+use Rattle.iscsi_text.proofs.FaultLemmas.{no_meaning}
+use Rattle.iscsi_text.proofs.RowLemmas as rows
 
 -- bytes mean one map at most
 pub one_meaning : (bytes : List ℕ) (m n : Pairs) → TextMeans bytes m → TextMeans bytes n → m ≡ n
@@ -75,6 +75,7 @@ pub read_is : (bytes : List ℕ) (m : Pairs) → TextMeans bytes m → Some m �
 read_is bytes m means = sym ((reading_some bytes m).1 means)
 
 pub refused_is : {E : Type 0} (bytes : List ℕ) (fault : TextFault) (r : Result (Option Pairs) E)
-    → ((fault ≡ NoMemory → ⊥) → (m : Pairs) → TextMeans bytes m → ⊥) → IfOk r (λ text. text ≡ None) → OnOk r (fault ≡ NoMemory → ⊥) → IfOk r (λ text. text ≡ text_in bytes)
+    → ((fault ≡ NoMemory → ⊥) → (m : Pairs) → TextMeans bytes m → ⊥) → IfOk r (λ text. text ≡ None) → OnOk r (fault ≡ NoMemory → ⊥) →
+    IfOk r (λ text. text ≡ text_in bytes)
 refused_is bytes fault (Ok text) never none other = none ∙ sym ((reading_none bytes).1 (never other))
 refused_is bytes fault (Err e) never none other = tt

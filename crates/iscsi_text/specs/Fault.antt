@@ -1,4 +1,5 @@
--- What can be wrong in a text, and which fault is the first (RFC 7143, section 6.1; the order of faults is own profile).
+-- What can be wrong in a text, and which fault is the first (RFC 7143, section 6.1; the order of
+-- faults is own rule).
 use Rattle.std.specs.Prelude.{◌≡◌, ◌≢◌, ℕ, ◌<◌, List, [], ◌∷◌, ◌++◌, length, Option}
 use Rattle.std.specs.List.{flat_map}
 use Rattle.iscsi_text.specs.declared.fault.TextFault.{TextFault}
@@ -43,7 +44,8 @@ pub record Repeats (pairs : Pairs) (rest : List ℕ) : Type 0 where
   pub other : key ≢ target_address
   pub again : 0 < length (values_of key pairs)
 
--- The rest, behind pairs with nothing wrong, begins with a pair that is wrong in this way (section 6.1).
+-- The rest, behind pairs with nothing wrong, begins with a pair that is wrong in this way (section
+-- 6.1).
 abbrev pub IsFaulty : Pairs → List ℕ → TextFault → Type 0
 IsFaulty pairs rest (Unterminated at) = IsUnended rest
 IsFaulty pairs rest (NoEquals at) = LacksEquals rest
@@ -52,7 +54,7 @@ IsFaulty pairs rest (Repeated at) = Repeats pairs rest
 -- being out of memory is no fault of a text
 IsFaulty pairs rest NoMemory = ⊥
 
--- The place that a fault names; being out of memory names none (own profile).
+-- The place that a fault names; being out of memory names none.
 abbrev pub place_of : TextFault → ℕ
 place_of (Unterminated at) = at
 place_of (NoEquals at) = at
@@ -60,7 +62,7 @@ place_of (BadKey at) = at
 place_of (Repeated at) = at
 place_of NoMemory = 0
 
--- The fault is that of the first faulty pair, and names the number of bytes before it (own profile).
+-- The fault is that of the first faulty pair, and names the number of bytes before it.
 pub record IsFirstFault (text : List ℕ) (fault : TextFault) : Type 0 where
   pub entries : List (Option Field)
   pub rest : List ℕ

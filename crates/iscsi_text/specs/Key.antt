@@ -13,11 +13,13 @@ IsLetter c = ((65 ≤ c) × (c ≤ 90)) ⊎ ((97 ≤ c) × (c ≤ 122))
 abbrev pub IsDigit : ℕ → Type 0
 IsDigit c = (48 ≤ c) × (c ≤ 57)
 
--- A letter, a digit, or one of `.` `-` `+` `@` `_` `#` (section 6.1; `#` is own profile).
+-- A letter, a digit, or one of `.` `-` `+` `@` `_` `#` (section 6.1; `#` is own rule).
 abbrev pub IsKeyByte : ℕ → Type 0
-IsKeyByte c = IsLetter c ⊎ (IsDigit c ⊎ ((c ≡ 46) ⊎ ((c ≡ 45) ⊎ ((c ≡ 43) ⊎ ((c ≡ 64) ⊎ ((c ≡ 95) ⊎ (c ≡ 35)))))))
+IsKeyByte c = IsLetter c
+    ⊎ (IsDigit c ⊎ ((c ≡ 46) ⊎ ((c ≡ 45) ⊎ ((c ≡ 43) ⊎ ((c ≡ 64) ⊎ ((c ≡ 95) ⊎ (c ≡ 35)))))))
 
--- 1 to 63 such bytes, the first of them a letter (section 6.1; that it may be a small one is own profile).
+-- 1 to 63 such bytes, the first of them a letter (section 6.1; that it may be a small one is own
+-- rule).
 pub record IsKey (key : List ℕ) : Type 0 where
   pub size : length key ≤ 63
   pub first : IsLetter (slice_index key 0)
@@ -31,7 +33,8 @@ is_among names key = list_any (λ name. bytes_eq name key) names
 abbrev pub number_keys : List (List ℕ)
 number_keys = codes "MaxConnections" ∷ codes "MaxBurstLength" ∷ codes "FirstBurstLength"
     ∷ codes "DefaultTime2Wait" ∷ codes "DefaultTime2Retain" ∷ codes "MaxOutstandingR2T"
-    ∷ codes "ErrorRecoveryLevel" ∷ codes "MaxRecvDataSegmentLength" ∷ codes "TargetPortalGroupTag" ∷ []
+    ∷ codes "ErrorRecoveryLevel" ∷ codes "MaxRecvDataSegmentLength"
+    ∷ codes "TargetPortalGroupTag" ∷ []
 
 -- Keys with a boolean value (section 13; the markers' keys are of RFC 3720, appendix A).
 abbrev pub boolean_keys : List (List ℕ)

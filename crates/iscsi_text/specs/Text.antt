@@ -9,7 +9,8 @@ use Rattle.iscsi_text.specs.Value.{Typed, Means}
 
 -- ---- the map
 
--- A map from keys to values, as its list of pairs: each value of a repeated key is a pair (section 6.1).
+-- A map from keys to values, as its list of pairs: each value of a repeated key is a pair (section
+-- 6.1).
 abbrev pub Pairs : Type 0
 Pairs = List (List ℕ × Typed)
 
@@ -21,16 +22,16 @@ values_of key pairs = map (λ p. p.1) (filter (λ p. bytes_eq p.0 key) pairs)
 abbrev pub IsSingle : Pairs → Type 0
 IsSingle pairs = (key : List ℕ) → key ≢ target_address → length (values_of key pairs) ≤ 1
 
--- The byte order of keys (own profile; section 6.1 gives pairs no order).
+-- The byte order of keys (own rule; section 6.1 gives pairs no order).
 abbrev pub key_le : List ℕ → List ℕ → Bool
 key_le a b = is_le (slice_cmp nat_cmp a b)
 
--- Each key is at most those behind it (own profile).
+-- Each key is at most those behind it.
 abbrev pub IsInOrder : Pairs → Type 0
 IsInOrder [] = Unit {0}
 IsInOrder (p ∷ pairs) = AllByRecursion (λ q. key_le p.0 q.0 ≡ true) pairs × IsInOrder pairs
 
--- Arranged has the same values of each key, with the keys in order: both are the same map (own profile).
+-- Arranged has the same values of each key, with the keys in order: both are the same map.
 pub record Arranges (pairs arranged : Pairs) : Type 0 where
   pub in_order : IsInOrder arranged
   pub same : (key : List ℕ) → values_of key arranged ≡ values_of key pairs
@@ -41,13 +42,15 @@ pub record Arranges (pairs arranged : Pairs) : Type 0 where
 abbrev pub HasNo : ℕ → List ℕ → Type 0
 HasNo byte bytes = All (λ b. b ≢ byte) bytes
 
--- A pair as it stands in a text: its key, the bytes behind the `=`, and what they mean (section 6.1).
+-- A pair as it stands in a text: its key, the bytes behind the `=`, and what they mean (section
+-- 6.1).
 pub record Field : Type 0 where
   pub key : List ℕ
   pub bytes : List ℕ
   pub value : Typed
 
--- An entry with its final 0; one with nothing before the 0 is a spare byte (section 6.1; spare bytes are own profile).
+-- An entry with its final 0; one with nothing before the 0 is a spare byte (section 6.1; spare
+-- bytes are own rules).
 abbrev pub entry_bytes : Option Field → List ℕ
 entry_bytes None = 0 ∷ []
 entry_bytes (Some f) = f.key ++ 61 ∷ f.bytes ++ 0 ∷ []
@@ -77,7 +80,8 @@ pub record Begins (bytes : List ℕ) (entries : List (Option Field)) (rest : Lis
 
 -- ---- the meaning
 
--- The text is a row of entries and nothing else, and this is its map, in the order of keys (section 6.1).
+-- The text is a row of entries and nothing else, and this is its map, in the order of keys (section
+-- 6.1).
 pub record TextMeans (text : List ℕ) (arranged : Pairs) : Type 0 where
   pub entries : List (Option Field)
   pub row : Begins text entries []
@@ -90,7 +94,8 @@ pub record IsPair (pair : List ℕ × Typed) : Type 0 where
   pub ends : HasNo 0 bytes
   pub means : Means (kind_of pair.0) bytes pair.1
 
--- A map that some text means: pairs in the order of keys, none twice but `TargetAddress` (section 6.1).
+-- A map that some text means: pairs in the order of keys, none twice but `TargetAddress` (section
+-- 6.1).
 pub record IsMeaning (arranged : Pairs) : Type 0 where
   pub in_order : IsInOrder arranged
   pub single : IsSingle arranged

@@ -32,7 +32,8 @@ boolean_text false = codes "No"
 abbrev pub IsItems : List ℕ → Type 0
 IsItems bytes = All (λ item. 0 < length item) (slice_split (λ b. b == 44) bytes)
 
--- Behind a key of this kind the bytes mean the value (section 6.1; that bytes of the wrong form stay, as odd, is own profile).
+-- Behind a key of this kind the bytes mean the value (section 6.1; that bytes of the wrong form
+-- stay, as odd, is own rule).
 abbrev pub Means : Option KeyKind → List ℕ → Typed → Type 0
 Means (Some kinds.Number) bytes (Number n) = Spells bytes n
 Means (Some kinds.Number) bytes (Odd odd) = (odd ≡ bytes) × ((n : ℕ) → ¬ Spells bytes n)
@@ -46,7 +47,8 @@ Means None bytes (Plain plain) = plain ≡ bytes
 -- and mean nothing else
 Means _ bytes _ = ⊥
 
--- The canonical bytes of a value: the canonical numeral, or the bytes that it keeps (own profile of section 6.1).
+-- The canonical bytes of a value: the canonical numeral, or the bytes that it keeps (own rule of
+-- section 6.1).
 abbrev pub value_text : Typed → List ℕ
 value_text (Number n) = canonical_number n
 value_text (Boolean b) = boolean_text b

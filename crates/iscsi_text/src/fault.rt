@@ -10,7 +10,7 @@ use thiserror::Error;
 ///
 /// A fault names its place, the number of bytes of the text before the faulty pair. It is that of
 /// the first faulty pair, and of the faults of that pair the first in the order of the variants.
-/// The form of a pair is that of RFC 7143, section 6.1; the order of the faults is own profile.
+/// The form of a pair is that of RFC 7143, section 6.1; the order of the faults is own rule.
 /// Printed is the fault and its place in decimal, as `unterminated at 4`, or `memory`.
 #[derive(Clone, Copy, Debug, PartialEq, Eq, Error)]
 pub enum TextFault {

@@ -55,7 +55,7 @@ const PLAIN_KEYS: [&[u8]; 9] = [
 ///
 /// Known are 27 keys, and case counts. The keys and their types are those of RFC 7143, section 13,
 /// and `AuthMethod` of section 12.1; the markers' keys `IFMarker`, `OFMarker`, `IFMarkInt` and
-/// `OFMarkInt` are of RFC 3720, appendix A. Which keys are plain here is own profile.
+/// `OFMarkInt` are of RFC 3720, appendix A. Which keys are plain here is own rule.
 #[tactic(auto, unfolding(crate::specs::Key::kind_of))]
 pub fn key_kind(key: &[u8]) -> Option<KeyKind>
     ensures kind { result ≡ kind_of key.now }

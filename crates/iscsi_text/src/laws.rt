@@ -1,4 +1,5 @@
-//! Laws of numerals and texts: functions with no work, whose contracts are of the definitions alone.
+//! Laws of numerals and texts: functions with no work, whose contracts are of the definitions
+//! alone.
 
 ghost use Rattle.std.specs.Prelude.{◌≡◌, ◌≢◌, ◌≤◌, ◌<◌, ◌^◌, ◌↔◌, ℕ, List, length, Some, None};
 ghost use Rattle.iscsi_text.specs.declared.fault.TextFault.{TextFault};
@@ -51,7 +52,8 @@ pub fn canonical_text_is_canonical()
 pub fn reading_is_meaning()
     ensures some { (bytes : List ℕ) (m : Pairs) → (text_in bytes ≡ Some m) ↔ TextMeans bytes m }
     ensures none { (bytes : List ℕ) → (text_in bytes ≡ None) ↔ ((m : Pairs) → ¬ TextMeans bytes m) }
-    ensures fault { (bytes : List ℕ) (fault : TextFault) → IsFirstFault bytes fault → text_in bytes ≡ None }
+    ensures fault { (bytes : List ℕ) (fault : TextFault) → IsFirstFault bytes fault →
+        text_in bytes ≡ None }
 {}
 
 /// The computed reading of the canonical text of what was read gives it again, from no more bytes.

@@ -46,7 +46,7 @@ fn value_of(text: &[u8], radix: u32) -> Option<u64>
 ///
 /// It is the shorter of the decimal and of `0x` with the least lower-case hexadecimal digits, the
 /// decimal on a tie, so below 10^12 the decimal. When out of memory, `out` is unchanged. Both forms
-/// are those of RFC 7143, section 6.1; the choice is own profile.
+/// are those of RFC 7143, section 6.1; the choice is own rule.
 pub fn write_number(n: u64, out: &mut Vec<u8>) -> Result<(), AllocError>
     ensures ok { OnOk result (out.new.items ≡ out.old.items ++ canonical_number n) }
     ensures err { OnErr result (out.new.items ≡ out.old.items) }
@@ -100,7 +100,7 @@ impl Numeral {
     }
 
     // `0x` and the least digits, of which a number of 64 bits has at most 16.
-    #[tactic(auto, using(crate::proofs::Digits::length_hexadecimal))]
+    #[tactic(auto, using(crate::proofs::DigitLemmas::length_hexadecimal))]
     fn hexadecimal(n: u64) -> Numeral
         ensures { result ≡ hexadecimal n }
     {

@@ -28,7 +28,7 @@ pub use write::write_pairs;
 /// of a repeated `TargetAddress` in their order: for each key that is what the map has there. A
 /// text is a row of pairs `key=value`, each ended by a byte 0 (RFC 7143, section 6.1). Bytes 0
 /// before, between and after pairs mean nothing, and a key may begin with a small letter and have
-/// a `#` (own profile).
+/// a `#` (own rule).
 #[derive(Debug, Drop)]
 pub struct Text<'a> {
     pairs: Vec<Pair<'a>>,
@@ -115,7 +115,7 @@ impl<'a> Text<'a> {
     /// pair, in the byte order of the keys, with canonical numerals.
     ///
     /// When out of memory, `out` is unchanged. The form is that of RFC 7143, section 6.1; that
-    /// it is this one of a map's texts is own profile.
+    /// it is this one of a map's texts is own rule.
     pub fn write(&self, out: &mut Vec<u8>) -> Result<(), AllocError>
         ensures ok { OnOk result (out.new.items ≡ out.old.items ++ canonical_text self.now) }
         ensures err { OnErr result (out.new.items ≡ out.old.items) }

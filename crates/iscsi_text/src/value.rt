@@ -10,7 +10,7 @@ use std::alloc::AllocError;
 /// A value, by the kind of its key. Slices are of the bytes that were read.
 ///
 /// The kinds are those of RFC 7143, section 6.1; that bytes of the wrong form stay as they are,
-/// as an odd value, is own profile. Two values are equal exactly if they mean the same.
+/// as an odd value, is own rule. Two values are equal exactly if they mean the same.
 #[derive(Clone, Copy, Debug, PartialEq, Eq)]
 pub enum Value<'a> {
     /// The number that the bytes behind a `KeyKind::Number` spell.

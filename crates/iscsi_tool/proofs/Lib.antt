@@ -1,3 +1,3 @@
-pub mod Answered
-pub mod Lines
-pub mod Spelled
+pub mod AnsweredLemmas
+pub mod HexLineLemmas
+pub mod SpellingLemmas

@@ -1,4 +1,4 @@
--- What `answer` writes for what it has read (RFC 7143, sections 6 and 11; own rule).
+-- What `answer` writes for what it has read (RFC 7143, sections 6 and 11).
 use Rattle.std.specs.Prelude.{◌≡◌, ◌⊎◌, ℕ, List, [], ◌∷◌, ◌++◌, Some, Result, Ok, Err, OnOk}
 use Rattle.hex.specs.Hex.{encode_lower}
 use Rattle.scsi_disk.specs.Disk.{Disk, zeros}
@@ -14,7 +14,7 @@ use Rattle.iscsi_service.specs.declared.session.SessionFault.TheVariants as sess
 use Rattle.iscsi_service.specs.Session.{target_settings, ServesFirst, EndsBy, EndsWell}
 use Rattle.iscsi_tool.specs.HexText.{BytesOf, IsNotHex}
 
--- The fault of a filter for that of its session (own rule).
+-- The fault of a filter for that of its session.
 abbrev pub filter_fault : SessionFault → ToolFault
 filter_fault (session.Target faults.NoMemory) = tool.NoMemory
 filter_fault (session.Target (faults.Stream fault)) = tool.Stream fault
@@ -24,20 +24,20 @@ filter_fault session.Read = tool.Read
 filter_fault session.Write = tool.Write
 
 -- The answers of the target to all PDUs of what was read are written, of its longest prefix in the
--- profile (own rule).
+-- profile.
 abbrev pub AnswersAll : ℕ → List ℕ → List ℕ → Type 0
 AnswersAll blocks read written =
     (ms : List Message) (given rest : List ℕ) → Splits longest_segment read ms given rest
     → written ≡ canon (answers (opening target_settings 1) (zeros blocks) ms).answers
 
 -- The answers of the target to some first PDUs of what was read are written, whole, and of the PDU
--- behind them those of some tasks (own rule).
+-- behind them those of some tasks.
 abbrev pub AnswersFirst : ℕ → List ℕ → List ℕ → Type 0
 AnswersFirst blocks read written =
     (now : Disk) × ServesFirst target_settings (zeros blocks) read now written
 
--- What is written where answering ends, and why it ends so; where a write failed, nothing is said of
--- it (own rule).
+-- What is written where answering ends, and why it ends so; where a write failed, nothing is stated
+-- of it.
 abbrev pub AnswersBytes : ℕ → Result (Unit {0}) ToolFault → List ℕ → List ℕ → Type 0
 AnswersBytes blocks (Ok done) read written =
     AnswersAll blocks read written × EndsBy target_settings (zeros blocks) (Ok done) read
@@ -55,8 +55,8 @@ AnswersBytes blocks (Err tool.NotHex) read written = ⊥
 
 -- ---- hex text
 
--- The line end that is due behind the digits of answers: where the session ended, well or by a fault
--- of its own (own rule).
+-- The line end that is due behind the digits of answers: where the session ended, well or by a
+-- fault of its own.
 abbrev pub line_end : Result (Unit {0}) ToolFault → List ℕ
 line_end (Ok done) = 0x0a ∷ []
 line_end (Err (tool.Stream fault)) = 0x0a ∷ []
@@ -64,7 +64,7 @@ line_end (Err (tool.Protocol rule)) = 0x0a ∷ []
 line_end (Err fault) = []
 
 -- The target has taken a front of these bytes; its answers are written as lower hex, with the line
--- end that is due (own rule).
+-- end that is due.
 pub record SpellsAnswers (blocks : ℕ) (outcome : Result (Unit {0}) ToolFault) (bytes written : List ℕ)
     : Type 0 where
   pub taken : List ℕ
@@ -75,13 +75,13 @@ pub record SpellsAnswers (blocks : ℕ) (outcome : Result (Unit {0}) ToolFault) 
   pub ends : OnOk outcome (EndsWell target_settings (zeros blocks) (Some bytes) (Some rest))
   pub spelled : written ≡ encode_lower answered ++ line_end outcome
 
--- The answers to the bytes that hex text means are written so (own rule).
+-- The answers to the bytes that hex text means are written so.
 abbrev pub AnswersText : ℕ → Result (Unit {0}) ToolFault → List ℕ → List ℕ → Type 0
 AnswersText blocks outcome read written =
     (bytes : List ℕ) × BytesOf read bytes × SpellsAnswers blocks outcome bytes written
 
 -- What is written where answering hex text ends: nothing where the text is not hex, or could not be
--- read; where a write failed, nothing is said of it (own rule).
+-- read; where a write failed, nothing is stated of it.
 abbrev pub AnswersHex : ℕ → Result (Unit {0}) ToolFault → List ℕ → List ℕ → Type 0
 AnswersHex blocks (Err tool.NotHex) read written = IsNotHex read × (written ≡ [])
 AnswersHex blocks (Err tool.NoMemory) read written =

@@ -1,4 +1,4 @@
--- What a filter writes for what it has read, and the exit status of its faults (own rule).
+-- What a filter writes for what it has read, and the exit status of its faults.
 use Rattle.std.specs.Prelude.{◌≡◌, ◌≤◌, ◌<◌, ℕ, Bool, true, false, List, [], length, take, Option, Result, Ok, Err}
 use Rattle.std.specs.Io.KnownBytes.{IsAtEnd}
 use Rattle.scsi_disk.specs.Disk.{zeros, most_blocks}
@@ -19,20 +19,19 @@ use Rattle.iscsi_tool.specs.declared.words.Job.TheVariants as job
 use Rattle.iscsi_tool.specs.Answering.{AnswersBytes, AnswersHex}
 use Rattle.iscsi_tool.specs.HexText.{BytesOf, IsNotHex, hex_line}
 
--- How a filter ends: done, or why not (own rule).
+-- How a filter ends: done, or why not.
 abbrev pub Outcome : Type 0
 Outcome = Result (Unit {0}) ToolFault
 
 -- ---- bytes
 
--- The canonical stream of what was read is written, or what normalising leaves at a fault (own
--- rule).
+-- The canonical stream of what was read is written, or what normalising leaves at a fault.
 abbrev pub NormalisesBytes : Outcome → List ℕ → List ℕ → Type 0
 NormalisesBytes (Ok done) read written =
     (ms : List Message) × StreamMeans read ms × (written ≡ canon ms)
 NormalisesBytes (Err fault) read written = NormaliseFails fault read written
 
--- A line for each PDU of what was read is written, or what showing leaves at a fault (own rule).
+-- A line for each PDU of what was read is written, or what showing leaves at a fault.
 abbrev pub ShowsBytes : Outcome → List ℕ → List ℕ → Type 0
 ShowsBytes (Ok done) read written =
     (ms : List Message) × StreamMeans read ms × AreLines ms written
@@ -40,16 +39,15 @@ ShowsBytes (Err fault) read written = WritesUntil AreLines fault read written
 
 -- ---- hex text
 
--- What is due for the bytes of a stream: its canonical stream, or that of all PDUs before its fault
--- (own rule).
+-- What is due for the bytes of a stream: its canonical stream, or that of all PDUs before its
+-- fault.
 abbrev pub DueOfStream : List ℕ → Outcome → List ℕ → Type 0
 DueOfStream bytes (Ok done) due = (ms : List Message) × StreamMeans bytes ms × (due ≡ canon ms)
 DueOfStream bytes (Err (tool.Stream fault)) due =
     Parts (λ ms given rest. Wrote IsCanonical bytes ms given rest due × RestFails fault given rest)
 DueOfStream bytes (Err fault) due = ⊥
 
--- What is due for the bytes of a text: its canonical text, or nothing where it is refused (own
--- rule).
+-- What is due for the bytes of a text: its canonical text, or nothing where it is refused.
 abbrev pub DueOfText : List ℕ → Outcome → List ℕ → Type 0
 DueOfText bytes (Ok done) due = CanonicalOf bytes due × (length bytes ≤ longest_text)
 DueOfText bytes (Err (tool.Text fault)) due =
@@ -57,23 +55,23 @@ DueOfText bytes (Err (tool.Text fault)) due =
 DueOfText bytes (Err tool.TextTooLong) due = (longest_text < length bytes) × (due ≡ [])
 DueOfText bytes (Err fault) due = ⊥
 
--- What is due for the bytes of a text or of a stream (own rule).
+-- What is due for the bytes of a text or of a stream.
 abbrev pub Due : Bool → List ℕ → Outcome → List ℕ → Type 0
 Due true bytes outcome due = DueOfText bytes outcome due
 Due false bytes outcome due = DueOfStream bytes outcome due
 
--- The line that is due for bytes, with this outcome (own rule).
+-- The line that is due for bytes, with this outcome.
 pub record IsLine (text : Bool) (bytes : List ℕ) (outcome : Outcome) (line : List ℕ) : Type 0 where
   pub due : List ℕ
   pub is_due : Due text bytes outcome due
   pub spelled : line ≡ hex_line due
 
--- The line that is due for hex text (own rule).
+-- The line that is due for hex text.
 abbrev pub LineOf : Bool → List ℕ → Outcome → List ℕ → Type 0
 LineOf text read outcome line =
     (bytes : List ℕ) × BytesOf read bytes × IsLine text bytes outcome line
 
--- What a filter of hex text has written where it answers a fault (own rule).
+-- What a filter of hex text has written where it answers a fault.
 abbrev pub HexFails : Bool → ToolFault → List ℕ → List ℕ → Type 0
 HexFails text tool.NoMemory read written = written ≡ []
 HexFails text (tool.Stream fault) read written =
@@ -88,19 +86,19 @@ HexFails text tool.NotHex read written = IsNotHex read × (written ≡ [])
 HexFails text (tool.Protocol rule) read written = ⊥
 
 -- The canonical form of what the hex text means is written as a line of hex, or what is due at a
--- fault (own rule).
+-- fault.
 abbrev pub NormalisesHex : Bool → Outcome → List ℕ → List ℕ → Type 0
 NormalisesHex text (Ok done) read written = LineOf text read (Ok done) written
 NormalisesHex text (Err fault) read written = HexFails text fault read written
 
 -- ---- filters
 
--- The disk of a target has 1 to 2^40 blocks (own rule).
+-- The disk of a target has 1 to 2^40 blocks.
 abbrev pub HasDisk : Work → Type 0
 HasDisk (Answer blocks) = (0 < blocks) × (blocks ≤ most_blocks)
 HasDisk _ = Unit {0}
 
--- The disk of a job's target has 1 to 2^40 blocks, and a piece 1 to 4096 bytes (own rule).
+-- The disk of a job's target has 1 to 2^40 blocks, and a piece 1 to 4096 bytes.
 abbrev pub IsJob : Job → Type 0
 IsJob (job.Filter filter) = HasDisk filter.work
 IsJob (job.Serve port blocks sessions) = (0 < blocks) × (blocks ≤ most_blocks)
@@ -108,13 +106,13 @@ IsJob (job.Loop blocks piece) =
     (0 < blocks) × (blocks ≤ most_blocks) × (0 < piece) × (piece ≤ 4096)
 
 -- A work that ended well has read its input to the end; answers to bytes end also where the session
--- is closed (own rule).
+-- is closed.
 abbrev pub Reads : Work → Bool → Option (List ℕ) → Option (List ℕ) → Type 0
 Reads (Answer blocks) false before after =
     EndsWell target_settings (zeros blocks) before after
 Reads _ _ before after = IsAtEnd after
 
--- What a work writes; the lines that Show writes of hex text are not stated (own rule).
+-- What a work writes; the lines that Show writes of hex text are not stated.
 abbrev pub Does : Work → Bool → Outcome → List ℕ → List ℕ → Type 0
 Does Show true outcome read written = Unit {0}
 Does Show false outcome read written = ShowsBytes outcome read written
@@ -125,18 +123,18 @@ Does Normalise false outcome read written = NormalisesBytes outcome read written
 Does Text true outcome read written = NormalisesHex true outcome read written
 Does Text false outcome read written = NormalisesText outcome read written
 
--- What a filter has read and written where it answers (own rule).
+-- What a filter has read and written where it answers.
 abbrev pub Filters : Filter → Outcome → List ℕ → List ℕ → Type 0
 Filters filter outcome read written = Does filter.work filter.hex outcome read written
 
--- What a filter that ended well has read (own rule).
+-- What a filter that ended well has read.
 abbrev pub ReadsOn : Filter → Option (List ℕ) → Option (List ℕ) → Type 0
 ReadsOn filter before after = Reads filter.work filter.hex before after
 
 -- ---- what the program answers
 
--- The exit status that says a fault: 1 where the input is refused, 3 for memory, 4 for reading and
--- writing (own rule).
+-- The exit status of a fault: 1 where the input is refused, 3 for memory, 4 for reading and
+-- writing.
 abbrev pub exit_status : ToolFault → ℕ
 exit_status tool.NoMemory = 3
 exit_status (tool.Stream fault) = 1

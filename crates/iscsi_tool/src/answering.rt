@@ -115,7 +115,7 @@ fn finish<W: Write>(
     outcome
 }
 
-// The fault of a filter. A closed session is not fed, and would be read no more.
+// The fault of a filter. A closed session is not fed, and its stream is read no further.
 fn filter_fault(fault: SessionFault) -> ToolFault
     ensures fault { result ≡ filter_fault fault }
 {

@@ -88,8 +88,8 @@ pub fn run_filter<R: Read, W: Write>(
     }
 }
 
-/// The exit status that says a fault: 1 where the input is refused, 3 for memory, 4 for reading and
-/// writing (own rule).
+/// The exit status of a fault: 1 where the input is refused, 3 for memory, 4 for reading and
+/// writing.
 pub fn status(fault: &ToolFault) -> u8
     ensures status { result ≡ exit_status fault.now }
 {

@@ -22,7 +22,7 @@ fn digits(alloc: Global, text: &[u8]) -> Result<Vec<u8>, AllocError>
         .collect(alloc)
 }
 
-/// Reads hex text to its end and gives the bytes that it means.
+/// Reads hex text to its end and returns the bytes that it means.
 ///
 /// Answers `NotHex` where the text, its blanks, line ends and carriage returns aside, is not whole
 /// pairs of hex digits, or where it has more than 1,048,576 bytes; `Read` where a read fails or

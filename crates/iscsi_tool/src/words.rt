@@ -194,7 +194,7 @@ fn command<'a>(alloc: Global) -> Result<Command<'a>, AllocError> {
 }
 
 /// The job that the words of a command line ask for, without the program's name. Words that are no
-/// job, and those that ask for help, give `Usage` with the text to print.
+/// job, and those that ask for help, return `Usage` with the text to print.
 pub fn read_words<S: AsStr>(alloc: Global, words: &[S]) -> Result<Job, LineFault>
     ensures unasked { words.now ≡ [] →
         result ≡ Ok (job.Filter (record { work = Normalise; hex = true })) }
@@ -284,7 +284,7 @@ fn loop_of(alloc: Global, asked: &ArgMatches<'_>) -> Result<Job, LineFault>
     }
 }
 
-// The number of bytes that digits say, from 1 to 4096.
+// The number of bytes that digits spell, from 1 to 4096.
 fn piece_of(digits: &str) -> Option<u32>
     ensures range { IfSome result (λ n. (0 < n) × (n ≤ 4096)) }
 {
@@ -297,7 +297,7 @@ fn piece_of(digits: &str) -> Option<u32>
     }
 }
 
-// The number that digits say, up to 65535.
+// The number that digits spell, up to 65535.
 fn number_of(digits: &str) -> Option<u16> {
     if !digits.bytes().all(|c| c.is_ascii_digit()) {
         return None;
@@ -305,7 +305,7 @@ fn number_of(digits: &str) -> Option<u16> {
     digits.parse::<u16>().ok()
 }
 
-// The number of blocks that digits say, from 1 to 2^40.
+// The number of blocks that digits spell, from 1 to 2^40.
 fn blocks_of(digits: &str) -> Option<u64>
     ensures range { IfSome result (λ n. (0 < n) × (n ≤ most_blocks)) }
 {
@@ -320,7 +320,7 @@ fn blocks_of(digits: &str) -> Option<u64>
 
 const BAD_BLOCKS: &str = "'--blocks <N>' is a number from 1 to 1099511627776";
 
-// What a program says of a number that is none of its own.
+// The usage error for a number out of range.
 fn bad_number(alloc: Global, program: Result<Command<'_>, AllocError>, text: &str) -> LineFault {
     let Ok(mut program) = program else {
         return LineFault::NoMemory;

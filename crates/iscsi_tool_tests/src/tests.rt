@@ -8,6 +8,7 @@ mod words;
 
 ghost use Rattle.iscsi_tool.specs.Filtering.{HasDisk};
 
+use iscsi_examples::{Broken, Full};
 use iscsi_pdu::HeadFault;
 use iscsi_stream::{StreamFault, ToolFault};
 use iscsi_text::TextFault;
@@ -357,35 +358,6 @@ fn fault_lines_and_statuses(rt: HostRuntime) -> Result<(), Fail> {
         same(&rt, &(said.as_str(), status(fault)), &(*line, *code), line);
     }
     Ok(())
-}
-
-/// Gives this once, and fails from then on.
-#[derive(Drop)]
-struct Broken<'a>(Option<&'a [u8]>);
-
-impl Read for Broken<'_> {
-    fn read(&mut self, buf: &mut [u8]) -> io::Result<usize> {
-        let Some(rest) = self.0.take() else {
-            return Err(io::Error::from(io::ErrorKind::Other));
-        };
-        let n = buf.len().min(rest.len());
-        buf[..n].copy_from_slice(&rest[..n]);
-        Ok(n)
-    }
-}
-
-/// Takes no byte.
-#[derive(Drop)]
-struct Full;
-
-impl Write for Full {
-    fn write(&mut self, _buf: &[u8]) -> io::Result<usize> {
-        Ok(0)
-    }
-
-    fn flush(&mut self) -> io::Result<()> {
-        Ok(())
-    }
 }
 
 /// What a filter writes before a read fails behind a whole PDU: with hex nothing.

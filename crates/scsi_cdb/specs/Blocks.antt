@@ -3,11 +3,11 @@
 -- Each record is a list of rows over the 16 bytes; bits of no row are free, and are written 0.
 use Rattle.std.specs.Prelude.{◌≡◌, ℕ, Bool, false, ◌==◌, ◌&&◌, ◌||◌, List, [], ◌∷◌, length, replicate}
 use Rattle.std.specs.List.{list_any}
-use Rattle.scsi_cdb.specs.declared.block.Cdb.{Cdb}
-use Rattle.scsi_cdb.specs.declared.block.Cdb.TheVariants.{TestUnitReady, Inquiry, Capacity10, Read10, Write10, SyncCache10, Read16, Write16, Capacity16, ReportLuns, Unknown}
-use Rattle.scsi_cdb.specs.declared.block.Transfer10.{Transfer10}
-use Rattle.scsi_cdb.specs.declared.block.Transfer16.{Transfer16}
-use Rattle.scsi_cdb.specs.declared.block.Synchronize10.{Synchronize10}
+use Rattle.scsi_cdb.specs.declared.cdb.Cdb.{Cdb}
+use Rattle.scsi_cdb.specs.declared.cdb.Cdb.TheVariants.{TestUnitReady, Inquiry, Capacity10, Read10, Write10, SyncCache10, Read16, Write16, Capacity16, ReportLuns, Unknown}
+use Rattle.scsi_cdb.specs.declared.cdb.Transfer10.{Transfer10}
+use Rattle.scsi_cdb.specs.declared.cdb.Transfer16.{Transfer16}
+use Rattle.scsi_cdb.specs.declared.cdb.Synchronize10.{Synchronize10}
 use Rattle.scsi_cdb.specs.Layout.{Row, always, Hold, AreFilled, put_all, bits_at, number_at}
 use Rattle.scsi_cdb.specs.Layout.Row.{bit, bits, bytes, raw}
 
@@ -46,7 +46,7 @@ synchronize10 s =
     ∷ []
 
 -- The rows of a record. TEST UNIT READY, INQUIRY and REPORT LUNS are SPC-4's, the others SBC-3's;
--- Unknown is own profile.
+-- Unknown is own rule.
 abbrev pub rows : Cdb → List Row
 rows (TestUnitReady control) =
     code 0x00

@@ -11,12 +11,13 @@ inquiry present =
     ∷ codes "VERIDISKISCSI DISK      0001"
 
 -- pages of vital product data (SPC-4, section 7.8): the pages, the serial number, the name of the
--- unit; the names are own profile
+-- unit; the names are own rules
 abbrev pub vpd : ℕ → Option (List ℕ)
 vpd page =
     if page == 0x00 then Some (0x00 ∷ 0x00 ∷ 0x00 ∷ 0x03 ∷ 0x00 ∷ 0x80 ∷ 0x83 ∷ [])
     else if page == 0x80 then Some (0x00 ∷ 0x80 ∷ 0x00 ∷ 0x08 ∷ codes "00000001")
-    else if page == 0x83 then Some (0x00 ∷ 0x83 ∷ 0x00 ∷ 0x14 ∷ 0x02 ∷ 0x01 ∷ 0x00 ∷ 0x10 ∷ codes "VERIDISK00000001")
+    else if page == 0x83 then Some (0x00 ∷ 0x83 ∷ 0x00 ∷ 0x14 ∷ 0x02 ∷ 0x01 ∷ 0x00 ∷ 0x10
+    ∷ codes "VERIDISK00000001")
     else None
 
 -- READ CAPACITY(10) (SBC-3, section 5.15): the last block, or ffffffff where it is above that, and

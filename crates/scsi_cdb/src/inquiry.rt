@@ -3,11 +3,11 @@
 ghost use Rattle.std.specs.Prelude.{◌≡◌, option_map};
 ghost use Rattle.scsi_cdb.specs.ParameterData.{inquiry, vpd};
 
-use crate::numbers::short;
+use crate::luns::short;
 use arrayvec::ArrayVec;
 
 /// Standard INQUIRY data (SPC-4, section 6.6): of a disk, or of a unit that is not there. The names
-/// are own profile.
+/// are own rules.
 pub fn inquiry_bytes(present: bool) -> [u8; 36]
     ensures { result ≡ inquiry present }
 {
@@ -20,7 +20,7 @@ pub fn inquiry_bytes(present: bool) -> [u8; 36]
 
 /// A page of vital product data by its code (SPC-4, section 7.8), or `None` for a code other than
 /// 00, 80 and 83.
-/// The names in the pages are own profile.
+/// The names in the pages are own rules.
 pub fn vpd_bytes(page: u8) -> Option<ArrayVec<u8, 24>>
     ensures { option_map (λ v. v.items) result ≡ vpd page }
 {

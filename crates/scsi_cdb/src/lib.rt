@@ -2,17 +2,19 @@
 //! SBC-3).
 #![tactic(auto)]
 
-mod block;
 mod bytes;
+mod capacity;
+mod cdb;
 mod inquiry;
 pub mod layout;
-mod numbers;
+mod luns;
 mod residual;
 mod sense;
 
-pub use block::{Cdb, Synchronize10, Transfer10, Transfer16};
 pub use bytes::Bytes;
+pub use capacity::{capacity10, capacity16};
+pub use cdb::{Cdb, Synchronize10, Transfer10, Transfer16};
 pub use inquiry::{inquiry_bytes, vpd_bytes};
-pub use numbers::{capacity10, capacity16, report_luns};
+pub use luns::report_luns;
 pub use residual::Residual;
 pub use sense::Sense;

@@ -1,6 +1,6 @@
 //! What another program does with `scsi_cdb`.
 
-ghost use Rattle.scsi_cdb.specs.declared.block.Cdb.{Cdb};
+ghost use Rattle.scsi_cdb.specs.declared.cdb.Cdb.{Cdb};
 ghost use Rattle.scsi_cdb.specs.Blocks.{IsRecord};
 
 use scsi_cdb::Cdb;

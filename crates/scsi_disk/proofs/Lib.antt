@@ -1,5 +1,5 @@
-pub mod Blocks
-pub mod Overlays
-pub mod Planned
-pub mod SparseBlocks
-pub mod Steps
+pub mod BlockLemmas
+pub mod OverlayLemmas
+pub mod PlanLemmas
+pub mod SparseLemmas
+pub mod RunLemmas

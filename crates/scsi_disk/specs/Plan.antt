@@ -3,8 +3,8 @@
 -- are own rules.
 use Rattle.std.specs.Prelude.{ℕ, ◌+◌, ◌-◌, ◌*◌, Bool, true, false, not, ◌==◌, ◌&&◌, ◌||◌, nat_lt, bit_and, min, if◌then◌else◌, List, [], ◌∷◌, length, take, Option, Some, None, option_map, is_none, unwrap_or}
 use Rattle.scsi_cdb.specs.ParameterData.{inquiry, vpd, capacity10_of, capacity16_of, luns}
-use Rattle.scsi_cdb.specs.declared.block.Cdb.{Cdb}
-use Rattle.scsi_cdb.specs.declared.block.Cdb.TheVariants.{Inquiry, Capacity10, Read10, Write10, SyncCache10, Read16, Write16, Capacity16, ReportLuns, Unknown}
+use Rattle.scsi_cdb.specs.declared.cdb.Cdb.{Cdb}
+use Rattle.scsi_cdb.specs.declared.cdb.Cdb.TheVariants.{Inquiry, Capacity10, Read10, Write10, SyncCache10, Read16, Write16, Capacity16, ReportLuns, Unknown}
 use Rattle.scsi_cdb.specs.declared.sense.Sense.{Sense}
 use Rattle.scsi_cdb.specs.declared.sense.Sense.TheVariants.{InvalidCode, OutOfRange, InvalidField, NoUnit}
 use Rattle.scsi_disk.specs.declared.order.Order.{Order}

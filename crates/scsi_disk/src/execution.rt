@@ -77,7 +77,7 @@ fn read_front<S: BlockStore>(
 }
 
 /// Gives the data of an order that is planned to give so many bytes.
-#[tactic(auto, using(crate::proofs::Planned::given))]
+#[tactic(auto, using(crate::proofs::PlanLemmas::given))]
 fn give<S: BlockStore>(
     alloc: Global,
     order: &Order,

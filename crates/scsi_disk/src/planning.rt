@@ -251,8 +251,8 @@ pub(crate) fn wanted_length(order: &Order, blocks: u64) -> u32
 /// 3. `InvalidField`: it has data both ways, or sends data to a command that is no WRITE.
 /// 4. `InvalidField`: it asks for protection, or for a page or a report that there is not.
 /// 5. `InvalidField`: it is over 8,192 blocks.
-/// 6. `OutOfRange`: its blocks end past the last one, also those of a SYNCHRONIZE CACHE, to which the
-///    limit of 8,192 blocks does not apply. No blocks at the end are in range.
+/// 6. `OutOfRange`: its blocks end past the last one, also those of a SYNCHRONIZE CACHE, to which
+///    the limit of 8,192 blocks does not apply. No blocks at the end are in range.
 /// 7. `InvalidField`: it is a WRITE whose expected length is not that of its blocks, or that has
 ///    blocks and sends no data.
 ///

@@ -138,7 +138,8 @@ impl SparseStore {
         }
     }
 
-    /// Whether the extents of some blocks are all there. It looks up the first, and goes on from it.
+    /// Whether the extents of some blocks are all there. It looks up the first, and goes on from
+    /// it.
     fn has_all(&self, first: u64, count: u64) -> bool
         requires { first + count ≤ self.now.count }
         ensures there { result ≡ true → HasBlocks self.now.extents first count }

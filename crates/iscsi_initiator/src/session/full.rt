@@ -3,8 +3,8 @@
 ghost use Rattle.std.specs.Prelude.{◌≡◌, ℕ, List, Some, OnErr, IfOk};
 ghost use Rattle.iscsi_pdu.specs.Meaning.{Fits};
 ghost use Rattle.iscsi_pdu.specs.declared.head.Head.TheVariants as heads;
-ghost use Rattle.iscsi_initiator.specs.Full.{Asked, Notice, Refusal, tag_of, nop_answer, takes, full_step};
-ghost use Rattle.iscsi_initiator.specs.Inside.{Did, uncounted, broken, passed_by};
+ghost use Rattle.iscsi_initiator.specs.Full.{UnsolicitedNopIn, Async, RejectPdu, tag_of, answer_due, nop_answer, takes, full_step};
+ghost use Rattle.iscsi_initiator.specs.Inside.{Did, rolled_back, broken_rule, update_counters_by};
 
 use super::Session;
 use crate::fault::InitiatorFault;
@@ -45,38 +45,72 @@ impl Session {
         requires fits { Fits head.now }
         ensures ok { IfOk result (λ fault. Did (full_step self.old head.now bytes.now)
             fault self.new out.old.items out.new.items) }
-        ensures err { OnErr result (uncounted self.old self.new ≡ self.old) }
+        ensures err { OnErr result (rolled_back self.old self.new ≡ self.old) }
         ensures unwritten { OnErr result (out.new.items ≡ out.old.items) }
     {
         match head {
-            Head::NopIn(head) if head.initiator_task_tag == RESERVED_TAG => self.on_asked(
+            Head::NopIn(head) if head.initiator_task_tag == RESERVED_TAG => self.on_nop_in(
                 head, bytes, out,
             ),
-            Head::AsyncMessage(head) => self.on_notice(head, bytes, out),
-            Head::Reject(head) => self.on_refusal(head, bytes, out),
-            _ if tag_of(head) == self.initiator_task_tag => self.on_answer(head, bytes, out),
-            _ => Ok(self.breaks(KIND_NOT_DUE)),
+            Head::AsyncMessage(head) => self.on_async(head, bytes, out),
+            Head::Reject(head) => self.on_reject(head, bytes, out),
+            Head::NopOut(_)
+            | Head::ScsiCommand(_)
+            | Head::TaskRequest(_)
+            | Head::LoginRequest(_)
+            | Head::TextRequest(_)
+            | Head::DataOut(_)
+            | Head::LogoutRequest(_)
+            | Head::NopIn(_)
+            | Head::ScsiResponse(_)
+            | Head::TaskResponse(_)
+            | Head::LoginResponse(_)
+            | Head::TextResponse(_)
+            | Head::DataIn(_)
+            | Head::LogoutResponse(_)
+            | Head::ReadyToTransfer(_) => self.on_tagged(head, bytes, out),
+        }
+    }
+
+    // A message that answers the outstanding request if it has its task tag.
+    fn on_tagged(
+        &mut self,
+        head: &Head,
+        bytes: &[u8],
+        out: &mut Vec<u8>,
+    ) -> Result<Option<InitiatorFault>, AllocError>
+        requires fits { Fits head.now }
+        ensures ok { IfOk result (λ fault. Did (takes (answer_due self.old head.now) self.old
+            bytes.now) fault self.new out.old.items out.new.items) }
+        ensures err { OnErr result (rolled_back self.old self.new ≡ self.old) }
+        ensures unwritten { OnErr result (out.new.items ≡ out.old.items) }
+    {
+        if tag_of(head) == self.initiator_task_tag {
+            self.on_answer(head, bytes, out)
+        } else {
+            Ok(self.protocol_error(KIND_NOT_DUE))
         }
     }
 
     // A NOP-In that answers no ping; one with a transfer tag is answered.
-    #[tactic(auto, using(crate::proofs::Passing::takes_broken, crate::proofs::Passing::takes_passed, crate::proofs::Writing::one_message))]
-    fn on_asked(
+    #[tactic(auto, using(crate::proofs::CounterLemmas::takes_broken, crate::proofs::CounterLemmas::takes_updated, crate::proofs::WritingLemmas::one_message))]
+    fn on_nop_in(
         &mut self,
         head: &NopIn,
         bytes: &[u8],
         out: &mut Vec<u8>,
     ) -> Result<Option<InitiatorFault>, AllocError>
         requires fits { Fits (heads.NopIn head.now) }
-        ensures ok { IfOk result (λ fault. Did (takes (Some (Asked head.now)) self.old bytes.now)
+        ensures ok { IfOk result (λ fault. Did
+            (takes (Some (UnsolicitedNopIn head.now)) self.old bytes.now)
             fault self.new out.old.items out.new.items) }
-        ensures err { OnErr result (uncounted self.old self.new ≡ self.old) }
+        ensures err { OnErr result (rolled_back self.old self.new ≡ self.old) }
         ensures unwritten { OnErr result (out.new.items ≡ out.old.items) }
     {
-        if let Some(rule) = self.broken(bytes.len(), None) {
-            return Ok(self.breaks(rule));
+        if let Some(rule) = self.broken_rule(bytes.len(), None) {
+            return Ok(self.protocol_error(rule));
         }
-        self.pass(None, head.exp_cmd_sn, head.max_cmd_sn);
+        self.update_counters(None, head.exp_cmd_sn, head.max_cmd_sn);
         if head.target_transfer_tag == RESERVED_TAG {
             return Ok(None);
         }
@@ -101,62 +135,63 @@ impl Session {
     }
 
     // An asynchronous message is counted, and asks for nothing.
-    #[tactic(auto, using(crate::proofs::Passing::takes_broken, crate::proofs::Passing::takes_passed))]
-    fn on_notice(
+    #[tactic(auto, using(crate::proofs::CounterLemmas::takes_broken, crate::proofs::CounterLemmas::takes_updated))]
+    fn on_async(
         &mut self,
         head: &AsyncMessage,
         bytes: &[u8],
         out: &mut Vec<u8>,
     ) -> Result<Option<InitiatorFault>, AllocError>
-        ensures ok { IfOk result (λ fault. Did (takes (Some (Notice head.now)) self.old bytes.now)
+        ensures ok { IfOk result (λ fault. Did (takes (Some (Async head.now)) self.old bytes.now)
             fault self.new out.old.items out.new.items) }
-        ensures err { OnErr result (uncounted self.old self.new ≡ self.old) }
+        ensures err { OnErr result (rolled_back self.old self.new ≡ self.old) }
         ensures unwritten { OnErr result (out.new.items ≡ out.old.items) }
     {
-        if let Some(rule) = self.broken(bytes.len(), Some(head.stat_sn)) {
-            return Ok(self.breaks(rule));
+        if let Some(rule) = self.broken_rule(bytes.len(), Some(head.stat_sn)) {
+            return Ok(self.protocol_error(rule));
         }
-        self.pass(Some(head.stat_sn), head.exp_cmd_sn, head.max_cmd_sn);
+        self.update_counters(Some(head.stat_sn), head.exp_cmd_sn, head.max_cmd_sn);
         Ok(None)
     }
 
     // A Reject breaks a rule.
-    #[tactic(auto, using(crate::proofs::Passing::takes_broken, crate::proofs::Passing::takes_passed))]
-    fn on_refusal(
+    #[tactic(auto, using(crate::proofs::CounterLemmas::takes_broken, crate::proofs::CounterLemmas::takes_updated))]
+    fn on_reject(
         &mut self,
         head: &Reject,
         bytes: &[u8],
         out: &mut Vec<u8>,
     ) -> Result<Option<InitiatorFault>, AllocError>
-        ensures ok { IfOk result (λ fault. Did (takes (Some (Refusal head.now)) self.old bytes.now)
+        ensures ok { IfOk result (λ fault. Did
+            (takes (Some (RejectPdu head.now)) self.old bytes.now)
             fault self.new out.old.items out.new.items) }
-        ensures err { OnErr result (uncounted self.old self.new ≡ self.old) }
+        ensures err { OnErr result (rolled_back self.old self.new ≡ self.old) }
         ensures unwritten { OnErr result (out.new.items ≡ out.old.items) }
     {
-        if let Some(rule) = self.broken(bytes.len(), Some(head.stat_sn)) {
-            return Ok(self.breaks(rule));
+        if let Some(rule) = self.broken_rule(bytes.len(), Some(head.stat_sn)) {
+            return Ok(self.protocol_error(rule));
         }
-        self.pass(Some(head.stat_sn), head.exp_cmd_sn, head.max_cmd_sn);
-        Ok(self.breaks(REJECTED))
+        self.update_counters(Some(head.stat_sn), head.exp_cmd_sn, head.max_cmd_sn);
+        Ok(self.protocol_error(REJECTED))
     }
 
     // The rule that a message breaks that is due: its segment is too long, or its StatSN, if it
     // counts, is not the expected one.
-    pub(super) fn broken(&self, len: usize, stat_sn: Option<u32>) -> Option<u8>
-        ensures { result ≡ broken self.now len stat_sn }
+    pub(super) fn broken_rule(&self, len: usize, stat_sn: Option<u32>) -> Option<u8>
+        ensures { result ≡ broken_rule self.now len stat_sn }
     {
         if len > self.held.initiator_max_recv as usize {
             return Some(SEGMENT_TOO_LONG);
         }
         match stat_sn {
             Some(stat_sn) if !self.is_expected(stat_sn) => Some(STATUS_OUT_OF_ORDER),
-            _ => None,
+            Some(_) | None => None,
         }
     }
 
-    // A message has passed: its StatSN, if it counts, and its window are counted.
-    pub(super) fn pass(&mut self, stat_sn: Option<u32>, exp_cmd_sn: u32, max_cmd_sn: u32)
-        ensures { self.new ≡ passed_by self.old stat_sn exp_cmd_sn max_cmd_sn }
+    // The StatSN of a message, if it counts, and its window are counted.
+    pub(super) fn update_counters(&mut self, stat_sn: Option<u32>, exp_cmd_sn: u32, max_cmd_sn: u32)
+        ensures { self.new ≡ update_counters_by self.old stat_sn exp_cmd_sn max_cmd_sn }
     {
         if let Some(stat_sn) = stat_sn {
             self.exp_stat_sn = Some(stat_sn.wrapping_add(1));
@@ -176,6 +211,16 @@ fn tag_of(head: &Head) -> u32
         Head::ReadyToTransfer(head) => head.initiator_task_tag,
         Head::TextResponse(head) => head.initiator_task_tag,
         Head::LogoutResponse(head) => head.initiator_task_tag,
-        _ => RESERVED_TAG,
+        Head::NopOut(_)
+        | Head::ScsiCommand(_)
+        | Head::TaskRequest(_)
+        | Head::LoginRequest(_)
+        | Head::TextRequest(_)
+        | Head::DataOut(_)
+        | Head::LogoutRequest(_)
+        | Head::TaskResponse(_)
+        | Head::LoginResponse(_)
+        | Head::AsyncMessage(_)
+        | Head::Reject(_) => RESERVED_TAG,
     }
 }

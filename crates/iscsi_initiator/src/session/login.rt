@@ -7,8 +7,8 @@ ghost use Rattle.iscsi_pdu.specs.Meaning.{Fits, whole};
 ghost use Rattle.iscsi_pdu.specs.declared.head.Head.TheVariants as heads;
 ghost use Rattle.iscsi_stream.specs.Segment.{Text as Whole, segment_of, text_or_bytes};
 ghost use Rattle.iscsi_login.specs.Answer.{DeclaresWell, initiator_holds};
-ghost use Rattle.iscsi_initiator.specs.Login.{asked, asked_from, login_request, fits_segment, sends_text, sends_more, is_expected, counted, enters, text_answered, is_empty_segment, goes_on, moves_on, in_turn, answered, login_step, start_step};
-ghost use Rattle.iscsi_initiator.specs.Inside.{Did, uncounted};
+ghost use Rattle.iscsi_initiator.specs.Login.{requested_stage, following_stage, login_request, fits_segment, sends_text, sends_more, is_expected, counted, begins_stage, text_answered, is_empty_segment, goes_on, moves_on, in_turn, answered, login_step, start_step};
+ghost use Rattle.iscsi_initiator.specs.Inside.{Did, rolled_back};
 
 use super::Session;
 use crate::fault::InitiatorFault;
@@ -20,7 +20,7 @@ use iscsi_text::Text;
 use std::alloc::AllocError;
 
 impl Session {
-    /// Starts the login: its first text goes out, or a part of it. A second start breaks a rule.
+    /// Starts the login: its first text is sent, or a part of it. A second start breaks a rule.
     pub fn start(&mut self, out: &mut Vec<u8>) -> Result<Option<InitiatorFault>, AllocError>
         ensures ok { IfOk result (λ fault. Did (start_step self.old) fault
             self.new out.old.items out.new.items) }
@@ -28,7 +28,7 @@ impl Session {
         ensures unwritten { OnErr result (out.new.items ≡ out.old.items) }
     {
         if self.started {
-            return Ok(self.breaks(KIND_NOT_DUE));
+            return Ok(self.protocol_error(KIND_NOT_DUE));
         }
         self.send_text(out)?;
         self.started = true;
@@ -49,10 +49,10 @@ impl Session {
         ensures unwritten { OnErr result (out.new.items ≡ out.old.items) }
     {
         let Head::LoginResponse(response) = &pdu.head else {
-            return Ok(self.breaks(KIND_NOT_DUE));
+            return Ok(self.protocol_error(KIND_NOT_DUE));
         };
         if response.initiator_task_tag != 0 {
-            return Ok(self.breaks(KIND_NOT_DUE));
+            return Ok(self.protocol_error(KIND_NOT_DUE));
         }
         let text = text_of(*out.allocator(), pdu, continued)?;
         self.answered(response, text.as_ref(), pdu.bytes, out)
@@ -79,16 +79,16 @@ impl Session {
             )));
         }
         if !self.is_expected(response.stat_sn.unwrap_or(0)) {
-            return Ok(self.breaks(STATUS_OUT_OF_ORDER));
+            return Ok(self.protocol_error(STATUS_OUT_OF_ORDER));
         }
-        if self.left.is_empty() {
+        if self.unsent_text.is_empty() {
             self.on_last(response, text, out)
         } else {
             self.on_part(response, text, bytes, out)
         }
     }
 
-    // An answer in the midst of a text: its next segment goes out.
+    // An answer in the midst of a text: its next segment is sent.
     fn on_part(
         &mut self,
         response: &LoginResponse,
@@ -96,15 +96,15 @@ impl Session {
         bytes: &[u8],
         out: &mut Vec<u8>,
     ) -> Result<Option<InitiatorFault>, AllocError>
-        requires { self.old.left ≢ [] }
-        ensures ok { IfOk result (λ fault. Did (in_turn self.old.left self.old response.now
+        requires { self.old.unsent_text ≢ [] }
+        ensures ok { IfOk result (λ fault. Did (in_turn self.old.unsent_text self.old response.now
             (text_or_bytes (option_map (λ t. t.now) text.entry) bytes.now)) fault
             self.new out.old.items out.new.items) }
         ensures err { OnErr result (self.new ≡ self.old) }
         ensures unwritten { OnErr result (out.new.items ≡ out.old.items) }
     {
         if !self.goes_on(response, text, bytes) {
-            return Ok(self.breaks(LOGIN_OUT_OF_TURN));
+            return Ok(self.protocol_error(LOGIN_OUT_OF_TURN));
         }
         let (exp_stat_sn, window) = (self.exp_stat_sn, self.window);
         self.count(response);
@@ -123,19 +123,20 @@ impl Session {
         text: Option<&Text<'_>>,
         out: &mut Vec<u8>,
     ) -> Result<Option<InitiatorFault>, AllocError>
-        requires { self.old.left ≡ [] }
-        ensures ok { IfOk result (λ fault. (bytes : List ℕ) → Did (in_turn self.old.left self.old
-            response.now (text_or_bytes (option_map (λ t. t.now) text.entry) bytes)) fault
+        requires { self.old.unsent_text ≡ [] }
+        ensures ok { IfOk result (λ fault. (bytes : List ℕ) → Did
+            (in_turn self.old.unsent_text self.old response.now
+            (text_or_bytes (option_map (λ t. t.now) text.entry) bytes)) fault
             self.new out.old.items out.new.items) }
         ensures err { OnErr result (self.new ≡ self.old) }
         ensures unwritten { OnErr result (out.new.items ≡ out.old.items) }
     {
         if !self.moves_on(response) {
-            return Ok(self.breaks(LOGIN_OUT_OF_TURN));
+            return Ok(self.protocol_error(LOGIN_OUT_OF_TURN));
         }
         match text {
             Some(answer) => self.on_text(response, answer, out),
-            None => Ok(self.breaks(TEXT_AT_FAULT)),
+            None => Ok(self.protocol_error(TEXT_AT_FAULT)),
         }
     }
 
@@ -154,10 +155,10 @@ impl Session {
         if let Some(key) = self.config.bad_key(self.stage, answer) {
             return Ok(self.fails(InitiatorFault::BadAnswer(key)));
         }
-        let next = asked_from(self.stage);
+        let next = following_stage(self.stage);
         let (exp_stat_sn, window) = (self.exp_stat_sn, self.window);
         self.count(response);
-        if let Err(error) = self.enter(next, out) {
+        if let Err(error) = self.begin_stage(next, out) {
             self.exp_stat_sn = exp_stat_sn;
             self.window = window;
             return Err(error);
@@ -175,9 +176,9 @@ impl Session {
         self.held.hold_answer(answer, None);
     }
 
-    // The stage moves, and the next text goes out, if there is one.
-    fn enter(&mut self, stage: Stage, out: &mut Vec<u8>) -> Result<(), AllocError>
-        ensures ok { OnOk result (Did (enters stage self.old) None
+    // The stage moves, and the next text is sent, if there is one.
+    fn begin_stage(&mut self, stage: Stage, out: &mut Vec<u8>) -> Result<(), AllocError>
+        ensures ok { OnOk result (Did (begins_stage stage self.old) None
             self.new out.old.items out.new.items) }
         ensures err { OnErr result (self.new ≡ self.old) }
         ensures unwritten { OnErr result (out.new.items ≡ out.old.items) }
@@ -234,11 +235,11 @@ impl Session {
         response.transits
             && !response.continues
             && response.current_stage == self.stage.number()
-            && response.next_stage.unwrap_or(0) == asked_from(self.stage).number()
+            && response.next_stage.unwrap_or(0) == following_stage(self.stage).number()
     }
 
-    // The present text goes out whole, or its first segment does.
-    #[tactic(auto, using(crate::proofs::Sending::sent_text))]
+    // The present text is sent whole, or its first segment is.
+    #[tactic(auto, using(crate::proofs::LoginSendLemmas::sent_text))]
     fn send_text(&mut self, out: &mut Vec<u8>) -> Result<(), AllocError>
         ensures ok { OnOk result (Did (sends_text self.old) None
             self.new out.old.items out.new.items) }
@@ -249,24 +250,24 @@ impl Session {
         self.config.write_text(self.stage, &mut text)?;
         let len = self.write_segment(&text, out)?;
         drop_front(&mut text, len);
-        self.left = text;
+        self.unsent_text = text;
         Ok(())
     }
 
-    // The next segment of the present text goes out.
-    #[tactic(auto, using(crate::proofs::Sending::sent_more))]
+    // The next segment of the present text is sent.
+    #[tactic(auto, using(crate::proofs::LoginSendLemmas::sent_more))]
     fn send_more(&mut self, out: &mut Vec<u8>) -> Result<(), AllocError>
         ensures ok { OnOk result (Did (sends_more self.old) None
             self.new out.old.items out.new.items) }
         ensures err { OnErr result (self.new ≡ self.old) }
         ensures unwritten { OnErr result (out.new.items ≡ out.old.items) }
     {
-        let len = self.write_segment(&self.left, out)?;
-        drop_front(&mut self.left, len);
+        let len = self.write_segment(&self.unsent_text, out)?;
+        drop_front(&mut self.unsent_text, len);
         Ok(())
     }
 
-    // Writes as many bytes of the text as one segment takes, and says how many.
+    // Writes as many bytes of the text as one segment takes, and returns how many.
     fn write_segment(&self, text: &[u8], out: &mut Vec<u8>) -> Result<usize, AllocError>
         ensures count { IfOk result (λ n. (n ≤ length text.now)
             × (drop n text.now ≡ drop self.now.settings.login_segment text.now)) }
@@ -291,7 +292,7 @@ impl Session {
             transits: is_last,
             continues: !is_last,
             current_stage: self.stage.number(),
-            next_stage: is_last.then_some(asked_from(self.stage).number()),
+            next_stage: is_last.then_some(following_stage(self.stage).number()),
             version_max: 0,
             version_min: 0,
             isid: self.config.isid(),
@@ -304,9 +305,9 @@ impl Session {
     }
 }
 
-// The stage that a text of this stage asks for.
-fn asked_from(stage: Stage) -> Stage
-    ensures { result ≡ asked_from stage }
+// The next stage that a text of this stage requests.
+fn following_stage(stage: Stage) -> Stage
+    ensures { result ≡ following_stage stage }
 {
     match stage {
         Stage::Security => Stage::Operational,

@@ -15,7 +15,7 @@ ghost use Rattle.iscsi_initiator.specs.Inside.{unsolicited_head};
 
 use super::Session;
 use super::sequence::write_sequence;
-use crate::open::{MOST_BYTES, Open, Reading, Writing};
+use crate::outstanding::{MOST_BYTES, Outstanding, Reading, Writing};
 use crate::request::{Refused, Request, SubmitFault};
 use iscsi_login::{Answered, NegKey, Phase};
 use iscsi_pdu::{
@@ -65,7 +65,7 @@ impl Session {
         ensures fault { result ≡ refusal_when_full self.now request.now }
         ensures short { result ≡ None → is_too_long self.now request.now ≡ false }
     {
-        if self.open_request.is_some() || self.done.is_some() {
+        if self.outstanding.is_some() || self.done.is_some() {
             return Some(SubmitFault::Busy);
         }
         if !Serial(self.cmd_sn).within(self.window.exp, self.window.max) {
@@ -92,13 +92,14 @@ impl Session {
     }
 
     // Appends what an accepted request sends, or leaves `out` as it was.
-    #[tactic(auto, using(crate::proofs::Writing::one_message))]
+    #[tactic(auto, using(crate::proofs::WritingLemmas::one_message))]
     fn write_request(&self, request: &Request, out: &mut Vec<u8>) -> Result<(), AllocError>
         requires { is_too_long self.now request.now ≡ false }
         ensures ok { OnOk result
             (out.new.items ≡ out.old.items ++ canon (accepted self.now request.now).output) }
         ensures err { OnErr result (out.new.items ≡ out.old.items) }
     {
+        // Its contract says how many bytes one segment takes.
         let _most = self.most_sent();
         match request {
             Request::In { lun, cdb, expected } => {
@@ -125,7 +126,7 @@ impl Session {
     }
 
     // Appends a write's command with its immediate data, and its unsolicited data.
-    #[tactic(auto, using(crate::proofs::Writing::write_sent))]
+    #[tactic(auto, using(crate::proofs::WritingLemmas::write_sent))]
     fn write_out(
         &self,
         lun: u64,
@@ -290,19 +291,19 @@ impl Session {
         requires { is_too_long self.old request ≡ false }
         ensures { self.new ≡ (accepted self.old request).machine }
     {
-        let open = self.opened_by(request, alloc);
+        let outstanding = self.outstanding_for(request, alloc);
         self.initiator_task_tag = next_tag(self.initiator_task_tag);
         self.cmd_sn = self.cmd_sn.wrapping_add(1);
-        self.open_request = Some(open);
+        self.outstanding = Some(outstanding);
     }
 
-    // What is open once a request was sent.
-    fn opened_by(&self, request: Request, alloc: Global) -> Open
+    // What is outstanding once a request was sent.
+    fn outstanding_for(&self, request: Request, alloc: Global) -> Outstanding
         requires { is_too_long self.now request ≡ false }
         ensures { begun self.now result ≡ (accepted self.now request).machine }
     {
         match request {
-            Request::In { expected, .. } => Open::In(Reading {
+            Request::In { expected, .. } => Outstanding::In(Reading {
                 expected,
                 received: Vec::new(alloc),
                 next_data_sn: 0,
@@ -310,15 +311,15 @@ impl Session {
             Request::Out { bytes, .. } => {
                 let immediate = self.immediate(bytes.as_slice()).len();
                 let sent = immediate + self.unsolicited(bytes.as_slice()).len();
-                Open::Out(Writing {
+                Outstanding::Out(Writing {
                     bytes: bytes.into_vec(),
                     sent,
                     next_r2t_sn: 0,
                 })
             }
-            Request::Ping { .. } => Open::Ping,
-            Request::Text { .. } => Open::Text,
-            Request::Logout => Open::Logout,
+            Request::Ping { .. } => Outstanding::Ping,
+            Request::Text { .. } => Outstanding::Text,
+            Request::Logout => Outstanding::Logout,
         }
     }
 }

@@ -1,6 +1,6 @@
 //! Sessions by example, in pieces of any length.
 //!
-//! A line with `>` is a PDU that comes from the target, one with `<` a PDU that is sent to it: the
+//! A line with `T>` is a PDU that the target sends, one with `I>` a PDU that the initiator sends: the
 //! header in hex, and what the segment has, without padding: nothing, words of hex, as `5a*512` for
 //! so many of a byte, behind an apostrophe a text, in which `|` stands for a byte 00, or `@` for the
 //! standard text of the operational stage. A line with `#` begins a session. A line with
@@ -13,9 +13,10 @@ use super::logins::LOGINS;
 use super::preludes::BURSTS;
 use super::requests::REQUESTS;
 use super::words::{answer_of, outcome_of, phase_of, place_of, submit_of};
-use super::{feed_pieces, initiator_of, lines_before, pdu_of, request_of, segment_of};
+use super::{feed_pieces, initiator_of, lines_before, pdu_of, request_of};
+use iscsi_examples::{SESSION, append_pdu, segment_of};
 use iscsi_initiator::Initiator;
-use iscsi_login::{Answered, NegKey};
+use iscsi_login::{Answered, NegKey, Phase};
 use std::alloc::Global;
 use std::process::Abort;
 use std::test::Fail;
@@ -88,13 +89,13 @@ impl Turn {
         }
     }
 
-    // Takes a line with `!`, `>`, `<` or `:`.
+    // Takes a line with `!`, `T>`, `I>` or `:`.
     fn take(&mut self, alloc: Global, mark: &str, rest: &str) -> Result<(), Fail> {
         match mark {
             "!" => Ok(self.call.push_str(rest)?),
-            ">" => pdu_of(alloc, rest, &mut self.came),
-            "<" => pdu_of(alloc, rest, &mut self.want),
-            ":" => segment_of(alloc, rest, &mut self.want),
+            "T>" => pdu_of(alloc, rest, &mut self.came),
+            "I>" => pdu_of(alloc, rest, &mut self.want),
+            ":" => Ok(self.want.extend_from_slice(&segment_of(alloc, rest)?)?),
             _ => Err(Fail::from("no such line")),
         }
     }
@@ -215,5 +216,46 @@ fn held_after_the_login(rt: HostRuntime) -> Result<(), Fail> {
     check_held(&rt, &initiator, &AFTER);
     assert_eq!(rt; initiator.params().initiator_max_recv, 8192);
     assert_eq!(rt; initiator.params().target_max_recv, 512);
+    Ok(())
+}
+
+// Does what a line asks of an initiator, whose last outcome was taken.
+fn call(
+    alloc: Global,
+    initiator: &mut Initiator,
+    call: &str,
+    out: &mut Vec<u8>,
+) -> Result<(), Fail> {
+    if call == "start" {
+        return Ok(initiator.start(out)?);
+    }
+    initiator.outcome();
+    match initiator.submit(request_of(alloc, call)?, out) {
+        Ok(()) => Ok(()),
+        Err(_) => Err(Fail::from("not submitted")),
+    }
+}
+
+/// The initiator's part of the session of both ends, a PDU at a time.
+#[test]
+fn a_session_of_both_ends(rt: HostRuntime) -> Result<(), Fail> {
+    let mut initiator = initiator_of(rt.alloc(), "standard")?;
+    let (mut out, mut want) = (Vec::new(rt.alloc()), Vec::new(rt.alloc()));
+    for line in SESSION.lines() {
+        let (mark, rest) = line.split_once(' ').ok_or("no mark")?;
+        match mark {
+            "!" => call(rt.alloc(), &mut initiator, rest, &mut out)?,
+            "I>" => append_pdu(rest, &mut want)?,
+            "T>" => {
+                assert_eq!(rt; out, want, "{line}");
+                let mut came = Vec::new(rt.alloc());
+                append_pdu(rest, &mut came)?;
+                initiator.feed(&came, &mut out)?;
+            }
+            _ => return Err(Fail::from("no such line")),
+        }
+    }
+    assert_eq!(rt; out, want);
+    assert_eq!(rt; initiator.phase(), Phase::Closed);
     Ok(())
 }

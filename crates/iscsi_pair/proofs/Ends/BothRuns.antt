@@ -1,32 +1,6 @@
 -- Both ends of a pair, in every world that it comes to.
-use Rattle.std.proofs.Common.{
-  ◌≡◌,
-  ℕ,
-  Bool,
-  true,
-  false,
-  List,
-  [],
-  ◌∷◌,
-  ◌++◌,
-  length,
-  take,
-  drop,
-  Option,
-  Some,
-  None,
-  Result,
-  Ok,
-  Err,
-  inl,
-  inr,
-  refl,
-  sym,
-  ap,
-  ◌∙◌,
-  subst,
-  append_assoc,
-}
+use Rattle.std.proofs.Common.{◌≡◌, ℕ, Bool, true, false, List, [], ◌∷◌, ◌++◌, length, take, drop, Option, Some, None, Result, Ok, Err, inl, inr, refl, sym, ap}
+use Rattle.std.proofs.Common.{◌∙◌, subst, append_assoc}
 use Rattle.std.specs.Result.{result_err}
 use Rattle.std.proofs.Math.Seq.{drop-append_seam, drop-length}
 use Rattle.std.proofs.lemmas.List.{append-nil, take-append-drop, length-take, drop_min}
@@ -46,47 +20,16 @@ use Rattle.iscsi_initiator.specs.declared.request.Request.{Request}
 use Rattle.iscsi_initiator.specs.declared.request.Refused.{Refused}
 use Rattle.iscsi_initiator.specs.Submitted.{submitted}
 use Rattle.iscsi_initiator.specs.Calls as initiator
-use Rattle.iscsi_initiator.specs.Calls.{heard_steps}
+use Rattle.iscsi_initiator.specs.Calls.{received_steps}
 use Rattle.iscsi_pair.specs.declared.step.EndFault.{EndFault}
-use Rattle.iscsi_pair.specs.World.{
-  World,
-  Opening,
-  Event,
-  ToTarget,
-  ToInitiator,
-  Submits,
-  Takes,
-  TargetHears,
-  InitiatorHears,
-  MovesToTarget,
-  MovesToInitiator,
-  Asks,
-  Happens,
-  Runs,
-  new_pair,
-  store_of,
-  feed_fault,
-  submit_fault,
-}
+use Rattle.iscsi_pair.specs.World.{World, Opening, Event, ToTarget, ToInitiator, Submits, Takes, TargetReceives, InitiatorReceives, MovesToTarget}
+use Rattle.iscsi_pair.specs.World.{MovesToInitiator, Asks, Happens, Runs, new_pair, store_of, feed_fault, submit_fault}
 use Rattle.iscsi_initiator.specs.Laws as inputs
 use Rattle.iscsi_pair.specs.Traffic.{Traffic, first_traffic, behind, traffic_after, Traces}
-use Rattle.iscsi_pair.proofs.Ends.TargetRun.{
-  TargetSide,
-  target_heard,
-  opening_side as target_opening,
-  front_drops as target_drops,
-  failed_drops as target_failed,
-}
-use Rattle.iscsi_pair.proofs.Ends.InitiatorRun.{
-  InitiatorSide,
-  initiator_heard,
-  initiator_asked,
-  initiator_took_outcome,
-  failed_drops,
-  fault_drops,
-  opening_side as initiator_opening,
-  front_drops as initiator_drops,
-}
+use Rattle.iscsi_pair.proofs.Ends.TargetRun.{TargetSide, target_heard, opening_side as target_opening, front_drops as target_drops}
+use Rattle.iscsi_pair.proofs.Ends.TargetRun.{failed_drops as target_failed}
+use Rattle.iscsi_pair.proofs.Ends.InitiatorRun.{InitiatorSide, initiator_heard, initiator_asked, initiator_took_outcome, failed_drops, fault_drops}
+use Rattle.iscsi_pair.proofs.Ends.InitiatorRun.{opening_side as initiator_opening, front_drops as initiator_drops}
 
 -- what holds of a world and of what went between its ends, where the initiator met these inputs first
 pub record SidesFrom (past : List inputs.Input) (c : Opening) (t : Traffic) (w : World) : Type 0 where
@@ -151,23 +94,24 @@ target_grows false old before output piece result new after written f =
 stream_grows : (fault : StreamFault) (old : initiator.Connection) (piece : List ℕ) (new : initiator.Connection) (before after : List ℕ)
     → initiator.StreamFails fault old piece new before after → Grows before after
 stream_grows stream.NoMemory old piece new before after e = absurd e
-stream_grows (stream.Head fault place) old piece new before after e = record { more = canon (heard_steps old piece e.0).output; is = e.1.output }
-stream_grows (stream.OverLimit place) old piece new before after e = record { more = canon (heard_steps old piece e.0).output; is = e.1.output }
-stream_grows (stream.Truncated place) old piece new before after e = record { more = canon (heard_steps old piece e.0).output; is = e.1.output }
-stream_grows stream.Failed old piece new before after e = record { more = canon (heard_steps old piece e.0).output; is = e.1.output }
+stream_grows (stream.Head fault place) old piece new before after e = record { more = canon (received_steps old piece e.0).output; is = e.1.output }
+stream_grows (stream.OverLimit place) old piece new before after e = record { more = canon (received_steps old piece e.0).output; is = e.1.output }
+stream_grows (stream.Truncated place) old piece new before after e = record { more = canon (received_steps old piece e.0).output; is = e.1.output }
+stream_grows stream.Failed old piece new before after e = record { more = canon (received_steps old piece e.0).output; is = e.1.output }
 
 initiator_grows : (result : Result Phase InitiatorFault) (old : initiator.Connection) (piece : List ℕ) (new : initiator.Connection) (before after : List ℕ)
     → initiator.Feeds result old piece new before after → Grows before after
 initiator_grows (Ok phase) old piece new before after e =
     elim e.1.1 [
-      | inl all ↦ record { more = canon (heard_steps old piece e.1.0).output; is = all.output }
-      | inr over ↦ record { more = canon (heard_steps old piece e.1.0).output; is = over.0.output }
+      | inl all ↦ record { more = canon (received_steps old piece e.1.0).output; is = all.output }
+      | inr over ↦ record { more = canon (received_steps old piece e.1.0).output; is = over.0.output }
     ]
 initiator_grows (Err faults.NoMemory) old piece new before after e = grows_none before after e.1.output
 initiator_grows (Err (faults.Stream fault)) old piece new before after e = stream_grows fault old piece new before after e
-initiator_grows (Err (faults.Protocol rule)) old piece new before after e = record { more = canon (heard_steps old piece e.0).output; is = e.1.output }
-initiator_grows (Err (faults.Refused class detail)) old piece new before after e = record { more = canon (heard_steps old piece e.0).output; is = e.1.output }
-initiator_grows (Err (faults.BadAnswer key)) old piece new before after e = record { more = canon (heard_steps old piece e.0).output; is = e.1.output }
+initiator_grows (Err (faults.Protocol rule)) old piece new before after e = record { more = canon (received_steps old piece e.0).output; is = e.1.output }
+initiator_grows (Err (faults.Refused class detail)) old piece new before after e =
+    record { more = canon (received_steps old piece e.0).output; is = e.1.output }
+initiator_grows (Err (faults.BadAnswer key)) old piece new before after e = record { more = canon (received_steps old piece e.0).output; is = e.1.output }
 initiator_grows (Err faults.Closed) old piece new before after e = grows_none before after e.output
 
 asked_grows : (result : Result (Unit {0}) Refused) (old : initiator.Connection) (request : Request) (new : initiator.Connection) (before after : List ℕ)
@@ -215,7 +159,7 @@ to_initiator_none t w = λ i. record {
 }
 
 target_hears : (past : List inputs.Input) (c : Opening) (t : Traffic) (old new : World) (k : ℕ) (moved : List ℕ) → moved ≡ take k old.to_target
-    → old.target_fault ≡ None → SidesFrom past c t old → TargetHears moved old new
+    → old.target_fault ≡ None → SidesFrom past c t old → TargetReceives moved old new
     → SidesFrom past c (to_target_adds t old moved new) new
 target_hears past c t old new k moved m none s h =
     let g : Grows old.to_initiator new.to_initiator = target_grows (target_machine.is_closed old.target.machine) old.target (store_of old.blocks)
@@ -268,7 +212,7 @@ moves_to_target (Some fault) (byte ∷ bytes) past c t old new k f m s e =
     subst (λ (x : World). SidesFrom past c (to_target_adds t old moved x) x) (sym e) there
 
 initiator_hears : (past : List inputs.Input) (c : Opening) (t : Traffic) (old new : World) (k : ℕ) (moved : List ℕ) → moved ≡ take k old.to_initiator
-    → old.initiator_fault ≡ None → SidesFrom past c t old → InitiatorHears moved old new
+    → old.initiator_fault ≡ None → SidesFrom past c t old → InitiatorReceives moved old new
     → SidesFrom past c (to_initiator_adds t old moved new) new
 initiator_hears past c t old new k moved m none s h =
     let g : Grows old.to_target new.to_target = initiator_grows h.result old.initiator moved new.initiator old.to_target new.to_target h.fed in

@@ -4,7 +4,7 @@ use Rattle.std.proofs.lemmas.List.{append-nil}
 use Rattle.iscsi_stream.specs.Segment.{no_login}
 use Rattle.iscsi_stream.specs.Stream.{ReadsAs}
 use Rattle.iscsi_stream.specs.Canonical.{canon}
-use Rattle.iscsi_stream.proofs.Ready.{apart}
+use Rattle.iscsi_stream.proofs.ReadyLemmas.{apart}
 use Rattle.iscsi_target.specs.Machine as target_machine
 use Rattle.iscsi_initiator.specs.State.{opening, is_closed}
 use Rattle.iscsi_initiator.specs.Login.{start_step}
@@ -14,7 +14,7 @@ use Rattle.iscsi_pair.specs.Traffic.{Traffic, Traces, TargetStands, InitiatorSta
 use Rattle.iscsi_pair.proofs.Ends.TargetRun.{TargetSide, TargetLives, TargetOver}
 use Rattle.iscsi_pair.proofs.Ends.InitiatorRun.{InitiatorSide, InitiatorLives, InitiatorOver, Follows, all_sent, begun}
 use Rattle.iscsi_pair.proofs.Ends.BothRuns.{Sides, SidesFrom, reached_sides, traced_sides}
-use Rattle.iscsi_stream.proofs.Writing.{canon_append}
+use Rattle.iscsi_stream.proofs.WritingLemmas.{canon_append}
 
 target_by : (b : Bool) (c : Opening) (t : Traffic) (w : World) → target_machine.is_closed w.target.machine ≡ b → w.target_fault ≡ None
     → TargetSide c t.moved_to_target t.queued_for_initiator w.target w.blocks w.target_fault → TargetStands c t w

@@ -8,8 +8,8 @@ use Rattle.iscsi_pdu.specs.declared.head.Head.TheVariants as heads
 use Rattle.iscsi_pdu.specs.declared.head.login_response.LoginResponse.{LoginResponse}
 use Rattle.iscsi_stream.specs.Segment.{Segment, Text, Bytes, segment_bytes}
 use Rattle.iscsi_stream.specs.Stream.{Message}
-use Rattle.iscsi_stream.proofs.Ready.{apart}
-use Rattle.iscsi_initiator.proofs.OneOutcome.{closed_step}
+use Rattle.iscsi_stream.proofs.ReadyLemmas.{apart}
+use Rattle.iscsi_initiator.proofs.OneOutcomeLaw.{closed_step}
 use Rattle.iscsi_login.specs.declared.phase.Phase.{Phase}
 use Rattle.iscsi_login.specs.declared.phase.Phase.TheVariants as phases
 use Rattle.iscsi_login.specs.declared.stage.Stage.{Stage}
@@ -23,30 +23,13 @@ use Rattle.iscsi_initiator.specs.declared.request.Request.TheVariants.{In, Out, 
 use Rattle.iscsi_initiator.specs.declared.request.SubmitFault.{SubmitFault}
 use Rattle.iscsi_initiator.specs.State.{Machine, is_closed}
 use Rattle.iscsi_login.specs.Stage.{is_closed_phase}
-use Rattle.iscsi_initiator.specs.Steps.{Stepped, fails, breaks, sends}
-use Rattle.iscsi_initiator.specs.Login.{
-  login_step,
-  answered,
-  in_turn,
-  is_expected,
-  goes_on,
-  moves_on,
-  text_answered,
-  judged,
-  enters,
-  asked,
-  counted,
-  sends_more,
-  sends_text,
-  sends_cut,
-  offered,
-  fits_segment,
-  login_message,
-}
+use Rattle.iscsi_initiator.specs.Steps.{Stepped, fails, protocol_error, sends}
+use Rattle.iscsi_initiator.specs.Login.{login_step, answered, in_turn, is_expected, goes_on, moves_on, text_answered, judged, begins_stage, requested_stage}
+use Rattle.iscsi_initiator.specs.Login.{counted, sends_more, sends_text, sends_cut, offered, fits_segment, login_message}
 use Rattle.iscsi_initiator.specs.Full.{due}
 use Rattle.iscsi_initiator.specs.Machine.{step, step_in, steps}
 use Rattle.iscsi_initiator.specs.Submitted.{submitted, or_accepted, accepted, refusal}
-use Rattle.iscsi_initiator.proofs.Stepping.{step_is}
+use Rattle.iscsi_initiator.proofs.StepLemmas.{step_is}
 use Rattle.iscsi_initiator.proofs.HeldLaws.{takes_keeps}
 use Rattle.iscsi_pair.specs.Traffic.{after_all}
 use Rattle.iscsi_initiator.specs.Laws.{Input, Comes, Asks, Takes, met}
@@ -76,41 +59,43 @@ goes r p = record {
 -- the first text of a login
 pub text_goes : (m : Machine) → m.phase ≡ phases.Login → EndsWell (sends_text m)
 text_goes m p =
-    by_cases (fits_segment m (canonical_text (offered m))) (sends (record m { left = [] }) (login_message m true (Text (offered m)) ∷ []))
+    by_cases (fits_segment m (canonical_text (offered m))) (sends (record m { unsent_text = [] }) (login_message m true (Text (offered m)) ∷ []))
     (sends_cut m (canonical_text (offered m)) false)
-    (goes (sends (record m { left = [] }) (login_message m true (Text (offered m)) ∷ [])) p) (goes (sends_cut m (canonical_text (offered m)) false) p)
+    (goes (sends (record m { unsent_text = [] }) (login_message m true (Text (offered m)) ∷ [])) p) (goes (sends_cut m (canonical_text (offered m)) false) p)
 
-enters_well : (stage : Stage) (m : Machine) → m.phase ≡ phases.Login → EndsWell (enters stage m)
+enters_well : (stage : Stage) (m : Machine) → m.phase ≡ phases.Login → EndsWell (begins_stage stage m)
 enters_well stages.Security m p = text_goes (record m { stage = stages.Security }) p
 enters_well stages.Operational m p = text_goes (record m { stage = stages.Operational }) p
 enters_well stages.Full m p = record { full = λ e. refl; quiet_end = λ none over. refl }
 
 judged_well : (o : Option (List ℕ)) (m : Machine) (h : LoginResponse) (pairs : Pairs) → m.phase ≡ phases.Login → EndsWell (judged o m h pairs)
 judged_well (Some key) m h pairs p = failed m _
-judged_well None m h pairs p = enters_well (asked m) (record (counted m h) { held = initiator_holds None pairs m.held }) p
+judged_well None m h pairs p = enters_well (requested_stage m) (record (counted m h) { held = initiator_holds None pairs m.held }) p
 
 text_well : (m : Machine) (h : LoginResponse) (segment : Segment) → m.phase ≡ phases.Login → EndsWell (text_answered m h segment)
 text_well m h (Bytes bytes) p = failed m _
 text_well m h (Text pairs) p = judged_well (bad_key (offered m) pairs) m h pairs p
 
 turn_well : (left : List ℕ) (m : Machine) (h : LoginResponse) (segment : Segment) → m.phase ≡ phases.Login → EndsWell (in_turn left m h segment)
-turn_well [] m h segment p = by_cases (moves_on m h) (text_answered m h segment) (breaks m 7) (text_well m h segment p) (failed m _)
-turn_well (byte ∷ bytes) m h segment p = by_cases (goes_on m h segment) (sends_more (counted m h)) (breaks m 7) (goes (sends_more (counted m h)) p) (failed m _)
+turn_well [] m h segment p = by_cases (moves_on m h) (text_answered m h segment) (protocol_error m 7) (text_well m h segment p) (failed m _)
+turn_well (byte ∷ bytes) m h segment p = by_cases (goes_on m h segment) (sends_more (counted m h)) (protocol_error m 7) (goes (sends_more (counted m h)) p)
+    (failed m _)
 
 answered_well : (m : Machine) (h : LoginResponse) (segment : Segment) → m.phase ≡ phases.Login → EndsWell (answered m h segment)
 answered_well m h segment p =
     by_cases (not (h.status_class == 0)) (fails m (Refused h.status_class h.status_detail)) (if not (is_expected m.exp_stat_sn (unwrap_or h.stat_sn 0)) then
-    breaks m 6 else in_turn m.left m h segment)
+    protocol_error m 6 else in_turn m.unsent_text m h segment)
     (failed m _)
-    (by_cases (not (is_expected m.exp_stat_sn (unwrap_or h.stat_sn 0))) (breaks m 6) (in_turn m.left m h segment) (failed m _) (turn_well m.left m h segment p))
+    (by_cases (not (is_expected m.exp_stat_sn (unwrap_or h.stat_sn 0))) (protocol_error m 6) (in_turn m.unsent_text m h segment) (failed m _)
+    (turn_well m.unsent_text m h segment p))
 
 login_well : (m : Machine) (head : Head) (segment : Segment) → m.phase ≡ phases.Login → EndsWell (login_step m head segment)
-login_well m (heads.LoginResponse h) segment p = by_cases (h.initiator_task_tag == 0) (answered m h segment) (breaks m 1) (answered_well m h segment p)
+login_well m (heads.LoginResponse h) segment p = by_cases (h.initiator_task_tag == 0) (answered m h segment) (protocol_error m 1) (answered_well m h segment p)
     (failed m _)
 login_well m _ segment p = failed m _
 
 step_in_well : (p : Phase) (m : Machine) (x : Message) → m.phase ≡ p → is_closed m ≡ false → IsFullStage m → EndsWell (step_in p m x)
-step_in_well phases.Login m x p live s = by_cases m.started (login_step m x.head x.segment) (breaks m 1) (login_well m x.head x.segment p) (failed m _)
+step_in_well phases.Login m x p live s = by_cases m.started (login_step m x.head x.segment) (protocol_error m 1) (login_well m x.head x.segment p) (failed m _)
 step_in_well phases.Full m x p live s =
     let k = takes_keeps (due m x.head) m (segment_bytes x.segment) in
     record { full = λ e. k.stage ∙ s p; quiet_end = λ none over. k.stage ∙ s p }

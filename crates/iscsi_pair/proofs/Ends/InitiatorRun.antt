@@ -1,34 +1,6 @@
--- The initiator's end of a pair: what it has heard and said, whatever came of it.
-use Rattle.std.proofs.Common.{
-  ◌≡◌,
-  ◌≢◌,
-  ℕ,
-  Bool,
-  true,
-  false,
-  List,
-  [],
-  ◌∷◌,
-  ◌++◌,
-  take,
-  drop,
-  map,
-  Option,
-  Some,
-  None,
-  Result,
-  Ok,
-  Err,
-  inl,
-  inr,
-  refl,
-  sym,
-  ap,
-  ◌∙◌,
-  subst,
-  append_assoc,
-  arith,
-}
+-- The initiator's end of a pair: what it has received and said, whatever came of it.
+use Rattle.std.proofs.Common.{◌≡◌, ◌≢◌, ℕ, Bool, true, false, List, [], ◌∷◌, ◌++◌, take, drop, map, Option, Some, None, Result, Ok, Err, inl, inr, refl, sym}
+use Rattle.std.proofs.Common.{ap, ◌∙◌, subst, append_assoc, arith}
 use Rattle.std.specs.Prelude.{if◌then◌else◌}
 use Rattle.std.specs.Result.{result_err}
 use Rattle.std.proofs.lemmas.List.{append-nil, take-append-drop, take_all}
@@ -38,8 +10,8 @@ use Rattle.iscsi_stream.specs.Canonical.{canon}
 use Rattle.iscsi_stream.specs.declared.fault.StreamFault.{StreamFault}
 use Rattle.iscsi_stream.specs.declared.fault.StreamFault.TheVariants as stream
 use Rattle.iscsi_stream.specs.Framing.{Framing, HasTaken, FeedFails, is_ready}
-use Rattle.iscsi_stream.proofs.Taking.{at_opening}
-use Rattle.iscsi_stream.proofs.Ready.{not_whole-nil, apart}
+use Rattle.iscsi_stream.proofs.TakingLemmas.{at_opening}
+use Rattle.iscsi_stream.proofs.ReadyLemmas.{not_whole-nil, apart}
 use Rattle.iscsi_login.specs.declared.phase.Phase.{Phase}
 use Rattle.iscsi_login.specs.declared.phase.Phase.TheVariants as phases
 use Rattle.iscsi_initiator.specs.declared.fault.InitiatorFault.{InitiatorFault}
@@ -54,22 +26,9 @@ use Rattle.iscsi_text.specs.Canonical.{canonical_text}
 use Rattle.iscsi_initiator.specs.Login.{start_step, fits_segment, offered}
 use Rattle.iscsi_initiator.specs.Machine.{step, steps, taken}
 use Rattle.iscsi_initiator.specs.Submitted.{submitted, or_accepted, refusal, refusal_in}
-use Rattle.iscsi_initiator.specs.Calls.{
-  Connection,
-  Heard,
-  heard_steps,
-  Feeds,
-  HearsAll,
-  ClosesAt,
-  StreamEnds,
-  StreamFails,
-  Stays,
-  Submits,
-  Accepts,
-  after_taking,
-  limit,
-}
-use Rattle.iscsi_initiator.proofs.OneOutcome.{closed_step, no_fault, not_live}
+use Rattle.iscsi_initiator.specs.Calls.{Connection, Received, received_steps, Feeds, ReceivesAll, ClosesAt, StreamEnds, StreamFails, Stays, Submits, Accepts}
+use Rattle.iscsi_initiator.specs.Calls.{after_taking, limit}
+use Rattle.iscsi_initiator.proofs.OneOutcomeLaw.{closed_step, no_fault, not_live}
 use Rattle.iscsi_login.specs.declared.stage.Stage.TheVariants as stages
 use Rattle.iscsi_pair.proofs.Ends.InitiatorClose.{IsFullStage, asked_phase, steps_well, inputs_full, text_goes}
 use Rattle.iscsi_pair.specs.declared.step.EndFault.{EndFault}
@@ -77,7 +36,7 @@ use Rattle.iscsi_pair.specs.declared.step.EndFault.TheVariants as ends
 use Rattle.iscsi_pair.specs.World.{Opening, started, new_pair, feed_fault, submit_fault}
 use Rattle.iscsi_pair.specs.Traffic.{sent_in, after_all, sent, coming, coming_in, demanded, demanded_in}
 use Rattle.iscsi_initiator.specs.Laws.{Input, Comes, Asks, Takes, met}
-use Rattle.iscsi_stream.proofs.Writing.{canon_append}
+use Rattle.iscsi_stream.proofs.WritingLemmas.{canon_append}
 
 -- ---- inputs, one after another
 
@@ -425,11 +384,11 @@ come_on past c acts moved out more i l ms v moves =
           ∙ ap (λ (x : List Message). first ++ x) (sym (sent_append (begun c) l.inputs (map Comes ms))));
     }
 
--- what is left where a call heard some messages, and wrote what they lead to but for what was lost
+-- what is left where a call received some messages, and wrote what they lead to but for what was lost
 heard_front : (past : List Input) (c : Opening) (acts : List Input) (moved prior before bytes after lost : List ℕ) (old new : Connection)
-    → InitiatorLives past c acts moved (prior ++ before) old → (h : Heard old bytes)
-    → after ++ lost ≡ before ++ canon (heard_steps old bytes h).output → new.machine.stage ≡ (heard_steps old bytes h).machine.stage
-    → new.machine.held ≡ (heard_steps old bytes h).machine.held
+    → InitiatorLives past c acts moved (prior ++ before) old → (h : Received old bytes)
+    → after ++ lost ≡ before ++ canon (received_steps old bytes h).output → new.machine.stage ≡ (received_steps old bytes h).machine.stage
+    → new.machine.held ≡ (received_steps old bytes h).machine.held
     → InitiatorFront c (moved ++ bytes) (prior ++ after) new
 heard_front past c acts moved prior before bytes after lost old new l h out stage held =
     let o = come_on past c acts moved (prior ++ before) (take h.count bytes) old l h.messages h.framing h.moves in
@@ -437,12 +396,13 @@ heard_front past c acts moved prior before bytes after lost old new l h out stag
     append_assoc moved (take h.count bytes) (drop h.count bytes) ∙ ap (λ (x : List ℕ). moved ++ x) (take-append-drop h.count bytes) in
     subst (λ (x : List ℕ). InitiatorFront c x (prior ++ after) new) all
     (front_taken c (moved ++ take h.count bytes) (drop h.count bytes) (prior ++ after) lost o.is h.framing new o.taken
-    (append_assoc prior after lost ∙ ap (λ (x : List ℕ). prior ++ x) out ∙ sym (append_assoc prior before (canon (heard_steps old bytes h).output)) ∙ o.output)
+    (append_assoc prior after lost ∙ ap (λ (x : List ℕ). prior ++ x) out ∙ sym (append_assoc prior before (canon (received_steps old bytes h).output))
+    ∙ o.output)
     (stage ∙ ap (λ (m : Machine). m.stage) o.machine) (held ∙ ap (λ (m : Machine). m.held) o.machine))
 
 hears_all : (past : List Input) (c : Opening) (acts : List Input) (moved prior before bytes after : List ℕ) (old new : Connection) (phase : Phase)
-    → InitiatorLives past c acts moved (prior ++ before) old → (h : Heard old bytes)
-    → HearsAll old bytes h new before after phase → InitiatorLives past c acts (moved ++ bytes) (prior ++ after) new
+    → InitiatorLives past c acts moved (prior ++ before) old → (h : Received old bytes)
+    → ReceivesAll old bytes h new before after phase → InitiatorLives past c acts (moved ++ bytes) (prior ++ after) new
 hears_all past c acts moved prior before bytes after old new phase l h e =
     let o = come_on past c acts moved (prior ++ before) (take h.count bytes) old l h.messages h.framing h.moves in
     let whole : take h.count bytes ≡ bytes = take_all h.count bytes (omega (arith, e.all)) in
@@ -453,14 +413,14 @@ hears_all past c acts moved prior before bytes after old new phase l h e =
       order = o.order;
       follows = o.follows;
       machine = ap (λ (x : Connection). x.machine) e.connection ∙ o.machine;
-      output = ap (λ (x : List ℕ). prior ++ x) e.output ∙ sym (append_assoc prior before (canon (heard_steps old bytes h).output)) ∙ o.output;
+      output = ap (λ (x : List ℕ). prior ++ x) e.output ∙ sym (append_assoc prior before (canon (received_steps old bytes h).output)) ∙ o.output;
       unready = ap (λ (x : Connection). is_ready x.framing) e.connection ∙ e.unready;
       limit = ap (λ (x : Connection). x.framing.limit) e.connection ∙ h.limit ∙ l.limit;
     }
 
 -- where the session ends without a fault, it has reached its last stage
 ends_full : (past : List Input) (c : Opening) (acts : List Input) (moved prior before bytes after : List ℕ) (old new : Connection)
-    → InitiatorLives past c acts moved (prior ++ before) old → is_closed old.machine ≡ false → (h : Heard old bytes)
+    → InitiatorLives past c acts moved (prior ++ before) old → is_closed old.machine ≡ false → (h : Received old bytes)
     → ClosesAt old bytes h new before after None → InitiatorOver past c acts (moved ++ bytes) (prior ++ after) new
 ends_full past c acts moved prior before bytes after old new l live h e =
     let o = come_on past c acts moved (prior ++ before) (take h.count bytes) old l h.messages h.framing h.moves in
@@ -476,12 +436,12 @@ ends_full past c acts moved prior before bytes after old new l live h e =
       order = o.order;
       follows = o.follows;
       machine = e.machine ∙ o.machine;
-      output = ap (λ (x : List ℕ). prior ++ x) e.output ∙ sym (append_assoc prior before (canon (heard_steps old bytes h).output)) ∙ o.output;
+      output = ap (λ (x : List ℕ). prior ++ x) e.output ∙ sym (append_assoc prior before (canon (received_steps old bytes h).output)) ∙ o.output;
     }
 
 -- a session that a message closed
 closes_ended : (past : List Input) (c : Opening) (acts : List Input) (moved prior before bytes after : List ℕ) (old new : Connection)
-    (fault : Option InitiatorFault) → InitiatorLives past c acts moved (prior ++ before) old → (h : Heard old bytes)
+    (fault : Option InitiatorFault) → InitiatorLives past c acts moved (prior ++ before) old → (h : Received old bytes)
     → ClosesAt old bytes h new before after fault → InitiatorEnded c (moved ++ bytes) (prior ++ after) new
 closes_ended past c acts moved prior before bytes after old new fault l h e =
     let o = come_on past c acts moved (prior ++ before) (take h.count bytes) old l h.messages h.framing h.moves in
@@ -494,14 +454,15 @@ closes_ended past c acts moved prior before bytes after old new fault l h e =
       whole = ap (λ (x : List ℕ). moved ++ x) (sym (take-append-drop h.count bytes)) ∙ sym (append_assoc moved (take h.count bytes) (drop h.count bytes))
           ∙ ap (λ (x : List ℕ). x ++ drop h.count bytes) o.taken.whole ∙ append_assoc o.taken.given o.taken.rest (drop h.count bytes);
       reads = o.taken.reads;
-      output = append-nil (prior ++ after) ∙ ap (λ (x : List ℕ). prior ++ x) e.output ∙ sym (append_assoc prior before (canon (heard_steps old bytes h).output))
+      output = append-nil (prior ++ after) ∙ ap (λ (x : List ℕ). prior ++ x) e.output
+          ∙ sym (append_assoc prior before (canon (received_steps old bytes h).output))
           ∙ o.output;
       stage = ap (λ (m : Machine). m.stage) e.machine ∙ ap (λ (m : Machine). m.stage) o.machine;
       closed = sym (ap is_closed o.machine) ∙ e.closes;
     }
 
 closes_side : (past : List Input) (c : Opening) (acts : List Input) (moved prior before bytes after : List ℕ) (old new : Connection)
-    (fault : Option InitiatorFault) (kept : Option EndFault) → InitiatorLives past c acts moved (prior ++ before) old → (h : Heard old bytes)
+    (fault : Option InitiatorFault) (kept : Option EndFault) → InitiatorLives past c acts moved (prior ++ before) old → (h : Received old bytes)
     → (kept ≡ None → InitiatorOver past c acts (moved ++ bytes) (prior ++ after) new) → (InitiatorEnded c (moved ++ bytes) (prior ++ after) new
     → InitiatorFailed kept c (moved ++ bytes) (prior ++ after) new)
     → ClosesAt old bytes h new before after fault → InitiatorSide past c acts (moved ++ bytes) (prior ++ after) new kept
@@ -515,7 +476,7 @@ closes_side past c acts moved prior before bytes after old new fault kept l h fu
 
 -- a stream that was refused
 stream_broken : (past : List Input) (c : Opening) (acts : List Input) (moved prior before bytes after : List ℕ) (old new : Connection) (fault : StreamFault)
-    → InitiatorLives past c acts moved (prior ++ before) old → (h : Heard old bytes) → fault ≢ stream.NoMemory
+    → InitiatorLives past c acts moved (prior ++ before) old → (h : Received old bytes) → fault ≢ stream.NoMemory
     → StreamEnds old bytes h new before after fault → InitiatorBroken fault c (moved ++ bytes) (prior ++ after) new
 stream_broken past c acts moved prior before bytes after old new fault l h some e =
     let o = come_on past c acts moved (prior ++ before) (take h.count bytes) old l h.messages h.framing h.moves in
@@ -531,12 +492,12 @@ stream_broken past c acts moved prior before bytes after old new fault l h some 
           ∙ ap (λ (x : List ℕ). (moved ++ take h.count bytes) ++ x) (sym (append-nil (drop h.count bytes)));
       refused = e.refused;
       some = some;
-      output = ap (λ (x : List ℕ). prior ++ x) e.output ∙ sym (append_assoc prior before (canon (heard_steps old bytes h).output)) ∙ o.output;
+      output = ap (λ (x : List ℕ). prior ++ x) e.output ∙ sym (append_assoc prior before (canon (received_steps old bytes h).output)) ∙ o.output;
       stage = ap (λ (m : Machine). m.stage) e.machine ∙ ap (λ (m : Machine). m.stage) o.machine;
     }
 
 stream_side : (past : List Input) (c : Opening) (acts : List Input) (moved prior before bytes after : List ℕ) (old new : Connection) (fault : StreamFault)
-    (kept : EndFault) → InitiatorLives past c acts moved (prior ++ before) old → (h : Heard old bytes) → fault ≢ stream.NoMemory
+    (kept : EndFault) → InitiatorLives past c acts moved (prior ++ before) old → (h : Received old bytes) → fault ≢ stream.NoMemory
     → (InitiatorBroken fault c (moved ++ bytes) (prior ++ after) new → InitiatorFailed (Some kept) c (moved ++ bytes) (prior ++ after) new)
     → StreamEnds old bytes h new before after fault → InitiatorSide past c acts (moved ++ bytes) (prior ++ after) new (Some kept)
 stream_side past c acts moved prior before bytes after old new fault kept l h some why e = record {
@@ -575,14 +536,14 @@ stays_side past c acts moved prior before bytes after old new kept s why e = rec
   lives = λ none live. absurd (cc none);
 }
 
--- a session that heard messages and is open, or failed at the last, was open
-was_open : (b : Bool) (old : Connection) (bytes : List ℕ) (h : Heard old bytes) → is_closed old.machine ≡ b
-    → is_closed (heard_steps old bytes h).machine ≡ false → is_closed old.machine ≡ false
+-- a session that received messages and is open, or failed at the last, was open
+was_open : (b : Bool) (old : Connection) (bytes : List ℕ) (h : Received old bytes) → is_closed old.machine ≡ b
+    → is_closed (received_steps old bytes h).machine ≡ false → is_closed old.machine ≡ false
 was_open true old bytes h is live = absurd (not_live old h.messages is live)
 was_open false old bytes h is live = is
 
-failed_open : (b : Bool) (old : Connection) (bytes : List ℕ) (h : Heard old bytes) (fault : InitiatorFault) → is_closed old.machine ≡ b
-    → (heard_steps old bytes h).fault ≡ Some fault → is_closed old.machine ≡ false
+failed_open : (b : Bool) (old : Connection) (bytes : List ℕ) (h : Received old bytes) (fault : InitiatorFault) → is_closed old.machine ≡ b
+    → (received_steps old bytes h).fault ≡ Some fault → is_closed old.machine ≡ false
 failed_open true old bytes h fault is cause = absurd (no_fault old h.messages fault is cause)
 failed_open false old bytes h fault is cause = is
 
@@ -607,14 +568,14 @@ stream_fails stream.Failed past c acts moved prior before bytes after old new s 
 
 closes_fails : (fault : InitiatorFault) (past : List Input) (c : Opening) (acts : List Input) (moved prior before bytes after : List ℕ) (old new : Connection)
     → InitiatorSide past c acts moved (prior ++ before) old None
-    → (e : (h : Heard old bytes) × ClosesAt old bytes h new before after (Some fault)) → (kept : EndFault)
+    → (e : (h : Received old bytes) × ClosesAt old bytes h new before after (Some fault)) → (kept : EndFault)
     → (InitiatorEnded c (moved ++ bytes) (prior ++ after) new → InitiatorFailed (Some kept) c (moved ++ bytes) (prior ++ after) new)
     → InitiatorSide past c acts (moved ++ bytes) (prior ++ after) new (Some kept)
 closes_fails fault past c acts moved prior before bytes after old new s e kept why =
     closes_side past c acts moved prior before bytes after old new (Some fault) (Some kept) (s.lives refl (failed_open _ old bytes e.0 fault refl e.1.cause))
     e.0 (λ none. absurd (cc none)) why e.1
 
--- the initiator heard these bytes
+-- the initiator received these bytes
 pub initiator_heard : (result : Result Phase InitiatorFault) (past : List Input) (c : Opening) (acts : List Input) (moved prior before bytes after : List ℕ)
     (old new : Connection) → InitiatorSide past c acts moved (prior ++ before) old None
     → Feeds result old bytes new before after → InitiatorSide past c acts (moved ++ bytes) (prior ++ after) new (feed_fault (result_err result))
@@ -635,8 +596,8 @@ initiator_heard (Ok phase) past c acts moved prior before bytes after old new s 
 initiator_heard (Err faults.NoMemory) past c acts moved prior before bytes after old new s e =
     let l : InitiatorLives past c acts moved (prior ++ before) old = s.lives refl (was_open _ old bytes e.0 refl e.1.live) in
     record {
-      front = heard_front past c acts moved prior before bytes after (canon (heard_steps old bytes e.0).output) old new l e.0
-          (ap (λ (x : List ℕ). x ++ canon (heard_steps old bytes e.0).output) e.1.output)
+      front = heard_front past c acts moved prior before bytes after (canon (received_steps old bytes e.0).output) old new l e.0
+          (ap (λ (x : List ℕ). x ++ canon (received_steps old bytes e.0).output) e.1.output)
           (ap (λ (m : Machine). m.stage) e.1.machine) (ap (λ (m : Machine). m.held) e.1.machine);
       failed = tt;
       over = λ none over. absurd (cc none);

@@ -5,13 +5,13 @@ use Rattle.std.proofs.lemmas.Bool.{or_parts}
 use Rattle.scsi_disk.specs.Disk.{disk_of}
 use Rattle.iscsi_stream.specs.Stream.{Message}
 use Rattle.iscsi_stream.specs.Framing.{HasTaken}
-use Rattle.iscsi_stream.proofs.Ready.{apart}
+use Rattle.iscsi_stream.proofs.ReadyLemmas.{apart}
 use Rattle.iscsi_login.specs.declared.phase.Phase.{Phase}
 use Rattle.iscsi_target.specs.declared.fault.TargetFault.{TargetFault}
 use Rattle.iscsi_target.specs.declared.fault.TargetFault.TheVariants as target_faults
 use Rattle.iscsi_target.specs.Machine as target_machine
 use Rattle.iscsi_target.specs.Feed as target
-use Rattle.iscsi_target.proofs.OneOutcome.{one_outcome}
+use Rattle.iscsi_target.proofs.OneOutcomeLaw.{one_outcome}
 use Rattle.iscsi_initiator.specs.declared.fault.InitiatorFault.{InitiatorFault}
 use Rattle.iscsi_initiator.specs.declared.fault.InitiatorFault.TheVariants as faults
 use Rattle.iscsi_initiator.specs.declared.request.Refused.{Refused}
@@ -20,34 +20,12 @@ use Rattle.iscsi_initiator.specs.declared.request.SubmitFault.{SubmitFault}
 use Rattle.iscsi_initiator.specs.State.{is_closed}
 use Rattle.iscsi_initiator.specs.Machine.{taken}
 use Rattle.iscsi_initiator.specs.Calls as initiator
-use Rattle.iscsi_initiator.proofs.OneOutcome.{one_feed, one_submit}
+use Rattle.iscsi_initiator.proofs.OneOutcomeLaw.{one_feed, one_submit}
 use Rattle.iscsi_pair.specs.declared.step.EndFault.{EndFault}
 use Rattle.iscsi_pair.specs.declared.step.EndFault.TheVariants as ends
-use Rattle.iscsi_pair.specs.World.{
-  World,
-  Opening,
-  Event,
-  ToTarget,
-  ToInitiator,
-  Submits,
-  Takes,
-  TargetHears,
-  InitiatorHears,
-  InitiatorIsAsked,
-  MovesToTarget,
-  MovesToInitiator,
-  Asks,
-  Happens,
-  RunsCalmly,
-  LooksAlike,
-  new_pair,
-  store_of,
-  feed_fault,
-  submit_fault,
-  target_ran_out,
-  initiator_ran_out,
-  keeps_no_memory,
-}
+use Rattle.iscsi_pair.specs.World.{World, Opening, Event, ToTarget, ToInitiator, Submits, Takes, TargetReceives, InitiatorReceives, InitiatorIsAsked}
+use Rattle.iscsi_pair.specs.World.{MovesToTarget, MovesToInitiator, Asks, Happens, RunsCalmly, LooksAlike, new_pair, store_of, feed_fault, submit_fault}
+use Rattle.iscsi_pair.specs.World.{target_ran_out, initiator_ran_out, keeps_no_memory}
 use Rattle.iscsi_pair.specs.Traffic.{Traffic, coming, first_traffic, traffic_after}
 use Rattle.iscsi_pair.proofs.Ends.BothRuns.{Sides, happens_sides, opening_sides}
 
@@ -57,7 +35,7 @@ same_worlds old same new now l e f = subst (λ (w : World). LooksAlike w now) (s
 
 -- ---- the target hears
 
--- messages that an open target has heard
+-- messages that an open target has received
 record TargetTook (stream : List ℕ) (t : target.Connection) : Type 0 where
   messages : List Message
   taken : target_machine.is_closed t.machine ≡ false → HasTaken stream messages t.framing
@@ -71,7 +49,7 @@ target_memory : (result : Result Phase TargetFault) → target_ran_out (result_e
 target_memory result calm e = (let bad : true ≡ false = ap (λ (r : Result Phase TargetFault). target_ran_out (result_err r)) (sym e) ∙ calm in absurd cc)
 
 target_hears : (c : Opening) (t : Traffic) (old same new now : World) (moved : List ℕ) → Sides c t old → LooksAlike old same → old.target_fault ≡ None
-    → TargetHears moved old new → TargetHears moved same now
+    → TargetReceives moved old new → TargetReceives moved same now
     → target_ran_out new.target_fault ≡ false → target_ran_out now.target_fault ≡ false → LooksAlike new now
 target_hears c t old same new now moved s l none a b calm calm' =
     let took : TargetTook t.moved_to_target old.target = target_took (target_machine.is_closed old.target.machine) c t old s refl none in
@@ -133,7 +111,7 @@ feed_memory result calm e = (let bad : true ≡ false = ap (λ (r : Result Phase
     absurd cc)
 
 initiator_hears : (c : Opening) (t : Traffic) (old same new now : World) (moved : List ℕ) → Sides c t old → LooksAlike old same → old.initiator_fault ≡ None
-    → InitiatorHears moved old new → InitiatorHears moved same now
+    → InitiatorReceives moved old new → InitiatorReceives moved same now
     → initiator_ran_out new.initiator_fault ≡ false → initiator_ran_out now.initiator_fault ≡ false → LooksAlike new now
 initiator_hears c t old same new now moved s l none a b calm calm' =
     let took : InitiatorTook t.moved_to_initiator old.initiator = initiator_took (is_closed old.initiator.machine) c t old s refl none in

@@ -4,7 +4,7 @@ use Rattle.scsi_disk.specs.Disk.{Disk}
 use Rattle.iscsi_stream.specs.Stream.{Message}
 use Rattle.iscsi_target.specs.State.{Machine}
 use Rattle.iscsi_target.specs.Machine.{step, answers}
-use Rattle.iscsi_target.proofs.Keeping.{IsLater, Stays, step_stays}
+use Rattle.iscsi_target.proofs.KeepingLemmas.{IsLater, Stays, step_stays}
 use Rattle.iscsi_target.specs.Execution.{reliable}
 
 -- what is held after the login stays, whatever comes

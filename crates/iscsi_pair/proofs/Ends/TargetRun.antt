@@ -1,32 +1,6 @@
--- The target's end of a pair: what it has heard and said, whatever came of it.
-use Rattle.std.proofs.Common.{
-  ◌≡◌,
-  ◌≢◌,
-  ◌⊎◌,
-  ℕ,
-  Bool,
-  true,
-  false,
-  List,
-  [],
-  ◌++◌,
-  take,
-  drop,
-  Option,
-  Some,
-  None,
-  Result,
-  Ok,
-  Err,
-  inl,
-  inr,
-  refl,
-  sym,
-  ap,
-  ◌∙◌,
-  subst,
-  append_assoc,
-}
+-- The target's end of a pair: what it has received and said, whatever came of it.
+use Rattle.std.proofs.Common.{◌≡◌, ◌≢◌, ◌⊎◌, ℕ, Bool, true, false, List, [], ◌++◌, take, drop, Option, Some, None, Result, Ok, Err, inl, inr, refl, sym, ap}
+use Rattle.std.proofs.Common.{◌∙◌, subst, append_assoc}
 use Rattle.std.specs.Result.{result_err}
 use Rattle.std.proofs.lemmas.List.{append-nil, take-append-drop}
 use Rattle.scsi_disk.specs.Disk.{disk_of}
@@ -36,9 +10,9 @@ use Rattle.iscsi_stream.specs.Canonical.{canon}
 use Rattle.iscsi_stream.specs.declared.fault.StreamFault.{StreamFault}
 use Rattle.iscsi_stream.specs.declared.fault.StreamFault.TheVariants as stream
 use Rattle.iscsi_stream.specs.Framing.{Framing, HasTaken, FeedFails, is_ready}
-use Rattle.iscsi_stream.proofs.Taking.{at_opening}
-use Rattle.iscsi_stream.proofs.Writing.{canon_append}
-use Rattle.iscsi_stream.proofs.Ready.{not_whole-nil, apart}
+use Rattle.iscsi_stream.proofs.TakingLemmas.{at_opening}
+use Rattle.iscsi_stream.proofs.WritingLemmas.{canon_append}
+use Rattle.iscsi_stream.proofs.ReadyLemmas.{not_whole-nil, apart}
 use Rattle.iscsi_login.specs.declared.phase.Phase.{Phase}
 use Rattle.iscsi_login.specs.declared.phase.Phase.TheVariants as phases
 use Rattle.iscsi_target.specs.declared.fault.TargetFault.{TargetFault}
@@ -48,9 +22,9 @@ use Rattle.iscsi_target.specs.State.{Machine, Stepped}
 use Rattle.iscsi_target.specs.State.{joined}
 use Rattle.iscsi_target.specs.Machine.{answers, is_closed}
 use Rattle.iscsi_target.specs.Feed.{Connection, Store, Feeds, Fed, FedIf, Ends, IsShut, LeavesBy, Stands, StopsShort, HasAnswered, opening_connection}
-use Rattle.iscsi_target.proofs.Feeding.{Told, told, answers_close, stands}
-use Rattle.iscsi_target.proofs.Keeping.{Stays, stop_stays}
-use Rattle.iscsi_target.proofs.Streaming.{goes_on}
+use Rattle.iscsi_target.proofs.FeedingLemmas.{Told, told, answers_close, stands}
+use Rattle.iscsi_target.proofs.KeepingLemmas.{Stays, stop_stays}
+use Rattle.iscsi_target.proofs.StreamingLemmas.{goes_on}
 use Rattle.iscsi_pair.specs.World.{Opening, store_of, target_ran_out}
 use Rattle.iscsi_pair.specs.Traffic.{said}
 
@@ -505,7 +479,7 @@ fed_if false c moved prior before bytes old blocks result new after written is s
     feeds_side c moved (prior ++ before) bytes old blocks result new after (prior ++ written) (s.lives refl is)
     (feeds_behind prior old (store_of blocks) before bytes result new (store_of after) written f)
 
--- the target heard these bytes
+-- the target received these bytes
 pub target_heard : (c : Opening) (moved prior before bytes : List ℕ) (old : Connection) (blocks : List ℕ) (result : Result Phase TargetFault) (new : Connection)
     (after written : List ℕ)
     → TargetSide c moved (prior ++ before) old blocks None → Fed old (store_of blocks) before bytes result new (store_of after) written

@@ -9,16 +9,16 @@ use Rattle.scsi_disk.specs.Plan.{plan_of, transfer}
 use Rattle.scsi_disk.specs.declared.order.Order.{Order}
 use Rattle.scsi_disk.specs.declared.order.Plan.{Plan}
 use Rattle.scsi_disk.specs.declared.order.Plan.TheVariants.{Refuse, Take, Give}
-use Rattle.scsi_disk.proofs.Blocks.{cut-put, joined-cut, same_disk}
-use Rattle.scsi_disk.proofs.Planned.{IsTaken, taken}
+use Rattle.scsi_disk.proofs.BlockLemmas.{cut-put, joined-cut, same_disk}
+use Rattle.scsi_disk.proofs.PlanLemmas.{IsTaken, taken}
 use Rattle.iscsi_stream.specs.Pieces.{Pieces, TilesFrom, data_of}
 use Rattle.iscsi_stream.specs.Stream.{Message}
 use Rattle.iscsi_target.specs.State.{Machine, Execution, Stepped}
 use Rattle.iscsi_target.specs.Execution.{reliable}
 use Rattle.iscsi_target.specs.Machine.{answers, step}
 use Rattle.iscsi_target.specs.Tiles.{IsTiled, TilesPlan}
-use Rattle.iscsi_target.proofs.DiskFold.{Does, step_does}
-use Rattle.iscsi_target.proofs.Sound.{IsSound, step_count, step_goes}
+use Rattle.iscsi_target.proofs.DiskFoldLemmas.{Does, step_does}
+use Rattle.iscsi_target.proofs.WriteTilingLaws.{IsSound, step_count, step_goes}
 
 -- some bytes have these blocks
 pub record HasBlocks (disk : Disk) : Type 0 where

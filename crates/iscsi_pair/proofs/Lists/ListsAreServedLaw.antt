@@ -19,7 +19,7 @@ use Rattle.iscsi_initiator.specs.State as initiator
 use Rattle.iscsi_initiator.specs.Machine.{taken}
 use Rattle.iscsi_initiator.specs.Submitted.{is_too_long, most_bytes, submitted}
 use Rattle.iscsi_pair.specs.World.{Opening}
-use Rattle.iscsi_pair.specs.LocalDisk.{AreAtRest, AreInStep, Local, Stand, local, local_disk, local_outcomes}
+use Rattle.iscsi_pair.specs.LocalDisk.{AreAtRest, AreInStep, Local, Exchange, local, local_disk, local_outcomes}
 use Rattle.iscsi_pair.specs.Served.{IsAlwaysTaken, IsNormal, IsServed, SomeRunServes, disk_after, disk_outcomes}
 use Rattle.iscsi_pair.proofs.Request.AnswersInOrder.{Begins}
 use Rattle.iscsi_pair.proofs.Request.Invariant.{History}
@@ -123,7 +123,7 @@ one_done c past request r served short =
     heard_all out c g (submitted i request).machine t disk [] r.there r.here sent
     (written_within i.held.target_max_recv (most_out c) r.there out now.out (b.heard.written r.there))
     (hears_well c i.held t disk r.here out now b.heard) in
-    let last : Stand = b.ends.last in
+    let last : Exchange = b.ends.last in
     let come : Arrives c g last = arrives b.ends.leads.0 c g i.held (submitted i request).machine s.machine s.disk s.answers
     (after_all r.there out) r.here last now heard b.ends.leads.1 in
     let quiet : Stays c g last.initiator last.target last.disk [] [] come.there come.here =
@@ -180,7 +180,7 @@ some_run : (c : Opening) (h : History) (i : initiator.Machine) (t : target.Machi
 some_run c h i t disk there here s = record {
   events = s.events;
   world = level c i t s.blocks s.place s.place_back there here [] [];
-  asked_are = s.asked_are;
+  requests_are = s.requests_are;
   runs = s.runs;
   none_out = refl;
   none_back = refl;

@@ -1,4 +1,4 @@
--- The login of two ends that suit each other comes to its end, where each hears what was sent.
+-- The login of two ends that suit each other comes to its end, where each receives what was sent.
 use Rattle.std.proofs.Common.{◌≡◌, ◌<◌, ◌≤◌, ◌⊎◌, inl, inr, ℕ, zero, suc, ◌-◌, true, false, List, [], ◌∷◌, length, drop, refl, sym, ap, ◌∙◌, subst, arith}
 use Rattle.std.proofs.lemmas.List.{length-drop}
 use Rattle.scsi_disk.specs.Disk.{Disk, disk_of}
@@ -14,11 +14,11 @@ use Rattle.iscsi_target_session.specs.LoginText.{answer_pairs}
 use Rattle.iscsi_target.specs.State as target
 use Rattle.iscsi_target.specs.Machine as target_machine
 use Rattle.iscsi_target.specs.Machine.{answers}
-use Rattle.iscsi_target.proofs.Continuing.{then_nothing}
+use Rattle.iscsi_target.proofs.ContinuationLemmas.{then_nothing}
 use Rattle.iscsi_initiator.specs.Configured.{IsStart}
 use Rattle.iscsi_initiator.specs.State as initiator
 use Rattle.iscsi_initiator.specs.Steps.{Stepped}
-use Rattle.iscsi_initiator.specs.Login.{asked, asked_from, enters, login_request, offered, start_step}
+use Rattle.iscsi_initiator.specs.Login.{requested_stage, following_stage, begins_stage, login_request, offered, start_step}
 use Rattle.iscsi_initiator.specs.Machine.{step}
 use Rattle.iscsi_pair.proofs.Lists.StepLemmas.{first_spot}
 use Rattle.iscsi_pair.specs.World.{Opening}
@@ -51,7 +51,7 @@ pub record HasLoggedIn (c : Opening) : Type 0 where
 
 -- the login has gone on: with less of the text left, or with the text of the second stage
 abbrev IsNearer : initiator.Machine → initiator.Machine → Type 0
-IsNearer i j = ((j.stage ≡ i.stage) × (length j.left < length i.left)) ⊎ ((i.stage ≡ stages.Security) × (j.stage ≡ stages.Operational))
+IsNearer i j = ((j.stage ≡ i.stage) × (length j.unsent_text < length i.unsent_text)) ⊎ ((i.stage ≡ stages.Security) × (j.stage ≡ stages.Operational))
 
 record WaitsOn (c : Opening) (i : initiator.Machine) : Type 0 where
   initiator : initiator.Machine
@@ -71,14 +71,14 @@ after_text i t =
 
 -- a text that ends leads to the second stage, or to the end of the login
 ends_text : (stage : Stage) (i w : initiator.Machine) (s : Stepped) → i.stage ≡ stage → IsStart i.stage → IsStart s.machine.stage
-    → s ≡ enters (asked i) w → IsNearer i s.machine
+    → s ≡ begins_stage (requested_stage i) w → IsNearer i s.machine
 ends_text stages.Security i w s is start on e =
     let m : initiator.Machine = record w { stage = stages.Operational } in
-    let now : s ≡ enters stages.Operational w = e ∙ ap (λ (x : Stage). enters (asked_from x) w) is in
-    let k : TextKeeps m (enters stages.Operational w) = text_keeps m in
+    let now : s ≡ begins_stage stages.Operational w = e ∙ ap (λ (x : Stage). begins_stage (following_stage x) w) is in
+    let k : TextKeeps m (begins_stage stages.Operational w) = text_keeps m in
     inr (is, ap (λ (x : Stepped). x.machine.stage) now ∙ k.stage)
 ends_text stages.Operational i w s is start on e =
-    let now : s ≡ enters stages.Full w = e ∙ ap (λ (x : Stage). enters (asked_from x) w) is in
+    let now : s ≡ begins_stage stages.Full w = e ∙ ap (λ (x : Stage). begins_stage (following_stage x) w) is in
     absurd (subst IsStart (ap (λ (x : Stepped). x.machine.stage) now) on)
 ends_text stages.Full i w s is start on e = absurd (subst IsStart is start)
 
@@ -86,18 +86,23 @@ ends_text stages.Full i w s is start on e = absurd (subst IsStart is start)
 less_left : (c : Opening) (i : initiator.Machine) (t : target.Machine) (r answer : Message) (disk : Disk) → i.settings ≡ c.initiator
     → 64 ≤ c.initiator.login_segment → PartTurn i t disk r answer → IsNearer i (step i answer).machine
 less_left c i t r answer disk same least q =
-    let left : (step i answer).machine.left ≡ drop i.settings.login_segment i.left = ap (λ (x : Stepped). x.machine.left) q.now in
-    let size : length (drop i.settings.login_segment i.left) ≡ length i.left - i.settings.login_segment = length-drop i.settings.login_segment i.left in
+    let left : (step i answer).machine.unsent_text ≡ drop i.settings.login_segment i.unsent_text = ap (λ (x : Stepped). x.machine.unsent_text) q.now in
+    let size : length (drop i.settings.login_segment i.unsent_text) ≡ length i.unsent_text - i.settings.login_segment =
+    length-drop i.settings.login_segment i.unsent_text in
     let most : i.settings.login_segment ≡ c.initiator.login_segment = ap (λ (x : initiator.Settings). x.login_segment) same in
     let some = q.some in
-    inl (ap (λ (x : Stepped). x.machine.stage) q.now, subst (λ (x : List ℕ). length x < length i.left) (sym left) (omega (arith, size, most, least, some)))
+    inl (
+      ap (λ (x : Stepped). x.machine.stage) q.now,
+      subst (λ (x : List ℕ). length x < length i.unsent_text) (sym left)
+          (omega (arith, size, most, least, some)),
+    )
 
 -- one message is one step
 one_step : (t : target.Machine) (disk : Disk) (r : Message) → answers t disk (r ∷ []) ≡ target_machine.step t disk r
 unfolding answers
 one_step t disk r = then_nothing (target_machine.step t disk r)
 
--- the target hears a login request, and the initiator its answer
+-- the target receives a login request, and the initiator its answer
 one_round : (c : Opening) (i : initiator.Machine) (t : target.Machine) (there here : Logins) (r : Message) → IsNormal c → Waits c i t there here r
     → HasLoggedIn c ⊎ WaitsOn c i
 one_round c i t there here r o p =
@@ -152,7 +157,7 @@ one_round c i t there here r o p =
 
 -- by where a round leads
 second_by : (c : Opening) (i : initiator.Machine) → HasLoggedIn c ⊎ WaitsOn c i → i.stage ≡ stages.Operational
-    → ((x : WaitsOn c i) → x.initiator.stage ≡ stages.Operational → length x.initiator.left < length i.left → HasLoggedIn c) → HasLoggedIn c
+    → ((x : WaitsOn c i) → x.initiator.stage ≡ stages.Operational → length x.initiator.unsent_text < length i.unsent_text → HasLoggedIn c) → HasLoggedIn c
 second_by c i (inl done) is more = done
 second_by c i (inr x) is more = elim x.nearer [
   | inl less ↦ more x (less.0 ∙ is) less.1
@@ -161,23 +166,23 @@ second_by c i (inr x) is more = elim x.nearer [
 
 -- in the second stage
 second_stage : (n : ℕ) (c : Opening) (i : initiator.Machine) (t : target.Machine) (there here : Logins) (r : Message) → IsNormal c
-    → Waits c i t there here r → i.stage ≡ stages.Operational → length i.left ≤ n → HasLoggedIn c
+    → Waits c i t there here r → i.stage ≡ stages.Operational → length i.unsent_text ≤ n → HasLoggedIn c
 second_stage zero c i t there here r o p is few = second_by c i (one_round c i t there here r o p) is (λ x second less. absurd (omega (arith, few, less)))
 second_stage (suc n) c i t there here r o p is few =
     second_by c i (one_round c i t there here r o p) is
     (λ x second less. second_stage n c x.initiator x.target x.there x.here x.request o x.waits second (omega (arith, few, less)))
 
 first_by : (c : Opening) (i : initiator.Machine) → IsNormal c → HasLoggedIn c ⊎ WaitsOn c i → i.stage ≡ stages.Security
-    → ((x : WaitsOn c i) → x.initiator.stage ≡ stages.Security → length x.initiator.left < length i.left → HasLoggedIn c) → HasLoggedIn c
+    → ((x : WaitsOn c i) → x.initiator.stage ≡ stages.Security → length x.initiator.unsent_text < length i.unsent_text → HasLoggedIn c) → HasLoggedIn c
 first_by c i o (inl done) is more = done
 first_by c i o (inr x) is more = elim x.nearer [
   | inl less ↦ more x (less.0 ∙ is) less.1
-  | inr second ↦ second_stage (length x.initiator.left) c x.initiator x.target x.there x.here x.request o x.waits second.1 (omega arith)
+  | inr second ↦ second_stage (length x.initiator.unsent_text) c x.initiator x.target x.there x.here x.request o x.waits second.1 (omega arith)
 ]
 
 -- and from the first one on
 first_stage : (n : ℕ) (c : Opening) (i : initiator.Machine) (t : target.Machine) (there here : Logins) (r : Message) → IsNormal c
-    → Waits c i t there here r → i.stage ≡ stages.Security → length i.left ≤ n → HasLoggedIn c
+    → Waits c i t there here r → i.stage ≡ stages.Security → length i.unsent_text ≤ n → HasLoggedIn c
 first_stage zero c i t there here r o p is few = first_by c i o (one_round c i t there here r o p) is (λ x first less. absurd (omega (arith, few, less)))
 first_stage (suc n) c i t there here r o p is few =
     first_by c i o (one_round c i t there here r o p) is
@@ -185,8 +190,8 @@ first_stage (suc n) c i t there here r o p is few =
 
 from_stage : (stage : Stage) (c : Opening) (i : initiator.Machine) (t : target.Machine) (there here : Logins) (r : Message) → IsNormal c
     → Waits c i t there here r → i.stage ≡ stage → HasLoggedIn c
-from_stage stages.Security c i t there here r o p is = first_stage (length i.left) c i t there here r o p is (omega arith)
-from_stage stages.Operational c i t there here r o p is = second_stage (length i.left) c i t there here r o p is (omega arith)
+from_stage stages.Security c i t there here r o p is = first_stage (length i.unsent_text) c i t there here r o p is (omega arith)
+from_stage stages.Operational c i t there here r o p is = second_stage (length i.unsent_text) c i t there here r o p is (omega arith)
 from_stage stages.Full c i t there here r o p is = absurd (subst IsStart is p.asking.stage)
 
 -- a new pair
@@ -199,7 +204,7 @@ first_stays c = record {
   blocks = c.blocks;
   place = first_spot;
   place_back = first_spot;
-  asked_are = refl;
+  requests_are = refl;
   runs = (refl, refl);
   disk_is = refl;
   sound = tt;

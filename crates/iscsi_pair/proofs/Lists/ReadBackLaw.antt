@@ -5,9 +5,9 @@ use Rattle.std.proofs.lemmas.Bool.{eq-eqb, le-ltb, leb-true, ltb-true, ne_eqb}
 use Rattle.std.proofs.lemmas.List.{take_all}
 use Rattle.std.proofs.lemmas.List.Elements.{All-cons, All-nil}
 use Rattle.scsi_cdb.specs.Layout.{number_at, bits_at}
-use Rattle.scsi_cdb.specs.declared.block.Cdb.{Cdb}
-use Rattle.scsi_cdb.specs.declared.block.Cdb.TheVariants.{Read10, Write10}
-use Rattle.scsi_cdb.specs.declared.block.Transfer10.{Transfer10}
+use Rattle.scsi_cdb.specs.declared.cdb.Cdb.{Cdb}
+use Rattle.scsi_cdb.specs.declared.cdb.Cdb.TheVariants.{Read10, Write10}
+use Rattle.scsi_cdb.specs.declared.cdb.Transfer10.{Transfer10}
 use Rattle.scsi_cdb.specs.declared.residual.Residual.{Residual}
 use Rattle.scsi_cdb.specs.declared.residual.Residual.TheVariants.{Exact}
 use Rattle.scsi_disk.specs.Disk.{Disk, disk_of, joined, written}
@@ -19,13 +19,13 @@ use Rattle.scsi_disk.specs.declared.order.Plan.TheVariants.{Take, Give}
 use Rattle.iscsi_pdu.specs.Meaning.{AreBytes}
 use Rattle.iscsi_login.specs.Name.{IsName}
 use Rattle.iscsi_login.specs.Negotiation.{IsInRange, standard}
-use Rattle.iscsi_target_session.proofs.Cases.{and_left, and_right}
+use Rattle.iscsi_target_session.proofs.CaseLemmas.{and_left, and_right}
 use Rattle.iscsi_initiator.specs.Block.{record_of}
 use Rattle.iscsi_initiator.specs.declared.request.Done.TheVariants as done
 use Rattle.iscsi_initiator.specs.declared.request.Request.{Request}
 use Rattle.iscsi_initiator.specs.declared.request.Request.TheVariants as requests
 use Rattle.iscsi_pair.specs.World.{Opening}
-use Rattle.iscsi_pair.specs.LocalDisk.{local, local_outcomes, reading_order, told, writing_order}
+use Rattle.iscsi_pair.specs.LocalDisk.{local, local_outcomes, reading_order, reported, writing_order}
 use Rattle.iscsi_pair.specs.Served.{IsNormal, SomeRunServes, disk_outcomes}
 use Rattle.iscsi_pair.specs.Example.{NameSame, first_read, first_written, good, standard_opening}
 use Rattle.iscsi_pair.proofs.Lists.BlockLemmas.{joined_back}
@@ -91,8 +91,8 @@ write_outcome : (most : ℕ) (c : Opening) (write_cdb read_cdb bytes : List ℕ)
     → (local most (disk_of c.blocks) (requests.Out 0 write_cdb bytes)).outcome ≡ good []
 write_outcome most c write_cdb read_cdb bytes p =
     let disk : Disk = disk_of c.blocks in
-    ap (λ (x : Order). told (effect disk x bytes).outcome) (write_order c write_cdb read_cdb bytes p)
-    ∙ ap (λ (x : Plan). told (outcome_by x disk (a_write p.named))) (write_plan p.named (length c.blocks / 512) (are_fine c write_cdb read_cdb bytes p))
+    ap (λ (x : Order). reported (effect disk x bytes).outcome) (write_order c write_cdb read_cdb bytes p)
+    ∙ ap (λ (x : Plan). reported (outcome_by x disk (a_write p.named))) (write_plan p.named (length c.blocks / 512) (are_fine c write_cdb read_cdb bytes p))
     ∙ ap (λ (x : Residual). done.Command 0 0x00 [] [] x) (none_over (512 * p.named.blocks))
 
 write_disk : (most : ℕ) (c : Opening) (write_cdb read_cdb bytes : List ℕ) → (p : NameSame c write_cdb read_cdb bytes)
@@ -111,8 +111,8 @@ read_outcome most c write_cdb read_cdb bytes p =
     let size : ℕ = 512 * p.named.blocks in
     let all : take size (joined disk.block first p.named.blocks) ≡ bytes =
     ap (take size) (joined_back c.blocks bytes first p.named.blocks p.size p.inside) ∙ take_all size bytes (let same = p.size in omega (arith, same)) in
-    ap (λ (x : Order). told (effect disk x []).outcome) (read_order c write_cdb read_cdb bytes p)
-    ∙ ap (λ (x : Plan). told (outcome_by x disk (a_read p.named))) (read_plan p.named (length c.blocks / 512) (are_fine c write_cdb read_cdb bytes p))
+    ap (λ (x : Order). reported (effect disk x []).outcome) (read_order c write_cdb read_cdb bytes p)
+    ∙ ap (λ (x : Plan). reported (outcome_by x disk (a_read p.named))) (read_plan p.named (length c.blocks / 512) (are_fine c write_cdb read_cdb bytes p))
     ∙ ap (λ (x : Residual). done.Command 0 0x00 [] (take size (joined disk.block first p.named.blocks)) x) (none_over size)
     ∙ ap good all
 

@@ -1,4 +1,4 @@
--- Messages between two ends of which neither has a begun PDU: each end hears what was sent, and a run that was served goes on.
+-- Messages between two ends of which neither has a begun PDU: each end receives what was sent, and a run that was served goes on.
 use Rattle.std.proofs.Common.{◌≡◌, ℕ, zero, suc, false, List, [], ◌∷◌, ◌++◌, length, Option, Some, None, refl, sym, ap, ◌∙◌, subst}
 use Rattle.std.proofs.lemmas.List.{append-nil}
 use Rattle.scsi_disk.specs.Disk.{Disk, disk_of}
@@ -6,12 +6,12 @@ use Rattle.iscsi_stream.specs.declared.logins.Logins.{Logins}
 use Rattle.iscsi_stream.specs.Segment.{after}
 use Rattle.iscsi_stream.specs.Stream.{Message, after_all}
 use Rattle.iscsi_stream.specs.Canonical.{canon}
-use Rattle.iscsi_stream.proofs.Writing.{canon_append}
+use Rattle.iscsi_stream.proofs.WritingLemmas.{canon_append}
 use Rattle.iscsi_login.specs.Held.{Held}
 use Rattle.iscsi_login.specs.Stage.{is_closed_phase}
 use Rattle.iscsi_target.specs.State as target
 use Rattle.iscsi_target.specs.Machine.{answers}
-use Rattle.iscsi_target.proofs.Sound.{IsSound, answers_count, answers_sound}
+use Rattle.iscsi_target.proofs.WriteTilingLaws.{IsSound, answers_count, answers_sound}
 use Rattle.iscsi_initiator.specs.declared.request.Done.{Done}
 use Rattle.iscsi_initiator.specs.declared.request.Request.{Request}
 use Rattle.iscsi_initiator.specs.Laws.{listed}
@@ -20,13 +20,13 @@ use Rattle.iscsi_initiator.specs.State.{is_closed}
 use Rattle.iscsi_initiator.specs.Machine.{step, taken}
 use Rattle.iscsi_initiator.specs.Submitted.{submitted}
 use Rattle.iscsi_pair.specs.World.{World, Opening, Event, ToTarget, ToInitiator, Submits, Takes, new_pair}
-use Rattle.iscsi_pair.specs.Served.{IsServed, RunsServed, asked}
-use Rattle.iscsi_pair.specs.LocalDisk.{Stand}
+use Rattle.iscsi_pair.specs.Served.{IsServed, RunsServed, requests_of}
+use Rattle.iscsi_pair.specs.LocalDisk.{Exchange}
 use Rattle.iscsi_pair.proofs.Lists.BlockLemmas.{HasBlocks, answers_blocks}
 use Rattle.iscsi_pair.proofs.Request.AnswersInOrder.{Leads}
 use Rattle.iscsi_pair.proofs.Request.Invariant.{AreWritten, HearsWell, History, written_append}
 use Rattle.iscsi_pair.proofs.Run.DiskInvariant.{HaveAgreed, hears_well, most_back, most_out, written_within}
-use Rattle.iscsi_pair.proofs.Lists.StepLemmas.{asked_append, initiator_asked, initiator_hears, level, served_more, Spot, spot_after, target_hears}
+use Rattle.iscsi_pair.proofs.Lists.StepLemmas.{requests_append, initiator_asked, initiator_hears, level, served_more, Spot, spot_after, target_hears}
 
 -- A run that was served has come to a world with these ends, in which no PDU is begun, and with these messages on their way to
 -- the target and to the initiator.
@@ -36,7 +36,7 @@ pub record Stays (c : Opening) (h : History) (i : initiator.Machine) (t : target
   pub blocks : List ℕ
   pub place : Spot
   pub place_back : Spot
-  pub asked_are : asked events ≡ h.requests
+  pub requests_are : requests_of events ≡ h.requests
   pub runs : RunsServed (new_pair c) events (level c i t blocks place place_back there here (canon out) (canon back)) h.outcomes
   pub disk_is : disk_of blocks ≡ disk
   pub sound : IsSound disk.count t.tasks
@@ -46,11 +46,11 @@ pub record Stays (c : Opening) (h : History) (i : initiator.Machine) (t : target
 
 some_heard : (c : Opening) (h : History) (i : initiator.Machine) (t : target.Machine) (m : Message) (ms back : List Message) (there here : Logins)
     (events : List Event) (blocks : List ℕ) (place place_back : Spot)
-    → asked events ≡ h.requests → RunsServed (new_pair c) events (level c i t blocks place place_back there here (canon (m ∷ ms)) (canon back)) h.outcomes
+    → requests_of events ≡ h.requests → RunsServed (new_pair c) events (level c i t blocks place place_back there here (canon (m ∷ ms)) (canon back)) h.outcomes
     → IsSound (disk_of blocks).count t.tasks → AreWritten (most_back c) here back
     → AreWritten (most_out c) there (m ∷ ms) → HearsWell (most_back c) t (disk_of blocks) (after_all here back) (m ∷ ms)
     → (let r = answers t (disk_of blocks) (m ∷ ms) in Stays c h i r.machine r.disk [] (back ++ r.answers) (after_all there (m ∷ ms)) here)
-some_heard c h i t m ms back there here events blocks place place_back asked_are runs sound written sent heard =
+some_heard c h i t m ms back there here events blocks place place_back requests_are runs sound written sent heard =
     let out : List Message = m ∷ ms in
     let d : Disk = disk_of blocks in
     let r : target.Stepped = answers t d out in
@@ -66,7 +66,7 @@ some_heard c h i t m ms back there here events blocks place place_back asked_are
       blocks = b.bytes;
       place = spot_after place out;
       place_back = place_back;
-      asked_are = asked_append events (event ∷ []) ∙ append-nil (asked events) ∙ asked_are;
+      requests_are = requests_append events (event ∷ []) ∙ append-nil (requests_of events) ∙ requests_are;
       runs = subst
           (λ (x : List ℕ). RunsServed (new_pair c) (events ++ event ∷ [])
           (level c i r.machine b.bytes (spot_after place out) place_back (after_all there out) here [] x) h.outcomes)
@@ -86,7 +86,7 @@ heard_all [] c h i t disk back there here s sent heard =
     subst (λ (x : List Message). Stays c h i t disk [] x there here) (sym (append-nil back)) s
 heard_all (m ∷ ms) c h i t disk back there here s sent heard =
     subst (λ (d : Disk). (let r = answers t d (m ∷ ms) in Stays c h i r.machine r.disk [] (back ++ r.answers) (after_all there (m ∷ ms)) here)) s.disk_is
-    (some_heard c h i t m ms back there here s.events s.blocks s.place s.place_back s.asked_are s.runs
+    (some_heard c h i t m ms back there here s.events s.blocks s.place s.place_back s.requests_are s.runs
     (subst (λ (d : Disk). IsSound d.count t.tasks) (sym s.disk_is) s.sound) s.written sent
     (subst (λ (d : Disk). HearsWell (most_back c) t d (after_all here back) (m ∷ ms)) (sym s.disk_is) heard))
 
@@ -108,7 +108,7 @@ heard_one c h i t disk m more there here s live well =
       blocks = s.blocks;
       place = s.place;
       place_back = spot_after s.place_back (m ∷ []);
-      asked_are = asked_append s.events (event ∷ []) ∙ append-nil (asked s.events) ∙ s.asked_are;
+      requests_are = requests_append s.events (event ∷ []) ∙ append-nil (requests_of s.events) ∙ s.requests_are;
       runs = subst (λ (x : List Done). RunsServed (new_pair c) (s.events ++ event ∷ []) new x) (append-nil h.outcomes) on;
       disk_is = s.disk_is;
       sound = s.sound;
@@ -133,7 +133,7 @@ hands_in c h i t disk there here request s served none =
       blocks = s.blocks;
       place = s.place;
       place_back = s.place_back;
-      asked_are = asked_append s.events (event ∷ []) ∙ ap (λ (x : List Request). x ++ request ∷ []) s.asked_are;
+      requests_are = requests_append s.events (event ∷ []) ∙ ap (λ (x : List Request). x ++ request ∷ []) s.requests_are;
       runs = subst (λ (x : List Done). RunsServed (new_pair c) (s.events ++ event ∷ []) new x) (append-nil h.outcomes) on;
       disk_is = s.disk_is;
       sound = s.sound;
@@ -153,7 +153,7 @@ gives_out c h i t disk there here d s is =
       blocks = s.blocks;
       place = s.place;
       place_back = s.place_back;
-      asked_are = asked_append s.events (Takes ∷ []) ∙ append-nil (asked s.events) ∙ s.asked_are;
+      requests_are = requests_append s.events (Takes ∷ []) ∙ append-nil (requests_of s.events) ∙ s.requests_are;
       runs = subst (λ (o : Option Done). RunsServed (new_pair c) (s.events ++ Takes ∷ []) new (h.outcomes ++ listed o)) is on;
       disk_is = s.disk_is;
       sound = s.sound;
@@ -163,13 +163,13 @@ gives_out c h i t disk there here d s is =
 -- ---- answers, one by one
 
 -- where some answers lead, a run leads
-pub record Arrives (c : Opening) (h : History) (x : Stand) : Type 0 where
+pub record Arrives (c : Opening) (h : History) (x : Exchange) : Type 0 where
   pub there : Logins
   pub here : Logins
   pub stays : Stays c h x.initiator x.target x.disk [] x.answers there here
 
 pub arrives : (n : ℕ) (c : Opening) (h : History) (held : Held) (i : initiator.Machine) (t : target.Machine) (disk : Disk) (back : List Message)
-    (there here : Logins) (x : Stand) → HaveAgreed c held
+    (there here : Logins) (x : Exchange) → HaveAgreed c held
     → Stays c h i t disk [] back there here → Leads held n i t disk back x → Arrives c h x
 arrives zero c h held i t disk back there here x a s l = subst (Arrives c h) l (record { there = there; here = here; stays = s })
 arrives (suc n) c h held i t disk [] there here x a s l = absurd l

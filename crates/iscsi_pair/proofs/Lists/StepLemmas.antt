@@ -1,35 +1,6 @@
 -- Events between two ends of which neither has a begun PDU: where each leads.
-use Rattle.std.proofs.Common.{
-  ◌≡◌,
-  ◌<◌,
-  ◌≤◌,
-  ◌⊎◌,
-  inl,
-  inr,
-  ℕ,
-  ◌+◌,
-  min,
-  max,
-  Bool,
-  true,
-  false,
-  List,
-  [],
-  ◌∷◌,
-  ◌++◌,
-  length,
-  take,
-  drop,
-  None,
-  Ok,
-  refl,
-  sym,
-  ap,
-  ◌∙◌,
-  subst,
-  append_assoc,
-  arith,
-}
+use Rattle.std.proofs.Common.{◌≡◌, ◌<◌, ◌≤◌, ◌⊎◌, inl, inr, ℕ, ◌+◌, min, max, Bool, true, false, List, [], ◌∷◌, ◌++◌, length, take, drop, None, Ok, refl, sym}
+use Rattle.std.proofs.Common.{ap, ◌∙◌, subst, append_assoc, arith}
 use Rattle.std.proofs.Math.Seq.{drop-append_seam, drop-length}
 use Rattle.std.proofs.lemmas.List.{append-nil, drop_at, length-append, nil_from_length, take-append-le, take_all, take_at}
 use Rattle.scsi_disk.specs.Disk.{Disk, disk_of}
@@ -38,11 +9,11 @@ use Rattle.iscsi_stream.specs.Segment.{no_login, after}
 use Rattle.iscsi_stream.specs.Stream.{Message, ReadsAs, after_all, pdu_len}
 use Rattle.iscsi_stream.specs.Canonical.{canon, canonical_bytes}
 use Rattle.iscsi_stream.specs.Framing.{Framing, Moves, begun_len, is_ready, last_place, length_at, longest_of, settled}
-use Rattle.iscsi_stream.proofs.Heads.{length_at-same, means-length}
-use Rattle.iscsi_stream.proofs.Gathered.{begun_len-short}
-use Rattle.iscsi_stream.proofs.Settled.{settled-short, length-settled}
-use Rattle.iscsi_stream.proofs.Ready.{not_whole-nil}
-use Rattle.iscsi_stream.proofs.Writing.{canon_append}
+use Rattle.iscsi_stream.proofs.HeadLemmas.{length_at-same, means-length}
+use Rattle.iscsi_stream.proofs.GatheringLemmas.{begun_len-short}
+use Rattle.iscsi_stream.proofs.SettledBytesLemmas.{settled-short, length-settled}
+use Rattle.iscsi_stream.proofs.ReadyLemmas.{not_whole-nil}
+use Rattle.iscsi_stream.proofs.WritingLemmas.{canon_append}
 use Rattle.iscsi_login.specs.declared.phase.Phase.{Phase}
 use Rattle.iscsi_login.specs.declared.phase.Phase.TheVariants as phases
 use Rattle.iscsi_login.specs.Stage.{is_closed_phase}
@@ -54,31 +25,18 @@ use Rattle.iscsi_target.specs.Laws.{joined_stepped}
 use Rattle.iscsi_target.specs.Machine as target_machine
 use Rattle.iscsi_target.specs.Machine.{MayAnswer, RunsIn, answers}
 use Rattle.iscsi_target.specs.Feed as target_calls
-use Rattle.iscsi_target.proofs.Joining.{answers_joined}
+use Rattle.iscsi_target.proofs.JoiningLemmas.{answers_joined}
 use Rattle.iscsi_initiator.specs.declared.request.Request.{Request}
 use Rattle.iscsi_initiator.specs.State as initiator
 use Rattle.iscsi_initiator.specs.State.{is_closed}
 use Rattle.iscsi_initiator.specs.Machine.{step, steps}
 use Rattle.iscsi_initiator.specs.Submitted.{submitted}
 use Rattle.iscsi_initiator.specs.Calls as calls
-use Rattle.iscsi_initiator.specs.Calls.{heard_steps}
+use Rattle.iscsi_initiator.specs.Calls.{received_steps}
 use Rattle.iscsi_initiator.specs.declared.request.Done.{Done}
-use Rattle.iscsi_pair.specs.World.{
-  World,
-  Opening,
-  Event,
-  ToTarget,
-  ToInitiator,
-  Submits,
-  TargetHears,
-  InitiatorHears,
-  MovesToTarget,
-  MovesToInitiator,
-  Happens,
-  keeps_no_memory,
-  store_of,
-}
-use Rattle.iscsi_pair.specs.Served.{IsAccepted, RunsServed, asked, asked_in, given_in}
+use Rattle.iscsi_pair.specs.World.{World, Opening, Event, ToTarget, ToInitiator, Submits, TargetReceives, InitiatorReceives, MovesToTarget, MovesToInitiator}
+use Rattle.iscsi_pair.specs.World.{Happens, keeps_no_memory, store_of}
+use Rattle.iscsi_pair.specs.Served.{IsAccepted, RunsServed, requests_of, requests_in, given_in}
 use Rattle.iscsi_pair.proofs.Request.Invariant.{AreWritten, IsWritten}
 use Rattle.iscsi_pair.proofs.Run.QueueReading.{after_all_append, reads_joined, written_reads}
 
@@ -206,7 +164,7 @@ reliable_answers s disk (m ∷ ms) =
       refl,
     )
 
-moves_there : (moved : List ℕ) (old new : World) → 0 < length moved → TargetHears moved old new → MovesToTarget None moved old new
+moves_there : (moved : List ℕ) (old new : World) → 0 < length moved → TargetReceives moved old new → MovesToTarget None moved old new
 moves_there [] old new some h = absurd (omega (arith, some))
 moves_there (byte ∷ bytes) old new some h = h
 
@@ -264,7 +222,7 @@ target_hears c i t blocks place place_back there here m ms back after_blocks ope
         ends_by (target_machine.is_closed r.machine) bytes v r new.target refl refl,
       );
     } in
-    let hears : TargetHears bytes old new = record {
+    let hears : TargetReceives bytes old new = record {
       result = Ok r.machine.session.phase;
       fed = subst
           (λ (b : Bool). target_calls.FedIf b old.target (store_of blocks) back bytes (Ok r.machine.session.phase) new.target (store_of after_blocks)
@@ -294,20 +252,20 @@ closed_is phases.Closed e = refl
 closed_is phases.Login e = absurd cc
 closed_is phases.Full e = absurd cc
 
-moves_here : (moved : List ℕ) (old new : World) → 0 < length moved → InitiatorHears moved old new → MovesToInitiator None moved old new
+moves_here : (moved : List ℕ) (old new : World) → 0 < length moved → InitiatorReceives moved old new → MovesToInitiator None moved old new
 moves_here [] old new some h = absurd (omega (arith, some))
 moves_here (byte ∷ bytes) old new some h = h
 
 -- the call ends with the message, whether that closes the session or not
-initiator_ends : (shut : Bool) (old new : calls.Connection) (bytes : List ℕ) (h : calls.Heard old bytes) (before written : List ℕ)
-    → is_closed (heard_steps old bytes h).machine ≡ shut
-    → h.count ≡ length bytes → is_ready h.framing ≡ false → new.machine ≡ (heard_steps old bytes h).machine → new.framing ≡ h.framing
-    → written ≡ before ++ canon (heard_steps old bytes h).output
-    → (heard_steps old bytes h).fault ≡ None
-    → calls.HearsAll old bytes h new before written (heard_steps old bytes h).machine.phase
-    ⊎ (calls.ClosesAt old bytes h new before written None × ((heard_steps old bytes h).machine.phase ≡ phases.Closed))
+initiator_ends : (shut : Bool) (old new : calls.Connection) (bytes : List ℕ) (h : calls.Received old bytes) (before written : List ℕ)
+    → is_closed (received_steps old bytes h).machine ≡ shut
+    → h.count ≡ length bytes → is_ready h.framing ≡ false → new.machine ≡ (received_steps old bytes h).machine → new.framing ≡ h.framing
+    → written ≡ before ++ canon (received_steps old bytes h).output
+    → (received_steps old bytes h).fault ≡ None
+    → calls.ReceivesAll old bytes h new before written (received_steps old bytes h).machine.phase
+    ⊎ (calls.ClosesAt old bytes h new before written None × ((received_steps old bytes h).machine.phase ≡ phases.Closed))
 initiator_ends true old new bytes h before written is count ready machine framing output fault =
-    inr (record { closes = is; machine = machine; output = output; cause = fault }, closed_is (heard_steps old bytes h).machine.phase is)
+    inr (record { closes = is; machine = machine; output = output; cause = fault }, closed_is (received_steps old bytes h).machine.phase is)
 initiator_ends false old new bytes h before written is count ready machine framing output fault =
     inl (record {
       all = count;
@@ -336,7 +294,7 @@ initiator_hears c i t blocks place place_back there here out m more live well wr
     let first : take (length bytes) (canon (m ∷ more)) ≡ bytes = ap (take (length bytes)) both ∙ take_at bytes (canon more) (length bytes) refl in
     let one : OneStep i m = one_step (is_closed (step i m).machine) i m refl well in
     let v : Framing = clean limit (spot_after place_back (m ∷ [])) (after here m.head) in
-    let h : calls.Heard old.initiator bytes = record {
+    let h : calls.Received old.initiator bytes = record {
       count = length bytes;
       some = omega arith;
       messages = m ∷ [];
@@ -346,7 +304,7 @@ initiator_hears c i t blocks place place_back there here out m more live well wr
       limit = refl;
     } in
     let output : out ++ canon (step i m).output ≡ out ++ canon (steps i (m ∷ [])).output = ap (λ (x : List Message). out ++ canon x) (sym one.output) in
-    let hears : InitiatorHears bytes old new = record {
+    let hears : InitiatorReceives bytes old new = record {
       result = Ok (steps i (m ∷ [])).machine.phase;
       fed = (
         live,
@@ -383,9 +341,10 @@ initiator_asked c i t blocks place place_back there here out back request e = re
 
 -- ---- one event more
 
-pub asked_append : (a b : List Event) → asked (a ++ b) ≡ asked a ++ asked b
-asked_append [] b = refl
-asked_append (event ∷ a) b = ap (λ (x : List Request). asked_in event ++ x) (asked_append a b) ∙ sym (append_assoc (asked_in event) (asked a) (asked b))
+pub requests_append : (a b : List Event) → requests_of (a ++ b) ≡ requests_of a ++ requests_of b
+requests_append [] b = refl
+requests_append (event ∷ a) b = ap (λ (x : List Request). requests_in event ++ x) (requests_append a b)
+    ∙ sym (append_assoc (requests_in event) (requests_of a) (requests_of b))
 
 pub served_more : (old : World) (events : List Event) (mid : World) (outcomes : List Done) (event : Event) (new : World)
     → RunsServed old events mid outcomes → Happens mid event new → IsAccepted event mid

@@ -1,30 +1,6 @@
 -- Two ends that suit each other: the target refuses nothing, and the initiator finds no fault in an answer.
-use Rattle.std.proofs.Common.{
-  ◌≡◌,
-  ◌≢◌,
-  ◌≤◌,
-  ◌⊎◌,
-  inl,
-  inr,
-  ℕ,
-  Bool,
-  true,
-  false,
-  List,
-  [],
-  ◌∷◌,
-  length,
-  Option,
-  Some,
-  None,
-  refl,
-  sym,
-  ap,
-  ◌∙◌,
-  subst,
-  arith,
-  replicate,
-}
+use Rattle.std.proofs.Common.{◌≡◌, ◌≢◌, ◌≤◌, ◌⊎◌, inl, inr, ℕ, Bool, true, false, List, [], ◌∷◌, length, Option, Some, None, refl, sym, ap, ◌∙◌, subst, arith}
+use Rattle.std.proofs.Common.{replicate}
 use Rattle.std.specs.Prelude.{not, ◌&&◌, nat_lt, is_none, if◌then◌else◌, unwrap_or, codes}
 use Rattle.std.specs.List.{AllByRecursion}
 use Rattle.std.proofs.lemmas.Bool.{le-leb}
@@ -46,27 +22,14 @@ use Rattle.iscsi_login.specs.Answer.{max_recv_key}
 use Rattle.iscsi_login.specs.Offers.{Proposal, names, target_pair, offers_at, security_offers, operational_offers, single_offers}
 use Rattle.iscsi_initiator.specs.Configured.{IsStart}
 use Rattle.std.proofs.lemmas.List.{length-append}
-use Rattle.iscsi_text.proofs.Keys.{bytes_eq_same}
-use Rattle.iscsi_text.proofs.Order.{all_in_order}
+use Rattle.iscsi_text.proofs.KeyLemmas.{bytes_eq_same}
+use Rattle.iscsi_text.proofs.OrderLemmas.{all_in_order}
 use Rattle.iscsi_pair.proofs.Wire.TextSizes.{IsShort, text_short, length-in_order, security_short, operational_short, single_short}
 use Rattle.iscsi_target_session.specs.declared.status.Status.{Status}
 use Rattle.iscsi_target_session.specs.Session.{Session as TargetSession}
 use Rattle.scsi_disk.specs.Plan.{first_of}
-use Rattle.iscsi_target_session.specs.LoginText.{
-  answer_pairs,
-  is_normal,
-  session_for,
-  text_refusals,
-  known_keys,
-  gives_again,
-  given_with,
-  value_for,
-  is_name,
-  session_in,
-  names_target,
-  demands_authentication,
-  is_bad_length,
-}
+use Rattle.iscsi_target_session.specs.LoginText.{answer_pairs, is_normal, session_for, text_refusals, known_keys, repeats_key, seen_with, value_for, is_name}
+use Rattle.iscsi_target_session.specs.LoginText.{session_in, names_target, demands_authentication, is_bad_length}
 
 -- ---- what a target reads in an offer
 
@@ -98,13 +61,13 @@ says_single sessions.Discovery o e =
 
 -- the keys of the second text are not those of the first
 pub second_gives : (session : Session) (o : Proposal) → o.session ≡ session
-    → gives_again known_keys (given_with known_keys (replicate 27 false) (in_order (security_offers o))) (in_order (operational_offers o)) ≡ false
-second_gives sessions.Normal o e = ap (λ (s : Session). gives_again known_keys
-    (given_with known_keys (replicate 27 false) (in_order (security_offers (record o { session = s })))) (in_order (operational_offers o))) e ∙ refl
-second_gives sessions.Discovery o e = ap (λ (s : Session). gives_again known_keys
-    (given_with known_keys (replicate 27 false) (in_order (security_offers (record o { session = s })))) (in_order (operational_offers o))) e ∙ refl
+    → repeats_key known_keys (seen_with known_keys (replicate 27 false) (in_order (security_offers o))) (in_order (operational_offers o)) ≡ false
+second_gives sessions.Normal o e = ap (λ (s : Session). repeats_key known_keys
+    (seen_with known_keys (replicate 27 false) (in_order (security_offers (record o { session = s })))) (in_order (operational_offers o))) e ∙ refl
+second_gives sessions.Discovery o e = ap (λ (s : Session). repeats_key known_keys
+    (seen_with known_keys (replicate 27 false) (in_order (security_offers (record o { session = s })))) (in_order (operational_offers o))) e ∙ refl
 
-first_gives : (pairs : Pairs) → gives_again known_keys (replicate 27 false) pairs ≡ false
+first_gives : (pairs : Pairs) → repeats_key known_keys (replicate 27 false) pairs ≡ false
 first_gives pairs = refl
 
 -- authentication isn't demanded
@@ -240,7 +203,8 @@ asks_for sessions.Discovery e o pairs is t s name =
     let n : is_normal (session_for e pairs) ≡ false = ap is_normal (session_is e pairs o.session t s.session ∙ is) in
     (inl n, inl n)
 
-pub first_text : (e : TargetSession) (o : Proposal) (pairs : Pairs) → e.has_text ≡ false → e.given ≡ replicate 27 false → IsName o.initiator → SaysWho o pairs
+pub first_text : (e : TargetSession) (o : Proposal) (pairs : Pairs) → e.has_text ≡ false → e.seen_keys ≡ replicate 27 false → IsName o.initiator →
+    SaysWho o pairs
     → (o.session ≡ sessions.Discovery) ⊎ (o.target ≡ e.settings.name) → demands_authentication e.settings.preferences (value_for (codes "AuthMethod") pairs)
     ≡ false
     → is_bad_length (value_for max_recv_key pairs) ≡ false → nat_lt 8192 (length (canonical_text (answer_pairs e pairs))) ≡ false
@@ -248,7 +212,7 @@ pub first_text : (e : TargetSession) (o : Proposal) (pairs : Pairs) → e.has_te
 first_text e o pairs t g i s name auth len size =
     let a = asks_for o.session e o pairs refl t s name in
     none_of (text_refusals e pairs) (
-      ap (λ (x : List Bool). gives_again known_keys x pairs) g ∙ first_gives pairs,
+      ap (λ (x : List Bool). repeats_key known_keys x pairs) g ∙ first_gives pairs,
       (
         on e.has_text _ (ap (λ (x : Option Typed). not (is_name x)) s.initiator ∙ not_empty o.initiator i),
         (
@@ -264,7 +228,7 @@ first_text e o pairs t g i s name auth len size =
       ),
     )
 
-pub second_text : (e : TargetSession) (pairs : Pairs) → e.has_text ≡ true → gives_again known_keys e.given pairs ≡ false
+pub second_text : (e : TargetSession) (pairs : Pairs) → e.has_text ≡ true → repeats_key known_keys e.seen_keys pairs ≡ false
     → demands_authentication e.settings.preferences (value_for (codes "AuthMethod") pairs) ≡ false
     → is_bad_length (value_for max_recv_key pairs) ≡ false → nat_lt 8192 (length (canonical_text (answer_pairs e pairs))) ≡ false
     → first_of (text_refusals e pairs) ≡ None

@@ -5,7 +5,7 @@ use Rattle.iscsi_stream.specs.declared.logins.Logins.{Logins}
 use Rattle.iscsi_stream.specs.Segment.{after as logins_after}
 use Rattle.iscsi_stream.specs.Stream.{Message, ReadsAs}
 use Rattle.iscsi_stream.specs.Canonical.{canon, canonical_bytes}
-use Rattle.iscsi_stream.proofs.Meaning.{no_pdu_none}
+use Rattle.iscsi_stream.proofs.OneMeaningLaw.{no_pdu_none}
 use Rattle.iscsi_login.specs.declared.phase.Phase.{Phase}
 use Rattle.iscsi_login.specs.declared.phase.Phase.TheVariants as phases
 use Rattle.iscsi_login.specs.declared.stage.Stage.TheVariants as stages
@@ -23,7 +23,7 @@ use Rattle.iscsi_initiator.specs.Machine.{step, taken}
 use Rattle.iscsi_initiator.specs.Submitted.{Submitted, submitted, or_accepted, refusal_in}
 use Rattle.iscsi_initiator.specs.Laws as history
 use Rattle.iscsi_initiator.proofs.HeldLaws.{held_stays}
-use Rattle.iscsi_initiator.proofs.OneOutcome.{closed_step}
+use Rattle.iscsi_initiator.proofs.OneOutcomeLaw.{closed_step}
 use Rattle.iscsi_pair.specs.World.{Opening, IsOpening}
 use Rattle.iscsi_pair.specs.Traffic.{after_all, sent, coming}
 use Rattle.iscsi_initiator.specs.Laws.{Input, Comes, Asks, Takes, met}
@@ -32,7 +32,7 @@ use Rattle.iscsi_pair.proofs.Wire.PrefixLemmas.{IsFirst, first_is}
 use Rattle.iscsi_pair.proofs.Login.InitiatorStep.{Closes}
 use Rattle.iscsi_pair.proofs.Login.RoundAgrees.{Agreed, Asking, Asks_on, Round, asking_readable, round}
 use Rattle.iscsi_initiator.specs.Configured.{IsStart}
-use Rattle.iscsi_target.proofs.Keeping.{Stays, IsLater}
+use Rattle.iscsi_target.proofs.KeepingLemmas.{Stays, IsLater}
 use Rattle.iscsi_pair.proofs.Ends.TargetHeldStays.{held_stays as target_stays}
 
 -- ---- what an initiator keeps
@@ -129,7 +129,7 @@ pub record Way : Type 0 where
 
 -- The initiator waits for the answer to a request. The target reads this and what the initiator sends then, and the
 -- initiator what the target answers.
-pub record Exchange (w : Way) (inputs : List Input) (i : initiator.Machine) (t : target.Machine) (disk : Disk) (ms : List Message) : Type 0 where
+pub record LoginExchange (w : Way) (inputs : List Input) (i : initiator.Machine) (t : target.Machine) (disk : Disk) (ms : List Message) : Type 0 where
   pub there : Logins
   pub here : Logins
   pub request : Message
@@ -157,17 +157,17 @@ Turns c MayClose P = (i : initiator.Machine) (t : target.Machine) (there : Login
     ⊎ (Asks_on c (step i turn.answer) (target_machine.step t disk r).machine (logins_after there r.head)
     × P (step i turn.answer).machine (target_machine.step t disk r).machine))
 
--- How it ends: the initiator hears no more, an answer has closed its session in the login, or both have completed it.
+-- How it ends: the initiator receives no more, an answer has closed its session in the login, or both have completed it.
 pub data Ended (w : Way) (MayClose : Type 0) (P : Kept) (r : target.Machine) (m : initiator.Machine) : Type 0 where
-  Waiting : (t : target.Machine) (disk : Disk) (ms : List Message) → P m t → Exchange w [] m t disk ms → r ≡ (answers t disk ms).machine
+  Waiting : (t : target.Machine) (disk : Disk) (ms : List Message) → P m t → LoginExchange w [] m t disk ms → r ≡ (answers t disk ms).machine
       → Ended w MayClose P r m
   Closing : MayClose → m.phase ≡ phases.Closed → IsStart m.stage → Ended w MayClose P r m
   Agreeing : r.session.stage ≡ stages.Full → r.session.held ≡ m.held → m.stage ≡ stages.Full → Ended w MayClose P r m
 
 -- an input that is no message, and at which nothing is sent, makes no difference
 skipped : (w : Way) (input : Input) (inputs : List Input) (i : initiator.Machine) (t : target.Machine) (disk : Disk) (ms : List Message)
-    → Exchange w (input ∷ inputs) i t disk ms → coming (input ∷ inputs) ≡ coming inputs → canon (sent i (input ∷ inputs)) ≡ canon (sent i inputs)
-    → Exchange w inputs i t disk ms
+    → LoginExchange w (input ∷ inputs) i t disk ms → coming (input ∷ inputs) ≡ coming inputs → canon (sent i (input ∷ inputs)) ≡ canon (sent i inputs)
+    → LoginExchange w inputs i t disk ms
 skipped w input inputs i t disk ms x come same = record {
   there = x.there;
   here = x.here;
@@ -186,7 +186,7 @@ skipped w input inputs i t disk ms x come same = record {
 
 -- so it ends
 pub exchange_ends : (inputs : List Input) (w : Way) (MayClose : Type 0) (P : Kept) (i : initiator.Machine) (t : target.Machine) (disk : Disk)
-    (ms : List Message) → IsOpening w.opening → Turns w.opening MayClose P → P i t → Exchange w inputs i t disk ms
+    (ms : List Message) → IsOpening w.opening → Turns w.opening MayClose P → P i t → LoginExchange w inputs i t disk ms
     → Ended w MayClose P (answers t disk ms).machine (after_all i inputs)
 unfolding answers
 exchange_ends [] w MayClose P i t disk ms o turns p x = Waiting t disk ms p x refl

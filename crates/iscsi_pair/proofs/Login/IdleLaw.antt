@@ -7,8 +7,8 @@ use Rattle.iscsi_stream.specs.Segment.{no_login, segment_bytes, after as logins_
 use Rattle.iscsi_stream.specs.Stream.{Message, ReadsAs, NoPdu}
 use Rattle.iscsi_stream.specs.Canonical.{canon, canonical_bytes}
 use Rattle.iscsi_stream.specs.Framing.{Framing, HasTaken, is_ready}
-use Rattle.iscsi_stream.proofs.Taking.{splits_taken}
-use Rattle.iscsi_stream.proofs.Ready.{unready_of, apart}
+use Rattle.iscsi_stream.proofs.TakingLemmas.{splits_taken}
+use Rattle.iscsi_stream.proofs.ReadyLemmas.{unready_of, apart}
 use Rattle.iscsi_login.specs.declared.stage.Stage.TheVariants as stages
 use Rattle.iscsi_target.specs.State as target
 use Rattle.iscsi_target_session.specs.Session as target_session
@@ -25,7 +25,8 @@ use Rattle.iscsi_pair.proofs.Ends.TargetRun.{TargetLives, TargetOver}
 use Rattle.iscsi_pair.proofs.Ends.BothRuns.{Sides}
 use Rattle.iscsi_pair.proofs.Wire.PrefixLemmas.{Readable, IsFirst, first_is}
 use Rattle.iscsi_pair.proofs.Login.RoundAgrees.{Round, Asks_on, asking_readable, asking_short, round, first_asks}
-use Rattle.iscsi_pair.proofs.Login.Exchange.{Ended, Exchange, Way, Waiting, Closing, Agreeing, any_turns, anything, exchange_ends, first_reached, nothing_read}
+use Rattle.iscsi_pair.proofs.Login.Exchange.{Ended, LoginExchange, Way, Waiting, Closing, Agreeing, any_turns, anything, exchange_ends, first_reached}
+use Rattle.iscsi_pair.proofs.Login.Exchange.{nothing_read}
 
 -- no whole PDU waits in what an end holds
 pub record HoldsNone (limit : ℕ) (rest : List ℕ) : Type 0 where
@@ -37,8 +38,8 @@ not_waiting : (limit : ℕ) (logins : Logins) (rest more : List ℕ) (m : Messag
     → length (segment_bytes m.segment) ≤ 8192 → rest ≡ canonical_bytes m ++ more → ⊥
 not_waiting limit logins rest more m h r short e = h.none (canonical_bytes m) (segment_bytes m.segment) more m.head e r.means (omega (arith, short, h.enough))
 
--- where the initiator hears no more, and each end holds no whole PDU of the other, the login is completed
-none_waits : (ms : List Message) (w : Way) (i : initiator.Machine) (t : target.Machine) (disk : Disk) → IsOpening w.opening → Exchange w [] i t disk ms
+-- where the initiator receives no more, and each end holds no whole PDU of the other, the login is completed
+none_waits : (ms : List Message) (w : Way) (i : initiator.Machine) (t : target.Machine) (disk : Disk) → IsOpening w.opening → LoginExchange w [] i t disk ms
     → HoldsNone w.target_limit w.left_there ⊎ (target_machine.is_closed (answers t disk ms).machine ≡ true)
     → HoldsNone w.initiator_limit w.left_here → ⊥
 unfolding answers

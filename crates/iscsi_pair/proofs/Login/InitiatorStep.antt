@@ -7,31 +7,18 @@ use Rattle.iscsi_pdu.specs.declared.head.Head.TheVariants as heads
 use Rattle.iscsi_pdu.specs.declared.head.login_response.LoginResponse.{LoginResponse}
 use Rattle.iscsi_stream.specs.Segment.{Text}
 use Rattle.iscsi_stream.specs.Stream.{Message}
-use Rattle.iscsi_stream.proofs.Ready.{apart}
+use Rattle.iscsi_stream.proofs.ReadyLemmas.{apart}
 use Rattle.iscsi_login.specs.declared.phase.Phase.{Phase}
 use Rattle.iscsi_login.specs.declared.phase.Phase.TheVariants as phases
 use Rattle.iscsi_login.specs.Answer.{initiator_holds}
 use Rattle.iscsi_login.specs.Check.{bad_key}
 use Rattle.iscsi_initiator.specs.declared.fault.InitiatorFault.TheVariants.{Refused}
 use Rattle.iscsi_initiator.specs.State.{Machine}
-use Rattle.iscsi_initiator.specs.Steps.{Stepped, fails, breaks}
-use Rattle.iscsi_initiator.specs.Login.{
-  login_step,
-  answered,
-  in_turn,
-  is_expected,
-  goes_on,
-  moves_on,
-  text_answered,
-  judged,
-  enters,
-  asked,
-  counted,
-  sends_more,
-  offered,
-}
+use Rattle.iscsi_initiator.specs.Steps.{Stepped, fails, protocol_error}
+use Rattle.iscsi_initiator.specs.Login.{login_step, answered, in_turn, is_expected, goes_on, moves_on, text_answered, judged, begins_stage, requested_stage}
+use Rattle.iscsi_initiator.specs.Login.{counted, sends_more, offered}
 use Rattle.iscsi_initiator.specs.Machine.{step, step_in}
-use Rattle.iscsi_initiator.proofs.Stepping.{step_is}
+use Rattle.iscsi_initiator.proofs.StepLemmas.{step_is}
 
 -- the message of an answer
 abbrev pub answering : LoginResponse → Pairs → Message
@@ -43,7 +30,7 @@ pub record Closes (m : Machine) (r : Stepped) : Type 0 where
   pub stage : r.machine.stage ≡ m.stage
 
 started_in : (m : Machine) (message : Message) (b : Bool) → m.started ≡ b → b ≡ true
-    → (if m.started then login_step m message.head message.segment else breaks m 1) ≡ login_step m message.head message.segment
+    → (if m.started then login_step m message.head message.segment else protocol_error m 1) ≡ login_step m message.head message.segment
 started_in m message true is t = rw is refl
 started_in m message false is t = absurd (cc t)
 
@@ -64,39 +51,41 @@ hears_refusal m h pairs p s tag class =
 -- an answer in the midst of a text is a fault, or the next part goes
 pub hears_more : (m : Machine) (h : LoginResponse) (pairs : Pairs) (byte : ℕ) (bytes : List ℕ) → m.phase ≡ phases.Login → m.started ≡ true
     → h.initiator_task_tag ≡ 0 → h.status_class ≡ 0
-    → m.left ≡ byte ∷ bytes → Closes m (step m (answering h pairs)) ⊎ (step m (answering h pairs) ≡ sends_more (counted m h))
+    → m.unsent_text ≡ byte ∷ bytes → Closes m (step m (answering h pairs)) ⊎ (step m (answering h pairs) ≡ sends_more (counted m h))
 hears_more m h pairs byte bytes p s tag class left =
     let P : Stepped → Type 0 = λ r. Closes m r ⊎ (r ≡ sends_more (counted m h)) in
-    let shut : (r : ℕ) → P (breaks m r) = λ r. inl (record { phase = refl; stage = refl }) in
+    let shut : (r : ℕ) → P (protocol_error m r) = λ r. inl (record { phase = refl; stage = refl }) in
     let number : Bool = not (is_expected m.exp_stat_sn (unwrap_or h.stat_sn 0)) in
-    let turn : P (in_turn m.left m h (Text pairs)) =
-    subst (λ (l : List ℕ). P (in_turn l m h (Text pairs))) (sym left) (cond_both (goes_on m h (Text pairs)) (sends_more (counted m h)) (breaks m 7) P
+    let turn : P (in_turn m.unsent_text m h (Text pairs)) =
+    subst (λ (l : List ℕ). P (in_turn l m h (Text pairs))) (sym left) (cond_both (goes_on m h (Text pairs)) (sends_more (counted m h)) (protocol_error m 7) P
     (λ is. inr refl) (λ is. shut 7)) in
     subst P (sym (hears m h pairs p s tag))
-    (cond_both (not (h.status_class == 0)) (fails m (Refused h.status_class h.status_detail)) (if number then breaks m 6 else in_turn m.left m h (Text pairs)) P
+    (cond_both (not (h.status_class == 0)) (fails m (Refused h.status_class h.status_detail))
+    (if number then protocol_error m 6 else in_turn m.unsent_text m h (Text pairs)) P
     (λ is. absurd (apart is (ap (λ (n : ℕ). not (n == 0)) class)))
-    (λ is. cond_both number (breaks m 6) (in_turn m.left m h (Text pairs)) P (λ is. shut 6) (λ is. turn)))
+    (λ is. cond_both number (protocol_error m 6) (in_turn m.unsent_text m h (Text pairs)) P (λ is. shut 6) (λ is. turn)))
 
 -- the session that goes on with a good answer
 abbrev pub with_answer : Machine → LoginResponse → Pairs → Machine
 with_answer m h pairs = record (counted m h) { held = initiator_holds None pairs m.held }
 
 judges : (o : Option (List ℕ)) (m : Machine) (h : LoginResponse) (pairs : Pairs)
-    → Closes m (judged o m h pairs) ⊎ (judged o m h pairs ≡ enters (asked m) (with_answer m h pairs))
+    → Closes m (judged o m h pairs) ⊎ (judged o m h pairs ≡ begins_stage (requested_stage m) (with_answer m h pairs))
 judges (Some key) m h pairs = inl (record { phase = refl; stage = refl })
 judges None m h pairs = inr refl
 
 -- an answer to a whole text is a fault, or the login enters the next stage
 pub hears_answer : (m : Machine) (h : LoginResponse) (pairs : Pairs) → m.phase ≡ phases.Login → m.started ≡ true → h.initiator_task_tag ≡ 0 → h.status_class ≡ 0
-    → m.left ≡ [] → Closes m (step m (answering h pairs)) ⊎ (step m (answering h pairs) ≡ enters (asked m) (with_answer m h pairs))
+    → m.unsent_text ≡ [] → Closes m (step m (answering h pairs)) ⊎ (step m (answering h pairs) ≡ begins_stage (requested_stage m) (with_answer m h pairs))
 hears_answer m h pairs p s tag class left =
-    let P : Stepped → Type 0 = λ r. Closes m r ⊎ (r ≡ enters (asked m) (with_answer m h pairs)) in
-    let shut : (r : ℕ) → P (breaks m r) = λ r. inl (record { phase = refl; stage = refl }) in
+    let P : Stepped → Type 0 = λ r. Closes m r ⊎ (r ≡ begins_stage (requested_stage m) (with_answer m h pairs)) in
+    let shut : (r : ℕ) → P (protocol_error m r) = λ r. inl (record { phase = refl; stage = refl }) in
     let number : Bool = not (is_expected m.exp_stat_sn (unwrap_or h.stat_sn 0)) in
-    let turn : P (in_turn m.left m h (Text pairs)) =
-    subst (λ (l : List ℕ). P (in_turn l m h (Text pairs))) (sym left) (cond_both (moves_on m h) (text_answered m h (Text pairs)) (breaks m 7) P
+    let turn : P (in_turn m.unsent_text m h (Text pairs)) =
+    subst (λ (l : List ℕ). P (in_turn l m h (Text pairs))) (sym left) (cond_both (moves_on m h) (text_answered m h (Text pairs)) (protocol_error m 7) P
     (λ is. judges (bad_key (offered m) pairs) m h pairs) (λ is. shut 7)) in
     subst P (sym (hears m h pairs p s tag))
-    (cond_both (not (h.status_class == 0)) (fails m (Refused h.status_class h.status_detail)) (if number then breaks m 6 else in_turn m.left m h (Text pairs)) P
+    (cond_both (not (h.status_class == 0)) (fails m (Refused h.status_class h.status_detail))
+    (if number then protocol_error m 6 else in_turn m.unsent_text m h (Text pairs)) P
     (λ is. absurd (apart is (ap (λ (n : ℕ). not (n == 0)) class)))
-    (λ is. cond_both number (breaks m 6) (in_turn m.left m h (Text pairs)) P (λ is. shut 6) (λ is. turn)))
+    (λ is. cond_both number (protocol_error m 6) (in_turn m.unsent_text m h (Text pairs)) P (λ is. shut 6) (λ is. turn)))

@@ -30,25 +30,14 @@ use Rattle.iscsi_target_session.specs.LoginText.{answer_pairs, session_for, sess
 use Rattle.iscsi_target_session.specs.Login.{entered, numbered, gather, text_answered}
 use Rattle.iscsi_target.specs.Machine as target_machine
 use Rattle.iscsi_target.specs.Machine.{answers}
-use Rattle.iscsi_target.proofs.Numbers.{IsFit, step_fit}
-use Rattle.iscsi_target.proofs.Reached.{reached_fit}
+use Rattle.iscsi_target.proofs.NumberLaws.{IsFit, step_fit}
+use Rattle.iscsi_target.proofs.ReachableLemmas.{reached_fit}
 use Rattle.iscsi_initiator.specs.Configured.{IsStart}
 use Rattle.iscsi_initiator.specs.State as initiator
 use Rattle.iscsi_initiator.specs.State.{serial}
 use Rattle.iscsi_initiator.specs.Steps.{Stepped, sends}
-use Rattle.iscsi_initiator.specs.Login.{
-  asked,
-  counted,
-  enters,
-  fits_segment,
-  login_message,
-  login_request,
-  offered,
-  sends_cut,
-  sends_more,
-  sends_text,
-  start_step,
-}
+use Rattle.iscsi_initiator.specs.Login.{requested_stage, counted, begins_stage, fits_segment, login_message, login_request, offered, sends_cut, sends_more}
+use Rattle.iscsi_initiator.specs.Login.{sends_text, start_step}
 use Rattle.iscsi_initiator.specs.Machine.{step}
 use Rattle.iscsi_pair.specs.World.{Opening, IsOpening, Suits}
 use Rattle.iscsi_pair.specs.LocalDisk.{AreInStep, window_of_eight}
@@ -56,21 +45,8 @@ use Rattle.iscsi_pair.proofs.Login.InitiatorStep.{with_answer}
 use Rattle.iscsi_pair.proofs.Login.RoundAgrees.{Agreed, Asking, Asks_on, Round}
 use Rattle.iscsi_pair.proofs.Login.Compatible.{says_security, says_single, session_is}
 use Rattle.iscsi_pair.proofs.Wire.WindowLemmas.{IsNear, near_now, tells_eight}
-use Rattle.iscsi_pair.proofs.Login.RoundProgress.{
-  HasNone,
-  HasFirst,
-  Suited,
-  SameState,
-  TextKeeps,
-  LastTurn,
-  PartTurn,
-  emptied,
-  entered_same,
-  part_head,
-  text_head,
-  text_keeps,
-  turns,
-}
+use Rattle.iscsi_pair.proofs.Login.RoundProgress.{HasNone, HasFirst, Suited, SameState, TextKeeps, LastTurn, PartTurn, emptied, entered_same, part_head}
+use Rattle.iscsi_pair.proofs.Login.RoundProgress.{text_head, text_keeps, turns}
 
 -- ---- what is counted
 
@@ -78,7 +54,7 @@ use Rattle.iscsi_pair.proofs.Login.RoundProgress.{
 pub record Numbered (c : Opening) (i : initiator.Machine) (t : target.Machine) : Type 0 where
   pub tag : i.initiator_task_tag ≡ 0
   pub cmd_sn : i.cmd_sn ≡ c.initiator.first_cmd_sn
-  pub none_open : i.open_request ≡ None
+  pub none_open : i.outstanding ≡ None
   pub no_task : t.tasks ≡ []
   -- the first request settled the number that is due
   pub due : t.session.begun ≡ true → t.session.exp_cmd_sn ≡ c.initiator.first_cmd_sn
@@ -112,20 +88,20 @@ record Kept (m n : initiator.Machine) : Type 0 where
   window : n.window ≡ m.window
   cmd_sn : n.cmd_sn ≡ m.cmd_sn
   tag : n.initiator_task_tag ≡ m.initiator_task_tag
-  open_request : n.open_request ≡ m.open_request
+  outstanding : n.outstanding ≡ m.outstanding
   none_done : n.done ≡ m.done
 
 -- the text of a stage goes out
 text_kept : (m : initiator.Machine) (stage : Stage) → Kept m (sends_text (record m { stage = stage })).machine
 text_kept m stage =
     let n : initiator.Machine = record m { stage = stage } in
-    cond_both (fits_segment n (canonical_text (offered n))) (sends (record n { left = [] }) (login_message n true (Text (offered n)) ∷ []))
+    cond_both (fits_segment n (canonical_text (offered n))) (sends (record n { unsent_text = [] }) (login_message n true (Text (offered n)) ∷ []))
     (sends_cut n (canonical_text (offered n)) false) (λ (x : Stepped). Kept m x.machine)
-    (λ is. record { settings = refl; exp_stat_sn = refl; held = refl; window = refl; cmd_sn = refl; tag = refl; open_request = refl; none_done = refl })
-    (λ is. record { settings = refl; exp_stat_sn = refl; held = refl; window = refl; cmd_sn = refl; tag = refl; open_request = refl; none_done = refl })
+    (λ is. record { settings = refl; exp_stat_sn = refl; held = refl; window = refl; cmd_sn = refl; tag = refl; outstanding = refl; none_done = refl })
+    (λ is. record { settings = refl; exp_stat_sn = refl; held = refl; window = refl; cmd_sn = refl; tag = refl; outstanding = refl; none_done = refl })
 
 -- the stage moves
-enters_kept : (stage : Stage) (m : initiator.Machine) → Kept m (enters stage m).machine
+enters_kept : (stage : Stage) (m : initiator.Machine) → Kept m (begins_stage stage m).machine
 enters_kept stages.Security m = text_kept m stages.Security
 enters_kept stages.Operational m = text_kept m stages.Operational
 enters_kept stages.Full m = record {
@@ -135,12 +111,12 @@ enters_kept stages.Full m = record {
   window = refl;
   cmd_sn = refl;
   tag = refl;
-  open_request = refl;
+  outstanding = refl;
   none_done = refl;
 }
 
 -- the last stage goes with its phase
-enters_full : (stage : Stage) (m : initiator.Machine) → (enters stage m).machine.stage ≡ stages.Full → (enters stage m).machine.phase ≡ phases.Full
+enters_full : (stage : Stage) (m : initiator.Machine) → (begins_stage stage m).machine.stage ≡ stages.Full → (begins_stage stage m).machine.phase ≡ phases.Full
 enters_full stages.Security m full =
     let k : TextKeeps (record m { stage = stages.Security }) (sends_text (record m { stage = stages.Security })) =
     text_keeps (record m { stage = stages.Security }) in
@@ -220,7 +196,7 @@ normal_for c i t e o normal there text session before (inr f) =
 record Steady (c : Opening) (m : initiator.Machine) (t : target.Machine) : Type 0 where
   settings : m.settings ≡ c.initiator
   tag : m.initiator_task_tag ≡ 0
-  none_open : m.open_request ≡ None
+  none_open : m.outstanding ≡ None
   none_done : m.done ≡ None
   most : m.held.initiator_max_recv ≡ c.initiator.proposal.prefs.max_recv
   cmd_sn : m.cmd_sn ≡ c.initiator.first_cmd_sn
@@ -233,7 +209,7 @@ record Steady (c : Opening) (m : initiator.Machine) (t : target.Machine) : Type 
   fit : IsFit t
   session : t.session.has_text ≡ true → t.session.session_type ≡ sessions.Normal
 
--- the target counted what it told, and the initiator what it heard
+-- the target counted what it told, and the initiator what it received
 steady : (c : Opening) (i : initiator.Machine) (t : target.Machine) (e : target_session.Session) (u : target.Machine) (g : LoginResponse) (held : Held)
     (n : initiator.Machine) {logins : Logins} {r : Message} → IsOpening c → Asking c i t logins r → Numbered c i t
     → Begun t.session e c.initiator.first_cmd_sn → Tells c e u.session g → u.tasks ≡ [] → Kept (record (counted i g) { held = held }) n
@@ -242,7 +218,7 @@ steady : (c : Opening) (i : initiator.Machine) (t : target.Machine) (e : target_
 steady c i t e u g held n o a b begun tells none k most fit session = record {
   settings = k.settings ∙ a.settings;
   tag = k.tag ∙ b.tag;
-  none_open = k.open_request ∙ b.none_open;
+  none_open = k.outstanding ∙ b.none_open;
   none_done = k.none_done ∙ a.no_outcome;
   most = ap (λ (x : Held). x.initiator_max_recv) k.held ∙ most ∙ a.own;
   cmd_sn = k.cmd_sn ∙ b.cmd_sn;
@@ -312,16 +288,16 @@ last_meets c i t logins next r disk o normal a s b turn q =
     begins t.session h c.initiator.first_cmd_sn (ap (λ (x : initiator.Settings). x.first_cmd_sn) a.settings) b.due in
     let w : initiator.Machine = with_answer i g (answer_pairs e (offered i)) in
     let u : target.Stepped = target.on disk t.tasks (text_answered e h (offered i)) in
-    let y : Steady c (enters (asked i) w).machine u.machine =
-    steady c i t e u.machine g w.held (enters (asked i) w).machine o a b (record { cmd_sn = k.cmd_sn; session_type = k.session_type })
+    let y : Steady c (begins_stage (requested_stage i) w).machine u.machine =
+    steady c i t e u.machine g w.held (begins_stage (requested_stage i) w).machine o a b (record { cmd_sn = k.cmd_sn; session_type = k.session_type })
     (record { settings = same.settings ∙ a.target_settings; stat_sn = refl; exp_cmd_sn = refl; told_sn = refl; told_exp = refl; told_max = refl })
     (none_left u.machine.session t.tasks b.no_task)
-    (enters_kept (asked i) w) refl
+    (enters_kept (requested_stage i) w) refl
     (subst (λ (x : target.Stepped). IsFit x.machine) q.there (step_fit t disk r b.fit))
     (λ is. normal_for c i t e o normal a.settings same.has_text k.session_type b.session s.texts) in
     subst (λ (x : target.Stepped). Meets c i x (step i turn.answer) disk next) (sym q.there)
     (subst (λ (x : Stepped). Meets c i u x disk next) (sym q.now)
-    (meets_by c i u (enters (asked i) w) disk next o y (λ full. (enters_full (asked i) w full, refl)) refl))
+    (meets_by c i u (begins_stage (requested_stage i) w) disk next o y (λ full. (enters_full (requested_stage i) w full, refl)) refl))
 
 -- ---- a request whose text goes on
 
@@ -341,7 +317,7 @@ part_meets c i t logins next r disk o a b turn q =
     steady c i t e u.machine g i.held n.machine o a b k
     (record { settings = same.settings ∙ a.target_settings; stat_sn = refl; exp_cmd_sn = refl; told_sn = refl; told_exp = refl; told_max = refl })
     (none_left u.machine.session t.tasks b.no_task)
-    (record { settings = refl; exp_stat_sn = refl; held = refl; window = refl; cmd_sn = refl; tag = refl; open_request = refl; none_done = refl }) refl
+    (record { settings = refl; exp_stat_sn = refl; held = refl; window = refl; cmd_sn = refl; tag = refl; outstanding = refl; none_done = refl }) refl
     (subst (λ (x : target.Stepped). IsFit x.machine) q.there (step_fit t disk r b.fit))
     (λ is. k.session_type ∙ b.session (sym same.has_text ∙ is)) in
     subst (λ (x : target.Stepped). Meets c i x (step i turn.answer) disk next) (sym q.there)
@@ -375,7 +351,7 @@ first_numbered c o =
     record {
       tag = k.tag;
       cmd_sn = k.cmd_sn;
-      none_open = k.open_request;
+      none_open = k.outstanding;
       no_task = refl;
       due = λ begun. absurd (cc begun);
       window = record { exp = inr (ap (λ (x : Window). x.exp) k.window); max = inl (ap (λ (x : Window). x.max) k.window) };

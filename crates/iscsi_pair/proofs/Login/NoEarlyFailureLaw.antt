@@ -1,52 +1,23 @@
 -- Where both ends suit each other, none fails before its login is completed.
-use Rattle.std.proofs.Common.{
-  ◌≡◌,
-  ◌≢◌,
-  ◌<◌,
-  ◌≤◌,
-  ◌⊎◌,
-  inl,
-  inr,
-  ℕ,
-  true,
-  false,
-  List,
-  [],
-  ◌∷◌,
-  ◌++◌,
-  length,
-  take,
-  Option,
-  Some,
-  None,
-  Result,
-  Ok,
-  Err,
-  refl,
-  sym,
-  ap,
-  ◌∙◌,
-  subst,
-  append_assoc,
-  arith,
-}
+use Rattle.std.proofs.Common.{◌≡◌, ◌≢◌, ◌<◌, ◌≤◌, ◌⊎◌, inl, inr, ℕ, true, false, List, [], ◌∷◌, ◌++◌, length, take, Option, Some, None, Result, Ok, Err, refl}
+use Rattle.std.proofs.Common.{sym, ap, ◌∙◌, subst, append_assoc, arith}
 use Rattle.std.proofs.lemmas.Bool.{or_parts}
 use Rattle.std.specs.Result.{result_err}
 use Rattle.std.proofs.lemmas.List.{append-nil, length-append, take-append-le}
 use Rattle.scsi_disk.specs.Disk.{disk_of}
 use Rattle.iscsi_pdu.specs.declared.head.Head.{Head}
 use Rattle.iscsi_pdu.specs.Meaning.{IsHeader}
-use Rattle.iscsi_pdu.proofs.Headers.{IsHeader-unique}
+use Rattle.iscsi_pdu.proofs.HeaderLemmas.{IsHeader-unique}
 use Rattle.iscsi_stream.specs.declared.fault.StreamFault.{StreamFault}
 use Rattle.iscsi_stream.specs.declared.fault.StreamFault.TheVariants as stream
 use Rattle.iscsi_stream.specs.Segment.{no_login, segment_bytes}
 use Rattle.iscsi_stream.specs.Stream.{Message, ReadsAs}
 use Rattle.iscsi_stream.specs.Canonical.{canon, canonical_bytes}
 use Rattle.iscsi_stream.specs.Framing.{Framing, HasTaken, FeedFails, settled}
-use Rattle.iscsi_stream.proofs.Meaning.{starts}
-use Rattle.iscsi_stream.proofs.Heads.{bad_header}
-use Rattle.iscsi_stream.proofs.Settled.{settled-short, length-settled}
-use Rattle.iscsi_stream.proofs.Ready.{apart}
+use Rattle.iscsi_stream.proofs.OneMeaningLaw.{starts}
+use Rattle.iscsi_stream.proofs.HeadLemmas.{bad_header}
+use Rattle.iscsi_stream.proofs.SettledBytesLemmas.{settled-short, length-settled}
+use Rattle.iscsi_stream.proofs.ReadyLemmas.{apart}
 use Rattle.iscsi_login.specs.declared.stage.Stage.TheVariants as stages
 use Rattle.iscsi_target.specs.declared.fault.TargetFault.{TargetFault}
 use Rattle.iscsi_target.specs.declared.fault.TargetFault.TheVariants as target_faults
@@ -62,30 +33,8 @@ use Rattle.iscsi_initiator.specs.State as initiator
 use Rattle.iscsi_initiator.specs.Login.{start_step}
 use Rattle.iscsi_pair.specs.declared.step.EndFault.{EndFault}
 use Rattle.iscsi_pair.specs.declared.step.EndFault.TheVariants as ends
-use Rattle.iscsi_pair.specs.World.{
-  World,
-  Opening,
-  IsOpening,
-  IsInTime,
-  Suits,
-  Event,
-  feed_fault,
-  submit_fault,
-  ToTarget,
-  ToInitiator,
-  Submits,
-  Takes,
-  Happens,
-  Runs,
-  RunsInTime,
-  MovesToTarget,
-  MovesToInitiator,
-  Asks,
-  new_pair,
-  target_ran_out,
-  initiator_ran_out,
-  keeps_no_memory,
-}
+use Rattle.iscsi_pair.specs.World.{World, Opening, IsOpening, IsInTime, Suits, Event, feed_fault, submit_fault, ToTarget, ToInitiator, Submits, Takes, Happens}
+use Rattle.iscsi_pair.specs.World.{Runs, RunsInTime, MovesToTarget, MovesToInitiator, Asks, new_pair, target_ran_out, initiator_ran_out, keeps_no_memory}
 use Rattle.iscsi_pair.specs.Traffic.{Traffic, said, after_all, sent, coming}
 use Rattle.iscsi_initiator.specs.Laws.{Input}
 use Rattle.iscsi_pair.proofs.Ends.TargetRun.{TargetFront, front_output, TargetEnded, TargetBroken, TargetFailed}

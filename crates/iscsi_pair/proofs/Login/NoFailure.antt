@@ -20,7 +20,7 @@ use Rattle.iscsi_initiator.specs.Laws.{Input}
 use Rattle.iscsi_pair.proofs.Wire.PrefixLemmas.{Readable, IsFirst, first_is}
 use Rattle.iscsi_pair.proofs.Login.RoundAgrees.{Asking, Round, asking_readable, asking_short, round}
 use Rattle.iscsi_pair.proofs.Login.RoundProgress.{Suited, Well, goes_well}
-use Rattle.iscsi_pair.proofs.Login.Exchange.{Ended, Exchange, Turns, Way, Waiting, Closing, Agreeing, exchange_ends, not_empty, nothing_read}
+use Rattle.iscsi_pair.proofs.Login.Exchange.{Ended, LoginExchange, Turns, Way, Waiting, Closing, Agreeing, exchange_ends, not_empty, nothing_read}
 
 -- a message stands at the front of these bytes as it was written
 pub record Stands (bytes : List ℕ) : Type 0 where
@@ -49,7 +49,7 @@ none_read : (limit : ℕ) (logins : Logins) (given : List ℕ) (ms : List Messag
 none_read limit logins given [] p e = refl
 none_read limit logins given (m ∷ ms) p e = absurd (not_empty limit logins given [] m ms p (append-nil given ∙ e))
 
--- the last message that came, as far as the initiator has heard
+-- the last message that came, as far as the initiator has received
 last_heard : (ms : List Message) (c : Opening) (i : initiator.Machine) (t : target.Machine) (out back : Logins) (r : Message) (disk : Disk) (l : ℕ)
     (given x y : List ℕ)
     → IsOpening c → Suits c → Asking c i t out r → Suited c i t → back.response ≡ false → ReadsAs l out given ms → given ++ x ≡ canonical_bytes r ++ []
@@ -124,7 +124,7 @@ ended_well w r m o suits none (Agreeing stage held own) = record { target = inl 
 
 -- so no end closes before its login is completed
 pub stay_well : (inputs : List Input) (w : Way) (i : initiator.Machine) (t : target.Machine) (disk : Disk) (ms : List Message) → IsOpening w.opening
-    → Suits w.opening → w.extra ≡ [] → Suited w.opening i t → Exchange w inputs i t disk ms
+    → Suits w.opening → w.extra ≡ [] → Suited w.opening i t → LoginExchange w inputs i t disk ms
     → AreWell (after_all i inputs) (answers t disk ms) w.left_there w.left_here
 stay_well inputs w i t disk ms o suits none s x =
     ended_well w (answers t disk ms) (after_all i inputs) o suits none

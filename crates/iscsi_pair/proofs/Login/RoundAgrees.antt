@@ -1,34 +1,6 @@
 -- One request of a login and its answer: both ends hold the same, or the initiator gives up.
-use Rattle.std.proofs.Common.{
-  ◌≡◌,
-  ◌<◌,
-  ◌≤◌,
-  ◌⊎◌,
-  inl,
-  inr,
-  ℕ,
-  ◌-◌,
-  Bool,
-  true,
-  false,
-  List,
-  [],
-  ◌∷◌,
-  ◌++◌,
-  length,
-  take,
-  drop,
-  Option,
-  Some,
-  None,
-  refl,
-  sym,
-  ap,
-  ◌∙◌,
-  subst,
-  append_assoc,
-  arith,
-}
+use Rattle.std.proofs.Common.{◌≡◌, ◌<◌, ◌≤◌, ◌⊎◌, inl, inr, ℕ, ◌-◌, Bool, true, false, List, [], ◌∷◌, ◌++◌, length, take, drop, Option, Some, None, refl, sym}
+use Rattle.std.proofs.Common.{ap, ◌∙◌, subst, append_assoc, arith}
 use Rattle.std.specs.Prelude.{not, ◌&&◌, nat_le, is_some, IfSome, ◌^◌, if◌then◌else◌, unwrap_or}
 use Rattle.std.specs.Bool.{then_some}
 use Rattle.std.proofs.Math.Bool.{not-not, and-false}
@@ -54,27 +26,15 @@ use Rattle.iscsi_login.specs.Answer as login
 use Rattle.iscsi_login.specs.Answer.{initiator_holds, target_holds, declared_max_recv}
 use Rattle.iscsi_login.specs.Offers.{offers_at}
 use Rattle.iscsi_login.specs.Stage.{stage_number}
-use Rattle.iscsi_login.proofs.Texts.{texts_agree}
-use Rattle.iscsi_login.proofs.AnswerMeaning.{answer_meaning}
+use Rattle.iscsi_login.proofs.TextAgreementLaw.{texts_agree}
+use Rattle.iscsi_login.proofs.AnswerMeaningLaw.{answer_meaning}
 use Rattle.iscsi_text.proofs.TextLaws as texts
 use Rattle.iscsi_initiator.specs.Configured.{AreValid, IsStart}
 use Rattle.iscsi_initiator.specs.State as initiator
 use Rattle.iscsi_initiator.specs.State.{sent_exp_stat_sn}
 use Rattle.iscsi_initiator.specs.Steps.{Stepped, sends}
-use Rattle.iscsi_initiator.specs.Login.{
-  offered,
-  asked,
-  asked_from,
-  login_request,
-  login_message,
-  counted,
-  sends_cut,
-  sends_more,
-  sends_text,
-  enters,
-  fits_segment,
-  start_step,
-}
+use Rattle.iscsi_initiator.specs.Login.{offered, requested_stage, following_stage, login_request, login_message, counted, sends_cut, sends_more, sends_text}
+use Rattle.iscsi_initiator.specs.Login.{begins_stage, fits_segment, start_step}
 use Rattle.iscsi_initiator.specs.Machine.{step}
 use Rattle.iscsi_target_session.specs.Configured as target_settings
 use Rattle.iscsi_target_session.specs.Session as target_session
@@ -98,7 +58,7 @@ is_sent (byte ∷ bytes) = false
 -- the whole text is on its way
 pub record IsWhole (i : initiator.Machine) (t : target.Machine) (logins : Logins) (segment : Segment) : Type 0 where
   pub is : segment ≡ Text (offered i)
-  pub left : i.left ≡ []
+  pub unsent_text : i.unsent_text ≡ []
   pub gathered : t.session.gathered ≡ []
   pub first : logins.request ≡ false
   pub short : length (canonical_text (offered i)) ≤ 8192
@@ -107,11 +67,11 @@ pub record IsWhole (i : initiator.Machine) (t : target.Machine) (logins : Logins
 pub record IsPart (i : initiator.Machine) (t : target.Machine) (logins : Logins) (segment : Segment) : Type 0 where
   pub bytes : List ℕ
   pub is : segment ≡ Bytes bytes
-  pub text : t.session.gathered ++ (bytes ++ i.left) ≡ canonical_text (offered i)
+  pub text : t.session.gathered ++ (bytes ++ i.unsent_text) ≡ canonical_text (offered i)
   pub short : length bytes ≤ 8192
-  pub part : (not logins.request && is_sent i.left) ≡ false
+  pub part : (not logins.request && is_sent i.unsent_text) ≡ false
 
--- The initiator has asked, and the target has not yet heard it: both are in their login, and hold the same but for what
+-- The initiator has asked, and the target has not yet received it: both are in their login, and hold the same but for what
 -- the initiator has not yet declared of itself.
 pub record Asking (c : Opening) (i : initiator.Machine) (t : target.Machine) (logins : Logins) (r : Message) : Type 0 where
   pub settings : i.settings ≡ c.initiator
@@ -126,7 +86,7 @@ pub record Asking (c : Opening) (i : initiator.Machine) (t : target.Machine) (lo
   pub values : t.session.held.values ≡ i.held.values
   pub most : t.session.held.target_max_recv ≡ i.held.target_max_recv
   pub segment : Segment
-  pub request : r ≡ login_message i (is_sent i.left) segment
+  pub request : r ≡ login_message i (is_sent i.unsent_text) segment
   pub how : IsWhole i t logins segment ⊎ IsPart i t logins segment
 
 -- ---- what is on its way is read as it was written
@@ -148,8 +108,8 @@ pub request_fits : (c : Opening) (i : initiator.Machine) (last : Bool) → IsOpe
     → RequestFits (login_request i last)
 request_fits c i last o e n = record {
   current_stage = stage_fits i.stage;
-  has_next = some_then last (stage_number (asked i));
-  next_stage = if_then last (stage_number (asked i)) (stage_fits (asked i));
+  has_next = some_then last (stage_number (requested_stage i));
+  next_stage = if_then last (stage_number (requested_stage i)) (stage_fits (requested_stage i));
   version_max = omega arith;
   version_min = omega arith;
   isid = ap (λ (s : initiator.Settings). length s.isid) e ∙ o.isid;
@@ -167,14 +127,15 @@ offered_read c i o e is = offers_read i.settings i.stage (subst AreValid (sym e)
 pub asking_readable : (c : Opening) (i : initiator.Machine) (t : target.Machine) (logins : Logins) (r : Message) → IsOpening c → Asking c i t logins r
     → Readable logins r
 asking_readable c i t logins r o a =
-    let f : RequestFits (login_request i (is_sent i.left)) = request_fits c i (is_sent i.left) o a.settings a.number in
+    let f : RequestFits (login_request i (is_sent i.unsent_text)) = request_fits c i (is_sent i.unsent_text) o a.settings a.number in
     subst (Readable logins) (sym a.request)
     (elim a.how [
-      | inl w ↦ subst (λ (x : Segment). Readable logins (login_message i (is_sent i.left) x)) (sym w.is)
-          (request_readable logins (login_request i (is_sent i.left)) (offered i) w.first (ap (λ (l : List ℕ). not (is_sent l)) w.left) f w.short
+      | inl w ↦ subst (λ (x : Segment). Readable logins (login_message i (is_sent i.unsent_text) x)) (sym w.is)
+          (request_readable logins (login_request i (is_sent i.unsent_text)) (offered i) w.first (ap (λ (l : List ℕ). not (is_sent l)) w.unsent_text) f w.short
           (offered_read c i o a.settings a.stage))
-      | inr p ↦ subst (λ (x : Segment). Readable logins (login_message i (is_sent i.left) x)) (sym p.is)
-          (part_readable logins (login_request i (is_sent i.left)) p.bytes (ap (λ (b : Bool). not logins.request && b) (not-not (is_sent i.left)) ∙ p.part) f
+      | inr p ↦ subst (λ (x : Segment). Readable logins (login_message i (is_sent i.unsent_text) x)) (sym p.is)
+          (part_readable logins (login_request i (is_sent i.unsent_text)) p.bytes (ap (λ (b : Bool). not logins.request && b) (not-not (is_sent i.unsent_text))
+          ∙ p.part) f
           p.short)
     ])
 
@@ -273,7 +234,7 @@ sends_next c m t logins o g none first =
     let text : List ℕ = canonical_text (offered m) in
     let n : ℕ = m.settings.login_segment in
     let short : n ≤ 8192 = subst (λ (s : initiator.Settings). s.login_segment ≤ 8192) (sym g.settings) o.initiator.in_range.most in
-    by_fit (nat_le (length text) n) (λ r. Asks_on c r t logins) (sends (record m { left = [] }) (login_message m true (Text (offered m)) ∷ []))
+    by_fit (nat_le (length text) n) (λ r. Asks_on c r t logins) (sends (record m { unsent_text = [] }) (login_message m true (Text (offered m)) ∷ []))
     (sends_cut m text false)
     (λ fits. record {
       request = login_message m true (Text (offered m));
@@ -292,7 +253,7 @@ sends_next c m t logins o g none first =
         most = g.most;
         segment = Text (offered m);
         request = refl;
-        how = inl (record { is = refl; left = refl; gathered = none; first = first; short = omega (arith, leb-true (length text) n fits, short) });
+        how = inl (record { is = refl; unsent_text = refl; gathered = none; first = first; short = omega (arith, leb-true (length text) n fits, short) });
       };
     })
     (λ long. sends_part c m t logins text false o g (ap (λ (x : List ℕ). x ++ text) none) (sym long ∙ fits_drop n text) (and-false (not logins.request)))
@@ -347,7 +308,7 @@ refused_round c i t logins next r disk last reply a q = record {
 -- the login goes on with the next part of the text
 gathered_round : (c : Opening) (i : initiator.Machine) (t : target.Machine) (logins next : Logins) (r : Message) (disk : Disk) (bytes : List ℕ) (byte : ℕ)
     (more : List ℕ) (reply : target_session.Reply) → IsOpening c → Asking c i t logins r
-    → i.left ≡ byte ∷ more → t.session.gathered ++ (bytes ++ i.left) ≡ canonical_text (offered i) → next.request ≡ true
+    → i.unsent_text ≡ byte ∷ more → t.session.gathered ++ (bytes ++ i.unsent_text) ≡ canonical_text (offered i) → next.request ≡ true
     → Gathers t.session (login_request i false) bytes reply → Round c i (target.on disk t.tasks reply) next
 gathered_round c i t logins next r disk bytes byte more reply o a left text request q = record {
   answer = answering q.answer [];
@@ -365,7 +326,7 @@ gathered_round c i t logins next r disk bytes byte more reply o a left text requ
     m = counted i q.answer
 
     goes : Asks_on c (sends_more m) (behind t reply) next
-    goes = sends_part c m (behind t reply) next m.left (fits_segment m m.left) o
+    goes = sends_part c m (behind t reply) next m.unsent_text (fits_segment m m.unsent_text) o
         (record {
           settings = a.settings;
           phase = a.phase;
@@ -379,9 +340,9 @@ gathered_round c i t logins next r disk bytes byte more reply o a left text requ
           values = ap (λ (x : Held). x.values) q.held ∙ a.values;
           most = ap (λ (x : Held). x.target_max_recv) q.held ∙ a.most;
         })
-        (ap (λ (x : List ℕ). x ++ i.left) q.gathered ∙ append_assoc t.session.gathered bytes i.left ∙ text)
-        (fits_drop m.settings.login_segment m.left)
-        (ap (λ (b : Bool). not b && fits_segment m m.left) request)
+        (ap (λ (x : List ℕ). x ++ i.unsent_text) q.gathered ∙ append_assoc t.session.gathered bytes i.unsent_text ∙ text)
+        (fits_drop m.settings.login_segment m.unsent_text)
+        (ap (λ (b : Bool). not b && fits_segment m m.unsent_text) request)
 
 -- ---- what is held after an answer
 
@@ -402,7 +363,7 @@ told_to : (stage : Stage) (c : Opening) (i : initiator.Machine) (t : target.Mach
     → IsOpening c → Asking c i t logins r → i.stage ≡ stage
     → next.request ≡ false → (q : Tells t.session (login_request i true) (offered i) reply)
     → let answer : Pairs = login.answer q.session t.session.settings.preferences q.group q.most (offered i) in
-    Leads c i (enters (asked_from stage) (with_answer i q.answer answer)) (behind t reply) next
+    Leads c i (begins_stage (following_stage stage) (with_answer i q.answer answer)) (behind t reply) next
 told_to stages.Security c i t logins next r reply o a is first q =
     let answer : Pairs = login.answer q.session t.session.settings.preferences q.group q.most (offered i) in
     let m : initiator.Machine = record (with_answer i q.answer answer) { stage = stages.Operational } in
@@ -413,7 +374,7 @@ told_to stages.Security c i t logins next r reply o a is first q =
     let s : SameHeld (initiator_holds None answer i.held) (initiator_holds (declared_max_recv (offered i)) answer t.session.held) =
     held_same (declared_max_recv (offered i)) answer i.held t.session.held a.values a.most in
     let asked_is : target_login.stage_asked (login_request i true) ≡ Some stages.Operational =
-    ap (λ (x : Stage). target_login.stage_named (stage_number (asked_from x))) is in
+    ap (λ (x : Stage). target_login.stage_named (stage_number (following_stage x))) is in
     inr (inr (sends_next c m (behind t reply) next o
     (record {
       settings = a.settings;
@@ -446,7 +407,7 @@ told_to stages.Operational c i t logins next r reply o a is first q =
     let same : initiator_holds (declared_max_recv (offered i)) answer t.session.held ≡ initiator_holds None answer i.held =
     λ j. record { values = s.values j; initiator_max_recv = own j; target_max_recv = s.most j } in
     let asked_is : target_login.stage_asked (login_request i true) ≡ Some stages.Full =
-    ap (λ (x : Stage). target_login.stage_named (stage_number (asked_from x))) is in
+    ap (λ (x : Stage). target_login.stage_named (stage_number (following_stage x))) is in
     inr (inl (record {
       stage = refl;
       silent = refl;
@@ -458,7 +419,7 @@ told_to stages.Full c i t logins next r reply o a is first q = absurd (subst IsS
 
 told_round : (c : Opening) (i : initiator.Machine) (t : target.Machine) (logins next : Logins) (r : Message) (disk : Disk) (reply : target_session.Reply)
     → IsOpening c → Asking c i t logins r
-    → i.left ≡ [] → next.request ≡ false → Tells t.session (login_request i true) (offered i) reply → Round c i (target.on disk t.tasks reply) next
+    → i.unsent_text ≡ [] → next.request ≡ false → Tells t.session (login_request i true) (offered i) reply → Round c i (target.on disk t.tasks reply) next
 told_round c i t logins next r disk reply o a left first q = record {
   answer = answering q.answer answer;
   is = q.is;
@@ -496,7 +457,7 @@ target_fits c t o e = subst SettingsFit (sym e) (record { preferences = o.prefer
 -- a request that ends its text
 last_round : (c : Opening) (i : initiator.Machine) (t : target.Machine) (logins : Logins) (r : Message) (disk : Disk) (segment : Segment) → IsOpening c
     → Asking c i t logins r
-    → i.left ≡ [] → is_over_limit t segment ≡ false → target_login.text_ending t.session.gathered segment ≡ Some (offered i)
+    → i.unsent_text ≡ [] → is_over_limit t segment ≡ false → target_login.text_ending t.session.gathered segment ≡ Some (offered i)
     → Round c i (target_machine.step t disk (login_message i true segment)) (after logins (login_message i true segment).head)
 last_round c i t logins r disk segment o a left short read =
     let h : LoginRequest = login_request i true in
@@ -511,7 +472,7 @@ last_round c i t logins r disk segment o a left short read =
 -- a request whose text goes on
 part_round : (c : Opening) (i : initiator.Machine) (t : target.Machine) (logins : Logins) (r : Message) (disk : Disk) (bytes : List ℕ) (byte : ℕ)
     (more : List ℕ) → IsOpening c → Asking c i t logins r
-    → i.left ≡ byte ∷ more → is_over_limit t (Bytes bytes) ≡ false → t.session.gathered ++ (bytes ++ i.left) ≡ canonical_text (offered i)
+    → i.unsent_text ≡ byte ∷ more → is_over_limit t (Bytes bytes) ≡ false → t.session.gathered ++ (bytes ++ i.unsent_text) ≡ canonical_text (offered i)
     → Round c i (target_machine.step t disk (login_message i false (Bytes bytes))) (after logins (login_message i false (Bytes bytes)).head)
 part_round c i t logins r disk bytes byte more o a left short text =
     let h : LoginRequest = login_request i false in
@@ -529,7 +490,7 @@ fits_limit t bytes le = le-ltb (target_session.limit t.session.settings) (length
 
 -- the message that is on its way, by what is left behind it
 round_at : (left : List ℕ) (c : Opening) (i : initiator.Machine) (t : target.Machine) (logins : Logins) (r : Message) (disk : Disk) → IsOpening c
-    → (a : Asking c i t logins r) → i.left ≡ left
+    → (a : Asking c i t logins r) → i.unsent_text ≡ left
     → Round c i (target_machine.step t disk (login_message i (is_sent left) a.segment)) (after logins (login_message i (is_sent left) a.segment).head)
 round_at [] c i t logins r disk o a left =
     elim a.how [
@@ -542,7 +503,7 @@ round_at [] c i t logins r disk o a left =
     ]
 round_at (byte ∷ more) c i t logins r disk o a left =
     elim a.how [
-      | inl w ↦ absurd (let bad : [] ≡ byte ∷ more = sym w.left ∙ left in cc)
+      | inl w ↦ absurd (let bad : [] ≡ byte ∷ more = sym w.unsent_text ∙ left in cc)
       | inr p ↦ subst (λ (x : Segment). Round c i (target_machine.step t disk (login_message i false x)) (after logins (login_message i false x).head))
           (sym p.is)
           (part_round c i t logins r disk p.bytes byte more o a left (fits_limit t p.bytes p.short) p.text)
@@ -551,7 +512,8 @@ round_at (byte ∷ more) c i t logins r disk o a left =
 pub round : (c : Opening) (i : initiator.Machine) (t : target.Machine) (logins : Logins) (r : Message) (disk : Disk) → IsOpening c → Asking c i t logins r
     → Round c i (target_machine.step t disk r) (after logins r.head)
 round c i t logins r disk o a =
-    subst (λ (x : Message). Round c i (target_machine.step t disk x) (after logins x.head)) (sym a.request) (round_at i.left c i t logins r disk o a refl)
+    subst (λ (x : Message). Round c i (target_machine.step t disk x) (after logins x.head)) (sym a.request)
+    (round_at i.unsent_text c i t logins r disk o a refl)
 
 -- ---- the first request
 

@@ -1,33 +1,6 @@
 -- One request of a login and its answer, where both ends suit each other: the login goes on.
-use Rattle.std.proofs.Common.{
-  ◌≡◌,
-  ◌≢◌,
-  ◌<◌,
-  ◌≤◌,
-  ◌⊎◌,
-  inl,
-  inr,
-  ℕ,
-  ◌+◌,
-  Bool,
-  true,
-  false,
-  List,
-  [],
-  ◌∷◌,
-  ◌++◌,
-  length,
-  Option,
-  Some,
-  None,
-  refl,
-  sym,
-  ap,
-  ◌∙◌,
-  subst,
-  arith,
-  replicate,
-}
+use Rattle.std.proofs.Common.{◌≡◌, ◌≢◌, ◌<◌, ◌≤◌, ◌⊎◌, inl, inr, ℕ, ◌+◌, Bool, true, false, List, [], ◌∷◌, ◌++◌, length, Option, Some, None, refl, sym, ap, ◌∙◌}
+use Rattle.std.proofs.Common.{subst, arith, replicate}
 use Rattle.std.specs.Prelude.{not, ◌&&◌, ◌==◌, nat_lt, nat_le, IfSome, ◌^◌, if◌then◌else◌, unwrap_or}
 use Rattle.std.specs.Bool.{then_some}
 use Rattle.std.proofs.lemmas.Bool.{and_from, cond_both, cond-true, cond-false, le-ltb, eq-eqb}
@@ -42,12 +15,12 @@ use Rattle.iscsi_stream.specs.declared.logins.Logins.{Logins}
 use Rattle.iscsi_login.specs.declared.phase.Phase.TheVariants as phases
 use Rattle.iscsi_login.specs.Check.{bad_key, IsOffer}
 use Rattle.iscsi_login.specs.Key.{IsWithin}
-use Rattle.iscsi_login.proofs.Judged.{good_is_taken}
-use Rattle.iscsi_login.proofs.Texts.{good_answer}
-use Rattle.iscsi_login.proofs.OfferMeaning.{security_is_offer, operational_is_offer, single_is_offer}
+use Rattle.iscsi_login.proofs.JudgementLemmas.{good_is_taken}
+use Rattle.iscsi_login.proofs.TextAgreementLaw.{good_answer}
+use Rattle.iscsi_login.proofs.OfferMeaningLaw.{security_is_offer, operational_is_offer, single_is_offer}
 use Rattle.iscsi_stream.specs.Segment.{Segment, Text, Bytes, segment_bytes}
 use Rattle.iscsi_stream.specs.Stream.{Message}
-use Rattle.iscsi_stream.proofs.Ready.{apart}
+use Rattle.iscsi_stream.proofs.ReadyLemmas.{apart}
 use Rattle.iscsi_login.specs.declared.stage.Stage.{Stage}
 use Rattle.iscsi_login.specs.declared.stage.Stage.TheVariants as stages
 use Rattle.iscsi_login.specs.declared.stage.Session.TheVariants as sessions
@@ -60,45 +33,18 @@ use Rattle.iscsi_initiator.specs.Configured.{IsStart}
 use Rattle.iscsi_initiator.specs.State as initiator
 use Rattle.iscsi_initiator.specs.State.{is_closed}
 use Rattle.iscsi_initiator.specs.Steps.{Stepped, sends}
-use Rattle.iscsi_initiator.specs.Login.{
-  offered,
-  asked,
-  asked_from,
-  login_request,
-  login_message,
-  is_expected,
-  goes_on,
-  moves_on,
-  in_turn,
-  judged,
-  enters,
-  counted,
-  sends_more,
-  sends_text,
-  sends_cut,
-  fits_segment,
-  start_step,
-}
+use Rattle.iscsi_initiator.specs.Login.{offered, requested_stage, following_stage, login_request, login_message, is_expected, goes_on, moves_on, in_turn}
+use Rattle.iscsi_initiator.specs.Login.{judged, begins_stage, counted, sends_more, sends_text, sends_cut, fits_segment, start_step}
 use Rattle.iscsi_initiator.specs.Machine.{step}
 use Rattle.iscsi_target_session.specs.declared.status.Status.{Status}
 use Rattle.iscsi_target_session.specs.Configured as target_settings
 use Rattle.iscsi_target_session.specs.Session as target_session
 use Rattle.iscsi_target.specs.State as target
 use Rattle.scsi_disk.specs.Plan.{first_of}
-use Rattle.iscsi_target_session.specs.LoginText.{known_keys, gives_again, given_with, text_refusals, answer_pairs, session_for, declared_tag, declared_length}
+use Rattle.iscsi_target_session.specs.LoginText.{known_keys, repeats_key, seen_with, text_refusals, answer_pairs, session_for, declared_tag, declared_length}
 use Rattle.iscsi_target_session.specs.Login as login
-use Rattle.iscsi_target_session.specs.Login.{
-  request_refusals,
-  is_same_stage,
-  stage_named,
-  stage_asked,
-  is_move,
-  numbered,
-  entered,
-  gather,
-  text_answered,
-  text_ending,
-}
+use Rattle.iscsi_target_session.specs.Login.{request_refusals, is_same_stage, stage_named, stage_asked, is_move, numbered, entered, gather, text_answered}
+use Rattle.iscsi_target_session.specs.Login.{text_ending}
 use Rattle.iscsi_pair.specs.World.{Opening, IsOpening, Suits}
 use Rattle.iscsi_target.specs.Machine as target_machine
 use Rattle.iscsi_target.specs.Machine.{is_over_limit}
@@ -106,23 +52,8 @@ use Rattle.iscsi_pair.proofs.Login.TargetStep.{login_step_is, some_if}
 use Rattle.iscsi_pair.proofs.Login.InitiatorStep.{answering, with_answer, hears}
 use Rattle.iscsi_pair.proofs.Login.RoundAgrees.{Agreed, Asking, Asks_on, Leads, Round, IsWhole, IsPart, is_sent, fits_limit, offered_read}
 use Rattle.iscsi_pair.proofs.Wire.TextSizes.{answer_is_short}
-use Rattle.iscsi_pair.proofs.Login.Compatible.{
-  IsFew,
-  offers_few,
-  few_fits,
-  none_of,
-  says_security,
-  says_single,
-  second_gives,
-  security_auth,
-  operational_auth,
-  single_auth,
-  security_length,
-  operational_length,
-  single_length,
-  first_text,
-  second_text,
-}
+use Rattle.iscsi_pair.proofs.Login.Compatible.{IsFew, offers_few, few_fits, none_of, says_security, says_single, second_gives, security_auth, operational_auth}
+use Rattle.iscsi_pair.proofs.Login.Compatible.{single_auth, security_length, operational_length, single_length, first_text, second_text}
 use Rattle.iscsi_pdu.specs.Serial.{next_sn}
 
 -- ---- where the login is, beside what the initiator asks
@@ -130,13 +61,13 @@ use Rattle.iscsi_pdu.specs.Serial.{next_sn}
 -- the target has no text yet
 pub record HasNone (c : Opening) (i : initiator.Machine) (t : target.Machine) : Type 0 where
   pub none : t.session.has_text ≡ false
-  pub given : t.session.given ≡ replicate 27 false
+  pub seen_keys : t.session.seen_keys ≡ replicate 27 false
   pub stage : i.stage ≡ c.initiator.start
 
 -- it has the text of the security stage
 pub record HasFirst (c : Opening) (i : initiator.Machine) (t : target.Machine) : Type 0 where
   pub one : t.session.has_text ≡ true
-  pub given : t.session.given ≡ given_with known_keys (replicate 27 false) (in_order (security_offers c.initiator.proposal))
+  pub seen_keys : t.session.seen_keys ≡ seen_with known_keys (replicate 27 false) (in_order (security_offers c.initiator.proposal))
   pub start : c.initiator.start ≡ stages.Security
   pub stage : i.stage ≡ stages.Operational
 
@@ -153,7 +84,7 @@ last_or_not true = refl
 last_or_not false = refl
 
 moves : (last : Bool) (stage : Stage) → IsStart stage
-    → (last && not (is_move (stage_named (stage_number stage)) (stage_named (unwrap_or (then_some last (stage_number (asked_from stage))) 2)))) ≡ false
+    → (last && not (is_move (stage_named (stage_number stage)) (stage_named (unwrap_or (then_some last (stage_number (following_stage stage))) 2)))) ≡ false
 moves true stages.Security is = refl
 moves true stages.Operational is = refl
 moves true stages.Full is = absurd is
@@ -171,13 +102,13 @@ not_refused c i t last is s = none_of (request_refusals t.session (login_request
 -- what taking a request's stage and number keeps
 record SameText (s e : target_session.Session) : Type 0 where
   has_text : e.has_text ≡ s.has_text
-  given : e.given ≡ s.given
+  seen_keys : e.seen_keys ≡ s.seen_keys
   settings : e.settings ≡ s.settings
 
 -- the same, with the numbers and the text so far
 pub record SameState (s e : target_session.Session) : Type 0 where
   pub has_text : e.has_text ≡ s.has_text
-  pub given : e.given ≡ s.given
+  pub seen_keys : e.seen_keys ≡ s.seen_keys
   pub settings : e.settings ≡ s.settings
   pub stat_sn : e.stat_sn ≡ s.stat_sn
   pub gathered : e.gathered ≡ s.gathered
@@ -185,15 +116,15 @@ pub record SameState (s e : target_session.Session) : Type 0 where
 pub entered_same : (s : target_session.Session) (h : LoginRequest) → SameState s (entered s h)
 entered_same s h =
     let k : SameState s (numbered s h) = cond_both s.begun s (record s { begun = true; exp_cmd_sn = h.cmd_sn }) (SameState s)
-    (λ is. record { has_text = refl; given = refl; settings = refl; stat_sn = refl; gathered = refl }) (λ is. record {
+    (λ is. record { has_text = refl; seen_keys = refl; settings = refl; stat_sn = refl; gathered = refl }) (λ is. record {
       has_text = refl;
-      given = refl;
+      seen_keys = refl;
       settings =
           refl;
       stat_sn = refl;
       gathered = refl;
     }) in
-    record { has_text = k.has_text; given = k.given; settings = k.settings; stat_sn = k.stat_sn; gathered = k.gathered }
+    record { has_text = k.has_text; seen_keys = k.seen_keys; settings = k.settings; stat_sn = k.stat_sn; gathered = k.gathered }
 
 -- the answer to an offer fits its segment
 answer_fits : (c : Opening) (e : target_session.Session) (pairs : Pairs) → IsOpening c → e.settings ≡ c.target → IsFew pairs
@@ -228,7 +159,8 @@ text_at : (start stage : Stage) (c : Opening) (i : initiator.Machine) (t : targe
 text_at stages.Security stages.Security c i t e o suits started is same settings (inl f) ok =
     let p : Proposal = c.initiator.proposal in
     let there : e.settings ≡ c.target = same.settings ∙ settings in
-    first_text e p (in_order (security_offers p)) (same.has_text ∙ f.none) (same.given ∙ f.given) o.initiator.names.initiator (says_security p.session p refl)
+    first_text e p (in_order (security_offers p)) (same.has_text ∙ f.none) (same.seen_keys
+    ∙ f.seen_keys) o.initiator.names.initiator (says_security p.session p refl)
     (suited_name c e suits there)
     (security_auth p.session p.auth p e.settings.preferences refl refl (demands_chap c suits started)) (security_length p.session p refl)
     (answer_fits c e (in_order (security_offers p)) o there (offers_few stages.Security stages.Security p o.initiator.names.initiator o.initiator.names.target
@@ -241,7 +173,7 @@ text_at stages.Security stages.Operational c i t e o suits started is same setti
     let p : Proposal = c.initiator.proposal in
     let there : e.settings ≡ c.target = same.settings ∙ settings in
     second_text e (in_order (operational_offers p)) (same.has_text ∙ g.one)
-    (ap (λ (x : List Bool). gives_again known_keys x (in_order (operational_offers p))) (same.given ∙ g.given) ∙ second_gives p.session p refl)
+    (ap (λ (x : List Bool). repeats_key known_keys x (in_order (operational_offers p))) (same.seen_keys ∙ g.seen_keys) ∙ second_gives p.session p refl)
     (operational_auth p e.settings.preferences) (operational_length p o.initiator.in_range.preferences)
     (answer_fits c e (in_order (operational_offers p)) o there (offers_few stages.Security stages.Operational p o.initiator.names.initiator
     o.initiator.names.target o.initiator.in_range.preferences tt))
@@ -252,7 +184,8 @@ text_at stages.Operational stages.Security c i t e o suits started is same setti
 text_at stages.Operational stages.Operational c i t e o suits started is same settings (inl f) ok =
     let p : Proposal = c.initiator.proposal in
     let there : e.settings ≡ c.target = same.settings ∙ settings in
-    first_text e p (in_order (single_offers p)) (same.has_text ∙ f.none) (same.given ∙ f.given) o.initiator.names.initiator (says_single p.session p refl)
+    first_text e p (in_order (single_offers p)) (same.has_text ∙ f.none) (same.seen_keys
+    ∙ f.seen_keys) o.initiator.names.initiator (says_single p.session p refl)
     (suited_name c e suits there)
     (single_auth p.session p e.settings.preferences refl) (single_length p.session p o.initiator.in_range.preferences refl)
     (answer_fits c e (in_order (single_offers p)) o there (offers_few stages.Operational stages.Operational p o.initiator.names.initiator
@@ -295,7 +228,7 @@ answers_well t h segment pairs none short last read good =
 
 hears_more_well : (m : initiator.Machine) (h : LoginResponse) (byte : ℕ) (bytes : List ℕ) → m.phase ≡ phases.Login → m.started ≡ true → h.initiator_task_tag ≡ 0
     → h.status_class ≡ 0
-    → is_expected m.exp_stat_sn (unwrap_or h.stat_sn 0) ≡ true → m.left ≡ byte ∷ bytes → goes_on m h (Text []) ≡ true
+    → is_expected m.exp_stat_sn (unwrap_or h.stat_sn 0) ≡ true → m.unsent_text ≡ byte ∷ bytes → goes_on m h (Text []) ≡ true
     → step m (answering h []) ≡ sends_more (counted m h)
 hears_more_well m h byte bytes p s tag class number left on =
     hears m h [] p s tag
@@ -306,8 +239,8 @@ hears_more_well m h byte bytes p s tag class number left on =
 
 hears_last_well : (m : initiator.Machine) (h : LoginResponse) (pairs : Pairs) → m.phase ≡ phases.Login → m.started ≡ true → h.initiator_task_tag ≡ 0
     → h.status_class ≡ 0
-    → is_expected m.exp_stat_sn (unwrap_or h.stat_sn 0) ≡ true → m.left ≡ [] → moves_on m h ≡ true → bad_key (offered m) pairs ≡ None
-    → step m (answering h pairs) ≡ enters (asked m) (with_answer m h pairs)
+    → is_expected m.exp_stat_sn (unwrap_or h.stat_sn 0) ≡ true → m.unsent_text ≡ [] → moves_on m h ≡ true → bad_key (offered m) pairs ≡ None
+    → step m (answering h pairs) ≡ begins_stage (requested_stage m) (with_answer m h pairs)
 hears_last_well m h pairs p s tag class number left on good =
     hears m h pairs p s tag
     ∙ cond-false (not (h.status_class == 0)) _ _ (ap (λ (n : ℕ). not (n == 0)) class)
@@ -333,11 +266,11 @@ record GoesOn (s : Stepped) : Type 0 where
 
 text_on : (m : initiator.Machine) → m.phase ≡ phases.Login → GoesOn (sends_text m)
 text_on m p =
-    cond_both (fits_segment m (canonical_text (offered m))) (sends (record m { left = [] }) (login_message m true (Text (offered m)) ∷ []))
+    cond_both (fits_segment m (canonical_text (offered m))) (sends (record m { unsent_text = [] }) (login_message m true (Text (offered m)) ∷ []))
     (sends_cut m (canonical_text (offered m)) false) GoesOn
     (λ is. record { live = ap is_closed_phase p; fault = refl }) (λ is. record { live = ap is_closed_phase p; fault = refl })
 
-enters_on : (stage : Stage) (m : initiator.Machine) → m.phase ≡ phases.Login → GoesOn (enters stage m)
+enters_on : (stage : Stage) (m : initiator.Machine) → m.phase ≡ phases.Login → GoesOn (begins_stage stage m)
 enters_on stages.Security m p = text_on (record m { stage = stages.Security }) p
 enters_on stages.Operational m p = text_on (record m { stage = stages.Operational }) p
 enters_on stages.Full m p = record { live = refl; fault = refl }
@@ -349,7 +282,7 @@ pub record TextKeeps (m : initiator.Machine) (s : Stepped) : Type 0 where
 
 pub text_keeps : (m : initiator.Machine) → TextKeeps m (sends_text m)
 text_keeps m =
-    cond_both (fits_segment m (canonical_text (offered m))) (sends (record m { left = [] }) (login_message m true (Text (offered m)) ∷ []))
+    cond_both (fits_segment m (canonical_text (offered m))) (sends (record m { unsent_text = [] }) (login_message m true (Text (offered m)) ∷ []))
     (sends_cut m (canonical_text (offered m)) false) (TextKeeps m)
     (λ is. record { stage = refl; number = refl }) (λ is. record { stage = refl; number = refl })
 
@@ -443,13 +376,13 @@ part_head e h = record (login.response e h) { stat_sn = Some e.stat_sn }
 pub record LastTurn (i : initiator.Machine) (t : target.Machine) (disk : Disk) (r answer : Message) : Type 0 where
   pub there : target_machine.step t disk r ≡ target.on disk t.tasks (text_answered (emptied t.session (login_request i true)) (login_request i true)
       (offered i))
-  pub now : step i answer ≡ enters (asked i) (with_answer i (text_head (emptied t.session (login_request i true)) (login_request i true))
+  pub now : step i answer ≡ begins_stage (requested_stage i) (with_answer i (text_head (emptied t.session (login_request i true)) (login_request i true))
       (answer_pairs (emptied t.session (login_request i true)) (offered i)))
 
 -- both ends behind a request whose text goes on
 pub record PartTurn (i : initiator.Machine) (t : target.Machine) (disk : Disk) (r answer : Message) : Type 0 where
   -- some of it is left
-  pub some : 0 < length i.left
+  pub some : 0 < length i.unsent_text
   pub bytes : List ℕ
   pub there : target_machine.step t disk r ≡ target.on disk t.tasks (gather (entered t.session (login_request i false)) (login_request i false) bytes)
   pub now : step i answer ≡ sends_more (counted i (part_head (entered t.session (login_request i false)) (login_request i false)))
@@ -457,7 +390,7 @@ pub record PartTurn (i : initiator.Machine) (t : target.Machine) (disk : Disk) (
 -- a request that ends its text is answered, and the answer is taken
 last_turn : (c : Opening) (i : initiator.Machine) (t : target.Machine) (logins next : Logins) (r : Message) (disk : Disk) (segment : Segment) → IsOpening c
     → Suits c → Asking c i t logins r → Suited c i t
-    → i.left ≡ [] → is_over_limit t segment ≡ false → text_ending t.session.gathered segment ≡ Some (offered i)
+    → i.unsent_text ≡ [] → is_over_limit t segment ≡ false → text_ending t.session.gathered segment ≡ Some (offered i)
     → length t.session.gathered + length (segment_bytes segment) ≤ 16384
     → (turn : Round c i (target_machine.step t disk (login_message i true segment)) next) → LastTurn i t disk (login_message i true segment) turn.answer
 last_turn c i t logins next r disk segment o suits a s left fits read size turn =
@@ -469,7 +402,7 @@ last_turn c i t logins next r disk segment o suits a s left fits read size turn 
     ap (λ (x : initiator.Settings). in_order (offers_at x.proposal x.start i.stage)) (sym a.settings) in
     let good : first_of (text_refusals e given) ≡ None =
     subst (λ (x : Pairs). first_of (text_refusals e x) ≡ None) pairs_are
-    (text_at c.initiator.start i.stage c i t e o suits refl refl (record { has_text = same.has_text; given = same.given; settings = same.settings })
+    (text_at c.initiator.start i.stage c i t e o suits refl refl (record { has_text = same.has_text; seen_keys = same.seen_keys; settings = same.settings })
     a.target_settings s.texts a.stage) in
     let q : login.login_request t.session h segment ≡ text_answered e h given =
     answers_well t.session h segment given (not_refused c i t true a.stage s) (subst (λ (x : List ℕ). length x + length (segment_bytes segment) ≤ 16384)
@@ -483,14 +416,15 @@ last_turn c i t logins next r disk segment o suits a s left fits read size turn 
       there = there;
       now = ap (step i) is ∙ hears_last_well i (text_head e h) (answer_pairs e given) a.phase a.started refl refl (ap (is_expected i.exp_stat_sn) same.stat_sn
           ∙ s.expected) left
-          (and_from _ _ (eq-eqb (stage_number i.stage) (stage_number i.stage) refl) (eq-eqb (stage_number (asked i)) (stage_number (asked i)) refl))
+          (and_from _ _ (eq-eqb (stage_number i.stage) (stage_number i.stage) refl)
+          (eq-eqb (stage_number (requested_stage i)) (stage_number (requested_stage i)) refl))
           (takes c i e o a.settings a.stage (same.settings ∙ a.target_settings));
     }
 
 -- a request whose text goes on is answered, and the next part goes
 part_turn : (c : Opening) (i : initiator.Machine) (t : target.Machine) (logins next : Logins) (r : Message) (disk : Disk) (segment : Segment) (bytes : List ℕ)
     (byte : ℕ) (more : List ℕ) → Asking c i t logins r → Suited c i t
-    → i.left ≡ byte ∷ more → segment ≡ Bytes bytes → is_over_limit t segment ≡ false → length t.session.gathered + length bytes ≤ 16384
+    → i.unsent_text ≡ byte ∷ more → segment ≡ Bytes bytes → is_over_limit t segment ≡ false → length t.session.gathered + length bytes ≤ 16384
     → (turn : Round c i (target_machine.step t disk (login_message i false segment)) next) → PartTurn i t disk (login_message i false segment) turn.answer
 part_turn c i t logins next r disk segment bytes byte more a s left part fits size turn =
     let h : LoginRequest = login_request i false in
@@ -527,7 +461,7 @@ part_fits gathered bytes left text e le =
 
 -- the message that is on its way, by what is left behind it
 turns_at : (left : List ℕ) (c : Opening) (i : initiator.Machine) (t : target.Machine) (logins next : Logins) (r : Message) (disk : Disk) → IsOpening c → Suits c
-    → Asking c i t logins r → Suited c i t → i.left ≡ left
+    → Asking c i t logins r → Suited c i t → i.unsent_text ≡ left
     → (segment : Segment) → (IsWhole i t logins segment ⊎ IsPart i t logins segment)
     → (turn : Round c i (target_machine.step t disk (login_message i (is_sent left) segment)) next)
     → LastTurn i t disk (login_message i (is_sent left) segment) turn.answer ⊎ PartTurn i t disk (login_message i (is_sent left) segment) turn.answer
@@ -541,11 +475,11 @@ turns_at [] c i t logins next r disk o suits a s left segment (inr p) turn =
     (ap (text_ending t.session.gathered) p.is ∙ ap text_in (ap (λ (x : List ℕ). t.session.gathered ++ x) (sym (append-nil p.bytes)
     ∙ ap (λ (x : List ℕ). p.bytes ++ x) (sym left)) ∙ p.text) ∙ offered_read c i o a.settings a.stage)
     (subst (λ (x : Segment). length t.session.gathered + length (segment_bytes x) ≤ 16384) (sym p.is)
-    (part_fits t.session.gathered p.bytes i.left (canonical_text (offered i)) p.text (text_fits c i o a.settings a.stage))) turn)
-turns_at (byte ∷ more) c i t logins next r disk o suits a s left segment (inl w) turn = absurd (let bad : [] ≡ byte ∷ more = sym w.left ∙ left in cc)
+    (part_fits t.session.gathered p.bytes i.unsent_text (canonical_text (offered i)) p.text (text_fits c i o a.settings a.stage))) turn)
+turns_at (byte ∷ more) c i t logins next r disk o suits a s left segment (inl w) turn = absurd (let bad : [] ≡ byte ∷ more = sym w.unsent_text ∙ left in cc)
 turns_at (byte ∷ more) c i t logins next r disk o suits a s left segment (inr p) turn =
     inr (part_turn c i t logins next r disk segment p.bytes byte more a s left p.is (ap (is_over_limit t) p.is ∙ fits_limit t p.bytes p.short)
-    (part_fits t.session.gathered p.bytes i.left (canonical_text (offered i)) p.text (text_fits c i o a.settings a.stage)) turn)
+    (part_fits t.session.gathered p.bytes i.unsent_text (canonical_text (offered i)) p.text (text_fits c i o a.settings a.stage)) turn)
 
 -- a round ends a text, or its text goes on
 pub turns : (c : Opening) (i : initiator.Machine) (t : target.Machine) (logins next : Logins) (r : Message) (disk : Disk) → IsOpening c → Suits c
@@ -554,7 +488,7 @@ pub turns : (c : Opening) (i : initiator.Machine) (t : target.Machine) (logins n
 turns c i t logins next r disk o suits a s =
     subst (λ (x : Message). (turn : Round c i (target_machine.step t disk x) next) → LastTurn i t disk x turn.answer ⊎ PartTurn i t disk x turn.answer)
     (sym a.request)
-    (turns_at i.left c i t logins next r disk o suits a s refl a.segment a.how)
+    (turns_at i.unsent_text c i t logins next r disk o suits a s refl a.segment a.how)
 
 -- ---- behind it both suit
 
@@ -562,13 +496,13 @@ turns c i t logins next r disk o suits a s =
 next_suited : (c : Opening) (i : initiator.Machine) (t : target.Machine) (disk : Disk) (h : LoginRequest) → (g : LoginResponse) (answer : Pairs)
     → i.settings ≡ c.initiator → Suited c i t → i.stage ≡ stages.Security
     → h ≡ login_request i true → let e : target_session.Session = emptied t.session h in g.stat_sn ≡ Some e.stat_sn
-    → Suited c (enters stages.Operational (with_answer i g answer)).machine (target.on disk t.tasks (text_answered e h (offered i))).machine
+    → Suited c (begins_stage stages.Operational (with_answer i g answer)).machine (target.on disk t.tasks (text_answered e h (offered i))).machine
 next_suited c i t disk h g answer there s is hs number =
     let e : target_session.Session = emptied t.session h in
     let m : initiator.Machine = record (with_answer i g answer) { stage = stages.Operational } in
     let k : TextKeeps m (sends_text m) = text_keeps m in
     let same : SameState t.session (entered t.session h) = entered_same t.session h in
-    let asked_is : stage_asked h ≡ Some stages.Operational = ap stage_asked hs ∙ ap (λ (x : Stage). stage_named (stage_number (asked_from x))) is in
+    let asked_is : stage_asked h ≡ Some stages.Operational = ap stage_asked hs ∙ ap (λ (x : Stage). stage_named (stage_number (following_stage x))) is in
     record {
       expected = ap (λ (n : Option ℕ). is_expected n (next_sn e.stat_sn)) (k.number ∙ ap (λ (o : Option ℕ). Some (next_sn (unwrap_or o 0))) number)
           ∙ eq-eqb (next_sn e.stat_sn) (next_sn e.stat_sn) refl;
@@ -577,9 +511,9 @@ next_suited c i t disk h g answer there s is hs number =
       texts = elim s.texts [
         | inl f ↦ inr (record {
           one = refl;
-          given = ap (λ (x : List Bool). given_with known_keys x (offered i)) (same.given ∙ f.given)
-              ∙ ap (λ (x : Stage). given_with known_keys (replicate 27 false) (in_order (offers_at i.settings.proposal i.settings.start x))) is
-              ∙ ap (λ (x : initiator.Settings). given_with known_keys (replicate 27 false) (in_order (security_offers x.proposal))) there;
+          seen_keys = ap (λ (x : List Bool). seen_with known_keys x (offered i)) (same.seen_keys ∙ f.seen_keys)
+              ∙ ap (λ (x : Stage). seen_with known_keys (replicate 27 false) (in_order (offers_at i.settings.proposal i.settings.start x))) is
+              ∙ ap (λ (x : initiator.Settings). seen_with known_keys (replicate 27 false) (in_order (security_offers x.proposal))) there;
           start = sym f.stage ∙ is;
           stage = k.stage;
         })
@@ -596,12 +530,12 @@ suited_by c i t logins next r answer disk a s q stages.Security is asks =
     let h : LoginRequest = login_request i true in
     let e : target_session.Session = emptied t.session h in
     let w : initiator.Machine = with_answer i (text_head e h) (answer_pairs e (offered i)) in
-    subst (λ (x : Stepped). Suited c x.machine (target_machine.step t disk r).machine) (sym (q.now ∙ ap (λ (x : Stage). enters (asked_from x) w) is))
-    (subst (λ (x : target.Stepped). Suited c (enters stages.Operational w).machine x.machine) (sym q.there)
+    subst (λ (x : Stepped). Suited c x.machine (target_machine.step t disk r).machine) (sym (q.now ∙ ap (λ (x : Stage). begins_stage (following_stage x) w) is))
+    (subst (λ (x : target.Stepped). Suited c (begins_stage stages.Operational w).machine x.machine) (sym q.there)
     (next_suited c i t disk h (text_head e h) (answer_pairs e (offered i)) a.settings s is refl refl))
 suited_by c i t logins next r answer disk a s q stages.Operational is asks =
     absurd (subst IsStart (ap (λ (x : Stepped). x.machine.stage) q.now
-    ∙ ap (λ (x : Stage). (enters (asked_from x) (with_answer i (text_head (emptied t.session (login_request i true)) (login_request i true))
+    ∙ ap (λ (x : Stage). (begins_stage (following_stage x) (with_answer i (text_head (emptied t.session (login_request i true)) (login_request i true))
     (answer_pairs (emptied t.session (login_request i true)) (offered i)))).machine.stage) is) asks.asking.stage)
 suited_by c i t logins next r answer disk a s q stages.Full is asks = absurd (subst IsStart is a.stage)
 
@@ -613,7 +547,7 @@ last_well c i t logins next r disk a s turn q =
     let h : LoginRequest = login_request i true in
     let e : target_session.Session = emptied t.session h in
     let w : initiator.Machine = with_answer i (text_head e h) (answer_pairs e (offered i)) in
-    let on_ : GoesOn (enters (asked i) w) = enters_on (asked i) w a.phase in
+    let on_ : GoesOn (begins_stage (requested_stage i) w) = enters_on (requested_stage i) w a.phase in
     let live : is_closed (step i turn.answer).machine ≡ false = ap (λ (x : Stepped). is_closed x.machine) q.now ∙ on_.live in
     record {
       on = leads_on c i (step i turn.answer) (target_machine.step t disk r).machine next turn.leads live (suited_by c i t logins next r turn.answer disk a s q
@@ -638,8 +572,8 @@ part_well c i t logins next r disk a s turn q =
       expected = eq-eqb (next_sn e.stat_sn) (next_sn e.stat_sn) refl;
       due = due_at e.begun i.stage _ _ (entered_begun t.session h) (in_stage i.stage t.session.stage);
       texts = elim s.texts [
-        | inl f ↦ inl (record { none = same.has_text ∙ f.none; given = same.given ∙ f.given; stage = f.stage })
-        | inr f ↦ inr (record { one = same.has_text ∙ f.one; given = same.given ∙ f.given; start = f.start; stage = f.stage })
+        | inl f ↦ inl (record { none = same.has_text ∙ f.none; seen_keys = same.seen_keys ∙ f.seen_keys; stage = f.stage })
+        | inr f ↦ inr (record { one = same.has_text ∙ f.one; seen_keys = same.seen_keys ∙ f.seen_keys; start = f.start; stage = f.stage })
       ];
     } in
     let suited : Suited c (step i turn.answer).machine (target_machine.step t disk r).machine =
@@ -675,5 +609,5 @@ first_suited c o =
     record {
       expected = ap (λ (n : Option ℕ). is_expected n c.first_stat_sn) k.number;
       due = ap (λ (x : Stage). nat_le (stage_number x) 1) k.stage ∙ stage_at_most c.initiator.start o.initiator.in_range.start;
-      texts = inl (record { none = refl; given = refl; stage = k.stage });
+      texts = inl (record { none = refl; seen_keys = refl; stage = k.stage });
     }

@@ -1,31 +1,6 @@
 -- What a target answers to a Login Request of its initiator.
-use Rattle.std.proofs.Common.{
-  ◌≡◌,
-  ◌<◌,
-  ◌≤◌,
-  ◌⊎◌,
-  inl,
-  inr,
-  ℕ,
-  ◌+◌,
-  Bool,
-  true,
-  false,
-  List,
-  [],
-  ◌∷◌,
-  ◌++◌,
-  length,
-  Option,
-  Some,
-  None,
-  refl,
-  sym,
-  ap,
-  ◌∙◌,
-  subst,
-  arith,
-}
+use Rattle.std.proofs.Common.{◌≡◌, ◌<◌, ◌≤◌, ◌⊎◌, inl, inr, ℕ, ◌+◌, Bool, true, false, List, [], ◌∷◌, ◌++◌, length, Option, Some, None, refl, sym, ap, ◌∙◌}
+use Rattle.std.proofs.Common.{subst, arith}
 use Rattle.std.specs.Prelude.{◌==◌, nat_lt, is_some, IfSome, ◌^◌, if◌then◌else◌, unwrap_or}
 use Rattle.std.specs.List.{AllByRecursion}
 use Rattle.std.proofs.Math.Nat.{mod-lt}
@@ -38,7 +13,7 @@ use Rattle.iscsi_pdu.specs.declared.head.login_request.LoginRequest.{LoginReques
 use Rattle.iscsi_pdu.specs.declared.head.login_response.LoginResponse.{LoginResponse}
 use Rattle.iscsi_stream.specs.Segment.{Segment, Bytes, segment_bytes}
 use Rattle.iscsi_stream.specs.Stream.{Message}
-use Rattle.iscsi_stream.proofs.Ready.{apart}
+use Rattle.iscsi_stream.proofs.ReadyLemmas.{apart}
 use Rattle.iscsi_login.specs.declared.phase.Phase.{Phase}
 use Rattle.iscsi_login.specs.declared.phase.Phase.TheVariants as phases
 use Rattle.iscsi_login.specs.declared.stage.Stage.{Stage}
@@ -54,26 +29,8 @@ use Rattle.iscsi_target_session.specs.Session.{Session, Reply}
 use Rattle.iscsi_target.specs.State.{Machine, on}
 use Rattle.scsi_disk.specs.Plan.{first_of}
 use Rattle.iscsi_target_session.specs.LoginText.{out_of_resources, text_refusals, session_for, declared_tag, declared_length, answer_pairs}
-use Rattle.iscsi_target_session.specs.Login.{
-  login_request,
-  request_refusals,
-  refuse,
-  refuse_or,
-  response,
-  login_message,
-  numbered,
-  entered,
-  segment_taken,
-  gather,
-  whole_text,
-  text_ending,
-  text_answered,
-  text_response,
-  stage_asked,
-  stage_after,
-  phase_at,
-  tsih_at,
-}
+use Rattle.iscsi_target_session.specs.Login.{login_request, request_refusals, refuse, refuse_or, response, login_message, numbered, entered, segment_taken}
+use Rattle.iscsi_target_session.specs.Login.{gather, whole_text, text_ending, text_answered, text_response, stage_asked, stage_after, phase_at, tsih_at}
 use Rattle.iscsi_target.specs.Machine.{step, is_closed, is_over_limit, phase_step}
 use Rattle.iscsi_login.specs.Stage.{is_closed_phase}
 use Rattle.iscsi_pair.proofs.Wire.PrefixLemmas.{RequestFits, ResponseFits}

@@ -1,4 +1,4 @@
--- Where the answers on their way lead both ends, where the target hears at once all that is sent.
+-- Where the answers on their way lead both ends, where the target receives at once all that is sent.
 use Rattle.std.proofs.Common.{◌≡◌, ◌≤◌, ℕ, zero, suc, Bool, true, false, List, [], ◌∷◌, ◌++◌, length, None, refl, sym, ap, ◌∙◌, subst}
 use Rattle.std.specs.Prelude.{is_some}
 use Rattle.std.proofs.lemmas.List.{append-nil}
@@ -7,21 +7,21 @@ use Rattle.iscsi_pdu.specs.declared.head.Head.{Head}
 use Rattle.iscsi_stream.specs.declared.logins.Logins.{Logins}
 use Rattle.iscsi_stream.specs.Segment.{after, segment_bytes}
 use Rattle.iscsi_stream.specs.Stream.{Message}
-use Rattle.iscsi_stream.proofs.Ready.{apart}
+use Rattle.iscsi_stream.proofs.ReadyLemmas.{apart}
 use Rattle.iscsi_login.specs.declared.phase.Phase.TheVariants as phases
 use Rattle.iscsi_login.specs.Held.{Held}
 use Rattle.iscsi_target_session.specs.Session as target_session
 use Rattle.iscsi_target.specs.State as target
 use Rattle.iscsi_target.specs.Machine as target_machine
 use Rattle.iscsi_target.specs.Machine.{answers}
-use Rattle.iscsi_target.proofs.Numbers.{closed_answers}
+use Rattle.iscsi_target.proofs.NumberLaws.{closed_answers}
 use Rattle.iscsi_initiator.specs.declared.request.Done.{Done}
 use Rattle.iscsi_initiator.specs.declared.request.Request.{Request}
 use Rattle.iscsi_initiator.specs.State as initiator
 use Rattle.iscsi_initiator.specs.Steps.{Stepped, quiet, sends}
 use Rattle.iscsi_initiator.specs.Machine.{step}
 use Rattle.iscsi_initiator.specs.Submitted.{submitted}
-use Rattle.iscsi_pair.specs.LocalDisk.{HasEnded, Stand, after_answers}
+use Rattle.iscsi_pair.specs.LocalDisk.{HasEnded, Exchange, after_answers}
 use Rattle.iscsi_pair.proofs.Wire.PrefixLemmas.{Readable}
 use Rattle.iscsi_pair.proofs.Request.Invariant.{AreWritten, IsOpenFor}
 
@@ -58,7 +58,7 @@ open_all t disk (m ∷ ms) live =
     let s : target.Stepped = target_machine.step t disk m in
     (was_open (target_machine.is_closed t) t disk (m ∷ ms) refl live, open_all s.machine s.disk ms live)
 
--- These go out and are heard: both they and the answers are read as they were written, the session is open when each comes, and
+-- These go out and are received: both they and the answers are read as they were written, the session is open when each comes, and
 -- none breaks a rule.
 pub record AreHeard (held : Held) (t : target.Machine) (disk : Disk) (out : List Message) : Type 0 where
   pub written : ArePlain held.target_max_recv out
@@ -83,29 +83,29 @@ none_heard held t disk = record { written = λ logins. tt; open_ = tt; rule = re
 
 -- ---- what the initiator hears
 
--- the initiator has a request open when it hears this answer, finds no fault in it, and what it sends then is heard
+-- the initiator has a request open when it receives this answer, finds no fault in it, and what it sends then is received
 pub record HearsOne (held : Held) (i : initiator.Machine) (t : target.Machine) (disk : Disk) (m : Message) : Type 0 where
   pub full : i.phase ≡ phases.Full
-  pub busy : is_some i.open_request ≡ true
+  pub busy : is_some i.outstanding ≡ true
   pub none_done : i.done ≡ None
   pub fault : (step i m).fault ≡ None
   pub sends_ : AreHeard held t disk (step i m).output
 
--- so many answers are heard, and then both ends stand so
-abbrev pub Leads : Held → ℕ → initiator.Machine → target.Machine → Disk → List Message → Stand → Type 0
+-- so many answers are received, and then both ends stand so
+abbrev pub Leads : Held → ℕ → initiator.Machine → target.Machine → Disk → List Message → Exchange → Type 0
 Leads held zero i t disk back x = record { initiator = i; target = t; disk = disk; answers = back } ≡ x
 Leads held (suc n) i t disk [] x = ⊥
 Leads held (suc n) i t disk (m ∷ more) x =
     HearsOne held i t disk m
     × (let s = step i m in let r = answers t disk s.output in Leads held n s.machine r.machine r.disk (more ++ r.answers) x)
 
--- some answers are heard, and then both ends stand so
-abbrev pub LeadsTo : Held → initiator.Machine → target.Machine → Disk → List Message → Stand → Type 0
+-- some answers are received, and then both ends stand so
+abbrev pub LeadsTo : Held → initiator.Machine → target.Machine → Disk → List Message → Exchange → Type 0
 LeadsTo held i t disk back x = (n : ℕ) × Leads held n i t disk back x
 
--- an answer that is heard, and to which nothing is said
-pub hears_quiet : (held : Held) (i n : initiator.Machine) (t : target.Machine) (disk : Disk) (m : Message) (more : List Message) (x : Stand)
-    → step i m ≡ quiet n → i.phase ≡ phases.Full → is_some i.open_request ≡ true → i.done ≡ None
+-- an answer that is received, and to which nothing is said
+pub hears_quiet : (held : Held) (i n : initiator.Machine) (t : target.Machine) (disk : Disk) (m : Message) (more : List Message) (x : Exchange)
+    → step i m ≡ quiet n → i.phase ≡ phases.Full → is_some i.outstanding ≡ true → i.done ≡ None
     → LeadsTo held n t disk more x → LeadsTo held i t disk (m ∷ more) x
 unfolding answers
 hears_quiet held i n t disk m more x e full busy none l = (
@@ -124,8 +124,9 @@ hears_quiet held i n t disk m more x e full busy none l = (
 )
 
 -- the last answer on its way, to which these are said
-pub hears_sends : (held : Held) (i n : initiator.Machine) (t : target.Machine) (disk : Disk) (m : Message) (out : List Message) (r : target.Stepped) (x : Stand)
-    → step i m ≡ sends n out → i.phase ≡ phases.Full → is_some i.open_request ≡ true
+pub hears_sends : (held : Held) (i n : initiator.Machine) (t : target.Machine) (disk : Disk) (m : Message) (out : List Message) (r : target.Stepped)
+    (x : Exchange)
+    → step i m ≡ sends n out → i.phase ≡ phases.Full → is_some i.outstanding ≡ true
     → i.done ≡ None → AreHeard held t disk out → answers t disk out ≡ r → LeadsTo held n r.machine r.disk r.answers x → LeadsTo held i t disk (m ∷ []) x
 hears_sends held i n t disk m out r x e full busy none heard is l = (
   suc l.0,
@@ -146,17 +147,17 @@ hears_sends held i n t disk m out r x e full busy none heard is l = (
 
 -- from here, with these answers on their way, it comes to that
 pub record Ends (held : Held) (i : initiator.Machine) (r : target.Stepped) (outcome : Done) (disk_now : Disk) : Type 0 where
-  pub last : Stand
+  pub last : Exchange
   pub leads : LeadsTo held i r.machine r.disk r.answers last
   pub ended : HasEnded held outcome disk_now last
 
--- What a request that is handed in sends is heard, and it comes to this outcome.
+-- What a request that is handed in sends is received, and it comes to this outcome.
 pub record Begins (held : Held) (m : initiator.Machine) (t : target.Machine) (disk : Disk) (request : Request) (outcome : Done) (disk_now : Disk) : Type 0 where
   pub heard : AreHeard held t disk (submitted m request).output
   pub ends : Ends held (submitted m request).machine (answers t disk (submitted m request).output) outcome disk_now
 
 -- where answers lead is where they lead one by one
-pub leads_after : (n : ℕ) (held : Held) (i : initiator.Machine) (t : target.Machine) (disk : Disk) (back : List Message) (x : Stand)
+pub leads_after : (n : ℕ) (held : Held) (i : initiator.Machine) (t : target.Machine) (disk : Disk) (back : List Message) (x : Exchange)
     → Leads held n i t disk back x
     → after_answers n (record { initiator = i; target = t; disk = disk; answers = back }) ≡ x
 leads_after zero held i t disk back x l = l

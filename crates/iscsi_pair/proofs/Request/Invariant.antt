@@ -1,4 +1,4 @@
--- What both ends keep on whole messages, where the target hears at once all that is sent.
+-- What both ends keep on whole messages, where the target receives at once all that is sent.
 use Rattle.std.proofs.Common.{◌≡◌, ◌≤◌, ℕ, false, List, [], ◌∷◌, ◌++◌, length, Some, None}
 use Rattle.scsi_disk.specs.Disk.{Disk}
 use Rattle.iscsi_stream.specs.declared.logins.Logins.{Logins}
@@ -40,7 +40,7 @@ IsOpenFor t disk [] = Unit {0}
 IsOpenFor t disk (m ∷ ms) =
     (target_machine.is_closed t ≡ false) × IsOpenFor (target_machine.step t disk m).machine (target_machine.step t disk m).disk ms
 
--- The target hears these well: its session is open when each comes, none breaks a rule, and the answers are read as they
+-- The target receives these well: its session is open when each comes, none breaks a rule, and the answers are read as they
 -- were written.
 pub record HearsWell (most : ℕ) (t : target.Machine) (disk : Disk) (logins : Logins) (ms : List Message) : Type 0 where
   pub open_ : IsOpenFor t disk ms
@@ -54,12 +54,12 @@ pub record History : Type 0 where
   pub requests : List Request
   pub outcomes : List Done
 
--- What holds of both ends and the disk once the target has heard all that was sent: of the answers that the initiator has
--- not yet heard, of what the login PDUs said on the way out and back, and of the history.
+-- What holds of both ends and the disk once the target has received all that was sent: of the answers that the initiator has
+-- not yet received, of what the login PDUs said on the way out and back, and of the history.
 abbrev pub Relation : Type 1
 Relation = initiator.Machine → target.Machine → Disk → List Message → Logins → Logins → History → Type 0
 
--- The initiator sends these: they are read as they were written, the target hears them well, and the relation holds then.
+-- The initiator sends these: they are read as they were written, the target receives them well, and the relation holds then.
 pub record Sends (most_out most_back : ℕ) (P : Relation) (i : initiator.Machine) (out : List Message) (t : target.Machine)
     (disk : Disk) (back : List Message) (there here : Logins) (h : History) : Type 0 where
   pub written : AreWritten most_out there out
@@ -67,7 +67,7 @@ pub record Sends (most_out most_back : ℕ) (P : Relation) (i : initiator.Machin
   pub kept : P i (answers t disk out).machine (answers t disk out).disk (back ++ (answers t disk out).answers)
       (after_all there out) (after_all here (answers t disk out).answers) h
 
--- the initiator hears an answer well
+-- the initiator receives an answer well
 pub record Goes (most_out most_back : ℕ) (P : Relation) (i : initiator.Machine) (t : target.Machine) (disk : Disk) (m : Message)
     (back : List Message) (there here : Logins) (h : History) : Type 0 where
   pub live : is_closed i ≡ false

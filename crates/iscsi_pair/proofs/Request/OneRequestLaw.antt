@@ -10,7 +10,7 @@ use Rattle.iscsi_target.specs.Machine.{answers}
 use Rattle.iscsi_initiator.specs.declared.request.Request.{Request}
 use Rattle.iscsi_initiator.specs.declared.request.Request.TheVariants as requests
 use Rattle.iscsi_initiator.specs.State as initiator
-use Rattle.iscsi_initiator.specs.declared.open.Open.{Open}
+use Rattle.iscsi_initiator.specs.declared.outstanding.Outstanding.{Outstanding}
 use Rattle.iscsi_initiator.specs.declared.request.Done.{Done}
 use Rattle.iscsi_initiator.specs.declared.request.SubmitFault.{SubmitFault}
 use Rattle.iscsi_initiator.specs.declared.request.SubmitFault.TheVariants as refusals_
@@ -34,7 +34,7 @@ taken_in m t request long a is short =
     let high : ((m.cmd_sn + 7) % 2 ^ 32 + (2 ^ 32 - m.cmd_sn)) % 2 ^ 32 ≡ 7 = omega (arith, lt) in
     let low : (m.cmd_sn + (2 ^ 32 - m.cmd_sn)) % 2 ^ 32 ≡ 0 = omega (arith, lt) in
     rw (high, low) refl) in
-    let none : is_some m.open_request ≡ false = ap (λ (x : Option Open). is_some x) a.none_open in
+    let none : is_some m.outstanding ≡ false = ap (λ (x : Option Outstanding). is_some x) a.none_open in
     let taken_ : is_some m.done ≡ false = ap (λ (x : Option Done). is_some x) a.none_done in
     rw (none, taken_, now, is ∙ short) refl
 
@@ -79,7 +79,7 @@ comes_to m t disk request served a e =
 -- an initiator that accepts a request is in full feature phase, and has nothing open
 pub record IsFree (m : initiator.Machine) : Type 0 where
   pub full : m.phase ≡ phases.Full
-  pub none_open : is_some m.open_request ≡ false
+  pub none_open : is_some m.outstanding ≡ false
   pub none_done : is_some m.done ≡ false
 
 not_busy : (open_ given shut long : Bool) → (if open_ || given then Some refusals_.Busy else
@@ -92,7 +92,7 @@ free_in : (p : Phase) (m : initiator.Machine) (request : Request) → m.phase �
 free_in phases.Login m request is e = absurd (cc e)
 free_in phases.Closed m request is e = absurd (cc e)
 free_in phases.Full m request is e =
-    let r = not_busy (is_some m.open_request) (is_some m.done) (not (is_within m.cmd_sn m.window.exp.0 m.window.max.0)) (is_too_long m request) e in
+    let r = not_busy (is_some m.outstanding) (is_some m.done) (not (is_within m.cmd_sn m.window.exp.0 m.window.max.0)) (is_too_long m request) e in
     record { full = is; none_open = r.0; none_done = r.1 }
 
 pub is_free : (m : initiator.Machine) (request : Request) → (submitted m request).refusal ≡ None → IsFree m

@@ -14,14 +14,14 @@ use Rattle.iscsi_login.specs.declared.phase.Phase.TheVariants as phases
 use Rattle.iscsi_login.specs.Held.{Held}
 use Rattle.iscsi_target_session.specs.Session as target_session
 use Rattle.iscsi_target.specs.State as target
-use Rattle.iscsi_target_session.specs.Session.{say}
+use Rattle.iscsi_target_session.specs.Session.{send_response}
 use Rattle.iscsi_target.specs.State.{on}
 use Rattle.iscsi_pdu.specs.Serial.{next_sn, is_within}
 use Rattle.iscsi_target_session.specs.Requests.{logged_out, logout_head, nop_in_head}
 use Rattle.iscsi_target.specs.Machine.{answers, having_accepted, step_on}
-use Rattle.iscsi_target.proofs.Alone.{request_alone}
-use Rattle.iscsi_target.proofs.Continuing.{then_nothing}
-use Rattle.iscsi_initiator.specs.declared.open.Open.TheVariants as opens
+use Rattle.iscsi_target.proofs.SingleTaskLemmas.{request_alone}
+use Rattle.iscsi_target.proofs.ContinuationLemmas.{then_nothing}
+use Rattle.iscsi_initiator.specs.declared.outstanding.Outstanding.TheVariants as opens
 use Rattle.iscsi_initiator.specs.declared.request.Done.TheVariants as done
 use Rattle.iscsi_initiator.specs.declared.request.Request.{Request}
 use Rattle.iscsi_initiator.specs.declared.request.Request.TheVariants as requests
@@ -30,7 +30,7 @@ use Rattle.iscsi_initiator.specs.State.{next_tag}
 use Rattle.iscsi_initiator.specs.Steps.{quiet}
 use Rattle.iscsi_initiator.specs.Machine.{step}
 use Rattle.iscsi_initiator.specs.Submitted.{Submitted, accepted, logout_request, ping, refusal, refusal_in, refusal_when_full, submitted}
-use Rattle.iscsi_pair.specs.LocalDisk.{AreInStep, Stand, window_of_eight}
+use Rattle.iscsi_pair.specs.LocalDisk.{AreInStep, Exchange, window_of_eight}
 use Rattle.iscsi_pair.proofs.Wire.WindowLemmas.{near_next, tells_eight, tag_after}
 use Rattle.iscsi_pair.proofs.Wire.WrittenPdus.{left_readable, logout_readable, ping_readable, pong_readable}
 use Rattle.iscsi_pair.proofs.Request.Invariant.{IsOpenFor}
@@ -52,7 +52,8 @@ ping_message m bytes = record { head = heads.NopOut (ping m); segment = Bytes by
 ping_taken : (m : initiator.Machine) (t : target.Machine) (disk : Disk) (bytes : List ℕ) → m.cmd_sn < 2 ^ 32 → m.initiator_task_tag ≤ 0xffff_fffe
     → length bytes ≤ t.session.held.target_max_recv → t.session.held.target_max_recv ≤ target_session.limit t.session.settings
     → step_on reliable (ready t m.cmd_sn) disk (ping_message m bytes)
-    ≡ having_accepted (ping_message m bytes ∷ []) (on disk [] (say (ready t (next_sn m.cmd_sn)).session (nop_in_head (ready t (next_sn m.cmd_sn)).session 0
+    ≡ having_accepted (ping_message m bytes ∷ []) (on disk [] (send_response (ready t (next_sn m.cmd_sn)).session
+    (nop_in_head (ready t (next_sn m.cmd_sn)).session 0
     (ping m)) (take t.session.held.initiator_max_recv bytes)))
 unfolding segment_bytes
 ping_taken m t disk bytes lt tag short limit =
@@ -67,18 +68,18 @@ ping_taken m t disk bytes lt tag short limit =
 
 -- an initiator that has an open ping
 abbrev pinging : initiator.Machine → Window → initiator.Machine
-pinging m window = record m { phase = phases.Full; open_request = Some opens.Ping; window = window }
+pinging m window = record m { phase = phases.Full; outstanding = Some opens.Ping; window = window }
 
 abbrev pinged : initiator.Machine → target.Machine → Window → List ℕ → initiator.Machine
 pinged m t window bytes = record m {
   phase = phases.Full;
   exp_stat_sn = Some (next_sn t.session.stat_sn);
   window = told_window window t;
-  open_request = None;
+  outstanding = None;
   done = Some (done.Ping bytes);
 }
 
--- the initiator hears the answer
+-- the initiator receives the answer
 pong_heard : (m before : initiator.Machine) (t : target.Machine) (window : Window) (bytes : List ℕ) → m.exp_stat_sn ≡ Some t.session.stat_sn
     → m.initiator_task_tag ≡ next_tag before.initiator_task_tag
     → m.initiator_task_tag ≤ 0xffff_fffe → length bytes ≤ m.held.initiator_max_recv
@@ -102,7 +103,7 @@ short_ping m bytes full e =
     let none : refusal_in m.phase m (requests.Ping bytes) ≡ None = unrefused (refusal m (requests.Ping bytes)) m (requests.Ping bytes) e in
     let when : refusal_when_full m (requests.Ping bytes) ≡ None = subst (λ (p : Phase). refusal_in p m (requests.Ping bytes) ≡ None) full none in
     ltb-false m.held.target_max_recv (length bytes)
-    (not_long (is_some m.open_request || is_some m.done) (not (is_within m.cmd_sn m.window.exp.0 m.window.max.0)) (nat_lt m.held.target_max_recv (length bytes))
+    (not_long (is_some m.outstanding || is_some m.done) (not (is_within m.cmd_sn m.window.exp.0 m.window.max.0)) (nat_lt m.held.target_max_recv (length bytes))
     when)
 
 pub local_ping : (m : initiator.Machine) (t : target.Machine) (disk : Disk) (bytes : List ℕ) → AreInStep m t
@@ -129,20 +130,21 @@ local_ping m t disk bytes a e =
       };
       tasks = a.no_task i;
     } in
-    let is_m : (accepted m request).machine ≡ pinging begun_ m.window = λ i. record begun_ { phase = a.initiator_phase i; open_request = Some opens.Ping } in
+    let is_m : (accepted m request).machine ≡ pinging begun_ m.window = λ i. record begun_ { phase = a.initiator_phase i; outstanding = Some opens.Ping } in
     let answer : Message = target_session.message (nop_in_head t'.session 0 (ping m)) given in
-    let executed : target.Stepped = having_accepted (ping_message m bytes ∷ []) (on disk [] (say t'.session (nop_in_head t'.session 0 (ping m)) given)) in
+    let executed : target.Stepped = having_accepted (ping_message m bytes ∷ []) (on disk []
+    (send_response t'.session (nop_in_head t'.session 0 (ping m)) given)) in
     let r : answers t disk (submitted m request).output ≡ executed =
     ap (λ (s : Submitted). answers t disk s.output) sent
     ∙ then_nothing (step_on reliable t disk (ping_message m bytes))
     ∙ ap (λ (x : target.Machine). step_on reliable x disk (ping_message m bytes)) is_t
     ∙ ping_taken m t disk bytes a.cmd_sn_fits a.tag_fits (subst (λ (h : Held). length bytes ≤ h.target_max_recv) (sym a.held) short)
     (subst (λ (h : Held). h.target_max_recv ≤ target_session.limit t.session.settings) (sym a.held) a.segment)
-    ∙ ap (λ (h : Held). having_accepted (ping_message m bytes ∷ []) (on disk [] (say t'.session (nop_in_head t'.session 0 (ping m))
+    ∙ ap (λ (h : Held). having_accepted (ping_message m bytes ∷ []) (on disk [] (send_response t'.session (nop_in_head t'.session 0 (ping m))
     (take h.initiator_max_recv bytes)))) a.held in
     let one : step (pinging begun_ m.window) answer ≡ quiet (pinged begun_ t' m.window given) = pong_heard begun_ m t' m.window given a.stat_sn refl tag few in
     let told_ : told_window m.window t' ≡ window_of_eight n = tells_eight n m.window fits (near_next n m.cmd_sn m.window a.cmd_sn_fits refl a.window) in
-    let last : Stand = record { initiator = pinged begun_ t' m.window given; target = counted_on t'; disk = disk; answers = [] } in
+    let last : Exchange = record { initiator = pinged begun_ t' m.window given; target = counted_on t'; disk = disk; answers = [] } in
     let ends_ : Ends m.held (pinging begun_ m.window) executed (done.Ping given) disk = record {
       last = last;
       leads = hears_quiet m.held (pinging begun_ m.window) (pinged begun_ t' m.window given) (counted_on t') disk answer [] last one refl refl a.none_done (
@@ -190,14 +192,14 @@ logout_taken m t disk lt =
     }) refl (window_now m.cmd_sn lt) refl
 
 abbrev leaving : initiator.Machine → Window → initiator.Machine
-leaving m window = record m { phase = phases.Full; open_request = Some opens.Logout; window = window }
+leaving m window = record m { phase = phases.Full; outstanding = Some opens.Logout; window = window }
 
 abbrev left : initiator.Machine → target.Machine → Window → initiator.Machine
 left m t window = record m {
   phase = phases.Closed;
   exp_stat_sn = Some (next_sn t.session.stat_sn);
   window = told_window window t;
-  open_request = None;
+  outstanding = None;
   done = Some done.Closed;
 }
 
@@ -234,7 +236,7 @@ local_logout m t disk a e =
       };
       tasks = a.no_task i;
     } in
-    let is_m : (accepted m request).machine ≡ leaving begun_ m.window = λ i. record begun_ { phase = a.initiator_phase i; open_request = Some opens.Logout } in
+    let is_m : (accepted m request).machine ≡ leaving begun_ m.window = λ i. record begun_ { phase = a.initiator_phase i; outstanding = Some opens.Logout } in
     let answer : Message = target_session.message (logout_head t'.session 0 (logout_request m)) [] in
     let executed : target.Stepped = having_accepted (logout_message m ∷ []) (on disk [] (logged_out t'.session 0 (logout_request m))) in
     let r : answers t disk (submitted m request).output ≡ executed =
@@ -242,7 +244,7 @@ local_logout m t disk a e =
     ∙ then_nothing (step_on reliable t disk (logout_message m))
     ∙ ap (λ (x : target.Machine). step_on reliable x disk (logout_message m)) is_t
     ∙ logout_taken m t disk a.cmd_sn_fits in
-    let last : Stand = record { initiator = left begun_ t' m.window; target = executed.machine; disk = disk; answers = [] } in
+    let last : Exchange = record { initiator = left begun_ t' m.window; target = executed.machine; disk = disk; answers = [] } in
     let ends_ : Ends m.held (leaving begun_ m.window) executed done.Closed disk = record {
       last = last;
       leads = hears_quiet m.held (leaving begun_ m.window) (left begun_ t' m.window) executed.machine disk answer [] last

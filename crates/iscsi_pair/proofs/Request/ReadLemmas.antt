@@ -1,37 +1,8 @@
 -- A read between two ends that are in step: its outcome is that of the disk.
 use Rattle.std.specs.Prelude.{unwrap_or, ◌-◌, ◌*◌, min, nat_lt, ◌==◌, ◌&&◌, ◌||◌, not, if◌then◌else◌, is_some}
 use Rattle.std.specs.List.{flat_map, AllByRecursion}
-use Rattle.std.proofs.Common.{
-  ◌≡◌,
-  inl,
-  ◌<◌,
-  ◌≤◌,
-  ℕ,
-  zero,
-  suc,
-  ◌+◌,
-  ◌^◌,
-  ◌%◌,
-  Bool,
-  true,
-  false,
-  List,
-  [],
-  ◌∷◌,
-  ◌++◌,
-  length,
-  drop,
-  Option,
-  Some,
-  None,
-  refl,
-  sym,
-  ap,
-  ◌∙◌,
-  subst,
-  arith,
-  append_assoc,
-}
+use Rattle.std.proofs.Common.{◌≡◌, inl, ◌<◌, ◌≤◌, ℕ, zero, suc, ◌+◌, ◌^◌, ◌%◌, Bool, true, false, List, [], ◌∷◌, ◌++◌, length, drop, Option, Some, None, refl}
+use Rattle.std.proofs.Common.{sym, ap, ◌∙◌, subst, arith, append_assoc}
 use Rattle.std.proofs.Math.Nat.{mod-eq_of_lt, mod-lt}
 use Rattle.std.proofs.lemmas.Bool.{eq-eqb, le-leb, le-ltb, ltb-false}
 use Rattle.std.proofs.lemmas.List.{append-nil, length-append, length-take, length-drop}
@@ -45,7 +16,7 @@ use Rattle.scsi_disk.specs.declared.order.Plan.TheVariants.{Refuse, Take, Give}
 use Rattle.scsi_disk.specs.Disk.{Disk}
 use Rattle.scsi_disk.specs.Effect.{Effect, effect, outcome_by, wanted_data}
 use Rattle.scsi_disk.specs.Plan.{expected_length, first_refusal, is_unknown, is_write, plan_by, plan_of, refusals, transfer, wanted_length}
-use Rattle.scsi_disk.proofs.Planned.{all_false}
+use Rattle.scsi_disk.proofs.PlanLemmas.{all_false}
 use Rattle.iscsi_pdu.specs.declared.head.Head.TheVariants as heads
 use Rattle.iscsi_pdu.specs.declared.serial.Window.{Window}
 use Rattle.iscsi_pdu.specs.Serial.{moved, next_sn, is_within}
@@ -64,27 +35,17 @@ use Rattle.iscsi_target.specs.State.{max_cmd_sn}
 use Rattle.iscsi_target_session.specs.Session.{message}
 use Rattle.iscsi_target.specs.Command.{order_of, planned}
 use Rattle.iscsi_target.specs.Machine.{answers, having_accepted, step_on}
-use Rattle.iscsi_target.specs.Execution.{
-  command_answers,
-  execute,
-  data_ins,
-  data_in_head,
-  marked,
-  parts_given,
-  response_head,
-  run_given,
-  sense_segment,
-  reliable,
-}
+use Rattle.iscsi_target.specs.Execution.{command_answers, execute, data_ins, data_in_head, marked, data_in_parts, response_head, sequence_parts, sense_segment}
+use Rattle.iscsi_target.specs.Execution.{reliable}
 use Rattle.iscsi_stream.specs.Pieces.{chunks_within, chunks}
-use Rattle.iscsi_target.proofs.Telling.{can_give}
-use Rattle.iscsi_target.proofs.Alone.{request_alone}
-use Rattle.iscsi_target.proofs.Continuing.{then_nothing}
-use Rattle.iscsi_target.proofs.DataIns.{Parts, all_given, bytes_of}
-use Rattle.iscsi_stream.proofs.Chunks.{joined, joined_chunks}
+use Rattle.iscsi_target.proofs.SendingLemmas.{can_give}
+use Rattle.iscsi_target.proofs.SingleTaskLemmas.{request_alone}
+use Rattle.iscsi_target.proofs.ContinuationLemmas.{then_nothing}
+use Rattle.iscsi_target.proofs.DataInTilingLaw.{Parts, all_given, bytes_of}
+use Rattle.iscsi_stream.proofs.ChunkLemmas.{joined, joined_chunks}
 use Rattle.iscsi_initiator.specs.declared.request.Done.TheVariants as done
-use Rattle.iscsi_initiator.specs.declared.open.Open.{Open}
-use Rattle.iscsi_initiator.specs.declared.open.Open.TheVariants as opens
+use Rattle.iscsi_initiator.specs.declared.outstanding.Outstanding.{Outstanding}
+use Rattle.iscsi_initiator.specs.declared.outstanding.Outstanding.TheVariants as opens
 use Rattle.iscsi_initiator.specs.Full.{Response, due_to}
 use Rattle.iscsi_initiator.specs.State as initiator
 use Rattle.iscsi_initiator.specs.State.{next_tag, sent_exp_stat_sn, serial}
@@ -96,7 +57,7 @@ use Rattle.iscsi_initiator.specs.Submitted.{Submitted, accepted, command, or_acc
 use Rattle.iscsi_initiator.specs.Progress.{Reading}
 use Rattle.iscsi_initiator.specs.Steps.{quiet}
 use Rattle.iscsi_initiator.specs.Machine.{step}
-use Rattle.iscsi_pair.specs.LocalDisk.{AreInStep, Stand, reading_order, told, told_sense, window_of_eight}
+use Rattle.iscsi_pair.specs.LocalDisk.{AreInStep, Exchange, reading_order, reported, reported_sense, window_of_eight}
 use Rattle.iscsi_pair.proofs.Wire.WindowLemmas.{IsNear, near_next, near_now, tag_after, tells_eight}
 use Rattle.iscsi_pair.proofs.Wire.WrittenPdus.{command_readable, data_in_readable, outcome_readable}
 use Rattle.iscsi_pair.proofs.Wire.OutcomeRanges.{HasRoom, outcome_fits}
@@ -104,9 +65,9 @@ use Rattle.iscsi_pair.proofs.Request.AnswersInOrder.{ArePlain, Begins, Ends, Lea
 
 -- ---- the initiator hears the data
 
--- an initiator that has an open read, and was told this window
+-- an initiator that has an outstanding read, and was told this window
 abbrev reading : initiator.Machine → Reading → Window → initiator.Machine
-reading m r window = record m { phase = phases.Full; open_request = Some (opens.In r); window = window }
+reading m r window = record m { phase = phases.Full; outstanding = Some (opens.In r); window = window }
 
 -- the window that the target tells
 abbrev pub told_window : Window → target.Machine → Window
@@ -137,7 +98,7 @@ record PartsHeard (m : initiator.Machine) (t : target.Machine) (r : Reading) (wi
   told : Window
   -- what each told window keeps is kept
   kept : (n : ℕ) → ((w : Window) → IsNear n w → IsNear n (told_window w t)) → IsNear n window → IsNear n told
-  leads : (held : Held) (s : target.Machine) (disk : Disk) (x : Stand)
+  leads : (held : Held) (s : target.Machine) (disk : Disk) (x : Exchange)
       → LeadsTo held (reading m (record r { received = r.received ++ bytes_of given; next_data_sn = r.next_data_sn + length given }) told) s disk more x
       → LeadsTo held (reading m r window) s disk (data_ins t.session (target.waiting t.tasks) m.initiator_task_tag r.next_data_sn (length r.received) given
       ++ more) x
@@ -216,10 +177,10 @@ marked_short most [] all = tt
 marked_short most (x ∷ []) all = (all.0, tt)
 marked_short most (x ∷ y ∷ xs) all = (all.0, marked_short most (y ∷ xs) all.1)
 
-runs_short : (held : Held) (runs : List (List ℕ)) → AreShort held.initiator_max_recv (flat_map (run_given held) runs)
+runs_short : (held : Held) (runs : List (List ℕ)) → AreShort held.initiator_max_recv (flat_map (sequence_parts held) runs)
 runs_short held [] = tt
 runs_short held (run ∷ runs) =
-    all_append (λ part. length part.0 ≤ held.initiator_max_recv) (run_given held run) (flat_map (run_given held) runs)
+    all_append (λ part. length part.0 ≤ held.initiator_max_recv) (sequence_parts held run) (flat_map (sequence_parts held) runs)
     (marked_short held.initiator_max_recv (chunks held.initiator_max_recv run) (parts_short (length run) held.initiator_max_recv run)) (runs_short held runs)
 
 parts_few : (fuel size : ℕ) (bytes : List ℕ) → 0 < size → length (chunks_within fuel size bytes) ≤ length bytes
@@ -232,12 +193,12 @@ marked_few [] = refl
 marked_few (x ∷ []) = refl
 marked_few (x ∷ y ∷ xs) = ap suc (marked_few (y ∷ xs))
 
-runs_few : (held : Held) (runs : List (List ℕ)) → 0 < held.initiator_max_recv → length (flat_map (run_given held) runs) ≤ length (joined runs)
+runs_few : (held : Held) (runs : List (List ℕ)) → 0 < held.initiator_max_recv → length (flat_map (sequence_parts held) runs) ≤ length (joined runs)
 runs_few held [] lt = omega arith
 runs_few held (run ∷ runs) lt =
     omega (
       arith,
-      length-append (run_given held run) (flat_map (run_given held) runs),
+      length-append (sequence_parts held run) (flat_map (sequence_parts held) runs),
       length-append run (joined runs),
       marked_few (chunks held.initiator_max_recv run),
       parts_few (length run) held.initiator_max_recv run lt,
@@ -245,7 +206,7 @@ runs_few held (run ∷ runs) lt =
     )
 
 -- no more parts than bytes
-given_few : (held : Held) (bytes : List ℕ) → 0 < max_burst held → 0 < held.initiator_max_recv → length (parts_given held bytes) ≤ length bytes
+given_few : (held : Held) (bytes : List ℕ) → 0 < max_burst held → 0 < held.initiator_max_recv → length (data_in_parts held bytes) ≤ length bytes
 given_few held bytes burst most =
     omega (arith, runs_few held (chunks (max_burst held) bytes) most, ap (λ (x : List ℕ). length x) (joined_chunks (max_burst held) bytes burst))
 
@@ -257,19 +218,19 @@ finished m t window outcome received = record m {
   phase = phases.Full;
   exp_stat_sn = Some (next_sn t.session.stat_sn);
   window = told_window window t;
-  open_request = None;
-  done = Some (done.Command 0 outcome.status (told_sense outcome.sense) received outcome.residual);
+  outstanding = None;
+  done = Some (done.Command 0 outcome.status (reported_sense outcome.sense) received outcome.residual);
 }
 
 -- an initiator with this request open
-abbrev pub waiting : initiator.Machine → Open → Window → initiator.Machine
-waiting m open_ window = record m { phase = phases.Full; open_request = Some open_; window = window }
+abbrev pub waiting : initiator.Machine → Outstanding → Window → initiator.Machine
+waiting m open_ window = record m { phase = phases.Full; outstanding = Some open_; window = window }
 
 -- a command that is open takes its response, and has received these bytes
-abbrev pub Awaits : Open → List ℕ → Type 0
+abbrev pub Awaits : Outstanding → List ℕ → Type 0
 Awaits open_ received = (h : ScsiResponse) → due_to (Some open_) (heads.ScsiResponse h) ≡ Some (Response received h)
 
-pub outcome_heard : (m : initiator.Machine) (t : target.Machine) (open_ : Open) (received : List ℕ) (window : Window) (status : ℕ) (sense : Option Sense)
+pub outcome_heard : (m : initiator.Machine) (t : target.Machine) (open_ : Outstanding) (received : List ℕ) (window : Window) (status : ℕ) (sense : Option Sense)
     (bytes : List ℕ) (residual : Residual) (count : ℕ)
     → Awaits open_ received → m.exp_stat_sn ≡ Some t.session.stat_sn → 20 ≤ m.held.initiator_max_recv
     → (let outcome : Outcome = record { status = status; sense = sense; bytes = bytes; residual = residual } in
@@ -314,15 +275,15 @@ outcome_heard m t open_ received window status (Some sense) bytes (Over n) count
 record ReadHeard (m : initiator.Machine) (t : target.Machine) (r : Reading) (window : Window) (outcome : Outcome) : Type 0 where
   told : Window
   kept : (n : ℕ) → ((w : Window) → IsNear n w → IsNear n (told_window w t)) → IsNear n window → IsNear n told
-  leads : (held : Held) (s : target.Machine) (disk : Disk) (x : Stand) → LeadsTo held (finished m t told outcome outcome.bytes) s disk [] x
+  leads : (held : Held) (s : target.Machine) (disk : Disk) (x : Exchange) → LeadsTo held (finished m t told outcome outcome.bytes) s disk [] x
       → LeadsTo held (reading m r window) s disk (command_answers t.session (target.waiting t.tasks) m.initiator_task_tag outcome
-      (parts_given t.session.held outcome.bytes)) x
+      (data_in_parts t.session.held outcome.bytes)) x
 
 -- the parts of what is given
 record AreGiven (held : Held) (bytes : List ℕ) : Type 0 where
-  all : bytes_of (parts_given held bytes) ≡ bytes
-  short : AreShort held.initiator_max_recv (parts_given held bytes)
-  few : length (parts_given held bytes) ≤ length bytes
+  all : bytes_of (data_in_parts held bytes) ≡ bytes
+  short : AreShort held.initiator_max_recv (data_in_parts held bytes)
+  few : length (data_in_parts held bytes) ≤ length bytes
 
 are_given : (held : Held) (bytes : List ℕ) → IsHeld held → AreGiven held bytes
 are_given held bytes is =
@@ -339,7 +300,7 @@ read_heard : (m : initiator.Machine) (t : target.Machine) (window : Window) (out
 read_heard m t window outcome expected held is_held stat_sn none room small =
     let r : Reading = record { expected = expected; received = []; next_data_sn = 0 } in
     let g : AreGiven t.session.held outcome.bytes = are_given t.session.held outcome.bytes (subst IsHeld (sym held) is_held) in
-    let given : Parts = parts_given t.session.held outcome.bytes in
+    let given : Parts = data_in_parts t.session.held outcome.bytes in
     let last : Message = message (response_head t.session (target.waiting t.tasks) m.initiator_task_tag outcome (length given)) (sense_segment outcome.sense) in
     let h : PartsHeard m t r window given (last ∷ []) =
     parts_heard m t r window given (last ∷ []) none (subst (λ (k : Held). AreShort k.initiator_max_recv given) held g.short)
@@ -378,11 +339,11 @@ sense_most (Some sense) = omega arith
 
 pub command_written : (t : target.Machine) (tag : ℕ) (outcome : Outcome) → IsHeld t.session.held → tag < 2 ^ 32 → t.session.exp_cmd_sn < 2 ^ 32
     → t.session.stat_sn < 2 ^ 32 → length outcome.bytes ≤ 4194304 → HasRoom outcome
-    → ArePlain t.session.held.initiator_max_recv (command_answers t.session (target.waiting t.tasks) tag outcome (parts_given t.session.held outcome.bytes))
+    → ArePlain t.session.held.initiator_max_recv (command_answers t.session (target.waiting t.tasks) tag outcome (data_in_parts t.session.held outcome.bytes))
 command_written t tag outcome is tag_fits cmd_sn stat_sn room fits =
     let most : ℕ = t.session.held.initiator_max_recv in
     let g : AreGiven t.session.held outcome.bytes = are_given t.session.held outcome.bytes is in
-    let given : Parts = parts_given t.session.held outcome.bytes in
+    let given : Parts = data_in_parts t.session.held outcome.bytes in
     let size : most < 2 ^ 24 = omega (arith, is.initiator_max_recv.1) in
     let count : length given < 2 ^ 32 = omega (arith, g.few, room) in
     data_ins_written most t tag 0 0 given (message (response_head t.session (target.waiting t.tasks) tag outcome (length given)) (sense_segment outcome.sense)
@@ -515,7 +476,7 @@ few_expected m lun cdb expected full e =
     let when : refusal_when_full m (requests.In lun cdb expected) ≡ None = subst (λ (p : Phase). refusal_in p m (requests.In lun cdb expected) ≡ None) full
     none in
     ltb-false 4194304 expected
-    (not_long (is_some m.open_request || is_some m.done) (not (is_within m.cmd_sn m.window.exp.0 m.window.max.0)) (nat_lt 4194304 expected) when)
+    (not_long (is_some m.outstanding || is_some m.done) (not (is_within m.cmd_sn m.window.exp.0 m.window.max.0)) (nat_lt 4194304 expected) when)
 
 -- A command or a ping was answered: both ends are in step again.
 pub in_step_again : (m : initiator.Machine) (t : target.Machine) (window : Window) → t.session.held ≡ m.held → IsHeld m.held
@@ -525,7 +486,7 @@ pub in_step_again : (m : initiator.Machine) (t : target.Machine) (window : Windo
       phase = phases.Full;
       exp_stat_sn = Some (next_sn t.session.stat_sn);
       window = told_window window (ready t m.cmd_sn);
-      open_request =
+      outstanding =
           None;
       done = None;
     }) (counted_on (ready t m.cmd_sn))
@@ -553,7 +514,7 @@ stat_sn_sent m t a = subst (λ (n : Option ℕ). unwrap_or n 0 < 2 ^ 32) (sym a.
 
 pub local_read : (m : initiator.Machine) (t : target.Machine) (disk : Disk) (lun : ℕ) (cdb : List ℕ) (expected : ℕ) → lun < 2 ^ 64 → length cdb ≡ 16
     → AreBytes cdb → AreInStep m t → (submitted m (requests.In lun cdb expected)).refusal ≡ None
-    → (let after : Effect = effect disk (reading_order lun cdb expected) [] in Begins m.held m t disk (requests.In lun cdb expected) (told after.outcome)
+    → (let after : Effect = effect disk (reading_order lun cdb expected) [] in Begins m.held m t disk (requests.In lun cdb expected) (reported after.outcome)
     after.disk)
 unfolding answers
 local_read m t disk lun cdb expected on_ size are a e =
@@ -578,7 +539,7 @@ local_read m t disk lun cdb expected on_ size are a e =
     } in
     let is_m : (accepted m request).machine ≡ reading begun_ r0 m.window = λ i. record begun_ {
       phase = a.initiator_phase i;
-      open_request =
+      outstanding =
           Some (opens.In r0);
     } in
     let executed : target.Stepped = having_accepted (read_command m lun cdb expected ∷ []) (execute reliable t' disk (next_tag m.initiator_task_tag) order
@@ -593,7 +554,7 @@ local_read m t disk lun cdb expected on_ size are a e =
     (λ n. gives_few (first_refusal order disk.count) order disk.count n) in
     let h : ReadHeard begun_ t' r0 m.window after.outcome = read_heard begun_ t' m.window after.outcome expected a.held a.is_held a.stat_sn a.none_done room
     (omega (arith, few)) in
-    let last : Stand = record {
+    let last : Exchange = record {
       initiator = finished begun_ t' h.told after.outcome after.outcome.bytes;
       target = counted_on t';
       disk = after.disk;
@@ -603,7 +564,7 @@ local_read m t disk lun cdb expected on_ size are a e =
     let told_ : told_window h.told t' ≡ window_of_eight n =
     tells_eight n h.told fits (h.kept n (λ w near. near_now n (told_window w t') fits (tells_eight n w fits near))
     (near_next n m.cmd_sn m.window a.cmd_sn_fits refl a.window)) in
-    let ends_ : Ends m.held (reading begun_ r0 m.window) executed (told after.outcome) after.disk = record {
+    let ends_ : Ends m.held (reading begun_ r0 m.window) executed (reported after.outcome) after.disk = record {
       last = last;
       leads = h.leads m.held (counted_on t') after.disk last (0, refl);
       ended = record {
@@ -624,7 +585,7 @@ local_read m t disk lun cdb expected on_ size are a e =
           (subst (λ (k : Held). ArePlain k.initiator_max_recv executed.answers) a.held
           (command_written t' (next_tag m.initiator_task_tag) after.outcome (subst IsHeld (sym a.held) a.is_held) (omega (arith, tag)) fits a.stat_sn_fits
           (omega (arith, room, few)) (outcome_fits disk order [] few)));
-      ends = subst (λ (s : Submitted). Ends m.held s.machine (answers t disk (submitted m request).output) (told after.outcome) after.disk) (sym sent)
-          (subst (λ (x : initiator.Machine). Ends m.held x (answers t disk (submitted m request).output) (told after.outcome) after.disk) (sym is_m)
-          (subst (λ (x : target.Stepped). Ends m.held (reading begun_ r0 m.window) x (told after.outcome) after.disk) (sym r) ends_));
+      ends = subst (λ (s : Submitted). Ends m.held s.machine (answers t disk (submitted m request).output) (reported after.outcome) after.disk) (sym sent)
+          (subst (λ (x : initiator.Machine). Ends m.held x (answers t disk (submitted m request).output) (reported after.outcome) after.disk) (sym is_m)
+          (subst (λ (x : target.Stepped). Ends m.held (reading begun_ r0 m.window) x (reported after.outcome) after.disk) (sym r) ends_));
     }

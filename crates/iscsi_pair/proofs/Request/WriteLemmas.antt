@@ -2,40 +2,8 @@
 use Rattle.std.specs.Prelude.{IfSome, ◌-◌, ◌*◌, min, nat_le, nat_lt, ◌==◌, ◌&&◌, ◌||◌, not, if◌then◌else◌, is_some}
 use Rattle.std.specs.Bool.{then_some}
 use Rattle.std.specs.List.{AllByRecursion}
-use Rattle.std.proofs.Common.{
-  ◌≡◌,
-  ◌⊎◌,
-  inl,
-  inr,
-  ◌<◌,
-  ◌≤◌,
-  ℕ,
-  zero,
-  suc,
-  ◌+◌,
-  ◌^◌,
-  Bool,
-  true,
-  false,
-  List,
-  [],
-  ◌∷◌,
-  ◌++◌,
-  length,
-  take,
-  drop,
-  Option,
-  Some,
-  None,
-  refl,
-  sym,
-  ap,
-  ◌∙◌,
-  subst,
-  arith,
-  append_assoc,
-  ne_eqb,
-}
+use Rattle.std.proofs.Common.{◌≡◌, ◌⊎◌, inl, inr, ◌<◌, ◌≤◌, ℕ, zero, suc, ◌+◌, ◌^◌, Bool, true, false, List, [], ◌∷◌, ◌++◌, length, take, drop, Option, Some}
+use Rattle.std.proofs.Common.{None, refl, sym, ap, ◌∙◌, subst, arith, append_assoc, ne_eqb}
 use Rattle.std.proofs.Math.Nat.{mod-lt}
 use Rattle.std.proofs.Math.Seq.{take-add}
 use Rattle.std.proofs.lemmas.Bool.{and_parts, eq-eqb, eqb-false, eqb-true, le-leb, le-ltb, lt-leb, lt-ltb, ltb-false, ltb-true, not-false}
@@ -48,7 +16,7 @@ use Rattle.scsi_disk.specs.Plan.{expected_length, first_refusal, is_unknown, is_
 use Rattle.scsi_disk.specs.declared.order.Plan.{Plan}
 use Rattle.scsi_disk.specs.declared.order.Plan.TheVariants.{Refuse, Take, Give}
 use Rattle.scsi_disk.specs.declared.order.Order.{Order}
-use Rattle.scsi_disk.proofs.Planned.{all_false}
+use Rattle.scsi_disk.proofs.PlanLemmas.{all_false}
 use Rattle.iscsi_pdu.specs.declared.head.Head.TheVariants as heads
 use Rattle.iscsi_pdu.specs.declared.head.data_out.DataOut.{DataOut}
 use Rattle.iscsi_pdu.specs.declared.head.scsi_command.ScsiCommand.{ScsiCommand}
@@ -72,15 +40,15 @@ use Rattle.iscsi_target.specs.declared.tasks.Task.TheVariants.{Data}
 use Rattle.iscsi_target.specs.State.{Stepped, unchanged}
 use Rattle.iscsi_stream.specs.Pieces.{Pieces, data_of, chunks_within, chunks}
 use Rattle.iscsi_pdu.specs.Serial.{moved, next_sn, is_within}
-use Rattle.iscsi_target.specs.Transfer.{asking, continued, desired, is_idle, is_in_sequence, is_whole, received, with_data, with_piece}
-use Rattle.iscsi_target.specs.Execution.{command_answers, execute, parts_given, response_head, sense_segment, reliable}
-use Rattle.iscsi_target.specs.Command.{ask, breaks_burst_rules, is_bad_announcement, is_bad_segment, opened, planned, proceed, r2t_head}
+use Rattle.iscsi_target.specs.Transfer.{with_r2t, continued, desired, is_idle, is_in_sequence, is_whole, received, with_data, with_piece}
+use Rattle.iscsi_target.specs.Execution.{command_answers, execute, data_in_parts, response_head, sense_segment, reliable}
+use Rattle.iscsi_target.specs.Command.{send_r2t, breaks_burst_rules, is_bad_announcement, is_bad_segment, opened, planned, proceed, r2t_head}
 use Rattle.iscsi_target.specs.Machine.{answers, having_accepted, is_closed, step_on, then_stepped}
-use Rattle.iscsi_target.proofs.Alone.{data_alone, request_alone}
-use Rattle.iscsi_target.proofs.Continuing.{then_nothing}
-use Rattle.iscsi_target.proofs.Telling.{can_give}
-use Rattle.iscsi_initiator.specs.declared.open.Open.{Open}
-use Rattle.iscsi_initiator.specs.declared.open.Open.TheVariants as opens
+use Rattle.iscsi_target.proofs.SingleTaskLemmas.{data_alone, request_alone}
+use Rattle.iscsi_target.proofs.ContinuationLemmas.{then_nothing}
+use Rattle.iscsi_target.proofs.SendingLemmas.{can_give}
+use Rattle.iscsi_initiator.specs.declared.outstanding.Outstanding.{Outstanding}
+use Rattle.iscsi_initiator.specs.declared.outstanding.Outstanding.TheVariants as opens
 use Rattle.iscsi_initiator.specs.declared.request.Done.TheVariants as done
 use Rattle.iscsi_initiator.specs.State as initiator
 use Rattle.iscsi_initiator.specs.State.{next_tag, sent_exp_stat_sn, serial}
@@ -92,43 +60,17 @@ use Rattle.iscsi_initiator.specs.Submitted.{Submitted, accepted, command, has_mo
 use Rattle.iscsi_initiator.specs.declared.request.Request.{Request}
 use Rattle.iscsi_initiator.specs.declared.request.Request.TheVariants as requests
 use Rattle.iscsi_initiator.specs.Machine.{step, taken}
-use Rattle.iscsi_stream.proofs.Chunks.{joined, joined_chunks}
-use Rattle.iscsi_target.proofs.OpenWrites.{data_of_one}
-use Rattle.iscsi_pair.specs.LocalDisk.{AreInStep, Stand, told, told_sense, writing_order}
+use Rattle.iscsi_stream.proofs.ChunkLemmas.{joined, joined_chunks}
+use Rattle.iscsi_target.proofs.OpenWriteLemmas.{data_of_one}
+use Rattle.iscsi_pair.specs.LocalDisk.{AreInStep, Exchange, reported, reported_sense, writing_order}
 use Rattle.iscsi_pair.proofs.Wire.WindowLemmas.{IsNear, last_with, near_next, tells_fewer, tells_eight, tag_after}
 use Rattle.iscsi_pair.proofs.Login.RoundAgrees.{some_then}
 use Rattle.iscsi_pair.proofs.Wire.WrittenPdus.{command_readable, data_out_readable, ready_readable}
 use Rattle.iscsi_pair.proofs.Wire.OutcomeRanges.{outcome_fits}
-use Rattle.iscsi_pair.proofs.Request.AnswersInOrder.{
-  AreHeard,
-  ArePlain,
-  Begins,
-  Ends,
-  LeadsTo,
-  heard_by,
-  hears_quiet,
-  hears_sends,
-  plain_more,
-  plain_one,
-  short_message,
-}
-use Rattle.iscsi_pair.proofs.Request.ReadLemmas.{
-  counted_on,
-  Awaits,
-  command_written,
-  finished,
-  in_step_again,
-  next_small,
-  not_long,
-  outcome_heard,
-  ready,
-  stat_sn_sent,
-  submitted_is,
-  told_window,
-  unrefused,
-  waiting,
-  window_now,
-}
+use Rattle.iscsi_pair.proofs.Request.AnswersInOrder.{AreHeard, ArePlain, Begins, Ends, LeadsTo, heard_by, hears_quiet, hears_sends, plain_more, plain_one}
+use Rattle.iscsi_pair.proofs.Request.AnswersInOrder.{short_message}
+use Rattle.iscsi_pair.proofs.Request.ReadLemmas.{counted_on, Awaits, command_written, finished, in_step_again, next_small, not_long, outcome_heard, ready}
+use Rattle.iscsi_pair.proofs.Request.ReadLemmas.{stat_sn_sent, submitted_is, told_window, unrefused, waiting, window_now}
 use Rattle.std.proofs.Math.Bool.{and-false}
 
 -- ---- a Data-Out
@@ -395,20 +337,20 @@ writing m v window = waiting m (opens.Out v) window
 
 -- the sequence that answers it
 abbrev asked_for : initiator.Machine → Writing → Write → ℕ → List Message
-asked_for m v w n = sequence m (then_some (is_tag w.asked) w.order.lun) w.asked v.sent (take n (drop v.sent v.bytes))
+asked_for m v w n = sequence m (then_some (is_tag w.r2t_count) w.order.lun) w.r2t_count v.sent (take n (drop v.sent v.bytes))
 
 ready_heard : (m : initiator.Machine) (t : target.Machine) (v : Writing) (w : Write) (window : Window) → w.initiator_task_tag ≡ m.initiator_task_tag
-    → w.asked ≡ v.next_r2t_sn → received w ≡ v.sent
+    → w.r2t_count ≡ v.next_r2t_sn → received w ≡ v.sent
     → 1 ≤ desired t.session.held w → desired t.session.held w ≤ max_burst m.held → v.sent + desired t.session.held w ≤ length v.bytes
     → step (writing m v window) (message (r2t_head t.session (target.waiting t.tasks) w) [])
     ≡ sends (writing m (record v { sent = v.sent + desired t.session.held w; next_r2t_sn = next_sn v.next_r2t_sn }) (told_window window t))
     (asked_for m v w (desired t.session.held w))
 unfolding step segment_bytes
-ready_heard m t v w window tag asked at some most room =
+ready_heard m t v w window tag r2t_count at some most room =
     rw (
       eq-eqb w.initiator_task_tag m.initiator_task_tag tag,
       le-ltb m.held.initiator_max_recv 0 (omega arith),
-      eq-eqb w.asked v.next_r2t_sn asked,
+      eq-eqb w.r2t_count v.next_r2t_sn r2t_count,
       eq-eqb (received w) v.sent at,
       le-leb 1 (desired t.session.held w) some,
       le-leb (desired t.session.held w) (max_burst m.held) most,
@@ -443,8 +385,8 @@ record InHand (m : initiator.Machine) (v : Writing) (w : Write) (order : Order) 
   total : w.total ≡ length v.bytes
   came : data_of w.pieces ≡ take v.sent v.bytes
   sent : v.sent ≤ length v.bytes
-  asked : w.asked ≡ v.next_r2t_sn
-  few : w.asked ≤ v.sent
+  r2t_count : w.r2t_count ≡ v.next_r2t_sn
+  few : w.r2t_count ≤ v.sent
 
 -- a write whose command wasn't immediate takes a place of the window
 one_waits : (w : Write) → w.immediate ≡ false → target.waiting (Data w ∷ []) ≡ 1
@@ -472,11 +414,11 @@ executed_written m t cmd_sn bytes order disk tag pieces_ a same = record {
 }
 
 -- the response to a command that gives no data
-response_ends : (m : initiator.Machine) (t : target.Machine) (cmd_sn : ℕ) (open_ : Open) (window : Window) (bytes : List ℕ) (order : Order) (disk : Disk)
+response_ends : (m : initiator.Machine) (t : target.Machine) (cmd_sn : ℕ) (open_ : Outstanding) (window : Window) (bytes : List ℕ) (order : Order) (disk : Disk)
     (tag : ℕ) (pieces_ : Pieces)
     → Throughout m t cmd_sn bytes order disk → IsNear cmd_sn window → Awaits open_ [] → tag ≡ m.initiator_task_tag
     → effect disk order (data_of pieces_) ≡ effect disk order bytes
-    → Ends m.held (waiting m open_ window) (execute reliable (ready t cmd_sn) disk tag order pieces_) (told (effect disk order bytes).outcome)
+    → Ends m.held (waiting m open_ window) (execute reliable (ready t cmd_sn) disk tag order pieces_) (reported (effect disk order bytes).outcome)
     (effect disk order bytes).disk
 response_ends m t cmd_sn open_ window bytes order disk tag pieces_ a near d same data_ =
     let after : Effect = effect disk order bytes in
@@ -484,13 +426,13 @@ response_ends m t cmd_sn open_ window bytes order disk tag pieces_ a near d same
     let response : Message = message (response_head s.session (target.waiting s.tasks) m.initiator_task_tag after.outcome 0)
     (sense_segment after.outcome.sense) in
     let ended_ : initiator.Machine = finished m s window after.outcome [] in
-    let last : Stand = record { initiator = ended_; target = counted_on s; disk = after.disk; answers = [] } in
+    let last : Exchange = record { initiator = ended_; target = counted_on s; disk = after.disk; answers = [] } in
     let one : step (waiting m open_ window) response ≡ quiet ended_ =
     outcome_heard m s open_ [] window after.outcome.status after.outcome.sense after.outcome.bytes after.outcome.residual 0 d a.stat_sn
     (omega (arith, a.is_held.initiator_max_recv.0)) in
     let is : (execute reliable s disk tag order pieces_).answers ≡ response ∷ [] =
-    ap (λ (x : Effect). command_answers s.session (target.waiting s.tasks) tag x.outcome (parts_given s.session.held x.outcome.bytes)) data_
-    ∙ ap (λ (x : List ℕ). command_answers s.session (target.waiting s.tasks) tag after.outcome (parts_given s.session.held x)) a.none_given
+    ap (λ (x : Effect). command_answers s.session (target.waiting s.tasks) tag x.outcome (data_in_parts s.session.held x.outcome.bytes)) data_
+    ∙ ap (λ (x : List ℕ). command_answers s.session (target.waiting s.tasks) tag after.outcome (data_in_parts s.session.held x)) a.none_given
     ∙ ap (λ (x : ℕ). command_answers s.session (target.waiting s.tasks) x after.outcome []) same in
     let disk_is : (execute reliable s disk tag order pieces_).disk ≡ after.disk = ap (λ (x : Effect). x.disk) data_ in
     let again : AreInStep (taken (finished m (ready t m.cmd_sn) window after.outcome [])) (counted_on (ready t m.cmd_sn)) =
@@ -504,7 +446,8 @@ response_ends m t cmd_sn open_ window bytes order disk tag pieces_ a near d same
           (subst (λ (x : Disk). LeadsTo m.held (waiting m open_ window) (counted_on s) x (response ∷ []) last) (sym disk_is)
           (hears_quiet m.held (waiting m open_ window) ended_ (counted_on s) after.disk response [] last one refl refl a.none_done (0, refl)));
       ended = record {
-        done_is = ap (λ (x : List ℕ). Some (done.Command 0 after.outcome.status (told_sense after.outcome.sense) x after.outcome.residual)) (sym a.none_given);
+        done_is = ap (λ (x : List ℕ). Some (done.Command 0 after.outcome.status (reported_sense after.outcome.sense) x after.outcome.residual))
+            (sym a.none_given);
         silent = refl;
         disk_is = refl;
         at_rest = inl (
@@ -517,7 +460,7 @@ response_ends m t cmd_sn open_ window bytes order disk tag pieces_ a near d same
 -- the write goes on from where all that was due came
 abbrev GoesOn : initiator.Machine → target.Machine → ℕ → Writing → Write → Window → Order → Disk → Type 0
 GoesOn m t cmd_sn v w window order disk =
-    Ends m.held (writing m v window) (proceed reliable (ready t cmd_sn) disk w) (told (effect disk order v.bytes).outcome) (effect disk order v.bytes).disk
+    Ends m.held (writing m v window) (proceed reliable (ready t cmd_sn) disk w) (reported (effect disk order v.bytes).outcome) (effect disk order v.bytes).disk
 
 -- where all came the command is executed
 whole_is : (m : initiator.Machine) (t : target.Machine) (cmd_sn : ℕ) (v : Writing) (w : Write) (order : Order) (disk : Disk) → InHand m v w order
@@ -528,7 +471,7 @@ whole_is m t cmd_sn v w order disk i whole = rw whole (ap (λ (x : Order). execu
 -- else the target asks for more
 part_is : (m : initiator.Machine) (t : target.Machine) (cmd_sn : ℕ) (v : Writing) (w : Write) (order : Order) (disk : Disk) → InHand m v w order
     → is_whole w ≡ false
-    → proceed reliable (ready t cmd_sn) disk w ≡ ask (ready t cmd_sn) disk w
+    → proceed reliable (ready t cmd_sn) disk w ≡ send_r2t (ready t cmd_sn) disk w
 part_is m t cmd_sn v w order disk i part = rw (part, i.due) refl
 
 -- what the target answers then is read as it was written
@@ -559,7 +502,7 @@ all_came : (m : initiator.Machine) (t : target.Machine) (cmd_sn : ℕ) (v : Writ
 all_came m t cmd_sn v w window order disk a near i whole =
     let all : v.sent ≡ length v.bytes = sym (received_is m v w order i) ∙ sym (eqb-true w.total (received w) whole) ∙ i.total in
     let bytes : data_of w.pieces ≡ v.bytes = i.came ∙ take_all v.sent v.bytes (omega (arith, all)) in
-    subst (λ (r : Stepped). Ends m.held (writing m v window) r (told (effect disk order v.bytes).outcome) (effect disk order v.bytes).disk)
+    subst (λ (r : Stepped). Ends m.held (writing m v window) r (reported (effect disk order v.bytes).outcome) (effect disk order v.bytes).disk)
     (sym (whole_is m t cmd_sn v w order disk i whole))
     (response_ends m t cmd_sn (opens.Out v) window v.bytes order disk w.initiator_task_tag w.pieces a near (λ h. refl) i.tag (ap (effect disk order) bytes))
 
@@ -575,7 +518,7 @@ more_sent v n = record v { sent = v.sent + n; next_r2t_sn = next_sn v.next_r2t_s
 
 -- the write of the target once they came
 abbrev more_came : target.Machine → Write → Pieces → Write
-more_came t w came = record (asking t.session.held w) { pieces = came; due = Nothing }
+more_came t w came = record (with_r2t t.session.held w) { pieces = came; due = Nothing }
 
 -- where one turn leads
 record Turned (m : initiator.Machine) (t : target.Machine) (cmd_sn : ℕ) (v : Writing) (w : Write) (window : Window) (order : Order) (disk : Disk) : Type 0 where
@@ -585,7 +528,8 @@ record Turned (m : initiator.Machine) (t : target.Machine) (cmd_sn : ℕ) (v : W
   n : ℕ
   some : 0 < n
   hand : InHand m (more_sent v n) (more_came t w came) order
-  leads : (x : Stand) → (let r = proceed reliable (ready t cmd_sn) disk (more_came t w came) in LeadsTo m.held (writing m (more_sent v n) window_now) r.machine
+  leads : (x : Exchange) → (let r = proceed reliable (ready t cmd_sn) disk (more_came t w came) in
+      LeadsTo m.held (writing m (more_sent v n) window_now) r.machine
       r.disk r.answers x)
       → (let r = proceed reliable (ready t cmd_sn) disk w in LeadsTo m.held (writing m v window) r.machine r.disk r.answers x)
 
@@ -605,23 +549,23 @@ turn m t cmd_sn v w window order disk a i part =
     let size : length batch ≡ n = omega (arith, length-take n (drop v.sent v.bytes), length-drop v.sent v.bytes, room) in
     let out : List Message = asked_for m v w n in
     let one : step (writing m v window) (message (r2t_head s.session (target.waiting s.tasks) w) []) ≡ sends (writing m (more_sent v n) (told_window window s))
-    out = ready_heard m s v w window i.tag i.asked at some most room in
+    out = ready_heard m s v w window i.tag i.r2t_count at some most room in
     let h : DataOut = record {
       is_final = false;
-      lun = then_some (is_tag w.asked) w.order.lun;
+      lun = then_some (is_tag w.r2t_count) w.order.lun;
       initiator_task_tag = m.initiator_task_tag;
-      target_transfer_tag = w.asked;
+      target_transfer_tag = w.r2t_count;
       exp_stat_sn = sent_exp_stat_sn m;
       data_sn = 0;
       buffer_offset = v.sent;
     } in
     let lt : 0 < t.session.held.target_max_recv = subst (λ (x : Held). 0 < x.target_max_recv) (sym a.held) (omega (arith, a.is_held.target_max_recv.0)) in
-    let r : SequenceTaken t cmd_sn (asking t.session.held w) disk (data_outs h (chunks t.session.held.target_max_recv batch)) batch =
-    batch_taken t cmd_sn (asking t.session.held w) disk h batch (received w + n) (λ data_sn. Solicited w.asked data_sn (received w + n))
-    (solicited (first_burst t.session.held) w.total w.asked (received w + n)) refl (sym at) (sym i.tag) lt a.segment
+    let r : SequenceTaken t cmd_sn (with_r2t t.session.held w) disk (data_outs h (chunks t.session.held.target_max_recv batch)) batch =
+    batch_taken t cmd_sn (with_r2t t.session.held w) disk h batch (received w + n) (λ data_sn. Solicited w.r2t_count data_sn (received w + n))
+    (solicited (first_burst t.session.held) w.total w.r2t_count (received w + n)) refl (sym at) (sym i.tag) lt a.segment
     (omega (arith, size, some)) (omega (arith, size)) (omega (arith, at, i.total, room)) in
-    let sent_ : answers (writer t cmd_sn (asking t.session.held w)) disk out ≡ proceed reliable (ready t cmd_sn) disk (more_came t w r.came) =
-    ap (λ (k : Held). answers (writer t cmd_sn (asking t.session.held w)) disk (data_outs h (chunks k.target_max_recv batch))) (sym a.held) ∙ r.is in
+    let sent_ : answers (writer t cmd_sn (with_r2t t.session.held w)) disk out ≡ proceed reliable (ready t cmd_sn) disk (more_came t w r.came) =
+    ap (λ (k : Held). answers (writer t cmd_sn (with_r2t t.session.held w)) disk (data_outs h (chunks k.target_max_recv batch))) (sym a.held) ∙ r.is in
     let hand_ : InHand m (more_sent v n) (more_came t w r.came) order = record {
       tag = i.tag;
       waits = i.waits;
@@ -630,19 +574,19 @@ turn m t cmd_sn v w window order disk a i part =
       total = i.total;
       came = r.whole ∙ ap (λ (x : List ℕ). x ++ batch) i.came ∙ sym (take-add v.sent n v.bytes);
       sent = room;
-      asked = ap (λ (x : ℕ). x + 1) i.asked ∙ sym (next_small v.next_r2t_sn (omega (arith, i.asked, i.few, i.sent, a.few)));
+      r2t_count = ap (λ (x : ℕ). x + 1) i.r2t_count ∙ sym (next_small v.next_r2t_sn (omega (arith, i.r2t_count, i.few, i.sent, a.few)));
       few = omega (arith, i.few, some);
     } in
     let on_ : w.order.lun < 2 ^ 64 = subst (λ (x : Order). x.lun < 2 ^ 64) (sym i.order_is) a.lun in
     let written : ArePlain m.held.target_max_recv out =
-    sequence_written m (then_some (is_tag w.asked) w.order.lun) w.asked v.sent batch a.is_held a.tag_fits a.stat_sn_sends
-    (some_then (is_tag w.asked) w.order.lun)
-    (lun_fits (is_tag w.asked) w.order.lun on_) (omega (arith, i.few, i.sent, a.few)) (omega (arith, size, room, a.few)) in
+    sequence_written m (then_some (is_tag w.r2t_count) w.order.lun) w.r2t_count v.sent batch a.is_held a.tag_fits a.stat_sn_sends
+    (some_then (is_tag w.r2t_count) w.order.lun)
+    (lun_fits (is_tag w.r2t_count) w.order.lun on_) (omega (arith, i.few, i.sent, a.few)) (omega (arith, size, room, a.few)) in
     let now : Stepped = proceed reliable (ready t cmd_sn) disk (more_came t w r.came) in
     let then_ : IsAnswered m.held now = proceed_written m t cmd_sn (more_sent v n) (more_came t w r.came) order disk a hand_ (is_whole (more_came t w r.came))
     refl in
-    let heard : AreHeard m.held (writer t cmd_sn (asking t.session.held w)) disk out =
-    heard_by m.held (writer t cmd_sn (asking t.session.held w)) disk out now sent_ written then_.live then_.rule then_.answered in
+    let heard : AreHeard m.held (writer t cmd_sn (with_r2t t.session.held w)) disk out =
+    heard_by m.held (writer t cmd_sn (with_r2t t.session.held w)) disk out now sent_ written then_.live then_.rule then_.answered in
     record {
       window_now = told_window window s;
       near = λ near. subst (λ (x : ℕ). IsNear cmd_sn (moved window (serial cmd_sn) (serial (last_with cmd_sn x)))) (sym (one_waits w i.waits))
@@ -652,7 +596,7 @@ turn m t cmd_sn v w window order disk a i part =
       some = some;
       hand = hand_;
       leads = λ x l. subst (λ (y : Stepped). LeadsTo m.held (writing m v window) y.machine y.disk y.answers x) (sym (part_is m t cmd_sn v w order disk i part))
-          (hears_sends m.held (writing m v window) (writing m (more_sent v n) (told_window window s)) (writer t cmd_sn (asking t.session.held w)) disk
+          (hears_sends m.held (writing m v window) (writing m (more_sent v n) (told_window window s)) (writer t cmd_sn (with_r2t t.session.held w)) disk
           (message (r2t_head s.session (target.waiting s.tasks) w) []) out now x one refl refl a.none_done heard sent_ l);
     }
 
@@ -810,7 +754,7 @@ first_answers m t disk lun cdb bytes p =
 
 -- The target answers well, and it comes to the outcome of this order.
 abbrev Comes : initiator.Machine → initiator.Machine → Order → List ℕ → Disk → Stepped → Type 0
-Comes m i order bytes disk r = IsAnswered m.held r × Ends m.held i r (told (effect disk order bytes).outcome) (effect disk order bytes).disk
+Comes m i order bytes disk r = IsAnswered m.held r × Ends m.held i r (reported (effect disk order bytes).outcome) (effect disk order bytes).disk
 
 same_effect : (p : Plan) (disk : Disk) (order : Order) (bytes : List ℕ) → ((n : ℕ) → p ≡ Take n → ⊥) → disk_by p disk order [] ≡ disk_by p disk order bytes
 same_effect (Take n) disk order bytes none = absurd (none n refl)
@@ -850,7 +794,7 @@ executed_alone m t disk lun cdb bytes window a near none =
           after.outcome;
     } in
     let well : IsAnswered m.held r = executed_written (begun_write m) t n bytes order disk (next_tag m.initiator_task_tag) [] a refl in
-    let ends_ : Ends m.held i r (told after.outcome) after.disk =
+    let ends_ : Ends m.held i r (reported after.outcome) after.disk =
     response_ends (begun_write m) t n (opens.Out (first_sent m bytes)) window bytes order disk (next_tag m.initiator_task_tag) [] a near (λ h_. refl) refl
     same in
     subst (λ (x : Stepped). Comes m i order bytes disk (then_stepped r x)) (sym gone)
@@ -892,7 +836,7 @@ none_unasked m t disk lun cdb bytes window total a near all none =
       total = all;
       came = data_of_one imm ∙ front ∙ ap (λ (k : ℕ). take k bytes) (let e : length imm ≡ v.sent = omega (arith, zero_) in e);
       sent = omega (arith, zero_, ap (λ (x : List ℕ). length x) front, length-take (length imm) bytes);
-      asked = refl;
+      r2t_count = refl;
       few = omega arith;
     } in
     let silent : unasked_data m bytes ≡ [] = ap (λ (x : List ℕ). sequence (begun_write m) None reserved_tag (length imm) x) uns in
@@ -965,7 +909,7 @@ some_unasked m t disk lun cdb bytes window total a near all more =
       total = all;
       came = all_came_;
       sent = omega (arith, sent_);
-      asked = refl;
+      r2t_count = refl;
       few = omega arith;
     } in
     let is : (let x = proceed reliable (ready t n) disk w in then_stepped x (answers x.machine x.disk (unasked_data m bytes)))
@@ -1003,7 +947,7 @@ few_bytes m lun cdb bytes full e =
     let none : refusal_in m.phase m request ≡ None = unrefused (refusal m request) m request e in
     let when : refusal_when_full m request ≡ None = subst (λ (p : Phase). refusal_in p m request ≡ None) full none in
     ltb-false 4194304 (length bytes)
-    (not_long (is_some m.open_request || is_some m.done) (not (is_within m.cmd_sn m.window.exp.0 m.window.max.0)) (nat_lt 4194304 (length bytes)) when)
+    (not_long (is_some m.outstanding || is_some m.done) (not (is_within m.cmd_sn m.window.exp.0 m.window.max.0)) (nat_lt 4194304 (length bytes)) when)
 
 immediate_short : (on_ : Bool) (size : ℕ) (bytes : List ℕ) → (let x : List ℕ = if on_ then take size bytes else [] in length x ≤ size)
 immediate_short true size bytes = omega (arith, length-take size bytes)
@@ -1020,10 +964,10 @@ first_few m bytes =
     unasked_few (has_more m bytes) (length (immediate m bytes)) (unasked m.held (length bytes)) bytes
     (omega (arith, immediate_short (is_on m.held keys.ImmediateData) (min (unasked m.held (length bytes)) m.held.target_max_recv) bytes))
 
--- A write between two ends that are in step is heard, and comes to the outcome and the disk of its order.
+-- A write between two ends that are in step is received, and comes to the outcome and the disk of its order.
 pub local_write : (m : initiator.Machine) (t : target.Machine) (disk : Disk) (lun : ℕ) (cdb bytes : List ℕ) → lun < 2 ^ 64 → length cdb ≡ 16 → AreBytes cdb
     → AreInStep m t → (submitted m (requests.Out lun cdb bytes)).refusal ≡ None
-    → (let after : Effect = effect disk (writing_order lun cdb bytes) bytes in Begins m.held m t disk (requests.Out lun cdb bytes) (told after.outcome)
+    → (let after : Effect = effect disk (writing_order lun cdb bytes) bytes in Begins m.held m t disk (requests.Out lun cdb bytes) (reported after.outcome)
     after.disk)
 unfolding answers
 local_write m t disk lun cdb bytes on_ size are a e =
@@ -1045,7 +989,7 @@ local_write m t disk lun cdb bytes on_ size are a e =
     } in
     let is_m : (accepted m request).machine ≡ i = λ k. record (begun_write m) {
       phase = a.initiator_phase k;
-      open_request =
+      outstanding =
           Some (opens.Out (first_sent m bytes));
     } in
     let limit : t.session.held.target_max_recv ≤ target_session.limit t.session.settings =
@@ -1092,11 +1036,11 @@ local_write m t disk lun cdb bytes on_ size are a e =
     (sequence_written (begun_write m) None reserved_tag (length (immediate m bytes)) (initiator_writes.unsolicited m bytes) a.is_held all.tag_fits
     all.stat_sn_sends refl tt (omega arith)
     (omega (arith, first_few m bytes, few))) in
-    let ends_ : Ends m.held i r (told after.outcome) after.disk = record { last = x.1.last; leads = x.1.leads; ended = x.1.ended } in
+    let ends_ : Ends m.held i r (reported after.outcome) after.disk = record { last = x.1.last; leads = x.1.leads; ended = x.1.ended } in
     record {
       heard = heard_by m.held t disk (submitted m request).output r is (subst (λ (s : Submitted). ArePlain most s.output) (sym sent) written) x.0.live x.0.rule
           x.0.answered;
-      ends = subst (λ (s : Submitted). Ends m.held s.machine (answers t disk (submitted m request).output) (told after.outcome) after.disk) (sym sent)
-          (subst (λ (k : initiator.Machine). Ends m.held k (answers t disk (submitted m request).output) (told after.outcome) after.disk) (sym is_m)
-          (subst (λ (y : Stepped). Ends m.held i y (told after.outcome) after.disk) (sym is) ends_));
+      ends = subst (λ (s : Submitted). Ends m.held s.machine (answers t disk (submitted m request).output) (reported after.outcome) after.disk) (sym sent)
+          (subst (λ (k : initiator.Machine). Ends m.held k (answers t disk (submitted m request).output) (reported after.outcome) after.disk) (sym is_m)
+          (subst (λ (y : Stepped). Ends m.held i y (reported after.outcome) after.disk) (sym is) ends_));
     }

@@ -1,34 +1,6 @@
 -- A world of a served run, and the bytes that reach its target.
-use Rattle.std.proofs.Common.{
-  ◌≡◌,
-  ◌≢◌,
-  inl,
-  inr,
-  ℕ,
-  Bool,
-  true,
-  false,
-  List,
-  [],
-  ◌∷◌,
-  ◌++◌,
-  length,
-  take,
-  drop,
-  Option,
-  Some,
-  None,
-  Result,
-  Ok,
-  Err,
-  refl,
-  sym,
-  ap,
-  ◌∙◌,
-  subst,
-  append_assoc,
-  arith,
-}
+use Rattle.std.proofs.Common.{◌≡◌, ◌≢◌, inl, inr, ℕ, Bool, true, false, List, [], ◌∷◌, ◌++◌, length, take, drop, Option, Some, None, Result, Ok, Err, refl, sym}
+use Rattle.std.proofs.Common.{ap, ◌∙◌, subst, append_assoc, arith}
 use Rattle.std.specs.Result.{result_err}
 use Rattle.std.proofs.lemmas.List.{append-nil, length-take, take-append-drop, drop_min, nil_from_length}
 use Rattle.std.proofs.Math.Seq.{drop-length}
@@ -40,7 +12,7 @@ use Rattle.iscsi_stream.specs.Segment.{no_login}
 use Rattle.iscsi_stream.specs.Stream.{Message, ReadsAs, after_all}
 use Rattle.iscsi_stream.specs.Canonical.{canon}
 use Rattle.iscsi_stream.specs.Framing.{Framing, HasTaken, FeedFails}
-use Rattle.iscsi_stream.proofs.Ready.{apart}
+use Rattle.iscsi_stream.proofs.ReadyLemmas.{apart}
 use Rattle.iscsi_login.specs.declared.phase.Phase.{Phase}
 use Rattle.iscsi_target.specs.declared.fault.TargetFault.{TargetFault}
 use Rattle.iscsi_target.specs.declared.fault.TargetFault.TheVariants as target_faults
@@ -51,29 +23,19 @@ use Rattle.iscsi_target.specs.Machine as target_machine
 use Rattle.iscsi_target.specs.Machine.{answers, then_stepped, first_rule}
 use Rattle.iscsi_target.specs.Laws.{joined_stepped}
 use Rattle.iscsi_target.specs.Feed as target_calls
-use Rattle.iscsi_target.proofs.Appending.{answers_append}
-use Rattle.iscsi_target.proofs.Joining.{answers_joined}
-use Rattle.iscsi_target.proofs.Feeding.{stands}
+use Rattle.iscsi_target.proofs.AppendLemmas.{answers_append}
+use Rattle.iscsi_target.proofs.JoiningLemmas.{answers_joined}
+use Rattle.iscsi_target.proofs.FeedingLemmas.{stands}
 use Rattle.iscsi_initiator.specs.State as initiator
 use Rattle.iscsi_initiator.specs.State.{is_closed}
 use Rattle.iscsi_initiator.specs.Steps as initiator_steps
 use Rattle.iscsi_initiator.specs.Machine.{step, steps}
 use Rattle.iscsi_initiator.specs.Calls as calls
-use Rattle.iscsi_pair.specs.World.{World, Opening, TargetHears, MovesToTarget, store_of, target_ran_out}
+use Rattle.iscsi_pair.specs.World.{World, Opening, TargetReceives, MovesToTarget, store_of, target_ran_out}
 use Rattle.iscsi_pair.proofs.Request.Invariant.{AreWritten, IsOpenFor, HearsWell, History, Relation, Sends, Goes, IsKept, written_append}
 use Rattle.iscsi_pair.proofs.Login.NoFailure.{both_none}
-use Rattle.iscsi_pair.proofs.Run.QueueReading.{
-  after_all_append,
-  written_parts,
-  refuses_nothing,
-  Unread,
-  Way,
-  MovesOn,
-  moves_on,
-  still_unread,
-  none_more,
-  way_sends,
-}
+use Rattle.iscsi_pair.proofs.Run.QueueReading.{after_all_append, written_parts, refuses_nothing, Unread, Way, MovesOn, moves_on, still_unread, none_more}
+use Rattle.iscsi_pair.proofs.Run.QueueReading.{way_sends}
 
 -- ---- whole messages
 
@@ -101,12 +63,12 @@ unfolding answers
 open_later t disk [] more p = p
 open_later t disk (m ∷ ms) more p = open_later (target_machine.step t disk m).machine (target_machine.step t disk m).disk ms more p.1
 
--- a session that is over hears none of them
+-- a session that is over receives none of them
 pub open_none : (t : target.Machine) (disk : Disk) (ms : List Message) → IsOpenFor t disk ms → target_machine.is_closed t ≡ true → ms ≡ []
 open_none t disk [] p over = refl
 open_none t disk (m ∷ ms) p over = absurd (apart over p.0)
 
--- What both ends keep, where the target has yet to hear these messages and the initiator those.
+-- What both ends keep, where the target has yet to receive these messages and the initiator those.
 pub record Talks (most : ℕ) (P : Relation) (i : initiator.Machine) (t : target.Machine) (disk : Disk) (out back : List Message) (there here : Logins)
     (h : History) : Type 0 where
   pub heard : HearsWell most t disk here out
@@ -137,14 +99,14 @@ talk_on most_out most P i t disk out more back there here h heard s =
           (sym (after_all_append here a.answers b.answers)) s.kept));
     }
 
--- what holds where the target has heard the first of them
+-- what holds where the target has received the first of them
 record HasHeard (most : ℕ) (P : Relation) (i : initiator.Machine) (r : target.Stepped) (out back : List Message) (there here : Logins) (h : History)
     : Type 0 where
   rule : r.rule ≡ None
   written : AreWritten most here r.answers
   talks : Talks most P i r.machine r.disk out (back ++ r.answers) there (after_all here r.answers) h
 
--- the target hears the first of them
+-- the target receives the first of them
 target_heard : (most : ℕ) (P : Relation) (i : initiator.Machine) (t : target.Machine) (disk : Disk) (new left back : List Message) (there here : Logins)
     (h : History)
     → Talks most P i t disk (new ++ left) back there here h → HasHeard most P i (answers t disk new) left back there here h
@@ -181,7 +143,7 @@ over_none most_out most P k i t disk out back there here h s over =
     let a : target.Stepped = answers t disk out in
     (both_none back a.answers (none_comes most_out most P k i a.machine a.disk (back ++ a.answers) there (after_all here a.answers) h s.kept over)).0
 
--- what holds where the initiator has heard some of them
+-- what holds where the initiator has received some of them
 pub record HearsOn (most_out most : ℕ) (P : Relation) (r : initiator_steps.Stepped) (t : target.Machine) (disk : Disk) (out left : List Message)
     (there here : Logins) (h : History) : Type 0 where
   pub fault : r.fault ≡ None
@@ -217,7 +179,7 @@ hears_if false most_out most P k i t disk out m new left there here h is fault w
           r.talks);
     })
 
--- the initiator hears the first of them
+-- the initiator receives the first of them
 pub initiator_heard : (most_out most : ℕ) (P : Relation) → IsKept most_out most P
     → (i : initiator.Machine) (t : target.Machine) (disk : Disk) (out new left : List Message) (there here : Logins) (h : History)
     → Talks most P i t disk out (new ++ left) there here h → HearsOn most_out most P (steps i new) t disk out left there here h
@@ -242,7 +204,7 @@ pub record Stands (c : Opening) (P : Relation) (h : History) (w : World) : Type 
   -- the target's session, its writes in the pieces that came
   pub session : target.Machine
   pub disk : Disk
-  -- what the target has yet to hear, and the initiator
+  -- what the target has yet to receive, and the initiator
   pub out : List Message
   pub back : List Message
   -- what the login PDUs said, those included that are on their way
@@ -400,7 +362,7 @@ target_ends (Err target_faults.Closed) c P h old new v n moved more r t e fault 
 -- bytes reached the target
 target_hears : (c : Opening) (P : Relation) (h : History) (old new : World) (k : ℕ) (byte : ℕ) (bytes : List ℕ) → Keeps c P → Stands c P h old
     → byte ∷ bytes ≡ take k old.to_target
-    → TargetHears (byte ∷ bytes) old new → target_ran_out new.target_fault ≡ false → Stands c P h new
+    → TargetReceives (byte ∷ bytes) old new → target_ran_out new.target_fault ≡ false → Stands c P h new
 target_hears c P h old new k byte bytes kept s m e memory =
     elim s.to_target [
       | inl on ↦

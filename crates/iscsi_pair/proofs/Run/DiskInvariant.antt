@@ -1,30 +1,6 @@
 -- What two ends keep that suit each other: the login, and then one request after another on one disk.
-use Rattle.std.proofs.Common.{
-  ◌≡◌,
-  ◌⊎◌,
-  inl,
-  inr,
-  ◌≤◌,
-  ℕ,
-  zero,
-  suc,
-  true,
-  false,
-  List,
-  [],
-  ◌∷◌,
-  ◌++◌,
-  length,
-  Option,
-  Some,
-  None,
-  refl,
-  sym,
-  ap,
-  ◌∙◌,
-  subst,
-  arith,
-}
+use Rattle.std.proofs.Common.{◌≡◌, ◌⊎◌, inl, inr, ◌≤◌, ℕ, zero, suc, true, false, List, [], ◌∷◌, ◌++◌, length, Option, Some, None, refl, sym, ap, ◌∙◌, subst}
+use Rattle.std.proofs.Common.{arith}
 use Rattle.std.specs.Prelude.{is_some}
 use Rattle.std.proofs.lemmas.List.{append-nil}
 use Rattle.scsi_disk.specs.Disk.{Disk, disk_of}
@@ -38,7 +14,7 @@ use Rattle.iscsi_target_session.specs.Session as target_session
 use Rattle.iscsi_target.specs.State as target
 use Rattle.iscsi_target.specs.Machine as target_machine
 use Rattle.iscsi_target.specs.Machine.{answers}
-use Rattle.iscsi_target.proofs.Continuing.{then_nothing}
+use Rattle.iscsi_target.proofs.ContinuationLemmas.{then_nothing}
 use Rattle.iscsi_initiator.specs.declared.request.Done.{Done}
 use Rattle.iscsi_initiator.specs.declared.request.Done.TheVariants as done
 use Rattle.iscsi_initiator.specs.declared.request.Request.{Request}
@@ -53,7 +29,7 @@ use Rattle.iscsi_initiator.specs.Login.{start_step}
 use Rattle.iscsi_initiator.specs.Machine.{step, taken}
 use Rattle.iscsi_initiator.specs.Submitted.{submitted}
 use Rattle.iscsi_pair.specs.World.{Opening}
-use Rattle.iscsi_pair.specs.LocalDisk.{AreAtRest, AreInStep, HasEnded, HaveParted, Local, Stand, local, local_disk, local_outcomes}
+use Rattle.iscsi_pair.specs.LocalDisk.{AreAtRest, AreInStep, HasEnded, HaveParted, Local, Exchange, local, local_disk, local_outcomes}
 use Rattle.iscsi_pair.specs.Served.{EndsInLogout, IsNormal, IsServed, disk_after, disk_outcomes}
 use Rattle.iscsi_pair.proofs.Login.RoundAgrees.{Asking, Asks_on, Round, asking_readable, asking_short, first_asks, round}
 use Rattle.iscsi_pair.proofs.Login.RoundProgress.{Suited, Well, first_suited, goes_well}
@@ -124,7 +100,7 @@ pub record IsServing (c : Opening) (i : initiator.Machine) (t : target.Machine) 
   pub request : Request
   pub requests_are : h.requests ≡ past ++ request ∷ []
   pub outcomes_are : h.outcomes ≡ disk_outcomes c past
-  pub last : Stand
+  pub last : Exchange
   pub leads : LeadsTo held i t disk back last
   pub ended : (let here = local (pinged c) (disk_after c past) request in HasEnded held here.outcome here.disk last)
 
@@ -270,7 +246,7 @@ login_goes c i t disk m back there here h o l =
 serving_goes : (n : ℕ) (c : Opening) (i : initiator.Machine) (t : target.Machine) (disk : Disk) (m : Message) (back : List Message) (there here : Logins)
     (h : History) (v : IsServing c i t disk (m ∷ back) h) → Leads v.held n i t disk (m ∷ back) v.last
     → Goes (most_out c) (most_back c) (Serves c) i t disk m back there here h
-serving_goes zero c i t disk m back there here h v l = absurd (let bad : m ∷ back ≡ [] = ap (λ (x : Stand). x.answers) l ∙ v.ended.silent in cc)
+serving_goes zero c i t disk m back there here h v l = absurd (let bad : m ∷ back ≡ [] = ap (λ (x : Exchange). x.answers) l ∙ v.ended.silent in cc)
 serving_goes (suc n) c i t disk m back there here h v l =
     let s : Stepped = step i m in
     record {
@@ -328,7 +304,7 @@ parted_accepts i request shut e = (let bad : phases.Closed ≡ phases.Full = sym
 serving_accepts : (n : ℕ) (c : Opening) (i : initiator.Machine) (t : target.Machine) (disk : Disk) (back : List Message) (h : History) (request : Request)
     (v : IsServing c i t disk back h) → Leads v.held n i t disk back v.last → (submitted i request).refusal ≡ None → ⊥
 serving_accepts zero c i t disk back h request v l e =
-    (let bad : true ≡ false = ap (λ (o : Option Done). is_some o) (sym v.ended.done_is) ∙ ap (λ (x : Stand). is_some x.initiator.done) (sym l)
+    (let bad : true ≡ false = ap (λ (o : Option Done). is_some o) (sym v.ended.done_is) ∙ ap (λ (x : Exchange). is_some x.initiator.done) (sym l)
     ∙ (is_free i request e).none_done in cc)
 serving_accepts (suc n) c i t disk [] h request v l e = absurd l
 serving_accepts (suc n) c i t disk (m ∷ back) h request v l e = (let bad : true ≡ false = sym l.0.busy ∙ (is_free i request e).none_open in cc)
@@ -365,12 +341,12 @@ serving_done : (n : ℕ) (c : Opening) (i : initiator.Machine) (t : target.Machi
     → IsDone c v.held i t disk back h d
 serving_done zero c i t disk back h d v l is =
     let here : Local = local (pinged c) (disk_after c v.past) v.request in
-    let one : here.outcome ≡ d = (let e : Some here.outcome ≡ Some d = sym v.ended.done_is ∙ ap (λ (x : Stand). x.initiator.done) (sym l) ∙ is in cc) in
+    let one : here.outcome ≡ d = (let e : Some here.outcome ≡ Some d = sym v.ended.done_is ∙ ap (λ (x : Exchange). x.initiator.done) (sym l) ∙ is in cc) in
     record {
-      silent = ap (λ (x : Stand). x.answers) l ∙ v.ended.silent;
+      silent = ap (λ (x : Exchange). x.answers) l ∙ v.ended.silent;
       settled = settles c v.held h v.past v.request (taken i) t v.requests_are
-          (subst (λ (x : Stand). AreAtRest v.held here.outcome (taken x.initiator) x.target) (sym l) v.ended.at_rest);
-      disk_is = ap (λ (x : Stand). x.disk) l ∙ v.ended.disk_is ∙ sym (disk_more (pinged c) (disk_of c.blocks) v.past v.request)
+          (subst (λ (x : Exchange). AreAtRest v.held here.outcome (taken x.initiator) x.target) (sym l) v.ended.at_rest);
+      disk_is = ap (λ (x : Exchange). x.disk) l ∙ v.ended.disk_is ∙ sym (disk_more (pinged c) (disk_of c.blocks) v.past v.request)
           ∙ ap (disk_after c) (sym v.requests_are);
       outcomes_are = ap (λ (x : List Done). x ++ d ∷ []) v.outcomes_are ∙ ap (λ (x : Done). disk_outcomes c v.past ++ x ∷ []) (sym one)
           ∙ sym (outcomes_more (pinged c) (disk_of c.blocks) v.past v.request) ∙ ap (disk_outcomes c) (sym v.requests_are);
@@ -459,7 +435,7 @@ idle_serving : (n : ℕ) (c : Opening) (i : initiator.Machine) (t : target.Machi
     → Leads v.held n i t disk [] v.last → IsIdle c i t disk h
 idle_serving zero c i t disk h v l =
     let d : Done = (local (pinged c) (disk_after c v.past) v.request).outcome in
-    let is : i.done ≡ Some d = ap (λ (x : Stand). x.initiator.done) l ∙ v.ended.done_is in
+    let is : i.done ≡ Some d = ap (λ (x : Exchange). x.initiator.done) l ∙ v.ended.done_is in
     let e : IsDone c v.held i t disk [] h d = serving_done zero c i t disk [] h d v l is in
     record { held = v.held; at_rest = e.settled; disk_is = e.disk_is; outcomes_are = ap (λ (o : Option Done). h.outcomes ++ listed o) is ∙ e.outcomes_are }
 idle_serving (suc n) c i t disk h v l = absurd l

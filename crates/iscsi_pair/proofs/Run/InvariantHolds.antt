@@ -1,33 +1,6 @@
 -- What both ends keep on whole messages holds in every world of a served run, however the bytes are cut.
-use Rattle.std.proofs.Common.{
-  ◌≡◌,
-  ◌≢◌,
-  inl,
-  inr,
-  ℕ,
-  Bool,
-  true,
-  false,
-  List,
-  [],
-  ◌∷◌,
-  ◌++◌,
-  length,
-  take,
-  drop,
-  Option,
-  Some,
-  None,
-  Result,
-  Ok,
-  Err,
-  refl,
-  sym,
-  ap,
-  ◌∙◌,
-  subst,
-  append_assoc,
-}
+use Rattle.std.proofs.Common.{◌≡◌, ◌≢◌, inl, inr, ℕ, Bool, true, false, List, [], ◌∷◌, ◌++◌, length, take, drop, Option, Some, None, Result, Ok, Err, refl, sym}
+use Rattle.std.proofs.Common.{ap, ◌∙◌, subst, append_assoc}
 use Rattle.std.specs.Result.{result_err}
 use Rattle.std.proofs.lemmas.Bool.{or_parts}
 use Rattle.std.proofs.lemmas.List.{append-nil}
@@ -39,8 +12,8 @@ use Rattle.iscsi_stream.specs.Segment.{no_login, after}
 use Rattle.iscsi_stream.specs.Stream.{Message, ReadsAs, after_all}
 use Rattle.iscsi_stream.specs.Canonical.{canon}
 use Rattle.iscsi_stream.specs.Framing.{Framing, HasTaken, FeedFails, is_ready}
-use Rattle.iscsi_stream.proofs.Taking.{at_opening}
-use Rattle.iscsi_stream.proofs.Ready.{apart, not_whole-nil}
+use Rattle.iscsi_stream.proofs.TakingLemmas.{at_opening}
+use Rattle.iscsi_stream.proofs.ReadyLemmas.{apart, not_whole-nil}
 use Rattle.iscsi_login.specs.declared.phase.Phase.{Phase}
 use Rattle.iscsi_target_session.specs.Session as target_session
 use Rattle.iscsi_target.specs.State as target
@@ -63,48 +36,18 @@ use Rattle.iscsi_initiator.specs.Machine.{steps, taken}
 use Rattle.iscsi_initiator.specs.Submitted.{submitted, accepted, or_accepted, refusal}
 use Rattle.iscsi_initiator.specs.Laws.{listed}
 use Rattle.iscsi_initiator.specs.Calls as calls
-use Rattle.iscsi_initiator.specs.Calls.{heard_steps}
+use Rattle.iscsi_initiator.specs.Calls.{received_steps}
 use Rattle.iscsi_pair.specs.declared.step.EndFault.{EndFault}
 use Rattle.iscsi_pair.specs.declared.step.EndFault.TheVariants as ends
-use Rattle.iscsi_pair.specs.World.{
-  World,
-  Opening,
-  Event,
-  ToTarget,
-  ToInitiator,
-  Submits,
-  Takes,
-  InitiatorHears,
-  MovesToInitiator,
-  Asks,
-  Happens,
-  new_pair,
-  feed_fault,
-  submit_fault,
-  target_ran_out,
-  initiator_ran_out,
-  keeps_no_memory,
-}
-use Rattle.iscsi_pair.specs.Served.{IsServed, IsAccepted, RunsServed, asked, asked_in, given_in}
+use Rattle.iscsi_pair.specs.World.{World, Opening, Event, ToTarget, ToInitiator, Submits, Takes, InitiatorReceives, MovesToInitiator, Asks, Happens, new_pair}
+use Rattle.iscsi_pair.specs.World.{feed_fault, submit_fault, target_ran_out, initiator_ran_out, keeps_no_memory}
+use Rattle.iscsi_pair.specs.Served.{IsServed, IsAccepted, RunsServed, requests_of, requests_in, given_in}
 use Rattle.iscsi_pair.proofs.Login.NoFailure.{both_none}
 use Rattle.iscsi_pair.proofs.Ends.InitiatorRun.{begun, begun_open}
 use Rattle.iscsi_pair.proofs.Request.Invariant.{AreWritten, History, Relation, Sends, IsKept}
 use Rattle.iscsi_pair.proofs.Run.QueueReading.{written_reads, refuses_nothing, Unread, Way, MovesOn, moves_on, still_unread, none_more, way_sends, way_none}
-use Rattle.iscsi_pair.proofs.Run.CarriedBytes.{
-  open_none,
-  Talks,
-  talk_on,
-  HearsOn,
-  initiator_heard,
-  over_none,
-  Stands,
-  Keeps,
-  talks_of,
-  no_bytes,
-  front_moves,
-  some_moves,
-  to_target,
-}
+use Rattle.iscsi_pair.proofs.Run.CarriedBytes.{open_none, Talks, talk_on, HearsOn, initiator_heard, over_none, Stands, Keeps, talks_of, no_bytes, front_moves}
+use Rattle.iscsi_pair.proofs.Run.CarriedBytes.{some_moves, to_target}
 
 -- ---- bytes reach the initiator
 
@@ -133,8 +76,8 @@ target_way c P h old s most i more back there here g talks written =
 -- a call of the initiator is such a turn
 initiator_turn : (c : Opening) (P : Relation) (h : History) (old : World) (k : ℕ) (moved : List ℕ) → Keeps c P → (s : Stands c P h old)
     → Unread (calls.limit c.initiator) old.initiator.framing old.to_initiator s.back s.here → moved ≡ take k old.to_initiator
-    → (f : calls.Heard old.initiator moved)
-    → InitiatorTurn c P h old s f.framing (drop f.count moved) (drop (length moved) old.to_initiator) (heard_steps old.initiator moved f)
+    → (f : calls.Received old.initiator moved)
+    → InitiatorTurn c P h old s f.framing (drop f.count moved) (drop (length moved) old.to_initiator) (received_steps old.initiator moved f)
 initiator_turn c P h old k moved kept s u m f =
     let r : initiator_steps.Stepped = steps old.initiator.machine f.messages in
     let piece : List ℕ = take f.count moved in
@@ -207,13 +150,13 @@ initiator_stands c P h g old new s i output left e talks there back = record {
 
 -- a turn that goes on
 goes_on : (c : Opening) (P : Relation) (h : History) (old new : World) (moved : List ℕ) (phase : Phase) → (s : Stands c P h old)
-    → (f : calls.Heard old.initiator moved)
-    → InitiatorTurn c P h old s f.framing (drop f.count moved) (drop (length moved) old.to_initiator) (heard_steps old.initiator moved f)
-    → calls.HearsAll old.initiator moved f new.initiator old.to_target new.to_target phase → new.target_fault ≡ None → new.initiator_fault ≡ None
+    → (f : calls.Received old.initiator moved)
+    → InitiatorTurn c P h old s f.framing (drop f.count moved) (drop (length moved) old.to_initiator) (received_steps old.initiator moved f)
+    → calls.ReceivesAll old.initiator moved f new.initiator old.to_target new.to_target phase → new.target_fault ≡ None → new.initiator_fault ≡ None
     → new.target ≡ old.target → new.blocks ≡ old.blocks
     → new.to_initiator ≡ drop (length moved) old.to_initiator → Stands c P h new
 goes_on c P h old new moved phase s f t e there well target_ blocks dropped =
-    let r : initiator_steps.Stepped = heard_steps old.initiator moved f in
+    let r : initiator_steps.Stepped = received_steps old.initiator moved f in
     initiator_stands c P h h old new s r.machine r.output t.left
     (record {
       target_well = there;
@@ -232,13 +175,13 @@ goes_on c P h old new moved phase s f t e there well target_ blocks dropped =
 
 -- a turn that closes the session
 closes : (c : Opening) (P : Relation) (h : History) (old new : World) (moved : List ℕ) (fault : Option InitiatorFault) → (s : Stands c P h old)
-    → (f : calls.Heard old.initiator moved)
-    → InitiatorTurn c P h old s f.framing (drop f.count moved) (drop (length moved) old.to_initiator) (heard_steps old.initiator moved f)
+    → (f : calls.Received old.initiator moved)
+    → InitiatorTurn c P h old s f.framing (drop f.count moved) (drop (length moved) old.to_initiator) (received_steps old.initiator moved f)
     → calls.ClosesAt old.initiator moved f new.initiator old.to_target new.to_target fault → new.target_fault ≡ None → new.initiator_fault ≡ None
     → new.target ≡ old.target → new.blocks ≡ old.blocks
     → new.to_initiator ≡ drop (length moved) old.to_initiator → Stands c P h new
 closes c P h old new moved fault s f t e there well target_ blocks dropped =
-    let r : initiator_steps.Stepped = heard_steps old.initiator moved f in
+    let r : initiator_steps.Stepped = received_steps old.initiator moved f in
     let none = t.none e.closes in
     initiator_stands c P h h old new s r.machine r.output t.left
     (record { target_well = there; initiator_well = well; target = target_; blocks = blocks; initiator = e.machine; queue = e.output }) t.talks t.to_target
@@ -246,15 +189,15 @@ closes c P h old new moved fault s f t e there well target_ blocks dropped =
 
 -- no message of a turn leads to a fault
 not_caused : (c : Opening) (P : Relation) (h : History) (old : World) (moved : List ℕ) (fault : InitiatorFault) (new : calls.Connection) (after : List ℕ)
-    → (s : Stands c P h old) → (f : calls.Heard old.initiator moved)
-    → InitiatorTurn c P h old s f.framing (drop f.count moved) (drop (length moved) old.to_initiator) (heard_steps old.initiator moved f)
+    → (s : Stands c P h old) → (f : calls.Received old.initiator moved)
+    → InitiatorTurn c P h old s f.framing (drop f.count moved) (drop (length moved) old.to_initiator) (received_steps old.initiator moved f)
     → calls.ClosesAt old.initiator moved f new old.to_target after (Some fault) → ⊥
 not_caused c P h old moved fault new after s f t e = (let bad : None ≡ Some fault = sym t.fault ∙ e.cause in absurd cc)
 
 -- what the calls of an initiator read
 abbrev Turns : (c : Opening) (P : Relation) (h : History) (old : World) → Stands c P h old → List ℕ → Type 0
-Turns c P h old s moved = (f : calls.Heard old.initiator moved) → InitiatorTurn c P h old s f.framing (drop f.count moved)
-    (drop (length moved) old.to_initiator) (heard_steps old.initiator moved f)
+Turns c P h old s moved = (f : calls.Received old.initiator moved) → InitiatorTurn c P h old s f.framing (drop f.count moved)
+    (drop (length moved) old.to_initiator) (received_steps old.initiator moved f)
 
 -- the framer refuses nothing
 stream_fails : (fault : StreamFault) (c : Opening) (P : Relation) (h : History) (old : World) (moved : List ℕ) (new : calls.Connection) (after : List ℕ)
@@ -292,7 +235,7 @@ initiator_ends (Err faults.Closed) c P h old new moved s t live e fault memory t
 -- bytes reached the initiator
 initiator_hears : (c : Opening) (P : Relation) (h : History) (old new : World) (k : ℕ) (byte : ℕ) (bytes : List ℕ) → Keeps c P → Stands c P h old
     → byte ∷ bytes ≡ take k old.to_initiator
-    → InitiatorHears (byte ∷ bytes) old new → initiator_ran_out new.initiator_fault ≡ false → Stands c P h new
+    → InitiatorReceives (byte ∷ bytes) old new → initiator_ran_out new.initiator_fault ≡ false → Stands c P h new
 initiator_hears c P h old new k byte bytes kept s m e memory =
     elim s.to_initiator [
       | inl on ↦
@@ -453,7 +396,7 @@ nothing_later c P h w s = same_history c P h w (h.requests ++ []) (h.outcomes ++
 -- one event
 happens : (c : Opening) (P : Relation) (h : History) (old : World) (event : Event) (new : World) → Keeps c P → Stands c P h old → Happens old event new
     → IsAccepted event old → keeps_no_memory new ≡ false
-    → Stands c P (later_history h (asked_in event) (given_in event old)) new
+    → Stands c P (later_history h (requests_in event) (given_in event old)) new
 happens c P h old (ToTarget n) new k s e accepted_ memory =
     nothing_later c P h new (to_target old.target_fault (take n old.to_target) c P h old new n k s s.target_well refl e
     (or_parts (target_ran_out new.target_fault) (initiator_ran_out new.initiator_fault) memory).0)
@@ -473,15 +416,15 @@ happens c P h old Takes new k s e accepted_ memory =
 -- and any number of them
 pub more : (c : Opening) (P : Relation) (h : History) (old : World) (events : List Event) (new : World) (later : List Done)
     → IsKept (target_session.limit c.target) (calls.limit c.initiator) P → Stands c P h old
-    → RunsServed old events new later → Stands c P (record { requests = h.requests ++ asked events; outcomes = h.outcomes ++ later }) new
+    → RunsServed old events new later → Stands c P (record { requests = h.requests ++ requests_of events; outcomes = h.outcomes ++ later }) new
 unfolding RunsServed
 more c P h old [] new later k s r =
     same_history c P h new (h.requests ++ []) (h.outcomes ++ later) (sym (append-nil h.requests)) (sym (append-nil h.outcomes)
     ∙ ap (λ (x : List Done). h.outcomes ++ x) (sym r.1)) (subst (Stands c P h) (sym r.0) s)
 more c P h old (event ∷ events) new later k s r =
-    let g : History = later_history h (asked_in event) (given_in event old) in
-    same_history c P (later_history g (asked events) r.1) new (h.requests ++ (asked_in event ++ asked events)) (h.outcomes ++ later)
-    (append_assoc h.requests (asked_in event) (asked events))
+    let g : History = later_history h (requests_in event) (given_in event old) in
+    same_history c P (later_history g (requests_of events) r.1) new (h.requests ++ (requests_in event ++ requests_of events)) (h.outcomes ++ later)
+    (append_assoc h.requests (requests_in event) (requests_of events))
     (append_assoc h.outcomes (given_in event old) r.1 ∙ ap (λ (x : List Done). h.outcomes ++ x) (sym r.5))
     (more c P g r.0 events new r.1 k (happens c P h old event r.0 k s r.2 r.3 r.4) r.6)
 
@@ -538,7 +481,7 @@ pub carried : (c : Opening) (P : Relation) → IsKept (target_session.limit c.ta
     → Sends (target_session.limit c.target) (calls.limit c.initiator) P (begun c) (start_step (initiator.opening c.initiator)).output
     (target.opening c.target c.first_stat_sn) (disk_of c.blocks) [] no_login no_login (record { requests = []; outcomes = [] })
     → (events : List Event) (w : World) (outcomes : List Done) → RunsServed (new_pair c) events w outcomes
-    → Stands c P (record { requests = asked events; outcomes = outcomes }) w
+    → Stands c P (record { requests = requests_of events; outcomes = outcomes }) w
 carried c P k s events w outcomes r = more c P (record { requests = []; outcomes = [] }) (new_pair c) events w outcomes k (opening_stands c P s) r
 
 -- where nothing is queued nothing waits, in parts or whole

@@ -4,23 +4,8 @@ use Rattle.std.proofs.lemmas.Bool.{or_from, or_parts}
 use Rattle.iscsi_target.specs.declared.fault.TargetFault.{TargetFault}
 use Rattle.iscsi_initiator.specs.declared.request.Request.{Request}
 use Rattle.iscsi_pair.specs.declared.step.EndFault.{EndFault}
-use Rattle.iscsi_pair.specs.World.{
-  World,
-  Event,
-  ToTarget,
-  ToInitiator,
-  Submits,
-  Takes,
-  Happens,
-  Runs,
-  RunsCalmly,
-  MovesToTarget,
-  MovesToInitiator,
-  Asks,
-  target_ran_out,
-  initiator_ran_out,
-  keeps_no_memory,
-}
+use Rattle.iscsi_pair.specs.World.{World, Event, ToTarget, ToInitiator, Submits, Takes, Happens, Runs, RunsCalmly, MovesToTarget, MovesToInitiator, Asks}
+use Rattle.iscsi_pair.specs.World.{target_ran_out, initiator_ran_out, keeps_no_memory}
 
 -- the first fault of an end stays
 record Stay (old new : World) : Type 0 where

@@ -3,13 +3,13 @@ use Rattle.std.proofs.Common.{◌≡◌, ◌<◌, ℕ, List, [], ◌∷◌, ◌+
 use Rattle.std.proofs.lemmas.List.{length-take, take_min, map-append}
 use Rattle.iscsi_pair.specs.declared.step.EndFault.{EndFault}
 use Rattle.iscsi_pair.specs.declared.step.Step.{Step}
-use Rattle.iscsi_pair.specs.World.{World, Event, ToInitiator, InitiatorHears, MovesToInitiator, Happens, Runs, event_of}
+use Rattle.iscsi_pair.specs.World.{World, Event, ToInitiator, InitiatorReceives, MovesToInitiator, Happens, Runs, event_of}
 
 pub is_none : {A : Type 0} → (x : Option A) → is_some x ≡ false → x ≡ None
 is_none None e = refl
 is_none (Some x) e = absurd (cc)
 
-some_move : (fault : Option EndFault) (moved : List ℕ) (old new : World) → fault ≡ None → 0 < length moved → InitiatorHears moved old new
+some_move : (fault : Option EndFault) (moved : List ℕ) (old new : World) → fault ≡ None → 0 < length moved → InitiatorReceives moved old new
     → MovesToInitiator fault moved old new
 some_move None [] old new none some h = absurd (omega arith)
 some_move None (byte ∷ bytes) old new none some h = h
@@ -17,11 +17,11 @@ some_move (Some fault) moved old new none some h = absurd (cc)
 
 -- the initiator took the first bytes of its queue
 pub initiator_took : (old new : World) (k n : ℕ) → old.initiator_fault ≡ None → n ≡ min k (length old.to_initiator) → 0 < n
-    → InitiatorHears (take n old.to_initiator) old new → Happens old (ToInitiator k) new
+    → InitiatorReceives (take n old.to_initiator) old new → Happens old (ToInitiator k) new
 initiator_took old new k n none n_is some h =
     let e : take n old.to_initiator ≡ take k old.to_initiator = ap (λ (i : ℕ). take i old.to_initiator) n_is ∙ take_min k old.to_initiator in
     let l : length (take k old.to_initiator) ≡ n = length-take k old.to_initiator ∙ sym n_is in
-    some_move old.initiator_fault (take k old.to_initiator) old new none (rw l some) (subst (λ (moved : List ℕ). InitiatorHears moved old new) e h)
+    some_move old.initiator_fault (take k old.to_initiator) old new none (rw l some) (subst (λ (moved : List ℕ). InitiatorReceives moved old new) e h)
 
 pub runs_none : (w : World) → Runs w [] w
 unfolding Runs

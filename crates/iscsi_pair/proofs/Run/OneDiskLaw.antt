@@ -14,7 +14,7 @@ use Rattle.iscsi_initiator.specs.Machine.{taken}
 use Rattle.iscsi_initiator.specs.State as initiator
 use Rattle.iscsi_pair.specs.World.{Event, Opening, World, new_pair}
 use Rattle.iscsi_pair.specs.LocalDisk.{AreInStep}
-use Rattle.iscsi_pair.specs.Served.{AreAtEnd, IsNormal, RunsServed, asked, disk_after, disk_outcomes}
+use Rattle.iscsi_pair.specs.Served.{AreAtEnd, IsNormal, RunsServed, requests_of, disk_after, disk_outcomes}
 use Rattle.iscsi_pair.proofs.Request.Invariant.{History}
 use Rattle.iscsi_pair.proofs.Run.CarriedBytes.{Stands}
 use Rattle.iscsi_pair.proofs.Run.InvariantHolds.{carried, none_waits}
@@ -22,14 +22,14 @@ use Rattle.iscsi_pair.proofs.Run.DiskInvariant.{AreFirst, AreSettled, IsIdle, Se
 
 -- what was asked and taken in these events
 abbrev history : List Event → List Done → History
-history events outcomes = record { requests = asked events; outcomes = outcomes }
+history events outcomes = record { requests = requests_of events; outcomes = outcomes }
 
 pub served : (c : Opening) (events : List Event) (w : World) (outcomes : List Done) → IsNormal c → RunsServed (new_pair c) events w outcomes
-    → Stands c (Serves c) (record { requests = asked events; outcomes = outcomes }) w
+    → Stands c (Serves c) (record { requests = requests_of events; outcomes = outcomes }) w
 served c events w outcomes n r = carried c (Serves c) (serves_kept c n) (first_sends c n) events w outcomes r
 
 pub taken_first : (c : Opening) (events : List Event) (w : World) (outcomes : List Done) → IsNormal c → RunsServed (new_pair c) events w outcomes
-    → (later : List Done) × (length later ≤ 1) × (outcomes ++ later ≡ disk_outcomes c (asked events))
+    → (later : List Done) × (length later ≤ 1) × (outcomes ++ later ≡ disk_outcomes c (requests_of events))
 taken_first c events w outcomes n r =
     let s : Stands c (Serves c) (history events outcomes) w = served c events w outcomes n r in
     let f : AreFirst c (history events outcomes) =
@@ -69,7 +69,7 @@ still c events w outcomes n r p q =
     }
 
 pub idle_none : (c : Opening) (events : List Event) (w : World) (outcomes : List Done) → IsNormal c → RunsServed (new_pair c) events w outcomes
-    → w.to_target ≡ [] → w.to_initiator ≡ [] → w.initiator.machine.open_request ≡ None
+    → w.to_target ≡ [] → w.to_initiator ≡ [] → w.initiator.machine.outstanding ≡ None
 idle_none c events w outcomes n r p q =
     elim (still c events w outcomes n r p q).is_idle.at_rest [
       | inl on_ ↦ on_.0.none_open
@@ -78,7 +78,7 @@ idle_none c events w outcomes n r p q =
 
 pub idle_whole : (c : Opening) (events : List Event) (w : World) (outcomes : List Done) → IsNormal c → RunsServed (new_pair c) events w outcomes
     → w.to_target ≡ [] → w.to_initiator ≡ []
-    → (outcomes ++ listed w.initiator.machine.done ≡ disk_outcomes c (asked events)) × (disk_of w.blocks ≡ disk_after c (asked events))
+    → (outcomes ++ listed w.initiator.machine.done ≡ disk_outcomes c (requests_of events)) × (disk_of w.blocks ≡ disk_after c (requests_of events))
 idle_whole c events w outcomes n r p q =
     let i = (still c events w outcomes n r p q).is_idle in (i.outcomes_are, i.disk_is)
 
@@ -95,8 +95,8 @@ joined_ends held h i t rest =
 
 pub idle_rests : (c : Opening) (events : List Event) (w : World) (outcomes : List Done) → IsNormal c → RunsServed (new_pair c) events w outcomes
     → w.to_target ≡ [] → w.to_initiator ≡ []
-    → AreAtEnd (asked events) (taken w.initiator.machine) w.target.machine
+    → AreAtEnd (requests_of events) (taken w.initiator.machine) w.target.machine
 idle_rests c events w outcomes n r p q =
     let s = still c events w outcomes n r p q in
-    subst (AreAtEnd (asked events) (taken w.initiator.machine)) (sym s.machine) (joined_ends s.is_idle.held (history events outcomes)
+    subst (AreAtEnd (requests_of events) (taken w.initiator.machine)) (sym s.machine) (joined_ends s.is_idle.held (history events outcomes)
     (taken w.initiator.machine) s.session s.is_idle.at_rest)

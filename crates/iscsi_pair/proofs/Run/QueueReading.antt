@@ -1,34 +1,11 @@
 -- What is on its way to one end, read in parts, however the bytes are cut.
-use Rattle.std.proofs.Common.{
-  ◌≡◌,
-  ◌≢◌,
-  ◌≤◌,
-  ◌⊎◌,
-  inl,
-  inr,
-  ℕ,
-  Bool,
-  true,
-  false,
-  List,
-  [],
-  ◌∷◌,
-  ◌++◌,
-  length,
-  take,
-  refl,
-  sym,
-  ap,
-  ◌∙◌,
-  subst,
-  append_assoc,
-  arith,
-}
+use Rattle.std.proofs.Common.{◌≡◌, ◌≢◌, ◌≤◌, ◌⊎◌, inl, inr, ℕ, Bool, true, false, List, [], ◌∷◌, ◌++◌, length, take, refl, sym, ap, ◌∙◌, subst, append_assoc}
+use Rattle.std.proofs.Common.{arith}
 use Rattle.std.proofs.lemmas.List.{append-nil, append_cancel_left, length-append}
 use Rattle.std.proofs.lemmas.List.Concat.{flat_map-cons}
 use Rattle.iscsi_pdu.specs.declared.head.Head.{Head}
 use Rattle.iscsi_pdu.specs.Meaning.{IsHeader, fault_of}
-use Rattle.iscsi_pdu.proofs.Headers.{IsHeader-unique}
+use Rattle.iscsi_pdu.proofs.HeaderLemmas.{IsHeader-unique}
 use Rattle.iscsi_stream.specs.declared.fault.StreamFault.{StreamFault}
 use Rattle.iscsi_stream.specs.declared.fault.StreamFault.TheVariants as stream
 use Rattle.iscsi_stream.specs.declared.logins.Logins.{Logins}
@@ -36,10 +13,10 @@ use Rattle.iscsi_stream.specs.Segment.{no_login, continues, after, segment_of, s
 use Rattle.iscsi_stream.specs.Stream.{Message, ReadsAs, after_all, NoPdu}
 use Rattle.iscsi_stream.specs.Canonical.{canon, canonical_bytes}
 use Rattle.iscsi_stream.specs.Framing.{Framing, HasTaken, FeedFails, is_ready}
-use Rattle.iscsi_stream.proofs.Meaning.{same_begin, same_message, starts}
-use Rattle.iscsi_stream.proofs.Heads.{bad_header}
-use Rattle.iscsi_stream.proofs.Taking.{splits_taken, taken_at}
-use Rattle.iscsi_stream.proofs.Ready.{apart, unready_of}
+use Rattle.iscsi_stream.proofs.OneMeaningLaw.{same_begin, same_message, starts}
+use Rattle.iscsi_stream.proofs.HeadLemmas.{bad_header}
+use Rattle.iscsi_stream.proofs.TakingLemmas.{splits_taken, taken_at}
+use Rattle.iscsi_stream.proofs.ReadyLemmas.{apart, unready_of}
 use Rattle.iscsi_pair.proofs.Login.NoFailure.{both_none}
 use Rattle.iscsi_pair.proofs.Login.NoEarlyFailureLaw.{front_of}
 use Rattle.iscsi_pair.proofs.Request.Invariant.{AreWritten}

@@ -9,22 +9,9 @@ use Rattle.iscsi_initiator.specs.Calls.{Submits as Submitted_so}
 use Rattle.iscsi_initiator.specs.Submitted.{submitted}
 use Rattle.iscsi_target.specs.declared.fault.TargetFault.{TargetFault}
 use Rattle.iscsi_pair.specs.declared.step.EndFault.{EndFault}
-use Rattle.iscsi_pair.specs.World.{
-  World,
-  Event,
-  ToTarget,
-  ToInitiator,
-  Submits,
-  Takes,
-  Happens,
-  Runs,
-  MovesToTarget,
-  MovesToInitiator,
-  Asks,
-  keeps_no_memory,
-  submit_fault,
-}
-use Rattle.iscsi_pair.specs.Served.{IsAccepted, IsServed, RunsServed, asked, asked_in, given_in}
+use Rattle.iscsi_pair.specs.World.{World, Event, ToTarget, ToInitiator, Submits, Takes, Happens, Runs, MovesToTarget, MovesToInitiator, Asks, keeps_no_memory}
+use Rattle.iscsi_pair.specs.World.{submit_fault}
+use Rattle.iscsi_pair.specs.Served.{IsAccepted, IsServed, RunsServed, requests_of, requests_in, given_in}
 use Rattle.iscsi_pair.proofs.Run.MemoryLemmas.{calm_first}
 
 -- ---- the first fault of an initiator stays
@@ -70,7 +57,7 @@ accepted_so : (fault : Option EndFault) (request : Request) (old new : World) �
 accepted_so None request old new is e none = accepted_by e.result request old new e.submitted e.fault none
 accepted_so (Some fault) request old new is e none = absurd (let bad : None ≡ Some fault = sym none ∙ ap (λ (w : World). w.initiator_fault) e ∙ is in cc)
 
-was_accepted : (old : World) (event : Event) (new : World) → Happens old event new → AllByRecursion IsServed (asked_in event) → new.initiator_fault ≡ None
+was_accepted : (old : World) (event : Event) (new : World) → Happens old event new → AllByRecursion IsServed (requests_in event) → new.initiator_fault ≡ None
     → IsAccepted event old
 was_accepted old (ToTarget k) new e served none = tt
 was_accepted old (ToInitiator k) new e served none = tt
@@ -82,13 +69,14 @@ all_parts : {A : Type 0} (P : A → Type 0) (xs ys : List A) → AllByRecursion 
 all_parts P [] ys p = (tt, p)
 all_parts P (x ∷ xs) ys p = (let q = all_parts P xs ys p.1 in ((p.0, q.0), q.1))
 
-pub was_served : (old : World) (events : List Event) (new : World) → Runs old events new → AllByRecursion IsServed (asked events) → keeps_no_memory new ≡ false
+pub was_served : (old : World) (events : List Event) (new : World) → Runs old events new → AllByRecursion IsServed (requests_of events) → keeps_no_memory new
+    ≡ false
     → new.initiator_fault ≡ None
     → (outcomes : List Done) × RunsServed old events new outcomes
 unfolding Runs RunsServed
 was_served old [] new r served well none = ([], (r, refl))
 was_served old (event ∷ events) new r served well none =
-    let parts = all_parts IsServed (asked_in event) (asked events) served in
+    let parts = all_parts IsServed (requests_in event) (requests_of events) served in
     let later = was_served r.0 events new r.2 parts.1 well none in (
       given_in event old ++ later.0,
       (

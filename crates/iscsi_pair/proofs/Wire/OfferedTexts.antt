@@ -12,7 +12,7 @@ use Rattle.iscsi_login.specs.Name.{IsName}
 use Rattle.iscsi_login.specs.Negotiation.{IsInRange}
 use Rattle.iscsi_login.specs.Answer.{declared_max_recv}
 use Rattle.iscsi_login.specs.Offers.{Proposal, offers_at, single_offers}
-use Rattle.iscsi_login.proofs.OfferTexts.{security_text_is, operational_text_is, single_text_is}
+use Rattle.iscsi_login.proofs.OfferTextLemmas.{security_text_is, operational_text_is, single_text_is}
 use Rattle.iscsi_initiator.specs.State.{Settings}
 use Rattle.iscsi_initiator.specs.Configured.{AreValid, IsStart}
 

@@ -5,20 +5,9 @@ use Rattle.std.proofs.Common.{ℕ, Bool, true, false, List, [], length, take, Op
 use Rattle.std.proofs.lemmas.Bool.{cond_both}
 use Rattle.std.proofs.lemmas.List.{length-take}
 use Rattle.scsi_cdb.specs.ParameterData.{inquiry, vpd, capacity16_of, luns}
-use Rattle.scsi_cdb.specs.declared.block.Cdb.{Cdb}
-use Rattle.scsi_cdb.specs.declared.block.Cdb.TheVariants.{
-  TestUnitReady,
-  Inquiry,
-  Capacity10,
-  Read10,
-  Write10,
-  SyncCache10,
-  Read16,
-  Write16,
-  Capacity16,
-  ReportLuns,
-  Unknown,
-}
+use Rattle.scsi_cdb.specs.declared.cdb.Cdb.{Cdb}
+use Rattle.scsi_cdb.specs.declared.cdb.Cdb.TheVariants.{TestUnitReady, Inquiry, Capacity10, Read10, Write10, SyncCache10, Read16, Write16, Capacity16}
+use Rattle.scsi_cdb.specs.declared.cdb.Cdb.TheVariants.{ReportLuns, Unknown}
 use Rattle.scsi_cdb.specs.declared.residual.Residual.{Residual}
 use Rattle.scsi_cdb.specs.declared.residual.Residual.TheVariants.{Exact, Under, Over}
 use Rattle.scsi_disk.specs.declared.order.Order.{Order}
@@ -28,7 +17,7 @@ use Rattle.scsi_disk.specs.declared.order.Plan.TheVariants.{Refuse, Take, Give}
 use Rattle.scsi_disk.specs.Disk.{Disk}
 use Rattle.scsi_disk.specs.Effect.{effect, outcome_by, residual_of}
 use Rattle.scsi_disk.specs.Plan.{data_of, expected_length, is_read, is_unknown, is_write, parameter_data, plan_of, transfer, wanted_length}
-use Rattle.scsi_disk.proofs.Planned.{given, taken}
+use Rattle.scsi_disk.proofs.PlanLemmas.{given, taken}
 use Rattle.iscsi_target.specs.Execution.{residual_count}
 
 -- the numbers of the response have room

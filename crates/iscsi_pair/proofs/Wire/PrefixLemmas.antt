@@ -9,13 +9,13 @@ use Rattle.iscsi_pdu.specs.declared.head.Head.TheVariants as heads
 use Rattle.iscsi_pdu.specs.declared.head.login_request.LoginRequest.{LoginRequest}
 use Rattle.iscsi_pdu.specs.declared.head.login_response.LoginResponse.{LoginResponse}
 use Rattle.iscsi_pdu.specs.Meaning.{Means, IsWritable}
-use Rattle.iscsi_pdu.proofs.Headers.{writable-means}
+use Rattle.iscsi_pdu.proofs.HeaderLemmas.{writable-means}
 use Rattle.iscsi_stream.specs.declared.logins.Logins.{Logins}
 use Rattle.iscsi_stream.specs.Segment.{Text, Bytes, continues, after, segment_of, segment_bytes}
 use Rattle.iscsi_stream.specs.Stream.{Message, ReadsAs}
 use Rattle.iscsi_stream.specs.Canonical.{canonical_bytes}
-use Rattle.iscsi_stream.proofs.Meaning.{same_begin, same_message}
-use Rattle.iscsi_stream.proofs.Segments.{segment_plain, segment_whole}
+use Rattle.iscsi_stream.proofs.OneMeaningLaw.{same_begin, same_message}
+use Rattle.iscsi_stream.proofs.SegmentLemmas.{segment_plain, segment_whole}
 
 -- ---- the front of a stream
 

@@ -11,7 +11,7 @@ use Rattle.iscsi_text.specs.Numeral.{canonical_number}
 use Rattle.iscsi_text.specs.Value.{Typed, Number, Boolean, Items, Plain, Odd, value_text}
 use Rattle.iscsi_text.specs.Text.{Pairs, key_le}
 use Rattle.iscsi_text.specs.Canonical.{canonical_text, pair_text}
-use Rattle.iscsi_text.proofs.Spelled.{canonical_is}
+use Rattle.iscsi_text.proofs.NumeralLemmas.{canonical_is}
 use Rattle.iscsi_login.specs.declared.key.NegKey.{NegKey}
 use Rattle.iscsi_login.specs.declared.key.NegKey.TheVariants as keys
 use Rattle.iscsi_login.specs.declared.stage.Session.{Session}
@@ -26,23 +26,12 @@ use Rattle.iscsi_login.specs.declared.key.Range.{Range}
 use Rattle.iscsi_login.specs.declared.key.Rule.{Rule}
 use Rattle.iscsi_login.specs.declared.key.Rule.TheVariants as rules
 use Rattle.iscsi_login.specs.Negotiation.{IsInRange, has_none, preference, in_range, value_of, chosen, result_of, word, answered_value}
-use Rattle.iscsi_login.specs.Answer.{
-  answer_to,
-  answer_value,
-  answers_to,
-  other_answer,
-  answered_no,
-  rejected,
-  pairs_with,
-  declarations,
-  answer,
-  max_recv_key,
-  tag_key,
-}
+use Rattle.iscsi_login.specs.Answer.{answer_to, answer_value, answers_to, other_answer, answered_no, rejected, pairs_with, declarations, answer, max_recv_key}
+use Rattle.iscsi_login.specs.Answer.{tag_key}
 use Rattle.iscsi_text.specs.Reading.{placed, in_order}
 use Rattle.iscsi_login.specs.Offers.{Proposal, auth_items, session_name, target_pair, names, security_offers, operational_offers, single_offers, preferred_pair}
-use Rattle.iscsi_text.proofs.Order.{all_in_order}
-use Rattle.iscsi_login.proofs.AnswerMeaning.{all_append}
+use Rattle.iscsi_text.proofs.OrderLemmas.{all_in_order}
+use Rattle.iscsi_login.proofs.AnswerMeaningLaw.{all_append}
 
 -- ---- values and texts
 

@@ -7,8 +7,8 @@ use Rattle.scsi_cdb.specs.declared.residual.Residual.{Residual}
 use Rattle.scsi_cdb.specs.declared.residual.Residual.TheVariants.{Exact, Under, Over}
 use Rattle.scsi_cdb.specs.declared.sense.Sense.{Sense}
 use Rattle.scsi_cdb.specs.Layout.{HaveRoom}
-use Rattle.scsi_cdb.proofs.Laws.{HaveRoom-filled}
-use Rattle.scsi_cdb.proofs.Records.{IsRecord-room, IsRecord-fits}
+use Rattle.scsi_cdb.proofs.LayoutLemmas.{HaveRoom-filled}
+use Rattle.scsi_cdb.proofs.RecordLemmas.{IsRecord-room, IsRecord-fits}
 use Rattle.scsi_disk.specs.declared.order.Outcome.{Outcome}
 use Rattle.iscsi_pdu.specs.declared.head.Head.{Head}
 use Rattle.iscsi_pdu.specs.declared.head.Head.TheVariants as heads
@@ -17,10 +17,10 @@ use Rattle.iscsi_pdu.specs.declared.head.nop_out.NopOut.{NopOut}
 use Rattle.iscsi_pdu.specs.declared.head.logout_request.LogoutRequest.{LogoutRequest}
 use Rattle.iscsi_pdu.specs.Fields.{is_tag}
 use Rattle.iscsi_pdu.specs.Meaning.{rows, opcode, is_login, AreBytes, FitsBlock, HasBlockRoom, IsWritable}
-use Rattle.iscsi_pdu.proofs.Headers.{writable-means}
+use Rattle.iscsi_pdu.proofs.HeaderLemmas.{writable-means}
 use Rattle.iscsi_stream.specs.declared.logins.Logins.{Logins}
 use Rattle.iscsi_stream.specs.Segment.{Bytes, continues, is_last, segment_bytes}
-use Rattle.iscsi_stream.proofs.Segments.{segment_plain, none_whole}
+use Rattle.iscsi_stream.proofs.SegmentLemmas.{segment_plain, none_whole}
 use Rattle.iscsi_target.specs.State as target
 use Rattle.iscsi_target_session.specs.Session.{message}
 use Rattle.iscsi_target.specs.Write.{Write}
@@ -213,21 +213,21 @@ outcome_readable logins s tag outcome count status residual tag_fits count_fits 
 
 -- A request for data is read as it was written.
 pub ready_readable : (logins : Logins) (s : target.Machine) (w : Write)
-    → w.order.lun < 2 ^ 64 → w.initiator_task_tag < 2 ^ 32 → w.asked < 2 ^ 32 → received w < 2 ^ 32 → desired s.session.held w < 2 ^ 32
+    → w.order.lun < 2 ^ 64 → w.initiator_task_tag < 2 ^ 32 → w.r2t_count < 2 ^ 32 → received w < 2 ^ 32 → desired s.session.held w < 2 ^ 32
     → s.session.stat_sn < 2 ^ 32 → s.session.exp_cmd_sn < 2 ^ 32
     → Readable logins (message (r2t_head s.session (waiting s.tasks) w) [])
-ready_readable logins s w lun tag asked offset size stat_sn cmd_sn =
+ready_readable logins s w lun tag r2t_count offset size stat_sn cmd_sn =
     plain_readable logins (r2t_head s.session (waiting s.tasks) w) [] refl (
       (refl, lun),
       (
         (refl, tag),
         (
-          (refl, asked),
+          (refl, r2t_count),
           (
             (refl, stat_sn),
             (
               (refl, cmd_sn),
-              ((refl, max_room s), ((refl, asked), ((refl, offset), ((refl, size), tt)))),
+              ((refl, max_room s), ((refl, r2t_count), ((refl, offset), ((refl, size), tt)))),
             ),
           ),
         ),

@@ -2,6 +2,7 @@
 
 use super::{Schedule, deliver, logins, pair_of, same, submit};
 use hex::encode;
+use iscsi_examples::segment_of;
 use iscsi_initiator::{Done, Request};
 use iscsi_pair::Pair;
 use scsi_cdb::{Bytes, Residual};
@@ -32,20 +33,10 @@ out 0 2a000000000000000800 5a*4096 = 0 - 0 - exact
 in 0 28000000000000000800 4096 = 0 - 4096 5a*4096 exact
 ";
 
-// The bytes of hex text, or so many of a byte.
-fn bytes_of(alloc: Global, text: &str) -> Result<Vec<u8>, Fail> {
-    let Some((byte, count)) = text.split_once('*') else {
-        return Ok(hex::decode(alloc, text)?);
-    };
-    let byte = u8::from_str_radix(byte, 16)?;
-    let count = count.parse::<u16>()?;
-    Ok(vec![in alloc; byte; count as usize]?)
-}
-
 // The descriptor block of hex text, which may lack bytes 00 at its end.
 fn block_of(alloc: Global, text: &str) -> Result<[u8; 16], Fail> {
     let mut block = [0u8; 16];
-    for (at, byte) in block.iter_mut().zip(bytes_of(alloc, text)?) {
+    for (at, byte) in block.iter_mut().zip(segment_of(alloc, text)?) {
         *at = byte;
     }
     Ok(block)
@@ -69,7 +60,7 @@ fn in_of(alloc: Global, line: &str) -> Result<Request, Fail> {
 // A command that writes.
 fn out_of(alloc: Global, line: &str) -> Result<Request, Fail> {
     let (lun, cdb, data) = words_of(alloc, line)?;
-    let bytes = Bytes::from_vec(bytes_of(alloc, data)?);
+    let bytes = Bytes::from_vec(segment_of(alloc, data)?);
     Ok(Request::Out { lun, cdb, bytes })
 }
 
@@ -80,7 +71,7 @@ fn request_of(alloc: Global, line: &str) -> Result<Request, Fail> {
         "in" => in_of(alloc, rest),
         "out" => out_of(alloc, rest),
         "ping" => {
-            let bytes = Bytes::from_vec(bytes_of(alloc, rest)?);
+            let bytes = Bytes::from_vec(segment_of(alloc, rest)?);
             Ok(Request::Ping { bytes })
         }
         "logout" => Ok(Request::Logout),

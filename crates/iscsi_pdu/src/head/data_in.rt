@@ -24,7 +24,7 @@ pub struct DataIn {
     pub has_status: bool,
     /// SCSI status. It is there where `has_status` is set.
     pub status: Option<u8>,
-    /// It is there where `target_transfer_tag` is not `RESERVED_TAG` (own profile).
+    /// It is there where `target_transfer_tag` is not `RESERVED_TAG` (own rule).
     pub lun: Option<u64>,
     /// The initiator's tag of the task.
     pub initiator_task_tag: u32,

@@ -8,7 +8,7 @@ use scsi_cdb::layout::{put_u8, put_u32, u8_at, u32_at};
 
 /// A Reject, opcode 3f, with the refused header in its segment (RFC 7143, section 11.17).
 ///
-/// Its DataSN has no meaning at error recovery level 0 (own profile).
+/// Its DataSN has no meaning at error recovery level 0 (own rule).
 #[derive(Clone, Copy, Debug, PartialEq, Eq)]
 pub struct Reject {
     /// Why the PDU was refused.

@@ -60,7 +60,8 @@ impl ScsiCommand {
     pub(crate) fn write(&self, out: &mut [u8; 48])
         requires rows { AreFilled (scsi_command self.now) }
         requires block { Fits self.now.cdb }
-        ensures written { out.new ≡ put_all (scsi_command self.now ++ block_rows self.now.cdb) out.old }
+        ensures written { out.new ≡
+            put_all (scsi_command self.now ++ block_rows self.now.cdb) out.old }
         ensures room { HaveRoom (scsi_command self.now) }
         ensures block { IsRecord (canonical self.now.cdb) self.now.cdb }
     {

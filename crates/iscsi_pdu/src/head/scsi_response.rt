@@ -8,7 +8,7 @@ use scsi_cdb::layout::{bit, put_bit, put_u8, put_u8_if, put_u32, put_u32_if, u8_
 
 /// A SCSI Response, opcode 21, with sense data in its segment (RFC 7143, section 11.4).
 ///
-/// Its SNACK tag has no meaning at error recovery level 0 (own profile).
+/// Its SNACK tag has no meaning at error recovery level 0 (own rule).
 #[derive(Clone, Copy, Debug, PartialEq, Eq)]
 pub struct ScsiResponse {
     /// o: the read part had more bytes than were expected.

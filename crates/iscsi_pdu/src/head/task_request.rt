@@ -8,7 +8,7 @@ use scsi_cdb::layout::{bit, bits, put_bit, put_number, put_u32, put_u64, u32_at,
 
 /// A Task Management Function Request, opcode 02 (RFC 7143, section 11.5).
 ///
-/// All its fields are kept whatever the function (own profile).
+/// All its fields are kept whatever the function (own rule).
 #[derive(Clone, Copy, Debug, PartialEq, Eq)]
 pub struct TaskRequest {
     /// I: the command is for immediate delivery.

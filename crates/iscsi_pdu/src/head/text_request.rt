@@ -16,7 +16,7 @@ pub struct TextRequest {
     pub is_final: bool,
     /// C: the text goes on in the next Text Request.
     pub continues: bool,
-    /// It is there where `target_transfer_tag` is not `RESERVED_TAG` (own profile).
+    /// It is there where `target_transfer_tag` is not `RESERVED_TAG` (own rule).
     pub lun: Option<u64>,
     /// The initiator's tag of the task.
     pub initiator_task_tag: u32,

@@ -1,6 +1,7 @@
 //! Sessions over sockets: a connection to a listener of the test's own.
 
-use super::{CUT, FIRST_ANSWER, NAMELESS, PING, REFUSAL, bytes_of, same};
+use super::{CUT, FIRST_ANSWER, NAMELESS, PING, REFUSAL, same};
+use iscsi_examples::pdus_of;
 use iscsi_initiator::InitiatorFault;
 use iscsi_service::{ServeFault, configuration, serve, serve_one};
 use iscsi_stream::StreamFault;
@@ -57,7 +58,7 @@ where
 {
     let listener = TcpListener::bind(rt, (Ipv4Addr::LOCALHOST, 0))?;
     let mut initiator = TcpStream::connect(rt, listener.local_addr()?)?;
-    initiator.write_all(&bytes_of(alloc, requests)?)?;
+    initiator.write_all(&pdus_of(alloc, requests)?)?;
     if ends {
         initiator.shutdown(Shutdown::Write)?;
     }
@@ -91,7 +92,7 @@ fn sessions_over_a_socket(rt: HostRuntime) -> Result<(), Fail> {
     for (requests, answers, ends, line) in SESSIONS {
         let mut store = SparseStore::new(rt.alloc(), 8);
         let (result, out) = exchange(&rt, rt.alloc(), &mut store, requests, *ends)?;
-        let want = bytes_of(rt.alloc(), answers)?;
+        let want = pdus_of(rt.alloc(), answers)?;
         same(&rt, &line_of(rt.alloc(), result)?.as_str(), line, requests);
         same(&rt, &out.as_slice(), &want.as_slice(), requests);
     }
@@ -103,7 +104,7 @@ fn a_session_reads_what_an_earlier_one_wrote(rt: HostRuntime) -> Result<(), Fail
     let mut store = SparseStore::new(rt.alloc(), 8);
     for (requests, answers, ends) in [(WRITE, WRITE_ANSWERS, false), (READ, READ_ANSWERS, true)] {
         let (result, out) = exchange(&rt, rt.alloc(), &mut store, requests, ends)?;
-        let want = bytes_of(rt.alloc(), answers)?;
+        let want = pdus_of(rt.alloc(), answers)?;
         same(&rt, &result.is_ok(), &true, &requests);
         same(&rt, &out.as_slice(), &want.as_slice(), &requests);
     }

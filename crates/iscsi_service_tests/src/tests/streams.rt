@@ -1,6 +1,7 @@
 //! Sessions of a target over a reader and a writer, and those that fail.
 
-use super::{Broken, CUT, FIRST_ANSWER, Full, NAMELESS, PING, REFUSAL, bytes_of, same};
+use super::{CUT, FIRST_ANSWER, NAMELESS, PING, REFUSAL, same};
+use iscsi_examples::{Broken, Full, pdus_of};
 use iscsi_service::{SessionFault, configuration, serve_stream};
 use iscsi_stream::StreamFault;
 use iscsi_target::TargetFault;
@@ -41,8 +42,8 @@ fn serve<R: Read, W: Write>(
 #[test]
 fn sessions_over_a_stream(rt: HostRuntime) -> Result<(), Fail> {
     for (name, requests, answers, want) in SESSIONS {
-        let stream = bytes_of(rt.alloc(), requests)?;
-        let answers = bytes_of(rt.alloc(), answers)?;
+        let stream = pdus_of(rt.alloc(), requests)?;
+        let answers = pdus_of(rt.alloc(), answers)?;
         let mut source = stream.as_slice();
         let mut out = Vec::new(rt.alloc());
         let result = serve(rt.alloc(), &mut source, &mut out)?;
@@ -54,8 +55,8 @@ fn sessions_over_a_stream(rt: HostRuntime) -> Result<(), Fail> {
 
 #[test]
 fn a_reader_that_fails(rt: HostRuntime) -> Result<(), Fail> {
-    let requests = bytes_of(rt.alloc(), CUT)?;
-    let answers = bytes_of(rt.alloc(), FIRST_ANSWER)?;
+    let requests = pdus_of(rt.alloc(), CUT)?;
+    let answers = pdus_of(rt.alloc(), FIRST_ANSWER)?;
     // What was read is answered before the read that fails.
     let mut out = Vec::new(rt.alloc());
     let result = serve(rt.alloc(), &mut Broken(Some(&requests)), &mut out)?;
@@ -66,7 +67,7 @@ fn a_reader_that_fails(rt: HostRuntime) -> Result<(), Fail> {
 
 #[test]
 fn a_writer_that_fails(rt: HostRuntime) -> Result<(), Fail> {
-    let requests = bytes_of(rt.alloc(), CUT)?;
+    let requests = pdus_of(rt.alloc(), CUT)?;
     let mut source = requests.as_slice();
     let result = serve(rt.alloc(), &mut source, &mut Full)?;
     same(&rt, &result, &Err(SessionFault::Write), &"a writer");

@@ -2,7 +2,8 @@
 
 use super::rows::{NOP_OUT, lines_of, parts_of};
 use super::runs::{SURE, run_with};
-use super::{bytes_of, came_of, same, written_of};
+use super::{came_of, same, written_of};
+use iscsi_examples::bytes_of;
 use iscsi_stream::{Counts, Framer, StreamFault, ToolFault, canonical_head, show_line};
 use std::alloc::Global;
 use std::test::Fail;

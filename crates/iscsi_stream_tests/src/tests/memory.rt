@@ -2,21 +2,21 @@
 
 use super::rows::{NOP_OUT, lines_of};
 use super::{came_of, same, written_of};
-use hex::FromHexError;
+use iscsi_examples::LineFault;
 use iscsi_stream::{Framer, StreamFault, ToolFault, canonical, show, show_line};
 use std::alloc::Global;
 use std::process::Abort;
 use std::test::Fail;
 
 // What a test stands on is made again where memory ran out.
-fn ample_came_of(alloc: Global, lines: &str) -> Result<Vec<u8>, FromHexError> {
+fn ample_came_of(alloc: Global, lines: &str) -> Result<Vec<u8>, LineFault> {
     match came_of(alloc, lines) {
         Ok(stream) => Ok(stream),
         Err(_) => came_of(alloc, lines),
     }
 }
 
-fn ample_written_of(alloc: Global, lines: &str) -> Result<Vec<u8>, FromHexError> {
+fn ample_written_of(alloc: Global, lines: &str) -> Result<Vec<u8>, LineFault> {
     match written_of(alloc, lines) {
         Ok(stream) => Ok(stream),
         Err(_) => written_of(alloc, lines),

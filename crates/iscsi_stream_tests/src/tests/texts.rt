@@ -1,7 +1,8 @@
 //! One text from a reader to a writer.
 
 use super::runs::{SURE, Source, Target};
-use super::{same, segment_of};
+use super::same;
+use iscsi_examples::segment_of;
 use iscsi_stream::{ToolFault, normalise_text};
 use std::alloc::Global;
 use std::test::Fail;

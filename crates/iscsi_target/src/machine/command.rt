@@ -1,4 +1,4 @@
-//! SCSI commands, and the data that they give (RFC 7143, sections 11.3, 11.4 and 11.7).
+//! SCSI commands, and the Data-In that they send (RFC 7143, sections 11.3, 11.4 and 11.7).
 
 ghost use Rattle.std.specs.Prelude.{◌≡◌, ◌≢◌, ◌<◌, ◌≤◌, ◌^◌, ◌+◌, ◌++◌, ℕ, [], length, take, OnOk, OnErr, IfOk};
 ghost use Rattle.scsi_disk.specs.Plan.{plan_of};
@@ -6,7 +6,7 @@ ghost use Rattle.iscsi_pdu.specs.Meaning.{Fits};
 ghost use Rattle.iscsi_login.specs.Held.{first_burst, is_on, max_burst};
 ghost use Rattle.iscsi_stream.specs.Canonical.{canon};
 ghost use Rattle.iscsi_target.specs.State.{waiting};
-ghost use Rattle.iscsi_target.specs.Execution.{parts_given, run_given, data_in_head, data_ins, command_answers, execute};
+ghost use Rattle.iscsi_target.specs.Execution.{data_in_parts, sequence_parts, data_in_head, data_ins, command_answers, execute};
 ghost use Rattle.iscsi_target.specs.Command.{order_of, breaks_burst_rules, scsi_command};
 ghost use Rattle.iscsi_target.specs.Inside.{Handles, TakePlaces, store_of};
 
@@ -125,15 +125,15 @@ impl Machine {
     fn send_outcome(&self, tag: u32, outcome: &Outcome, out: &mut Vec<u8>) -> Result<(), AllocError>
         requires { length outcome.now.bytes < 2 ^ 32 }
         ensures ok { OnOk result (out.new.items ≡ out.old.items ++ canon
-            (command_answers self.now.session (waiting self.now.tasks) tag outcome.now (parts_given self.now.session.held outcome.now.bytes))) }
+            (command_answers self.now.session (waiting self.now.tasks) tag outcome.now (data_in_parts self.now.session.held outcome.now.bytes))) }
         ensures err { OnErr result (out.new.items ≡ out.old.items) }
     {
         let start = out.len();
-        let told = self.append_outcome(tag, outcome, out);
-        if told.is_err() {
+        let sent = self.append_outcome(tag, outcome, out);
+        if sent.is_err() {
             out.truncate(start);
         }
-        told
+        sent
     }
 
     // The same, but a front may stand where memory ran out.
@@ -145,7 +145,7 @@ impl Machine {
     ) -> Result<(), AllocError>
         requires { length outcome.now.bytes < 2 ^ 32 }
         ensures ok { OnOk result (out.new.items ≡ out.old.items ++ canon
-            (command_answers self.now.session (waiting self.now.tasks) tag outcome.now (parts_given self.now.session.held outcome.now.bytes))) }
+            (command_answers self.now.session (waiting self.now.tasks) tag outcome.now (data_in_parts self.now.session.held outcome.now.bytes))) }
         ensures front { take (length out.old.items) out.new.items ≡ out.old.items }
     {
         let count = self.send_data_in(tag, outcome.bytes.as_slice(), out)?;
@@ -153,12 +153,12 @@ impl Machine {
         append_response(&head, outcome.sense, out)
     }
 
-    // Data in runs of MaxBurstLength bytes. Answers how many Data-In PDUs went out.
+    // Data in sequences of MaxBurstLength bytes. Returns how many Data-In PDUs were sent.
     fn send_data_in(&self, tag: u32, bytes: &[u8], out: &mut Vec<u8>) -> Result<u32, AllocError>
         requires { length bytes.now < 2 ^ 32 }
-        ensures ok { IfOk result (λ count. (count ≡ length (parts_given self.now.session.held bytes.now))
+        ensures ok { IfOk result (λ count. (count ≡ length (data_in_parts self.now.session.held bytes.now))
             × (out.new.items ≡ out.old.items
-            ++ canon (data_ins self.now.session (waiting self.now.tasks) tag 0 0 (parts_given self.now.session.held bytes.now)))) }
+            ++ canon (data_ins self.now.session (waiting self.now.tasks) tag 0 0 (data_in_parts self.now.session.held bytes.now)))) }
         ensures front { take (length out.old.items) out.new.items ≡ out.old.items }
     {
         let burst = self.max_burst() as usize;
@@ -166,14 +166,14 @@ impl Machine {
         let mut rest = bytes;
         while !rest.is_empty() {
             let len = burst.min(rest.len());
-            sent = self.send_data_in_run(tag, sent, &rest[..len], out)?;
+            sent = self.send_sequence(tag, sent, &rest[..len], out)?;
             rest = &rest[len..];
         }
         Ok(sent.count)
     }
 
-    // A run of data in parts, each of at most what the initiator takes in one segment.
-    fn send_data_in_run(
+    // A sequence of data in parts, each of at most what the initiator takes in one segment.
+    fn send_sequence(
         &self,
         tag: u32,
         before: Sent,
@@ -184,10 +184,10 @@ impl Machine {
         requires count { before.count ≤ before.bytes }
         ensures most { 0 < self.now.session.held.initiator_max_recv }
         ensures ok { IfOk result (λ sent.
-            (sent.count ≡ before.count + length (run_given self.now.session.held run.now))
+            (sent.count ≡ before.count + length (sequence_parts self.now.session.held run.now))
             × (sent.bytes ≡ before.bytes + length run.now) × (sent.count ≤ sent.bytes)
             × (out.new.items ≡ out.old.items ++ canon
-            (data_ins self.now.session (waiting self.now.tasks) tag before.count before.bytes (run_given self.now.session.held run.now)))) }
+            (data_ins self.now.session (waiting self.now.tasks) tag before.count before.bytes (sequence_parts self.now.session.held run.now)))) }
         ensures front { take (length out.old.items) out.new.items ≡ out.old.items }
     {
         let most = self.max_segment() as usize;
@@ -245,7 +245,7 @@ pub(super) fn order_of(command: &ScsiCommand) -> Order
     }
 }
 
-// The Data-In PDUs of a command that went out.
+// The Data-In PDUs of a command that were sent.
 #[derive(Clone, Copy, Debug, PartialEq, Eq)]
 struct Sent {
     // How many.

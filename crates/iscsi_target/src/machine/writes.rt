@@ -8,7 +8,7 @@ ghost use Rattle.iscsi_stream.specs.Segment.{segment_bytes};
 ghost use Rattle.iscsi_target.specs.State.{waiting};
 ghost use Rattle.iscsi_target.specs.Execution.{execute};
 ghost use Rattle.iscsi_target.specs.Transfer.{is_whole, is_idle, desired};
-ghost use Rattle.iscsi_target.specs.Command.{order_of, r2t_head, led_by, ask, proceed, opened, breaks_rules, task_of};
+ghost use Rattle.iscsi_target.specs.Command.{order_of, r2t_head, led_by, send_r2t, proceed, opened, breaks_rules, task_of};
 ghost use Rattle.iscsi_target.specs.Machine.{data_out};
 ghost use Rattle.iscsi_target.specs.Inside.{Leaves, Handles, Follows, TakePlaces, store_of};
 
@@ -54,7 +54,7 @@ impl Machine {
     }
 
     // A write that is the first task, before the others: it is executed when all its bytes are
-    // there, else an R2T goes out where no sequence is due.
+    // there, else an R2T is sent where no sequence is due.
     pub(super) fn proceed<S: BlockStore>(
         &mut self,
         write: OpenWrite,
@@ -77,8 +77,8 @@ impl Machine {
         Ok(None)
     }
 
-    // Executes a write whose bytes are all there, and its response goes out. The room for the
-    // response is there before a block changes, so that a call that is out of memory changes none.
+    // Executes a write whose bytes are all there, and sends its response. The room for the response
+    // is there before a block changes, so that a call that is out of memory changes none.
     fn execute_write<S: BlockStore>(
         &mut self,
         write: &OpenWrite,
@@ -101,26 +101,27 @@ impl Machine {
         Ok(None)
     }
 
-    // An R2T goes out for the next bytes of a write (RFC 7143, section 11.8).
+    // Sends an R2T for the next bytes of a write (RFC 7143, section 11.8).
     fn send_r2t(&mut self, write: OpenWrite, out: &mut Vec<u8>) -> Result<Option<u8>, AllocError>
         requires whole { is_whole write ≡ false }
         requires idle { is_idle write.due ≡ true }
         requires places { TakePlaces self.old.tasks }
         requires room { length self.old.tasks < 9 }
-        ensures { (disk : Disk) → Leaves (ask self.old disk write)
+        ensures { (disk : Disk) → Leaves (send_r2t self.old disk write)
             result self.old self.new out.old.items out.new.items }
     {
         let mut write = write;
         let desired = write.desired(self.max_burst());
         let head = self.r2t_head(&write, desired);
         write_pdu(&head, &[], out)?;
+        // Its contract says that the bytes fit the transfer.
         let _received = write.received();
         write.await_sequence(desired);
         self.tasks.push_first(write);
         Ok(None)
     }
 
-    // The head of the R2T that goes out next for a write, for so many bytes.
+    // The head of the next R2T of a write, for `len` bytes.
     fn r2t_head(&self, write: &OpenWrite, len: u32) -> Head
         requires { len ≡ desired self.now.session.held write.now }
         ensures head { result ≡ r2t_head self.now.session (waiting (led_by write.now self.now).tasks) write.now }
@@ -132,11 +133,11 @@ impl Machine {
         Head::ReadyToTransfer(ReadyToTransfer {
             lun: write.order.lun,
             initiator_task_tag: write.initiator_task_tag,
-            target_transfer_tag: write.asked,
+            target_transfer_tag: write.r2t_count,
             stat_sn: numbers.stat_sn,
             exp_cmd_sn: numbers.exp_cmd_sn,
             max_cmd_sn: numbers.max_cmd_sn,
-            r2t_sn: write.asked,
+            r2t_sn: write.r2t_count,
             buffer_offset: write.received(),
             desired_data_transfer_length: len,
         })
@@ -216,6 +217,6 @@ fn opened(
         } else {
             Due::Unsolicited { data_sn: 0 }
         },
-        asked: 0,
+        r2t_count: 0,
     })
 }

@@ -13,10 +13,10 @@ ghost use Rattle.iscsi_target_session.specs.Session.{ended};
 ghost use Rattle.scsi_disk.specs.Plan.{first_of};
 ghost use Rattle.iscsi_target_session.specs.Login.{stage_named, is_due_stage, is_move, stage_asked, stage_after, tsih_at, phase_at, response, refuse, after_text, whole_text, segment_taken, request_refusals, login_request, login_step};
 ghost use Rattle.iscsi_target_session.specs.Replies.{Replied, Does, Attempts};
-ghost use Rattle.iscsi_target_session.specs.Inside.{left_by, login_answer};
+ghost use Rattle.iscsi_target_session.specs.Inside.{rolled_back, login_answer};
 
 use super::Session;
-use super::login_text::given_with;
+use super::login_text::seen_with;
 use crate::received::Received;
 use crate::status::Status;
 use iscsi_login::{Phase, Stage, answer_text};
@@ -76,7 +76,7 @@ impl Session {
             self.old self.new out.old.items out.new.items }
     {
         let (begun, exp_cmd_sn, stage) = (self.begun, self.exp_cmd_sn, self.stage);
-        let result = self.enter(request, received, out);
+        let result = self.begin_stage(request, received, out);
         if result.is_err() {
             self.begun = begun;
             self.exp_cmd_sn = exp_cmd_sn;
@@ -85,8 +85,8 @@ impl Session {
         result
     }
 
-    // The same, but where memory runs out the session has entered the request's stage.
-    fn enter(
+    // The same, but where memory runs out the session is in the request's stage.
+    fn begin_stage(
         &mut self,
         request: &LoginRequest,
         received: &Received<'_>,
@@ -95,9 +95,10 @@ impl Session {
         requires { received.now.head ≡ heads.LoginRequest request.now }
         ensures ok { IfOk result (λ rule. Replied (login_request self.old request.now
             received.now.segment) rule self.new out.old.items out.new.items) }
-        ensures err { OnErr result (ended (left_by self.old self.new) ≡ ended self.old) }
+        ensures err { OnErr result (ended (rolled_back self.old self.new) ≡ ended self.old) }
         ensures unwritten { OnErr result (out.new.items ≡ out.old.items) }
     {
+        // Opens the invariant.
         let _head = received.pdu.head;
         let refusal = self.request_refusal(request);
         if !self.begun {
@@ -146,7 +147,7 @@ impl Session {
         }
     }
 
-    // Takes a segment, of which a whole text is read where it lies.
+    // Accepts a segment; a complete text is parsed in place.
     fn take_segment(
         &mut self,
         request: &LoginRequest,
@@ -274,7 +275,7 @@ impl Session {
         Ok(None)
     }
 
-    // Holds what a text that was answered says, in the stage that follows.
+    // Applies what a text that was answered negotiates, in the stage that follows.
     fn hold(&mut self, stage: Stage, text: &Text<'_>)
         requires { DeclaresWell text.now }
         ensures { (request : LoginRequest) → stage_after self.old request ≡ stage
@@ -284,7 +285,7 @@ impl Session {
         let declared = self.declared_length();
         self.held
             .hold_offers(text, self.config.preferences(), session_type, declared);
-        self.given = given_with(&self.given, text);
+        self.seen_keys = seen_with(&self.seen_keys, text);
         self.has_text = true;
         self.has_operational_text = self.has_operational_text
             || matches!(self.stage, Stage::Operational);

@@ -1,4 +1,4 @@
-//! What a login text says, and why it is refused (RFC 7143, sections 6.3, 11.13.5 and 13).
+//! What a login text declares, and why it is refused (RFC 7143, sections 6.3, 11.13.5 and 13).
 
 ghost use Rattle.std.specs.Prelude.{◌≡◌, ◌<◌, ◌≤◌, not, ◌&&◌, ◌||◌, [], slice_index_or, false, None, Some, is_none, IfSome, length, codes};
 ghost use Rattle.std.specs.Option.{option_map};
@@ -9,7 +9,7 @@ ghost use Rattle.iscsi_text.specs.Canonical.{canonical_text};
 ghost use Rattle.iscsi_text.specs.Reading.{has_key};
 ghost use Rattle.iscsi_login.specs.Answer.{DeclaresWell, max_recv_key};
 ghost use Rattle.scsi_disk.specs.Plan.{first_of};
-ghost use Rattle.iscsi_target_session.specs.LoginText.{known_keys, gives_again, given_with, is_name, value_for, is_bad_length, session_named, session_in, session_for, is_normal, names_target, demands_authentication, declared_tag, declared_length, answer_pairs, text_refusals};
+ghost use Rattle.iscsi_target_session.specs.LoginText.{known_keys, repeats_key, seen_with, is_name, value_for, is_bad_length, session_named, session_in, session_for, is_normal, names_target, demands_authentication, declared_tag, declared_length, answer_pairs, text_refusals};
 
 use super::Session;
 use crate::status::Status;
@@ -28,7 +28,7 @@ impl Session {
         ensures declares { result ≡ None → DeclaresWell text.now }
         ensures short { result ≡ None → length answer.now ≤ 8192 }
     {
-        if gives_again(&self.given, text) {
+        if repeats_key(&self.seen_keys, text) {
             return Some(Status::INITIATOR_ERROR);
         }
         if self.lacks_initiator(text) {
@@ -144,7 +144,7 @@ impl Session {
 }
 
 // The value that a text has of a key, if it has one.
-#[tactic(auto, using(crate::proofs::LoginTexts::first_is))]
+#[tactic(auto, using(crate::proofs::LoginTextLemmas::first_is))]
 fn value_of<'a>(text: &Text<'a>, key: &[u8]) -> Option<Value<'a>>
     ensures { option_map typed result ≡ value_for key.now text.now }
 {
@@ -152,7 +152,7 @@ fn value_of<'a>(text: &Text<'a>, key: &[u8]) -> Option<Value<'a>>
 }
 
 // Whether the text has the key.
-#[tactic(auto, using(crate::proofs::LoginTexts::has_key_is))]
+#[tactic(auto, using(crate::proofs::LoginTextLemmas::has_key_is))]
 fn has_key(text: &Text<'_>, key: &[u8]) -> bool
     ensures { result ≡ has_key key.now text.now }
 {
@@ -204,19 +204,19 @@ fn known_key(n: usize) -> &'static [u8]
     }
 }
 
-// Whether a known key that may stand once was given before, and is given again.
-fn gives_again(given: &[bool; 27], text: &Text<'_>) -> bool
-    ensures { result ≡ gives_again known_keys given.now text.now }
+// Whether a known key that may stand once was seen before, and stands again.
+fn repeats_key(seen: &[bool; 27], text: &Text<'_>) -> bool
+    ensures { result ≡ repeats_key known_keys seen.now text.now }
 {
     for n in 0..27 {
-        if is_repeated(given[n], text, known_key(n)) {
+        if is_repeated(seen[n], text, known_key(n)) {
             return true;
         }
     }
     false
 }
 
-// Whether a key may stand once, was given before and is given again.
+// Whether a key may stand once, was seen before and stands again.
 fn is_repeated(was: bool, text: &Text<'_>, key: &[u8]) -> bool
     ensures { result ≡ (was && (not (bytes_eq key.now target_address)
         && has_key key.now text.now)) }
@@ -224,19 +224,19 @@ fn is_repeated(was: bool, text: &Text<'_>, key: &[u8]) -> bool
     was && (key != b"TargetAddress".as_slice() && has_key(text, key))
 }
 
-/// Of each known key, whether it was given before or is given now.
-pub fn given_with(given: &[bool; 27], text: &Text<'_>) -> [bool; 27]
-    ensures { result ≡ given_with known_keys given.now text.now }
+/// Of each known key, whether it was seen before or stands in this text.
+pub fn seen_with(seen: &[bool; 27], text: &Text<'_>) -> [bool; 27]
+    ensures { result ≡ seen_with known_keys seen.now text.now }
 {
-    let mut now = *given;
+    let mut now = *seen;
     for n in 0..27 {
-        now[n] = is_given(given[n], text, known_key(n));
+        now[n] = is_seen(seen[n], text, known_key(n));
     }
     now
 }
 
-// Whether a key was given before or is given now.
-fn is_given(was: bool, text: &Text<'_>, key: &[u8]) -> bool
+// Whether a key was seen before or stands in this text.
+fn is_seen(was: bool, text: &Text<'_>, key: &[u8]) -> bool
     ensures { result ≡ (was || has_key key.now text.now) }
 {
     was || has_key(text, key)

@@ -6,6 +6,7 @@ use super::queues::{
 };
 use super::rows::{Dialogue, FAILING, LOGIN, LOGINS, LONG, REQUESTS, SHORT, WRITES};
 use super::{BY_PDU, feed_pieces, pdu_of, same, target_of, target_with};
+use iscsi_examples::{SESSION, append_pdu};
 use iscsi_login::{Phase, Preferences, Stage};
 use iscsi_stream::StreamFault;
 use iscsi_target::{Target, TargetFault};
@@ -46,8 +47,8 @@ fn turns_of(alloc: Global, lines: &str) -> Result<Vec<Turn>, Fail> {
     for line in lines.lines() {
         let (mark, rest) = line.split_once(' ').ok_or("no mark")?;
         match mark {
-            ">" => pdu_of(alloc, rest, &mut came)?,
-            "<" => pdu_of(alloc, rest, &mut want)?,
+            "I>" => pdu_of(alloc, rest, &mut came)?,
+            "T>" => pdu_of(alloc, rest, &mut want)?,
             "#" => written = Some(rest.parse::<u16>()?),
             "=" => {
                 let answer = answer_of(rest)?;
@@ -314,5 +315,38 @@ fn ends(rt: HostRuntime) -> Result<(), Fail> {
         &"a byte after the end",
     );
     same(&rt, &out.len(), &0, &"nothing is answered");
+    Ok(())
+}
+
+// A target with bursts of 1,024 bytes and segments of 512.
+fn target_of_session(alloc: Global) -> Result<Box<Target>, Fail> {
+    let mut preferences = Preferences::standard();
+    preferences.max_burst = 1024;
+    preferences.first_burst = 1024;
+    preferences.max_recv = 512;
+    target_with(alloc, preferences)
+}
+
+/// The target's part of the session of both ends, a PDU at a time.
+#[test]
+fn a_session_of_both_ends(rt: HostRuntime) -> Result<(), Fail> {
+    let mut store = SparseStore::new(rt.alloc(), 2048);
+    let mut target = target_of_session(rt.alloc())?;
+    let (mut out, mut want) = (Vec::new(rt.alloc()), Vec::new(rt.alloc()));
+    for line in SESSION.lines() {
+        let (mark, rest) = line.split_once(' ').ok_or("no mark")?;
+        match mark {
+            "!" => same(&rt, &out, &want, &line),
+            "I>" => {
+                let mut came = Vec::new(rt.alloc());
+                append_pdu(rest, &mut came)?;
+                target.feed(&came, &mut store, &mut out)?;
+            }
+            "T>" => append_pdu(rest, &mut want)?,
+            _ => return Err(Fail::from("no such line")),
+        }
+    }
+    same(&rt, &out, &want, &"at the end");
+    same(&rt, &target.phase(), &Phase::Closed, &"after the logout");
     Ok(())
 }

@@ -8,7 +8,7 @@ use crate::pair::Pair;
 use std::alloc::AllocError;
 
 /// How many bytes the canonical text of these pairs has.
-#[tactic(auto, using(crate::proofs::Canonical::canonical_part))]
+#[tactic(auto, using(crate::proofs::CanonicalLemmas::canonical_part))]
 pub fn pairs_len(pairs: &[Pair]) -> usize
     requires { length (canonical_text (all_shown pairs.now)) < 2 ^ 64 }
     ensures { result ≡ length (canonical_text (all_shown pairs.now)) }

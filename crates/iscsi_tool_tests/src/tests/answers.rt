@@ -2,7 +2,8 @@
 //! each PDU, with its header in hex and, behind an apostrophe, the text of its segment, in which
 //! `|` stands for a byte 00; `5a*512` are 512 bytes of 5a. The padding is left out.
 
-use super::{Broken, Full, same};
+use super::same;
+use iscsi_examples::{Broken, Full, pdus_of};
 use iscsi_stream::{StreamFault, ToolFault};
 use iscsi_tool::{Filter, Work, run_filter};
 use std::alloc::Global;
@@ -97,32 +98,10 @@ const TURN_ANSWERS: &str =
     "3f800400 00000030 00000000 00000000 ffffffff 00000000 00000003 00000001 00000008 00000000 00000000 00000000 018100000000000000000000000000000000000100000000000000030000000300000000000000000000000000000000";
 
 // The bytes of a line: a header, and a segment of text, or of one byte so many times.
-fn add_line(alloc: Global, line: &str, stream: &mut Vec<u8>) -> Result<(), Fail> {
-    let (header, text) = line.split_once('\'').unwrap_or((line, ""));
-    let (header, count) = header.split_once(" 5a*").unwrap_or((header, "0"));
-    let digits: Vec<u8> = header
-        .as_bytes()
-        .iter()
-        .copied()
-        .filter(|b| *b != b' ')
-        .collect(alloc)?;
-    stream.extend_from_slice(&hex::decode(alloc, digits)?)?;
-    for _ in 0..count.parse::<u16>()? {
-        stream.push(0x5a)?;
-    }
-    for byte in text.bytes() {
-        stream.push(if byte == b'|' { 0 } else { byte })?;
-    }
-    stream.extend_from_slice([0u8; 3].get(..(4 - text.len() % 4) % 4).unwrap_or(&[]))?;
-    Ok(())
-}
-
 pub fn bytes_of(alloc: Global, parts: &[&str]) -> Result<Vec<u8>, Fail> {
     let mut stream = Vec::new(alloc);
     for part in parts {
-        for line in part.lines() {
-            add_line(alloc, line, &mut stream)?;
-        }
+        stream.extend_from_slice(&pdus_of(alloc, part)?)?;
     }
     Ok(stream)
 }

@@ -7,5 +7,8 @@ pub returns-clause-meanings : goal.returns-clause-meanings
 returns-clause-meanings c first second ms ns end other_end p q = (agree_means first second ms ns p q, means_agree first second ms ns end other_end p q)
 
 pub returns-clause-forms : goal.returns-clause-forms
-returns-clause-forms c first second ms ns bytes other_bytes end other_end p q =
-    (λ agree. ap canon (agree_means first second ms ns p q agree), λ e. means_agree first second ms ns end other_end p q (same_forms first.read second.read ms ns bytes other_bytes p q e))
+returns-clause-forms c first second ms ns bytes other_bytes end other_end p q = (
+  λ agree. ap canon (agree_means first second ms ns p q agree),
+  λ e. means_agree first second ms ns end other_end p q
+      (same_forms first.read second.read ms ns bytes other_bytes p q e),
+)

@@ -11,7 +11,18 @@ returns c =
     record {
       line = (
         (place ++ end) ++ feed,
-        record { text = place ++ end; ended = refl; short = omega (arith, length-append (place ++ end) feed, length-append place end, c.as_bytes.ensures.len, c.format.ensures.short) },
-        c.in_ok-extend_from_slice-2.ensures.items ∙ ap (λ (x : List ℕ). x ++ (end ++ feed)) c.in_ok-extend_from_slice.ensures.items ∙ append_assoc out place (end ++ feed) ∙ ap (λ (x : List ℕ). out ++ x) (sym (append_assoc place end feed)),
+        record {
+          text = place ++ end;
+          ended = refl;
+          short = omega (
+            arith,
+            length-append (place ++ end) feed,
+            length-append place end,
+            c.as_bytes.ensures.len,
+            c.format.ensures.short,
+          );
+        },
+        c.in_ok-extend_from_slice-2.ensures.items ∙ ap (λ (x : List ℕ). x ++ (end ++ feed)) c.in_ok-extend_from_slice.ensures.items
+            ∙ append_assoc out place (end ++ feed) ∙ ap (λ (x : List ℕ). out ++ x) (sym (append_assoc place end feed)),
       );
     }

@@ -2,66 +2,104 @@ use Rattle.std.proofs.Common.{◌<◌, ℕ, List, length, drop, Option, sym, ap,
 use Rattle.std.proofs.lemmas.Bool.{eqb-true, eqb-false}
 use Rattle.std.proofs.lemmas.List.{length-drop, take_rest}
 use Rattle.std.proofs.lemmas.Result.{err_from_is_err_and}
-use Rattle.iscsi_stream.proofs.PassOn.{takes_some}
+use Rattle.iscsi_stream.proofs.PassingLemmas.{takes_some}
 use Rattle.iscsi_initiator.specs.declared.fault.InitiatorFault.{InitiatorFault}
 use Rattle.iscsi_initiator.specs.State.{Machine}
-use Rattle.iscsi_initiator.specs.Inside.{connection, HearsReady, ShutsReady}
-use Rattle.iscsi_initiator.proofs.Hearing.{GoesUpTo, HeardAs, heard_none, heard_ready, ends_refused, ends_shut, ends_fault, ends_closed, ends_live}
+use Rattle.iscsi_initiator.specs.Inside.{connection, ReceivesPdu, ShutsReady}
+use Rattle.iscsi_initiator.proofs.ReceivingLemmas.{GoesUpTo, ReceivedAs, received_none, received_ready, ends_refused, ends_shut, ends_fault, ends_closed}
+use Rattle.iscsi_initiator.proofs.ReceivingLemmas.{ends_live}
 use Rattle.iscsi_initiator.proofs.initiator.feed_all.Goals as goal
 
 pub loop-rest-init : goal.loop-rest-init
-loop-rest-init c = heard_none (connection c.args.session.now c.args.framer.now) c.args.piece.now c.args.out.now.items c.requires.unready c.requires.live
+loop-rest-init c = received_none (connection c.args.session.now c.args.framer.now) c.args.piece.now c.args.out.now.items c.requires.unready c.requires.live
 
 pub returns-in_err-taken-clause-fed : goal.returns-in_err-taken-clause-fed
 returns-in_err-taken-clause-fed c =
     let p = err_from_is_err_and c.from_residual.result c.from_residual.ensures.1 in
-    rw (p.1, p.2) (ends_refused (connection c.args.session.now c.args.framer.now) c.args.piece.now c.loop-rest.rest.now c.args.out.now.items (connection c.loop-rest.session c.loop-rest.framer) c.loop-rest.out.items c.in_err-taken.field-0.0 (connection c.take_bytes.new.session c.take_bytes.new.framer) c.loop-rest.invariant c.in_err-taken.ensures.err c.in_err-taken.ensures.shut)
+    rw (p.1, p.2) (ends_refused (connection c.args.session.now c.args.framer.now) c.args.piece.now c.loop-rest.rest.now c.args.out.now.items
+    (connection c.loop-rest.session c.loop-rest.framer) c.loop-rest.out.items c.in_err-taken.field-0.0
+    (connection c.take_bytes.new.session c.take_bytes.new.framer) c.loop-rest.invariant c.in_err-taken.ensures.err c.in_err-taken.ensures.shut)
 
 pub returns-in_err-fault-clause-fed : goal.returns-in_err-fault-clause-fed
 returns-in_err-fault-clause-fed c =
     let p = err_from_is_err_and c.from_residual-in_err-fault.result c.from_residual-in_err-fault.ensures.1 in
-    let shuts = subst (λ (m : Machine). ShutsReady (connection m c.take_bytes.new.framer) (connection c.hear_ready.new.session c.hear_ready.new.framer) c.loop-rest.out.items c.hear_ready.new.out.items) c.in_ok-taken.ensures.kept c.in_err-fault.ensures.err in
-    rw (p.1, p.2) (ends_shut (connection c.args.session.now c.args.framer.now) c.args.piece.now c.loop-rest.rest.now c.args.out.now.items (connection c.loop-rest.session c.loop-rest.framer) c.loop-rest.out.items c.take_bytes.new.framer (connection c.hear_ready.new.session c.hear_ready.new.framer) c.hear_ready.new.out.items c.loop-rest.invariant shuts)
+    let shuts = subst (λ (m : Machine). ShutsReady (connection m c.take_bytes.new.framer)
+    (connection c.receive_pdu.new.session c.receive_pdu.new.framer) c.loop-rest.out.items c.receive_pdu.new.out.items) c.in_ok-taken.ensures.kept
+    c.in_err-fault.ensures.err in
+    rw (p.1, p.2) (ends_shut (connection c.args.session.now c.args.framer.now) c.args.piece.now c.loop-rest.rest.now c.args.out.now.items
+    (connection c.loop-rest.session c.loop-rest.framer) c.loop-rest.out.items c.take_bytes.new.framer
+    (connection c.receive_pdu.new.session c.receive_pdu.new.framer) c.receive_pdu.new.out.items c.loop-rest.invariant shuts)
 
 pub returns-in-Some-clause-fed : goal.returns-in-Some-clause-fed
 returns-in-Some-clause-fed c =
-    let ready = subst (λ (m : Machine). HearsReady (connection m c.take_bytes.new.framer) c.in_ok-fault.fault (connection c.hear_ready.new.session c.hear_ready.new.framer) c.loop-rest.out.items c.hear_ready.new.out.items) c.in_ok-taken.ensures.kept c.in_ok-fault.ensures.ok in
-    let heard = heard_ready (connection c.args.session.now c.args.framer.now) c.args.piece.now c.loop-rest.rest.now c.args.out.now.items (connection c.loop-rest.session c.loop-rest.framer) c.loop-rest.out.items c.in_ok-taken.taken c.take_bytes.new.framer c.in_ok-fault.fault (connection c.hear_ready.new.session c.hear_ready.new.framer) c.hear_ready.new.out.items c.loop-rest.invariant c.in_ok-taken.ensures.ok ready in
-    ends_fault (connection c.args.session.now c.args.framer.now) c.args.piece.now (drop c.in_ok-taken.taken c.loop-rest.rest.now) c.args.out.now.items (connection c.hear_ready.new.session c.hear_ready.new.framer) c.hear_ready.new.out.items c.in-Some.fault
-    (subst (λ (f : Option InitiatorFault). HeardAs (connection c.args.session.now c.args.framer.now) c.args.piece.now (drop c.in_ok-taken.taken c.loop-rest.rest.now) (connection c.hear_ready.new.session c.hear_ready.new.framer) c.args.out.now.items c.hear_ready.new.out.items f) c.in-Some.is heard)
+    let ready = subst (λ (m : Machine). ReceivesPdu (connection m c.take_bytes.new.framer) c.in_ok-fault.fault
+    (connection c.receive_pdu.new.session c.receive_pdu.new.framer) c.loop-rest.out.items c.receive_pdu.new.out.items) c.in_ok-taken.ensures.kept
+    c.in_ok-fault.ensures.ok in
+    let received = received_ready (connection c.args.session.now c.args.framer.now) c.args.piece.now c.loop-rest.rest.now c.args.out.now.items
+    (connection c.loop-rest.session c.loop-rest.framer) c.loop-rest.out.items c.in_ok-taken.taken c.take_bytes.new.framer c.in_ok-fault.fault
+    (connection c.receive_pdu.new.session c.receive_pdu.new.framer) c.receive_pdu.new.out.items c.loop-rest.invariant c.in_ok-taken.ensures.ok ready in
+    ends_fault (connection c.args.session.now c.args.framer.now) c.args.piece.now (drop c.in_ok-taken.taken c.loop-rest.rest.now) c.args.out.now.items
+    (connection c.receive_pdu.new.session c.receive_pdu.new.framer) c.receive_pdu.new.out.items c.in-Some.fault
+    (subst (λ (f : Option InitiatorFault). ReceivedAs (connection c.args.session.now c.args.framer.now) c.args.piece.now
+    (drop c.in_ok-taken.taken c.loop-rest.rest.now) (connection c.receive_pdu.new.session c.receive_pdu.new.framer) c.args.out.now.items
+    c.receive_pdu.new.out.items f) c.in-Some.is received)
     (sym c.is_closed.ensures ∙ c.if-is_closed.true)
 
 pub returns-in-Some-clause-unready : goal.returns-in-Some-clause-unready
 returns-in-Some-clause-unready c =
-    let ready = subst (λ (m : Machine). HearsReady (connection m c.take_bytes.new.framer) c.in_ok-fault.fault (connection c.hear_ready.new.session c.hear_ready.new.framer) c.loop-rest.out.items c.hear_ready.new.out.items) c.in_ok-taken.ensures.kept c.in_ok-fault.ensures.ok in
-    (heard_ready (connection c.args.session.now c.args.framer.now) c.args.piece.now c.loop-rest.rest.now c.args.out.now.items (connection c.loop-rest.session c.loop-rest.framer) c.loop-rest.out.items c.in_ok-taken.taken c.take_bytes.new.framer c.in_ok-fault.fault (connection c.hear_ready.new.session c.hear_ready.new.framer) c.hear_ready.new.out.items c.loop-rest.invariant c.in_ok-taken.ensures.ok ready).heard.unready
+    let ready = subst (λ (m : Machine). ReceivesPdu (connection m c.take_bytes.new.framer) c.in_ok-fault.fault
+    (connection c.receive_pdu.new.session c.receive_pdu.new.framer) c.loop-rest.out.items c.receive_pdu.new.out.items) c.in_ok-taken.ensures.kept
+    c.in_ok-fault.ensures.ok in
+    (received_ready (connection c.args.session.now c.args.framer.now) c.args.piece.now c.loop-rest.rest.now c.args.out.now.items
+    (connection c.loop-rest.session c.loop-rest.framer) c.loop-rest.out.items c.in_ok-taken.taken c.take_bytes.new.framer c.in_ok-fault.fault
+    (connection c.receive_pdu.new.session c.receive_pdu.new.framer) c.receive_pdu.new.out.items c.loop-rest.invariant c.in_ok-taken.ensures.ok
+    ready).received.unready
 
 pub returns-in-None-clause-fed : goal.returns-in-None-clause-fed
 returns-in-None-clause-fed c =
-    let ready = subst (λ (m : Machine). HearsReady (connection m c.take_bytes.new.framer) c.in_ok-fault.fault (connection c.hear_ready.new.session c.hear_ready.new.framer) c.loop-rest.out.items c.hear_ready.new.out.items) c.in_ok-taken.ensures.kept c.in_ok-fault.ensures.ok in
-    let heard = heard_ready (connection c.args.session.now c.args.framer.now) c.args.piece.now c.loop-rest.rest.now c.args.out.now.items (connection c.loop-rest.session c.loop-rest.framer) c.loop-rest.out.items c.in_ok-taken.taken c.take_bytes.new.framer c.in_ok-fault.fault (connection c.hear_ready.new.session c.hear_ready.new.framer) c.hear_ready.new.out.items c.loop-rest.invariant c.in_ok-taken.ensures.ok ready in
-    ends_closed (connection c.args.session.now c.args.framer.now) c.args.piece.now (drop c.in_ok-taken.taken c.loop-rest.rest.now) c.args.out.now.items (connection c.hear_ready.new.session c.hear_ready.new.framer) c.hear_ready.new.out.items c.in_ok-fault.fault
-    heard c.requires.live c.in-None.is (sym c.is_closed.ensures ∙ c.if-is_closed.true)
+    let ready = subst (λ (m : Machine). ReceivesPdu (connection m c.take_bytes.new.framer) c.in_ok-fault.fault
+    (connection c.receive_pdu.new.session c.receive_pdu.new.framer) c.loop-rest.out.items c.receive_pdu.new.out.items) c.in_ok-taken.ensures.kept
+    c.in_ok-fault.ensures.ok in
+    let received = received_ready (connection c.args.session.now c.args.framer.now) c.args.piece.now c.loop-rest.rest.now c.args.out.now.items
+    (connection c.loop-rest.session c.loop-rest.framer) c.loop-rest.out.items c.in_ok-taken.taken c.take_bytes.new.framer c.in_ok-fault.fault
+    (connection c.receive_pdu.new.session c.receive_pdu.new.framer) c.receive_pdu.new.out.items c.loop-rest.invariant c.in_ok-taken.ensures.ok ready in
+    ends_closed (connection c.args.session.now c.args.framer.now) c.args.piece.now (drop c.in_ok-taken.taken c.loop-rest.rest.now) c.args.out.now.items
+    (connection c.receive_pdu.new.session c.receive_pdu.new.framer) c.receive_pdu.new.out.items c.in_ok-fault.fault
+    received c.requires.live c.in-None.is (sym c.is_closed.ensures ∙ c.if-is_closed.true)
 
 pub returns-in-None-clause-unready : goal.returns-in-None-clause-unready
 returns-in-None-clause-unready c =
-    let ready = subst (λ (m : Machine). HearsReady (connection m c.take_bytes.new.framer) c.in_ok-fault.fault (connection c.hear_ready.new.session c.hear_ready.new.framer) c.loop-rest.out.items c.hear_ready.new.out.items) c.in_ok-taken.ensures.kept c.in_ok-fault.ensures.ok in
-    (heard_ready (connection c.args.session.now c.args.framer.now) c.args.piece.now c.loop-rest.rest.now c.args.out.now.items (connection c.loop-rest.session c.loop-rest.framer) c.loop-rest.out.items c.in_ok-taken.taken c.take_bytes.new.framer c.in_ok-fault.fault (connection c.hear_ready.new.session c.hear_ready.new.framer) c.hear_ready.new.out.items c.loop-rest.invariant c.in_ok-taken.ensures.ok ready).heard.unready
+    let ready = subst (λ (m : Machine). ReceivesPdu (connection m c.take_bytes.new.framer) c.in_ok-fault.fault
+    (connection c.receive_pdu.new.session c.receive_pdu.new.framer) c.loop-rest.out.items c.receive_pdu.new.out.items) c.in_ok-taken.ensures.kept
+    c.in_ok-fault.ensures.ok in
+    (received_ready (connection c.args.session.now c.args.framer.now) c.args.piece.now c.loop-rest.rest.now c.args.out.now.items
+    (connection c.loop-rest.session c.loop-rest.framer) c.loop-rest.out.items c.in_ok-taken.taken c.take_bytes.new.framer c.in_ok-fault.fault
+    (connection c.receive_pdu.new.session c.receive_pdu.new.framer) c.receive_pdu.new.out.items c.loop-rest.invariant c.in_ok-taken.ensures.ok
+    ready).received.unready
 
 pub loop-rest-smaller : goal.loop-rest-smaller
 loop-rest-smaller c =
     let some : 0 < length c.loop-rest.rest.now = omega (arith, eqb-false (length c.loop-rest.rest.now) 0 (sym c.loop-rest-test.ensures)) in
     let taken = c.in_ok-taken.ensures.ok in
-    let one = takes_some c.loop-rest.framer c.loop-rest.rest.now c.in_ok-taken.taken c.take_bytes.new.framer c.loop-rest.invariant.heard.unready taken some in
+    let one = takes_some c.loop-rest.framer c.loop-rest.rest.now c.in_ok-taken.taken c.take_bytes.new.framer c.loop-rest.invariant.received.unready taken some
+    in
     omega (arith, ap length (take_rest c.loop-rest.rest.now c.in_ok-taken.taken), length-drop c.in_ok-taken.taken c.loop-rest.rest.now, taken.bound, one, some)
 
 pub loop-rest-preserved : goal.loop-rest-preserved
 loop-rest-preserved c =
-    let ready = subst (λ (m : Machine). HearsReady (connection m c.take_bytes.new.framer) c.in_ok-fault.fault (connection c.hear_ready.new.session c.hear_ready.new.framer) c.loop-rest.out.items c.hear_ready.new.out.items) c.in_ok-taken.ensures.kept c.in_ok-fault.ensures.ok in
-    let heard = heard_ready (connection c.args.session.now c.args.framer.now) c.args.piece.now c.loop-rest.rest.now c.args.out.now.items (connection c.loop-rest.session c.loop-rest.framer) c.loop-rest.out.items c.in_ok-taken.taken c.take_bytes.new.framer c.in_ok-fault.fault (connection c.hear_ready.new.session c.hear_ready.new.framer) c.hear_ready.new.out.items c.loop-rest.invariant c.in_ok-taken.ensures.ok ready in
-    subst (λ (x : List ℕ). GoesUpTo (connection c.args.session.now c.args.framer.now) c.args.piece.now x (connection c.hear_ready.new.session c.hear_ready.new.framer) c.args.out.now.items c.hear_ready.new.out.items) (sym (take_rest c.loop-rest.rest.now c.in_ok-taken.taken))
-    (record { heard = heard.heard; live = sym c.is_closed.ensures ∙ c.if-is_closed.false })
+    let ready = subst (λ (m : Machine). ReceivesPdu (connection m c.take_bytes.new.framer) c.in_ok-fault.fault
+    (connection c.receive_pdu.new.session c.receive_pdu.new.framer) c.loop-rest.out.items c.receive_pdu.new.out.items) c.in_ok-taken.ensures.kept
+    c.in_ok-fault.ensures.ok in
+    let received = received_ready (connection c.args.session.now c.args.framer.now) c.args.piece.now c.loop-rest.rest.now c.args.out.now.items
+    (connection c.loop-rest.session c.loop-rest.framer) c.loop-rest.out.items c.in_ok-taken.taken c.take_bytes.new.framer c.in_ok-fault.fault
+    (connection c.receive_pdu.new.session c.receive_pdu.new.framer) c.receive_pdu.new.out.items c.loop-rest.invariant c.in_ok-taken.ensures.ok ready in
+    subst (λ (x : List ℕ). GoesUpTo (connection c.args.session.now c.args.framer.now) c.args.piece.now x
+    (connection c.receive_pdu.new.session c.receive_pdu.new.framer) c.args.out.now.items c.receive_pdu.new.out.items)
+    (sym (take_rest c.loop-rest.rest.now c.in_ok-taken.taken))
+    (record { received = received.received; live = sym c.is_closed.ensures ∙ c.if-is_closed.false })
 
 pub returns-clause-fed : goal.returns-clause-fed
 returns-clause-fed c =
-    ends_live (connection c.args.session.now c.args.framer.now) c.args.piece.now c.loop-rest.rest.now c.args.out.now.items (connection c.loop-rest.session c.loop-rest.framer) c.loop-rest.out.items c.phase.result c.loop-rest.invariant c.requires.live c.phase.ensures (eqb-true (length c.loop-rest.rest.now) 0 (sym c.loop-rest-test.ensures))
+    ends_live (connection c.args.session.now c.args.framer.now) c.args.piece.now c.loop-rest.rest.now c.args.out.now.items
+    (connection c.loop-rest.session c.loop-rest.framer) c.loop-rest.out.items c.phase.result c.loop-rest.invariant c.requires.live c.phase.ensures
+    (eqb-true (length c.loop-rest.rest.now) 0 (sym c.loop-rest-test.ensures))

@@ -1,6 +1,6 @@
 use Rattle.std.proofs.Common.{length}
 use Rattle.iscsi_initiator.specs.Inside.{connection}
-use Rattle.iscsi_initiator.proofs.Hearing.{GoesUpTo}
+use Rattle.iscsi_initiator.proofs.ReceivingLemmas.{GoesUpTo}
 use Rattle.iscsi_initiator.proofs.initiator.feed_all.Given as goal
 
 abbrev pub invariant-loop-rest : goal.invariant-loop-rest

@@ -1,4 +1,4 @@
-use Rattle.iscsi_initiator.proofs.OneOutcome.{one_feed, one_submit}
+use Rattle.iscsi_initiator.proofs.OneOutcomeLaw.{one_feed, one_submit}
 use Rattle.iscsi_initiator.proofs.laws.one_outcome.Goals as goal
 
 pub returns : goal.returns

@@ -1,4 +1,4 @@
-use Rattle.iscsi_login.proofs.Texts.{good_answer}
+use Rattle.iscsi_login.proofs.TextAgreementLaw.{good_answer}
 use Rattle.iscsi_login.proofs.laws.answer_is_good.Goals as goal
 
 pub returns : goal.returns

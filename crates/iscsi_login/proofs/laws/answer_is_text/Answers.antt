@@ -1,4 +1,4 @@
-use Rattle.iscsi_login.proofs.AnswerMeaning.{answer_meaning}
+use Rattle.iscsi_login.proofs.AnswerMeaningLaw.{answer_meaning}
 use Rattle.iscsi_login.proofs.laws.answer_is_text.Goals as goal
 
 pub returns : goal.returns

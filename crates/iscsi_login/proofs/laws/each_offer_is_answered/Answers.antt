@@ -1,4 +1,4 @@
-use Rattle.iscsi_login.proofs.Answers.{answers_of_key}
+use Rattle.iscsi_login.proofs.AnswerLemmas.{answers_of_key}
 use Rattle.iscsi_login.proofs.laws.each_offer_is_answered.Goals as goal
 
 pub returns : goal.returns

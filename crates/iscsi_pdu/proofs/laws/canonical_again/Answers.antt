@@ -1,5 +1,5 @@
 use Rattle.std.proofs.Common.{sym, ◌∙◌}
-use Rattle.iscsi_pdu.proofs.Headers.{again-means}
+use Rattle.iscsi_pdu.proofs.HeaderLemmas.{again-means}
 use Rattle.iscsi_pdu.proofs.laws.canonical_again.Goals as goal
 
 pub returns-clause-means : goal.returns-clause-means

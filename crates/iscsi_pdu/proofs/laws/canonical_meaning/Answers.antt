@@ -1,4 +1,4 @@
-use Rattle.iscsi_pdu.proofs.Headers.{writable-means}
+use Rattle.iscsi_pdu.proofs.HeaderLemmas.{writable-means}
 use Rattle.iscsi_pdu.proofs.laws.canonical_meaning.Goals as goal
 
 pub returns : goal.returns

@@ -1,4 +1,4 @@
-use Rattle.iscsi_pdu.proofs.Headers.{Means-writable}
+use Rattle.iscsi_pdu.proofs.HeaderLemmas.{Means-writable}
 use Rattle.iscsi_pdu.proofs.laws.meaning_is_writable.Goals as goal
 
 pub returns : goal.returns

@@ -1,4 +1,4 @@
-use Rattle.iscsi_pdu.proofs.Headers.{Means-unique}
+use Rattle.iscsi_pdu.proofs.HeaderLemmas.{Means-unique}
 use Rattle.iscsi_pdu.proofs.laws.one_meaning.Goals as goal
 
 pub returns : goal.returns

@@ -1,8 +1,8 @@
 use Rattle.std.proofs.Common.{[], inl, refl}
 use Rattle.std.proofs.KnownBytes.{Appends-nil}
 use Rattle.std.proofs.lemmas.Result.{err_from_is_err_and}
-use Rattle.iscsi_service.proofs.Histories.{script_stops, script_read, session_ends, login_stops, commands_stop, commands_end}
-use Rattle.iscsi_service.proofs.OnDisk.{login_stops_on, commands_stop_on, commands_end_on}
+use Rattle.iscsi_service.proofs.HistoryLemmas.{script_stops, script_read, session_ends, login_stops, commands_stop, commands_end}
+use Rattle.iscsi_service.proofs.OnDiskLaw.{login_stops_on, commands_stop_on, commands_end_on}
 use Rattle.iscsi_service.proofs.looping.run_over.Goals as goal
 
 pub returns-in_err-commands : goal.returns-in_err-commands
@@ -55,7 +55,8 @@ returns-in_err-run_commands g c =
     let before = g.W.Write.contents c.args.w.now in
     let between = g.W.Write.contents c.write_line.new.w in
     let after = g.W.Write.contents c.run_commands.new.w in
-    let s = commands_stop _ k.0 c.in_ok-commands.commands.items before between after _ k.3 k.2 c.in_ok-write_line.ensures.ok c.in_err-run_commands.ensures.err in
+    let s = commands_stop _ k.0 c.in_ok-commands.commands.items before between after _ k.3 k.2 c.in_ok-write_line.ensures.ok c.in_err-run_commands.ensures.err
+    in
     record {
       loops = rw (p.1, p.2) (k.0, s.0, k.1, s.1, s.2, s.3);
       on_disk = λ faithful.
@@ -71,7 +72,8 @@ returns g c =
     let before = g.W.Write.contents c.args.w.now in
     let between = g.W.Write.contents c.write_line.new.w in
     let after = g.W.Write.contents c.run_commands.new.w in
-    let s = commands_end c.close.result k.0 c.in_ok-commands.commands.items before between after _ c.close.ensures.err k.3 k.2 c.in_ok-write_line.ensures.ok c.in_ok-run_commands.ensures.runs in
+    let s = commands_end c.close.result k.0 c.in_ok-commands.commands.items before between after _ c.close.ensures.err k.3 k.2 c.in_ok-write_line.ensures.ok
+    c.in_ok-run_commands.ensures.runs in
     record {
       loops = (k.0, s.0, k.1, s.1, s.2, s.3);
       on_disk = λ faithful.

@@ -2,7 +2,7 @@ use Rattle.std.specs.Prelude.{codes}
 use Rattle.std.specs.Fmt.{decimal}
 use Rattle.std.specs.String.{string_bytes}
 use Rattle.std.proofs.Common.{◌≡◌, ◌++◌, length, ◌∙◌}
-use Rattle.iscsi_service.proofs.Reported.{ok_as, good_is}
+use Rattle.iscsi_service.proofs.ReportLemmas.{ok_as, good_is}
 use Rattle.iscsi_service.proofs.report.good.Goals as goal
 
 pub returns : goal.returns

@@ -1,14 +1,18 @@
 use Rattle.std.proofs.Common.{subst}
 use Rattle.iscsi_login.specs.Negotiation.{IsInRange}
 use Rattle.iscsi_target_session.specs.Configured.{Settings}
-use Rattle.iscsi_service.proofs.SessionReads.{fault_served}
+use Rattle.iscsi_service.proofs.SessionReadInvariant.{fault_served}
 use Rattle.iscsi_service.proofs.serving.serve_one.Goals as goal
 
 pub returns-clause-serves : goal.returns-clause-serves
 returns-clause-serves g c =
     let s = c.in-Err.ensures.serves in
-    let range : IsInRange c.args.config.preferences = subst (λ (x : Settings). IsInRange x.preferences) c.config.view_is c.config.invariant.2 in
-    (s.0, s.1, λ h. rw c.from.ensures (fault_served c.args.config (g.S.BlockStore.disk c.args.store.now) c.in-Err.fault s.0 (g.S.BlockStore.disk c.serve_stream.new.store) s.1 (s.5 range h)))
+    let range : IsInRange c.args.config.preferences = subst (λ (x : Settings). IsInRange x.preferences) c.config.view_is c.config.invariant.2 in (
+      s.0,
+      s.1,
+      λ h. rw c.from.ensures (fault_served c.args.config (g.S.BlockStore.disk c.args.store.now) c.in-Err.fault s.0
+          (g.S.BlockStore.disk c.serve_stream.new.store) s.1 (s.5 range h)),
+    )
 
 pub returns-in-Ok-serve_stream-clause-serves : goal.returns-in-Ok-serve_stream-clause-serves
 returns-in-Ok-serve_stream-clause-serves g c =

@@ -4,7 +4,8 @@ use Rattle.iscsi_target.specs.Machine.{is_closed}
 use Rattle.iscsi_target.specs.Feed.{Store}
 use Rattle.iscsi_target.specs.Inside.{store_of}
 use Rattle.iscsi_service.specs.SessionSteps.{service}
-use Rattle.iscsi_service.proofs.SessionReads.{next_goes, next_closes, next_is_closed, next_is_open, goes_written, write_loses, breaks_write, fault_breaks}
+use Rattle.iscsi_service.proofs.SessionReadInvariant.{next_goes, next_closes, next_is_closed, next_is_open, goes_written, write_loses, breaks_write}
+use Rattle.iscsi_service.proofs.SessionReadInvariant.{fault_breaks}
 use Rattle.iscsi_service.proofs.session.serve_next.Goals as goal
 
 pub returns-in_err-write_out-in-Ok-clause-err : goal.returns-in_err-write_out-in-Ok-clause-err
@@ -13,8 +14,11 @@ returns-in_err-write_out-in-Ok-clause-err g c =
     let after : Store = store_of (g.S.BlockStore.disk c.feed_next.new.store) (g.S.BlockStore.failures c.feed_next.new.store) in
     let contents = g.W.Write.contents c.args.w.now in
     let p = err_from_is_err_and c.from_residual.result c.from_residual.ensures.1 in
-    rw (p.1, p.2) (breaks_write (service c.args.target.now before contents c.args.out.now.items) (service c.feed_next.new.self after (g.W.Write.contents c.write_out.new.w) []) c.args.piece.now c.in_err-write_out-in-Ok.field-0.0 c.in_err-write_out-in-Ok.ensures.err.0
-    (write_loses c.args.target.now c.feed_next.new.self before after contents (g.W.Write.contents c.write_out.new.w) c.args.out.now.items c.args.piece.now c.feed_next.new.out.items [] c.feed_next.result c.feed_next.ensures.fed c.in_err-write_out-in-Ok.ensures.bytes c.in_err-write_out-in-Ok.ensures.err.1))
+    rw (p.1, p.2) (breaks_write (service c.args.target.now before contents c.args.out.now.items)
+    (service c.feed_next.new.self after (g.W.Write.contents c.write_out.new.w) []) c.args.piece.now c.in_err-write_out-in-Ok.field-0.0
+    c.in_err-write_out-in-Ok.ensures.err.0
+    (write_loses c.args.target.now c.feed_next.new.self before after contents (g.W.Write.contents c.write_out.new.w) c.args.out.now.items c.args.piece.now
+    c.feed_next.new.out.items [] c.feed_next.result c.feed_next.ensures.fed c.in_err-write_out-in-Ok.ensures.bytes c.in_err-write_out-in-Ok.ensures.err.1))
 
 pub returns-in_err-write_out-in-Err-clause-err : goal.returns-in_err-write_out-in-Err-clause-err
 returns-in_err-write_out-in-Err-clause-err g c =
@@ -22,8 +26,12 @@ returns-in_err-write_out-in-Err-clause-err g c =
     let after : Store = store_of (g.S.BlockStore.disk c.feed_next.new.store) (g.S.BlockStore.failures c.feed_next.new.store) in
     let contents = g.W.Write.contents c.args.w.now in
     let p = err_from_is_err_and c.from_residual-in_err-write_out-in-Err.result c.from_residual-in_err-write_out-in-Err.ensures.1 in
-    rw (p.1, p.2) (breaks_write (service c.args.target.now before contents c.args.out.now.items) (service c.feed_next.new.self after (g.W.Write.contents c.write_out-in-Err.new.w) []) c.args.piece.now c.in_err-write_out-in-Err.field-0.0 c.in_err-write_out-in-Err.ensures.err.0
-    (write_loses c.args.target.now c.feed_next.new.self before after contents (g.W.Write.contents c.write_out-in-Err.new.w) c.args.out.now.items c.args.piece.now c.feed_next.new.out.items [] c.feed_next.result c.feed_next.ensures.fed c.in_err-write_out-in-Err.ensures.bytes c.in_err-write_out-in-Err.ensures.err.1))
+    rw (p.1, p.2) (breaks_write (service c.args.target.now before contents c.args.out.now.items)
+    (service c.feed_next.new.self after (g.W.Write.contents c.write_out-in-Err.new.w) []) c.args.piece.now c.in_err-write_out-in-Err.field-0.0
+    c.in_err-write_out-in-Err.ensures.err.0
+    (write_loses c.args.target.now c.feed_next.new.self before after contents (g.W.Write.contents c.write_out-in-Err.new.w) c.args.out.now.items
+    c.args.piece.now c.feed_next.new.out.items [] c.feed_next.result c.feed_next.ensures.fed c.in_err-write_out-in-Err.ensures.bytes
+    c.in_err-write_out-in-Err.ensures.err.1))
 
 pub returns-in_ok-write_out-in-Ok-clause-goes : goal.returns-in_ok-write_out-in-Ok-clause-goes
 returns-in_ok-write_out-in-Ok-clause-goes g c =
@@ -31,8 +39,10 @@ returns-in_ok-write_out-in-Ok-clause-goes g c =
     let after : Store = store_of (g.S.BlockStore.disk c.feed_next.new.store) (g.S.BlockStore.failures c.feed_next.new.store) in
     let contents = g.W.Write.contents c.args.w.now in
     rw c.in_ok-write_out-in-Ok.ensures.none
-    (goes_written (service c.args.target.now before contents c.args.out.now.items) (take c.in-Ok.done.0 c.args.piece.now) c.feed_next.new.self after contents (g.W.Write.contents c.write_out.new.w) c.feed_next.new.out.items
-    (next_goes c.args.target.now c.feed_next.new.self before after contents c.args.out.now.items c.args.piece.now c.feed_next.new.out.items c.in-Ok.done c.in-Ok.ensures.fed)
+    (goes_written (service c.args.target.now before contents c.args.out.now.items)
+    (take c.in-Ok.done.0 c.args.piece.now) c.feed_next.new.self after contents (g.W.Write.contents c.write_out.new.w) c.feed_next.new.out.items
+    (next_goes c.args.target.now c.feed_next.new.self before after contents c.args.out.now.items c.args.piece.now c.feed_next.new.out.items c.in-Ok.done
+    c.in-Ok.ensures.fed)
     c.in_ok-write_out-in-Ok.ensures.bytes c.in_ok-write_out-in-Ok.ensures.ok)
 
 pub returns-in_ok-write_out-in-Ok-clause-closes : goal.returns-in_ok-write_out-in-Ok-clause-closes
@@ -41,8 +51,10 @@ returns-in_ok-write_out-in-Ok-clause-closes g c =
     let after : Store = store_of (g.S.BlockStore.disk c.feed_next.new.store) (g.S.BlockStore.failures c.feed_next.new.store) in
     let contents = g.W.Write.contents c.args.w.now in
     λ over. (
-      next_is_closed (is_closed c.args.target.now.machine) c.args.target.now c.feed_next.new.self before after c.args.out.now.items c.args.piece.now c.feed_next.new.out.items c.in-Ok.done c.in-Ok.ensures.fed over,
-      next_closes c.args.target.now c.feed_next.new.self before after contents c.args.out.now.items c.args.piece.now c.feed_next.new.out.items c.in-Ok.done c.in-Ok.ensures.fed over,
+      next_is_closed (is_closed c.args.target.now.machine) c.args.target.now c.feed_next.new.self before after c.args.out.now.items c.args.piece.now
+          c.feed_next.new.out.items c.in-Ok.done c.in-Ok.ensures.fed over,
+      next_closes c.args.target.now c.feed_next.new.self before after contents c.args.out.now.items c.args.piece.now c.feed_next.new.out.items c.in-Ok.done
+          c.in-Ok.ensures.fed over,
     )
 
 pub returns-else-len-gt-MOST_WAITING-clause-goes : goal.returns-else-len-gt-MOST_WAITING-clause-goes
@@ -50,7 +62,8 @@ returns-else-len-gt-MOST_WAITING-clause-goes g c =
     let before : Store = store_of (g.S.BlockStore.disk c.args.store.now) (g.S.BlockStore.failures c.args.store.now) in
     let after : Store = store_of (g.S.BlockStore.disk c.feed_next.new.store) (g.S.BlockStore.failures c.feed_next.new.store) in
     let contents = g.W.Write.contents c.args.w.now in
-    next_goes c.args.target.now c.feed_next.new.self before after contents c.args.out.now.items c.args.piece.now c.feed_next.new.out.items c.in-Ok.done c.in-Ok.ensures.fed
+    next_goes c.args.target.now c.feed_next.new.self before after contents c.args.out.now.items c.args.piece.now c.feed_next.new.out.items c.in-Ok.done
+    c.in-Ok.ensures.fed
 
 pub returns-else-len-gt-MOST_WAITING-clause-closes : goal.returns-else-len-gt-MOST_WAITING-clause-closes
 returns-else-len-gt-MOST_WAITING-clause-closes g c =
@@ -58,8 +71,10 @@ returns-else-len-gt-MOST_WAITING-clause-closes g c =
     let after : Store = store_of (g.S.BlockStore.disk c.feed_next.new.store) (g.S.BlockStore.failures c.feed_next.new.store) in
     let contents = g.W.Write.contents c.args.w.now in
     λ over. (
-      next_is_closed (is_closed c.args.target.now.machine) c.args.target.now c.feed_next.new.self before after c.args.out.now.items c.args.piece.now c.feed_next.new.out.items c.in-Ok.done c.in-Ok.ensures.fed over,
-      next_closes c.args.target.now c.feed_next.new.self before after contents c.args.out.now.items c.args.piece.now c.feed_next.new.out.items c.in-Ok.done c.in-Ok.ensures.fed over,
+      next_is_closed (is_closed c.args.target.now.machine) c.args.target.now c.feed_next.new.self before after c.args.out.now.items c.args.piece.now
+          c.feed_next.new.out.items c.in-Ok.done c.in-Ok.ensures.fed over,
+      next_closes c.args.target.now c.feed_next.new.self before after contents c.args.out.now.items c.args.piece.now c.feed_next.new.out.items c.in-Ok.done
+          c.in-Ok.ensures.fed over,
     )
 
 pub returns-in_ok-write_out-in-Err-clause-err : goal.returns-in_ok-write_out-in-Err-clause-err
@@ -67,17 +82,20 @@ returns-in_ok-write_out-in-Err-clause-err g c =
     let before : Store = store_of (g.S.BlockStore.disk c.args.store.now) (g.S.BlockStore.failures c.args.store.now) in
     let after : Store = store_of (g.S.BlockStore.disk c.feed_next.new.store) (g.S.BlockStore.failures c.feed_next.new.store) in
     let contents = g.W.Write.contents c.args.w.now in
-    fault_breaks c.args.target.now c.feed_next.new.self before after contents (g.W.Write.contents c.write_out-in-Err.new.w) c.args.out.now.items c.args.piece.now c.feed_next.new.out.items c.in-Err.fault c.requires.live c.in-Err.ensures.fed
+    fault_breaks c.args.target.now c.feed_next.new.self before after contents (g.W.Write.contents c.write_out-in-Err.new.w) c.args.out.now.items
+    c.args.piece.now c.feed_next.new.out.items c.in-Err.fault c.requires.live c.in-Err.ensures.fed
     c.in_ok-write_out-in-Err.ensures.bytes c.in_ok-write_out-in-Err.ensures.ok
 
 pub returns-in_ok-write_out-in-Ok-clause-open : goal.returns-in_ok-write_out-in-Ok-clause-open
 returns-in_ok-write_out-in-Ok-clause-open g c =
     let before : Store = store_of (g.S.BlockStore.disk c.args.store.now) (g.S.BlockStore.failures c.args.store.now) in
     let after : Store = store_of (g.S.BlockStore.disk c.feed_next.new.store) (g.S.BlockStore.failures c.feed_next.new.store) in
-    λ open_. next_is_open (is_closed c.args.target.now.machine) c.args.target.now c.feed_next.new.self before after c.args.out.now.items c.args.piece.now c.feed_next.new.out.items c.in-Ok.done c.in-Ok.ensures.fed open_
+    λ open_. next_is_open (is_closed c.args.target.now.machine) c.args.target.now c.feed_next.new.self before after c.args.out.now.items c.args.piece.now
+    c.feed_next.new.out.items c.in-Ok.done c.in-Ok.ensures.fed open_
 
 pub returns-else-len-gt-MOST_WAITING-clause-open : goal.returns-else-len-gt-MOST_WAITING-clause-open
 returns-else-len-gt-MOST_WAITING-clause-open g c =
     let before : Store = store_of (g.S.BlockStore.disk c.args.store.now) (g.S.BlockStore.failures c.args.store.now) in
     let after : Store = store_of (g.S.BlockStore.disk c.feed_next.new.store) (g.S.BlockStore.failures c.feed_next.new.store) in
-    λ open_. next_is_open (is_closed c.args.target.now.machine) c.args.target.now c.feed_next.new.self before after c.args.out.now.items c.args.piece.now c.feed_next.new.out.items c.in-Ok.done c.in-Ok.ensures.fed open_
+    λ open_. next_is_open (is_closed c.args.target.now.machine) c.args.target.now c.feed_next.new.self before after c.args.out.now.items c.args.piece.now
+    c.feed_next.new.out.items c.in-Ok.done c.in-Ok.ensures.fed open_

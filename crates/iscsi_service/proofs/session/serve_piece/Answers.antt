@@ -5,72 +5,98 @@ use Rattle.std.proofs.lemmas.Result.{err_from_is_err_and}
 use Rattle.iscsi_target.specs.Feed.{Store}
 use Rattle.iscsi_target.specs.Inside.{store_of}
 use Rattle.iscsi_service.specs.SessionSteps.{Service, service}
-use Rattle.iscsi_service.proofs.SessionReads.{PieceUpTo, piece_next, piece_breaks, piece_lost, piece_done, piece_over, piece_closes}
+use Rattle.iscsi_service.proofs.SessionReadInvariant.{PieceUpTo, piece_next, piece_breaks, piece_lost, piece_done, piece_over, piece_closes}
 use Rattle.iscsi_service.proofs.session.serve_piece.Goals as goal
 
 pub returns-in_err-taken-clause-err : goal.returns-in_err-taken-clause-err
 returns-in_err-taken-clause-err g c =
-    let old : Service = service c.args.target.now (store_of (g.S.BlockStore.disk c.args.store.now) (g.S.BlockStore.failures c.args.store.now)) (g.W.Write.contents c.args.w.now) [] in
-    let mid : Service = service c.loop-rest.target (store_of (g.S.BlockStore.disk c.loop-rest.store) (g.S.BlockStore.failures c.loop-rest.store)) (g.W.Write.contents c.loop-rest.w) c.loop-rest.out.items in
+    let old : Service = service c.args.target.now (store_of (g.S.BlockStore.disk c.args.store.now) (g.S.BlockStore.failures c.args.store.now))
+    (g.W.Write.contents c.args.w.now) [] in
+    let mid : Service = service c.loop-rest.target (store_of (g.S.BlockStore.disk c.loop-rest.store) (g.S.BlockStore.failures c.loop-rest.store))
+    (g.W.Write.contents c.loop-rest.w) c.loop-rest.out.items in
     let after : Store = store_of (g.S.BlockStore.disk c.serve_next.new.store) (g.S.BlockStore.failures c.serve_next.new.store) in
     let p = err_from_is_err_and c.from_residual.result c.from_residual.ensures.1 in
-    rw (p.1, p.2) (piece_breaks old mid (service c.serve_next.new.target after (g.W.Write.contents c.serve_next.new.w) []) c.args.piece.now c.loop-rest.rest.now c.in_err-taken.field-0.0 c.loop-rest.invariant.1 c.in_err-taken.ensures.err)
+    rw (p.1, p.2) (piece_breaks old mid (service c.serve_next.new.target after (g.W.Write.contents c.serve_next.new.w) []) c.args.piece.now c.loop-rest.rest.now
+    c.in_err-taken.field-0.0 c.loop-rest.invariant.1 c.in_err-taken.ensures.err)
 
 pub returns-in_err-write_out-clause-err : goal.returns-in_err-write_out-clause-err
 returns-in_err-write_out-clause-err g c =
-    let old : Service = service c.args.target.now (store_of (g.S.BlockStore.disk c.args.store.now) (g.S.BlockStore.failures c.args.store.now)) (g.W.Write.contents c.args.w.now) [] in
-    let mid : Service = service c.loop-rest.target (store_of (g.S.BlockStore.disk c.loop-rest.store) (g.S.BlockStore.failures c.loop-rest.store)) (g.W.Write.contents c.loop-rest.w) c.loop-rest.out.items in
+    let old : Service = service c.args.target.now (store_of (g.S.BlockStore.disk c.args.store.now) (g.S.BlockStore.failures c.args.store.now))
+    (g.W.Write.contents c.args.w.now) [] in
+    let mid : Service = service c.loop-rest.target (store_of (g.S.BlockStore.disk c.loop-rest.store) (g.S.BlockStore.failures c.loop-rest.store))
+    (g.W.Write.contents c.loop-rest.w) c.loop-rest.out.items in
     let after : Store = store_of (g.S.BlockStore.disk c.serve_next.new.store) (g.S.BlockStore.failures c.serve_next.new.store) in
     let contents = g.W.Write.contents c.serve_next.new.w in
     let new : Service = service c.serve_next.new.target after contents c.serve_next.new.out.items in
     let left : List ℕ = drop c.in_ok-taken.taken c.loop-rest.rest.now in
-    let up : PieceUpTo old c.args.piece.now left new = piece_next old mid new c.args.piece.now c.loop-rest.rest.now c.in_ok-taken.taken c.loop-rest.invariant.1 c.in_ok-taken.ensures.goes in
+    let up : PieceUpTo old c.args.piece.now left new = piece_next old mid new c.args.piece.now c.loop-rest.rest.now c.in_ok-taken.taken c.loop-rest.invariant.1
+    c.in_ok-taken.ensures.goes in
     let p = err_from_is_err_and c.from_residual-in_err-write_out.result c.from_residual-in_err-write_out.ensures.1 in
-    rw (p.1, p.2) (piece_lost old c.args.piece.now left c.serve_next.new.target after contents (g.W.Write.contents c.write_out.new.w) c.serve_next.new.out.items c.in_err-write_out.field-0.0 up c.in_err-write_out.ensures.err.0 c.in_err-write_out.ensures.bytes c.in_err-write_out.ensures.err.1)
+    rw (p.1, p.2) (piece_lost old c.args.piece.now left c.serve_next.new.target after contents (g.W.Write.contents c.write_out.new.w) c.serve_next.new.out.items
+    c.in_err-write_out.field-0.0 up c.in_err-write_out.ensures.err.0 c.in_err-write_out.ensures.bytes c.in_err-write_out.ensures.err.1)
 
 pub returns-then-is_over-clause-goes : goal.returns-then-is_over-clause-goes
 returns-then-is_over-clause-goes g c =
-    let old : Service = service c.args.target.now (store_of (g.S.BlockStore.disk c.args.store.now) (g.S.BlockStore.failures c.args.store.now)) (g.W.Write.contents c.args.w.now) [] in
-    let mid : Service = service c.loop-rest.target (store_of (g.S.BlockStore.disk c.loop-rest.store) (g.S.BlockStore.failures c.loop-rest.store)) (g.W.Write.contents c.loop-rest.w) c.loop-rest.out.items in
+    let old : Service = service c.args.target.now (store_of (g.S.BlockStore.disk c.args.store.now) (g.S.BlockStore.failures c.args.store.now))
+    (g.W.Write.contents c.args.w.now) [] in
+    let mid : Service = service c.loop-rest.target (store_of (g.S.BlockStore.disk c.loop-rest.store) (g.S.BlockStore.failures c.loop-rest.store))
+    (g.W.Write.contents c.loop-rest.w) c.loop-rest.out.items in
     let after : Store = store_of (g.S.BlockStore.disk c.serve_next.new.store) (g.S.BlockStore.failures c.serve_next.new.store) in
     let contents = g.W.Write.contents c.serve_next.new.w in
     let new : Service = service c.serve_next.new.target after contents c.serve_next.new.out.items in
     let left : List ℕ = drop c.in_ok-taken.taken c.loop-rest.rest.now in
-    let up : PieceUpTo old c.args.piece.now left new = piece_next old mid new c.args.piece.now c.loop-rest.rest.now c.in_ok-taken.taken c.loop-rest.invariant.1 c.in_ok-taken.ensures.goes in
+    let up : PieceUpTo old c.args.piece.now left new = piece_next old mid new c.args.piece.now c.loop-rest.rest.now c.in_ok-taken.taken c.loop-rest.invariant.1
+    c.in_ok-taken.ensures.goes in
     let over = c.in_ok-taken.ensures.closes (sym c.is_over.ensures ∙ c.if-is_over.true) in
-    piece_over old c.args.piece.now left c.serve_next.new.target after contents (g.W.Write.contents c.write_out.new.w) c.serve_next.new.out.items up over.0 c.in_ok-write_out.ensures.bytes c.in_ok-write_out.ensures.ok
+    piece_over old c.args.piece.now left c.serve_next.new.target after contents (g.W.Write.contents c.write_out.new.w) c.serve_next.new.out.items up over.0
+    c.in_ok-write_out.ensures.bytes c.in_ok-write_out.ensures.ok
 
 pub returns-then-is_over-clause-closes : goal.returns-then-is_over-clause-closes
 returns-then-is_over-clause-closes g c = λ _.
-    let old : Service = service c.args.target.now (store_of (g.S.BlockStore.disk c.args.store.now) (g.S.BlockStore.failures c.args.store.now)) (g.W.Write.contents c.args.w.now) [] in
-    let mid : Service = service c.loop-rest.target (store_of (g.S.BlockStore.disk c.loop-rest.store) (g.S.BlockStore.failures c.loop-rest.store)) (g.W.Write.contents c.loop-rest.w) c.loop-rest.out.items in
+    let old : Service = service c.args.target.now (store_of (g.S.BlockStore.disk c.args.store.now) (g.S.BlockStore.failures c.args.store.now))
+    (g.W.Write.contents c.args.w.now) [] in
+    let mid : Service = service c.loop-rest.target (store_of (g.S.BlockStore.disk c.loop-rest.store) (g.S.BlockStore.failures c.loop-rest.store))
+    (g.W.Write.contents c.loop-rest.w) c.loop-rest.out.items in
     let after : Store = store_of (g.S.BlockStore.disk c.serve_next.new.store) (g.S.BlockStore.failures c.serve_next.new.store) in
     let over = c.in_ok-taken.ensures.closes (sym c.is_over.ensures ∙ c.if-is_over.true) in
     piece_closes old mid c.args.piece.now c.loop-rest.rest.now c.in_ok-taken.taken after c.loop-rest.invariant.1 over.1
 
 pub loop-rest-preserved : goal.loop-rest-preserved
 loop-rest-preserved g c =
-    let old : Service = service c.args.target.now (store_of (g.S.BlockStore.disk c.args.store.now) (g.S.BlockStore.failures c.args.store.now)) (g.W.Write.contents c.args.w.now) [] in
-    let mid : Service = service c.loop-rest.target (store_of (g.S.BlockStore.disk c.loop-rest.store) (g.S.BlockStore.failures c.loop-rest.store)) (g.W.Write.contents c.loop-rest.w) c.loop-rest.out.items in
+    let old : Service = service c.args.target.now (store_of (g.S.BlockStore.disk c.args.store.now) (g.S.BlockStore.failures c.args.store.now))
+    (g.W.Write.contents c.args.w.now) [] in
+    let mid : Service = service c.loop-rest.target (store_of (g.S.BlockStore.disk c.loop-rest.store) (g.S.BlockStore.failures c.loop-rest.store))
+    (g.W.Write.contents c.loop-rest.w) c.loop-rest.out.items in
     let after : Store = store_of (g.S.BlockStore.disk c.serve_next.new.store) (g.S.BlockStore.failures c.serve_next.new.store) in
     let contents = g.W.Write.contents c.serve_next.new.w in
     let new : Service = service c.serve_next.new.target after contents c.serve_next.new.out.items in
     let left : List ℕ = drop c.in_ok-taken.taken c.loop-rest.rest.now in
-    let up : PieceUpTo old c.args.piece.now left new = piece_next old mid new c.args.piece.now c.loop-rest.rest.now c.in_ok-taken.taken c.loop-rest.invariant.1 c.in_ok-taken.ensures.goes in
-    (c.in_ok-taken.ensures.open (sym c.is_over.ensures ∙ c.if-is_over.false), subst (λ (x : List ℕ). PieceUpTo old c.args.piece.now x new) (sym (take_rest c.loop-rest.rest.now c.in_ok-taken.taken)) up)
+    let up : PieceUpTo old c.args.piece.now left new = piece_next old mid new c.args.piece.now c.loop-rest.rest.now c.in_ok-taken.taken c.loop-rest.invariant.1
+    c.in_ok-taken.ensures.goes in (
+      c.in_ok-taken.ensures.open (sym c.is_over.ensures ∙ c.if-is_over.false),
+      subst (λ (x : List ℕ). PieceUpTo old c.args.piece.now x new)
+          (sym (take_rest c.loop-rest.rest.now c.in_ok-taken.taken)) up,
+    )
 
 pub returns-in_err-write_out-2-clause-err : goal.returns-in_err-write_out-2-clause-err
 returns-in_err-write_out-2-clause-err g c =
-    let old : Service = service c.args.target.now (store_of (g.S.BlockStore.disk c.args.store.now) (g.S.BlockStore.failures c.args.store.now)) (g.W.Write.contents c.args.w.now) [] in
-    let mid : Service = service c.loop-rest.target (store_of (g.S.BlockStore.disk c.loop-rest.store) (g.S.BlockStore.failures c.loop-rest.store)) (g.W.Write.contents c.loop-rest.w) c.loop-rest.out.items in
+    let old : Service = service c.args.target.now (store_of (g.S.BlockStore.disk c.args.store.now) (g.S.BlockStore.failures c.args.store.now))
+    (g.W.Write.contents c.args.w.now) [] in
+    let mid : Service = service c.loop-rest.target (store_of (g.S.BlockStore.disk c.loop-rest.store) (g.S.BlockStore.failures c.loop-rest.store))
+    (g.W.Write.contents c.loop-rest.w) c.loop-rest.out.items in
     let store : Store = store_of (g.S.BlockStore.disk c.loop-rest.store) (g.S.BlockStore.failures c.loop-rest.store) in
     let p = err_from_is_err_and c.from_residual-in_err-write_out-2.result c.from_residual-in_err-write_out-2.ensures.1 in
-    rw (p.1, p.2) (piece_lost old c.args.piece.now c.loop-rest.rest.now c.loop-rest.target store (g.W.Write.contents c.loop-rest.w) (g.W.Write.contents c.write_out-2.new.w) c.loop-rest.out.items c.in_err-write_out-2.field-0.0 c.loop-rest.invariant.1 c.in_err-write_out-2.ensures.err.0 c.in_err-write_out-2.ensures.bytes c.in_err-write_out-2.ensures.err.1)
+    rw (p.1, p.2) (piece_lost old c.args.piece.now c.loop-rest.rest.now c.loop-rest.target store (g.W.Write.contents c.loop-rest.w)
+    (g.W.Write.contents c.write_out-2.new.w) c.loop-rest.out.items c.in_err-write_out-2.field-0.0 c.loop-rest.invariant.1 c.in_err-write_out-2.ensures.err.0
+    c.in_err-write_out-2.ensures.bytes c.in_err-write_out-2.ensures.err.1)
 
 pub returns-clause-goes : goal.returns-clause-goes
 returns-clause-goes g c =
-    let old : Service = service c.args.target.now (store_of (g.S.BlockStore.disk c.args.store.now) (g.S.BlockStore.failures c.args.store.now)) (g.W.Write.contents c.args.w.now) [] in
-    let mid : Service = service c.loop-rest.target (store_of (g.S.BlockStore.disk c.loop-rest.store) (g.S.BlockStore.failures c.loop-rest.store)) (g.W.Write.contents c.loop-rest.w) c.loop-rest.out.items in
+    let old : Service = service c.args.target.now (store_of (g.S.BlockStore.disk c.args.store.now) (g.S.BlockStore.failures c.args.store.now))
+    (g.W.Write.contents c.args.w.now) [] in
+    let mid : Service = service c.loop-rest.target (store_of (g.S.BlockStore.disk c.loop-rest.store) (g.S.BlockStore.failures c.loop-rest.store))
+    (g.W.Write.contents c.loop-rest.w) c.loop-rest.out.items in
     let store : Store = store_of (g.S.BlockStore.disk c.loop-rest.store) (g.S.BlockStore.failures c.loop-rest.store) in
-    piece_done old c.args.piece.now c.loop-rest.rest.now c.loop-rest.target store (g.W.Write.contents c.loop-rest.w) (g.W.Write.contents c.write_out-2.new.w) c.loop-rest.out.items c.loop-rest.invariant.1
+    piece_done old c.args.piece.now c.loop-rest.rest.now c.loop-rest.target store (g.W.Write.contents c.loop-rest.w)
+    (g.W.Write.contents c.write_out-2.new.w) c.loop-rest.out.items c.loop-rest.invariant.1
     (eqb-true (length c.loop-rest.rest.now) 0 (sym c.loop-rest-test.ensures)) c.in_ok-write_out-2.ensures.bytes c.in_ok-write_out-2.ensures.ok

@@ -2,7 +2,7 @@ use Rattle.std.proofs.Common.{◌≡◌, false, length, []}
 use Rattle.iscsi_target.specs.Machine.{is_closed}
 use Rattle.iscsi_target.specs.Inside.{store_of}
 use Rattle.iscsi_service.specs.SessionSteps.{service}
-use Rattle.iscsi_service.proofs.SessionReads.{PieceUpTo}
+use Rattle.iscsi_service.proofs.SessionReadInvariant.{PieceUpTo}
 use Rattle.iscsi_service.proofs.session.serve_piece.Given as goal
 
 abbrev pub invariant-loop-rest : goal.invariant-loop-rest

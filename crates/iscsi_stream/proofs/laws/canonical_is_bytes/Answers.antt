@@ -1,6 +1,6 @@
 use Rattle.iscsi_stream.specs.Segment.{no_login}
 use Rattle.iscsi_stream.specs.Stream.{longest_segment}
-use Rattle.iscsi_stream.proofs.Closed.{canon_bytes}
+use Rattle.iscsi_stream.proofs.CanonBytesLaw.{canon_bytes}
 use Rattle.iscsi_stream.proofs.laws.canonical_is_bytes.Goals as goal
 
 pub returns : goal.returns

@@ -1,4 +1,4 @@
-use Rattle.iscsi_stream.proofs.Places.{end_is, is_end}
+use Rattle.iscsi_stream.proofs.PlaceLemmas.{end_is, is_end}
 use Rattle.iscsi_stream.proofs.laws.end_fault.Goals as goal
 
 pub returns : goal.returns

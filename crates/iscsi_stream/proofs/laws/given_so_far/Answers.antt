@@ -1,5 +1,5 @@
-use Rattle.iscsi_stream.proofs.Taking.{splits_taken}
-use Rattle.iscsi_stream.proofs.Ready.{unready_of}
+use Rattle.iscsi_stream.proofs.TakingLemmas.{splits_taken}
+use Rattle.iscsi_stream.proofs.ReadyLemmas.{unready_of}
 use Rattle.iscsi_stream.proofs.laws.given_so_far.Goals as goal
 
 pub returns : goal.returns

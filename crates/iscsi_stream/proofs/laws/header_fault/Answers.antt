@@ -1,4 +1,4 @@
-use Rattle.iscsi_stream.proofs.PassOn.{header_splits}
+use Rattle.iscsi_stream.proofs.PassingLemmas.{header_splits}
 use Rattle.iscsi_stream.proofs.laws.header_fault.Goals as goal
 
 pub returns : goal.returns

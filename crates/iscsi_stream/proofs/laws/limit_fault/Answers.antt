@@ -1,4 +1,4 @@
-use Rattle.iscsi_stream.proofs.PassOn.{limit_splits}
+use Rattle.iscsi_stream.proofs.PassingLemmas.{limit_splits}
 use Rattle.iscsi_stream.proofs.laws.limit_fault.Goals as goal
 
 pub returns : goal.returns

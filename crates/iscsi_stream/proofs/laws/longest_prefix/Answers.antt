@@ -1,6 +1,6 @@
 use Rattle.std.proofs.Common.{sym, ◌∙◌}
 use Rattle.iscsi_stream.specs.Segment.{no_login}
-use Rattle.iscsi_stream.proofs.Meaning.{longest}
+use Rattle.iscsi_stream.proofs.OneMeaningLaw.{longest}
 use Rattle.iscsi_stream.proofs.laws.longest_prefix.Goals as goal
 
 pub returns : goal.returns

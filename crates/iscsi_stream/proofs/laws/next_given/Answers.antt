@@ -1,4 +1,4 @@
-use Rattle.iscsi_stream.proofs.Taking.{gave}
+use Rattle.iscsi_stream.proofs.TakingLemmas.{gave}
 use Rattle.iscsi_stream.proofs.laws.next_given.Goals as goal
 
 pub returns : goal.returns

@@ -1,4 +1,4 @@
-use Rattle.iscsi_stream.proofs.Meaning.{all_given}
+use Rattle.iscsi_stream.proofs.OneMeaningLaw.{all_given}
 use Rattle.iscsi_stream.proofs.laws.no_rest.Goals as goal
 
 pub returns : goal.returns

@@ -1,6 +1,6 @@
 use Rattle.iscsi_stream.specs.Segment.{no_login}
 use Rattle.iscsi_stream.specs.Stream.{longest_segment}
-use Rattle.iscsi_stream.proofs.Meaning.{one_meaning}
+use Rattle.iscsi_stream.proofs.OneMeaningLaw.{one_meaning}
 use Rattle.iscsi_stream.proofs.laws.one_meaning.Goals as goal
 
 pub returns : goal.returns

@@ -1,6 +1,6 @@
 use Rattle.std.proofs.Common.{sym, ◌∙◌}
 use Rattle.iscsi_stream.specs.Segment.{no_login}
-use Rattle.iscsi_stream.proofs.Meaning.{same_split}
+use Rattle.iscsi_stream.proofs.OneMeaningLaw.{same_split}
 use Rattle.iscsi_stream.proofs.laws.one_split.Goals as goal
 
 pub returns : goal.returns

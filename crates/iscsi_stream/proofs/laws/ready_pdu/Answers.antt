@@ -1,4 +1,4 @@
-use Rattle.iscsi_stream.proofs.Places.{stands_at}
+use Rattle.iscsi_stream.proofs.PlaceLemmas.{stands_at}
 use Rattle.iscsi_stream.proofs.laws.ready_pdu.Goals as goal
 
 pub returns : goal.returns

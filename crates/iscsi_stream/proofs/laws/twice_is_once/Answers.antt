@@ -2,7 +2,7 @@ use Rattle.std.proofs.Common.{ap}
 use Rattle.iscsi_stream.specs.Segment.{no_login}
 use Rattle.iscsi_stream.specs.Stream.{longest_segment}
 use Rattle.iscsi_stream.specs.Canonical.{canon}
-use Rattle.iscsi_stream.proofs.Meaning.{canon_again, one_meaning}
+use Rattle.iscsi_stream.proofs.OneMeaningLaw.{canon_again, one_meaning}
 use Rattle.iscsi_stream.proofs.laws.twice_is_once.Goals as goal
 
 pub returns : goal.returns

@@ -1,13 +1,15 @@
 use Rattle.std.proofs.Common.{List, ℕ, sym, subst, ◌∙◌, arith}
 use Rattle.iscsi_stream.specs.Stream.{Splits, longest_segment}
-use Rattle.iscsi_target.proofs.Feeding.{fed_stream, fed_any, fed_holds, same_session}
+use Rattle.iscsi_target.proofs.FeedingLemmas.{fed_stream, fed_any, fed_holds, same_session}
 use Rattle.iscsi_target.proofs.laws.any_pieces.Goals as goal
 
 pub returns : goal.returns
 returns c = record {
   meets = λ settings n store after pieces target written ms. fed_stream settings n store pieces target after written ms;
-  writes = λ settings n store after pieces target written ms given rest p. fed_any settings n store pieces target after written ms given rest (omega (arith, p.max_recv.1));
-  holds = λ settings n store after pieces target written ms given rest p. fed_holds settings n store pieces target after written ms given rest (omega (arith, p.max_recv.1));
+  writes = λ settings n store after pieces target written ms given rest p. fed_any settings n store pieces target after written ms given rest
+      (omega (arith, p.max_recv.1));
+  holds = λ settings n store after pieces target written ms given rest p. fed_holds settings n store pieces target after written ms given rest
+      (omega (arith, p.max_recv.1));
   alike = λ settings n store first second pieces others a b written rewritten ms given rest p s e f g.
       let t = subst (λ (x : List ℕ). Splits longest_segment x ms given rest) (sym e) s in
       let one = fed_any settings n store pieces a first written ms given rest (omega (arith, p.max_recv.1)) f s in

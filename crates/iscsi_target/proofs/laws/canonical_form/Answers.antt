@@ -1,9 +1,9 @@
 use Rattle.std.proofs.Common.{List, ℕ, sym, subst, ◌∙◌}
 use Rattle.iscsi_stream.specs.Segment.{no_login}
 use Rattle.iscsi_stream.specs.Stream.{longest_segment, ReadsAs}
-use Rattle.iscsi_stream.proofs.Meaning.{canon_again}
+use Rattle.iscsi_stream.proofs.OneMeaningLaw.{canon_again}
 use Rattle.iscsi_target.specs.Feed.{Meets, stream_of}
-use Rattle.iscsi_target.proofs.Feeding.{fed_stream}
+use Rattle.iscsi_target.proofs.FeedingLemmas.{fed_stream}
 use Rattle.iscsi_target.proofs.laws.canonical_form.Goals as goal
 
 pub returns : goal.returns

@@ -1,9 +1,9 @@
 use Rattle.std.proofs.Common.{◌∙◌, sym}
 use Rattle.iscsi_target.specs.Machine.{answers}
-use Rattle.iscsi_target.proofs.DiskFold.{answers_fold}
-use Rattle.iscsi_target.proofs.Numbers.{answers_tags}
-use Rattle.iscsi_target.proofs.Leading.{may_leads}
-use Rattle.iscsi_target.proofs.Accepted.{opening_in_order, tags_of_tasks}
+use Rattle.iscsi_target.proofs.DiskFoldLemmas.{answers_fold}
+use Rattle.iscsi_target.proofs.NumberLaws.{answers_tags}
+use Rattle.iscsi_target.proofs.FailingDiskLemmas.{may_leads}
+use Rattle.iscsi_target.proofs.AcceptedOrderLaw.{opening_in_order, tags_of_tasks}
 use Rattle.iscsi_target.proofs.laws.one_disk.Goals as goal
 
 pub returns : goal.returns

@@ -2,7 +2,7 @@ use Rattle.std.proofs.Common.{List, ℕ, ap, sym, subst}
 use Rattle.iscsi_stream.specs.Segment.{no_login}
 use Rattle.iscsi_stream.specs.Stream.{Message, longest_segment, ReadsAs}
 use Rattle.iscsi_stream.specs.Canonical.{canon}
-use Rattle.iscsi_stream.proofs.Meaning.{canon_again, one_meaning}
+use Rattle.iscsi_stream.proofs.OneMeaningLaw.{canon_again, one_meaning}
 use Rattle.iscsi_target.specs.State.{opening}
 use Rattle.iscsi_target.specs.Machine.{answers}
 use Rattle.iscsi_target.proofs.laws.one_meaning_one_answer.Goals as goal

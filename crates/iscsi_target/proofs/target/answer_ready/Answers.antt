@@ -2,11 +2,11 @@ use Rattle.std.proofs.Common.{◌≡◌, ◌≤◌, Bool, ℕ, length, refl, sym
 use Rattle.iscsi_stream.specs.Segment.{continues}
 use Rattle.iscsi_stream.specs.Framing.{Framing, is_ready, message_of}
 use Rattle.iscsi_stream.specs.Stream.{Message, message}
-use Rattle.iscsi_stream.proofs.PassOn.{unready_after}
+use Rattle.iscsi_stream.proofs.PassingLemmas.{unready_after}
 use Rattle.iscsi_target.specs.State.{Machine, closed}
 use Rattle.iscsi_target.specs.Inside.{HaltsAt}
-use Rattle.iscsi_target.proofs.Dispatching.{over_none}
-use Rattle.iscsi_target.proofs.Shutting.{halts_closed, halts_settings}
+use Rattle.iscsi_target.proofs.DispatchLemmas.{over_none}
+use Rattle.iscsi_target.proofs.OutOfMemoryLemmas.{halts_closed, halts_settings}
 use Rattle.iscsi_target.proofs.target.answer_ready.Goals as goal
 
 pub answer_pdu-requires-clause-within : goal.answer_pdu-requires-clause-within
@@ -19,17 +19,31 @@ returns-in-Err-clause-err g c =
     let gone = c.take-in-Err.ensures.taken c.in-Some.pdu.head c.in-Some.pdu.bytes.now (c.in-Some.ensures.ready.0 refl) c.in-Some.ensures.means in
     let m : Message = message c.continued.result c.in-Some.pdu.head c.in-Some.pdu.bytes.now in
     let continued : c.continued.result ≡ continues c.args.framer.now.logins c.in-Some.pdu.head = search rules in
-    let same : m ≡ message_of c.args.framer.now c.in-Some.pdu.head c.in-Some.pdu.bytes.now = ap (λ (b : Bool). message b c.in-Some.pdu.head c.in-Some.pdu.bytes.now) continued in
-    let halts : HaltsAt (g.S.BlockStore.failures c.args.store.now) (g.S.BlockStore.failures c.answer_pdu.new.store) c.args.machine.now (g.S.BlockStore.disk c.args.store.now) m c.answer_pdu.new.self (g.S.BlockStore.disk c.answer_pdu.new.store) c.args.out.now.items c.answer_pdu.new.out.items = c.in-Err.ensures.err in
-    let within = over_none c.args.machine.now c.continued.result c.in-Some.pdu.head c.in-Some.pdu.bytes.now (subst (λ (n : ℕ). length c.in-Some.pdu.bytes.now ≤ n) c.requires.limit c.in-Some.ensures.within) in
+    let same : m ≡ message_of c.args.framer.now c.in-Some.pdu.head c.in-Some.pdu.bytes.now =
+    ap (λ (b : Bool). message b c.in-Some.pdu.head c.in-Some.pdu.bytes.now) continued in
+    let halts : HaltsAt (g.S.BlockStore.failures c.args.store.now) (g.S.BlockStore.failures c.answer_pdu.new.store) c.args.machine.now
+    (g.S.BlockStore.disk c.args.store.now) m c.answer_pdu.new.self (g.S.BlockStore.disk c.answer_pdu.new.store) c.args.out.now.items
+    c.answer_pdu.new.out.items = c.in-Err.ensures.err in
+    let within = over_none c.args.machine.now c.continued.result c.in-Some.pdu.head c.in-Some.pdu.bytes.now
+    (subst (λ (n : ℕ). length c.in-Some.pdu.bytes.now ≤ n) c.requires.limit c.in-Some.ensures.within) in
     record {
       head = c.in-Some.pdu.head;
       segment = c.in-Some.pdu.bytes.now;
       means = c.in-Some.ensures.means;
       unready = ap is_ready gone ∙ unready_after c.args.framer.now c.in-Some.pdu.head;
       limit = ap (λ (v : Framing). v.limit) gone;
-      settings = ap (λ (x : Machine). x.session.settings) c.close.ensures ∙ halts_settings (g.S.BlockStore.failures c.args.store.now) (g.S.BlockStore.failures c.answer_pdu.new.store) c.args.machine.now (g.S.BlockStore.disk c.args.store.now) m c.answer_pdu.new.self (g.S.BlockStore.disk c.answer_pdu.new.store) c.args.out.now.items c.answer_pdu.new.out.items c.requires.live within halts;
+      settings = ap (λ (x : Machine). x.session.settings) c.close.ensures ∙ halts_settings (g.S.BlockStore.failures c.args.store.now)
+          (g.S.BlockStore.failures c.answer_pdu.new.store) c.args.machine.now (g.S.BlockStore.disk c.args.store.now) m c.answer_pdu.new.self
+          (g.S.BlockStore.disk c.answer_pdu.new.store) c.args.out.now.items c.answer_pdu.new.out.items c.requires.live within halts;
       closed_ = c.close.ensures ∙ ap closed (sym c.close.ensures);
-      halts = subst (λ (x : Machine). HaltsAt (g.S.BlockStore.failures c.args.store.now) (g.S.BlockStore.failures c.answer_pdu.new.store) c.args.machine.now (g.S.BlockStore.disk c.args.store.now) (message_of c.args.framer.now c.in-Some.pdu.head c.in-Some.pdu.bytes.now) x (g.S.BlockStore.disk c.answer_pdu.new.store) c.args.out.now.items c.answer_pdu.new.out.items) (sym c.close.ensures)
-          (subst (λ (x : Message). HaltsAt (g.S.BlockStore.failures c.args.store.now) (g.S.BlockStore.failures c.answer_pdu.new.store) c.args.machine.now (g.S.BlockStore.disk c.args.store.now) x (closed c.answer_pdu.new.self) (g.S.BlockStore.disk c.answer_pdu.new.store) c.args.out.now.items c.answer_pdu.new.out.items) same (halts_closed (g.S.BlockStore.failures c.args.store.now) (g.S.BlockStore.failures c.answer_pdu.new.store) c.args.machine.now (g.S.BlockStore.disk c.args.store.now) m c.answer_pdu.new.self (g.S.BlockStore.disk c.answer_pdu.new.store) c.args.out.now.items c.answer_pdu.new.out.items halts));
+      halts = subst (λ (x : Machine). HaltsAt (g.S.BlockStore.failures c.args.store.now)
+          (g.S.BlockStore.failures c.answer_pdu.new.store) c.args.machine.now (g.S.BlockStore.disk c.args.store.now)
+          (message_of c.args.framer.now c.in-Some.pdu.head c.in-Some.pdu.bytes.now) x (g.S.BlockStore.disk c.answer_pdu.new.store) c.args.out.now.items
+          c.answer_pdu.new.out.items) (sym c.close.ensures)
+          (subst (λ (x : Message). HaltsAt (g.S.BlockStore.failures c.args.store.now)
+          (g.S.BlockStore.failures c.answer_pdu.new.store) c.args.machine.now (g.S.BlockStore.disk c.args.store.now) x (closed c.answer_pdu.new.self)
+          (g.S.BlockStore.disk c.answer_pdu.new.store) c.args.out.now.items c.answer_pdu.new.out.items) same
+          (halts_closed (g.S.BlockStore.failures c.args.store.now) (g.S.BlockStore.failures c.answer_pdu.new.store) c.args.machine.now
+          (g.S.BlockStore.disk c.args.store.now) m c.answer_pdu.new.self (g.S.BlockStore.disk c.answer_pdu.new.store) c.args.out.now.items
+          c.answer_pdu.new.out.items halts));
     }

@@ -2,7 +2,7 @@ use Rattle.std.proofs.Common.{List, ℕ, drop, refl, ◌∙◌}
 use Rattle.std.proofs.lemmas.Result.{err_from_is_err_and}
 use Rattle.iscsi_target.specs.Feed.{Connection, Store}
 use Rattle.iscsi_target.specs.Inside.{connection, store_of}
-use Rattle.iscsi_target.proofs.FeedLoop.{fed_none, fed_one, ends_failed, ends_broken, next_fed}
+use Rattle.iscsi_target.proofs.FeedInvariant.{fed_none, fed_one, ends_failed, ends_broken, next_fed}
 use Rattle.iscsi_target.proofs.target.feed_once.Goals as goal
 
 pub returns-in_err-taken-clause-fed : goal.returns-in_err-taken-clause-fed
@@ -25,9 +25,11 @@ returns-in-Some-clause-fed g c =
     let after : Store = store_of (g.S.BlockStore.disk c.feed_one.new.store) (g.S.BlockStore.failures c.feed_one.new.store) in
     let out : List ℕ = c.args.out.now.items in
     let piece : List ℕ = c.args.piece.now in
-    let fed = fed_one old before out piece piece (drop c.in_ok-taken.taken piece) old before out c.in_ok-taken.taken c.in_ok-taken.broken new after c.feed_one.new.out.items
+    let fed = fed_one old before out piece piece (drop c.in_ok-taken.taken piece) old before out c.in_ok-taken.taken c.in_ok-taken.broken new after
+    c.feed_one.new.out.items
     (fed_none old before out piece c.requires.unready c.requires.live) c.in_ok-taken.ensures.ok refl in
-    ends_broken old before out piece (drop c.in_ok-taken.taken piece) new after c.feed_one.new.out.items c.in-Some.rule fed.fed (fed.rule ∙ c.in-Some.is) c.phase-phase.ensures.joined
+    ends_broken old before out piece (drop c.in_ok-taken.taken piece) new after c.feed_one.new.out.items c.in-Some.rule fed.fed (fed.rule
+    ∙ c.in-Some.is) c.phase-phase.ensures.joined
 
 pub returns-in-None-clause-fed : goal.returns-in-None-clause-fed
 returns-in-None-clause-fed g c =

@@ -4,7 +4,7 @@ use Rattle.iscsi_target_session.specs.Session.{limit}
 use Rattle.iscsi_target.specs.State.{Machine}
 use Rattle.iscsi_target.specs.Feed.{Connection, Store}
 use Rattle.iscsi_target.specs.Inside.{connection, store_of, AnswersReady}
-use Rattle.iscsi_target.proofs.FeedLoop.{fed_none, fed_one, stays_within}
+use Rattle.iscsi_target.proofs.FeedInvariant.{fed_none, fed_one, stays_within}
 use Rattle.iscsi_target.proofs.target.feed_one.Goals as goal
 
 pub returns-clause-ok : goal.returns-clause-ok
@@ -15,7 +15,8 @@ returns-clause-ok g c =
     record {
       framing = c.take_bytes.new.framer;
       takes = c.in_ok-taken.ensures.ok;
-      answers = subst (λ (m : Machine). AnswersReady (connection m c.take_bytes.new.framer) before c.args.out.now.items c.in_ok-broken.broken new after c.answer_ready.new.out.items)
+      answers = subst (λ (m : Machine). AnswersReady (connection m c.take_bytes.new.framer) before c.args.out.now.items c.in_ok-broken.broken new after
+          c.answer_ready.new.out.items)
           c.in_ok-taken.ensures.kept c.in_ok-broken.ensures.ok;
     }
 
@@ -27,7 +28,8 @@ returns-clause-limit g c =
     let after : Store = store_of (g.S.BlockStore.disk c.answer_ready.new.store) (g.S.BlockStore.failures c.answer_ready.new.store) in
     let out : List ℕ = c.args.out.now.items in
     let piece : List ℕ = c.args.piece.now in
-    let fed = fed_one old before out piece piece (drop c.in_ok-taken.taken piece) old before out c.in_ok-taken.taken c.in_ok-broken.broken new after c.answer_ready.new.out.items
+    let fed = fed_one old before out piece piece (drop c.in_ok-taken.taken piece) old before out c.in_ok-taken.taken c.in_ok-broken.broken new after
+    c.answer_ready.new.out.items
     (fed_none old before out piece c.requires.unready c.requires.live) (returns-clause-ok g c) refl in
     stays_within old before out piece (drop c.in_ok-taken.taken piece) new after c.answer_ready.new.out.items fed.fed c.requires.limit
 
@@ -39,7 +41,8 @@ returns-clause-unready g c =
     let after : Store = store_of (g.S.BlockStore.disk c.answer_ready.new.store) (g.S.BlockStore.failures c.answer_ready.new.store) in
     let out : List ℕ = c.args.out.now.items in
     let piece : List ℕ = c.args.piece.now in
-    let fed = fed_one old before out piece piece (drop c.in_ok-taken.taken piece) old before out c.in_ok-taken.taken c.in_ok-broken.broken new after c.answer_ready.new.out.items
+    let fed = fed_one old before out piece piece (drop c.in_ok-taken.taken piece) old before out c.in_ok-taken.taken c.in_ok-broken.broken new after
+    c.answer_ready.new.out.items
     (fed_none old before out piece c.requires.unready c.requires.live) (returns-clause-ok g c) refl in
     fed.fed.answered.ready
 

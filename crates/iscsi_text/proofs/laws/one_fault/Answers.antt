@@ -1,4 +1,4 @@
-use Rattle.iscsi_text.proofs.Faults as faults
+use Rattle.iscsi_text.proofs.FaultLemmas as faults
 use Rattle.iscsi_text.proofs.laws.one_fault.Goals as goal
 
 pub returns : goal.returns

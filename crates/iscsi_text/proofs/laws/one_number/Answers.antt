@@ -1,4 +1,4 @@
-use Rattle.iscsi_text.proofs.Spelled as spelled
+use Rattle.iscsi_text.proofs.NumeralLemmas as spelled
 use Rattle.iscsi_text.proofs.laws.one_number.Goals as goal
 
 pub returns : goal.returns

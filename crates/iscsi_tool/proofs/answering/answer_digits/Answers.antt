@@ -1,8 +1,8 @@
 use Rattle.std.proofs.Common.{rules, ap, subst}
 use Rattle.iscsi_tool.specs.Spelling.{Finishes}
 use Rattle.iscsi_tool.specs.declared.hex_writer.LentWriter.{LentWriter}
-use Rattle.iscsi_tool.proofs.Answered.{spells}
-use Rattle.iscsi_tool.proofs.Spelled.{through_lent}
+use Rattle.iscsi_tool.proofs.AnsweredLemmas.{spells}
+use Rattle.iscsi_tool.proofs.SpellingLemmas.{through_lent}
 use Rattle.std.specs.Io.KnownBytes.{Appends}
 use Rattle.iscsi_tool.proofs.answering.answer_digits.Goals as goal
 

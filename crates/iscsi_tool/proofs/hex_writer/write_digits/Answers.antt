@@ -1,5 +1,5 @@
 use Rattle.std.proofs.Common.{arith, rules}
-use Rattle.iscsi_tool.proofs.Spelled.{even_written, odd_written, cut_written}
+use Rattle.iscsi_tool.proofs.SpellingLemmas.{even_written, odd_written, cut_written}
 use Rattle.iscsi_tool.proofs.hex_writer.write_digits.Goals as goal
 
 pub returns-then-taken-eq0-clause-ok : goal.returns-then-taken-eq0-clause-ok

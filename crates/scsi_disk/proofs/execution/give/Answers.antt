@@ -3,7 +3,7 @@ use Rattle.scsi_disk.specs.declared.planning.Transfer.{Transfer}
 use Rattle.scsi_disk.specs.Disk.{blocks_from}
 use Rattle.scsi_disk.specs.Effect.{good}
 use Rattle.scsi_disk.specs.Plan.{is_read, wanted_length}
-use Rattle.scsi_disk.proofs.Planned.{read_gives}
+use Rattle.scsi_disk.proofs.PlanLemmas.{read_gives}
 use Rattle.scsi_disk.proofs.execution.give.Goals as goal
 
 pub returns-then-is_read-clause-ok : goal.returns-then-is_read-clause-ok

@@ -1,6 +1,6 @@
 use Rattle.std.proofs.Common.{arith, ap}
 use Rattle.scsi_disk.specs.declared.planning.Transfer.{Transfer}
-use Rattle.scsi_disk.proofs.Planned.{taken}
+use Rattle.scsi_disk.proofs.PlanLemmas.{taken}
 use Rattle.scsi_disk.proofs.execution.take.Goals as goal
 
 pub write-requires-clause-whole : goal.write-requires-clause-whole

@@ -1,5 +1,5 @@
 use Rattle.std.proofs.Common.{refl}
-use Rattle.scsi_disk.proofs.Steps.{ran_rises, ran_outcomes, ran_disk}
+use Rattle.scsi_disk.proofs.RunLemmas.{ran_rises, ran_outcomes, ran_disk}
 use Rattle.scsi_disk.proofs.laws.run_without_failures.Goals as goal
 
 pub returns-clause-rises : goal.returns-clause-rises

@@ -1,7 +1,7 @@
 use Rattle.std.proofs.Common.{◌+◌, ◌++◌, ◌∷◌, [], ◌∙◌, refl, arith}
 use Rattle.std.proofs.lemmas.List.{take_all}
 use Rattle.scsi_disk.specs.Runs.{RunsSome}
-use Rattle.scsi_disk.proofs.Steps.{on_err, ran_none, ran_next}
+use Rattle.scsi_disk.proofs.RunLemmas.{on_err, ran_none, ran_next}
 use Rattle.scsi_disk.proofs.running.run_orders.Goals as goal
 
 pub loop-order-init : goal.loop-order-init
@@ -21,8 +21,15 @@ pub returns-in_err-outcome-clause-err : goal.returns-in_err-outcome-clause-err
 returns-in_err-outcome-clause-err g c =
     let failures = g.S.BlockStore.failures in
     let disk = g.S.BlockStore.disk in
-    let ran : RunsSome (failures c.args.store.now) (disk c.args.store.now) c.args.orders.now (failures c.execute.new.store) (disk c.execute.new.store) =
-    (c.loop-order.order-index, c.loop-order.told.items, omega arith, rw (c.in_err-outcome.ensures.err, c.in_err-outcome.ensures.err_failures) c.loop-order.invariant.ran) in
+    let ran : RunsSome (failures c.args.store.now) (disk c.args.store.now) c.args.orders.now (failures c.execute.new.store) (disk c.execute.new.store) = (
+      c.loop-order.order-index,
+      c.loop-order.told.items,
+      omega arith,
+      rw (
+        c.in_err-outcome.ensures.err,
+        c.in_err-outcome.ensures.err_failures,
+      ) c.loop-order.invariant.ran,
+    ) in
     on_err _ ran
 
 pub returns-in_err-push-clause-err : goal.returns-in_err-push-clause-err
@@ -33,8 +40,12 @@ returns-in_err-push-clause-err g c =
     let i = c.loop-order.order-index in
     let o = c.loop-order-item.result in
     let done = rw c.as_slice.ensures at c.in_ok-outcome.ensures.ok in
-    let ran : RunsSome (failures c.args.store.now) (disk c.args.store.now) orders (failures c.execute.new.store) (disk c.execute.new.store) =
-    (i + 1, c.loop-order.told.items ++ c.in_ok-outcome.outcome ∷ [], omega arith, ran_next orders i o (omega arith) c.loop-order-item.is _ _ _ _ _ _ _ c.loop-order.invariant.ran done) in
+    let ran : RunsSome (failures c.args.store.now) (disk c.args.store.now) orders (failures c.execute.new.store) (disk c.execute.new.store) = (
+      i + 1,
+      c.loop-order.told.items ++ c.in_ok-outcome.outcome ∷ [],
+      omega arith,
+      ran_next orders i o (omega arith) c.loop-order-item.is _ _ _ _ _ _ _ c.loop-order.invariant.ran done,
+    ) in
     on_err _ ran
 
 pub loop-order-preserved : goal.loop-order-preserved

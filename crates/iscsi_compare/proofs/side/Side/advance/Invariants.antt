@@ -3,7 +3,8 @@ use Rattle.iscsi_compare.specs.Inside.{fuel, IsOpen, ReadsOn, Stands}
 use Rattle.iscsi_compare.proofs.side.Side.advance.Given as goal
 
 abbrev pub invariant-loop-self : goal.invariant-loop-self
-invariant-loop-self g l = IsOpen l.self × (l.self.which ≡ l.initial.self.which) × (fuel l.self ≤ fuel l.initial.self) × ReadsOn l.initial.self (g.R.Read.remaining l.initial.r) (g.R.Read.remaining l.r) (Stands true l.self)
+invariant-loop-self g l = IsOpen l.self × (l.self.which ≡ l.initial.self.which) × (fuel l.self ≤ fuel l.initial.self)
+    × ReadsOn l.initial.self (g.R.Read.remaining l.initial.r) (g.R.Read.remaining l.r) (Stands true l.self)
 
 abbrev pub decreases-loop-self : goal.decreases-loop-self
 decreases-loop-self g l = 16777216 - l.self.reads

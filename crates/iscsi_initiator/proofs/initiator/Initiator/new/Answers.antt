@@ -1,6 +1,6 @@
 use Rattle.std.proofs.Common.{ap, ◌∙◌}
 use Rattle.iscsi_stream.specs.Framing.{is_ready}
-use Rattle.iscsi_stream.proofs.Ready.{not_whole-nil}
+use Rattle.iscsi_stream.proofs.ReadyLemmas.{not_whole-nil}
 use Rattle.iscsi_initiator.proofs.initiator.Initiator.new.Goals as goal
 
 pub invariant_of-result : goal.invariant_of-result

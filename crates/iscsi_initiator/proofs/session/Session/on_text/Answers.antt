@@ -1,13 +1,15 @@
 use Rattle.std.proofs.Common.{◌≡◌, refl, sym, ap, ◌∙◌, None}
 use Rattle.iscsi_login.specs.Check.{bad_key}
 use Rattle.iscsi_initiator.specs.State.{Machine}
-use Rattle.iscsi_initiator.specs.Login.{offered, counted, asked}
-use Rattle.iscsi_initiator.proofs.Sending.{settled}
+use Rattle.iscsi_initiator.specs.Login.{offered, counted, requested_stage}
+use Rattle.iscsi_initiator.proofs.LoginSendLemmas.{settled}
 use Rattle.iscsi_initiator.proofs.session.Session.on_text.Goals as goal
 
 pub returns-clause-ok : goal.returns-clause-ok
 returns-clause-ok c =
     let none : bad_key (offered c.args.self.now) c.args.answer.now ≡ None = rw (← c.self.view_is) (sym c.bad_key.ensures.key ∙ c.in_default.is) in
-    let next : c.asked_from-next.result ≡ asked c.args.self.now = c.asked_from-next.ensures ∙ ap (λ (m : Machine). asked m) c.self.view_is in
-    let did = rw (next, c.count.ensures) at c.in_default-enter.ensures.ok in
-    rw (none, c.hold.ensures) (settled (asked c.args.self.now) (counted c.args.self.now c.args.response.now) c.enter.new.self c.args.answer.now _ _ _ did refl)
+    let next : c.following_stage-next.result ≡ requested_stage c.args.self.now = c.following_stage-next.ensures
+    ∙ ap (λ (m : Machine). requested_stage m) c.self.view_is in
+    let did = rw (next, c.count.ensures) at c.in_default-begin_stage.ensures.ok in
+    rw (none, c.hold.ensures) (settled (requested_stage c.args.self.now) (counted c.args.self.now c.args.response.now) c.begin_stage.new.self c.args.answer.now
+    _ _ _ did refl)

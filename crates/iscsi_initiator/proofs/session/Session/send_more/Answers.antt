@@ -1,5 +1,5 @@
 use Rattle.std.proofs.Common.{◌∙◌}
-use Rattle.iscsi_initiator.proofs.Sending.{sent_more}
+use Rattle.iscsi_initiator.proofs.LoginSendLemmas.{sent_more}
 use Rattle.iscsi_initiator.proofs.session.Session.send_more.Goals as goal
 
 pub returns-clause-ok : goal.returns-clause-ok

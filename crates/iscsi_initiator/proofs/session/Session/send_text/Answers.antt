@@ -1,6 +1,6 @@
 use Rattle.std.proofs.Common.{◌∙◌}
 use Rattle.iscsi_initiator.specs.contracts.session.Session.{the_view}
-use Rattle.iscsi_initiator.proofs.Sending.{sent_text}
+use Rattle.iscsi_initiator.proofs.LoginSendLemmas.{sent_text}
 use Rattle.iscsi_initiator.proofs.session.Session.send_text.Goals as goal
 
 pub returns-clause-ok : goal.returns-clause-ok

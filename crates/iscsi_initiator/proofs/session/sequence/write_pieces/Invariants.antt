@@ -1,5 +1,5 @@
 use Rattle.std.proofs.Common.{length}
-use Rattle.iscsi_initiator.proofs.Pieces.{Wrote}
+use Rattle.iscsi_initiator.proofs.SequenceLemmas.{Wrote}
 use Rattle.iscsi_initiator.proofs.session.sequence.write_pieces.Given as goal
 
 abbrev pub invariant-loop-rest : goal.invariant-loop-rest

@@ -4,7 +4,7 @@ use Rattle.iscsi_login.specs.Key.{IsWithin}
 use Rattle.iscsi_login.specs.Negotiation.{max_recv_range}
 use Rattle.iscsi_login.specs.Held.{Held, IsHeld}
 use Rattle.iscsi_login.specs.Answer.{declared_max_recv}
-use Rattle.iscsi_login.proofs.Agreement.{EachAllowed, allowed_after_answer, declared_within}
+use Rattle.iscsi_login.proofs.AgreementLaw.{EachAllowed, allowed_after_answer, declared_within}
 use Rattle.iscsi_login.proofs.params.Params.hold_answer.Goals as goal
 
 pub invariant_of-self : goal.invariant_of-self
@@ -12,8 +12,10 @@ invariant_of-self c =
     let before : IsHeld c.args.self.now = subst IsHeld c.self.view_is c.self.invariant in
     record {
       values = subst EachAllowed (sym c.values_after_answer-values.ensures) (allowed_after_answer c.args.answer.now c.args.self.now before.values);
-      target_max_recv = subst (IsWithin max_recv_range) (sym (c.unwrap_or-target_max_recv.ensures ∙ ap (λ m. unwrap_or m c.self.inside.target_max_recv) c.declared_max_recv.ensures.value))
-          (declared_within max_recv_range c.self.inside.target_max_recv (declared_max_recv c.args.answer.now) c.self.invariant.target_max_recv (subst (λ m. IfSome m (IsWithin max_recv_range)) c.declared_max_recv.ensures.value c.declared_max_recv.ensures.within));
+      target_max_recv = subst (IsWithin max_recv_range) (sym (c.unwrap_or-target_max_recv.ensures
+          ∙ ap (λ m. unwrap_or m c.self.inside.target_max_recv) c.declared_max_recv.ensures.value))
+          (declared_within max_recv_range c.self.inside.target_max_recv (declared_max_recv c.args.answer.now) c.self.invariant.target_max_recv
+          (subst (λ m. IfSome m (IsWithin max_recv_range)) c.declared_max_recv.ensures.value c.declared_max_recv.ensures.within));
       initiator_max_recv = subst (IsWithin max_recv_range) (sym c.unwrap_or-initiator_max_recv.ensures)
           (declared_within max_recv_range c.self.inside.initiator_max_recv c.args.max_recv c.self.invariant.initiator_max_recv c.requires.declares);
     }

@@ -1,7 +1,7 @@
 use Rattle.std.proofs.Common.{rules, refl}
 use Rattle.iscsi_login.specs.Key.{all_keys}
 use Rattle.iscsi_login.specs.Answer.{value_after_answer}
-use Rattle.iscsi_login.proofs.Mapped.{maps}
+use Rattle.iscsi_login.proofs.ArrayMapLemmas.{maps}
 use Rattle.iscsi_login.proofs.params.Params.values_after_answer.Goals as goal
 
 pub returns : goal.returns

@@ -1,5 +1,5 @@
 use Rattle.std.proofs.Common.{ap, ◌∙◌}
-use Rattle.iscsi_pdu.proofs.Headers.{Means-unique}
+use Rattle.iscsi_pdu.proofs.HeaderLemmas.{Means-unique}
 use Rattle.iscsi_stream.specs.Segment.{continues}
 use Rattle.iscsi_stream.proofs.framer.Framer.continued.Goals as goal
 

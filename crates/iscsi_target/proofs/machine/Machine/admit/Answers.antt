@@ -3,24 +3,29 @@ use Rattle.iscsi_target.specs.declared.tasks.Task.{Task}
 use Rattle.iscsi_target.specs.State.{Machine, waiting, takes_place}
 use Rattle.iscsi_target.specs.Command.{task_of}
 use Rattle.iscsi_target.specs.Inside.{Works, store_of}
-use Rattle.iscsi_target.proofs.Turns.{with_tasks}
-use Rattle.iscsi_target.proofs.Window.{few_more, no_length}
-use Rattle.iscsi_target.proofs.Serving.{on_err}
-use Rattle.iscsi_target.proofs.Dispatching.{keeps_rules, takes_as}
-use Rattle.iscsi_target.proofs.Working.{alone_works, short_works}
+use Rattle.iscsi_target.proofs.TurnLemmas.{with_tasks}
+use Rattle.iscsi_target.proofs.WindowLemmas.{few_more, no_length}
+use Rattle.iscsi_target.proofs.ServingLemmas.{on_err}
+use Rattle.iscsi_target.proofs.DispatchLemmas.{keeps_rules, takes_as}
+use Rattle.iscsi_target.proofs.TaskRunLemmas.{alone_works, short_works}
 use Rattle.iscsi_target.proofs.machine.Machine.admit.Goals as goal
 
 pub returns-then-len-eq0 : goal.returns-then-len-eq0
 returns-then-len-eq0 g c =
-    let none : c.args.self.now.tasks ≡ [] = ap (λ (x : Machine). x.tasks) (sym c.self.view_is) ∙ no_length c.self.inside.tasks (omega (arith, c.len.ensures.value, c.if-len-eq0.true)) in
-    alone_works c.handle.result c.args.self.now c.args.received.now (store_of (g.S.BlockStore.disk c.args.store.now) (g.S.BlockStore.failures c.args.store.now)) c.args.out.now.items c.handle.new.self (store_of (g.S.BlockStore.disk c.handle.new.store) (g.S.BlockStore.failures c.handle.new.store)) c.handle.new.out.items none (keeps_rules c.args.self.now c.args.received.now c.requires.kept) c.handle.ensures
+    let none : c.args.self.now.tasks ≡ [] = ap (λ (x : Machine). x.tasks) (sym c.self.view_is)
+    ∙ no_length c.self.inside.tasks (omega (arith, c.len.ensures.value, c.if-len-eq0.true)) in
+    alone_works c.handle.result c.args.self.now c.args.received.now (store_of (g.S.BlockStore.disk c.args.store.now) (g.S.BlockStore.failures c.args.store.now))
+    c.args.out.now.items c.handle.new.self (store_of (g.S.BlockStore.disk c.handle.new.store) (g.S.BlockStore.failures c.handle.new.store))
+    c.handle.new.out.items none (keeps_rules c.args.self.now c.args.received.now c.requires.kept) c.handle.ensures
 
 pub task-requires : goal.task-requires
 task-requires g c = record { keeps = keeps_rules c.args.self.now c.args.received.now c.requires.kept }
 
 pub returns-in_err-task : goal.returns-in_err-task
 returns-in_err-task g c =
-    let h = short_works c.in_err-task.field-0.0 c.args.self.now (c.args.self.now.tasks ++ task_of (g.S.BlockStore.disk c.args.store.now).count c.args.received.now ∷ []) (store_of (g.S.BlockStore.disk c.args.store.now) (g.S.BlockStore.failures c.args.store.now)) c.args.out.now.items in
+    let h = short_works c.in_err-task.field-0.0 c.args.self.now (c.args.self.now.tasks
+    ++ task_of (g.S.BlockStore.disk c.args.store.now).count c.args.received.now ∷ [])
+    (store_of (g.S.BlockStore.disk c.args.store.now) (g.S.BlockStore.failures c.args.store.now)) c.args.out.now.items in
     record { ok = search rules; err = on_err c.from_residual.result h.err }
 
 pub push-requires-clause-place : goal.push-requires-clause-place
@@ -37,7 +42,13 @@ push-requires-clause-room g c =
 
 pub returns : goal.returns
 returns g c =
-    let task : c.in_ok-task.task ≡ task_of (g.S.BlockStore.disk c.args.store.now).count c.args.received.now = c.in_ok-task.ensures ∙ ap (λ (n : ℕ). task_of n c.args.received.now) c.blocks-2.ensures.count in
-    let pushed : with_tasks c.self.inside.session c.push.new.self ≡ with_tasks c.args.self.now.session (c.args.self.now.tasks ++ task_of (g.S.BlockStore.disk c.args.store.now).count c.args.received.now ∷ []) =
-    ap (with_tasks c.self.inside.session) (c.push.ensures ∙ ap (λ (t : Task). c.self.inside.tasks ++ t ∷ []) task) ∙ ap (λ (x : Machine). with_tasks x.session (x.tasks ++ task_of (g.S.BlockStore.disk c.args.store.now).count c.args.received.now ∷ [])) c.self.view_is in
-    subst (λ (x : Machine). Works x.session x.tasks c.work_off.result (store_of (g.S.BlockStore.disk c.args.store.now) (g.S.BlockStore.failures c.args.store.now)) c.args.out.now.items c.work_off.new.self (store_of (g.S.BlockStore.disk c.work_off.new.store) (g.S.BlockStore.failures c.work_off.new.store)) c.work_off.new.out.items) pushed c.work_off.ensures
+    let task : c.in_ok-task.task ≡ task_of (g.S.BlockStore.disk c.args.store.now).count c.args.received.now = c.in_ok-task.ensures
+    ∙ ap (λ (n : ℕ). task_of n c.args.received.now) c.blocks-2.ensures.count in
+    let pushed : with_tasks c.self.inside.session c.push.new.self ≡ with_tasks c.args.self.now.session (c.args.self.now.tasks
+    ++ task_of (g.S.BlockStore.disk c.args.store.now).count c.args.received.now ∷ []) =
+    ap (with_tasks c.self.inside.session) (c.push.ensures ∙ ap (λ (t : Task). c.self.inside.tasks ++ t ∷ []) task)
+    ∙ ap (λ (x : Machine). with_tasks x.session (x.tasks ++ task_of (g.S.BlockStore.disk c.args.store.now).count c.args.received.now ∷ [])) c.self.view_is
+    in
+    subst (λ (x : Machine). Works x.session x.tasks c.work_off.result (store_of (g.S.BlockStore.disk c.args.store.now)
+    (g.S.BlockStore.failures c.args.store.now)) c.args.out.now.items c.work_off.new.self (store_of (g.S.BlockStore.disk c.work_off.new.store)
+    (g.S.BlockStore.failures c.work_off.new.store)) c.work_off.new.out.items) pushed c.work_off.ensures

@@ -10,56 +10,89 @@ use Rattle.iscsi_target_session.specs.Rejecting.{breach}
 use Rattle.iscsi_target.specs.Transfer.{received, is_in_sequence, with_data, joined_write}
 use Rattle.iscsi_target.specs.Machine.{data_out, write_of, with_write}
 use Rattle.iscsi_target.specs.Inside.{Leaves, Works, store_of}
-use Rattle.iscsi_target.proofs.Turns.{with_tasks}
-use Rattle.iscsi_target.proofs.Places.{tag_found, with_same}
-use Rattle.iscsi_target.proofs.Serving.{answered_follows, dropped_follows, works_follow, on_err}
-use Rattle.iscsi_target.proofs.Dispatching.{data_dropped, data_refused, data_taken_by, data_session}
-use Rattle.iscsi_target.proofs.Working.{short_halts, works_same, ones_written}
+use Rattle.iscsi_target.proofs.TurnLemmas.{with_tasks}
+use Rattle.iscsi_target.proofs.TaskPlaceLemmas.{tag_found, with_same}
+use Rattle.iscsi_target.proofs.ServingLemmas.{answered_follows, dropped_follows, works_follow, on_err}
+use Rattle.iscsi_target.proofs.DispatchLemmas.{data_dropped, data_refused, data_taken_by, data_session}
+use Rattle.iscsi_target.proofs.TaskRunLemmas.{short_halts, works_same, ones_written}
 use Rattle.iscsi_target.proofs.machine.Machine.data_out.Goals as goal
 
 pub returns-in_default : goal.returns-in_default
 returns-in_default g c =
-    let none : write_of c.args.self.now.tasks c.args.head.now.initiator_task_tag ≡ None = ap (λ (x : Machine). write_of x.tasks c.args.head.now.initiator_task_tag) (sym c.self.view_is) ∙ c.in_default.ensures.none in
-    dropped_follows (g.S.BlockStore.failures c.args.store.now) c.args.self.now (data_out c.args.self.now c.args.received.now c.args.head.now c.args.bytes.now) (g.S.BlockStore.disk c.args.store.now) (with_tasks c.self.inside.session c.take_write.new.self) c.args.out.now.items (data_dropped c.args.self.now c.args.received.now c.args.head.now c.args.bytes.now none)
+    let none : write_of c.args.self.now.tasks c.args.head.now.initiator_task_tag
+    ≡ None = ap (λ (x : Machine). write_of x.tasks c.args.head.now.initiator_task_tag) (sym c.self.view_is) ∙ c.in_default.ensures.none in
+    dropped_follows (g.S.BlockStore.failures c.args.store.now) c.args.self.now (data_out c.args.self.now c.args.received.now c.args.head.now c.args.bytes.now)
+    (g.S.BlockStore.disk c.args.store.now) (with_tasks c.self.inside.session c.take_write.new.self) c.args.out.now.items
+    (data_dropped c.args.self.now c.args.received.now c.args.head.now c.args.bytes.now none)
     (ap (with_tasks c.self.inside.session) c.in_default.ensures.kept ∙ c.self.view_is)
 
 pub returns-in_err-is_due : goal.returns-in_err-is_due
 returns-in_err-is_due g c = record {
   ok = search rules;
-  err = on_err c.from_residual.result (short_halts (g.S.BlockStore.failures c.args.store.now) c.args.self.now (with_tasks c.self.inside.session c.take_write.new.self) (g.S.BlockStore.disk c.args.store.now) c.args.out.now.items (data_out c.args.self.now c.args.received.now c.args.head.now c.args.bytes.now) (data_session c.args.self.now c.args.received.now c.args.head.now c.args.bytes.now) (ap closed c.self.view_is));
+  err = on_err c.from_residual.result (short_halts (g.S.BlockStore.failures c.args.store.now) c.args.self.now
+      (with_tasks c.self.inside.session c.take_write.new.self) (g.S.BlockStore.disk c.args.store.now) c.args.out.now.items
+      (data_out c.args.self.now c.args.received.now c.args.head.now c.args.bytes.now)
+      (data_session c.args.self.now c.args.received.now c.args.head.now c.args.bytes.now) (ap closed c.self.view_is));
 }
 
 pub returns-then-not-is_due : goal.returns-then-not-is_due
 returns-then-not-is_due g c =
     let found : write_of c.self.inside.tasks c.args.head.now.initiator_task_tag ≡ Some c.in-Some.write = c.in-Some.ensures.some in
-    let here : write_of c.args.self.now.tasks c.args.head.now.initiator_task_tag ≡ Some c.in-Some.write = ap (λ (x : Machine). write_of x.tasks c.args.head.now.initiator_task_tag) (sym c.self.view_is) ∙ found in
-    let tag : c.in-Some.write.initiator_task_tag ≡ c.args.head.now.initiator_task_tag = tag_found c.args.head.now.initiator_task_tag c.self.inside.tasks c.in-Some.write found in
-    let burst : c.first_burst.result ≡ first_burst c.args.self.now.session.held = c.first_burst.ensures ∙ ap (λ (x : Machine). first_burst x.session.held) c.self.view_is in
-    let due : is_in_sequence (first_burst c.args.self.now.session.held) c.in-Some.write c.args.head.now (received c.in-Some.write + length c.args.bytes.now) c.in-Some.write.due ≡ false =
-    ap (λ (k : ℕ). is_in_sequence k c.in-Some.write c.args.head.now (received c.in-Some.write + length c.args.bytes.now) c.in-Some.write.due) (sym burst) ∙ sym c.in_ok-is_due.ensures.due ∙ c.if-not-is_due.true in
+    let here : write_of c.args.self.now.tasks c.args.head.now.initiator_task_tag
+    ≡ Some c.in-Some.write = ap (λ (x : Machine). write_of x.tasks c.args.head.now.initiator_task_tag) (sym c.self.view_is) ∙ found in
+    let tag : c.in-Some.write.initiator_task_tag ≡ c.args.head.now.initiator_task_tag =
+    tag_found c.args.head.now.initiator_task_tag c.self.inside.tasks c.in-Some.write found in
+    let burst : c.first_burst.result ≡ first_burst c.args.self.now.session.held = c.first_burst.ensures
+    ∙ ap (λ (x : Machine). first_burst x.session.held) c.self.view_is in
+    let due : is_in_sequence (first_burst c.args.self.now.session.held) c.in-Some.write c.args.head.now (received c.in-Some.write
+    + length c.args.bytes.now) c.in-Some.write.due ≡ false =
+    ap (λ (k : ℕ). is_in_sequence k c.in-Some.write c.args.head.now (received c.in-Some.write + length c.args.bytes.now) c.in-Some.write.due) (sym burst)
+    ∙ sym c.in_ok-is_due.ensures.due ∙ c.if-not-is_due.true in
     let same : c.take.new.self ≡ c.in-Some.write = c.in_ok-is_due.ensures.refused c.if-not-is_due.true in
     let put : c.put_write.new.self ≡ c.self.inside.tasks =
-    c.put_write.ensures ∙ ap (λ (x : Write). insert c.take_write.new.self c.in-Some.place (Data x)) same ∙ c.in-Some.ensures.back c.in-Some.write tag ∙ with_same c.args.head.now.initiator_task_tag c.self.inside.tasks c.in-Some.write found tag in
+    c.put_write.ensures ∙ ap (λ (x : Write). insert c.take_write.new.self c.in-Some.place (Data x)) same ∙ c.in-Some.ensures.back c.in-Some.write tag
+    ∙ with_same c.args.head.now.initiator_task_tag c.self.inside.tasks c.in-Some.write found tag in
     let whole : with_tasks c.self.inside.session c.put_write.new.self ≡ c.args.self.now = ap (with_tasks c.self.inside.session) put ∙ c.self.view_is in
-    answered_follows c.breach.result (g.S.BlockStore.failures c.args.store.now) c.args.self.now (breach c.args.self.now.session (waiting c.args.self.now.tasks) data_out_of_order c.args.received.now) (data_out c.args.self.now c.args.received.now c.args.head.now c.args.bytes.now) (g.S.BlockStore.disk c.args.store.now) c.breach.new.self c.args.out.now.items c.breach.new.out.items
+    answered_follows c.breach.result (g.S.BlockStore.failures c.args.store.now) c.args.self.now
+    (breach c.args.self.now.session (waiting c.args.self.now.tasks) data_out_of_order c.args.received.now)
+    (data_out c.args.self.now c.args.received.now c.args.head.now c.args.bytes.now)
+    (g.S.BlockStore.disk c.args.store.now) c.breach.new.self c.args.out.now.items c.breach.new.out.items
     (data_refused c.args.self.now c.args.received.now c.args.head.now c.args.bytes.now c.in-Some.write here due)
-    (subst (λ (x : Machine). Leaves (breaks x (g.S.BlockStore.disk c.args.store.now) data_out_of_order c.args.received.now) c.breach.result x c.breach.new.self c.args.out.now.items c.breach.new.out.items) whole (c.breach.ensures (g.S.BlockStore.disk c.args.store.now)))
+    (subst (λ (x : Machine). Leaves (breaks x (g.S.BlockStore.disk c.args.store.now) data_out_of_order c.args.received.now) c.breach.result x c.breach.new.self
+    c.args.out.now.items c.breach.new.out.items) whole (c.breach.ensures (g.S.BlockStore.disk c.args.store.now)))
 
 pub returns : goal.returns
 returns g c =
     let found : write_of c.self.inside.tasks c.args.head.now.initiator_task_tag ≡ Some c.in-Some.write = c.in-Some.ensures.some in
-    let here : write_of c.args.self.now.tasks c.args.head.now.initiator_task_tag ≡ Some c.in-Some.write = ap (λ (x : Machine). write_of x.tasks c.args.head.now.initiator_task_tag) (sym c.self.view_is) ∙ found in
-    let tag : c.in-Some.write.initiator_task_tag ≡ c.args.head.now.initiator_task_tag = tag_found c.args.head.now.initiator_task_tag c.self.inside.tasks c.in-Some.write found in
-    let burst : c.first_burst.result ≡ first_burst c.args.self.now.session.held = c.first_burst.ensures ∙ ap (λ (x : Machine). first_burst x.session.held) c.self.view_is in
-    let due : is_in_sequence (first_burst c.args.self.now.session.held) c.in-Some.write c.args.head.now (received c.in-Some.write + length c.args.bytes.now) c.in-Some.write.due ≡ true =
-    ap (λ (k : ℕ). is_in_sequence k c.in-Some.write c.args.head.now (received c.in-Some.write + length c.args.bytes.now) c.in-Some.write.due) (sym burst) ∙ sym c.in_ok-is_due.ensures.due ∙ c.if-not-is_due.false in
-    let taken : c.take.new.self ≡ joined_write (with_data c.in-Some.write c.args.head.now c.args.bytes.now) = c.in_ok-is_due.ensures.taken c.if-not-is_due.false in
+    let here : write_of c.args.self.now.tasks c.args.head.now.initiator_task_tag
+    ≡ Some c.in-Some.write = ap (λ (x : Machine). write_of x.tasks c.args.head.now.initiator_task_tag) (sym c.self.view_is) ∙ found in
+    let tag : c.in-Some.write.initiator_task_tag ≡ c.args.head.now.initiator_task_tag =
+    tag_found c.args.head.now.initiator_task_tag c.self.inside.tasks c.in-Some.write found in
+    let burst : c.first_burst.result ≡ first_burst c.args.self.now.session.held = c.first_burst.ensures
+    ∙ ap (λ (x : Machine). first_burst x.session.held) c.self.view_is in
+    let due : is_in_sequence (first_burst c.args.self.now.session.held) c.in-Some.write c.args.head.now (received c.in-Some.write
+    + length c.args.bytes.now) c.in-Some.write.due ≡ true =
+    ap (λ (k : ℕ). is_in_sequence k c.in-Some.write c.args.head.now (received c.in-Some.write + length c.args.bytes.now) c.in-Some.write.due) (sym burst)
+    ∙ sym c.in_ok-is_due.ensures.due ∙ c.if-not-is_due.false in
+    let taken : c.take.new.self ≡ joined_write (with_data c.in-Some.write c.args.head.now c.args.bytes.now) =
+    c.in_ok-is_due.ensures.taken c.if-not-is_due.false in
     let put : c.put_write.new.self ≡ with_write (joined_write (with_data c.in-Some.write c.args.head.now c.args.bytes.now)) c.self.inside.tasks =
-    c.put_write.ensures ∙ ap (λ (x : Write). insert c.take_write.new.self c.in-Some.place (Data x)) taken ∙ c.in-Some.ensures.back (joined_write (with_data c.in-Some.write c.args.head.now c.args.bytes.now)) tag in
-    let whole : with_tasks c.self.inside.session c.put_write.new.self ≡ with_tasks c.args.self.now.session (with_write (joined_write (with_data c.in-Some.write c.args.head.now c.args.bytes.now)) c.args.self.now.tasks) =
-    ap (with_tasks c.self.inside.session) put ∙ ap (λ (x : Machine). with_tasks x.session (with_write (joined_write (with_data c.in-Some.write c.args.head.now c.args.bytes.now)) x.tasks)) c.self.view_is in
-    works_follow c.work_off.result (data_out c.args.self.now c.args.received.now c.args.head.now c.args.bytes.now) c.args.self.now.session (with_write (with_data c.in-Some.write c.args.head.now c.args.bytes.now) c.args.self.now.tasks) c.args.self.now (store_of (g.S.BlockStore.disk c.args.store.now) (g.S.BlockStore.failures c.args.store.now)) c.args.out.now.items c.work_off.new.self (store_of (g.S.BlockStore.disk c.work_off.new.store) (g.S.BlockStore.failures c.work_off.new.store)) c.work_off.new.out.items
+    c.put_write.ensures ∙ ap (λ (x : Write). insert c.take_write.new.self c.in-Some.place (Data x)) taken
+    ∙ c.in-Some.ensures.back (joined_write (with_data c.in-Some.write c.args.head.now c.args.bytes.now)) tag in
+    let whole : with_tasks c.self.inside.session c.put_write.new.self ≡ with_tasks c.args.self.now.session
+    (with_write (joined_write (with_data c.in-Some.write c.args.head.now c.args.bytes.now)) c.args.self.now.tasks) =
+    ap (with_tasks c.self.inside.session) put ∙ ap (λ (x : Machine). with_tasks x.session
+    (with_write (joined_write (with_data c.in-Some.write c.args.head.now c.args.bytes.now)) x.tasks)) c.self.view_is in
+    works_follow c.work_off.result (data_out c.args.self.now c.args.received.now c.args.head.now c.args.bytes.now) c.args.self.now.session
+    (with_write (with_data c.in-Some.write c.args.head.now c.args.bytes.now) c.args.self.now.tasks) c.args.self.now
+    (store_of (g.S.BlockStore.disk c.args.store.now) (g.S.BlockStore.failures c.args.store.now)) c.args.out.now.items c.work_off.new.self
+    (store_of (g.S.BlockStore.disk c.work_off.new.store) (g.S.BlockStore.failures c.work_off.new.store)) c.work_off.new.out.items
     (data_taken_by c.args.self.now c.args.received.now c.args.head.now c.args.bytes.now c.in-Some.write here due)
-    (works_same c.work_off.result c.args.self.now.session (with_write (joined_write (with_data c.in-Some.write c.args.head.now c.args.bytes.now)) c.args.self.now.tasks) (with_write (with_data c.in-Some.write c.args.head.now c.args.bytes.now) c.args.self.now.tasks) (store_of (g.S.BlockStore.disk c.args.store.now) (g.S.BlockStore.failures c.args.store.now)) c.args.out.now.items c.work_off.new.self (store_of (g.S.BlockStore.disk c.work_off.new.store) (g.S.BlockStore.failures c.work_off.new.store)) c.work_off.new.out.items
+    (works_same c.work_off.result c.args.self.now.session (with_write (joined_write (with_data c.in-Some.write c.args.head.now c.args.bytes.now))
+    c.args.self.now.tasks) (with_write (with_data c.in-Some.write c.args.head.now c.args.bytes.now) c.args.self.now.tasks)
+    (store_of (g.S.BlockStore.disk c.args.store.now) (g.S.BlockStore.failures c.args.store.now)) c.args.out.now.items c.work_off.new.self
+    (store_of (g.S.BlockStore.disk c.work_off.new.store) (g.S.BlockStore.failures c.work_off.new.store)) c.work_off.new.out.items
     (ones_written (with_data c.in-Some.write c.args.head.now c.args.bytes.now) c.args.self.now.tasks)
-    (subst (λ (x : Machine). Works x.session x.tasks c.work_off.result (store_of (g.S.BlockStore.disk c.args.store.now) (g.S.BlockStore.failures c.args.store.now)) c.args.out.now.items c.work_off.new.self (store_of (g.S.BlockStore.disk c.work_off.new.store) (g.S.BlockStore.failures c.work_off.new.store)) c.work_off.new.out.items) whole c.work_off.ensures))
+    (subst (λ (x : Machine). Works x.session x.tasks c.work_off.result (store_of (g.S.BlockStore.disk c.args.store.now)
+    (g.S.BlockStore.failures c.args.store.now)) c.args.out.now.items c.work_off.new.self (store_of (g.S.BlockStore.disk c.work_off.new.store)
+    (g.S.BlockStore.failures c.work_off.new.store)) c.work_off.new.out.items) whole c.work_off.ensures))

@@ -1,7 +1,7 @@
 use Rattle.std.proofs.Common.{◌<◌, ℕ, ◌^◌, [], refl, arith, rules}
 use Rattle.scsi_disk.specs.Effect.{Effect}
-use Rattle.iscsi_target.proofs.Orders.{order_keeps, given_most}
-use Rattle.iscsi_target.proofs.Serving.{order_serves, on_err}
+use Rattle.iscsi_target.proofs.OrderLemmas.{order_keeps, given_most}
+use Rattle.iscsi_target.proofs.ServingLemmas.{order_serves, on_err}
 use Rattle.iscsi_target.proofs.machine.Machine.execute_order.Goals as goal
 
 pub send_outcome-requires : goal.send_outcome-requires
@@ -10,7 +10,11 @@ send_outcome-requires g c =
     let now = g.S.BlockStore.disk c.execute_planned.new.store in
     let e : Effect = record { disk = now; outcome = c.in_ok-outcome.outcome } in
     let short : c.args.order.expected < 2 ^ 32 = search rules in
-    omega (arith, given_most (g.S.BlockStore.failures c.args.store.now) fa (g.S.BlockStore.disk c.args.store.now) c.args.order [] e c.in_ok-outcome.ensures.ok, short)
+    omega (
+      arith,
+      given_most (g.S.BlockStore.failures c.args.store.now) fa (g.S.BlockStore.disk c.args.store.now) c.args.order [] e c.in_ok-outcome.ensures.ok,
+      short,
+    )
 
 pub returns-in_err-send_outcome : goal.returns-in_err-send_outcome
 returns-in_err-send_outcome g c = record {
@@ -21,7 +25,8 @@ returns-in_err-send_outcome g c = record {
       on_err c.from_residual-in_err-send_outcome.result (record {
         machine = refl;
         rises = c.in_ok-outcome.ensures.ok.rises;
-        disk_is = order_keeps (g.S.BlockStore.failures c.args.store.now) fa (g.S.BlockStore.disk c.args.store.now) c.args.order [] e c.in_ok-outcome.ensures.ok c.requires.gives;
+        disk_is = order_keeps (g.S.BlockStore.failures c.args.store.now) fa (g.S.BlockStore.disk c.args.store.now) c.args.order [] e c.in_ok-outcome.ensures.ok
+            c.requires.gives;
         unwritten = c.in_err-send_outcome.ensures.err;
       });
 }
@@ -31,6 +36,8 @@ returns g c = record {
   ok = let fa : ℕ = g.S.BlockStore.failures c.execute_planned.new.store in
       let now = g.S.BlockStore.disk c.execute_planned.new.store in
       let e : Effect = record { disk = now; outcome = c.in_ok-outcome.outcome } in
-      order_serves (g.S.BlockStore.failures c.args.store.now) fa c.args.tag c.args.self.now (g.S.BlockStore.disk c.args.store.now) c.args.order [] e c.count.new.self now c.args.out.now.items c.send_outcome.new.out.items c.in_ok-outcome.ensures.ok c.count.ensures refl c.in_ok-send_outcome.ensures.ok;
+      order_serves (g.S.BlockStore.failures c.args.store.now) fa c.args.tag c.args.self.now (g.S.BlockStore.disk c.args.store.now) c.args.order [] e
+      c.count.new.self now c.args.out.now.items c.send_outcome.new.out.items c.in_ok-outcome.ensures.ok c.count.ensures refl
+      c.in_ok-send_outcome.ensures.ok;
   err = search rules;
 }

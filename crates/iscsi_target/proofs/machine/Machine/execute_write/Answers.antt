@@ -6,10 +6,10 @@ use Rattle.iscsi_target.specs.State.{waiting}
 use Rattle.iscsi_target.specs.Execution.{Device, execute}
 use Rattle.iscsi_target.specs.Transfer.{with_piece}
 use Rattle.iscsi_target.specs.Inside.{Serves}
-use Rattle.iscsi_target.proofs.OpenWrites.{data_of_one}
-use Rattle.iscsi_target.proofs.Orders.{write_gives_none}
-use Rattle.iscsi_target.proofs.Serving.{order_serves}
-use Rattle.iscsi_target.proofs.Commanding.{told_write}
+use Rattle.iscsi_target.proofs.OpenWriteLemmas.{data_of_one}
+use Rattle.iscsi_target.proofs.OrderLemmas.{write_gives_none}
+use Rattle.iscsi_target.proofs.ServingLemmas.{order_serves}
+use Rattle.iscsi_target.proofs.CommandLemmas.{told_write}
 use Rattle.iscsi_target.proofs.machine.Machine.execute_write.Goals as goal
 
 pub returns : goal.returns
@@ -18,13 +18,20 @@ returns g c = record {
       let now = g.S.BlockStore.disk c.execute.new.store in
       let e : Effect = record { disk = now; outcome = c.in_ok-outcome.outcome } in
       let w = c.write.inside in
-      let none : e.outcome.bytes ≡ [] = write_gives_none (g.S.BlockStore.failures c.args.store.now) fa (g.S.BlockStore.disk c.args.store.now) w.order c.deref.result.now e c.in_ok-outcome.ensures.ok c.write.invariant.is_write in
-      subst (λ (v : Write). Serves (g.S.BlockStore.failures c.args.store.now) fa (λ (d : Device). execute d c.args.self.now (g.S.BlockStore.disk c.args.store.now) v.initiator_task_tag v.order v.pieces) None c.count.new.self now c.args.out.now.items c.append_response.new.out.items) c.write.view_is
-      (order_serves (g.S.BlockStore.failures c.args.store.now) fa w.initiator_task_tag c.args.self.now (g.S.BlockStore.disk c.args.store.now) w.order (with_piece [] 0 w.data.items) e c.count.new.self now c.args.out.now.items c.append_response.new.out.items
-      (subst (λ (bytes : List ℕ). Executes (g.S.BlockStore.failures c.args.store.now) fa (g.S.BlockStore.disk c.args.store.now) w.order bytes e) (c.deref.ensures.value ∙ sym (data_of_one w.data.items)) c.in_ok-outcome.ensures.ok)
+      let none : e.outcome.bytes ≡ [] = write_gives_none (g.S.BlockStore.failures c.args.store.now) fa (g.S.BlockStore.disk c.args.store.now) w.order
+      c.deref.result.now e c.in_ok-outcome.ensures.ok c.write.invariant.is_write in
+      subst (λ (v : Write). Serves (g.S.BlockStore.failures c.args.store.now) fa
+      (λ (d : Device). execute d c.args.self.now (g.S.BlockStore.disk c.args.store.now) v.initiator_task_tag v.order v.pieces) None c.count.new.self now
+      c.args.out.now.items c.append_response.new.out.items) c.write.view_is
+      (order_serves (g.S.BlockStore.failures c.args.store.now) fa w.initiator_task_tag c.args.self.now (g.S.BlockStore.disk c.args.store.now) w.order
+      (with_piece [] 0 w.data.items) e c.count.new.self now c.args.out.now.items c.append_response.new.out.items
+      (subst (λ (bytes : List ℕ). Executes (g.S.BlockStore.failures c.args.store.now) fa (g.S.BlockStore.disk c.args.store.now) w.order bytes e)
+      (c.deref.ensures.value ∙ sym (data_of_one w.data.items)) c.in_ok-outcome.ensures.ok)
       c.count.ensures refl
-      (told_write c.args.self.now w.initiator_task_tag c.in_ok-outcome.outcome c.response_head-head.result c.args.out.now.items c.reserve.new.self.items c.append_response.new.out.items none
-      (c.response_head-head.ensures.head c.args.self.now.session (waiting c.args.self.now.tasks) (sym c.numbers.ensures.stat_sn) (sym c.numbers.ensures.exp_cmd_sn) (sym c.numbers.ensures.max_cmd_sn))
+      (told_write c.args.self.now w.initiator_task_tag c.in_ok-outcome.outcome c.response_head-head.result c.args.out.now.items c.reserve.new.self.items
+      c.append_response.new.out.items none
+      (c.response_head-head.ensures.head c.args.self.now.session (waiting c.args.self.now.tasks) (sym c.numbers.ensures.stat_sn)
+      (sym c.numbers.ensures.exp_cmd_sn) (sym c.numbers.ensures.max_cmd_sn))
       c.in_ok-reserve.ensures.items c.in-Ok.ensures.ok));
   err = search rules;
 }

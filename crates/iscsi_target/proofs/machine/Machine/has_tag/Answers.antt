@@ -1,7 +1,7 @@
 use Rattle.std.proofs.Common.{ℕ, sym, ap, ◌∙◌}
 use Rattle.std.specs.Prelude.{Option}
 use Rattle.iscsi_target.specs.Machine.{is_tag_of}
-use Rattle.iscsi_target.proofs.Places.{none_tagged}
+use Rattle.iscsi_target.proofs.TaskPlaceLemmas.{none_tagged}
 use Rattle.iscsi_target.proofs.machine.Machine.has_tag.Goals as goal
 
 pub returns-in-None : goal.returns-in-None

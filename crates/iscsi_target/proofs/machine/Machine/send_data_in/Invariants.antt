@@ -1,5 +1,5 @@
 use Rattle.std.proofs.Common.{length}
-use Rattle.iscsi_target.proofs.Giving.{GaveRuns}
+use Rattle.iscsi_target.proofs.DataInSequenceLemmas.{GaveRuns}
 use Rattle.iscsi_target.proofs.machine.Machine.send_data_in.Given as goal
 
 abbrev pub invariant-loop-rest : goal.invariant-loop-rest

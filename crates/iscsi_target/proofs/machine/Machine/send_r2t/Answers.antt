@@ -4,10 +4,10 @@ use Rattle.iscsi_target.specs.State.{Machine}
 use Rattle.std.proofs.Common.{◌∷◌}
 use Rattle.iscsi_target.specs.declared.tasks.Task.{Task}
 use Rattle.iscsi_target.specs.declared.tasks.Task.TheVariants.{Data}
-use Rattle.iscsi_target.proofs.Turns.{with_tasks}
+use Rattle.iscsi_target.proofs.TurnLemmas.{with_tasks}
 use Rattle.std.proofs.lemmas.Bool.{eqb-false}
 use Rattle.iscsi_target.specs.Transfer.{received, desired}
-use Rattle.iscsi_target.proofs.Commanding.{asked_out}
+use Rattle.iscsi_target.proofs.CommandLemmas.{asked_out}
 use Rattle.iscsi_target.proofs.machine.Machine.send_r2t.Goals as goal
 
 pub await_sequence-requires-clause-some : goal.await_sequence-requires-clause-some
@@ -17,7 +17,14 @@ await_sequence-requires-clause-some c =
 
 pub returns : goal.returns
 returns c = λ disk.
-    let wanted : c.desired-desired.result ≡ desired c.args.self.now.session.held c.args.write = c.desired-desired.ensures ∙ ap (λ (n : ℕ). min (c.args.write.total - received c.args.write) n) c.max_burst.ensures.value in
-    let pushed : with_tasks c.self.inside.session c.push_first.new.self ≡ record c.args.self.now { tasks = Data c.await_sequence.new.self ∷ c.args.self.now.tasks } =
-    ap (λ (ts : List Task). with_tasks c.self.inside.session ts) c.push_first.ensures ∙ ap (λ (m : Machine). with_tasks m.session (Data c.await_sequence.new.self ∷ m.tasks)) c.self.view_is in
-    asked_out c.args.self.now disk c.args.write c.await_sequence.new.self c.r2t_head-head.result c.desired-desired.result (with_tasks c.self.inside.session c.push_first.new.self) c.args.out.now.items c.write_pdu.new.out.items wanted c.await_sequence.ensures pushed c.r2t_head-head.ensures.head c.in_ok-write_pdu.ensures.ok
+    let wanted : c.desired-desired.result ≡ desired c.args.self.now.session.held c.args.write = c.desired-desired.ensures
+    ∙ ap (λ (n : ℕ). min (c.args.write.total - received c.args.write) n) c.max_burst.ensures.value in
+    let pushed : with_tasks c.self.inside.session c.push_first.new.self ≡ record c.args.self.now {
+      tasks =
+          Data c.await_sequence.new.self ∷ c.args.self.now.tasks;
+    } =
+    ap (λ (ts : List Task). with_tasks c.self.inside.session ts) c.push_first.ensures
+    ∙ ap (λ (m : Machine). with_tasks m.session (Data c.await_sequence.new.self ∷ m.tasks)) c.self.view_is in
+    asked_out c.args.self.now disk c.args.write c.await_sequence.new.self c.r2t_head-head.result c.desired-desired.result
+    (with_tasks c.self.inside.session c.push_first.new.self) c.args.out.now.items c.write_pdu.new.out.items wanted c.await_sequence.ensures pushed
+    c.r2t_head-head.ensures.head c.in_ok-write_pdu.ensures.ok

@@ -3,61 +3,95 @@ use Rattle.std.specs.Prelude.{◌==◌, Some, None}
 use Rattle.iscsi_pdu.specs.Rules.{command_out_of_turn}
 use Rattle.iscsi_target_session.specs.Session.{Session}
 use Rattle.iscsi_target.specs.State.{Machine, waiting}
-use Rattle.iscsi_target.proofs.Turns.{with_tasks}
+use Rattle.iscsi_target.proofs.TurnLemmas.{with_tasks}
 use Rattle.iscsi_target.specs.State.{breaks}
 use Rattle.iscsi_target_session.specs.Rejecting.{breach}
 use Rattle.iscsi_target.specs.Command.{task_of}
 use Rattle.iscsi_target.specs.Machine.{advanced, in_turn}
 use Rattle.iscsi_target.specs.Inside.{Leaves, Works, refusal, store_of}
-use Rattle.iscsi_target.proofs.Window.{room_within}
-use Rattle.iscsi_target.proofs.Serving.{answered_follows, dropped_follows, works_follow, on_err}
-use Rattle.iscsi_target.proofs.Dispatching.{outside, out_of_turn, inside, admitted_some, admitted_none, turned_back, any_ok}
+use Rattle.iscsi_target.proofs.WindowLemmas.{room_within}
+use Rattle.iscsi_target.proofs.ServingLemmas.{answered_follows, dropped_follows, works_follow, on_err}
+use Rattle.iscsi_target.proofs.DispatchLemmas.{outside, out_of_turn, inside, admitted_some, admitted_none, turned_back, any_ok}
 use Rattle.iscsi_target.proofs.machine.Machine.serve_in_turn.Goals as goal
 
 pub returns-then-not-is_within : goal.returns-then-not-is_within
 returns-then-not-is_within g c =
-    dropped_follows (g.S.BlockStore.failures c.args.store.now) c.args.self.now (in_turn c.args.self.now (g.S.BlockStore.disk c.args.store.now).count c.args.received.now c.args.cmd_sn).next (g.S.BlockStore.disk c.args.store.now) c.args.self.now c.args.out.now.items (outside c.args.self.now (g.S.BlockStore.disk c.args.store.now).count c.args.received.now c.args.cmd_sn c.is_within.result c.is_within.ensures c.if-not-is_within.true) refl
+    dropped_follows (g.S.BlockStore.failures c.args.store.now) c.args.self.now (in_turn c.args.self.now (g.S.BlockStore.disk c.args.store.now).count
+    c.args.received.now c.args.cmd_sn).next (g.S.BlockStore.disk c.args.store.now) c.args.self.now c.args.out.now.items
+    (outside c.args.self.now (g.S.BlockStore.disk c.args.store.now).count c.args.received.now c.args.cmd_sn c.is_within.result c.is_within.ensures
+    c.if-not-is_within.true) refl
 
 pub returns-then-cmd_sn-numbers : goal.returns-then-cmd_sn-numbers
 returns-then-cmd_sn-numbers g c =
     let apart : (c.args.cmd_sn == c.args.self.now.session.exp_cmd_sn) ≡ false = search rules in
-    answered_follows c.breach.result (g.S.BlockStore.failures c.args.store.now) c.args.self.now (breach c.args.self.now.session (waiting c.args.self.now.tasks) command_out_of_turn c.args.received.now) (in_turn c.args.self.now (g.S.BlockStore.disk c.args.store.now).count c.args.received.now c.args.cmd_sn).next (g.S.BlockStore.disk c.args.store.now) c.breach.new.self c.args.out.now.items c.breach.new.out.items
-    (out_of_turn c.args.self.now (g.S.BlockStore.disk c.args.store.now).count c.args.received.now c.args.cmd_sn c.is_within.result c.is_within.ensures c.if-not-is_within.false apart) (c.breach.ensures (g.S.BlockStore.disk c.args.store.now))
+    answered_follows c.breach.result (g.S.BlockStore.failures c.args.store.now) c.args.self.now
+    (breach c.args.self.now.session (waiting c.args.self.now.tasks) command_out_of_turn c.args.received.now)
+    (in_turn c.args.self.now (g.S.BlockStore.disk c.args.store.now).count c.args.received.now c.args.cmd_sn).next (g.S.BlockStore.disk c.args.store.now)
+    c.breach.new.self c.args.out.now.items c.breach.new.out.items
+    (out_of_turn c.args.self.now (g.S.BlockStore.disk c.args.store.now).count c.args.received.now c.args.cmd_sn c.is_within.result c.is_within.ensures
+    c.if-not-is_within.false apart) (c.breach.ensures (g.S.BlockStore.disk c.args.store.now))
 
 pub admit-requires-clause-room : goal.admit-requires-clause-room
 admit-requires-clause-room g c =
-    let free : waiting c.args.self.now.tasks ≤ 7 = room_within c.args.self.now c.args.cmd_sn c.is_within.result c.is_within.ensures c.if-not-is_within.false c.numbers.ensures.fits c.numbers.ensures.few in
+    let free : waiting c.args.self.now.tasks ≤ 7 = room_within c.args.self.now c.args.cmd_sn c.is_within.result c.is_within.ensures c.if-not-is_within.false
+    c.numbers.ensures.fits c.numbers.ensures.few in
     subst (λ (x : Machine). waiting x.tasks ≤ 7) (sym c.advance.ensures) free
 
 pub returns-in_default : goal.returns-in_default
 returns-in_default g c =
     let same : (c.args.cmd_sn == c.args.self.now.session.exp_cmd_sn) ≡ true = search rules in
     let none : c.refusal.result ≡ None = search rules in
-    let kept : refusal (advanced c.args.self.now) c.args.received.now ≡ None = ap (λ (x : Machine). refusal x c.args.received.now) (sym c.advance.ensures) ∙ sym c.refusal.ensures ∙ none in
-    works_follow c.admit.result (in_turn c.args.self.now (g.S.BlockStore.disk c.args.store.now).count c.args.received.now c.args.cmd_sn).next (advanced c.args.self.now).session (c.args.self.now.tasks ++ task_of (g.S.BlockStore.disk c.args.store.now).count c.args.received.now ∷ []) c.args.self.now (store_of (g.S.BlockStore.disk c.args.store.now) (g.S.BlockStore.failures c.args.store.now)) c.args.out.now.items c.admit.new.self (store_of (g.S.BlockStore.disk c.admit.new.store) (g.S.BlockStore.failures c.admit.new.store)) c.admit.new.out.items
-    (sym (inside c.args.self.now (g.S.BlockStore.disk c.args.store.now).count c.args.received.now c.args.cmd_sn c.is_within.result c.is_within.ensures c.if-not-is_within.false same) ∙ admitted_none (advanced c.args.self.now) (g.S.BlockStore.disk c.args.store.now).count c.args.received.now kept)
-    (subst (λ (x : Machine). Works x.session (x.tasks ++ task_of (g.S.BlockStore.disk c.args.store.now).count c.args.received.now ∷ []) c.admit.result (store_of (g.S.BlockStore.disk c.args.store.now) (g.S.BlockStore.failures c.args.store.now)) c.args.out.now.items c.admit.new.self (store_of (g.S.BlockStore.disk c.admit.new.store) (g.S.BlockStore.failures c.admit.new.store)) c.admit.new.out.items) c.advance.ensures c.admit.ensures)
+    let kept : refusal (advanced c.args.self.now) c.args.received.now ≡ None = ap (λ (x : Machine). refusal x c.args.received.now) (sym c.advance.ensures)
+    ∙ sym c.refusal.ensures ∙ none in
+    works_follow c.admit.result (in_turn c.args.self.now (g.S.BlockStore.disk c.args.store.now).count c.args.received.now c.args.cmd_sn).next
+    (advanced c.args.self.now).session (c.args.self.now.tasks ++ task_of (g.S.BlockStore.disk c.args.store.now).count c.args.received.now ∷ [])
+    c.args.self.now (store_of (g.S.BlockStore.disk c.args.store.now) (g.S.BlockStore.failures c.args.store.now)) c.args.out.now.items c.admit.new.self
+    (store_of (g.S.BlockStore.disk c.admit.new.store) (g.S.BlockStore.failures c.admit.new.store)) c.admit.new.out.items
+    (sym (inside c.args.self.now (g.S.BlockStore.disk c.args.store.now).count c.args.received.now c.args.cmd_sn c.is_within.result c.is_within.ensures
+    c.if-not-is_within.false same) ∙ admitted_none (advanced c.args.self.now) (g.S.BlockStore.disk c.args.store.now).count c.args.received.now kept)
+    (subst (λ (x : Machine). Works x.session (x.tasks ++ task_of (g.S.BlockStore.disk c.args.store.now).count c.args.received.now ∷ []) c.admit.result
+    (store_of (g.S.BlockStore.disk c.args.store.now) (g.S.BlockStore.failures c.args.store.now)) c.args.out.now.items c.admit.new.self
+    (store_of (g.S.BlockStore.disk c.admit.new.store) (g.S.BlockStore.failures c.admit.new.store)) c.admit.new.out.items) c.advance.ensures c.admit.ensures)
 
 pub returns-then-is_err : goal.returns-then-is_err
 returns-then-is_err g c =
     let due : c.args.cmd_sn ≡ c.args.self.now.session.exp_cmd_sn = search rules in
-    let back : (with_tasks c.expect.new.self c.self.inside.tasks) ≡ record c.breach-result.new.self { session = record c.breach-result.new.self.session { exp_cmd_sn = c.args.self.now.session.exp_cmd_sn } } =
+    let back : (with_tasks c.expect.new.self c.self.inside.tasks) ≡ record c.breach-result.new.self {
+      session =
+          record c.breach-result.new.self.session { exp_cmd_sn = c.args.self.now.session.exp_cmd_sn };
+    } =
     ap (λ (x : Session). with_tasks x c.self.inside.tasks) (c.expect.ensures ∙ ap (λ (k : ℕ). record c.self.inside.session { exp_cmd_sn = k }) due)
     ∙ ap (λ (x : Machine). record x { session = record x.session { exp_cmd_sn = c.args.self.now.session.exp_cmd_sn } }) c.self.view_is in
     let same : (c.args.cmd_sn == c.args.self.now.session.exp_cmd_sn) ≡ true = search rules in
     let some : c.refusal.result ≡ Some c.in-Some.rule = search rules in
-    let rule : refusal (advanced c.args.self.now) c.args.received.now ≡ Some c.in-Some.rule = ap (λ (x : Machine). refusal x c.args.received.now) (sym c.advance.ensures) ∙ sym c.refusal.ensures ∙ some in
-    turned_back c.breach-result.result (g.S.BlockStore.failures c.args.store.now) c.args.self.now c.breach-result.new.self (with_tasks c.expect.new.self c.self.inside.tasks) (breach (advanced c.args.self.now).session (waiting c.args.self.now.tasks) c.in-Some.rule c.args.received.now) (in_turn c.args.self.now (g.S.BlockStore.disk c.args.store.now).count c.args.received.now c.args.cmd_sn).next (g.S.BlockStore.disk c.args.store.now) c.args.out.now.items c.breach-result.new.out.items
-    (sym (inside c.args.self.now (g.S.BlockStore.disk c.args.store.now).count c.args.received.now c.args.cmd_sn c.is_within.result c.is_within.ensures c.if-not-is_within.false same) ∙ admitted_some (advanced c.args.self.now) (g.S.BlockStore.disk c.args.store.now).count c.args.received.now c.in-Some.rule rule)
-    (subst (λ (x : Machine). Leaves (breaks x (g.S.BlockStore.disk c.args.store.now) c.in-Some.rule c.args.received.now) c.breach-result.result x c.breach-result.new.self c.args.out.now.items c.breach-result.new.out.items) c.advance.ensures (c.breach-result.ensures (g.S.BlockStore.disk c.args.store.now)))
+    let rule : refusal (advanced c.args.self.now) c.args.received.now ≡ Some c.in-Some.rule =
+    ap (λ (x : Machine). refusal x c.args.received.now) (sym c.advance.ensures) ∙ sym c.refusal.ensures ∙ some in
+    turned_back c.breach-result.result (g.S.BlockStore.failures c.args.store.now) c.args.self.now c.breach-result.new.self
+    (with_tasks c.expect.new.self c.self.inside.tasks) (breach (advanced c.args.self.now).session (waiting c.args.self.now.tasks) c.in-Some.rule
+    c.args.received.now) (in_turn c.args.self.now (g.S.BlockStore.disk c.args.store.now).count c.args.received.now c.args.cmd_sn).next
+    (g.S.BlockStore.disk c.args.store.now) c.args.out.now.items c.breach-result.new.out.items
+    (sym (inside c.args.self.now (g.S.BlockStore.disk c.args.store.now).count c.args.received.now c.args.cmd_sn c.is_within.result c.is_within.ensures
+    c.if-not-is_within.false same) ∙ admitted_some (advanced c.args.self.now)
+    (g.S.BlockStore.disk c.args.store.now).count c.args.received.now c.in-Some.rule rule)
+    (subst (λ (x : Machine). Leaves (breaks x (g.S.BlockStore.disk c.args.store.now) c.in-Some.rule c.args.received.now) c.breach-result.result x
+    c.breach-result.new.self c.args.out.now.items c.breach-result.new.out.items) c.advance.ensures
+    (c.breach-result.ensures (g.S.BlockStore.disk c.args.store.now)))
     (search rules) (on_err c.breach-result.result back)
 
 pub returns-else-is_err : goal.returns-else-is_err
 returns-else-is_err g c =
     let same : (c.args.cmd_sn == c.args.self.now.session.exp_cmd_sn) ≡ true = search rules in
     let some : c.refusal.result ≡ Some c.in-Some.rule = search rules in
-    let rule : refusal (advanced c.args.self.now) c.args.received.now ≡ Some c.in-Some.rule = ap (λ (x : Machine). refusal x c.args.received.now) (sym c.advance.ensures) ∙ sym c.refusal.ensures ∙ some in
-    turned_back c.breach-result.result (g.S.BlockStore.failures c.args.store.now) c.args.self.now c.breach-result.new.self c.breach-result.new.self (breach (advanced c.args.self.now).session (waiting c.args.self.now.tasks) c.in-Some.rule c.args.received.now) (in_turn c.args.self.now (g.S.BlockStore.disk c.args.store.now).count c.args.received.now c.args.cmd_sn).next (g.S.BlockStore.disk c.args.store.now) c.args.out.now.items c.breach-result.new.out.items
-    (sym (inside c.args.self.now (g.S.BlockStore.disk c.args.store.now).count c.args.received.now c.args.cmd_sn c.is_within.result c.is_within.ensures c.if-not-is_within.false same) ∙ admitted_some (advanced c.args.self.now) (g.S.BlockStore.disk c.args.store.now).count c.args.received.now c.in-Some.rule rule)
-    (subst (λ (x : Machine). Leaves (breaks x (g.S.BlockStore.disk c.args.store.now) c.in-Some.rule c.args.received.now) c.breach-result.result x c.breach-result.new.self c.args.out.now.items c.breach-result.new.out.items) c.advance.ensures (c.breach-result.ensures (g.S.BlockStore.disk c.args.store.now)))
+    let rule : refusal (advanced c.args.self.now) c.args.received.now ≡ Some c.in-Some.rule =
+    ap (λ (x : Machine). refusal x c.args.received.now) (sym c.advance.ensures) ∙ sym c.refusal.ensures ∙ some in
+    turned_back c.breach-result.result (g.S.BlockStore.failures c.args.store.now) c.args.self.now c.breach-result.new.self c.breach-result.new.self
+    (breach (advanced c.args.self.now).session (waiting c.args.self.now.tasks) c.in-Some.rule c.args.received.now)
+    (in_turn c.args.self.now (g.S.BlockStore.disk c.args.store.now).count c.args.received.now c.args.cmd_sn).next (g.S.BlockStore.disk c.args.store.now)
+    c.args.out.now.items c.breach-result.new.out.items
+    (sym (inside c.args.self.now (g.S.BlockStore.disk c.args.store.now).count c.args.received.now c.args.cmd_sn c.is_within.result c.is_within.ensures
+    c.if-not-is_within.false same) ∙ admitted_some (advanced c.args.self.now)
+    (g.S.BlockStore.disk c.args.store.now).count c.args.received.now c.in-Some.rule rule)
+    (subst (λ (x : Machine). Leaves (breaks x (g.S.BlockStore.disk c.args.store.now) c.in-Some.rule c.args.received.now) c.breach-result.result x
+    c.breach-result.new.self c.args.out.now.items c.breach-result.new.out.items) c.advance.ensures
+    (c.breach-result.ensures (g.S.BlockStore.disk c.args.store.now)))
     (any_ok c.breach-result.result refl) (search rules)

@@ -3,37 +3,54 @@ use Rattle.std.specs.Prelude.{◌||◌, nat_lt}
 use Rattle.std.specs.declared.alloc.AllocError.{AllocError}
 use Rattle.iscsi_target.specs.Machine.{is_closed}
 use Rattle.iscsi_target.specs.Inside.{store_of}
-use Rattle.iscsi_target.proofs.Serving.{on_err}
-use Rattle.iscsi_target.proofs.Turns.{with_tasks}
-use Rattle.iscsi_target.proofs.Working.{goes_start, goes_then, goes_stop, goes_short, goes_end, either}
+use Rattle.iscsi_target.proofs.ServingLemmas.{on_err}
+use Rattle.iscsi_target.proofs.TurnLemmas.{with_tasks}
+use Rattle.iscsi_target.proofs.TaskRunLemmas.{goes_start, goes_then, goes_stop, goes_short, goes_end, either}
 use Rattle.iscsi_target.proofs.machine.Machine.work_off.Goals as goal
 use Rattle.iscsi_target.proofs.machine.Machine.work_off.Goals.{then-is_closed-via-then-is_closed, then-is_closed-via-else-is_closed+then-len-behind}
 
 pub loop-task-init : goal.loop-task-init
-loop-task-init g c = goes_start c.args.self.now (store_of (g.S.BlockStore.disk c.args.store.now) (g.S.BlockStore.failures c.args.store.now)) c.args.out.now.items
+loop-task-init g c = goes_start c.args.self.now (store_of (g.S.BlockStore.disk c.args.store.now) (g.S.BlockStore.failures c.args.store.now))
+    c.args.out.now.items
 
 pub returns-in_err-broken : goal.returns-in_err-broken
 returns-in_err-broken g c =
-    let h = goes_short c.in_err-broken.field-0.0 c.args.self.now c.loop-task.self c.begin.new.self (store_of (g.S.BlockStore.disk c.args.store.now) (g.S.BlockStore.failures c.args.store.now)) (store_of (g.S.BlockStore.disk c.loop-task.store) (g.S.BlockStore.failures c.loop-task.store)) (store_of (g.S.BlockStore.disk c.begin.new.store) (g.S.BlockStore.failures c.begin.new.store)) c.args.out.now.items c.loop-task.out.items c.begin.new.out.items
-    c.self.inside.session c.in-Some.task c.take_first.new.self c.loop-task.invariant (sym c.self.view_is ∙ ap (with_tasks c.self.inside.session) c.in-Some.ensures.some) c.in_err-broken.ensures.err in
+    let h = goes_short c.in_err-broken.field-0.0 c.args.self.now c.loop-task.self c.begin.new.self (store_of (g.S.BlockStore.disk c.args.store.now)
+    (g.S.BlockStore.failures c.args.store.now)) (store_of (g.S.BlockStore.disk c.loop-task.store) (g.S.BlockStore.failures c.loop-task.store))
+    (store_of (g.S.BlockStore.disk c.begin.new.store) (g.S.BlockStore.failures c.begin.new.store)) c.args.out.now.items c.loop-task.out.items
+    c.begin.new.out.items
+    c.self.inside.session c.in-Some.task c.take_first.new.self c.loop-task.invariant (sym c.self.view_is
+    ∙ ap (with_tasks c.self.inside.session) c.in-Some.ensures.some) c.in_err-broken.ensures.err in
     record { ok = search rules; err = on_err c.from_residual.result h.err }
 
 pub returns-then-is_closed : goal.returns-then-is_closed
 returns-then-is_closed g c =
     let stop : (nat_lt (length c.take_first.new.self) (length c.begin.new.self.tasks) || is_closed c.begin.new.self) ≡ true = elim c.then-is_closed.branch [
-      | then-is_closed-via-then-is_closed w ↦ either (nat_lt (length c.take_first.new.self) (length c.begin.new.self.tasks)) (is_closed c.begin.new.self) (sym c.is_closed.ensures ∙ w.if-is_closed.true)
+      | then-is_closed-via-then-is_closed w ↦ either (nat_lt (length c.take_first.new.self) (length c.begin.new.self.tasks)) (is_closed c.begin.new.self)
+          (sym c.is_closed.ensures ∙ w.if-is_closed.true)
       | then-is_closed-via-else-is_closed+then-len-behind w ↦ search rules
     ] in
-    goes_stop AllocError c.args.self.now c.loop-task.self c.begin.new.self (store_of (g.S.BlockStore.disk c.args.store.now) (g.S.BlockStore.failures c.args.store.now)) (store_of (g.S.BlockStore.disk c.loop-task.store) (g.S.BlockStore.failures c.loop-task.store)) (store_of (g.S.BlockStore.disk c.begin.new.store) (g.S.BlockStore.failures c.begin.new.store)) c.args.out.now.items c.loop-task.out.items c.begin.new.out.items
-    c.self.inside.session c.in-Some.task c.take_first.new.self c.in_ok-broken.broken c.loop-task.invariant (sym c.self.view_is ∙ ap (with_tasks c.self.inside.session) c.in-Some.ensures.some) c.in_ok-broken.ensures.ok stop
+    goes_stop AllocError c.args.self.now c.loop-task.self c.begin.new.self (store_of (g.S.BlockStore.disk c.args.store.now)
+    (g.S.BlockStore.failures c.args.store.now)) (store_of (g.S.BlockStore.disk c.loop-task.store) (g.S.BlockStore.failures c.loop-task.store))
+    (store_of (g.S.BlockStore.disk c.begin.new.store) (g.S.BlockStore.failures c.begin.new.store)) c.args.out.now.items c.loop-task.out.items
+    c.begin.new.out.items
+    c.self.inside.session c.in-Some.task c.take_first.new.self c.in_ok-broken.broken c.loop-task.invariant (sym c.self.view_is
+    ∙ ap (with_tasks c.self.inside.session) c.in-Some.ensures.some) c.in_ok-broken.ensures.ok stop
 
 pub loop-task-preserved : goal.loop-task-preserved
 loop-task-preserved g c =
-    goes_then c.args.self.now c.loop-task.self c.begin.new.self (store_of (g.S.BlockStore.disk c.args.store.now) (g.S.BlockStore.failures c.args.store.now)) (store_of (g.S.BlockStore.disk c.loop-task.store) (g.S.BlockStore.failures c.loop-task.store)) (store_of (g.S.BlockStore.disk c.begin.new.store) (g.S.BlockStore.failures c.begin.new.store)) c.args.out.now.items c.loop-task.out.items c.begin.new.out.items
-    c.self.inside.session c.in-Some.task c.take_first.new.self c.in_ok-broken.broken c.loop-task.invariant (sym c.self.view_is ∙ ap (with_tasks c.self.inside.session) c.in-Some.ensures.some)
+    goes_then c.args.self.now c.loop-task.self c.begin.new.self (store_of (g.S.BlockStore.disk c.args.store.now) (g.S.BlockStore.failures c.args.store.now))
+    (store_of (g.S.BlockStore.disk c.loop-task.store) (g.S.BlockStore.failures c.loop-task.store))
+    (store_of (g.S.BlockStore.disk c.begin.new.store) (g.S.BlockStore.failures c.begin.new.store)) c.args.out.now.items c.loop-task.out.items
+    c.begin.new.out.items
+    c.self.inside.session c.in-Some.task c.take_first.new.self c.in_ok-broken.broken c.loop-task.invariant (sym c.self.view_is
+    ∙ ap (with_tasks c.self.inside.session) c.in-Some.ensures.some)
     (record { serves = c.in_ok-broken.ensures.ok; live = sym c.is_closed.ensures ∙ c.if-is_closed.false; done = search rules })
 
 pub returns : goal.returns
 returns g c =
-    goes_end AllocError c.args.self.now c.loop-task.self (with_tasks c.self.inside.session c.take_first.new.self) (store_of (g.S.BlockStore.disk c.args.store.now) (g.S.BlockStore.failures c.args.store.now)) (store_of (g.S.BlockStore.disk c.loop-task.store) (g.S.BlockStore.failures c.loop-task.store)) c.args.out.now.items c.loop-task.out.items
-    c.self.inside.session c.loop-task.invariant (sym c.self.view_is ∙ ap (with_tasks c.self.inside.session) c.in_default.ensures.none) (ap (with_tasks c.self.inside.session) (c.in_default.ensures.kept ∙ c.in_default.ensures.none))
+    goes_end AllocError c.args.self.now c.loop-task.self (with_tasks c.self.inside.session c.take_first.new.self)
+    (store_of (g.S.BlockStore.disk c.args.store.now) (g.S.BlockStore.failures c.args.store.now))
+    (store_of (g.S.BlockStore.disk c.loop-task.store) (g.S.BlockStore.failures c.loop-task.store)) c.args.out.now.items c.loop-task.out.items
+    c.self.inside.session c.loop-task.invariant (sym c.self.view_is ∙ ap (with_tasks c.self.inside.session) c.in_default.ensures.none)
+    (ap (with_tasks c.self.inside.session) (c.in_default.ensures.kept ∙ c.in_default.ensures.none))

@@ -1,14 +1,15 @@
 use Rattle.std.proofs.Common.{length, ap, ◌∙◌, arith}
 use Rattle.iscsi_target.specs.Write.{Write}
 use Rattle.iscsi_target.specs.Transfer.{is_idle, received}
-use Rattle.iscsi_target.proofs.OpenWrites.{data_of_one}
-use Rattle.iscsi_target.proofs.Commanding.{asked_idle}
+use Rattle.iscsi_target.proofs.OpenWriteLemmas.{data_of_one}
+use Rattle.iscsi_target.proofs.CommandLemmas.{asked_idle}
 use Rattle.iscsi_target.proofs.open_write.OpenWrite.await_sequence.Goals as goal
 
 pub invariant_of-self : goal.invariant_of-self
 invariant_of-self c =
     let v = c.self.view_is in
-    let few = asked_idle c.self.inside.total (length c.self.inside.data.items) c.self.inside.asked c.self.inside.due (ap (λ (w : Write). is_idle w.due) v ∙ c.requires.idle) c.self.invariant.asked_for in
+    let few = asked_idle c.self.inside.total (length c.self.inside.data.items) c.self.inside.r2t_count c.self.inside.due (ap (λ (w : Write). is_idle w.due) v
+    ∙ c.requires.idle) c.self.invariant.counted_r2ts in
     let size = ap (λ (w : Write). received w) v in
     let total = ap (λ (w : Write). w.total) v in
     let one = ap length (data_of_one c.self.inside.data.items) in
@@ -16,5 +17,8 @@ invariant_of-self c =
       is_write = c.self.invariant.is_write;
       total_is = c.self.invariant.total_is;
       fits = c.self.invariant.fits;
-      asked_for = (omega (arith, c.received.ensures.value, c.requires.fits, total, size), omega (arith, few, size, one, c.received.ensures.value, c.requires.some));
+      counted_r2ts = (
+        omega (arith, c.received.ensures.value, c.requires.fits, total, size),
+        omega (arith, few, size, one, c.received.ensures.value, c.requires.some),
+      );
     }

@@ -1,7 +1,7 @@
 use Rattle.std.proofs.Common.{ap, ◌∙◌, arith}
 use Rattle.iscsi_login.specs.declared.preferences.Preferences.{Preferences}
 use Rattle.iscsi_stream.specs.Framing.{Framing, is_ready}
-use Rattle.iscsi_stream.proofs.Ready.{not_whole-nil}
+use Rattle.iscsi_stream.proofs.ReadyLemmas.{not_whole-nil}
 use Rattle.iscsi_target_session.specs.Session.{limit}
 use Rattle.iscsi_target.specs.State.{Machine}
 use Rattle.iscsi_target.proofs.target.Target.new.Goals as goal

@@ -3,7 +3,7 @@ use Rattle.std.specs.Prelude.{slice_index_or, None}
 use Rattle.iscsi_target.specs.declared.tasks.Task.{Task}
 use Rattle.iscsi_target.specs.Machine.{is_write_with, write_of}
 use Rattle.iscsi_target.specs.Inside.{IsWriteAt}
-use Rattle.iscsi_target.proofs.Places.{NoneBefore, write_at, write_none}
+use Rattle.iscsi_target.proofs.TaskPlaceLemmas.{NoneBefore, write_at, write_none}
 use Rattle.iscsi_target.proofs.tasks.Tasks.place_of.Goals as goal
 
 pub returns-then-is_write-clause-some : goal.returns-then-is_write-clause-some

@@ -8,4 +8,5 @@ use Rattle.iscsi_target.proofs.tasks.Tasks.waiting.Goals as goal
 pub returns-clause-value : goal.returns-clause-value
 returns-clause-value c =
     count_from_yields_List _ c.count.result c.count.ensures.ran
-    (YieldsList-from_filter _ takes_place (YieldsList-from_slice c.args.self.now (search rules)) c.filter-waiting.ensures.closure (λ x b q k. search (rules, tests)))
+    (YieldsList-from_filter _ takes_place (YieldsList-from_slice c.args.self.now (search rules)) c.filter-waiting.ensures.closure
+    (λ x b q k. search (rules, tests)))

@@ -1,6 +1,6 @@
 use Rattle.std.proofs.Common.{◌≤◌, sym, arith}
 use Rattle.iscsi_target_session.specs.LoginText.{known_keys}
-use Rattle.iscsi_target_session.proofs.LoginTexts.{past_end}
+use Rattle.iscsi_target_session.proofs.LoginTextLemmas.{past_end}
 use Rattle.iscsi_target_session.proofs.session.login_text.known_key.Goals as goal
 
 pub returns-in_default : goal.returns-in_default

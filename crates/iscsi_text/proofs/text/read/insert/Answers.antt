@@ -6,10 +6,11 @@ use Rattle.iscsi_text.specs.declared.pair.Pair.{Pair}
 use Rattle.iscsi_text.specs.Key.{target_address}
 use Rattle.iscsi_text.specs.Text.{key_le}
 use Rattle.iscsi_text.specs.Inside.{all_shown, shown, Inserts}
-use Rattle.iscsi_text.proofs.Keys.{same_key, bytes_eq_same}
-use Rattle.iscsi_text.proofs.Pairs.{in_order_partition, placed, present}
+use Rattle.iscsi_text.proofs.KeyLemmas.{same_key, bytes_eq_same}
+use Rattle.iscsi_text.proofs.PairLemmas.{in_order_partition, placed, present}
 use Rattle.iscsi_text.proofs.text.read.insert.Goals as goal
-use Rattle.iscsi_text.proofs.text.read.insert.Goals.{else-at-gt0-via-then-at-gt0+then-eq+else-ne, else-at-gt0-via-then-at-gt0+else-eq, else-at-gt0-via-else-at-gt0}
+use Rattle.iscsi_text.proofs.text.read.insert.Goals.{else-at-gt0-via-then-at-gt0+then-eq+else-ne, else-at-gt0-via-then-at-gt0+else-eq}
+use Rattle.iscsi_text.proofs.text.read.insert.Goals.{else-at-gt0-via-else-at-gt0}
 
 pub returns-clause-added : goal.returns-clause-added
 returns-clause-added c = λ ok.
@@ -17,7 +18,9 @@ returns-clause-added c = λ ok.
     let items = c.args.pairs.now.items in
     let at = c.partition_point-at.result in
     let bound : at ≤ length items = omega (arith, c.partition_point-at.ensures.bound, c.deref.ensures.len, ap length c.deref.ensures.value) in
-    let parts = IsPartitionPoint-from_clause (λ y. key_le y.key.now pair.key.now) items at (rw c.deref.ensures.value at c.partition_point-at.ensures.partitioned) (in_order_partition pair.key.now items c.requires) (λ a r f k. search (rules, tests)) in
+    let parts = IsPartitionPoint-from_clause (λ y. key_le y.key.now pair.key.now) items at
+    (rw c.deref.ensures.value at c.partition_point-at.ensures.partitioned) (in_order_partition pair.key.now items c.requires)
+    (λ a r f k. search (rules, tests)) in
     let last : pair.key.now ≢ target_address → 0 < at → (get_or items (at - 1) pair).key.now ≢ pair.key.now = λ other some same. elim c.else-at-gt0.branch [
       | else-at-gt0-via-then-at-gt0+then-eq+else-ne w ↦ other (same_key pair.key.now target_address (search (rules, tests, w.ne.ensures, w.if-ne.false)))
       | else-at-gt0-via-then-at-gt0+else-eq w ↦

@@ -1,6 +1,6 @@
 use Rattle.std.proofs.Common.{length}
 use Rattle.iscsi_text.specs.Inside.{all_shown}
-use Rattle.iscsi_text.proofs.ReadSoFar.{Reads}
+use Rattle.iscsi_text.proofs.ReadInvariant.{Reads}
 use Rattle.iscsi_text.proofs.text.read.read_pairs.Given as goal
 
 abbrev pub invariant-loop-rest : goal.invariant-loop-rest

@@ -1,6 +1,6 @@
 use Rattle.std.proofs.Common.{arith, take, rules, ◌≡◌, false}
 use Rattle.hex.specs.Hex.{IsBytes}
-use Rattle.iscsi_tool.proofs.Spelled.{marked_grows, bytes_front}
+use Rattle.iscsi_tool.proofs.SpellingLemmas.{marked_grows, bytes_front}
 use Rattle.iscsi_tool.proofs.hex_writer.HexWriterWrite.write.Goals as goal
 
 pub returns-clause-bytes : goal.returns-clause-bytes

@@ -2,7 +2,7 @@ use Rattle.std.proofs.Common.{◌≡◌, ◌/◌, length, take, sym, ◌∙◌, 
 use Rattle.std.proofs.lemmas.List.{length-take-le}
 use Rattle.scsi_disk.specs.Disk.{written}
 use Rattle.scsi_disk.specs.FailAt.{FailingStore, disk_in}
-use Rattle.scsi_disk.proofs.Overlays.{first_alone, written_short}
+use Rattle.scsi_disk.proofs.OverlayLemmas.{first_alone, written_short}
 use Rattle.scsi_disk.proofs.fail_at.FailAtBlockStore.write.Goals as goal
 
 pub write-requires-clause-inside : goal.write-requires-clause-inside

@@ -1,4 +1,4 @@
-use Rattle.scsi_disk.proofs.Blocks.{is_disk}
+use Rattle.scsi_disk.proofs.BlockLemmas.{is_disk}
 use Rattle.scsi_disk.proofs.memory.MemoryStoreBlockStore.blocks.Goals as goal
 
 pub returns-clause-disk : goal.returns-clause-disk

@@ -1,7 +1,7 @@
 use Rattle.std.proofs.Common.{◌≡◌, ◌+◌, ◌*◌, ◌/◌, ◌%◌, ◌≤◌, Some, None, length, replicate, refl, ap, ◌∙◌, arith, rules}
 use Rattle.scsi_disk.specs.Disk.{cut, joined}
 use Rattle.scsi_disk.specs.Sparse.{Extents, disk_in}
-use Rattle.scsi_disk.proofs.SparseBlocks.{run_there, run_missing}
+use Rattle.scsi_disk.proofs.SparseLemmas.{run_there, run_missing}
 use Rattle.scsi_disk.proofs.sparse.SparseStore.read_run.Goals as goal
 
 pub returns-in-Some : goal.returns-in-Some
@@ -12,7 +12,8 @@ returns-in-Some c =
     let counts = ap (λ (s : Extents). s.count) c.self.view_is in
     let low : n + blocks ≤ c.self.inside.blocks = omega arith in
     c.read_blocks.ensures ∙ ap (λ t. joined (cut 512 t) (n % 64) blocks) bytes
-    ∙ run_there c.self.inside.blocks c.self.inside.extents.entries n blocks (Some c.in-Some.extent.now) c.in-Some.ensures.value c.requires.one low c.in-Some.extent.now refl
+    ∙ run_there c.self.inside.blocks c.self.inside.extents.entries n blocks (Some c.in-Some.extent.now) c.in-Some.ensures.value c.requires.one low
+    c.in-Some.extent.now refl
     ∙ ap (λ (s : Extents). joined (disk_in s).block n blocks) c.self.view_is
 
 pub returns-in-None : goal.returns-in-None

@@ -2,7 +2,7 @@ use Rattle.std.proofs.Common.{◌≡◌, true, false, ap, sym, ◌∙◌, rules}
 use Rattle.std.specs.Ordering.{nat_cmp}
 use Rattle.std.specs.FinMap.{from_entries, get}
 use Rattle.scsi_disk.specs.Sparse.{disk_in}
-use Rattle.scsi_disk.proofs.SparseBlocks.{get_inserted, inserted, unseen, missing, is_inserted, stays, is_kept}
+use Rattle.scsi_disk.proofs.SparseLemmas.{get_inserted, inserted, unseen, missing, is_inserted, stays, is_kept}
 use Rattle.scsi_disk.proofs.sparse.SparseStore.reserve.Goals as goal
 use Rattle.scsi_disk.proofs.sparse.SparseStore.reserve.Goals.{in-Some-1, in-None-1}
 

@@ -1,7 +1,7 @@
 use Rattle.std.proofs.Common.{◌≡◌, ◌+◌, ◌-◌, ◌*◌, ◌/◌, ◌≤◌, length, take, drop, sym, ap, ◌∙◌, arith}
 use Rattle.scsi_disk.specs.Disk.{written}
 use Rattle.scsi_disk.specs.Sparse.{disk_in}
-use Rattle.scsi_disk.proofs.Overlays.{written_none, written_next}
+use Rattle.scsi_disk.proofs.OverlayLemmas.{written_none, written_next}
 use Rattle.scsi_disk.proofs.sparse.SparseStore.write_all.Goals as goal
 
 pub loop-done-init : goal.loop-done-init

@@ -3,7 +3,7 @@ use Rattle.std.specs.Ordering.{nat_cmp}
 use Rattle.std.specs.FinMap.{get, from_entries}
 use Rattle.scsi_disk.specs.Disk.{written}
 use Rattle.scsi_disk.specs.Sparse.{disk_in}
-use Rattle.scsi_disk.proofs.SparseBlocks.{get_at, get_inserted, inserted, stays, run_written, some_at, never_none}
+use Rattle.scsi_disk.proofs.SparseLemmas.{get_at, get_inserted, inserted, stays, run_written, some_at, never_none}
 use Rattle.scsi_disk.proofs.sparse.SparseStore.write_run.Goals as goal
 use Rattle.scsi_disk.proofs.sparse.SparseStore.write_run.Goals.{in-Some, in_default}
 
@@ -42,7 +42,8 @@ returns-clause-disk c =
           let inside = rw (← c.self.view_is) at c.requires.inside in
           let long : length bytes ≡ 512 * (length bytes / 512) = (let whole = c.requires.whole in omega arith) in
           rw w.self-inside-is
-          (run_written c.self.inside.blocks c.args.n (length bytes / 512) (from_entries es) (from_entries fs) old v bytes h before w.put.ensures.blocks long c.requires.one inside
+          (run_written c.self.inside.blocks c.args.n (length bytes / 512) (from_entries es)
+          (from_entries fs) old v bytes h before w.put.ensures.blocks long c.requires.one inside
           ∙ ap (λ s. written c.args.n c.args.bytes.now (disk_in s)) c.self.view_is))
       | in_default w ↦ absurd (never_none _ w.in_default.ensures.value there)
     ]

@@ -2,7 +2,7 @@ use Rattle.std.proofs.Common.{◌≡◌, ◌+◌, ◌-◌, ◌*◌, ◌/◌, ◌
 use Rattle.std.proofs.lemmas.List.{length-take-le, length-drop}
 use Rattle.scsi_disk.specs.Disk.{blocks_from}
 use Rattle.scsi_disk.specs.Sparse.{disk_in}
-use Rattle.scsi_disk.proofs.SparseBlocks.{joined-none, joined_next}
+use Rattle.scsi_disk.proofs.SparseLemmas.{joined-none, joined_next}
 use Rattle.scsi_disk.proofs.sparse.SparseStoreBlockStore.read.Goals as goal
 
 pub loop-done-init : goal.loop-done-init

@@ -20,9 +20,12 @@ returns-clause-sound c = record {
 pub returns-clause-learns : goal.returns-clause-learns
 returns-clause-learns c =
     let self = c.args.self.now in
-    learns_nine c.args.mine.now c.args.other.now self.tasks.there c.join.new.self.there c.join-2.new.self.there self.transfers.there c.join-3.new.self.there self.isids.there c.join_some.new.self.there
-    self.tsihs.there c.join-4.new.self.there self.commands c.step_some-command.new.known c.step_some-last_command.new.known c.step_if-referenced_command.new.known self.statuses c.step_some-status.new.known
-    c.in_ok-task.task c.in_ok-referenced_task.referenced_task c.in_ok-transfer.transfer c.in_ok-isid.isid c.in_ok-tsih.tsih c.step_some-command.result c.step_some-last_command.result
+    learns_nine c.args.mine.now c.args.other.now self.tasks.there c.join.new.self.there c.join-2.new.self.there self.transfers.there c.join-3.new.self.there
+    self.isids.there c.join_some.new.self.there
+    self.tsihs.there c.join-4.new.self.there self.commands c.step_some-command.new.known c.step_some-last_command.new.known
+    c.step_if-referenced_command.new.known self.statuses c.step_some-status.new.known
+    c.in_ok-task.task c.in_ok-referenced_task.referenced_task c.in_ok-transfer.transfer c.in_ok-isid.isid c.in_ok-tsih.tsih c.step_some-command.result
+    c.step_some-last_command.result
     c.step_if-referenced_command.result c.step_some-status.result _
     (record {
       task = c.in_ok-task.ensures.learns;

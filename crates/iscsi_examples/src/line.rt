@@ -1,0 +1,125 @@
+//! PDUs as lines of text.
+//!
+//! A line has the header in hex, in twelve words of four bytes, and what the segment has, without
+//! padding: nothing; words of hex, of which `5a*512` stands for so many of a byte; or behind an
+//! apostrophe a text, in which `|` stands for a byte 00 and `~` for a byte ff. A shorter line is
+//! the front of a header.
+
+use hex::FromHexError;
+use std::alloc::{AllocError, Global};
+use std::num::ParseIntError;
+use thiserror::Error;
+
+/// How many characters a header has.
+const HEADER: usize = 107;
+
+/// Why a line is no PDU.
+#[derive(Clone, Copy, Debug, PartialEq, Eq, Error)]
+pub enum LineFault {
+    /// Memory ran out.
+    #[error("memory")]
+    NoMemory,
+    /// A word is not hex.
+    #[error("not hex")]
+    NotHex,
+    /// What stands before or behind a `*` is no number.
+    #[error("no number")]
+    NoNumber,
+}
+
+impl From<AllocError> for LineFault {
+    fn from(_fault: AllocError) -> LineFault {
+        LineFault::NoMemory
+    }
+}
+
+impl From<FromHexError> for LineFault {
+    fn from(fault: FromHexError) -> LineFault {
+        match fault {
+            FromHexError::OutOfMemory => LineFault::NoMemory,
+            _ => LineFault::NotHex,
+        }
+    }
+}
+
+impl From<ParseIntError> for LineFault {
+    fn from(_fault: ParseIntError) -> LineFault {
+        LineFault::NoNumber
+    }
+}
+
+/// The bytes of hex text, in which blanks part the words.
+pub fn bytes_of(alloc: Global, text: &str) -> Result<Vec<u8>, LineFault> {
+    let digits: Vec<u8> = text
+        .as_bytes()
+        .iter()
+        .copied()
+        .filter(|b| *b != b' ')
+        .collect(alloc)?;
+    Ok(hex::decode(alloc, digits)?)
+}
+
+// The bytes of a word of hex, or so many of a byte.
+fn word_of(alloc: Global, word: &str) -> Result<Vec<u8>, LineFault> {
+    let Some((byte, count)) = word.split_once('*') else {
+        return bytes_of(alloc, word);
+    };
+    let byte = u8::from_str_radix(byte, 16)?;
+    let count = count.parse::<u32>()?;
+    Ok(vec![in alloc; byte; count as usize]?)
+}
+
+// Appends the bytes of a text.
+fn append_text(text: &str, out: &mut Vec<u8>) -> Result<(), AllocError> {
+    for byte in text.bytes() {
+        out.push(match byte {
+            b'|' => 0,
+            b'~' => 0xff,
+            _ => byte,
+        })?;
+    }
+    Ok(())
+}
+
+/// The bytes of a segment, without padding.
+pub fn segment_of(alloc: Global, segment: &str) -> Result<Vec<u8>, LineFault> {
+    let mut out = Vec::new(alloc);
+    if let Some(text) = segment.strip_prefix('\'') {
+        append_text(text, &mut out)?;
+        return Ok(out);
+    }
+    for word in segment.split(' ') {
+        out.extend_from_slice(&word_of(alloc, word)?)?;
+    }
+    Ok(out)
+}
+
+// The bytes that fill a segment of this length up to whole words.
+fn padding_of(len: usize) -> &'static [u8] {
+    match len % 4 {
+        1 => &[0, 0, 0],
+        2 => &[0, 0],
+        3 => &[0],
+        _ => &[],
+    }
+}
+
+/// Appends the PDU of a line: header, segment and padding.
+pub fn append_pdu(line: &str, out: &mut Vec<u8>) -> Result<(), LineFault> {
+    let alloc = *out.allocator();
+    let (header, segment) = line.split_at_checked(HEADER).unwrap_or((line, ""));
+    let bytes = segment_of(alloc, segment.trim())?;
+    out.extend_from_slice(&bytes_of(alloc, header)?)?;
+    out.extend_from_slice(&bytes)?;
+    out.extend_from_slice(padding_of(bytes.len()))?;
+    Ok(())
+}
+
+/// The PDUs of some lines, one behind another.
+pub fn pdus_of(alloc: Global, lines: &str) -> Result<Vec<u8>, LineFault> {
+    let mut stream = Vec::new(alloc);
+    for line in lines.lines() {
+        append_pdu(line, &mut stream)?;
+    }
+    Ok(stream)
+}

@@ -1,0 +1,790 @@
+-- What a session keeps from read to read.
+use Rattle.std.proofs.Common.{◌≡◌, ◌⊎◌, inl, inr, drop, take-append-drop, ℕ, Bool, true, false, List, [], ◌∷◌, ◌++◌, length, ◌≤◌, ◌<◌, take, Option, Result, Ok}
+use Rattle.std.proofs.Common.{Err, refl, sym, ap, subst, ◌∙◌, arith, append-nil, append_assoc}
+use Rattle.std.specs.Io.KnownBytes.{Appends, Consumes, Keeps}
+use Rattle.std.proofs.KnownBytes.{Appends-trans, Appends-nil, Consumes-trans, Consumes-kept, Consumes-nil}
+use Rattle.scsi_disk.specs.Disk.{Disk}
+use Rattle.iscsi_pdu.specs.Meaning.{AreBytes}
+use Rattle.iscsi_stream.proofs.HeadLemmas.{AreBytes-take}
+use Rattle.iscsi_stream.proofs.NormalisingLemmas.{AreBytes-append}
+use Rattle.iscsi_stream.specs.Stream.{Splits, longest_segment}
+use Rattle.iscsi_stream.specs.Canonical.{canon}
+use Rattle.iscsi_stream.specs.Normalising.{WroteFront}
+use Rattle.iscsi_stream.proofs.TakingLemmas.{taken_more}
+use Rattle.iscsi_stream.proofs.ReadyLemmas.{apart}
+use Rattle.iscsi_login.specs.declared.phase.Phase.{Phase}
+use Rattle.iscsi_login.specs.Negotiation.{IsInRange}
+use Rattle.iscsi_target.specs.declared.fault.TargetFault.{TargetFault}
+use Rattle.iscsi_target.specs.declared.fault.TargetFault.TheVariants as faults
+use Rattle.iscsi_target_session.specs.Configured.{Settings}
+use Rattle.iscsi_target.specs.Machine.{is_closed}
+use Rattle.iscsi_login.specs.Stage.{is_closed_phase}
+use Rattle.iscsi_stream.specs.Framing.{Framing}
+use Rattle.iscsi_target.specs.State.{Machine, Stepped}
+use Rattle.iscsi_target.specs.Feed as feed
+use Rattle.iscsi_target.specs.Feed.{LeavesBy, Connection, Store, Fed, FedIf, FedNext, FedNextIf, Feeds, Stays, FedAll, GoesWell, Finishes, opening_connection}
+use Rattle.iscsi_target.specs.Feed.{stream_of}
+use Rattle.iscsi_target.specs.Laws.{Leads}
+use Rattle.iscsi_target.proofs.FeedingLemmas.{fed_any}
+use Rattle.iscsi_target.proofs.FeedInvariant.{may_rise, short_rises}
+use Rattle.iscsi_target.proofs.FailingDiskLemmas.{may_leads, stop_leads, leads_append}
+use Rattle.iscsi_service.specs.declared.session.SessionFault.{SessionFault}
+use Rattle.iscsi_service.specs.declared.session.SessionFault.TheVariants as session
+use Rattle.iscsi_service.specs.Session.{target_settings, HasExecuted, ServesAll, ServesFirst, Serves, IsOver, EndsBy, EndsWell}
+use Rattle.iscsi_service.specs.SessionSteps.{ServedUpTo, Service, service, Goes, ClosesBy, Tells, Loses, RunsOut, Breaks}
+use Rattle.iscsi_service.specs.Serving.{session_fault, ServesOne}
+use Rattle.iscsi_service.proofs.SessionEndLemmas.{Stands, stands_first, stands_answered, read_told, end_told, finish_told, fault_told, first_told, over_told}
+
+-- what a call has read and written
+abbrev pub Leaves : Option (List ℕ) → Option (List ℕ) → Option (List ℕ) → Option (List ℕ) → (List ℕ → List ℕ → Type 0) → Type 0
+Leaves r0 r1 w0 w1 P = (read : List ℕ) × (written : List ℕ) × Consumes r0 r1 read × Appends w0 w1 written × AreBytes written × P read written
+
+-- what is said of it where the preferences are in range and no failure was counted
+abbrev pub Given : Store → Store → Settings → (List ℕ → List ℕ → Type 0) → List ℕ → List ℕ → Type 0
+Given first store settings P read written = IsInRange settings.preferences → store.failures ≡ first.failures → P read written
+
+nothing_executed : (disk : Disk) → Leads disk [] disk
+unfolding Leads
+nothing_executed disk = refl
+
+-- the blocks of a disk are those that no command left
+pub none_executed : (disk : Disk) → HasExecuted disk disk
+none_executed disk = ([], nothing_executed disk)
+
+pub at_start : (settings : Settings) (first : Store) (contents : Option (List ℕ)) →
+    ServedUpTo settings first [] (opening_connection settings 1) first contents contents []
+unfolding FedAll
+at_start settings first contents = record {
+  pieces = [];
+  whole = refl;
+  sent = [];
+  appended = Appends-nil contents;
+  bytes = λ i. omega arith;
+  rises = omega arith;
+  fed = λ h. (refl, refl, refl);
+  executed = none_executed first.disk;
+}
+
+-- behind what was written
+stands_behind : (front out : List ℕ) (r : Stepped) (counted : ℕ) (after : Store) (written : List ℕ) → feed.Stands out r counted after written →
+    feed.Stands (front ++ out) r counted after (front ++ written)
+stands_behind front out r counted after written h = record {
+  failures = h.failures;
+  disk = h.disk;
+  output_is = ap (λ (x : List ℕ). front ++ x) h.output_is ∙ sym (append_assoc front out (canon r.answers));
+}
+
+left_behind : (result : Result Phase TargetFault) (front out : List ℕ) (framing : Framing) (rest : List ℕ) (r : Stepped) (counted : ℕ) (new : Machine)
+    (after : Store) (written : List ℕ) → LeavesBy result out framing rest r counted new after written
+    → LeavesBy result (front ++ out) framing rest r counted new after (front ++ written)
+left_behind (Ok phase) front out framing rest r counted new after written h = stands_behind front out r counted after written h
+left_behind (Err faults.NoMemory) front out framing rest r counted new after written h = record {
+  front = h.front;
+  stops = h.stops;
+  shut = h.shut;
+  disk = h.disk;
+  output_is = ap (λ (x : List ℕ). front ++ x) h.output_is ∙ sym (append_assoc front out (canon (r.answers ++ h.front.answers)));
+}
+left_behind (Err (faults.Stream fault)) front out framing rest r counted new after written h = stands_behind front out r counted after written h
+left_behind (Err (faults.Protocol rule)) front out framing rest r counted new after written h = stands_behind front out r counted after written h
+left_behind (Err faults.Closed) front out framing rest r counted new after written h = stands_behind front out r counted after written h
+
+-- what a call of feed appends, behind what was written
+fed_behind : (b : Bool) (old new : Connection) (before after : Store) (front piece out written : List ℕ) (result : Result Phase TargetFault)
+    → FedIf b old before out piece result new after written → FedIf b old before (front ++ out) piece result new after (front ++ written)
+fed_behind true old new before after front piece out written result f = record {
+  result_is = f.result_is;
+  connection = f.connection;
+  store = f.store;
+  output_is = ap (λ (x : List ℕ). front ++ x) f.output_is;
+}
+fed_behind false old new before after front piece out written result f = record {
+  framing = f.framing;
+  count = f.count;
+  some = f.some;
+  messages = f.messages;
+  stepped = f.stepped;
+  answered = f.answered;
+  leaves = left_behind result front out f.framing (drop f.count piece) f.stepped f.answered.failures new.machine after written f.leaves;
+  ends = f.ends;
+}
+
+-- one piece more
+fed_more : (pieces : List (List ℕ)) (old now new : Connection) (before store after : Store) (out written piece all : List ℕ) (result : Result Phase TargetFault)
+    → FedAll old before out pieces now store written → Fed now store written piece result new after all → GoesWell result store after
+    → FedAll old before out (pieces ++ piece ∷ []) new after all
+unfolding FedAll
+fed_more [] old now new before store after out written piece all result f one well = (
+  result,
+  new,
+  after,
+  all,
+  subst (λ (x : Connection). Fed x before out piece result new after all) f.0
+      (subst (λ (x : Store). Fed now x out piece result new after all) f.1
+      (subst (λ (x : List ℕ). Fed now store x piece result new after all) f.2 one)),
+  subst (λ (x : Store). GoesWell result x after) f.1 well,
+  (refl, refl, refl),
+)
+fed_more (p ∷ pieces) old now new before store after out written piece all result f one well =
+    (f.0, f.1, f.2, f.3, f.4, f.5, fed_more pieces f.1 now new f.2 store after f.3 written piece all result f.6 one well)
+
+stream_more : (pieces : List (List ℕ)) (piece : List ℕ) → stream_of pieces ++ piece ≡ stream_of (pieces ++ piece ∷ [])
+stream_more [] piece = sym (append-nil piece)
+stream_more (p ∷ pieces) piece = append_assoc p (stream_of pieces) piece ∙ ap (λ (x : List ℕ). p ++ x) (stream_more pieces piece)
+
+-- what was executed, where a call ended so
+stands_executed : (first : Disk) (out : List ℕ) (r : Stepped) (counted : ℕ) (after : Store) (written : List ℕ) → Leads first r.executed r.disk →
+    feed.Stands out r counted after written → HasExecuted first after.disk
+stands_executed first out r counted after written leads h = (r.executed, subst (λ (d : Disk). Leads first r.executed d) (sym h.disk) leads)
+
+left_executed : (result : Result Phase TargetFault) (first : Disk) (out : List ℕ) (framing : Framing) (rest : List ℕ) (r : Stepped) (counted : ℕ)
+    (new : Machine) (after : Store) (written : List ℕ) → Leads first r.executed r.disk
+    → LeavesBy result out framing rest r counted new after written → HasExecuted first after.disk
+left_executed (Ok phase) first out framing rest r counted new after written leads h = stands_executed first out r counted after written leads h
+left_executed (Err faults.NoMemory) first out framing rest r counted new after written leads h = elim h.stops [
+  | inl none ↦ (r.executed, subst (λ (d : Disk). Leads first r.executed d) (sym (h.disk ∙ ap (λ (x : Stepped). x.disk) none.0)) leads)
+  | inr at ↦ (
+    r.executed ++ h.front.executed,
+    subst (λ (d : Disk). Leads first (r.executed ++ h.front.executed) d) (sym h.disk)
+        (leads_append first r.disk h.front.disk r.executed h.front.executed leads
+        (stop_leads r.machine r.disk counted after.failures at.message h.front at.stops)),
+  )
+]
+left_executed (Err (faults.Stream fault)) first out framing rest r counted new after written leads h = stands_executed first out r counted after written leads h
+left_executed (Err (faults.Protocol rule)) first out framing rest r counted new after written leads h =
+    stands_executed first out r counted after written leads h
+left_executed (Err faults.Closed) first out framing rest r counted new after written leads h = stands_executed first out r counted after written leads h
+
+-- what a call of feed executed
+fed_executed : (b : Bool) (old new : Connection) (before after : Store) (out piece written : List ℕ) (result : Result Phase TargetFault)
+    → FedIf b old before out piece result new after written → HasExecuted before.disk after.disk
+fed_executed true old new before after out piece written result f = (
+  [],
+  subst (λ (x : Store). Leads before.disk [] x.disk) (sym f.store)
+      (nothing_executed before.disk),
+)
+fed_executed false old new before after out piece written result f =
+    left_executed result before.disk out f.framing (drop f.count piece) f.stepped f.answered.failures new.machine after written
+    (may_leads old.machine before.disk before.failures f.answered.failures f.messages f.stepped f.answered.may) f.leaves
+
+-- so the blocks are those that commands left, one call more
+pub executed_more : (first : Disk) (old new : Connection) (before after : Store) (out piece written : List ℕ) (result : Result Phase TargetFault)
+    → HasExecuted first before.disk → Fed old before out piece result new after written → HasExecuted first after.disk
+executed_more first old new before after out piece written result e f =
+    let more : HasExecuted before.disk after.disk = fed_executed (is_closed old.machine) old new before after out piece written result f in
+    (e.0 ++ more.0, leads_append first before.disk after.disk e.0 more.0 e.1 more.1)
+
+-- ---- what was counted
+
+-- behind what was answered
+left_rises : (result : Result Phase TargetFault) (out : List ℕ) (framing : Framing) (rest : List ℕ) (r : Stepped) (counted : ℕ) (new : Machine) (after : Store)
+    (written : List ℕ) → LeavesBy result out framing rest r counted new after written
+    → counted ≤ after.failures
+left_rises (Ok phase) out framing rest r counted new after written h = omega (arith, h.failures)
+left_rises (Err faults.NoMemory) out framing rest r counted new after written h = short_rises out framing rest r counted new after written h
+left_rises (Err (faults.Stream fault)) out framing rest r counted new after written h = omega (arith, h.failures)
+left_rises (Err (faults.Protocol rule)) out framing rest r counted new after written h = omega (arith, h.failures)
+left_rises (Err faults.Closed) out framing rest r counted new after written h = omega (arith, h.failures)
+
+-- by a call
+fed_rises : (b : Bool) (old new : Connection) (before after : Store) (out piece written : List ℕ) (result : Result Phase TargetFault) →
+    FedIf b old before out piece result new after written → before.failures ≤ after.failures
+fed_rises true old new before after out piece written result f = omega (arith, ap (λ (x : Store). x.failures) f.store)
+fed_rises false old new before after out piece written result f =
+    let low : before.failures ≤ f.answered.failures = may_rise old.machine before.disk before.failures f.messages f.stepped f.answered.failures f.answered.may
+    in
+    omega (arith, low, left_rises result out f.framing (drop f.count piece) f.stepped f.answered.failures new.machine after written f.leaves)
+
+-- where none was counted at last, none was before, and none by the call
+none_counted : (first before after : ℕ) → first ≤ before → before ≤ after → after ≡ first → (before ≡ first) × (after ≡ before)
+none_counted first before after low high none = (omega arith, omega arith)
+
+-- ---- one call more
+
+served_more : (settings : Settings) (first : Store) (stream : List ℕ) (old new : Connection) (before after : Store) (start contents : Option (List ℕ))
+    (waiting piece written : List ℕ) (result : Result Phase TargetFault)
+    → ServedUpTo settings first stream old before start contents waiting → Fed old before waiting piece result new after written →
+    (result ≡ Err faults.NoMemory → ⊥)
+    → ServedUpTo settings first (stream ++ piece) new after start contents written
+served_more settings first stream old new before after start contents waiting piece written result up one memory = record {
+  pieces = up.pieces ++ piece ∷ [];
+  whole = ap (λ (x : List ℕ). x ++ piece) up.whole ∙ stream_more up.pieces piece;
+  sent = up.sent;
+  appended = up.appended;
+  bytes = up.bytes;
+  rises = omega (arith, up.rises, fed_rises (is_closed old.machine) old new before after waiting piece written result one);
+  fed = λ none.
+      let h = none_counted first.failures before.failures after.failures up.rises
+      (fed_rises (is_closed old.machine) old new before after waiting piece written result one) none in
+      fed_more up.pieces (opening_connection settings 1) old new first before after [] (up.sent ++ waiting) piece (up.sent ++ written) result (up.fed h.0)
+      (fed_behind (is_closed old.machine) old new before after up.sent piece waiting written result one) (record { memory = memory; device = h.1 });
+  executed = executed_more first.disk old new before after waiting piece written result up.executed one;
+}
+
+-- the answers that waited were written
+pub written_out : (settings : Settings) (first : Store) (stream : List ℕ) (target : Connection) (store : Store) (start contents now : Option (List ℕ))
+    (waiting : List ℕ)
+    → ServedUpTo settings first stream target store start contents waiting → AreBytes waiting → Appends contents now waiting →
+    ServedUpTo settings first stream target store start now []
+written_out settings first stream target store start contents now waiting up are more = record {
+  pieces = up.pieces;
+  whole = up.whole;
+  sent = up.sent ++ waiting;
+  appended = Appends-trans start contents now up.sent waiting up.appended more;
+  bytes = AreBytes-append up.sent waiting up.bytes are;
+  rises = up.rises;
+  fed = λ h. subst (λ (x : List ℕ). FedAll (opening_connection settings 1) first [] up.pieces target store x) (sym (append-nil (up.sent ++ waiting)))
+      (up.fed h);
+  executed = up.executed;
+}
+
+-- a part of them was, or none
+pub front_out : (settings : Settings) (first : Store) (stream : List ℕ) (target : Connection) (store : Store) (start contents now : Option (List ℕ))
+    (waiting : List ℕ)
+    → ServedUpTo settings first stream target store start contents waiting → AreBytes waiting → WroteFront contents now waiting → (sent : List ℕ)
+    × Appends start now sent × AreBytes sent × HasExecuted first.disk store.disk
+front_out settings first stream target store start contents now waiting up are front = (
+  up.sent ++ take front.0 waiting,
+  Appends-trans start contents now up.sent (take front.0 waiting) up.appended front.1,
+  AreBytes-append up.sent (take front.0 waiting) up.bytes (AreBytes-take front.0 waiting are),
+  up.executed,
+)
+
+-- bytes behind the end of a session are dropped
+rest_dropped : (settings : Settings) (first : Store) (stream : List ℕ) (target : Connection) (store : Store) (start contents : Option (List ℕ))
+    (waiting rest : List ℕ)
+    → is_closed target.machine ≡ true → ServedUpTo settings first stream target store start contents waiting →
+    ServedUpTo settings first (stream ++ rest) target store start contents waiting
+rest_dropped settings first stream target store start contents waiting rest over up =
+    let stays : Stays target store waiting (Err faults.Closed) target store waiting =
+    record { result_is = refl; connection = refl; store = refl; output_is = refl } in
+    served_more settings first stream target target store store start contents waiting rest waiting (Err faults.Closed) up
+    (subst (λ (b : Bool). FedIf b target store waiting rest (Err faults.Closed) target store waiting) (sym over) stays)
+    (λ e. cc)
+
+-- the target stands behind what was served
+stands_up : (settings : Settings) (first : Store) (stream : List ℕ) (target : Connection) (store : Store) (start contents : Option (List ℕ)) (waiting : List ℕ)
+    → (up : ServedUpTo settings first stream target store start contents waiting) → store.failures ≡ first.failures → is_closed target.machine ≡ false →
+    Stands settings first.disk stream target store.disk (up.sent ++ waiting)
+stands_up settings first stream target store start contents waiting up h live =
+    subst (λ (x : List ℕ). Stands settings first.disk x target store.disk (up.sent ++ waiting)) (sym up.whole)
+    (stands_answered settings first.disk [] up.pieces (opening_connection settings 1) target first store [] (up.sent ++ waiting)
+    (stands_first settings first.disk) (up.fed h) live)
+
+-- a call in a session that is not closed, behind what was written
+feeds_live : (old new : Connection) (before after : Store) (front piece out written : List ℕ) (result : Result Phase TargetFault) → is_closed old.machine
+    ≡ false → Fed old before out piece result new after written
+    → Feeds old before (front ++ out) piece result new after (front ++ written)
+feeds_live old new before after front piece out written result live f =
+    subst (λ (b : Bool). FedIf b old before (front ++ out) piece result new after (front ++ written)) live
+    (fed_behind (is_closed old.machine) old new before after front piece out written result f)
+
+-- ---- one PDU
+
+either : (b : Bool) → (b ≡ true) ⊎ (b ≡ false)
+either true = inl refl
+either false = inr refl
+
+next_is : (b : Bool) (old new : Connection) (before after : Store) (out piece written : List ℕ) (done : ℕ × Phase)
+    → FedNextIf b old before out piece (Ok done) new after written → FedIf b old before out (take done.0 piece) (Ok done.1) new after written
+next_is true old new before after out piece written done f = absurd cc
+next_is false old new before after out piece written done f = f.fed
+
+pub next_bound : (b : Bool) (old new : Connection) (before after : Store) (out piece written : List ℕ) (done : ℕ × Phase)
+    → FedNextIf b old before out piece (Ok done) new after written → (done.0 ≤ length piece) × (0 < length piece → 0 < done.0)
+next_bound true old new before after out piece written done f = absurd cc
+next_bound false old new before after out piece written done f = (f.bound, f.some)
+
+abbrev as_phase : Result (ℕ × Phase) TargetFault → Result Phase TargetFault
+as_phase (Ok done) = Ok done.1
+as_phase (Err fault) = Err fault
+
+next_fails : (b : Bool) (old new : Connection) (before after : Store) (out piece written : List ℕ) (fault : TargetFault)
+    → FedNextIf b old before out piece (Err fault) new after written → FedIf b old before out piece (Err fault) new after written
+next_fails true old new before after out piece written fault f = record { result_is = ap as_phase f.0; connection = f.1; store = f.2; output_is = f.3 }
+next_fails false old new before after out piece written fault f = f
+
+pub next_goes : (old new : Connection) (before after : Store) (contents : Option (List ℕ)) (out piece written : List ℕ) (done : ℕ × Phase)
+    → FedNext old before out piece (Ok done) new after written
+    → Goes (service old before contents out) (take done.0 piece) (service new after contents written)
+next_goes old new before after contents out piece written done f = λ settings first stream start up.
+    served_more settings first stream old new before after start contents out (take done.0 piece) written (Ok done.1) up
+    (next_is (is_closed old.machine) old new before after out piece written done f) (λ e. cc)
+
+executed_next : (first : Disk) (old new : Connection) (before after : Store) (out piece written : List ℕ) (result : Result (ℕ × Phase) TargetFault)
+    → HasExecuted first before.disk → FedNext old before out piece result new after written → HasExecuted first after.disk
+executed_next first old new before after out piece written (Ok done) e f =
+    executed_more first old new before after out (take done.0 piece) written (Ok done.1) e
+    (next_is (is_closed old.machine) old new before after out piece written done f)
+executed_next first old new before after out piece written (Err fault) e f =
+    executed_more first old new before after out piece written (Err fault) e (next_fails (is_closed old.machine) old new before after out piece written fault f)
+
+-- the answers could not be written, or a part of them alone
+pub write_loses : (old new : Connection) (before after : Store) (contents now : Option (List ℕ)) (out piece written waiting : List ℕ)
+    (result : Result (ℕ × Phase) TargetFault)
+    → FedNext old before out piece result new after written → AreBytes written → WroteFront contents now written →
+    Loses (service old before contents out) (service new after now waiting)
+write_loses old new before after contents now out piece written waiting result f are front = λ settings first stream start up. (
+  up.sent ++ take front.0 written,
+  Appends-trans start contents now up.sent (take front.0 written) up.appended front.1,
+  AreBytes-append up.sent (take front.0 written) up.bytes (AreBytes-take front.0 written are),
+  executed_next first.disk old new before after out piece written result up.executed f,
+)
+
+fault_served_to : (old new : Connection) (before after : Store) (contents now : Option (List ℕ)) (out piece written : List ℕ) (fault : TargetFault)
+    → FedNext old before out piece (Err fault) new after written → ((let r : Result Phase TargetFault = Err fault in r ≡ Err faults.NoMemory) → ⊥) →
+    AreBytes written → Appends contents now written
+    → Goes (service old before contents out) piece (service new after now [])
+fault_served_to old new before after contents now out piece written fault f well are wrote = λ settings first stream start up.
+    written_out settings first (stream ++ piece) new after start contents now written
+    (served_more settings first stream old new before after start contents out piece written (Err fault) up
+    (next_fails (is_closed old.machine) old new before after out piece written fault f) well) are wrote
+
+-- why a session ends by a fault that a call of feed_next answers
+fault_tells : (old new : Connection) (before after : Store) (contents : Option (List ℕ)) (out piece written : List ℕ) (fault : TargetFault) →
+    is_closed old.machine ≡ false
+    → FedNext old before out piece (Err fault) new after written → Tells (service old before contents out) piece (session.Target fault) after
+fault_tells old new before after contents out piece written fault live f = λ settings first stream start up none.
+    let g = next_fails (is_closed old.machine) old new before after out piece written fault f in
+    let h = none_counted first.failures before.failures after.failures up.rises (fed_rises (is_closed old.machine) old new before after out piece written
+    (Err fault) g) none in
+    fault_told fault settings first.disk stream piece old new before after (up.sent ++ out) (up.sent ++ written)
+    (stands_up settings first stream old before start contents out up h.0 live) live
+    (feeds_live old new before after up.sent piece out written (Err fault) live g) h.1
+
+fault_goes : (old new : Connection) (before after : Store) (contents now : Option (List ℕ)) (out piece written : List ℕ) (fault : TargetFault) →
+    (fault ≡ faults.NoMemory → ⊥) → is_closed old.machine ≡ false
+    → FedNext old before out piece (Err fault) new after written → AreBytes written → Appends contents now written
+    → Goes (service old before contents out) piece (service new after now []) × Tells (service old before contents out) piece (session.Target fault) after
+fault_goes old new before after contents now out piece written fault some live f are wrote = (
+  fault_served_to old new before after contents now out piece written fault f (λ e. some (err_is e)) are wrote,
+  fault_tells old new before after contents out piece written fault live f,
+)
+  where
+    err_is : {T : Type 0} {a b : TargetFault} → (let x : Result T TargetFault = Err a in let y : Result T TargetFault = Err b in x ≡ y) → a ≡ b
+    err_is e = cc
+
+-- a fault that a call of feed_next answers, and then the answers were written
+pub fault_breaks : (old new : Connection) (before after : Store) (contents now : Option (List ℕ)) (out piece written : List ℕ) (fault : TargetFault) →
+    is_closed old.machine ≡ false
+    → FedNext old before out piece (Err fault) new after written → AreBytes written → Appends contents now written
+    → Breaks (service old before contents out) piece (session.Target fault) (service new after now [])
+fault_breaks old new before after contents now out piece written faults.NoMemory live f are wrote = λ settings first stream start up. (
+  up.sent ++ written,
+  Appends-trans start contents now up.sent written up.appended wrote,
+  AreBytes-append up.sent written up.bytes are,
+  executed_next first.disk old new before after out piece written (Err faults.NoMemory) up.executed f,
+  λ none.
+      let g = next_fails (is_closed old.machine) old new before after out piece written faults.NoMemory f in
+      let h = none_counted first.failures before.failures after.failures up.rises
+      (fed_rises (is_closed old.machine) old new before after out piece written (Err faults.NoMemory) g) none in
+      first_told settings first.disk stream piece old new before after (up.sent ++ out) (up.sent ++ written)
+      (stands_up settings first stream old before start contents out up h.0 live)
+      (feeds_live old new before after up.sent piece out written (Err faults.NoMemory) live g) h.1,
+)
+fault_breaks old new before after contents now out piece written (faults.Stream fault) live f are wrote =
+    fault_goes old new before after contents now out piece written (faults.Stream fault) (λ e. cc) live f are wrote
+fault_breaks old new before after contents now out piece written (faults.Protocol rule) live f are wrote =
+    fault_goes old new before after contents now out piece written (faults.Protocol rule) (λ e. cc) live f are wrote
+fault_breaks old new before after contents now out piece written faults.Closed live f are wrote =
+    (subst (λ (b : Bool). FedIf b old before out piece (Err faults.Closed) new after written) live
+    (next_fails (is_closed old.machine) old new before after out piece written faults.Closed f)).ends
+
+-- ---- bytes after bytes
+
+pub goes_then : (old mid new : Service) (a b : List ℕ) → Goes old a mid → Goes mid b new → Goes old (a ++ b) new
+goes_then old mid new a b p q = λ settings first stream start up.
+    subst (λ (x : List ℕ). ServedUpTo settings first x new.target new.store start new.contents new.waiting) (append_assoc stream a b)
+    (q settings first (stream ++ a) start (p settings first stream start up))
+
+loses_then : (old mid new : Service) (a : List ℕ) → Goes old a mid → Loses mid new → Loses old new
+loses_then old mid new a p q = λ settings first stream start up. q settings first (stream ++ a) start (p settings first stream start up)
+
+tells_then : (old mid : Service) (a b : List ℕ) (fault : SessionFault) (after : Store) → Goes old a mid → Tells mid b fault after →
+    Tells old (a ++ b) fault after
+tells_then old mid a b fault after p q = λ settings first stream start up h.
+    subst (λ (x : List ℕ). EndsBy settings first.disk (Err fault) x) (append_assoc stream a b)
+    (q settings first (stream ++ a) start (p settings first stream start up) h)
+
+runs_out_then : (old mid new : Service) (a b : List ℕ) → Goes old a mid → RunsOut mid b new → RunsOut old (a ++ b) new
+runs_out_then old mid new a b p q = λ settings first stream start up.
+    let l = q settings first (stream ++ a) start (p settings first stream start up) in
+    (l.0, l.1, l.2, l.3, λ h. subst (λ (x : List ℕ). ServesFirst settings first.disk x new.store.disk l.0) (append_assoc stream a b) (l.4 h))
+
+pub breaks_then : (old mid new : Service) (a b : List ℕ) (fault : SessionFault) → Goes old a mid → Breaks mid b fault new → Breaks old (a ++ b) fault new
+breaks_then old mid new a b (session.Target faults.NoMemory) p q = runs_out_then old mid new a b p q
+breaks_then old mid new a b (session.Target (faults.Stream fault)) p q =
+    (goes_then old mid new a b p q.0, tells_then old mid a b (session.Target (faults.Stream fault)) new.store p q.1)
+breaks_then old mid new a b (session.Target (faults.Protocol rule)) p q =
+    (goes_then old mid new a b p q.0, tells_then old mid a b (session.Target (faults.Protocol rule)) new.store p q.1)
+breaks_then old mid new a b (session.Target faults.Closed) p q = q
+breaks_then old mid new a b session.Read p q = q
+breaks_then old mid new a b session.Write p q = loses_then old mid new a p q
+
+is_over_more : (settings : Settings) (disk : Disk) (read more : List ℕ) → IsOver settings disk read → IsOver settings disk (read ++ more)
+is_over_more settings disk read more o = (
+  record {
+    messages = o.0.messages;
+    given = o.0.given;
+    rest = o.0.rest ++ more;
+    whole = ap (λ (x : List ℕ). x ++ more) o.0.whole ∙ append_assoc o.0.given o.0.rest more;
+    reads = o.0.reads;
+  },
+  o.1,
+  o.2,
+)
+
+-- no bytes change nothing
+goes_none : (s : Service) → Goes s [] s
+goes_none s = λ settings first stream start up. subst (λ (x : List ℕ). ServedUpTo settings first x s.target s.store start s.contents s.waiting)
+    (sym (append-nil stream)) up
+
+-- the answers that wait are written
+pub goes_written : (old : Service) (bytes : List ℕ) (target : Connection) (store : Store) (contents now : Option (List ℕ)) (waiting : List ℕ)
+    → Goes old bytes (service target store contents waiting) → AreBytes waiting → Appends contents now waiting → Goes old bytes (service target store now [])
+goes_written old bytes target store contents now waiting p are wrote = λ settings first stream start up.
+    written_out settings first (stream ++ bytes) target store start contents now waiting (p settings first stream start up) are wrote
+
+pub breaks_write : (old new : Service) (bytes : List ℕ) (fault : SessionFault) → fault ≡ session.Write → Loses old new → Breaks old bytes fault new
+breaks_write old new bytes fault is lost = subst (λ (f : SessionFault). Breaks old bytes f new) (sym is) lost
+
+-- ---- a piece
+
+-- the bytes of a piece before the rest were served
+pub record PieceUpTo (old : Service) (piece rest : List ℕ) (new : Service) : Type 0 where
+  pub front : List ℕ
+  pub parts : piece ≡ front ++ rest
+  pub goes : Goes old front new
+
+pub piece_start : (s : Service) (piece : List ℕ) → PieceUpTo s piece piece s
+piece_start s piece = record { front = []; parts = refl; goes = goes_none s }
+
+pub piece_next : (old mid new : Service) (piece rest : List ℕ) (n : ℕ) → PieceUpTo old piece rest mid → Goes mid (take n rest) new →
+    PieceUpTo old piece (drop n rest) new
+piece_next old mid new piece rest n p q = record {
+  front = p.front ++ take n rest;
+  parts = taken_more piece p.front rest n p.parts;
+  goes = goes_then old mid new p.front (take n rest) p.goes q;
+}
+
+pub piece_breaks : (old mid new : Service) (piece rest : List ℕ) (fault : SessionFault) → PieceUpTo old piece rest mid → Breaks mid rest fault new →
+    Breaks old piece fault new
+piece_breaks old mid new piece rest fault p q = subst (λ (x : List ℕ). Breaks old x fault new) (sym p.parts)
+    (breaks_then old mid new p.front rest fault p.goes q)
+
+pub piece_lost : (old : Service) (piece rest : List ℕ) (target : Connection) (store : Store) (contents now : Option (List ℕ)) (waiting : List ℕ)
+    (fault : SessionFault)
+    → PieceUpTo old piece rest (service target store contents waiting) → fault ≡ session.Write → AreBytes waiting → WroteFront contents now waiting →
+    Breaks old piece fault (service target store now [])
+piece_lost old piece rest target store contents now waiting fault p is are front =
+    breaks_write old (service target store now []) piece fault is (λ settings first stream start up.
+    front_out settings first (stream ++ p.front) target store start contents now waiting (p.goes settings first stream start up) are front)
+
+-- the whole piece was served, and the answers that waited were written
+pub piece_done : (old : Service) (piece rest : List ℕ) (target : Connection) (store : Store) (contents now : Option (List ℕ)) (waiting : List ℕ)
+    → PieceUpTo old piece rest (service target store contents waiting) → length rest ≡ 0 → AreBytes waiting → Appends contents now waiting →
+    Goes old piece (service target store now [])
+piece_done old piece [] target store contents now waiting p none are wrote =
+    subst (λ (x : List ℕ). Goes old x (service target store now [])) (sym (p.parts ∙ append-nil p.front))
+    (goes_written old p.front target store contents now waiting p.goes are wrote)
+piece_done old piece (b ∷ rest) target store contents now waiting p none are wrote = absurd (omega (arith, none))
+
+-- the session is over, and the rest of the piece is dropped
+pub piece_over : (old : Service) (piece rest : List ℕ) (target : Connection) (store : Store) (contents now : Option (List ℕ)) (waiting : List ℕ)
+    → PieceUpTo old piece rest (service target store contents waiting) → is_closed target.machine ≡ true → AreBytes waiting → Appends contents now waiting →
+    Goes old piece (service target store now [])
+piece_over old piece rest target store contents now waiting p over are wrote =
+    goes_written old piece target store contents now waiting
+    (subst (λ (x : List ℕ). Goes old x (service target store contents waiting)) (sym p.parts)
+    (goes_then old (service target store contents waiting) (service target store contents waiting) p.front rest p.goes
+    (λ settings first stream start up. rest_dropped settings first stream target store start contents waiting rest over up))) are wrote
+
+pub piece_closes : (old mid : Service) (piece rest : List ℕ) (n : ℕ) (after : Store) → PieceUpTo old piece rest mid → ClosesBy mid (take n rest) after →
+    ClosesBy old piece after
+piece_closes old mid piece rest n after p q = λ settings first stream start up h.
+    let ended : IsOver settings first.disk (((stream ++ p.front) ++ take n rest) ++ drop n rest) =
+    is_over_more settings first.disk ((stream ++ p.front) ++ take n rest) (drop n rest)
+    (q settings first (stream ++ p.front) start (p.goes settings first stream start up) h) in
+    let all : ((stream ++ p.front) ++ take n rest) ++ drop n rest ≡ stream ++ piece =
+    append_assoc (stream ++ p.front) (take n rest) (drop n rest) ∙ ap (λ (x : List ℕ). (stream ++ p.front) ++ x) (take-append-drop n rest)
+    ∙ append_assoc stream p.front rest ∙ ap (λ (x : List ℕ). stream ++ x) (sym p.parts) in
+    subst (λ (x : List ℕ). IsOver settings first.disk x) all ended
+
+-- ---- how a session ends
+
+-- bytes were read, and served
+pub record ReadUpTo (settings : Settings) (first : Store) (target : Connection) (store : Store)
+    (remaining_old remaining_new contents_old contents_new : Option (List ℕ)) : Type 0 where
+  pub stream : List ℕ
+  pub consumed : Consumes remaining_old remaining_new stream
+  pub served : ServedUpTo settings first stream target store contents_old contents_new []
+
+pub read_start : (settings : Settings) (first : Store) (a b : Option (List ℕ)) → ReadUpTo settings first (opening_connection settings 1) first a a b b
+read_start settings first a b = record { stream = []; consumed = Consumes-nil a; served = at_start settings first b }
+
+pub read_more : (settings : Settings) (first : Store) (now new : Connection) (store after : Store) (r0 r1 r2 w0 w1 w2 : Option (List ℕ)) (piece : List ℕ)
+    → ReadUpTo settings first now store r0 r1 w0 w1 → Consumes r1 r2 piece → Goes (service now store w1 []) piece (service new after w2 []) →
+    ReadUpTo settings first new after r0 r2 w0 w2
+read_more settings first now new store after r0 r1 r2 w0 w1 w2 piece up read goes =
+    record {
+      stream = up.stream ++ piece;
+      consumed = Consumes-trans r0 r1 r2 up.stream piece up.consumed read;
+      served = goes settings first up.stream w0 up.served;
+    }
+
+-- all PDUs of what was read are answered
+all_served : (settings : Settings) (first : Store) (stream : List ℕ) (now : Connection) (store : Store) (w0 w1 : Option (List ℕ)) →
+    (up : ServedUpTo settings first stream now store w0 w1 [])
+    → IsInRange settings.preferences → store.failures ≡ first.failures → ServesAll settings first.disk stream store.disk up.sent
+all_served settings first stream now store w0 w1 up range h ms given rest s =
+    fed_any settings 1 first up.pieces now store up.sent ms given rest (omega (arith, range.max_recv.1))
+    (subst (λ (x : List ℕ). FedAll (opening_connection settings 1) first [] up.pieces now store x) (append-nil up.sent) (up.fed h))
+    (subst (λ (x : List ℕ). Splits longest_segment x ms given rest) up.whole s)
+
+-- what is said where a session ends so
+abbrev pub Ended : Settings → Store → Store → Result (Unit {0}) SessionFault → List ℕ → List ℕ → Type 0
+Ended settings first store result = Given first store settings (λ read written. Serves settings first.disk result read store.disk written
+    × EndsBy settings first.disk result read)
+
+stops : (settings : Settings) (result : Result (Unit {0}) SessionFault) (first : Store) (now : Connection) (store : Store) (r0 r1 w0 w1 : Option (List ℕ)) →
+    (up : ReadUpTo settings first now store r0 r1 w0 w1)
+    → ((read written : List ℕ) → ServesAll settings first.disk read store.disk written → Serves settings first.disk result read store.disk written) →
+    (store.failures ≡ first.failures → EndsBy settings first.disk result up.stream)
+    → Leaves r0 r1 w0 w1 (Ended settings first store result)
+stops settings result first now store r0 r1 w0 w1 up due why = (
+  up.stream,
+  up.served.sent,
+  up.consumed,
+  up.served.appended,
+  up.served.bytes,
+  λ range h. (due up.stream up.served.sent (all_served settings first up.stream now store w0 w1 up.served range h), why h),
+)
+
+-- a target that stands behind what was read
+read_stands : (settings : Settings) (first : Store) (now : Connection) (store : Store) (r0 r1 w0 w1 : Option (List ℕ)) →
+    (up : ReadUpTo settings first now store r0 r1 w0 w1) → store.failures ≡ first.failures → is_closed now.machine ≡ false
+    → Stands settings first.disk up.stream now store.disk (up.served.sent ++ [])
+read_stands settings first now store r0 r1 w0 w1 up h live = stands_up settings first up.stream now store w0 w1 [] up.served h live
+
+-- a read failed
+pub read_stops : (settings : Settings) (first : Store) (now : Connection) (store : Store) (r0 r1 r2 w0 w1 : Option (List ℕ)) →
+    ReadUpTo settings first now store r0 r1 w0 w1 → is_closed now.machine ≡ false → Keeps r1 r2
+    → Leaves r0 r2 w0 w1 (Ended settings first store (Err session.Read))
+read_stops settings first now store r0 r1 r2 w0 w1 up live kept =
+    stops settings (Err session.Read) first now store r0 r2 w0 w1 (record {
+      stream = up.stream;
+      consumed = Consumes-kept r0 r1 r2 up.stream up.consumed kept;
+      served = up.served;
+    }) (λ read written a. a)
+    (λ h. read_told settings first.disk up.stream now store.disk (up.served.sent ++ []) (read_stands settings first now store r0 r1 w0 w1 up h live) live)
+
+-- there were too many reads
+pub reads_stop : (settings : Settings) (first : Store) (now : Connection) (store : Store) (r0 r1 w0 w1 : Option (List ℕ)) →
+    ReadUpTo settings first now store r0 r1 w0 w1 → is_closed now.machine ≡ false
+    → Leaves r0 r1 w0 w1 (Ended settings first store (Err session.Read))
+reads_stop settings first now store r0 r1 w0 w1 up live =
+    stops settings (Err session.Read) first now store r0 r1 w0 w1 up (λ read written a. a)
+    (λ h. read_told settings first.disk up.stream now store.disk (up.served.sent ++ []) (read_stands settings first now store r0 r1 w0 w1 up h live) live)
+
+-- a session that was closed
+pub over_stops : (settings : Settings) (first : Store) (now new : Connection) (store after : Store) (r0 r1 r2 w0 w1 w2 : Option (List ℕ)) (piece : List ℕ)
+    → ReadUpTo settings first now store r0 r1 w0 w1 → Consumes r1 r2 piece → Goes (service now store w1 []) piece (service new after w2 []) →
+    ClosesBy (service now store w1 []) piece after
+    → Leaves r0 r2 w0 w2 (Ended settings first after (Ok tt))
+over_stops settings first now new store after r0 r1 r2 w0 w1 w2 piece up read goes closes =
+    stops settings (Ok tt) first new after r0 r2 w0 w2
+    (record {
+      stream = up.stream ++ piece;
+      consumed = Consumes-trans r0 r1 r2 up.stream piece up.consumed read;
+      served = goes settings first up.stream w0 up.served;
+    }) (λ read written a. a)
+    (λ h. inl (closes settings first up.stream w0 up.served h))
+
+-- nothing more came
+ended_up : (settings : Settings) (first : Store) (now : Connection) (store : Store) (r0 r1 r2 w0 w1 : Option (List ℕ)) →
+    (up : ReadUpTo settings first now store r0 r1 w0 w1) → Consumes r1 r2 [] → Consumes r0 r2 up.stream
+ended_up settings first now store r0 r1 r2 w0 w1 up read = subst (λ (x : List ℕ). Consumes r0 r2 x) (append-nil up.stream)
+    (Consumes-trans r0 r1 r2 up.stream [] up.consumed read)
+
+-- the stream ended behind a PDU
+pub end_stops : (settings : Settings) (first : Store) (now new : Connection) (store : Store) (r0 r1 r2 w0 w1 : Option (List ℕ)) →
+    ReadUpTo settings first now store r0 r1 w0 w1 → is_closed now.machine ≡ false
+    → Finishes now (Ok tt) new → Consumes r1 r2 [] → Leaves r0 r2 w0 w1 (Ended settings first store (Ok tt))
+end_stops settings first now new store r0 r1 r2 w0 w1 up live done read =
+    stops settings (Ok tt) first now store r0 r2 w0 w1 (record {
+      stream = up.stream;
+      consumed = ended_up settings first now store r0 r1 r2 w0 w1 up read;
+      served = up.served;
+    }) (λ read written a. a)
+    (λ h. inr (end_told settings first.disk up.stream now new store.disk (up.served.sent ++ [])
+    (read_stands settings first now store r0 r1 w0 w1 up h live) live done))
+
+any_fault : (settings : Settings) (disk : Disk) (fault : TargetFault) (new now : Connection) (read : List ℕ) (disk_now : Disk) (written : List ℕ) →
+    is_closed now.machine ≡ false → Finishes now (Err fault) new → ServesAll settings disk read disk_now written
+    → Serves settings disk (Err (session.Target fault)) read disk_now written
+any_fault settings disk faults.NoMemory new now read disk_now written live f a = absurd f
+any_fault settings disk (faults.Stream fault) new now read disk_now written live f a = a
+any_fault settings disk (faults.Protocol rule) new now read disk_now written live f a = a
+any_fault settings disk faults.Closed new now read disk_now written live f a = absurd (apart f.0 live)
+
+-- the stream ended within a PDU
+pub finish_stops : (settings : Settings) (fault : TargetFault) (first : Store) (now new : Connection) (store : Store) (r0 r1 r2 w0 w1 : Option (List ℕ)) →
+    ReadUpTo settings first now store r0 r1 w0 w1
+    → is_closed now.machine ≡ false → Finishes now (Err fault) new → Consumes r1 r2 [] →
+    Leaves r0 r2 w0 w1 (Ended settings first store (Err (session.Target fault)))
+finish_stops settings fault first now new store r0 r1 r2 w0 w1 up live fails read =
+    stops settings (Err (session.Target fault)) first now store r0 r2 w0 w1 (record {
+      stream = up.stream;
+      consumed = ended_up settings first now store r0 r1 r2 w0 w1 up read;
+      served = up.served;
+    })
+    (λ read written a. any_fault settings first.disk fault new now read store.disk written live fails a)
+    (λ h. finish_told fault settings first.disk up.stream now new store.disk (up.served.sent ++ [])
+    (read_stands settings first now store r0 r1 w0 w1 up h live) live fails)
+
+-- a session that ends by a fault of the target
+fault_ends : (settings : Settings) (fault : SessionFault) (first : Store) (now new : Connection) (store after : Store) (r0 r1 r2 w0 w1 w2 : Option (List ℕ))
+    (piece : List ℕ) → ReadUpTo settings first now store r0 r1 w0 w1
+    → Consumes r1 r2 piece → ((read written : List ℕ) → ServesAll settings first.disk read after.disk written →
+    Serves settings first.disk (Err fault) read after.disk written)
+    → Goes (service now store w1 []) piece (service new after w2 []) → Tells (service now store w1 []) piece fault after →
+    Leaves r0 r2 w0 w2 (Ended settings first after (Err fault))
+fault_ends settings fault first now new store after r0 r1 r2 w0 w1 w2 piece up read due goes tells =
+    stops settings (Err fault) first new after r0 r2 w0 w2
+    (record {
+      stream = up.stream ++ piece;
+      consumed = Consumes-trans r0 r1 r2 up.stream piece up.consumed read;
+      served = goes settings first up.stream w0 up.served;
+    }) due (λ h. tells settings first up.stream w0 up.served h)
+
+pub fault_stops : (settings : Settings) (fault : SessionFault) (first : Store) (now new : Connection) (store after : Store)
+    (r0 r1 r2 w0 w1 w2 : Option (List ℕ)) (piece : List ℕ)
+    → ReadUpTo settings first now store r0 r1 w0 w1 → Consumes r1 r2 piece → Breaks (service now store w1 []) piece fault (service new after w2 [])
+    → Leaves r0 r2 w0 w2 (Ended settings first after (Err fault))
+fault_stops settings (session.Target faults.NoMemory) first now new store after r0 r1 r2 w0 w1 w2 piece up read lost =
+    let l = lost settings first up.stream w0 up.served in (
+      up.stream ++ piece,
+      l.0,
+      Consumes-trans r0 r1 r2 up.stream piece up.consumed read,
+      l.1,
+      l.2,
+      λ range h. (l.4 h, tt),
+    )
+fault_stops settings (session.Target (faults.Stream fault)) first now new store after r0 r1 r2 w0 w1 w2 piece up read broken =
+    fault_ends settings (session.Target (faults.Stream fault)) first now new store after r0 r1 r2 w0 w1 w2 piece up read (λ read written a. a) broken.0 broken.1
+fault_stops settings (session.Target (faults.Protocol rule)) first now new store after r0 r1 r2 w0 w1 w2 piece up read broken =
+    fault_ends settings (session.Target (faults.Protocol rule)) first now new store after r0 r1 r2 w0 w1 w2 piece up read (λ read written a. a) broken.0
+    broken.1
+fault_stops settings (session.Target faults.Closed) first now new store after r0 r1 r2 w0 w1 w2 piece up read broken = absurd broken
+fault_stops settings session.Read first now new store after r0 r1 r2 w0 w1 w2 piece up read broken = absurd broken
+fault_stops settings session.Write first now new store after r0 r1 r2 w0 w1 w2 piece up read lost =
+    let l = lost settings first up.stream w0 up.served in (
+      up.stream ++ piece,
+      l.0,
+      Consumes-trans r0 r1 r2 up.stream piece up.consumed read,
+      l.1,
+      l.2,
+      λ range h. (tt, tt),
+    )
+
+-- the blocks are those that commands left
+pub fault_executed : (settings : Settings) (fault : SessionFault) (first : Store) (now new : Connection) (store after : Store)
+    (r0 r1 w0 w1 w2 : Option (List ℕ)) (piece : List ℕ)
+    → ReadUpTo settings first now store r0 r1 w0 w1 → Breaks (service now store w1 []) piece fault (service new after w2 []) → HasExecuted first.disk after.disk
+fault_executed settings (session.Target faults.NoMemory) first now new store after r0 r1 w0 w1 w2 piece up lost = (lost settings first up.stream w0 up.served).3
+fault_executed settings (session.Target (faults.Stream fault)) first now new store after r0 r1 w0 w1 w2 piece up broken =
+    (broken.0 settings first up.stream w0 up.served).executed
+fault_executed settings (session.Target (faults.Protocol rule)) first now new store after r0 r1 w0 w1 w2 piece up broken =
+    (broken.0 settings first up.stream w0 up.served).executed
+fault_executed settings (session.Target faults.Closed) first now new store after r0 r1 w0 w1 w2 piece up broken = absurd broken
+fault_executed settings session.Read first now new store after r0 r1 w0 w1 w2 piece up broken = absurd broken
+fault_executed settings session.Write first now new store after r0 r1 w0 w1 w2 piece up lost = (lost settings first up.stream w0 up.served).3
+
+-- ---- a session that is closed
+
+ok_is_no_fault : (done : ℕ × Phase) → (let r : Result (ℕ × Phase) TargetFault = Ok done in r ≡ Err faults.Closed) → ⊥
+ok_is_no_fault done e = absurd cc
+
+-- where a call of feed_next answers that the session is closed
+pub next_closes : (old new : Connection) (before after : Store) (contents : Option (List ℕ)) (out piece written : List ℕ) (done : ℕ × Phase)
+    → FedNext old before out piece (Ok done) new after written → is_closed_phase done.1 ≡ true
+    → ClosesBy (service old before contents out) (take done.0 piece) after
+next_closes old new before after contents out piece written done f over = λ settings first stream start up none.
+    let fed : Fed old before out (take done.0 piece) (Ok done.1) new after written =
+    next_is (is_closed old.machine) old new before after out piece written done f in
+    let h = none_counted first.failures before.failures after.failures up.rises (fed_rises (is_closed old.machine) old new before after out (take done.0 piece)
+    written (Ok done.1) fed) none in
+    elim (either (is_closed old.machine)) [
+      | inl c ↦ absurd (ended_twice c f)
+      | inr live ↦
+          over_told done.1 settings first.disk stream (take done.0 piece) old new before after (up.sent ++ out) (up.sent ++ written)
+          (stands_up settings first stream old before start contents out up h.0 live) live
+          (feeds_live old new before after up.sent (take done.0 piece) out written (Ok done.1) live fed) over h.1
+    ]
+  where
+    ended_twice : is_closed old.machine ≡ true → FedNext old before out piece (Ok done) new after written → ⊥
+    ended_twice c g = ok_is_no_fault done (subst (λ (b : Bool). FedNextIf b old before out piece (Ok done) new after written) c g).0
+
+pub next_is_closed : (b : Bool) (old new : Connection) (before after : Store) (out piece written : List ℕ) (done : ℕ × Phase)
+    → FedNextIf b old before out piece (Ok done) new after written → is_closed_phase done.1 ≡ true → is_closed new.machine ≡ true
+next_is_closed true old new before after out piece written done f over = absurd cc
+next_is_closed false old new before after out piece written done f over = ap is_closed f.fed.ends.1 ∙ sym (ap is_closed_phase f.fed.ends.2) ∙ over
+
+pub next_is_open : (b : Bool) (old new : Connection) (before after : Store) (out piece written : List ℕ) (done : ℕ × Phase)
+    → FedNextIf b old before out piece (Ok done) new after written → is_closed_phase done.1 ≡ false → is_closed new.machine ≡ false
+next_is_open true old new before after out piece written done f open_ = absurd cc
+next_is_open false old new before after out piece written done f open_ = ap is_closed f.fed.ends.1 ∙ sym (ap is_closed_phase f.fed.ends.2) ∙ open_
+
+pub over_ends : (settings : Settings) (first : Store) (now : Connection) (store after : Store) (r0 r1 r2 w0 w1 : Option (List ℕ)) (piece : List ℕ)
+    → ReadUpTo settings first now store r0 r1 w0 w1 → Consumes r1 r2 piece → ClosesBy (service now store w1 []) piece after → after.failures ≡ first.failures →
+    EndsWell settings first.disk r0 r2
+over_ends settings first now store after r0 r1 r2 w0 w1 piece up read closes h =
+    inr (up.stream ++ piece, Consumes-trans r0 r1 r2 up.stream piece up.consumed read, closes settings first up.stream w0 up.served h)
+
+pub ok_is : (b : Bool) → b ≡ true → (let r : Result Bool SessionFault = Ok b in let s : Result Bool SessionFault = Ok true in r ≡ s)
+ok_is b e = ap (λ (x : Bool). (let r : Result Bool SessionFault = Ok x in r)) e
+
+pub ok_open : (b : Bool) → b ≡ false → (let r : Result Bool SessionFault = Ok b in let s : Result Bool SessionFault = Ok false in r ≡ s)
+ok_open b e = ap (λ (x : Bool). (let r : Result Bool SessionFault = Ok x in r)) e
+
+-- ---- over a socket
+
+pub fault_served : (settings : Settings) (disk : Disk) (fault : SessionFault) (read : List ℕ) (disk_now : Disk) (written : List ℕ)
+    → Serves settings disk (Err fault) read disk_now written × EndsBy settings disk (Err fault) read →
+    ServesOne settings disk (Err (session_fault fault)) read disk_now written
+fault_served settings disk (session.Target faults.NoMemory) read disk_now written a = a.0
+fault_served settings disk (session.Target (faults.Stream fault)) read disk_now written a = a
+fault_served settings disk (session.Target (faults.Protocol rule)) read disk_now written a = a
+fault_served settings disk (session.Target faults.Closed) read disk_now written a = absurd a.0
+fault_served settings disk session.Read read disk_now written a = a
+fault_served settings disk session.Write read disk_now written a = tt
+
+-- ---- the target of the programs
+
+-- the preferences of the programs are in range
+standard_in_range : IsInRange target_settings.preferences
+standard_in_range = record {
+  max_burst = (omega arith, omega arith);
+  first_burst = (omega arith, omega arith);
+  time2wait = (omega arith, omega arith);
+  time2retain = (omega arith, omega arith);
+  max_recv = (omega arith, omega arith);
+}
+
+abbrev pub Told : Settings → Disk → Result (Unit {0}) SessionFault → List ℕ → Disk → List ℕ → Type 0
+Told settings disk result read disk_now written = Serves settings disk result read disk_now written × EndsBy settings disk result read
+
+-- what a session leaves, at the target of the programs
+pub told_here : {Steady : Type 0} (settings : Settings) (disk here : Disk) (result : Result (Unit {0}) SessionFault) (read : List ℕ) (disk_now : Disk)
+    (written : List ℕ) → settings ≡ target_settings → disk ≡ here
+    → (IsInRange settings.preferences → Steady → Told settings disk result read disk_now written) → Steady →
+    Told target_settings here result read disk_now written
+told_here settings disk here result read disk_now written is at told steady =
+    subst (λ (s : Settings). Told s here result read disk_now written) is
+    (subst (λ (d : Disk). Told settings d result read disk_now written) at (told (subst (λ (s : Settings). IsInRange s.preferences) (sym is) standard_in_range)
+    steady))
+
+pub ends_here : (settings : Settings) (disk here : Disk) (before after : Option (List ℕ)) → settings ≡ target_settings → disk ≡ here →
+    EndsWell settings disk before after → EndsWell target_settings here before after
+ends_here settings disk here before after is at ends =
+    subst (λ (s : Settings). EndsWell s here before after) is (subst (λ (d : Disk). EndsWell settings d before after) at ends)

@@ -1,5 +1,0 @@
-use Rattle.iscsi_stream.proofs.Loops.{WrittenUpTo}
-use Rattle.iscsi_stream.proofs.output.write_stream.Given as goal
-
-abbrev pub invariant-loop : goal.invariant-loop
-invariant-loop g l = WrittenUpTo l.form l.framer l.counts l.counter (g.R.Read.remaining l.initial.r) (g.R.Read.remaining l.r) (g.W.Write.contents l.initial.w) (g.W.Write.contents l.w)

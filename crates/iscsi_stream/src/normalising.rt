@@ -1,0 +1,172 @@
+//! What is written for the stream that a reader gives: its canonical stream, or a line for each
+//! PDU.
+
+ghost use Rattle.std.specs.Prelude.{◌≡◌, ◌<◌, ◌^◌, ◌++◌, ◌∷◌, ℕ, List, [], length, IfErr, OnOk, OnErr, false};
+ghost use Rattle.std.specs.Io.KnownBytes.{Appends, Consumes, IsAtEnd};
+ghost use Rattle.iscsi_pdu.specs.Meaning.{AreBytes, Fits};
+ghost use Rattle.iscsi_stream.specs.Stream.{Message, message, longest_segment};
+ghost use Rattle.iscsi_stream.specs.Framing.{is_ready};
+ghost use Rattle.iscsi_stream.specs.Normalising.{Normalises, Shows, Writes, AtEnd};
+ghost use Rattle.iscsi_stream.specs.Passing.{IsDue, PassesOn, Appended, PassFails};
+
+use crate::canonical_form::canonical;
+use crate::counts::Counts;
+use crate::fault::ToolFault;
+use crate::framer::Framer;
+use crate::io::{PIECE, READS, write_fully};
+use crate::lines::show_line;
+use iscsi_pdu::Pdu;
+use std::alloc::{AllocError, Global};
+use std::io::{Read, Write};
+
+/// The longest segment that a header can say.
+const LONGEST_SEGMENT: u32 = 16_777_215;
+
+/// What stands for a PDU.
+#[derive(Clone, Copy)]
+pub(crate) enum Form {
+    /// Its canonical form.
+    Canonical,
+    /// Its line of text.
+    Line,
+}
+
+/// Reads a stream to its end and writes its canonical stream; what the PDUs of one read give goes
+/// out in one write.
+///
+/// Answers `Stream` where the stream leaves the profile, and has then written the canonical form of
+/// all PDUs before that place; `Read` where a read fails or 16,777,216 of them did not reach the
+/// end, having written that of all whole PDUs that came; `NoMemory` where memory runs out, having
+/// written that of some first PDUs; and `Write` where a write fails, having written a part of what
+/// was due.
+pub fn normalise<R: Read, W: Write>(
+    alloc: Global,
+    r: &mut R,
+    w: &mut W,
+) -> Result<Counts, ToolFault>
+    ensures writes { (read : List ℕ) × (written : List ℕ) × AreBytes read
+        × Consumes (R.remaining r.old) (R.remaining r.new) read
+        × Appends (W.contents w.old) (W.contents w.new) written × Normalises result read written }
+    ensures end { AtEnd result (IsAtEnd (R.remaining r.new)) }
+{
+    write_stream(alloc, Form::Canonical, r, w)
+}
+
+/// Reads a stream to its end and writes a line for each PDU; the lines of the PDUs of one read go
+/// out in one write.
+///
+/// Its faults are those of `normalise`, and what is written before them is the lines of the same
+/// PDUs.
+pub fn show<R: Read, W: Write>(alloc: Global, r: &mut R, w: &mut W) -> Result<Counts, ToolFault>
+    ensures writes { (read : List ℕ) × (written : List ℕ) × AreBytes read
+        × Consumes (R.remaining r.old) (R.remaining r.new) read
+        × Appends (W.contents w.old) (W.contents w.new) written × Shows result read written }
+    ensures end { AtEnd result (IsAtEnd (R.remaining r.new)) }
+{
+    write_stream(alloc, Form::Line, r, w)
+}
+
+// Reads a stream to its end and writes what stands for each PDU.
+fn write_stream<R: Read, W: Write>(
+    alloc: Global,
+    form: Form,
+    r: &mut R,
+    w: &mut W,
+) -> Result<Counts, ToolFault>
+    ensures writes { (read : List ℕ) × (written : List ℕ) × AreBytes read
+        × Consumes (R.remaining r.old) (R.remaining r.new) read
+        × Appends (W.contents w.old) (W.contents w.new) written
+        × Writes (IsDue form) result read written }
+    ensures end { AtEnd result (IsAtEnd (R.remaining r.new)) }
+{
+    let mut framer = Framer::new(alloc, LONGEST_SEGMENT);
+    let mut out = Vec::new(alloc);
+    let mut counts = Counts::new();
+    let mut buffer = [0u8; PIECE];
+    for _ in 0..READS {
+        let n = match r.read(&mut buffer) {
+            Ok(n) => n,
+            Err(_) => return Err(ToolFault::Read),
+        };
+        if n == 0 {
+            framer.finish()?;
+            return Ok(counts);
+        }
+        counts.bytes_in = counts.bytes_in.saturating_add(n as u64);
+        out.clear();
+        let passed = pass_on(form, &mut framer, &buffer[..n], &mut out, &mut counts);
+        write_fully(w, &out)?;
+        passed?;
+    }
+    Err(ToolFault::Read)
+}
+
+// Takes a piece of the stream, and appends what stands for the PDUs that it makes whole.
+fn pass_on(
+    form: Form,
+    framer: &mut Framer,
+    piece: &[u8],
+    out: &mut Vec<u8>,
+    counts: &mut Counts,
+) -> Result<(), ToolFault>
+    requires limit { framer.old.limit ≡ longest_segment }
+    requires unready { is_ready framer.old ≡ false }
+    ensures bytes { AreBytes piece.now }
+    ensures appended { Appended form framer.old piece.now out.old.items out.new.items }
+    ensures ok { OnOk result ((more : List Message)
+        × PassesOn form framer.old framer.new piece.now more out.old.items out.new.items
+        counts.old counts.new) }
+    ensures err { IfErr result (PassFails form framer.old piece.now out.old.items out.new.items) }
+{
+    let mut rest = piece;
+    while !rest.is_empty() {
+        let taken = framer.feed(rest)?;
+        rest = &rest[taken..];
+        append_ready(form, framer, out, counts)?;
+    }
+    Ok(())
+}
+
+// Appends what stands for the PDU that is ready, if one is, and gives it up.
+fn append_ready(
+    form: Form,
+    framer: &mut Framer,
+    out: &mut Vec<u8>,
+    counts: &mut Counts,
+) -> Result<(), AllocError>
+    ensures ok { OnOk result ((more : List Message)
+        × PassesOn form framer.old framer.new [] more out.old.items out.new.items counts.old
+        counts.new) }
+    ensures err { OnErr result (out.new.items ≡ out.old.items) }
+{
+    let Some(pdu) = framer.pdu() else {
+        return Ok(());
+    };
+    let before = out.len();
+    append_pdu(form, framer.place(), &pdu, framer.continued(), out)?;
+    counts.pdus = counts.pdus.saturating_add(1);
+    counts.bytes_out = counts.bytes_out.saturating_add((out.len() - before) as u64);
+    framer.take();
+    Ok(())
+}
+
+// Appends what stands for a PDU at this place, which continues another or does not.
+fn append_pdu(
+    form: Form,
+    place: u64,
+    pdu: &Pdu<'_>,
+    continued: bool,
+    out: &mut Vec<u8>,
+) -> Result<(), AllocError>
+    requires fits { Fits pdu.now.head }
+    requires short { length pdu.now.bytes.now < 2 ^ 24 }
+    ensures ok { OnOk result ((bytes : List ℕ)
+        × IsDue form (message continued pdu.now.head pdu.now.bytes.now ∷ []) bytes
+        × (out.new.items ≡ out.old.items ++ bytes)) }
+    ensures err { OnErr result (out.new.items ≡ out.old.items) }
+{
+    match form {
+        Form::Canonical => canonical(pdu, continued, out),
+        Form::Line => show_line(place, pdu, out),
+    }
+}

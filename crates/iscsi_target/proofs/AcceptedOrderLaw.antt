@@ -1,0 +1,339 @@
+-- Commands are executed in the order in which they were accepted.
+use Rattle.std.proofs.Common.{◌≡◌, ◌⊎◌, inl, inr, ℕ, ◌+◌, List, [], ◌∷◌, ◌++◌, Bool, true, false, length, Some, None, refl, sym, ap, ◌∙◌, subst, map}
+use Rattle.std.proofs.Common.{append_assoc}
+use Rattle.std.specs.Prelude.{◌==◌, nat_lt, if◌then◌else◌}
+use Rattle.std.specs.List.{AllByRecursion}
+use Rattle.std.proofs.lemmas.Bool.{eqb-true}
+use Rattle.std.proofs.lemmas.List.{append-nil, map-append}
+use Rattle.std.proofs.lemmas.Grind.{flat_map-append}
+use Rattle.scsi_disk.specs.Disk.{Disk}
+use Rattle.scsi_disk.specs.Plan.{plan_of}
+use Rattle.scsi_disk.specs.declared.order.Plan.{Plan}
+use Rattle.scsi_disk.specs.declared.order.Plan.TheVariants as plans
+use Rattle.iscsi_pdu.specs.declared.head.Head.{Head}
+use Rattle.iscsi_pdu.specs.declared.head.Head.TheVariants.{ScsiCommand}
+use Rattle.iscsi_pdu.specs.declared.head.scsi_command.ScsiCommand.{ScsiCommand as CommandPdu}
+use Rattle.iscsi_pdu.specs.declared.head.data_out.DataOut.{DataOut as DataPdu}
+use Rattle.iscsi_stream.specs.Segment.{segment_bytes}
+use Rattle.iscsi_stream.specs.Stream.{Message}
+use Rattle.iscsi_stream.proofs.ReadyLemmas.{apart}
+use Rattle.iscsi_login.specs.Held.{first_burst}
+use Rattle.iscsi_target_session.specs.Configured.{Settings}
+use Rattle.iscsi_target_session.specs.Session.{Session, Reply}
+use Rattle.iscsi_target.specs.Write.{Write}
+use Rattle.iscsi_target.specs.declared.tasks.Task.{Task}
+use Rattle.iscsi_target.specs.declared.tasks.Task.TheVariants.{Request, Data}
+use Rattle.iscsi_target.specs.State.{Machine, Execution, Stepped, on, unchanged, shut_down, opening}
+use Rattle.iscsi_pdu.specs.Rules.{data_out_of_order}
+use Rattle.iscsi_target.specs.State.{breaks}
+use Rattle.iscsi_target_session.specs.Login.{login_step}
+use Rattle.iscsi_target.specs.Transfer.{taken, with_data, is_in_sequence, received, with_r2t}
+use Rattle.iscsi_target.specs.Execution.{Device, reliable, execute}
+use Rattle.iscsi_target.specs.Command.{order_of, led_by, send_r2t, task_of as task_for, task_by, task_planned}
+use Rattle.iscsi_target.specs.Machine.{begun, stays, step, step_on, answers, then_stepped, is_closed, done_in_turn, having_accepted, write_of, with_write}
+use Rattle.iscsi_target.specs.Laws.{Command, task_in, tasks_in, task_of, tasks_done, task_open, tasks_open, HasCmdSn, AreInOrder}
+use Rattle.iscsi_target.proofs.TurnLemmas.{Writes, Waits, Opens, Begins, begins, Turns, turns, with_tasks, stays_on}
+use Rattle.iscsi_target_session.proofs.CaseLemmas.{by_cases}
+use Rattle.iscsi_target.proofs.StepPartLemmas.{Accepts, Immediately, InTurn, Parts, step_parts}
+use Rattle.iscsi_target.proofs.ReplyLemmas.{IsOver, on_ends}
+use Rattle.iscsi_target.proofs.NumberLaws.{closed_answers}
+
+-- from a session with these tasks
+pub record Queues (tasks : List Task) (r : Stepped) : Type 0 where
+  pub more : List Command
+  pub order : tasks_open tasks ++ tasks_in r.accepted ≡ tasks_done r.executed ++ more
+  pub open_ : is_closed r.machine ≡ false → more ≡ tasks_open r.machine.tasks
+
+over_open : (old : List Task) (s : Machine) → IsOver s ⊎ (s.tasks ≡ old) → is_closed s ≡ false → tasks_open old ≡ tasks_open s.tasks
+over_open old s (inl over) e = absurd (apart over.closed e)
+over_open old s (inr same) e = ap tasks_open (sym same)
+
+pub still : (old : List Task) (s : Machine) → IsOver s ⊎ (s.tasks ≡ old) → is_closed s ≡ false → s.tasks ≡ old
+still old s (inl over) e = absurd (apart over.closed e)
+still old s (inr same) e = same
+
+-- ---- replies
+
+reply_queues : (s : Machine) (disk : Disk) (r : Reply) → Queues s.tasks (on disk s.tasks r)
+reply_queues s disk r = record {
+  more = tasks_open s.tasks;
+  order = append-nil (tasks_open s.tasks);
+  open_ = over_open s.tasks (on disk s.tasks r).machine (on_ends disk s.tasks r);
+}
+
+unchanged_queues : (s : Machine) (disk : Disk) → Queues s.tasks (unchanged s disk)
+unchanged_queues s disk = record { more = tasks_open s.tasks; order = append-nil (tasks_open s.tasks); open_ = λ e. refl }
+
+shut_queues : (s : Machine) (disk : Disk) → Queues s.tasks (shut_down s disk)
+shut_queues s disk = record { more = tasks_open s.tasks; order = append-nil (tasks_open s.tasks); open_ = λ e. absurd cc }
+
+-- ---- one after another
+
+tasks_append : (a b : List Message) → tasks_in (a ++ b) ≡ tasks_in a ++ tasks_in b
+tasks_append a b = flat_map-append (λ (m : Message). task_in m.head) a b
+
+closed_queues : (tasks : List Task) (first : Stepped) (disk : Disk) → Queues tasks first → is_closed first.machine ≡ true →
+    Queues tasks (then_stepped first (unchanged first.machine disk))
+closed_queues tasks first disk q e = record {
+  more = q.more;
+  order = ap (λ (ms : List Message). tasks_open tasks ++ tasks_in ms) (append-nil first.accepted) ∙ q.order
+      ∙ ap (λ (es : List Execution). tasks_done es ++ q.more) (sym (append-nil first.executed));
+  open_ = λ f. absurd (apart e f);
+}
+
+open_queues : (tasks : List Task) (first later : Stepped) → Queues tasks first → is_closed first.machine ≡ false → Queues first.machine.tasks later →
+    Queues tasks (then_stepped first later)
+open_queues tasks first later q e p = record {
+  more = p.more;
+  order =
+      ap (λ (ts : List Command). tasks_open tasks ++ ts) (tasks_append first.accepted later.accepted)
+      ∙ sym (append_assoc (tasks_open tasks) (tasks_in first.accepted) (tasks_in later.accepted))
+      ∙ ap (λ (ts : List Command). ts ++ tasks_in later.accepted) q.order
+      ∙ append_assoc (tasks_done first.executed) q.more (tasks_in later.accepted)
+      ∙ ap (λ (ts : List Command). tasks_done first.executed ++ (ts ++ tasks_in later.accepted)) (q.open_ e)
+      ∙ ap (λ (ts : List Command). tasks_done first.executed ++ ts) p.order
+      ∙ sym (append_assoc (tasks_done first.executed) (tasks_done later.executed) p.more)
+      ∙ ap (λ (ts : List Command). ts ++ p.more) (sym (map-append task_of first.executed later.executed));
+  open_ = p.open_;
+}
+
+-- ---- tasks
+
+-- what the first task does with those behind it
+pub record Leads (s : Machine) (task : Task) (r : Stepped) : Type 0 where
+  pub accepted : r.accepted ≡ []
+  pub behind : is_closed r.machine ≡ false → stays s.tasks r ≡ false → r.machine.tasks ≡ s.tasks
+  pub queues : Queues (task ∷ s.tasks) r
+
+abbrev command_of : Write → List Command
+command_of w = (w.initiator_task_tag, w.order) ∷ []
+
+request_leads : (s : Machine) (disk : Disk) (m : Message) (r : Reply) → task_in m.head ≡ [] → Leads s (Request m) (on disk s.tasks r)
+request_leads s disk m r none =
+    let over = on_ends disk s.tasks r in
+    let size : tasks_open (Request m ∷ s.tasks) ≡ tasks_open s.tasks = ap (λ (ts : List Command). ts ++ tasks_open s.tasks) none in
+    record {
+      accepted = refl;
+      behind = λ live stay. still s.tasks (on disk s.tasks r).machine over live;
+      queues = record {
+        more = tasks_open s.tasks;
+        order = append-nil (tasks_open (Request m ∷ s.tasks)) ∙ size;
+        open_ = over_open s.tasks (on disk s.tasks r).machine over;
+      };
+    }
+
+refused_leads : (s : Machine) (disk : Disk) (m : Message) (rule : ℕ) → Leads s (Request m) (breaks s disk rule m)
+refused_leads s disk m rule = record {
+  accepted = refl;
+  behind = λ live stay. absurd cc;
+  queues = record { more = tasks_open (Request m ∷ s.tasks); order = append-nil (tasks_open (Request m ∷ s.tasks)); open_ = λ e. absurd cc };
+}
+
+-- a write is its command
+write_is : (s : Machine) (disk : Disk) (task : Task) (w : Write) → Writes s disk task w → task_open task ≡ command_of w
+write_is s disk _ _ (Waits w) = refl
+write_is s disk _ _ (Opens m h total k e f) = ap task_in k
+
+executed_leads : (s : Machine) (task : Task) (w : Write) (r : Stepped) → task_open task ≡ command_of w → r.accepted ≡ [] → r.machine.tasks ≡ s.tasks →
+    tasks_done r.executed ≡ command_of w → Leads s task r
+executed_leads s task w r is none tasks done = record {
+  accepted = none;
+  behind = λ live stay. tasks;
+  queues = record {
+    more = tasks_open s.tasks;
+    order = ap (λ (ms : List Message). tasks_open (task ∷ s.tasks) ++ tasks_in ms) none ∙ append-nil (tasks_open (task ∷ s.tasks))
+        ∙ ap (λ (ts : List Command). ts ++ tasks_open s.tasks) (is ∙ sym done);
+    open_ = λ e. ap tasks_open (sym tasks);
+  };
+}
+
+waiting_leads : (s : Machine) (task : Task) (w v : Write) (r : Stepped) → task_open task ≡ command_of w → command_of v ≡ command_of w → r.accepted ≡ [] →
+    r.executed ≡ [] → r.machine.tasks ≡ Data v ∷ s.tasks → Leads s task r
+waiting_leads s task w v r is same none done tasks = record {
+  accepted = none;
+  behind = λ live stay. stays_on (Data v) s.tasks (ap (λ (ts : List Task). nat_lt (length s.tasks) (length ts)) (sym tasks) ∙ stay);
+  queues = record {
+    more = tasks_open (task ∷ s.tasks);
+    order = ap (λ (ms : List Message). tasks_open (task ∷ s.tasks) ++ tasks_in ms) none ∙ append-nil (tasks_open (task ∷ s.tasks))
+        ∙ ap (λ (es : List Execution). tasks_done es ++ tasks_open (task ∷ s.tasks)) (sym done);
+    open_ = λ e. ap (λ (ts : List Command). ts ++ tasks_open s.tasks) (is ∙ sym same) ∙ ap tasks_open (sym tasks);
+  };
+}
+
+begins_lead : Begins (λ device s disk task r. Leads s task r)
+begins_lead = record {
+  request_ = λ device s disk m none. request_leads s disk m _ none;
+  refused_ = λ device s disk m h k broke. refused_leads s disk m data_out_of_order;
+  command_ = λ device s disk m h k none. record {
+    accepted = refl;
+    behind = λ live stay. refl;
+    queues = record {
+      more = tasks_open s.tasks;
+      order = append-nil (tasks_open (Request m ∷ s.tasks)) ∙ ap (λ (x : Head). task_in x ++ tasks_open s.tasks) k;
+      open_ = λ e. refl;
+    };
+  };
+  write_ = λ device s disk task w is h. executed_leads s task w (execute device s disk w.initiator_task_tag w.order w.pieces)
+      (write_is s disk task w is) refl refl refl;
+  send_r2t_ = λ device s disk task w is h g. waiting_leads s task w (with_r2t s.session.held w) (send_r2t s disk w)
+      (write_is s disk task w is) refl refl refl refl;
+  wait_ = λ device s disk task w is h g. waiting_leads s task w w (unchanged (led_by w s) disk) (write_is s disk task w is) refl refl refl refl;
+}
+
+pub begun_leads : (device : Device) (s : Session) (disk : Disk) (task : Task) (more : List Task) →
+    Leads (with_tasks s more) task (begun device (with_tasks s more) disk task)
+begun_leads device s disk task more = begins (λ device s disk task r. Leads s task r) begins_lead device (with_tasks s more) disk task
+
+abbrev Done : List Task → Stepped → Type 0
+Done tasks r = (r.accepted ≡ []) × Queues tasks r
+
+turns_queue : Turns (λ device s disk tasks r. Done tasks r)
+turns_queue = record {
+  none_ = λ device s disk. (refl, unchanged_queues (with_tasks s []) disk);
+  stop_ = λ device s disk task more why. (let l = begun_leads device s disk task more in (l.accepted, l.queues));
+  then_ = λ device s disk task more b stays live u.
+      (let l = begun_leads device s disk task more in
+      let r : Stepped = begun device (with_tasks s more) disk task in (
+        ap (λ (ms : List Message). ms ++ b.accepted) l.accepted ∙ u.0,
+        open_queues (task ∷ more) r b l.queues live (subst (λ (ts : List Task). Queues ts b) (sym (l.behind live stays)) u.1),
+      ));
+}
+
+done_queues : (device : Device) (s : Session) (disk : Disk) (tasks : List Task) → Done tasks (done_in_turn device s disk tasks)
+done_queues device s disk tasks = turns (λ device s disk tasks r. Done tasks r) turns_queue device s disk tasks
+
+-- ---- a Data-Out
+
+taken_by : (w v more : Write) (b : Bool) → (v.initiator_task_tag ≡ w.initiator_task_tag) → (v.order ≡ w.order) → (if b then Some v else None) ≡ Some more
+    → (more.initiator_task_tag ≡ w.initiator_task_tag) × (more.order ≡ w.order)
+taken_by w v more true tag order f =
+    let same : v ≡ more = cc in
+    (ap (λ (x : Write). x.initiator_task_tag) (sym same) ∙ tag, ap (λ (x : Write). x.order) (sym same) ∙ order)
+taken_by w v more false tag order f = absurd cc
+
+pub taken_same : (first : ℕ) (w v : Write) (h : DataPdu) (bytes : List ℕ) → taken first w h bytes ≡ Some v → (v.initiator_task_tag ≡ w.initiator_task_tag)
+    × (v.order ≡ w.order)
+taken_same first w v h bytes e = taken_by w (with_data w h bytes) v (is_in_sequence first w h (received w + length bytes) w.due) refl refl e
+
+-- the write that is found has the tag
+pub found_tag : (tasks : List Task) (tag : ℕ) (w : Write) → write_of tasks tag ≡ Some w → w.initiator_task_tag ≡ tag
+found_tag [] tag w e = absurd cc
+found_tag (Request m ∷ more) tag w e = found_tag more tag w e
+found_tag (Data x ∷ more) tag w e =
+    by_cases (x.initiator_task_tag == tag)
+    (λ f. let same : x ≡ w = (let g : Some x ≡ Some w = rw f at e in cc) in ap (λ (y : Write). y.initiator_task_tag) (sym same)
+    ∙ eqb-true x.initiator_task_tag tag f)
+    (λ f. found_tag more tag w (rw f at e))
+
+same_command : (w v : Write) → v.initiator_task_tag ≡ w.initiator_task_tag → v.order ≡ w.order → command_of v ≡ command_of w
+same_command w v tag order = λ i. (tag i, order i) ∷ []
+
+-- the commands are the same with a write that took data
+written_open : (tasks : List Task) (w v : Write) → write_of tasks v.initiator_task_tag ≡ Some w → v.initiator_task_tag ≡ w.initiator_task_tag → v.order
+    ≡ w.order
+    → tasks_open (with_write v tasks) ≡ tasks_open tasks
+written_open [] w v e tag order = refl
+written_open (Request m ∷ more) w v e tag order = ap (λ (ts : List Command). task_in m.head ++ ts) (written_open more w v e tag order)
+written_open (Data x ∷ more) w v e tag order =
+    by_cases (x.initiator_task_tag == v.initiator_task_tag)
+    (λ f.
+    let same : x ≡ w = (let g : Some x ≡ Some w = rw f at e in cc) in
+    let is : command_of v ≡ command_of x = same_command w v tag order ∙ ap command_of (sym same) in
+    rw f (ap (λ (ts : List Command). ts ++ tasks_open more) is))
+    (λ f. rw f (ap (λ (ts : List Command). command_of x ++ ts) (written_open more w v (rw f at e) tag order)))
+
+taken_queues : (device : Device) (s : Machine) (disk : Disk) (h : DataPdu) (bytes : List ℕ) (w v : Write) → write_of s.tasks h.initiator_task_tag ≡ Some w →
+    taken (first_burst s.session.held) w h bytes ≡ Some v
+    → Queues s.tasks (having_accepted [] (done_in_turn device s.session disk (with_write v s.tasks)))
+taken_queues device s disk h bytes w v e f =
+    let same = taken_same (first_burst s.session.held) w v h bytes f in
+    let tag : h.initiator_task_tag ≡ v.initiator_task_tag = sym (found_tag s.tasks h.initiator_task_tag w e) ∙ sym same.0 in
+    let now = written_open s.tasks w v (subst (λ (t : ℕ). write_of s.tasks t ≡ Some w) tag e) same.0 same.1 in
+    let d = done_queues device s.session disk (with_write v s.tasks) in
+    let r : Stepped = done_in_turn device s.session disk (with_write v s.tasks) in
+    record {
+      more = d.1.more;
+      order = append-nil (tasks_open s.tasks) ∙ sym now ∙ sym (append-nil (tasks_open (with_write v s.tasks)))
+          ∙ ap (λ (ms : List Message). tasks_open (with_write v s.tasks) ++ tasks_in ms) (sym d.0) ∙ d.1.order;
+      open_ = d.1.open_;
+    }
+
+-- ---- a request
+
+planned_open : (m : Message) (h : CommandPdu) (bytes : List ℕ) (plan : Plan) → m.head ≡ ScsiCommand h → task_open (task_planned m h bytes plan) ≡ task_in m.head
+planned_open m h bytes (plans.Take total) k = sym (ap task_in k)
+planned_open m h bytes (plans.Refuse sense) k = refl
+planned_open m h bytes (plans.Give given) k = refl
+
+task_is : (count : ℕ) (m : Message) (head : Head) → m.head ≡ head → task_open (task_by count m head) ≡ task_in m.head
+task_is count m (ScsiCommand h) k = planned_open m h (segment_bytes m.segment) (plan_of (order_of h) count) k
+task_is count m head k = refl
+
+tasks_with : (tasks : List Task) (count : ℕ) (m : Message) → tasks_open (tasks ++ task_for count m ∷ []) ≡ tasks_open tasks ++ tasks_in (m ∷ [])
+tasks_with tasks count m =
+    flat_map-append task_open tasks (task_for count m ∷ [])
+    ∙ ap (λ (ts : List Command). tasks_open tasks ++ (ts ++ [])) (task_is count m m.head refl)
+
+same_tasks : (s t : Machine) (m : Message) → Accepts s m t → t.tasks ≡ s.tasks
+same_tasks s _ m (Immediately c none) = refl
+same_tasks s _ m (InTurn n c w is) = refl
+
+admitted_queues : (device : Device) (s : Machine) (session : Session) (m : Message) (disk : Disk) →
+    Queues s.tasks (having_accepted (m ∷ []) (done_in_turn device session disk (s.tasks ++ task_for disk.count m ∷ [])))
+admitted_queues device s session m disk =
+    let all : List Task = s.tasks ++ task_for disk.count m ∷ [] in
+    let d = done_queues device session disk all in
+    let r : Stepped = done_in_turn device session disk all in
+    record {
+      more = d.1.more;
+      order = sym (tasks_with s.tasks disk.count m) ∙ sym (append-nil (tasks_open all)) ∙ ap (λ (ms : List Message). tasks_open all ++ tasks_in ms) (sym d.0)
+          ∙ d.1.order;
+      open_ = d.1.open_;
+    }
+
+refused_queues : (s t : Machine) (m : Message) (disk : Disk) (rule : ℕ) → t.tasks ≡ s.tasks → Queues s.tasks (having_accepted (m ∷ []) (breaks t disk rule m))
+refused_queues s t m disk rule e = record {
+  more = tasks_open s.tasks ++ tasks_in (m ∷ []);
+  order = refl;
+  open_ = λ f. absurd cc;
+}
+
+-- ---- all parts
+
+parts_order : (device : Device) (disk : Disk) → Parts device disk (λ s m r. Queues s.tasks r)
+parts_order device disk = record {
+  nothing_ = λ s m c. unchanged_queues s disk;
+  shut_ = λ s m. shut_queues s disk;
+  reject_ = λ s reason m a. reply_queues s disk _;
+  breach_ = λ s rule m. reply_queues s disk _;
+  login_ = λ s m k. reply_queues s disk (login_step s.session m);
+  taken_ = λ s m h w v k e f. taken_queues device s disk h (segment_bytes m.segment) w v e f;
+  refused_ = λ s t m rule a x. refused_queues s t m disk rule (same_tasks s t m x);
+  admitted_ = λ s t m a x f. subst (λ (ts : List Task). Queues s.tasks (having_accepted (m ∷ [])
+      (done_in_turn device t.session disk (ts ++ task_for disk.count m ∷ [])))) (sym (same_tasks s t m x)) (admitted_queues device s t.session m disk);
+}
+
+step_order : (device : Device) (disk : Disk) (s : Machine) (m : Message) → Queues s.tasks (step_on device s disk m)
+step_order device disk s m = step_parts device disk (λ s m r. Queues s.tasks r) (parts_order device disk) s m
+
+pub answers_queue : (s : Machine) (disk : Disk) (ms : List Message) → Queues s.tasks (answers s disk ms)
+unfolding answers
+answers_queue s disk [] = record { more = tasks_open s.tasks; order = append-nil (tasks_open s.tasks); open_ = λ f. refl }
+answers_queue s disk (m ∷ ms) =
+    let first : Stepped = step s disk m in
+    let q : Queues s.tasks first = step_order reliable disk s m in
+    by_cases (is_closed first.machine)
+    (λ e. subst (λ (r : Stepped). Queues s.tasks (then_stepped first r)) (sym (closed_answers first.machine first.disk ms e))
+    (closed_queues s.tasks first first.disk q e))
+    (λ e. open_queues s.tasks first (answers first.machine first.disk ms) q e (answers_queue first.machine first.disk ms))
+
+pub opening_in_order : (settings : Settings) (n : ℕ) (disk : Disk) (ms : List Message) → AllByRecursion HasCmdSn ms →
+    AreInOrder (answers (opening settings n) disk ms)
+opening_in_order settings n disk ms all =
+    let q : Queues [] (answers (opening settings n) disk ms) = answers_queue (opening settings n) disk ms in
+    record { more = q.more; order = q.order; open_ = q.open_ }
+
+-- the tags of what was executed
+pub tags_of_tasks : (es : List Execution) → map (λ task. task.0) (tasks_done es) ≡ map (λ e. e.initiator_task_tag) es
+tags_of_tasks [] = refl
+tags_of_tasks (e ∷ es) = ap (λ (ts : List ℕ). e.initiator_task_tag ∷ ts) (tags_of_tasks es)

@@ -1,0 +1,417 @@
+-- The steps of a session by the kind of PDU, case by case.
+use Rattle.std.proofs.Common.{◌≡◌, ◌<◌, ◌≤◌, ◌∙◌, ℕ, ◌^◌, List, Bool, true, false, not, length, Option, Some, None, refl, sym, ap, rules}
+use Rattle.std.specs.Prelude.{◌==◌, ◌&&◌, nat_lt, if◌then◌else◌, ◌↔◌, IsTrue, Result}
+use Rattle.std.proofs.lemmas.Bool.{le-ltb}
+use Rattle.scsi_disk.specs.Disk.{Disk}
+use Rattle.iscsi_text.specs.Text.{Pairs}
+use Rattle.iscsi_text.specs.Reading.{text_in}
+use Rattle.iscsi_pdu.specs.Serial.{distance, is_within}
+use Rattle.iscsi_pdu.specs.declared.head.Head.{Head}
+use Rattle.iscsi_pdu.specs.declared.head.Head.TheVariants as heads
+use Rattle.iscsi_pdu.specs.declared.head.Head.TheVariants.{LoginRequest, LoginResponse, NopOut, TaskRequest, TextRequest, LogoutRequest, ScsiCommand, DataOut}
+use Rattle.iscsi_pdu.specs.declared.head.scsi_command.ScsiCommand.{ScsiCommand as Command}
+use Rattle.iscsi_pdu.specs.declared.head.data_out.DataOut.{DataOut as DataPdu}
+use Rattle.iscsi_stream.specs.Segment.{segment_if, segment_of, segment_bytes, text_or_bytes, is_last}
+use Rattle.iscsi_stream.specs.Stream.{Message, message}
+use Rattle.iscsi_login.specs.declared.phase.Phase.{Phase}
+use Rattle.iscsi_login.specs.declared.stage.Session.{Session as SessionType}
+use Rattle.iscsi_target_session.specs.Session.{Session, Reply, limit}
+use Rattle.iscsi_target.specs.State.{Machine, Stepped, on, unchanged, shut_down, waiting, max_cmd_sn}
+use Rattle.std.proofs.Common.{inl, inr, arith}
+use Rattle.std.specs.Prelude.{Ok, Err, OnOk, OnErr}
+use Rattle.iscsi_login.specs.declared.phase.Phase.TheVariants.{Login, Full}
+use Rattle.iscsi_target.specs.State.{closed}
+use Rattle.iscsi_target_session.specs.Login.{login_step}
+use Rattle.std.specs.Prelude.{◌+◌}
+use Rattle.iscsi_login.specs.Held.{first_burst}
+use Rattle.iscsi_target.specs.Write.{Write}
+use Rattle.iscsi_target.specs.Transfer.{received, is_in_sequence, taken, with_data}
+use Rattle.iscsi_target.specs.Machine.{Next, followed, full_step, write_of, with_write, data_taken, data_for}
+use Rattle.iscsi_target.specs.Laws.{joined_stepped}
+use Rattle.iscsi_target.specs.Feed.{Store}
+use Rattle.iscsi_target_session.proofs.CaseLemmas.{by_cases}
+use Rattle.iscsi_target.proofs.ServingLemmas.{serves_same, leaves_serves, accepts_by, answered_follows}
+use Rattle.iscsi_target.specs.Inside.{Leaves, refusal, Follows, Answers, store_of}
+use Rattle.iscsi_target_session.specs.Rejecting.{reject}
+use Rattle.iscsi_pdu.specs.Rules.{kind_not_due, segment_too_long, command_out_of_turn, too_many_immediate}
+use Rattle.scsi_disk.specs.Plan.{plan_of}
+use Rattle.scsi_disk.specs.declared.order.Plan.{Plan}
+use Rattle.scsi_disk.specs.declared.order.Plan.TheVariants.{Refuse, Take, Give}
+use Rattle.iscsi_login.specs.Held.{Held}
+use Rattle.iscsi_target.specs.declared.tasks.Task.TheVariants.{Data}
+use Rattle.iscsi_target.proofs.WriteTilingLaws.{immediate_fits}
+use Rattle.iscsi_target.specs.Command.{scsi_command, opened, planned, order_of, breaks_burst_rules, breaks_rules, task_planned, task_by, task_of}
+use Rattle.iscsi_target.specs.Execution.{Device}
+use Rattle.std.specs.Prelude.{◌≢◌, [], ◌∷◌, ◌++◌}
+use Rattle.iscsi_stream.specs.Pieces.{Pieces, data_of}
+use Rattle.iscsi_pdu.specs.Rules.{data_out_of_order}
+use Rattle.iscsi_target.specs.declared.tasks.Task.{Task}
+use Rattle.iscsi_target.specs.State.{takes_place, joined_task}
+use Rattle.iscsi_target.specs.Transfer.{with_piece}
+use Rattle.iscsi_target.specs.Laws.{cmd_sn_of, cmd_sn_if}
+use Rattle.iscsi_target.proofs.OpenWriteLemmas.{data_of_one}
+use Rattle.iscsi_target.specs.Machine.{Dropped, Answered, Queued, broken, is_tag_of, tag_of, is_busy, is_due_kind, handled, begun, immediate, advanced}
+use Rattle.iscsi_target.specs.Machine.{admitted, in_turn, data_out, due_met, full_met, is_too_long, is_over_limit, phase_step, is_closed, step_on}
+use Rattle.iscsi_target_session.specs.Requests.{request_answered}
+use Rattle.iscsi_target_session.proofs.KindLemmas.{plain, head_of}
+
+-- ---- a request that is accepted
+
+pub handles_command : (d : Device) (s : Machine) (disk : Disk) (c : Bool) (hd : Head) (bytes : List ℕ) (m : Message) (is : message c hd bytes ≡ m) (h : Command)
+    → hd ≡ ScsiCommand h
+    → scsi_command d s disk m h bytes ≡ handled d s disk m m.head
+handles_command d s disk c hd bytes m is h e =
+    sym (ap (handled d s disk m) (head_of c hd bytes m is ∙ e) ∙ ap (λ (b : List ℕ). scsi_command d s disk m h b) (plain c hd bytes m is (ap is_last e)))
+
+-- a command
+abbrev pub is_command : Head → Bool
+is_command (heads.ScsiCommand h) = true
+is_command _ = false
+
+no_command : (d : Device) (s : Machine) (disk : Disk) (m : Message) (hd : Head) → is_command hd ≡ false → handled d s disk m hd
+    ≡ on disk s.tasks (request_answered s.session (waiting s.tasks) m hd)
+no_command d s disk m (heads.ScsiCommand h) e = absurd cc
+no_command d s disk m _ e = refl
+
+pub handles_other : (d : Device) (s : Machine) (disk : Disk) (c : Bool) (hd : Head) (bytes : List ℕ) (m : Message) (is : message c hd bytes ≡ m) → is_command hd
+    ≡ false
+    → handled d s disk m m.head ≡ on disk s.tasks (request_answered s.session (waiting s.tasks) m m.head)
+handles_other d s disk c hd bytes m is e = no_command d s disk m m.head (ap is_command (head_of c hd bytes m is) ∙ e)
+
+-- ---- the order of requests
+
+pub no_room : (s : Machine) (count : ℕ) (m : Message) → is_busy s.tasks ≡ true → (immediate s count m).next
+    ≡ Answered (reject s.session (waiting s.tasks) too_many_immediate m)
+no_room s count m e = rw e refl
+
+pub room : (s : Machine) (count : ℕ) (m : Message) → is_busy s.tasks ≡ false → admitted s count m ≡ (immediate s count m).next
+room s count m e = sym (rw e refl)
+
+within_by : (s : Machine) (n : ℕ) (b : Bool) → IsTrue b ↔ ((distance s.session.exp_cmd_sn (max_cmd_sn s) < 2 ^ 31)
+    × (distance s.session.exp_cmd_sn n ≤ distance s.session.exp_cmd_sn (max_cmd_sn s))) → is_within n s.session.exp_cmd_sn (max_cmd_sn s) ≡ b
+within_by s n b is = search rules
+
+pub outside : (s : Machine) (count : ℕ) (m : Message) (n : ℕ) (b : Bool) → IsTrue b
+    ↔ ((distance s.session.exp_cmd_sn (max_cmd_sn s) < 2 ^ 31) × (distance s.session.exp_cmd_sn n ≤ distance s.session.exp_cmd_sn (max_cmd_sn s)))
+    → b ≡ false → (in_turn s count m n).next ≡ Dropped
+outside s count m n b is e = rw (within_by s n b is ∙ e) refl
+
+pub out_of_turn : (s : Machine) (count : ℕ) (m : Message) (n : ℕ) (b : Bool) → IsTrue b
+    ↔ ((distance s.session.exp_cmd_sn (max_cmd_sn s) < 2 ^ 31) × (distance s.session.exp_cmd_sn n ≤ distance s.session.exp_cmd_sn (max_cmd_sn s)))
+    → b ≡ true → (n == s.session.exp_cmd_sn) ≡ false → (in_turn s count m n).next ≡ broken s command_out_of_turn m
+out_of_turn s count m n b is e f = rw (within_by s n b is ∙ e, f) refl
+
+pub inside : (s : Machine) (count : ℕ) (m : Message) (n : ℕ) (b : Bool) → IsTrue b
+    ↔ ((distance s.session.exp_cmd_sn (max_cmd_sn s) < 2 ^ 31) × (distance s.session.exp_cmd_sn n ≤ distance s.session.exp_cmd_sn (max_cmd_sn s)))
+    → b ≡ true → (n == s.session.exp_cmd_sn) ≡ true → admitted (advanced s) count m ≡ (in_turn s count m n).next
+inside s count m n b is e f = sym (rw (within_by s n b is ∙ e, f) refl)
+
+-- ---- any PDU
+
+pub data_is_due : (s : Machine) (count : ℕ) (c : Bool) (hd : Head) (bytes : List ℕ) (m : Message) (is : message c hd bytes ≡ m) (h : DataPdu) → hd ≡ DataOut h
+    → data_out s m h bytes ≡ (due_met s count m m.head).next
+data_is_due s count c hd bytes m is h e =
+    sym (ap (λ (x : Head). (due_met s count m x).next) (head_of c hd bytes m is ∙ e)
+    ∙ ap (λ (b : List ℕ). data_out s m h b) (plain c hd bytes m is (ap is_last e)))
+
+due_plain : (session : SessionType) (hd : Head) → is_due_kind session hd ≡ true → is_last hd ≡ false
+due_plain session (heads.LoginRequest h) e = absurd cc
+due_plain session (heads.LoginResponse h) e = absurd cc
+due_plain session _ e = refl
+
+due_of : (session : SessionType) (c : Bool) (hd : Head) (bytes : List ℕ) (m : Message) (is : message c hd bytes ≡ m) → is_due_kind session m.head
+    ≡ is_due_kind session hd
+due_of session c hd bytes m is = ap (is_due_kind session) (head_of c hd bytes m is)
+
+pub not_due : (s : Machine) (count : ℕ) (c : Bool) (hd : Head) (bytes : List ℕ) (m : Message) (is : message c hd bytes ≡ m) →
+    is_due_kind s.session.session_type hd ≡ false → (full_met s count m).next ≡ broken s kind_not_due m
+not_due s count c hd bytes m is e = rw (due_of s.session.session_type c hd bytes m is ∙ e) refl
+
+too_long_is : (s : Machine) (c : Bool) (hd : Head) (bytes : List ℕ) (m : Message) (is : message c hd bytes ≡ m) → is_due_kind s.session.session_type hd ≡ true →
+    is_too_long s m ≡ nat_lt s.session.held.target_max_recv (length bytes)
+too_long_is s c hd bytes m is e = ap (λ (b : List ℕ). nat_lt s.session.held.target_max_recv (length b))
+    (plain c hd bytes m is (due_plain s.session.session_type hd e))
+
+pub due_too_long : (s : Machine) (count : ℕ) (c : Bool) (hd : Head) (bytes : List ℕ) (m : Message) (is : message c hd bytes ≡ m) →
+    is_due_kind s.session.session_type hd ≡ true → nat_lt s.session.held.target_max_recv (length bytes) ≡ true
+    → (full_met s count m).next ≡ broken s segment_too_long m
+due_too_long s count c hd bytes m is e f = rw (due_of s.session.session_type c hd bytes m is ∙ e, too_long_is s c hd bytes m is e ∙ f) refl
+
+pub due_served : (s : Machine) (count : ℕ) (c : Bool) (hd : Head) (bytes : List ℕ) (m : Message) (is : message c hd bytes ≡ m) →
+    is_due_kind s.session.session_type hd ≡ true → nat_lt s.session.held.target_max_recv (length bytes) ≡ false
+    → due_met s count m m.head ≡ full_met s count m
+due_served s count c hd bytes m is e f = sym (rw (due_of s.session.session_type c hd bytes m is ∙ e, too_long_is s c hd bytes m is e ∙ f) refl)
+
+-- ---- a request that is the first and only task
+
+planned_alone : (d : Device) (s : Machine) (disk : Disk) (m : Message) (h : Command) (plan : Plan) → m.head ≡ ScsiCommand h →
+    breaks_burst_rules s.session.held h (length (segment_bytes m.segment)) ≡ false → plan_of (order_of h) disk.count ≡ plan
+    → begun d s disk (task_planned m h (segment_bytes m.segment) plan) ≡ handled d s disk m m.head
+planned_alone d s disk m h (Take total) k e f =
+    sym (ap (handled d s disk m) k ∙ rw e refl ∙ ap (planned d s disk h (segment_bytes m.segment)) f)
+planned_alone d s disk m h (Refuse sense) k e f = refl
+planned_alone d s disk m h (Give given) k e f = refl
+
+alone_by : (d : Device) (s : Machine) (disk : Disk) (m : Message) (head : Head) → m.head ≡ head →
+    breaks_rules s.session.held (length (segment_bytes m.segment)) head ≡ false → begun d s disk (task_by disk.count m head) ≡ handled d s disk m m.head
+alone_by d s disk m (ScsiCommand h) k e = planned_alone d s disk m h (plan_of (order_of h) disk.count) k e refl
+alone_by d s disk m head k e = refl
+
+rules_of : (held : Held) (c : Bool) (hd : Head) (bytes : List ℕ) (m : Message) (is : message c hd bytes ≡ m) (h : Command) → hd ≡ ScsiCommand h →
+    breaks_rules held (length (segment_bytes m.segment)) m.head ≡ false
+    → breaks_burst_rules held h (length bytes) ≡ false
+rules_of held c hd bytes m is h e f =
+    ap (λ (b : List ℕ). breaks_burst_rules held h (length b)) (sym (plain c hd bytes m is (ap is_last e)))
+    ∙ ap (breaks_rules held (length (segment_bytes m.segment))) (sym (head_of c hd bytes m is ∙ e)) ∙ f
+
+rules_at : (held : Held) (c : Bool) (hd : Head) (bytes : List ℕ) (m : Message) (is : message c hd bytes ≡ m) (x : Head) → hd ≡ x →
+    breaks_rules held (length (segment_bytes m.segment)) x ≡ breaks_rules held (length bytes) x
+rules_at held c hd bytes m is (ScsiCommand h) e = ap (λ (b : List ℕ). breaks_burst_rules held h (length b)) (plain c hd bytes m is (ap is_last e))
+rules_at held c hd bytes m is x e = refl
+
+-- a request breaks the rules of the first burst by the bytes of its PDU
+pub rules_are : (held : Held) (c : Bool) (hd : Head) (bytes : List ℕ) (m : Message) (is : message c hd bytes ≡ m) →
+    breaks_rules held (length (segment_bytes m.segment)) m.head ≡ breaks_rules held (length bytes) hd
+rules_are held c hd bytes m is = ap (breaks_rules held (length (segment_bytes m.segment))) (head_of c hd bytes m is) ∙ rules_at held c hd bytes m is hd refl
+
+-- the tag of a PDU is that of its message
+pub tagged_as : (tasks : List Task) (c : Bool) (hd : Head) (bytes : List ℕ) (m : Message) (is : message c hd bytes ≡ m) → is_tag_of tasks (tag_of m.head)
+    ≡ is_tag_of tasks (tag_of hd)
+tagged_as tasks c hd bytes m is = ap (λ (x : Head). is_tag_of tasks (tag_of x)) (head_of c hd bytes m is)
+
+pub admitted_tagged : (s : Machine) (count : ℕ) (m : Message) → is_tag_of s.tasks (tag_of m.head) ≡ true → admitted s count m ≡ broken s kind_not_due m
+admitted_tagged s count m e = rw e refl
+
+pub admitted_broken : (s : Machine) (count : ℕ) (m : Message) → is_tag_of s.tasks (tag_of m.head) ≡ false →
+    breaks_rules s.session.held (length (segment_bytes m.segment)) m.head ≡ true
+    → admitted s count m ≡ broken s data_out_of_order m
+admitted_broken s count m e f = rw (e, f) refl
+
+pub admitted_queued : (s : Machine) (count : ℕ) (m : Message) → is_tag_of s.tasks (tag_of m.head) ≡ false →
+    breaks_rules s.session.held (length (segment_bytes m.segment)) m.head ≡ false
+    → admitted s count m ≡ Queued s.session (s.tasks ++ task_of count m ∷ [])
+admitted_queued s count m e f = rw (e, f) refl
+
+-- a request with a CmdSN takes a place of the window
+takes_planned : (m : Message) (h : Command) (bytes : List ℕ) (plan : Plan) → h.immediate ≡ false → takes_place (task_planned m h bytes plan) ≡ true
+takes_planned m h bytes (Take total) e = ap (λ (b : Bool). not b) e
+takes_planned m h bytes (Refuse sense) e = refl
+takes_planned m h bytes (Give given) e = refl
+
+numbered : (b : Bool) (n : ℕ) → (cmd_sn_if b n ≡ None → ⊥) → b ≡ false
+numbered true n some = absurd (some refl)
+numbered false n some = refl
+
+takes_by : (count : ℕ) (m : Message) (head : Head) → (cmd_sn_of head ≡ None → ⊥) → takes_place (task_by count m head) ≡ true
+takes_by count m (ScsiCommand h) some = takes_planned m h (segment_bytes m.segment) (plan_of (order_of h) count) (numbered h.immediate h.cmd_sn some)
+takes_by count m head some = refl
+
+pub takes_as : (count : ℕ) (m : Message) → cmd_sn_of m.head ≢ None → takes_place (task_of count m) ≡ true
+takes_as count m some = takes_by count m m.head some
+
+-- its bytes stand as one piece
+joined_planned : (m : Message) (h : Command) (bytes : List ℕ) (plan : Plan) → joined_task (task_planned m h bytes plan) ≡ task_planned m h bytes plan
+joined_planned m h bytes (Take total) = ap (λ (p : Pieces). Data (record (opened h total bytes) { pieces = p })) (joined_piece bytes)
+  where
+    joined_piece : (bytes : List ℕ) → with_piece [] 0 (data_of (with_piece [] 0 bytes)) ≡ with_piece [] 0 bytes
+    joined_piece bytes = ap (with_piece [] 0) (data_of_one bytes)
+joined_planned m h bytes (Refuse sense) = refl
+joined_planned m h bytes (Give given) = refl
+
+joined_by : (count : ℕ) (m : Message) (head : Head) → joined_task (task_by count m head) ≡ task_by count m head
+joined_by count m (ScsiCommand h) = joined_planned m h (segment_bytes m.segment) (plan_of (order_of h) count)
+joined_by count m head = refl
+
+pub joined_as : (count : ℕ) (m : Message) → joined_task (task_of count m) ≡ task_of count m
+joined_as count m = joined_by count m m.head
+
+-- a write that has to wait has no more bytes than it takes
+pub waits_fit : (held : Held) (count total : ℕ) (c : Bool) (hd : Head) (bytes : List ℕ) (m : Message) (is : message c hd bytes ≡ m) (h : Command) → hd
+    ≡ ScsiCommand h
+    → breaks_rules held (length (segment_bytes m.segment)) m.head ≡ false → plan_of (order_of h) count ≡ Take total → length bytes ≤ total
+waits_fit held count total c hd bytes m is h e f plan = immediate_fits count h held total bytes (rules_of held c hd bytes m is h e f) plan
+
+pub waits_as : (count total : ℕ) (c : Bool) (hd : Head) (bytes : List ℕ) (m : Message) (is : message c hd bytes ≡ m) (h : Command) → hd ≡ ScsiCommand h →
+    plan_of (order_of h) count ≡ Take total
+    → Data (opened h total bytes) ≡ task_of count m
+waits_as count total c hd bytes m is h e plan =
+    sym (ap (task_by count m) (head_of c hd bytes m is ∙ e) ∙ ap (λ (b : List ℕ). task_planned m h b (plan_of (order_of h) count))
+    (plain c hd bytes m is (ap is_last e)) ∙ ap (task_planned m h bytes) plan)
+
+-- where there is no other task, a request is handled where it lies
+pub alone : (d : Device) (s : Machine) (disk : Disk) (m : Message) → breaks_rules s.session.held (length (segment_bytes m.segment)) m.head ≡ false →
+    begun d s disk (task_of disk.count m) ≡ handled d s disk m m.head
+alone d s disk m e = alone_by d s disk m m.head refl e
+
+over_text : (s : Machine) (t : Option Pairs) (bytes : List ℕ) → length bytes ≤ limit s.session.settings → is_over_limit s (text_or_bytes t bytes) ≡ false
+over_text s None bytes le = le-ltb (limit s.session.settings) (length bytes) le
+over_text s (Some pairs) bytes le = refl
+
+over_if : (s : Machine) (b : Bool) (bytes : List ℕ) → length bytes ≤ limit s.session.settings → is_over_limit s (segment_if b bytes) ≡ false
+over_if s true bytes le = over_text s (text_in bytes) bytes le
+over_if s false bytes le = le-ltb (limit s.session.settings) (length bytes) le
+
+pub over_none : (s : Machine) (c : Bool) (hd : Head) (bytes : List ℕ) → length bytes ≤ limit s.session.settings → is_over_limit s (message c hd bytes).segment
+    ≡ false
+unfolding segment_of
+over_none s c hd bytes le = over_if s (not c && is_last hd) bytes le
+
+abbrev if_over : Device → Machine → Disk → Message → Bool → Stepped
+if_over d s disk m b = if b then shut_down s disk else phase_step d s.session.phase s disk m
+
+pub live_step : (d : Device) (s : Machine) (disk : Disk) (m : Message) (phase : Phase) → is_closed s ≡ false → is_over_limit s m.segment ≡ false →
+    s.session.phase ≡ phase → step_on d s disk m ≡ phase_step d phase s disk m
+live_step d s disk m phase live within is =
+    ap (λ (b : Bool). if b then unchanged s disk else (if is_over_limit s m.segment then shut_down s disk else phase_step d s.session.phase s disk m)) live
+    ∙ ap (if_over d s disk m) within
+    ∙ ap (λ (p : Phase). phase_step d p s disk m) is
+
+-- ---- which kinds are due
+
+-- a kind that an initiator may send in full feature phase
+abbrev pub is_initiator_s : Head → Bool
+is_initiator_s (heads.NopOut h) = true
+is_initiator_s (heads.TaskRequest h) = true
+is_initiator_s (heads.TextRequest h) = true
+is_initiator_s (heads.LogoutRequest h) = true
+is_initiator_s (heads.ScsiCommand h) = true
+is_initiator_s (heads.DataOut h) = true
+is_initiator_s _ = false
+
+never_by : (s : Machine) (count : ℕ) (m : Message) (hd : Head) → is_initiator_s hd ≡ false → (due_met s count m hd).next ≡ broken s kind_not_due m
+never_by s count m (heads.NopOut h) e = absurd cc
+never_by s count m (heads.TaskRequest h) e = absurd cc
+never_by s count m (heads.TextRequest h) e = absurd cc
+never_by s count m (heads.LogoutRequest h) e = absurd cc
+never_by s count m (heads.ScsiCommand h) e = absurd cc
+never_by s count m (heads.DataOut h) e = absurd cc
+never_by s count m _ e = refl
+
+pub never_due : (s : Machine) (count : ℕ) (c : Bool) (hd : Head) (bytes : List ℕ) (m : Message) (is : message c hd bytes ≡ m) → is_initiator_s hd ≡ false →
+    (due_met s count m m.head).next ≡ broken s kind_not_due m
+never_due s count c hd bytes m is e = never_by s count m m.head (ap is_initiator_s (head_of c hd bytes m is) ∙ e)
+
+-- ---- a request that is accepted, or refused
+
+pub untagged : (s : Machine) (m : Message) → refusal s m ≡ None → is_tag_of s.tasks (tag_of m.head) ≡ false
+untagged s m e = by_cases (is_tag_of s.tasks (tag_of m.head)) (λ a. let x : Some kind_not_due ≡ None = sym (rw a refl) ∙ e in cc) (λ a. a)
+
+pub keeps_rules : (s : Machine) (m : Message) → refusal s m ≡ None → breaks_rules s.session.held (length (segment_bytes m.segment)) m.head ≡ false
+keeps_rules s m e = by_cases (breaks_rules s.session.held (length (segment_bytes m.segment)) m.head)
+    (λ b. let x : Some data_out_of_order ≡ None = sym (rw (untagged s m e, b) refl) ∙ e in cc) (λ b. b)
+
+pub refused_tag : (s : Machine) (m : Message) → is_tag_of s.tasks (tag_of m.head) ≡ true → refusal s m ≡ Some kind_not_due
+refused_tag s m e = rw e refl
+
+pub refused_rules : (s : Machine) (m : Message) → is_tag_of s.tasks (tag_of m.head) ≡ false →
+    breaks_rules s.session.held (length (segment_bytes m.segment)) m.head ≡ true → refusal s m ≡ Some data_out_of_order
+refused_rules s m e f = rw (e, f) refl
+
+pub not_refused : (s : Machine) (m : Message) → is_tag_of s.tasks (tag_of m.head) ≡ false →
+    breaks_rules s.session.held (length (segment_bytes m.segment)) m.head ≡ false → refusal s m ≡ None
+not_refused s m e f = rw (e, f) refl
+
+pub admitted_none : (s : Machine) (count : ℕ) (m : Message) → refusal s m ≡ None → admitted s count m ≡ Queued s.session (s.tasks ++ task_of count m ∷ [])
+admitted_none s count m e = admitted_queued s count m (untagged s m e) (keeps_rules s m e)
+
+pub admitted_some : (s : Machine) (count : ℕ) (m : Message) (rule : ℕ) → refusal s m ≡ Some rule → admitted s count m ≡ broken s rule m
+admitted_some s count m rule e =
+    by_cases (is_tag_of s.tasks (tag_of m.head))
+    (λ a. let is : kind_not_due ≡ rule = some_is (sym (refused_tag s m a) ∙ e) in admitted_tagged s count m a ∙ ap (λ (r : ℕ). broken s r m) is)
+    (λ a. by_cases (breaks_rules s.session.held (length (segment_bytes m.segment)) m.head)
+    (λ b. let is : data_out_of_order ≡ rule = some_is (sym (refused_rules s m a b) ∙ e) in admitted_broken s count m a b ∙ ap (λ (r : ℕ). broken s r m) is)
+    (λ b. let x : None ≡ Some rule = sym (not_refused s m a b) ∙ e in cc))
+  where
+    some_is : {a b : ℕ} → Some a ≡ Some b → a ≡ b
+    some_is e = cc
+
+-- a request that was refused behind its CmdSN: where memory runs out, the number is due again
+pub any_ok : {A E P : Type 0} (result : Result A E) → P → OnOk result P
+any_ok (Ok x) h = h
+any_ok (Err e) h = tt
+
+back_closed : (s b : Machine) → closed b ≡ closed (advanced s) → closed (record b { session = record b.session { exp_cmd_sn = s.session.exp_cmd_sn } })
+    ≡ closed s
+back_closed s b e = ap (λ (x : Machine). record x { session = record x.session { exp_cmd_sn = s.session.exp_cmd_sn } }) e
+
+pub turned_back : {E : Type 0} (result : Result (Option ℕ) E) (n : ℕ) (s mid new : Machine) (r : Reply) (next : Next) (disk : Disk) (before after : List ℕ) →
+    next ≡ Answered r → Leaves (on disk s.tasks r) result (advanced s) mid before after
+    → OnOk result (new ≡ mid) → OnErr result (new ≡ record mid { session = record mid.session { exp_cmd_sn = s.session.exp_cmd_sn } }) →
+    Follows next result s (store_of disk n) before new (store_of disk n) after
+turned_back (Ok rule) n s mid new r next disk before after is h ok err =
+    answered_follows (Ok rule) n s r next disk new before after is (record {
+      machine = ok ∙ h.machine;
+      output = h.output;
+      rule_is = h.rule_is;
+      err = tt;
+      unwritten = tt;
+    })
+turned_back (Err e) n s mid new r next disk before after is h ok err =
+    answered_follows (Err e) n s r next disk new before after is (record {
+      machine = tt;
+      output = tt;
+      rule_is = tt;
+      err = ap closed err
+          ∙ back_closed s mid h.err;
+      unwritten = h.unwritten;
+    })
+
+pub at_once : (s : Machine) (count : ℕ) (m : Message) → s.tasks ≡ [] → admitted s count m ≡ (immediate s count m).next
+at_once s count m none = room s count m (ap is_busy none)
+
+-- ---- a Data-Out
+
+pub data_dropped : (s : Machine) (m : Message) (h : DataPdu) (bytes : List ℕ) → write_of s.tasks h.initiator_task_tag ≡ None → data_out s m h bytes ≡ Dropped
+data_dropped s m h bytes e = ap (data_for s m h bytes) e
+
+pub data_refused : (s : Machine) (m : Message) (h : DataPdu) (bytes : List ℕ) (w : Write) → write_of s.tasks h.initiator_task_tag ≡ Some w
+    → is_in_sequence (first_burst s.session.held) w h (received w + length bytes) w.due ≡ false → data_out s m h bytes ≡ broken s data_out_of_order m
+data_refused s m h bytes w e f = ap (data_for s m h bytes) e ∙ rw f refl
+
+pub data_taken_by : (s : Machine) (m : Message) (h : DataPdu) (bytes : List ℕ) (w : Write) → write_of s.tasks h.initiator_task_tag ≡ Some w
+    → is_in_sequence (first_burst s.session.held) w h (received w + length bytes) w.due ≡ true → data_out s m h bytes
+    ≡ Queued s.session (with_write (with_data w h bytes) s.tasks)
+data_taken_by s m h bytes w e f = ap (data_for s m h bytes) e ∙ rw f refl
+
+-- the session in which tasks go on
+abbrev pub session_of : Machine → Next → Session
+session_of s (Queued session tasks) = session
+session_of s _ = s.session
+
+taken_session : (s : Machine) (m : Message) (v : Option Write) → session_of s (data_taken s m v) ≡ s.session
+taken_session s m None = refl
+taken_session s m (Some v) = refl
+
+for_session : (s : Machine) (m : Message) (h : DataPdu) (bytes : List ℕ) (w : Option Write) → session_of s (data_for s m h bytes w) ≡ s.session
+for_session s m h bytes None = refl
+for_session s m h bytes (Some w) = taken_session s m (taken (first_burst s.session.held) w h bytes)
+
+pub data_session : (s : Machine) (m : Message) (h : DataPdu) (bytes : List ℕ) → session_of s (data_out s m h bytes) ≡ s.session
+data_session s m h bytes = for_session s m h bytes (write_of s.tasks h.initiator_task_tag)
+
+-- ---- any message
+
+pub login_answers : {E : Type 0} (result : Result (Option ℕ) E) (n : ℕ) (s : Machine) (disk : Disk) (m : Message) (new : Machine) (before after : List ℕ) →
+    is_closed s ≡ false → is_over_limit s m.segment ≡ false → s.session.phase ≡ Login
+    → Leaves (on disk s.tasks (login_step s.session m)) result s new before after → Answers m result s (store_of disk n) before new (store_of disk n) after
+login_answers (Ok rule) n s disk m new before after live within is h = record {
+  ok = leaves_serves n (on disk s.tasks (login_step s.session m)) (λ d. step_on d s disk m) disk rule new before after
+      (λ d. live_step d s disk m Login live within is) refl refl h.machine h.output h.rule_is;
+  err = tt;
+}
+login_answers (Err e) n s disk m new before after live within is h = record {
+  ok = tt;
+  err = inl (record { machine = h.err; rises = omega arith; disk_is = refl; unwritten = h.unwritten });
+}
+
+pub full_answers : {E : Type 0} (result : Result (Option ℕ) E) (s : Machine) (m : Message) (before : Store) (output : List ℕ) (new : Machine) (after : Store)
+    (written : List ℕ) → is_closed s ≡ false → is_over_limit s m.segment ≡ false → s.session.phase ≡ Full
+    → Follows (full_met s before.disk.count m).next result s before output new after written → Answers m result s before output new after written
+full_answers (Ok rule) s m before output new after written live within is h = record {
+  ok = serves_same before.failures after.failures (λ d. step_on d s before.disk m)
+      (λ d. full_step d s before.disk m) rule new after.disk output written (λ d. ap joined_stepped (sym (live_step d s before.disk m Full live within is)))
+      (accepts_by before.failures after.failures (full_met s before.disk.count m).accepted (λ d. followed d s before.disk (full_met s before.disk.count m).next)
+      rule new after.disk output written h.ok);
+  err = tt;
+}
+full_answers (Err e) s m before output new after written live within is h = record { ok = tt; err = inr (is, h.err) }

@@ -1,0 +1,759 @@
+-- A stream that is fed in pieces.
+use Rattle.std.proofs.Common.{◌≡◌, ◌<◌, ◌≤◌, ◌⊎◌, inl, inr, ℕ, Bool, true, false, List, [], ◌∷◌, ◌++◌, length, take, drop, Option, Some, None, Result, Ok, Err}
+use Rattle.std.proofs.Common.{refl, sym, ap, subst, ◌∙◌, arith, append_assoc}
+use Rattle.std.specs.Prelude.{nat_lt}
+use Rattle.std.specs.List.{flat_map}
+use Rattle.std.proofs.lemmas.Bool.{lt-ltb}
+use Rattle.std.proofs.lemmas.List.{append-nil, take-append-drop, take_all, take-append-le, length-append}
+use Rattle.scsi_disk.specs.Disk.{Disk}
+use Rattle.iscsi_pdu.specs.Meaning.{IsHeader, fault_of}
+use Rattle.iscsi_pdu.proofs.HeaderLemmas.{IsHeader-unique}
+use Rattle.iscsi_stream.specs.declared.fault.StreamFault.{StreamFault}
+use Rattle.iscsi_stream.specs.declared.fault.StreamFault.TheVariants as stream
+use Rattle.iscsi_stream.specs.Segment.{Segment, Bytes, no_login, continues}
+use Rattle.iscsi_stream.specs.Stream.{Message, ReadsAs, StreamMeans, after_all, longest_segment, Splits}
+use Rattle.iscsi_stream.specs.Canonical.{canon}
+use Rattle.iscsi_stream.specs.Framing.{Framing, HasTaken, FeedFails, is_ready, is_whole, IsBegun, length_at}
+use Rattle.iscsi_stream.proofs.SettledBytesLemmas.{is_whole-settled}
+use Rattle.iscsi_stream.proofs.ReadyLemmas.{unready_of, not_whole-nil, apart}
+use Rattle.iscsi_stream.proofs.TakingLemmas.{taken_at, at_opening}
+use Rattle.iscsi_stream.proofs.HeadLemmas.{bad_header}
+use Rattle.iscsi_stream.proofs.FrontLemmas.{held_is}
+use Rattle.iscsi_login.specs.declared.phase.Phase.{Phase}
+use Rattle.iscsi_login.specs.declared.phase.Phase.TheVariants as phases
+use Rattle.iscsi_target.specs.declared.fault.TargetFault.{TargetFault}
+use Rattle.iscsi_target.specs.declared.fault.TargetFault.TheVariants as faults
+use Rattle.iscsi_target_session.specs.Configured.{Settings}
+use Rattle.iscsi_target_session.specs.Session.{Session, Reply, limit}
+use Rattle.iscsi_target.specs.declared.tasks.Task.{Task}
+use Rattle.iscsi_target.specs.State.{Machine, Stepped, closed, opening, on, unchanged, shut_down, waiting}
+use Rattle.iscsi_target.specs.State.{joined}
+use Rattle.iscsi_target_session.specs.Login.{login_step}
+use Rattle.iscsi_target.specs.Execution.{Device, reliable}
+use Rattle.iscsi_pdu.specs.Rules.{data_out_of_order}
+use Rattle.iscsi_target.specs.Machine.{is_closed, is_over_limit, step, answers, begun, done_in_turn, then_stepped, first_rule}
+use Rattle.iscsi_target.specs.Laws.{joined_stepped}
+use Rattle.iscsi_target.specs.Feed.{Connection, Store, Answers, Stands, LeavesBy, Ends, Feeds, Fed, HasAnswered, GoesWell, FedAll, FedIf, Stays, Meets}
+use Rattle.iscsi_target.specs.Feed.{opening_connection, Writes, Holds, Refuses, SameSession}
+use Rattle.iscsi_target_session.proofs.CaseLemmas.{by_cases}
+use Rattle.iscsi_target.proofs.TurnLemmas.{Begins, begins, Turns, turns, with_tasks}
+use Rattle.iscsi_target.proofs.StepPartLemmas.{Parts, step_parts}
+use Rattle.iscsi_target.proofs.ReplyLemmas.{login_logs, reject_reply, breach_reply, request_answered_reply}
+use Rattle.iscsi_login.specs.Stage.{is_closed_phase}
+use Rattle.iscsi_target.proofs.NumberLaws.{closed_answers, answers_settings}
+use Rattle.iscsi_target.proofs.AppendLemmas.{answers_append}
+use Rattle.iscsi_target.proofs.JoiningLemmas.{answers_joined}
+use Rattle.iscsi_target.proofs.PrefixLemmas.{Rests, Heads, prefix_of, begins_with, no_bad_header, none_whole, long_bytes, Leaves, prefix_split, header_or_none}
+use Rattle.iscsi_target.proofs.PrefixLemmas.{none_begun}
+use Rattle.iscsi_stream.proofs.WritingLemmas.{canon_append}
+use Rattle.iscsi_stream.specs.declared.logins.Logins.{Logins}
+use Rattle.iscsi_login.specs.Stage.{is_closed_phase}
+
+-- ---- a broken rule closes the session
+
+record Closes (r : Stepped) : Type 0 where
+  is : (k : ℕ) → r.rule ≡ Some k → is_closed r.machine ≡ true
+
+reply_closes : (tasks : List Task) (disk : Disk) (r : Reply) → ((k : ℕ) → r.rule ≡ Some k → is_closed_phase r.session.phase ≡ true) → Closes (on disk tasks r)
+reply_closes tasks disk r c = record { is = c }
+
+begins_close : Begins (λ device s disk task r. Closes r)
+begins_close = record {
+  request_ = λ device s disk m none. reply_closes s.tasks disk _ (request_answered_reply s.session (waiting s.tasks) m m.head).rule;
+  refused_ = λ device s disk m h k broke. reply_closes s.tasks disk _ (breach_reply s.session (waiting s.tasks) data_out_of_order m).rule;
+  command_ = λ device s disk m h k none. record { is = λ n e. absurd cc };
+  write_ = λ device s disk task w is whole. record { is = λ n e. absurd cc };
+  send_r2t_ = λ device s disk task w is whole idle. record { is = λ n e. absurd cc };
+  wait_ = λ device s disk task w is whole idle. record { is = λ n e. absurd cc };
+}
+
+begun_closes : (device : Device) (s : Session) (disk : Disk) (task : Task) (more : List Task) → Closes (begun device (with_tasks s more) disk task)
+begun_closes device s disk task more = begins (λ device s disk task r. Closes r) begins_close device (with_tasks s more) disk task
+
+rule_case : (first later : Option ℕ) (k : ℕ) → first_rule first later ≡ Some k → (first ≡ Some k) ⊎ (later ≡ Some k)
+rule_case None later k e = inr e
+rule_case (Some rule) later k e = inl e
+
+-- a task that leaves the session open breaks no rule
+turns_close : Turns (λ device s disk tasks r. Closes r)
+turns_close = record {
+  none_ = λ device s disk. record { is = λ k e. absurd cc };
+  stop_ = λ device s disk task more why. begun_closes device s disk task more;
+  then_ = λ device s disk task more b stay live later.
+      (let a : Stepped = begun device (with_tasks s more) disk task in
+      record {
+        is = λ k e. elim (rule_case a.rule b.rule k e) [
+          | inl x ↦ absurd (apart ((begun_closes device s disk task more).is k x) live)
+          | inr x ↦ later.is k x
+        ];
+      });
+}
+
+done_closes : (device : Device) (s : Session) (disk : Disk) (tasks : List Task) → Closes (done_in_turn device s disk tasks)
+done_closes device s disk tasks = turns (λ device s disk tasks r. Closes r) turns_close device s disk tasks
+
+parts_close : (device : Device) (disk : Disk) → Parts device disk (λ s m r. Closes r)
+parts_close device disk = record {
+  nothing_ = λ s m c. record { is = λ k e. absurd cc };
+  shut_ = λ s m. record { is = λ k e. refl };
+  reject_ = λ s reason m a. reply_closes s.tasks disk _ (reject_reply s.session (waiting s.tasks) reason m).rule;
+  breach_ = λ s rule m. reply_closes s.tasks disk _ (breach_reply s.session (waiting s.tasks) rule m).rule;
+  login_ = λ s m k. reply_closes s.tasks disk (login_step s.session m) (login_logs s.session m).is.rule;
+  taken_ = λ s m h w v k e f. record { is = (done_closes device s.session disk _).is };
+  refused_ = λ s t m rule a x. record { is = (breach_reply t.session (waiting t.tasks) rule m).rule };
+  admitted_ = λ s t m a x f. record { is = (done_closes device t.session disk _).is };
+}
+
+step_closes : (s : Machine) (disk : Disk) (m : Message) → Closes (step s disk m)
+step_closes s disk m = step_parts reliable disk (λ s m r. Closes r) (parts_close reliable disk) s m
+
+pub answers_close : (s : Machine) (disk : Disk) (ms : List Message) (k : ℕ) → (answers s disk ms).rule ≡ Some k → is_closed (answers s disk ms).machine ≡ true
+unfolding answers
+answers_close s disk [] k e = absurd cc
+answers_close s disk (m ∷ ms) k e =
+    let first : Stepped = step s disk m in
+    let later : Stepped = answers first.machine first.disk ms in
+    elim (rule_case first.rule later.rule k e) [
+      | inl a ↦ let c = (step_closes s disk m).is k a in ap (λ (r : Stepped). is_closed r.machine) (closed_answers first.machine first.disk ms c) ∙ c
+      | inr b ↦ answers_close first.machine first.disk ms k b
+    ]
+
+-- ---- what was taken so far
+
+-- the session is open, and has answered what it took
+record Live (settings : Settings) (n : ℕ) (disk : Disk) (taken : List ℕ) (now : Connection) (disk_now : Disk) (written : List ℕ) : Type 0 where
+  has : HasAnswered settings n disk taken now disk_now written
+  ready : is_ready now.framing ≡ false
+  bound : now.framing.limit ≡ limit settings
+
+-- it is closed, whatever follows in the stream
+record Over (settings : Settings) (n : ℕ) (disk : Disk) (taken : List ℕ) (now : Connection) (disk_now : Disk) (written : List ℕ) : Type 0 where
+  over : (more : List ℕ) (ms : List Message) → StreamMeans (taken ++ more) ms → Meets settings n disk ms now disk_now written
+
+-- what stands where memory was there
+pub stands : (output : List ℕ) (framing : Framing) (rest : List ℕ) (r : Stepped) (counted : ℕ) (result : Result Phase TargetFault) (new : Machine)
+    (after : Store) (written : List ℕ) → (result ≡ Err faults.NoMemory → ⊥)
+    → LeavesBy result output framing rest r counted new after written → Stands output r counted after written
+stands output framing rest r counted (Ok phase) new after written memory h = h
+stands output framing rest r counted (Err faults.NoMemory) new after written memory h = absurd (memory refl)
+stands output framing rest r counted (Err (faults.Stream fault)) new after written memory h = h
+stands output framing rest r counted (Err (faults.Protocol rule)) new after written memory h = h
+stands output framing rest r counted (Err faults.Closed) new after written memory h = h
+
+-- what a call answered, told from the opening state
+pub record Told (settings : Settings) (n : ℕ) (disk : Disk) (ms : List Message) (r : Stepped) (disk_now : Disk) (written : List ℕ) : Type 0 where
+  pub machine : joined r.machine ≡ joined (answers (opening settings n) disk ms).machine
+  pub disk_is : disk_now ≡ (answers (opening settings n) disk ms).disk
+  pub output_is : written ≡ canon (answers (opening settings n) disk ms).answers
+
+pub told : (settings : Settings) (n : ℕ) (disk : Disk) (taken : List ℕ) (old : Connection) (before : Store) (out : List ℕ) (bytes : List ℕ) (framing : Framing)
+    (more : List Message) (r : Stepped) (counted : ℕ) (after : Store) (written : List ℕ)
+    → (h : HasAnswered settings n disk taken old before.disk out) → Answers old before bytes framing more r after → Stands out r counted after written →
+    after.failures ≡ before.failures
+    → Told settings n disk (h.messages ++ more) r after.disk written
+told settings n disk taken old before out bytes framing more r counted after written h a b works =
+    let first : Stepped = answers (opening settings n) disk h.messages in
+    let later : Stepped = answers first.machine first.disk more in
+    let e : joined_stepped r ≡ joined_stepped later =
+    ap joined_stepped (a.works works)
+    ∙ ap (λ (s : Machine). joined_stepped (answers s before.disk more)) h.machine
+    ∙ ap (λ (d : Disk). joined_stepped (answers (joined first.machine) d more)) h.disk_is
+    ∙ answers_joined first.machine first.disk more in
+    let both : answers (opening settings n) disk (h.messages ++ more) ≡ then_stepped first later = answers_append (opening settings n) disk h.messages more in
+    record {
+      machine = ap (λ (x : Stepped). x.machine) e ∙ ap (λ (x : Stepped). joined x.machine) (sym both);
+      disk_is = b.disk ∙ ap (λ (x : Stepped). x.disk) e ∙ ap (λ (x : Stepped). x.disk) (sym both);
+      output_is = b.output_is ∙ ap (λ (x : List ℕ). x ++ canon r.answers) h.output_is
+          ∙ ap (λ (x : Stepped). canon first.answers ++ canon x.answers) e
+          ∙ sym (canon_append first.answers later.answers) ∙ ap (λ (x : Stepped). canon x.answers) (sym both);
+    }
+
+-- a closed session, whatever comes behind these messages
+pub closed_meets : (settings : Settings) (n : ℕ) (disk : Disk) (first more : List Message) (now : Connection) (disk_now : Disk) (written : List ℕ)
+    → is_closed (answers (opening settings n) disk first).machine ≡ true → Meets settings n disk first now disk_now written →
+    Meets settings n disk (first ++ more) now disk_now written
+closed_meets settings n disk first more now disk_now written c m =
+    let a : Stepped = answers (opening settings n) disk first in
+    let e : answers (opening settings n) disk (first ++ more) ≡ then_stepped a (unchanged a.machine a.disk) =
+    answers_append (opening settings n) disk first more ∙ ap (λ (r : Stepped). then_stepped a r) (closed_answers a.machine a.disk more c) in
+    record {
+      machine = m.machine ∙ ap (λ (r : Stepped). joined r.machine) (sym e);
+      disk_is = m.disk_is ∙ ap (λ (r : Stepped). r.disk) (sym e);
+      output_is = m.output_is ∙ ap (λ (ms : List Message). canon ms) (sym (append-nil a.answers)) ∙ ap (λ (r : Stepped). canon r.answers) (sym e);
+    }
+
+-- a session in which a segment longer than the limit comes
+over_meets : (settings : Settings) (n : ℕ) (disk : Disk) (first : List Message) (m : Message) (more : List Message) (now : Connection) (disk_now : Disk)
+    (written : List ℕ)
+    → is_closed (answers (opening settings n) disk first).machine ≡ false → is_over_limit (answers (opening settings n) disk first).machine m.segment ≡ true
+    → now.machine ≡ closed (answers (opening settings n) disk first).machine → disk_now ≡ (answers (opening settings n) disk first).disk
+    → written ≡ canon (answers (opening settings n) disk first).answers → Meets settings n disk (first ++ m ∷ more) now disk_now written
+unfolding answers
+over_meets settings n disk first m more now disk_now written live long is_now is_disk is_written =
+    let a : Stepped = answers (opening settings n) disk first in
+    let one : step a.machine a.disk m ≡ shut_down a.machine a.disk = rw (live, long) refl in
+    let e : answers (opening settings n) disk (first ++ m ∷ more) ≡ then_stepped a (then_stepped (shut_down a.machine a.disk)
+    (unchanged (closed a.machine) a.disk)) =
+    answers_append (opening settings n) disk first (m ∷ more)
+    ∙ ap (λ (r : Stepped). then_stepped a (then_stepped r (answers r.machine r.disk more))) one
+    ∙ ap (λ (r : Stepped). then_stepped a (then_stepped (shut_down a.machine a.disk) r)) (closed_answers (closed a.machine) a.disk more refl) in
+    record {
+      machine = is_now ∙ ap (λ (r : Stepped). joined r.machine) (sym e);
+      disk_is = is_disk ∙ ap (λ (r : Stepped). r.disk) (sym e);
+      output_is = is_written ∙ ap (λ (ms : List Message). canon ms) (sym (append-nil a.answers)) ∙ ap (λ (r : Stepped). canon r.answers) (sym e);
+    }
+
+-- ---- a stream and what was taken of it
+
+whole_stream : (taken piece more given rest : List ℕ) (count : ℕ) → taken ++ take count piece ≡ given ++ rest → (taken ++ piece) ++ more ≡ given
+    ++ ((rest ++ drop count piece) ++ more)
+whole_stream taken piece more given rest count e =
+    ap (λ (x : List ℕ). (taken ++ x) ++ more) (sym (take-append-drop count piece))
+    ∙ ap (λ (x : List ℕ). x ++ more) (sym (append_assoc taken (take count piece) (drop count piece)))
+    ∙ ap (λ (x : List ℕ). (x ++ drop count piece) ++ more) e
+    ∙ ap (λ (x : List ℕ). x ++ more) (append_assoc given rest (drop count piece))
+    ∙ append_assoc given (rest ++ drop count piece) more
+
+rests : (taken piece more : List ℕ) (count : ℕ) (first ms : List Message) (v : Framing) → (t : HasTaken (taken ++ take count piece) first v) →
+    StreamMeans ((taken ++ piece) ++ more) ms
+    → Rests no_login first ms ((t.rest ++ drop count piece) ++ more)
+rests taken piece more count first ms v t p =
+    prefix_of v.limit no_login t.given first ((t.rest ++ drop count piece) ++ more) ms t.reads
+    (subst (λ (x : List ℕ). ReadsAs longest_segment no_login x ms) (whole_stream taken piece more t.given t.rest count t.whole) p)
+
+-- what is said where the framer refuses what follows
+fault_meets : (settings : Settings) (n : ℕ) (disk : Disk) (taken piece : List ℕ) (count : ℕ) (first : List Message) (v : Framing) (now : Connection)
+    (disk_now : Disk) (written : List ℕ) (fault : StreamFault)
+    → (t : HasTaken (taken ++ take count piece) first v) → v.limit ≡ limit settings → (fault ≡ stream.NoMemory → ⊥) → FeedFails v (drop count piece) fault
+    → is_closed (answers (opening settings n) disk first).machine ≡ false
+    → now.machine ≡ closed (answers (opening settings n) disk first).machine → disk_now ≡ (answers (opening settings n) disk first).disk
+    → written ≡ canon (answers (opening settings n) disk first).answers → (more : List ℕ) (ms : List Message) → StreamMeans ((taken ++ piece) ++ more) ms →
+    Meets settings n disk ms now disk_now written
+fault_meets settings n disk taken piece count first v now disk_now written stream.NoMemory t bound none f live is_now is_disk is_written more ms p =
+    absurd (none refl)
+fault_meets settings n disk taken piece count first v now disk_now written (stream.Head fault place) t bound none f live is_now is_disk is_written more ms p =
+    let r = rests taken piece more count first ms v t p in
+    let held : v.held ≡ t.rest = held_is (taken ++ take count piece) first v t f.1.before in
+    let long : 48 ≤ length (t.rest ++ drop count piece) = subst (λ (x : List ℕ). 48 ≤ length (x ++ drop count piece)) held f.1.reached in
+    let bad : fault_of (take 48 (t.rest ++ drop count piece)) ≡ Some fault = subst (λ (x : List ℕ). fault_of (take 48 (x ++ drop count piece))
+    ≡ Some fault) held f.2 in
+    absurd (no_bad_header (after_all no_login first) (t.rest ++ drop count piece) more r.more fault long bad r.reads)
+fault_meets settings n disk taken piece count first v now disk_now written (stream.OverLimit place) t bound none f live is_now is_disk is_written more ms p =
+    let r = rests taken piece more count first ms v t p in
+    let a : Stepped = answers (opening settings n) disk first in
+    let held : v.held ≡ t.rest = held_is (taken ++ take count piece) first v t f.1.2.reaches.before in
+    let long : 48 ≤ length (t.rest ++ drop count piece) = subst (λ (x : List ℕ). 48 ≤ length (x ++ drop count piece)) held f.1.2.reaches.reached in
+    let h : Heads (after_all no_login first) r.more (take 48 (t.rest ++ drop count piece)) =
+    begins_with (after_all no_login first) (t.rest ++ drop count piece) more r.more long r.reads in
+    let header : IsHeader (take 48 (t.rest ++ drop count piece)) f.1.0 f.1.1 = subst (λ (x : List ℕ). IsHeader (take 48 (x ++ drop count piece)) f.1.0 f.1.1)
+    held f.1.2.header in
+    let size : length h.segment ≡ f.1.1 = (IsHeader-unique (take 48 (t.rest ++ drop count piece)) h.m.head f.1.0 (length h.segment) f.1.1 h.says header).1 in
+    let past : limit settings < length h.segment = omega (arith, f.1.3, size, bound) in
+    let bytes : h.m.segment ≡ Bytes h.segment = h.meaning ∙ long_bytes (continues (after_all no_login first) h.m.head) h.m.head h.segment h.says.login
+    (omega (arith, past)) in
+    let same : a.machine.session.settings ≡ settings = answers_settings (opening settings n) disk first in
+    let over : is_over_limit a.machine h.m.segment ≡ true =
+    ap (λ (x : Segment). is_over_limit a.machine x) bytes ∙ ap (λ (x : Settings). nat_lt (limit x) (length h.segment)) same
+    ∙ lt-ltb (limit settings) (length h.segment) past in
+    subst (λ (x : List Message). Meets settings n disk x now disk_now written) (sym (r.whole ∙ ap (λ (x : List Message). first ++ x) h.is))
+    (over_meets settings n disk first h.m h.more now disk_now written live over is_now is_disk is_written)
+fault_meets settings n disk taken piece count first v now disk_now written (stream.Truncated place) t bound none f live is_now is_disk is_written more ms p =
+    absurd f
+fault_meets settings n disk taken piece count first v now disk_now written stream.Failed t bound none f live is_now is_disk is_written more ms p =
+    absurd (apart f t.live)
+
+-- ---- one call
+
+abbrev Either : Settings → ℕ → Disk → List ℕ → Connection → Disk → List ℕ → Type 0
+Either settings n disk taken now disk_now written =
+    ((is_closed now.machine ≡ false) × Live settings n disk taken now disk_now written)
+    ⊎ ((is_closed now.machine ≡ true) × Over settings n disk taken now disk_now written)
+
+-- a call that closed the session after these messages
+closing : (settings : Settings) (n : ℕ) (disk : Disk) (taken piece : List ℕ) (count : ℕ) (first : List Message) (v : Framing) (r : Stepped) (new : Connection)
+    (disk_now : Disk) (written : List ℕ)
+    → HasTaken (taken ++ take count piece) first v → Told settings n disk first r disk_now written → new.machine ≡ joined r.machine → is_closed r.machine ≡ true
+    → Either settings n disk (taken ++ piece) new disk_now written
+closing settings n disk taken piece count first v r new disk_now written t told_ e c =
+    let there : is_closed (answers (opening settings n) disk first).machine ≡ true = sym (ap is_closed told_.machine) ∙ c in
+    let meets : Meets settings n disk first new disk_now written = record {
+      machine = e ∙ told_.machine;
+      disk_is = told_.disk_is;
+      output_is = told_.output_is;
+    } in
+    inr (
+      ap is_closed e ∙ c,
+      record {
+        over = λ more ms p.
+            let x = rests taken piece more count first ms v t p in
+            subst (λ (xs : List Message). Meets settings n disk xs new disk_now written) (sym x.whole)
+            (closed_meets settings n disk first x.more new disk_now written there meets);
+      },
+    )
+
+ends_go : (settings : Settings) (n : ℕ) (disk : Disk) (taken piece : List ℕ) (count : ℕ) (first : List Message) (v : Framing) (r : Stepped) (new : Connection)
+    (disk_now : Disk) (written : List ℕ) (result : Result Phase TargetFault)
+    → HasTaken (taken ++ take count piece) first v → Told settings n disk first r disk_now written → v.limit ≡ limit settings → is_ready v ≡ false
+    → ((k : ℕ) → r.rule ≡ Some k → is_closed r.machine ≡ true) → (result ≡ Err faults.NoMemory → ⊥) → Ends piece result v count r new
+    → Either settings n disk (taken ++ piece) new disk_now written
+ends_go settings n disk taken piece count first v r new disk_now written (Ok phase) t told_ bound ready closes memory e =
+    elim e.3 [
+      | inl c ↦ closing settings n disk taken piece count first v r new disk_now written t told_ e.1 c
+      | inr g ↦ inl (
+        ap is_closed e.1 ∙ g.live,
+        record {
+          has = record {
+            messages = first;
+            taken = subst (λ (x : Framing). HasTaken (taken ++ piece) first x) (sym g.framing_is)
+                (taken_at (taken ++ take count piece) (taken ++ piece) first first v (ap (λ (x : List ℕ). taken ++ x)
+                (take_all count piece (omega (arith, g.all)))) refl t);
+            machine = e.1 ∙ told_.machine;
+            disk_is = told_.disk_is;
+            output_is = told_.output_is;
+          };
+          ready = ap is_ready g.framing_is ∙ ready;
+          bound = ap (λ (x : Framing). x.limit) g.framing_is ∙ bound;
+        },
+      )
+    ]
+ends_go settings n disk taken piece count first v r new disk_now written (Err faults.NoMemory) t told_ bound ready closes memory e = absurd (memory refl)
+ends_go settings n disk taken piece count first v r new disk_now written (Err (faults.Stream fault)) t told_ bound ready closes memory e =
+    let live : is_closed (answers (opening settings n) disk first).machine ≡ false = sym (ap is_closed told_.machine) ∙ e.0.live in
+    let now_is : new.machine ≡ closed (answers (opening settings n) disk first).machine = e.3 ∙ ap closed told_.machine in
+    inr (
+      ap is_closed e.3,
+      record {
+        over = λ more ms p.
+            fault_meets settings n disk taken piece count first v new disk_now written fault t bound e.1 e.2 live now_is told_.disk_is told_.output_is more ms
+            p;
+      },
+    )
+ends_go settings n disk taken piece count first v r new disk_now written (Err (faults.Protocol rule)) t told_ bound ready closes memory e =
+    closing settings n disk taken piece count first v r new disk_now written t told_ e.1 (closes rule e.0)
+ends_go settings n disk taken piece count first v r new disk_now written (Err faults.Closed) t told_ bound ready closes memory e = absurd e
+
+feed_goes : (settings : Settings) (n : ℕ) (disk : Disk) (taken : List ℕ) (old : Connection) (before : Store) (out piece : List ℕ)
+    (result : Result Phase TargetFault) (new : Connection) (after : Store) (written : List ℕ)
+    → Live settings n disk taken old before.disk out → Feeds old before out piece result new after written → GoesWell result before after
+    → Either settings n disk (taken ++ piece) new after.disk written
+feed_goes settings n disk taken old before out piece result new after written live f well =
+    let h : HasAnswered settings n disk taken old before.disk out = live.has in
+    let t : HasTaken (taken ++ take f.count piece) (h.messages ++ f.messages) f.framing = f.answered.taken taken h.messages h.taken in
+    ends_go settings n disk taken piece f.count (h.messages ++ f.messages) f.framing f.stepped new after.disk written result t
+    (told settings n disk taken old before out (take f.count piece) f.framing f.messages f.stepped f.answered.failures after written h f.answered
+    (stands out f.framing (drop f.count piece) f.stepped f.answered.failures result new.machine after written well.memory f.leaves) well.device)
+    (f.answered.limit ∙ live.bound) f.answered.ready
+    (λ k e. let w = f.answered.works well.device in
+    ap (λ (x : Stepped). is_closed x.machine) w ∙ answers_close old.machine before.disk f.messages k (sym (ap (λ (x : Stepped). x.rule) w) ∙ e))
+    well.memory f.ends
+
+-- ---- all calls
+
+live_meets : (settings : Settings) (n : ℕ) (disk : Disk) (taken : List ℕ) (now : Connection) (disk_now : Disk) (written : List ℕ) (ms : List Message)
+    → Live settings n disk taken now disk_now written → StreamMeans taken ms → Meets settings n disk ms now disk_now written
+live_meets settings n disk taken now disk_now written ms live p =
+    let h : HasAnswered settings n disk taken now disk_now written = live.has in
+    let t : HasTaken taken h.messages now.framing = h.taken in
+    let r : Rests no_login h.messages ms t.rest =
+    prefix_of now.framing.limit no_login t.given h.messages t.rest ms t.reads (subst (λ (x : List ℕ). ReadsAs longest_segment no_login x ms) t.whole p) in
+    let part : is_whole t.rest ≡ false = sym (is_whole-settled t.rest) ∙ ap is_whole (sym t.held)
+    ∙ unready_of now.framing.failed now.framing.held t.live live.ready in
+    let none : r.more ≡ [] = none_whole now.framing.limit (after_all no_login h.messages) t.rest r.more t.begun part r.reads in
+    let same : h.messages ≡ ms = sym (r.whole ∙ ap (λ (x : List Message). h.messages ++ x) none ∙ append-nil h.messages) in
+    subst (λ (x : List Message). Meets settings n disk x now disk_now written) same
+    (record { machine = h.machine; disk_is = h.disk_is; output_is = h.output_is })
+
+either_meets : (settings : Settings) (n : ℕ) (disk : Disk) (taken : List ℕ) (now : Connection) (disk_now : Disk) (written : List ℕ) (ms : List Message)
+    → Either settings n disk taken now disk_now written → StreamMeans taken ms → Meets settings n disk ms now disk_now written
+either_meets settings n disk taken now disk_now written ms (inl l) p = live_meets settings n disk taken now disk_now written ms l.1 p
+either_meets settings n disk taken now disk_now written ms (inr o) p =
+    o.1.over [] ms (subst (λ (x : List ℕ). StreamMeans x ms) (sym (append-nil taken)) p)
+
+stays_over : (settings : Settings) (n : ℕ) (disk : Disk) (taken piece : List ℕ) (now : Connection) (disk_now : Disk) (written : List ℕ)
+    → Over settings n disk taken now disk_now written → Over settings n disk (taken ++ piece) now disk_now written
+stays_over settings n disk taken piece now disk_now written o =
+    record { over = λ more ms p. o.over (piece ++ more) ms (subst (λ (x : List ℕ). StreamMeans x ms) (append_assoc taken piece more) p) }
+
+next_either : (settings : Settings) (n : ℕ) (disk : Disk) (taken : List ℕ) (old : Connection) (before : Store) (out piece : List ℕ)
+    (result : Result Phase TargetFault) (new : Connection) (after : Store) (written : List ℕ)
+    → Either settings n disk taken old before.disk out → Fed old before out piece result new after written → GoesWell result before after
+    → Either settings n disk (taken ++ piece) new after.disk written
+next_either settings n disk taken old before out piece result new after written (inl l) f well =
+    feed_goes settings n disk taken old before out piece result new after written l.1
+    (subst (λ (b : Bool). FedIf b old before out piece result new after written) l.0 f) well
+next_either settings n disk taken old before out piece result new after written (inr o) f well =
+    let s : Stays old before out result new after written = subst (λ (b : Bool). FedIf b old before out piece result new after written) o.0 f in
+    let over : Over settings n disk (taken ++ piece) old before.disk out = stays_over settings n disk taken piece old before.disk out o.1 in
+    inr (
+      ap (λ (x : Connection). is_closed x.machine) s.connection ∙ o.0,
+      subst (λ (x : Connection). Over settings n disk (taken ++ piece) x after.disk written) (sym s.connection)
+          (subst (λ (x : Store). Over settings n disk (taken ++ piece) old x.disk written) (sym s.store)
+          (subst (λ (x : List ℕ). Over settings n disk (taken ++ piece) old before.disk x) (sym s.output_is) over)),
+    )
+
+fed_from : (settings : Settings) (n : ℕ) (disk : Disk) (taken : List ℕ) (pieces : List (List ℕ)) (old : Connection) (before : Store) (out : List ℕ)
+    (new : Connection) (after : Store) (written : List ℕ) (ms : List Message)
+    → Either settings n disk taken old before.disk out → FedAll old before out pieces new after written → StreamMeans (taken ++ flat_map (λ x. x) pieces) ms
+    → Meets settings n disk ms new after.disk written
+unfolding FedAll
+fed_from settings n disk taken [] old before out new after written ms e f p =
+    subst (λ (x : Connection). Meets settings n disk ms x after.disk written) (sym f.0)
+    (subst (λ (x : Store). Meets settings n disk ms old x.disk written) (sym f.1)
+    (subst (λ (x : List ℕ). Meets settings n disk ms old before.disk x) (sym f.2)
+    (either_meets settings n disk taken old before.disk out ms e (subst (λ (x : List ℕ). StreamMeans x ms) (append-nil taken) p))))
+fed_from settings n disk taken (piece ∷ pieces) old before out new after written ms e f p =
+    fed_from settings n disk (taken ++ piece) pieces f.1 f.2 f.3 new after written ms
+    (next_either settings n disk taken old before out piece f.0 f.1 f.2 f.3 e f.4 f.5) f.6
+    (subst (λ (x : List ℕ). StreamMeans x ms) (sym (append_assoc taken piece (flat_map (λ x. x) pieces))) p)
+
+opening_live : (settings : Settings) (n : ℕ) (disk : Disk) → Live settings n disk [] (opening_connection settings n) disk []
+unfolding answers
+opening_live settings n disk = record {
+  has = record { messages = []; taken = at_opening (limit settings); machine = refl; disk_is = refl; output_is = refl };
+  ready = not_whole-nil;
+  bound = refl;
+}
+
+-- a stream that was fed in pieces
+pub fed_stream : (settings : Settings) (n : ℕ) (store : Store) (pieces : List (List ℕ)) (new : Connection) (after : Store) (written : List ℕ)
+    (ms : List Message)
+    → FedAll (opening_connection settings n) store [] pieces new after written → StreamMeans (flat_map (λ x. x) pieces) ms →
+    Meets settings n store.disk ms new after.disk written
+fed_stream settings n store pieces new after written ms f p =
+    fed_from settings n store.disk [] pieces (opening_connection settings n) store [] new after written ms (inl (refl, opening_live settings n store.disk)) f p
+
+-- ---- a stream that isn't all PDUs
+
+-- what is written, the blocks and the session
+record Leads (settings : Settings) (n : ℕ) (disk : Disk) (ms : List Message) (rest : List ℕ) (now : Connection) (disk_now : Disk)
+    (written : List ℕ) : Type 0 where
+  writes : Writes settings n disk ms disk_now written
+  holds : Holds settings n disk ms rest now.machine
+
+-- the session is closed, and nothing is written any more
+record Stopped (settings : Settings) (n : ℕ) (disk : Disk) (taken : List ℕ) (now : Connection) (disk_now : Disk) (written : List ℕ) : Type 0 where
+  over : (more : List ℕ) (ms : List Message) (given rest : List ℕ) → Splits longest_segment (taken ++ more) ms given rest →
+      Leads settings n disk ms rest now disk_now written
+
+abbrev Fate : Settings → ℕ → Disk → List ℕ → Connection → Disk → List ℕ → Type 0
+Fate settings n disk taken now disk_now written =
+    ((is_closed now.machine ≡ false) × Live settings n disk taken now disk_now written)
+    ⊎ ((is_closed now.machine ≡ true) × Stopped settings n disk taken now disk_now written)
+
+abbrev Fits : Settings → Type 0
+Fits settings = limit settings ≤ longest_segment
+
+left : (taken piece more : List ℕ) (count : ℕ) (first ms : List Message) (given rest : List ℕ) (v : Framing) → v.limit ≤ longest_segment →
+    (t : HasTaken (taken ++ take count piece) first v)
+    → Splits longest_segment ((taken ++ piece) ++ more) ms given rest → Leaves no_login first ms ((t.rest ++ drop count piece) ++ more) rest
+left taken piece more count first ms given rest v le t s =
+    prefix_split v.limit no_login t.given first ((t.rest ++ drop count piece) ++ more) given ms rest le t.reads s.reads s.no_more
+    (sym (whole_stream taken piece more t.given t.rest count t.whole) ∙ s.whole)
+
+writes_of : (settings : Settings) (n : ℕ) (disk : Disk) (ms : List Message) (rest : List ℕ) (now : Connection) (disk_now : Disk) (written : List ℕ) →
+    Meets settings n disk ms now disk_now written
+    → is_closed now.machine ≡ true → Leads settings n disk ms rest now disk_now written
+writes_of settings n disk ms rest now disk_now written m over = record {
+  writes = record { disk_is = m.disk_is; output_is = m.output_is };
+  holds = record {
+    machine = ap closed m.machine;
+    goes_on = λ live. absurd (apart over live);
+    ends = λ _. inl (sym (ap is_closed m.machine) ∙ over);
+    refuses = λ _. over;
+  };
+}
+
+-- no PDU is left
+leads_all : (settings : Settings) (n : ℕ) (disk : Disk) (first ms more : List Message) (rest : List ℕ) (now : Connection) (disk_now : Disk) (written : List ℕ) →
+    ms ≡ first ++ more → more ≡ []
+    → Leads settings n disk first rest now disk_now written → Leads settings n disk ms rest now disk_now written
+leads_all settings n disk first ms more rest now disk_now written e none w =
+    subst (λ (x : List Message). Leads settings n disk x rest now disk_now written) (sym (e ∙ ap (λ (x : List Message). first ++ x) none ∙ append-nil first)) w
+
+-- then the rest is what is left of the bytes
+rest_left : (logins : Logins) (bytes given rest : List ℕ) (ms : List Message) → ReadsAs longest_segment logins given ms → bytes ≡ given ++ rest → ms ≡ [] →
+    bytes ≡ rest
+unfolding ReadsAs
+rest_left logins bytes given rest [] q e none = e ∙ ap (λ (x : List ℕ). x ++ rest) q
+rest_left logins bytes given rest (m ∷ ms) q e none = absurd cc
+
+-- it begins as the front of them
+front_left : (front more rest : List ℕ) → 48 ≤ length front → front ++ more ≡ rest → (48 ≤ length rest) × (take 48 front ≡ take 48 rest)
+front_left front more rest long e = (
+  subst (λ (x : List ℕ). 48 ≤ length x) e (omega (arith, long, length-append front more)),
+  sym (take-append-le 48 front more long) ∙ ap (λ (x : List ℕ). take 48 x) e,
+)
+
+-- closed at a header that is refused
+shut_leads : (settings : Settings) (n : ℕ) (disk : Disk) (first : List Message) (rest : List ℕ) (now : Connection) (disk_now : Disk) (written : List ℕ)
+    → now.machine ≡ closed (answers (opening settings n) disk first).machine → disk_now ≡ (answers (opening settings n) disk first).disk
+    → written ≡ canon (answers (opening settings n) disk first).answers → Refuses (limit settings) rest → Leads settings n disk first rest now disk_now written
+shut_leads settings n disk first rest now disk_now written is_now is_disk is_written refused =
+    let over : is_closed now.machine ≡ true = ap is_closed is_now in
+    record {
+      writes = record { disk_is = is_disk; output_is = is_written };
+      holds = record {
+        machine = ap closed is_now;
+        goes_on = λ live. absurd (apart over live);
+        ends = λ _. inr refused;
+        refuses = λ _. over;
+      };
+    }
+
+stopping : (settings : Settings) (n : ℕ) (disk : Disk) (taken piece : List ℕ) (count : ℕ) (first : List Message) (v : Framing) (r : Stepped) (new : Connection)
+    (disk_now : Disk) (written : List ℕ)
+    → v.limit ≤ longest_segment → HasTaken (taken ++ take count piece) first v → Told settings n disk first r disk_now written → new.machine ≡ joined r.machine
+    → is_closed r.machine ≡ true
+    → Fate settings n disk (taken ++ piece) new disk_now written
+stopping settings n disk taken piece count first v r new disk_now written le t told_ e c =
+    let there : is_closed (answers (opening settings n) disk first).machine ≡ true = sym (ap is_closed told_.machine) ∙ c in
+    let meets : Meets settings n disk first new disk_now written = record {
+      machine = e ∙ told_.machine;
+      disk_is = told_.disk_is;
+      output_is = told_.output_is;
+    } in
+    inr (
+      ap is_closed e ∙ c,
+      record {
+        over = λ more ms given rest s.
+            let x = left taken piece more count first ms given rest v le t s in
+            subst (λ (xs : List Message). Leads settings n disk xs rest new disk_now written) (sym x.whole)
+            (writes_of settings n disk (first ++ x.more) rest new disk_now written (closed_meets settings n disk first x.more new disk_now written there meets)
+            (ap is_closed e ∙ c));
+      },
+    )
+
+fault_writes : (settings : Settings) (n : ℕ) (disk : Disk) (taken piece : List ℕ) (count : ℕ) (first : List Message) (v : Framing) (now : Connection)
+    (disk_now : Disk) (written : List ℕ) (fault : StreamFault)
+    → (t : HasTaken (taken ++ take count piece) first v) → v.limit ≡ limit settings → v.limit ≤ longest_segment → (fault ≡ stream.NoMemory → ⊥) →
+    FeedFails v (drop count piece) fault
+    → is_closed (answers (opening settings n) disk first).machine ≡ false
+    → now.machine ≡ closed (answers (opening settings n) disk first).machine → disk_now ≡ (answers (opening settings n) disk first).disk
+    → written ≡ canon (answers (opening settings n) disk first).answers → (more : List ℕ) (ms : List Message) (given rest : List ℕ) →
+    Splits longest_segment ((taken ++ piece) ++ more) ms given rest
+    → Leads settings n disk ms rest now disk_now written
+fault_writes settings n disk taken piece count first v now disk_now written stream.NoMemory t bound le none f live is_now is_disk is_written more ms given rest
+    s = absurd (none refl)
+fault_writes settings n disk taken piece count first v now disk_now written (stream.Head fault place) t bound le none f live is_now is_disk is_written more ms
+    given rest s =
+    let x = left taken piece more count first ms given rest v le t s in
+    let held : v.held ≡ t.rest = held_is (taken ++ take count piece) first v t f.1.before in
+    let long : 48 ≤ length (t.rest ++ drop count piece) = subst (λ (y : List ℕ). 48 ≤ length (y ++ drop count piece)) held f.1.reached in
+    let bad : fault_of (take 48 (t.rest ++ drop count piece)) ≡ Some fault = subst (λ (y : List ℕ). fault_of (take 48 (y ++ drop count piece))
+    ≡ Some fault) held f.2 in
+    elim (header_or_none (after_all no_login first) (t.rest ++ drop count piece) more x.given rest x.more long x.reads x.bytes_are) [
+      | inl e ↦
+          let start = front_left (t.rest ++ drop count piece) more rest long (rest_left (after_all no_login first)
+          ((t.rest ++ drop count piece) ++ more) x.given rest x.more x.reads x.bytes_are e) in
+          leads_all settings n disk first ms x.more rest now disk_now written x.whole e
+          (shut_leads settings n disk first rest now disk_now written is_now is_disk is_written (
+            start.0,
+            inl (fault, subst (λ (y : List ℕ). fault_of y ≡ Some fault) start.1 bad),
+          ))
+      | inr h ↦ absurd (bad_header (take 48 (t.rest ++ drop count piece)) h.m.head (length h.segment) fault h.says bad)
+    ]
+fault_writes settings n disk taken piece count first v now disk_now written (stream.OverLimit place) t bound le none f live is_now is_disk is_written more ms
+    given rest s =
+    let x = left taken piece more count first ms given rest v le t s in
+    let a : Stepped = answers (opening settings n) disk first in
+    let held : v.held ≡ t.rest = held_is (taken ++ take count piece) first v t f.1.2.reaches.before in
+    let long : 48 ≤ length (t.rest ++ drop count piece) = subst (λ (y : List ℕ). 48 ≤ length (y ++ drop count piece)) held f.1.2.reaches.reached in
+    let header : IsHeader (take 48 (t.rest ++ drop count piece)) f.1.0 f.1.1 = subst (λ (y : List ℕ). IsHeader (take 48 (y ++ drop count piece)) f.1.0 f.1.1)
+    held f.1.2.header in
+    elim (header_or_none (after_all no_login first) (t.rest ++ drop count piece) more x.given rest x.more long x.reads x.bytes_are) [
+      | inl e ↦
+          let start = front_left (t.rest ++ drop count piece) more rest long (rest_left (after_all no_login first)
+          ((t.rest ++ drop count piece) ++ more) x.given rest x.more x.reads x.bytes_are e) in
+          let past : limit settings < f.1.1 = omega (arith, f.1.3, bound) in
+          leads_all settings n disk first ms x.more rest now disk_now written x.whole e
+          (shut_leads settings n disk first rest now disk_now written is_now is_disk is_written (
+            start.0,
+            inr (f.1.0, f.1.1, subst (λ (y : List ℕ). IsHeader y f.1.0 f.1.1) start.1 header, past),
+          ))
+      | inr h ↦
+          let size : length h.segment ≡ f.1.1 = (IsHeader-unique (take 48 (t.rest ++ drop count piece)) h.m.head f.1.0 (length h.segment) f.1.1 h.says header).1
+          in
+          let past : limit settings < length h.segment = omega (arith, f.1.3, size, bound) in
+          let bytes : h.m.segment ≡ Bytes h.segment = h.meaning ∙ long_bytes (continues (after_all no_login first) h.m.head) h.m.head h.segment h.says.login
+          (omega (arith, past)) in
+          let same : a.machine.session.settings ≡ settings = answers_settings (opening settings n) disk first in
+          let over : is_over_limit a.machine h.m.segment ≡ true =
+          ap (λ (y : Segment). is_over_limit a.machine y) bytes ∙ ap (λ (y : Settings). nat_lt (limit y) (length h.segment)) same
+          ∙ lt-ltb (limit settings) (length h.segment) past in
+          subst (λ (y : List Message). Leads settings n disk y rest now disk_now written) (sym (x.whole ∙ ap (λ (y : List Message). first ++ y) h.is))
+          (writes_of settings n disk (first ++ h.m ∷ h.more) rest now disk_now written
+          (over_meets settings n disk first h.m h.more now disk_now written live over is_now is_disk is_written) (ap is_closed is_now))
+    ]
+fault_writes settings n disk taken piece count first v now disk_now written (stream.Truncated place) t bound le none f live is_now is_disk is_written more ms
+    given rest s = absurd f
+fault_writes settings n disk taken piece count first v now disk_now written stream.Failed t bound le none f live is_now is_disk is_written more ms given rest s
+    = absurd (apart f t.live)
+
+-- what a call ends in, for such a stream
+ends_fate : (settings : Settings) (n : ℕ) (disk : Disk) (taken piece : List ℕ) (count : ℕ) (first : List Message) (v : Framing) (r : Stepped) (new : Connection)
+    (disk_now : Disk) (written : List ℕ) (result : Result Phase TargetFault)
+    → Fits settings → HasTaken (taken ++ take count piece) first v → Told settings n disk first r disk_now written → v.limit ≡ limit settings → is_ready v
+    ≡ false
+    → ((k : ℕ) → r.rule ≡ Some k → is_closed r.machine ≡ true) → (result ≡ Err faults.NoMemory → ⊥) → Ends piece result v count r new
+    → Fate settings n disk (taken ++ piece) new disk_now written
+ends_fate settings n disk taken piece count first v r new disk_now written (Ok phase) le t told_ bound ready closes memory e =
+    elim (ends_go settings n disk taken piece count first v r new disk_now written (Ok phase) t told_ bound ready closes memory e) [
+      | inl l ↦ inl l
+      | inr o ↦ stopping settings n disk taken piece count first v r new disk_now written (omega (arith, le, bound)) t told_ e.1 (sym (ap is_closed e.1) ∙ o.0)
+    ]
+ends_fate settings n disk taken piece count first v r new disk_now written (Err faults.NoMemory) le t told_ bound ready closes memory e = absurd (memory refl)
+ends_fate settings n disk taken piece count first v r new disk_now written (Err (faults.Stream fault)) le t told_ bound ready closes memory e =
+    let live : is_closed (answers (opening settings n) disk first).machine ≡ false = sym (ap is_closed told_.machine) ∙ e.0.live in
+    let now_is : new.machine ≡ closed (answers (opening settings n) disk first).machine = e.3 ∙ ap closed told_.machine in
+    inr (
+      ap is_closed e.3,
+      record {
+        over = λ more ms given rest s.
+            fault_writes settings n disk taken piece count first v new disk_now written fault t bound (omega (arith, le, bound)) e.1 e.2 live now_is
+            told_.disk_is told_.output_is more ms given rest s;
+      },
+    )
+ends_fate settings n disk taken piece count first v r new disk_now written (Err (faults.Protocol rule)) le t told_ bound ready closes memory e =
+    stopping settings n disk taken piece count first v r new disk_now written (omega (arith, le, bound)) t told_ e.1 (closes rule e.0)
+ends_fate settings n disk taken piece count first v r new disk_now written (Err faults.Closed) le t told_ bound ready closes memory e = absurd e
+
+next_fate : (settings : Settings) (n : ℕ) (disk : Disk) (taken : List ℕ) (old : Connection) (before : Store) (out piece : List ℕ)
+    (result : Result Phase TargetFault) (new : Connection) (after : Store) (written : List ℕ)
+    → Fits settings → Fate settings n disk taken old before.disk out → Fed old before out piece result new after written → GoesWell result before after
+    → Fate settings n disk (taken ++ piece) new after.disk written
+next_fate settings n disk taken old before out piece result new after written le (inl l) fed well =
+    let f : Feeds old before out piece result new after written = subst (λ (b : Bool). FedIf b old before out piece result new after written) l.0 fed in
+    let h : HasAnswered settings n disk taken old before.disk out = l.1.has in
+    let t : HasTaken (taken ++ take f.count piece) (h.messages ++ f.messages) f.framing = f.answered.taken taken h.messages h.taken in
+    ends_fate settings n disk taken piece f.count (h.messages ++ f.messages) f.framing f.stepped new after.disk written result le t
+    (told settings n disk taken old before out (take f.count piece) f.framing f.messages f.stepped f.answered.failures after written h f.answered
+    (stands out f.framing (drop f.count piece) f.stepped f.answered.failures result new.machine after written well.memory f.leaves) well.device)
+    (f.answered.limit ∙ l.1.bound) f.answered.ready
+    (λ k e. let w = f.answered.works well.device in
+    ap (λ (x : Stepped). is_closed x.machine) w ∙ answers_close old.machine before.disk f.messages k (sym (ap (λ (x : Stepped). x.rule) w) ∙ e))
+    well.memory f.ends
+next_fate settings n disk taken old before out piece result new after written le (inr o) fed well =
+    let s : Stays old before out result new after written = subst (λ (b : Bool). FedIf b old before out piece result new after written) o.0 fed in
+    let stopped : Stopped settings n disk (taken ++ piece) old before.disk out = record {
+      over = λ more ms given rest q.
+          o.1.over (piece ++ more) ms given rest (subst (λ (x : List ℕ). Splits longest_segment x ms given rest) (append_assoc taken piece more) q);
+    } in
+    inr (
+      ap (λ (x : Connection). is_closed x.machine) s.connection ∙ o.0,
+      subst (λ (x : Connection). Stopped settings n disk (taken ++ piece) x after.disk written) (sym s.connection)
+          (subst (λ (x : Store). Stopped settings n disk (taken ++ piece) old x.disk written) (sym s.store)
+          (subst (λ (x : List ℕ). Stopped settings n disk (taken ++ piece) old before.disk x) (sym s.output_is) stopped)),
+    )
+
+not_refused : (limit : ℕ) (rest : List ℕ) → IsBegun limit rest → Refuses limit rest → ⊥
+not_refused limit rest begun r = let good = begun r.0 in elim r.1 [
+  | inl bad ↦ bad_header (take 48 rest) good.0 (length_at rest) bad.0 good.1.header bad.1
+  | inr long ↦ (let same = (IsHeader-unique (take 48 rest) good.0 long.0 (length_at rest) long.1 good.1.header long.2).1 in
+      omega (arith, same, good.1.within, long.3))
+]
+
+live_leads : (settings : Settings) (n : ℕ) (disk : Disk) (taken : List ℕ) (now : Connection) (disk_now : Disk) (written : List ℕ) (ms : List Message)
+    (given rest : List ℕ)
+    → Fits settings → is_closed now.machine ≡ false → Live settings n disk taken now disk_now written → Splits longest_segment taken ms given rest →
+    Leads settings n disk ms rest now disk_now written
+live_leads settings n disk taken now disk_now written ms given rest le open_ live s =
+    let h : HasAnswered settings n disk taken now disk_now written = live.has in
+    let t : HasTaken taken h.messages now.framing = h.taken in
+    let x : Leaves no_login h.messages ms t.rest rest =
+    prefix_split now.framing.limit no_login t.given h.messages t.rest given ms rest (omega (arith, le, live.bound)) t.reads s.reads s.no_more (sym t.whole
+    ∙ s.whole) in
+    let part : is_whole t.rest ≡ false = sym (is_whole-settled t.rest) ∙ ap is_whole (sym t.held)
+    ∙ unready_of now.framing.failed now.framing.held t.live live.ready in
+    let none : x.more ≡ [] = none_begun now.framing.limit (after_all no_login h.messages) t.rest x.given rest x.more t.begun part x.reads x.bytes_are in
+    let same : t.rest ≡ rest = rest_left (after_all no_login h.messages) t.rest x.given rest x.more x.reads x.bytes_are none in
+    let begun : IsBegun (limit settings) rest = subst (λ (k : ℕ). IsBegun k rest) live.bound (subst (λ (y : List ℕ). IsBegun now.framing.limit y) same t.begun)
+    in
+    leads_all settings n disk h.messages ms x.more rest now disk_now written x.whole none (record {
+      writes = record { disk_is = h.disk_is; output_is = h.output_is };
+      holds = record {
+        machine = ap closed h.machine;
+        goes_on = λ _. h.machine;
+        ends = λ over. absurd (apart over open_);
+        refuses = λ r. absurd (not_refused (limit settings) rest begun r);
+      };
+    })
+
+fate_leads : (settings : Settings) (n : ℕ) (disk : Disk) (taken : List ℕ) (now : Connection) (disk_now : Disk) (written : List ℕ) (ms : List Message)
+    (given rest : List ℕ)
+    → Fits settings → Fate settings n disk taken now disk_now written → Splits longest_segment taken ms given rest →
+    Leads settings n disk ms rest now disk_now written
+fate_leads settings n disk taken now disk_now written ms given rest le (inl l) s =
+    live_leads settings n disk taken now disk_now written ms given rest le l.0 l.1 s
+fate_leads settings n disk taken now disk_now written ms given rest le (inr o) s =
+    o.1.over [] ms given rest (subst (λ (x : List ℕ). Splits longest_segment x ms given rest) (sym (append-nil taken)) s)
+
+fed_fate : (settings : Settings) (n : ℕ) (disk : Disk) (taken : List ℕ) (pieces : List (List ℕ)) (old : Connection) (before : Store) (out : List ℕ)
+    (new : Connection) (after : Store) (written : List ℕ)
+    (ms : List Message) (given rest : List ℕ) → Fits settings
+    → Fate settings n disk taken old before.disk out → FedAll old before out pieces new after written →
+    Splits longest_segment (taken ++ flat_map (λ x. x) pieces) ms given rest
+    → Leads settings n disk ms rest new after.disk written
+unfolding FedAll
+fed_fate settings n disk taken [] old before out new after written ms given rest le e f p =
+    subst (λ (x : Connection). Leads settings n disk ms rest x after.disk written) (sym f.0)
+    (subst (λ (x : Store). Leads settings n disk ms rest old x.disk written) (sym f.1)
+    (subst (λ (x : List ℕ). Leads settings n disk ms rest old before.disk x) (sym f.2)
+    (fate_leads settings n disk taken old before.disk out ms given rest le e (subst (λ (x : List ℕ). Splits longest_segment x ms given rest)
+    (append-nil taken) p))))
+fed_fate settings n disk taken (piece ∷ pieces) old before out new after written ms given rest le e f p =
+    fed_fate settings n disk (taken ++ piece) pieces f.1 f.2 f.3 new after written ms given rest le
+    (next_fate settings n disk taken old before out piece f.0 f.1 f.2 f.3 le e f.4 f.5) f.6
+    (subst (λ (x : List ℕ). Splits longest_segment x ms given rest) (sym (append_assoc taken piece (flat_map (λ x. x) pieces))) p)
+
+fed_leads : (settings : Settings) (n : ℕ) (store : Store) (pieces : List (List ℕ)) (new : Connection) (after : Store) (written : List ℕ) (ms : List Message)
+    (given rest : List ℕ)
+    → Fits settings → FedAll (opening_connection settings n) store [] pieces new after written → Splits longest_segment (flat_map (λ x. x) pieces) ms given rest
+    → Leads settings n store.disk ms rest new after.disk written
+fed_leads settings n store pieces new after written ms given rest le f s =
+    fed_fate settings n store.disk [] pieces (opening_connection settings n) store [] new after written ms given rest le
+    (inl (refl, opening_live settings n store.disk)) f s
+
+-- any stream that was fed in pieces
+pub fed_any : (settings : Settings) (n : ℕ) (store : Store) (pieces : List (List ℕ)) (new : Connection) (after : Store) (written : List ℕ) (ms : List Message)
+    (given rest : List ℕ)
+    → Fits settings → FedAll (opening_connection settings n) store [] pieces new after written → Splits longest_segment (flat_map (λ x. x) pieces) ms given rest
+    → Writes settings n store.disk ms after.disk written
+fed_any settings n store pieces new after written ms given rest le f s = (fed_leads settings n store pieces new after written ms given rest le f s).writes
+
+pub fed_holds : (settings : Settings) (n : ℕ) (store : Store) (pieces : List (List ℕ)) (new : Connection) (after : Store) (written : List ℕ) (ms : List Message)
+    (given rest : List ℕ)
+    → Fits settings → FedAll (opening_connection settings n) store [] pieces new after written → Splits longest_segment (flat_map (λ x. x) pieces) ms given rest
+    → Holds settings n store.disk ms rest new.machine
+fed_holds settings n store pieces new after written ms given rest le f s = (fed_leads settings n store pieces new after written ms given rest le f s).holds
+
+-- ---- in any two cuts
+
+closed_in : (p : Phase) → is_closed_phase p ≡ true → p ≡ phases.Closed
+closed_in phases.Login e = absurd cc
+closed_in phases.Full e = absurd cc
+closed_in phases.Closed e = refl
+
+both_live : (settings : Settings) (n : ℕ) (disk : Disk) (ms : List Message) (rest : List ℕ) (a b : Machine) → Holds settings n disk ms rest a →
+    Holds settings n disk ms rest b
+    → is_closed a ≡ false → is_closed b ≡ false
+both_live settings n disk ms rest a b x y live = by_cases (is_closed b)
+    (λ over. absurd (elim (y.ends over) [
+      | inl done ↦ apart done (sym (ap is_closed (x.goes_on live)) ∙ live)
+      | inr r ↦ apart (x.refuses r) live
+    ]))
+    (λ e. e)
+
+pub same_session : (settings : Settings) (n : ℕ) (disk : Disk) (ms : List Message) (rest : List ℕ) (a b : Machine) → Holds settings n disk ms rest a →
+    Holds settings n disk ms rest b → SameSession a b
+same_session settings n disk ms rest a b x y =
+    let same : closed b ≡ closed a = y.machine ∙ sym x.machine in
+    let goes_on : is_closed a ≡ false → b ≡ a = λ live. y.goes_on (both_live settings n disk ms rest a b x y live) ∙ sym (x.goes_on live) in
+    record {
+      held = ap (λ (s : Machine). s.session.held) same;
+      stage = ap (λ (s : Machine). s.session.stage) same;
+      phase = by_cases (is_closed a)
+          (λ over. by_cases (is_closed b) (λ e. closed_in b.session.phase e ∙ sym (closed_in a.session.phase over))
+          (λ live. absurd (apart over (both_live settings n disk ms rest b a y x live))))
+          (λ live. ap (λ (s : Machine). s.session.phase) (goes_on live));
+      goes_on = goes_on;
+    }

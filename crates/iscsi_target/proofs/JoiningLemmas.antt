@@ -1,0 +1,545 @@
+-- Steps of a session with the pieces of each of its writes joined.
+use Rattle.std.proofs.Common.{◌≡◌, ℕ, zero, suc, ◌+◌, ◌-◌, min, List, [], ◌∷◌, ◌++◌, Bool, true, false, length, Option, Some, None, refl, sym, ap, ◌∙◌, subst}
+use Rattle.std.proofs.Common.{map}
+use Rattle.std.specs.Prelude.{◌==◌, ◌&&◌, ◌||◌, not, nat_lt, filter, if◌then◌else◌, option_map}
+use Rattle.std.proofs.lemmas.List.{map-append, length-map}
+use Rattle.scsi_disk.specs.Disk.{Disk}
+use Rattle.scsi_disk.specs.declared.order.Order.{Order}
+use Rattle.scsi_disk.specs.declared.order.Plan.{Plan}
+use Rattle.scsi_disk.specs.declared.order.Plan.TheVariants.{Refuse, Take, Give}
+use Rattle.scsi_disk.specs.Plan.{plan_of}
+use Rattle.iscsi_pdu.specs.declared.head.Head.{Head}
+use Rattle.iscsi_pdu.specs.declared.head.Head.TheVariants.{NopOut, ScsiCommand, TaskRequest, TextRequest, DataOut, LogoutRequest, ReadyToTransfer}
+use Rattle.iscsi_pdu.specs.declared.head.scsi_command.ScsiCommand.{ScsiCommand as Command}
+use Rattle.iscsi_pdu.specs.declared.head.data_out.DataOut.{DataOut as DataPdu}
+use Rattle.iscsi_stream.specs.Segment.{segment_bytes}
+use Rattle.iscsi_stream.specs.Stream.{Message}
+use Rattle.iscsi_login.specs.declared.phase.Phase.{Phase}
+use Rattle.iscsi_login.specs.declared.phase.Phase.TheVariants.{Login, Full, Closed}
+use Rattle.iscsi_login.specs.Held.{first_burst, max_burst}
+use Rattle.iscsi_target_session.specs.Session.{Session, Reply, message, counted, max_cmd_sn_with}
+use Rattle.iscsi_target.specs.Write.{Write}
+use Rattle.iscsi_target.specs.declared.tasks.Task.{Task}
+use Rattle.iscsi_target.specs.declared.tasks.Task.TheVariants.{Request, Data}
+use Rattle.iscsi_target.specs.State.{Machine, Execution, Stepped, on, unchanged, waiting, takes_place, max_cmd_sn}
+use Rattle.iscsi_login.specs.Stage.{is_closed_phase}
+use Rattle.iscsi_stream.specs.Pieces.{Pieces, data_of}
+use Rattle.iscsi_pdu.specs.Serial.{is_within}
+use Rattle.iscsi_pdu.specs.Fields.{reserved_tag}
+use Rattle.iscsi_target_session.specs.Rejecting.{reject, breach}
+use Rattle.iscsi_pdu.specs.Rules.{kind_not_due, segment_too_long, data_out_of_order, command_out_of_turn, too_many_immediate}
+use Rattle.iscsi_target_session.specs.Login.{login_step}
+use Rattle.iscsi_target.specs.Transfer.{with_piece, with_data, is_in_sequence, received, is_idle, joined_write, is_unsolicited_piece, is_solicited_piece}
+use Rattle.iscsi_target.specs.Transfer.{unsolicited_end}
+use Rattle.iscsi_target.specs.State.{joined_task, joined}
+use Rattle.iscsi_target.specs.declared.due.Due.{Due}
+use Rattle.iscsi_target.specs.declared.due.Due.TheVariants.{Nothing, Unsolicited, Solicited}
+use Rattle.iscsi_target.specs.Execution.{Device, device_next, device_after, execute, command_answers, data_in_parts, reliable}
+use Rattle.iscsi_target.specs.Command.{scsi_command, planned, proceed, order_of, opened, breaks_burst_rules, breaks_rules, send_r2t, led_by, task_of}
+use Rattle.iscsi_target.specs.Machine.{Next, Met, Dropped, Answered, Queued, plainly, accepting, broken, followed, having_accepted, begun, stays, is_busy}
+use Rattle.iscsi_target.specs.Machine.{done_in_turn, done_first, step, answers, then_stepped, step_on, phase_step, full_step, full_met, due_met, request}
+use Rattle.iscsi_target.specs.Machine.{admitted, handled, advanced, write_of, with_write, data_for, data_taken, data_out, tag_of, task_tag, is_same_tag}
+use Rattle.iscsi_target.specs.Machine.{is_tag_of, is_due_kind, is_too_long, is_over_limit, is_closed}
+use Rattle.iscsi_target_session.specs.Requests.{request_answered}
+use Rattle.iscsi_target.specs.Laws.{joined_execution, joined_stepped}
+use Rattle.iscsi_target_session.proofs.CaseLemmas.{by_cases}
+use Rattle.iscsi_target.proofs.TurnLemmas.{with_tasks}
+use Rattle.iscsi_target.proofs.OpenWriteLemmas.{data_of_one, data_with}
+
+-- ---- tasks and the same with the pieces of each write joined
+
+abbrev pub ones : List Task → List Task
+ones tasks = map joined_task tasks
+
+pub idem : (w : Write) → joined_write (joined_write w) ≡ joined_write w
+idem w = ap (λ (bytes : List ℕ). record w { pieces = with_piece [] 0 bytes }) (data_of_one (data_of w.pieces))
+
+task_twice : (task : Task) → joined_task (joined_task task) ≡ joined_task task
+task_twice (Request m) = refl
+task_twice (Data w) = ap Data (idem w)
+
+pub joined_twice : (tasks : List Task) → ones (ones tasks) ≡ ones tasks
+joined_twice [] = refl
+joined_twice (task ∷ more) = λ i. task_twice task i ∷ joined_twice more i
+
+-- one more waits, or the same number
+waits_more : (a b : Bool) (t u : Task) (ts us : List Task) → a ≡ b → length ts ≡ length us → length (if a then t ∷ ts else ts)
+    ≡ length (if b then u ∷ us else us)
+waits_more true true t u ts us e f = ap (λ (n : ℕ). suc n) f
+waits_more false false t u ts us e f = f
+waits_more true false t u ts us e f = absurd cc
+waits_more false true t u ts us e f = absurd cc
+
+same_place : (task : Task) → takes_place (joined_task task) ≡ takes_place task
+same_place (Request m) = refl
+same_place (Data w) = refl
+
+pub waits_same : (tasks : List Task) → waiting (ones tasks) ≡ waiting tasks
+waits_same [] = refl
+waits_same (task ∷ more) = waits_more (takes_place (joined_task task)) (takes_place task) (joined_task task) task (filter takes_place (ones more))
+    (filter takes_place more) (same_place task) (waits_same more)
+
+-- tasks that are the same with their pieces joined, and as many wait
+record Beside (ts us : List Task) : Type 0 where
+  is : ones ts ≡ ones us
+  waits : waiting ts ≡ waiting us
+
+beside : (tasks : List Task) → Beside (ones tasks) tasks
+beside tasks = record { is = joined_twice tasks; waits = waits_same tasks }
+
+pub record Same (a b : Stepped) : Type 0 where
+  pub is : joined_stepped a ≡ joined_stepped b
+
+-- ---- the first task
+
+on_by : (disk : Disk) (r : Reply) (ts us : List Task) (over : Bool) → ones ts ≡ ones us
+    → joined_stepped (record (on disk [] r) { machine = record { session = r.session; tasks = if over then [] else ts } })
+    ≡ joined_stepped (record (on disk [] r) { machine = record { session = r.session; tasks = if over then [] else us } })
+on_by disk r ts us true e = refl
+on_by disk r ts us false e = ap (λ (x : List Task). record (on disk [] r) { machine = record { session = r.session; tasks = x } }) e
+
+on_same : (disk : Disk) (r : Reply) (ts us : List Task) → ones ts ≡ ones us → Same (on disk ts r) (on disk us r)
+on_same disk r ts us e = record { is = on_by disk r ts us (is_closed_phase r.session.phase) e }
+
+-- a reply that says how many wait
+reply_same : (disk : Disk) (reply : ℕ → Reply) (ts us : List Task) → Beside ts us → Same (on disk ts (reply (waiting ts))) (on disk us (reply (waiting us)))
+reply_same disk reply ts us b = subst (λ (n : ℕ). Same (on disk ts (reply (waiting ts))) (on disk us (reply n))) b.waits
+    (on_same disk (reply (waiting ts)) ts us b.is)
+
+-- what an execution leaves, by the bytes, the tasks behind it and how many wait
+abbrev executed_with : Device → Session → Disk → ℕ → Order → ℕ → List Task → List ℕ → Stepped
+executed_with device s disk tag order n tasks bytes = record {
+  machine = record { session = counted s; tasks = tasks };
+  disk = (device 0 disk order bytes).disk;
+  answers = command_answers s n tag (device 0 disk order bytes).outcome (data_in_parts s.held (device 0 disk order bytes).outcome.bytes);
+  rule = None;
+  accepted = [];
+  executed = record { initiator_task_tag = tag; disk = disk; order = order; pieces = with_piece [] 0 bytes } ∷ [];
+}
+
+executed_as : (device : Device) (s : Session) (disk : Disk) (tag : ℕ) (order : Order) (ts : List Task) (x : Pieces)
+    → joined_stepped (execute device (with_tasks s ts) disk tag order x) ≡ executed_with device s disk tag order (waiting ts) (ones ts) (data_of x)
+executed_as device s disk tag order ts x = refl
+
+execute_same : (device : Device) (s : Session) (disk : Disk) (tag : ℕ) (order : Order) (ts us : List Task) (x y : Pieces) → Beside ts us → data_of x ≡ data_of y
+    → Same (execute device (with_tasks s ts) disk tag order x) (execute device (with_tasks s us) disk tag order y)
+execute_same device s disk tag order ts us x y b e = record {
+  is = executed_as device s disk tag order ts x ∙ (λ i. executed_with device s disk tag order (b.waits i) (b.is i) (e i))
+      ∙ sym (executed_as device s disk tag order us y);
+}
+
+-- what an R2T for a write with these bytes leaves
+abbrev asked_with : Session → Disk → Write → ℕ → List Task → List ℕ → Stepped
+asked_with s disk v n tasks bytes = record (unchanged (with_tasks s (Data (record v {
+  pieces = with_piece [] 0 bytes;
+  due = Solicited v.r2t_count 0 (length bytes + min (v.total - length bytes) (max_burst s.held));
+  r2t_count = v.r2t_count + 1;
+}) ∷ tasks)) disk) {
+  answers = message (ReadyToTransfer (record {
+    lun = v.order.lun;
+    initiator_task_tag = v.initiator_task_tag;
+    target_transfer_tag = v.r2t_count;
+    stat_sn = s.stat_sn;
+    exp_cmd_sn = s.exp_cmd_sn;
+    max_cmd_sn = max_cmd_sn_with s n;
+    r2t_sn = v.r2t_count;
+    buffer_offset = length bytes;
+    desired_data_transfer_length = min (v.total - length bytes) (max_burst s.held);
+  })) [] ∷ [];
+}
+
+asked_as : (s : Session) (disk : Disk) (v : Write) (ts : List Task) (x : Pieces)
+    → joined_stepped (send_r2t (with_tasks s ts) disk (record v { pieces = x }))
+    ≡ asked_with s disk v (waiting (Data (record v { pieces = x }) ∷ ts)) (ones ts) (data_of x)
+asked_as s disk v ts x = refl
+
+led_waits : (v : Write) (ts us : List Task) (x y : Pieces) → waiting ts ≡ waiting us → waiting (Data (record v { pieces = x }) ∷ ts)
+    ≡ waiting (Data (record v { pieces = y }) ∷ us)
+led_waits v ts us x y e = waits_more (not v.immediate) (not v.immediate) (Data (record v { pieces = x })) (Data (record v { pieces = y }))
+    (filter takes_place ts) (filter takes_place us) refl e
+
+proceed_by : (device : Device) (s : Session) (disk : Disk) (v : Write) (ts us : List Task) (x y : Pieces) (a b idle : Bool) → Beside ts us → data_of x
+    ≡ data_of y → a ≡ b
+    → Same (if a then execute device (with_tasks s ts) disk v.initiator_task_tag v.order x
+    else if idle then send_r2t (with_tasks s ts) disk (record v { pieces = x }) else unchanged (led_by (record v { pieces = x }) (with_tasks s ts)) disk)
+    (if b then execute device (with_tasks s us) disk v.initiator_task_tag v.order y
+    else if idle then send_r2t (with_tasks s us) disk (record v { pieces = y }) else unchanged (led_by (record v { pieces = y }) (with_tasks s us)) disk)
+proceed_by device s disk v ts us x y true true idle c e t = execute_same device s disk v.initiator_task_tag v.order ts us x y c e
+proceed_by device s disk v ts us x y true false idle c e t = absurd cc
+proceed_by device s disk v ts us x y false true idle c e t = absurd cc
+proceed_by device s disk v ts us x y false false true c e t = record {
+  is = asked_as s disk v ts x ∙ (λ i. asked_with s disk v (led_waits v ts us x y c.waits i) (c.is i) (e i)) ∙ sym (asked_as s disk v us y);
+}
+proceed_by device s disk v ts us x y false false false c e t = record {
+  is = λ i. unchanged (with_tasks s (Data (record v { pieces = with_piece [] 0 (e i) }) ∷ c.is i)) disk;
+}
+
+proceed_same : (device : Device) (s : Session) (disk : Disk) (v : Write) (ts us : List Task) (x y : Pieces) → Beside ts us → data_of x ≡ data_of y
+    → Same (proceed device (with_tasks s ts) disk (record v { pieces = x })) (proceed device (with_tasks s us) disk (record v { pieces = y }))
+proceed_same device s disk v ts us x y c e =
+    proceed_by device s disk v ts us x y (v.total == length (data_of x)) (v.total == length (data_of y))
+    (is_idle v.due) c e (ap (λ (bytes : List ℕ). v.total == length bytes) e)
+
+planned_same : (device : Device) (s : Session) (disk : Disk) (ts us : List Task) (h : Command) (bytes : List ℕ) (plan : Plan) → Beside ts us
+    → Same (planned device (with_tasks s ts) disk h bytes plan) (planned device (with_tasks s us) disk h bytes plan)
+planned_same device s disk ts us h bytes (Take total) c = let w : Write = opened h total bytes in proceed_same device s disk w ts us w.pieces w.pieces c refl
+planned_same device s disk ts us h bytes (Refuse sense) c = execute_same device s disk h.initiator_task_tag (order_of h) ts us [] [] c refl
+planned_same device s disk ts us h bytes (Give n) c = execute_same device s disk h.initiator_task_tag (order_of h) ts us [] [] c refl
+
+command_same : (device : Device) (s : Session) (disk : Disk) (ts us : List Task) (m : Message) (h : Command) (bytes : List ℕ) → Beside ts us
+    → Same (scsi_command device (with_tasks s ts) disk m h bytes) (scsi_command device (with_tasks s us) disk m h bytes)
+command_same device s disk ts us m h bytes c =
+    by_cases (breaks_burst_rules s.held h (length bytes)) (λ e. rw e (reply_same disk (λ n. breach s n data_out_of_order m) ts us c))
+    (λ e. rw e (planned_same device s disk ts us h bytes (plan_of (order_of h) disk.count) c))
+
+handled_same : (device : Device) (s : Session) (disk : Disk) (ts us : List Task) (m : Message) (head : Head) → Beside ts us
+    → Same (handled device (with_tasks s ts) disk m head) (handled device (with_tasks s us) disk m head)
+handled_same device s disk ts us m (ScsiCommand h) c = command_same device s disk ts us m h (segment_bytes m.segment) c
+handled_same device s disk ts us m head c = reply_same disk (λ n. request_answered s n m head) ts us c
+
+begun_same : (device : Device) (s : Session) (disk : Disk) (ts us : List Task) (task : Task) → Beside ts us
+    → Same (begun device (with_tasks s ts) disk (joined_task task)) (begun device (with_tasks s us) disk task)
+begun_same device s disk ts us (Request m) c = handled_same device s disk ts us m m.head c
+begun_same device s disk ts us (Data w) c = proceed_same device s disk w ts us (joined_write w).pieces w.pieces c (data_of_one (data_of w.pieces))
+
+-- ---- tasks in their turn
+
+pub joined_then : (a b : Stepped) → joined_stepped (then_stepped a b) ≡ then_stepped (joined_stepped a) (joined_stepped b)
+joined_then a b = ap (λ (es : List Execution). record (then_stepped (joined_stepped a) (joined_stepped b)) { executed = es })
+    (map-append joined_execution a.executed b.executed)
+
+after_joined : (es : List Execution) (device : Device) → device_after (map joined_execution es) device ≡ device_after es device
+after_joined [] device = refl
+after_joined (e ∷ es) device = after_joined es (device_next device)
+
+after_same : (a b : Stepped) (device : Device) → Same a b → device_after a.executed device ≡ device_after b.executed device
+after_same a b device h = sym (after_joined a.executed device) ∙ ap (λ (r : Stepped). device_after r.executed device) h.is ∙ after_joined b.executed device
+
+pub size_same : (ts us : List Task) → ones ts ≡ ones us → length ts ≡ length us
+size_same ts us e = sym (length-map ts joined_task) ∙ ap (λ (xs : List Task). length xs) e ∙ length-map us joined_task
+
+busy_same : (tasks : List Task) → is_busy (ones tasks) ≡ is_busy tasks
+busy_same [] = refl
+busy_same (task ∷ more) = refl
+
+stops_same : (more : List Task) (a b : Stepped) → Same a b → (not (is_busy (ones more)) || (stays (ones more) a || is_closed a.machine))
+    ≡ (not (is_busy more) || (stays more b || is_closed b.machine))
+stops_same more a b h =
+    let size : length a.machine.tasks ≡ length b.machine.tasks = size_same a.machine.tasks b.machine.tasks (ap (λ (r : Stepped). r.machine.tasks) h.is) in
+    λ i. not (busy_same more i) || (nat_lt (length-map more joined_task i) (size i) || is_closed_phase (h.is i).machine.session.phase)
+
+done_by : (device : Device) (more : List Task) (a b : Stepped) (x y : Bool) → x ≡ y → Same a b
+    → Same (done_in_turn (device_after a.executed device) a.machine.session a.disk (ones more))
+    (done_in_turn (device_after a.executed device) a.machine.session a.disk more)
+    → Same (if x then a else then_stepped a (done_in_turn (device_after a.executed device) a.machine.session a.disk (ones more)))
+    (if y then b else then_stepped b (done_in_turn (device_after b.executed device) b.machine.session b.disk more))
+done_by device more a b true true e h rest = h
+done_by device more a b true false e h rest = absurd cc
+done_by device more a b false true e h rest = absurd cc
+done_by device more a b false false e h rest =
+    let dev = after_same a b device h in
+    let r : Stepped = done_in_turn (device_after a.executed device) a.machine.session a.disk (ones more) in
+    let q : joined_stepped r ≡ joined_stepped (done_in_turn (device_after b.executed device) b.machine.session b.disk more) =
+    rest.is ∙ (λ i. joined_stepped (done_in_turn (dev i) (h.is i).machine.session (h.is i).disk more)) in
+    record {
+      is = joined_then a r ∙ (λ i. then_stepped (h.is i) (q i)) ∙ sym (joined_then b
+          (done_in_turn (device_after b.executed device) b.machine.session b.disk more));
+    }
+
+done_joined : (device : Device) (s : Session) (disk : Disk) (tasks : List Task) →
+    Same (done_in_turn device s disk (ones tasks)) (done_in_turn device s disk tasks)
+unfolding done_in_turn
+done_joined device s disk [] = record { is = refl }
+done_joined device s disk (task ∷ more) =
+    let a : Stepped = begun device (with_tasks s (ones more)) disk (joined_task task) in
+    let b : Stepped = begun device (with_tasks s more) disk task in
+    let h : Same a b = begun_same device s disk (ones more) more task (beside more) in
+    done_by device more a b (not (is_busy (ones more)) || (stays (ones more) a || is_closed a.machine))
+    (not (is_busy more) || (stays more b || is_closed b.machine)) (stops_same more a b h) h
+    (done_joined (device_after a.executed device) a.machine.session a.disk more)
+
+pub done_same : (device : Device) (s : Session) (disk : Disk) (ts us : List Task) → ones ts ≡ ones us →
+    Same (done_in_turn device s disk ts) (done_in_turn device s disk us)
+done_same device s disk ts us e = record {
+  is = sym (done_joined device s disk ts).is ∙ ap (λ (x : List Task). joined_stepped (done_in_turn device s disk x)) e ∙ (done_joined device s disk us).is;
+}
+
+-- the same of the first of them
+
+first_by : (k : ℕ) (device : Device) (more : List Task) (a b : Stepped) (x y : Bool) → x ≡ y → Same a b
+    → Same (done_first k (device_after a.executed device) a.machine.session a.disk (ones more))
+    (done_first k (device_after a.executed device) a.machine.session a.disk more)
+    → Same (if x then a else then_stepped a (done_first k (device_after a.executed device) a.machine.session a.disk (ones more)))
+    (if y then b else then_stepped b (done_first k (device_after b.executed device) b.machine.session b.disk more))
+first_by k device more a b true true e h rest = h
+first_by k device more a b true false e h rest = absurd cc
+first_by k device more a b false true e h rest = absurd cc
+first_by k device more a b false false e h rest =
+    let dev = after_same a b device h in
+    let r : Stepped = done_first k (device_after a.executed device) a.machine.session a.disk (ones more) in
+    let q : joined_stepped r ≡ joined_stepped (done_first k (device_after b.executed device) b.machine.session b.disk more) =
+    rest.is ∙ (λ i. joined_stepped (done_first k (dev i) (h.is i).machine.session (h.is i).disk more)) in
+    record {
+      is = joined_then a r ∙ (λ i. then_stepped (h.is i) (q i)) ∙ sym (joined_then b
+          (done_first k (device_after b.executed device) b.machine.session b.disk more));
+    }
+
+stay_same : (more : List Task) (a b : Stepped) → Same a b → (stays (ones more) a || is_closed a.machine) ≡ (stays more b || is_closed b.machine)
+stay_same more a b h =
+    let size : length a.machine.tasks ≡ length b.machine.tasks = size_same a.machine.tasks b.machine.tasks (ap (λ (r : Stepped). r.machine.tasks) h.is) in
+    λ i. nat_lt (length-map more joined_task i) (size i) || is_closed_phase (h.is i).machine.session.phase
+
+first_joined : (k : ℕ) (device : Device) (s : Session) (disk : Disk) (tasks : List Task) →
+    Same (done_first k device s disk (ones tasks)) (done_first k device s disk tasks)
+unfolding done_first
+first_joined zero device s disk tasks = record { is = ap (λ (ts : List Task). unchanged (with_tasks s ts) disk) (joined_twice tasks) }
+first_joined (suc k) device s disk [] = record { is = refl }
+first_joined (suc k) device s disk (task ∷ more) =
+    let a : Stepped = begun device (with_tasks s (ones more)) disk (joined_task task) in
+    let b : Stepped = begun device (with_tasks s more) disk task in
+    let h : Same a b = begun_same device s disk (ones more) more task (beside more) in
+    first_by k device more a b (stays (ones more) a || is_closed a.machine) (stays more b || is_closed b.machine) (stay_same more a b h) h
+    (first_joined k (device_after a.executed device) a.machine.session a.disk more)
+
+pub first_same : (k : ℕ) (device : Device) (s : Session) (disk : Disk) (ts us : List Task) → ones ts ≡ ones us →
+    Same (done_first k device s disk ts) (done_first k device s disk us)
+first_same k device s disk ts us e = record {
+  is = sym (first_joined k device s disk ts).is ∙ ap (λ (x : List Task). joined_stepped (done_first k device s disk x)) e
+      ∙ (first_joined k device s disk us).is;
+}
+
+-- ---- what comes of a PDU
+
+abbrev pub SameNext : Next → Next → Type 0
+SameNext Dropped Dropped = Unit {0}
+SameNext (Answered r) (Answered q) = r ≡ q
+SameNext (Queued s ts) (Queued t us) = (s ≡ t) × (ones ts ≡ ones us)
+SameNext _ _ = ⊥
+
+pub record SameMet (x y : Met) : Type 0 where
+  pub accepted : x.accepted ≡ y.accepted
+  pub next : SameNext x.next y.next
+
+pub next_back : (x y : Next) → SameNext x y → SameNext y x
+next_back Dropped Dropped h = tt
+next_back (Answered r) (Answered q) h = sym h
+next_back (Queued s ts) (Queued t us) h = (sym h.0, sym h.1)
+next_back Dropped (Answered q) h = absurd h
+next_back Dropped (Queued t us) h = absurd h
+next_back (Answered r) Dropped h = absurd h
+next_back (Answered r) (Queued t us) h = absurd h
+next_back (Queued s ts) Dropped h = absurd h
+next_back (Queued s ts) (Answered q) h = absurd h
+
+pub next_then : (x y z : Next) → SameNext x y → SameNext y z → SameNext x z
+next_then Dropped Dropped z h k = k
+next_then (Answered r) (Answered q) z h k = subst (λ (a : Reply). SameNext (Answered a) z) (sym h) k
+next_then (Queued s ts) (Queued t us) (Queued v ws) h k = (h.0 ∙ k.0, h.1 ∙ k.1)
+next_then (Queued s ts) (Queued t us) Dropped h k = absurd k
+next_then (Queued s ts) (Queued t us) (Answered q) h k = absurd k
+next_then Dropped (Answered q) z h k = absurd h
+next_then Dropped (Queued t us) z h k = absurd h
+next_then (Answered r) Dropped z h k = absurd h
+next_then (Answered r) (Queued t us) z h k = absurd h
+next_then (Queued s ts) Dropped z h k = absurd h
+next_then (Queued s ts) (Answered q) z h k = absurd h
+
+next_if : (a b : Bool) (x y x' y' : Next) → a ≡ b → SameNext x x' → SameNext y y' → SameNext (if a then x else y) (if b then x' else y')
+next_if true true x y x' y' e p q = p
+next_if false false x y x' y' e p q = q
+next_if true false x y x' y' e p q = absurd cc
+next_if false true x y x' y' e p q = absurd cc
+
+met_if : (a b : Bool) (x y x' y' : Met) → a ≡ b → SameMet x x' → SameMet y y' → SameMet (if a then x else y) (if b then x' else y')
+met_if true true x y x' y' e p q = p
+met_if false false x y x' y' e p q = q
+met_if true false x y x' y' e p q = absurd cc
+met_if false true x y x' y' e p q = absurd cc
+
+broken_same : (s : Machine) (rule : ℕ) (m : Message) → SameNext (broken (joined s) rule m) (broken s rule m)
+broken_same s rule m = ap (λ (n : ℕ). breach s.session n rule m) (waits_same s.tasks)
+
+plain_same : (x y : Next) → SameNext x y → SameMet (plainly x) (plainly y)
+plain_same x y h = record { accepted = refl; next = h }
+
+accepted_same : (m : Message) (x y : Next) → SameNext x y → SameMet (accepting m x) (accepting m y)
+accepted_same m x y h = record { accepted = refl; next = h }
+
+-- ---- a Data-Out
+
+found_same : (tasks : List Task) (tag : ℕ) → write_of (ones tasks) tag ≡ option_map joined_write (write_of tasks tag)
+found_same [] tag = refl
+found_same (Request m ∷ more) tag = found_same more tag
+found_same (Data w ∷ more) tag = by_cases (w.initiator_task_tag == tag) (λ e. rw e refl) (λ e. rw e (found_same more tag))
+
+written_same : (v u : Write) (tasks : List Task) → v.initiator_task_tag ≡ u.initiator_task_tag → joined_write v ≡ joined_write u →
+    ones (with_write v (ones tasks)) ≡ ones (with_write u tasks)
+written_same v u [] tag e = refl
+written_same v u (Request m ∷ more) tag e = ap (λ (ts : List Task). Request m ∷ ts) (written_same v u more tag e)
+written_same v u (Data w ∷ more) tag e =
+    ap (λ (t : ℕ). ones (if w.initiator_task_tag == t then Data v ∷ ones more else Data (joined_write w) ∷ with_write v (ones more))) tag
+    ∙ by_cases (w.initiator_task_tag == u.initiator_task_tag)
+    (λ f. rw f (λ i. Data (e i) ∷ joined_twice more i))
+    (λ f. rw f (λ i. Data (idem w i) ∷ written_same v u more tag e i))
+
+received_one : (w : Write) → received (joined_write w) ≡ received w
+received_one w = ap (λ (bytes : List ℕ). length bytes) (data_of_one (data_of w.pieces))
+
+in_sequence_same : (first : ℕ) (w : Write) (h : DataPdu) (n : ℕ) (due : Due) → is_in_sequence first (joined_write w) h n due ≡ is_in_sequence first w h n due
+in_sequence_same first w h n Nothing = refl
+in_sequence_same first w h n (Unsolicited data_sn) =
+    ap (λ (r : ℕ). ((h.data_sn == data_sn) && (h.buffer_offset == r))
+    && ((h.target_transfer_tag == reserved_tag) && is_unsolicited_piece n (unsolicited_end first w) h.is_final)) (received_one w)
+in_sequence_same first w h n (Solicited tag data_sn end) =
+    ap (λ (r : ℕ). ((h.data_sn == data_sn) && (h.buffer_offset == r))
+    && ((h.target_transfer_tag == tag) && is_solicited_piece n end h.is_final)) (received_one w)
+
+is_taken_same : (first : ℕ) (w : Write) (h : DataPdu) (bytes : List ℕ)
+    → is_in_sequence first (joined_write w) h (received (joined_write w) + length bytes) w.due ≡ is_in_sequence first w h (received w + length bytes) w.due
+is_taken_same first w h bytes =
+    in_sequence_same first w h (received (joined_write w) + length bytes) w.due
+    ∙ ap (λ (n : ℕ). is_in_sequence first w h (n + length bytes) w.due) (received_one w)
+
+taken_by : (s : Machine) (w : Write) (m : Message) (h : DataPdu) (bytes : List ℕ) (a b : Bool) → a ≡ b
+    → SameNext (data_taken (joined s) m (if a then Some (with_data (joined_write w) h bytes) else None))
+    (data_taken s m (if b then Some (with_data w h bytes) else None))
+taken_by s w m h bytes true true e = (
+  refl,
+  written_same (with_data (joined_write w) h bytes) (with_data w h bytes) s.tasks refl
+      (ap (λ (x : List ℕ). record (with_data w h bytes) { pieces = with_piece [] 0 x })
+      (data_with (joined_write w).pieces (received (joined_write w)) bytes
+      ∙ ap (λ (front : List ℕ). front ++ bytes) (data_of_one (data_of w.pieces)) ∙ sym (data_with w.pieces (received w) bytes))),
+)
+taken_by s w m h bytes true false e = absurd cc
+taken_by s w m h bytes false true e = absurd cc
+taken_by s w m h bytes false false e = broken_same s data_out_of_order m
+
+data_by : (s : Machine) (m : Message) (h : DataPdu) (bytes : List ℕ) (found : Option Write) →
+    SameNext (data_for (joined s) m h bytes (option_map joined_write found)) (data_for s m h bytes found)
+data_by s m h bytes None = tt
+data_by s m h bytes (Some w) =
+    taken_by s w m h bytes (is_in_sequence (first_burst s.session.held) (joined_write w) h (received (joined_write w) + length bytes) w.due)
+    (is_in_sequence (first_burst s.session.held) w h (received w + length bytes) w.due) (is_taken_same (first_burst s.session.held) w h bytes)
+
+data_same : (s : Machine) (m : Message) (h : DataPdu) (bytes : List ℕ) → SameNext (data_out (joined s) m h bytes) (data_out s m h bytes)
+data_same s m h bytes =
+    subst (λ (x : Option Write). SameNext (data_for (joined s) m h bytes x) (data_out s m h bytes)) (sym (found_same s.tasks h.initiator_task_tag))
+    (data_by s m h bytes (write_of s.tasks h.initiator_task_tag))
+
+-- ---- a request
+
+tag_same : (task : Task) → task_tag (joined_task task) ≡ task_tag task
+tag_same (Request m) = refl
+tag_same (Data w) = refl
+
+tags_same : (tasks : List Task) (tag : Option ℕ) → is_tag_of (ones tasks) tag ≡ is_tag_of tasks tag
+tags_same [] tag = refl
+tags_same (task ∷ more) tag = λ i. is_same_tag (tag_same task i) tag || tags_same more tag i
+
+admitted_same : (s : Machine) (count : ℕ) (m : Message) → SameNext (admitted (joined s) count m) (admitted s count m)
+admitted_same s count m =
+    next_if (is_tag_of (ones s.tasks) (tag_of m.head)) (is_tag_of s.tasks (tag_of m.head))
+    (broken (joined s) kind_not_due m) _ (broken s kind_not_due m) _ (tags_same s.tasks (tag_of m.head)) (broken_same s kind_not_due m)
+    (next_if (breaks_rules s.session.held (length (segment_bytes m.segment)) m.head) (breaks_rules s.session.held (length (segment_bytes m.segment)) m.head)
+    (broken (joined s) data_out_of_order m) (Queued s.session (ones s.tasks ++ task_of count m ∷ [])) (broken s data_out_of_order m)
+    (Queued s.session (s.tasks ++ task_of count m ∷ [])) refl (broken_same s data_out_of_order m) (
+      refl,
+      map-append joined_task (ones s.tasks) (task_of count m ∷ []) ∙ ap (λ (ts : List Task). ts ++ ones (task_of count m ∷ [])) (joined_twice s.tasks)
+          ∙ sym (map-append joined_task s.tasks (task_of count m ∷ [])),
+    ))
+
+within_same : (s : Machine) (n : ℕ) → not (is_within n s.session.exp_cmd_sn (max_cmd_sn (joined s))) ≡ not (is_within n s.session.exp_cmd_sn (max_cmd_sn s))
+within_same s n = ap (λ (k : ℕ). not (is_within n s.session.exp_cmd_sn (max_cmd_sn_with s.session k))) (waits_same s.tasks)
+
+request_same : (s : Machine) (count : ℕ) (m : Message) (i : Bool) (n : ℕ) → SameMet (request (joined s) count m i n) (request s count m i n)
+request_same s count m true n =
+    met_if (is_busy (ones s.tasks)) (is_busy s.tasks) (plainly (Answered (reject s.session (waiting (ones s.tasks)) too_many_immediate m)))
+    (accepting m (admitted (joined s) count m))
+    (plainly (Answered (reject s.session (waiting s.tasks) too_many_immediate m))) (accepting m (admitted s count m)) (busy_same s.tasks)
+    (plain_same _ _ (ap (λ (k : ℕ). reject s.session k too_many_immediate m) (waits_same s.tasks))) (accepted_same m _ _ (admitted_same s count m))
+request_same s count m false n =
+    met_if (not (is_within n s.session.exp_cmd_sn (max_cmd_sn (joined s)))) (not (is_within n s.session.exp_cmd_sn (max_cmd_sn s)))
+    (plainly Dropped) _ (plainly Dropped) _ (within_same s n) (plain_same Dropped Dropped tt)
+    (met_if (not (n == s.session.exp_cmd_sn)) (not (n == s.session.exp_cmd_sn)) (plainly (broken (joined s) command_out_of_turn m))
+    (accepting m (admitted (advanced (joined s)) count m))
+    (plainly (broken s command_out_of_turn m)) (accepting m (admitted (advanced s) count m)) refl
+    (plain_same _ _ (broken_same s command_out_of_turn m)) (accepted_same m _ _ (admitted_same (advanced s) count m)))
+
+due_same : (s : Machine) (count : ℕ) (m : Message) (head : Head) → SameMet (due_met (joined s) count m head) (due_met s count m head)
+due_same s count m (DataOut h) = plain_same _ _ (data_same s m h (segment_bytes m.segment))
+due_same s count m (NopOut h) = request_same s count m h.immediate h.cmd_sn
+due_same s count m (TaskRequest h) = request_same s count m h.immediate h.cmd_sn
+due_same s count m (TextRequest h) = request_same s count m h.immediate h.cmd_sn
+due_same s count m (LogoutRequest h) = request_same s count m h.immediate h.cmd_sn
+due_same s count m (ScsiCommand h) = request_same s count m h.immediate h.cmd_sn
+due_same s count m _ = plain_same _ _ (broken_same s kind_not_due m)
+
+pub met_same : (s : Machine) (count : ℕ) (m : Message) → SameMet (full_met (joined s) count m) (full_met s count m)
+met_same s count m =
+    met_if (not (is_due_kind s.session.session_type m.head)) (not (is_due_kind s.session.session_type m.head))
+    (plainly (broken (joined s) kind_not_due m)) _ (plainly (broken s kind_not_due m)) _ refl
+    (plain_same _ _ (broken_same s kind_not_due m))
+    (met_if (is_too_long s m) (is_too_long s m) (plainly (broken (joined s) segment_too_long m)) (due_met (joined s) count m m.head)
+    (plainly (broken s segment_too_long m)) (due_met s count m m.head) refl
+    (plain_same _ _ (broken_same s segment_too_long m)) (due_same s count m m.head))
+
+-- ---- a step
+
+unchanged_same : (s : Machine) (disk : Disk) → Same (unchanged (joined s) disk) (unchanged s disk)
+unchanged_same s disk = record { is = ap (λ (ts : List Task). unchanged (record s { tasks = ts }) disk) (joined_twice s.tasks) }
+
+followed_same : (device : Device) (s : Machine) (disk : Disk) (x y : Next) → SameNext x y → Same (followed device (joined s) disk x) (followed device s disk y)
+followed_same device s disk Dropped Dropped h = unchanged_same s disk
+followed_same device s disk (Answered r) (Answered q) h = subst (λ (z : Reply). Same (on disk (ones s.tasks) r) (on disk s.tasks z)) h
+    (on_same disk r (ones s.tasks) s.tasks (joined_twice s.tasks))
+followed_same device s disk (Queued a ts) (Queued b us) h =
+    subst (λ (z : Session). Same (done_in_turn device a disk ts) (done_in_turn device z disk us)) h.0 (done_same device a disk ts us h.1)
+followed_same device s disk Dropped (Answered q) h = absurd h
+followed_same device s disk Dropped (Queued b us) h = absurd h
+followed_same device s disk (Answered r) Dropped h = absurd h
+followed_same device s disk (Answered r) (Queued b us) h = absurd h
+followed_same device s disk (Queued a ts) Dropped h = absurd h
+followed_same device s disk (Queued a ts) (Answered q) h = absurd h
+
+having_same : (x y : List Message) (a b : Stepped) → x ≡ y → Same a b → Same (having_accepted x a) (having_accepted y b)
+having_same x y a b e h = record { is = λ i. record (h.is i) { accepted = e i } }
+
+full_same : (device : Device) (s : Machine) (disk : Disk) (m : Message) → Same (full_step device (joined s) disk m) (full_step device s disk m)
+full_same device s disk m =
+    let h = met_same s disk.count m in
+    having_same (full_met (joined s) disk.count m).accepted (full_met s disk.count m).accepted
+    (followed device (joined s) disk (full_met (joined s) disk.count m).next)
+    (followed device s disk (full_met s disk.count m).next) h.accepted (followed_same device s disk (full_met (joined s) disk.count m).next
+    (full_met s disk.count m).next h.next)
+
+phase_same : (device : Device) (phase : Phase) (s : Machine) (disk : Disk) (m : Message) →
+    Same (phase_step device phase (joined s) disk m) (phase_step device phase s disk m)
+phase_same device Login s disk m = on_same disk (login_step s.session m) (ones s.tasks) s.tasks (joined_twice s.tasks)
+phase_same device Full s disk m = full_same device s disk m
+phase_same device Closed s disk m = unchanged_same s disk
+
+step_same : (device : Device) (s : Machine) (disk : Disk) (m : Message) → Same (step_on device (joined s) disk m) (step_on device s disk m)
+step_same device s disk m =
+    by_cases (is_closed s) (λ e. rw e (unchanged_same s disk))
+    (λ e. by_cases (is_over_limit s m.segment) (λ f. rw (e, f) (record { is = refl })) (λ f. rw (e, f) (phase_same device s.session.phase s disk m)))
+
+-- one step from a session whose pieces are joined
+pub step_joined : (device : Device) (s : Machine) (disk : Disk) (m : Message)
+    → joined_stepped (step_on device (joined s) disk m) ≡ joined_stepped (step_on device s disk m)
+step_joined device s disk m = (step_same device s disk m).is
+
+-- ---- messages one after another
+
+-- any messages to a session whose pieces are joined
+pub answers_joined : (s : Machine) (disk : Disk) (ms : List Message) → joined_stepped (answers (joined s) disk ms) ≡ joined_stepped (answers s disk ms)
+unfolding answers
+answers_joined s disk [] = ap (λ (ts : List Task). unchanged (record s { tasks = ts }) disk) (joined_twice s.tasks)
+answers_joined s disk (m ∷ ms) =
+    let a : Stepped = step (joined s) disk m in
+    let b : Stepped = step s disk m in
+    let e : joined_stepped a ≡ joined_stepped b = step_joined reliable s disk m in
+    joined_then a (answers a.machine a.disk ms)
+    ∙ ap (λ (r : Stepped). then_stepped (joined_stepped a) r) (sym (answers_joined a.machine a.disk ms))
+    ∙ ap (λ (r : Stepped). then_stepped r (joined_stepped (answers r.machine r.disk ms))) e
+    ∙ ap (λ (r : Stepped). then_stepped (joined_stepped b) r) (answers_joined b.machine b.disk ms)
+    ∙ sym (joined_then b (answers b.machine b.disk ms))

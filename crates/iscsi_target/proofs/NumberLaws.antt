@@ -1,0 +1,154 @@
+-- Numbers that count on, over any messages.
+use Rattle.std.proofs.Common.{◌≡◌, ◌<◌, ◌≤◌, ℕ, zero, suc, ◌+◌, ◌^◌, ◌%◌, List, [], ◌∷◌, ◌++◌, true, false, length, refl, sym, ap, ◌∙◌, subst, arith}
+use Rattle.std.specs.List.{AllByRecursion}
+use Rattle.std.proofs.lemmas.List.{map-append}
+use Rattle.std.proofs.lemmas.Grind.{flat_map-append}
+use Rattle.scsi_disk.specs.Disk.{Disk}
+use Rattle.iscsi_pdu.specs.declared.head.Head.{Head}
+use Rattle.iscsi_pdu.specs.declared.head.Head.TheVariants.{LoginRequest}
+use Rattle.iscsi_pdu.specs.declared.head.login_request.LoginRequest.{LoginRequest as LoginPdu}
+use Rattle.iscsi_stream.specs.Stream.{Message}
+use Rattle.iscsi_login.specs.Negotiation.{IsInRange}
+use Rattle.iscsi_login.specs.Held.{IsHeld}
+use Rattle.iscsi_target_session.specs.Configured.{Settings}
+use Rattle.iscsi_target_session.specs.Session.{limit, opening_session}
+use Rattle.iscsi_target.specs.State.{Machine, Execution, Stepped, on, unchanged, shut_down, opening}
+use Rattle.iscsi_pdu.specs.Serial.{next_sn}
+use Rattle.iscsi_target_session.specs.Login.{login_step, login_in, login_request, numbered}
+use Rattle.iscsi_target.specs.Machine.{step, answers, then_stepped, is_closed, is_over_limit}
+use Rattle.iscsi_target.specs.Laws.{stat_sns, stat_sn_of, given_number, response_tags, response_tag, cmd_sns, cmd_sn_of, HasCmdSn, CountOn}
+use Rattle.iscsi_target_session.proofs.CaseLemmas.{by_cases}
+use Rattle.iscsi_target.proofs.ReplyLemmas.{Count, IsReply, request_reply}
+use Rattle.iscsi_target.proofs.SendingLemmas.{StepTells, step_tells, tags_done, count_append}
+use Rattle.iscsi_target.specs.Execution.{reliable}
+
+pub count_on : (n : ℕ) (numbers : List ℕ) (after : ℕ) → n < 2 ^ 32 → Count n numbers after → CountOn n numbers
+count_on n [] after lt c k le = absurd (omega (arith, le))
+count_on n (x ∷ numbers) after lt c zero le = c.0 ∙ omega (arith, lt)
+count_on n (x ∷ numbers) after lt c (suc k) le =
+    count_on (next_sn n) numbers after (omega arith) c.1 k (omega (arith, le)) ∙ omega (arith, lt)
+
+pub count_after : (n : ℕ) (numbers : List ℕ) (after : ℕ) → n < 2 ^ 32 → Count n numbers after → after ≡ (n + length numbers) % 2 ^ 32
+count_after n [] after lt c = c ∙ omega (arith, lt)
+count_after n (x ∷ numbers) after lt c = count_after (next_sn n) numbers after (omega arith) c.1 ∙ omega arith
+
+-- ---- StatSN and tags
+
+pub answers_stat_sns : (s : Machine) (disk : Disk) (ms : List Message) → Count s.session.stat_sn (stat_sns (answers s disk ms).answers)
+    (answers s disk ms).machine.session.stat_sn
+unfolding answers
+answers_stat_sns s disk [] = refl
+answers_stat_sns s disk (m ∷ ms) =
+    let first : Stepped = step s disk m in
+    let later : Stepped = answers first.machine first.disk ms in
+    subst (λ (ns : List ℕ). Count s.session.stat_sn ns later.machine.session.stat_sn)
+    (sym (flat_map-append (λ (x : Message). given_number (stat_sn_of x.head)) first.answers later.answers))
+    (count_append s.session.stat_sn (stat_sns first.answers) (stat_sns later.answers) first.machine.session.stat_sn later.machine.session.stat_sn
+    (step_tells reliable disk s m).stat_sn (answers_stat_sns first.machine first.disk ms))
+
+pub answers_tags : (s : Machine) (disk : Disk) (ms : List Message) → response_tags (answers s disk ms).answers ≡ tags_done (answers s disk ms).executed
+unfolding answers
+answers_tags s disk [] = refl
+answers_tags s disk (m ∷ ms) =
+    let first : Stepped = step s disk m in
+    let later : Stepped = answers first.machine first.disk ms in
+    flat_map-append (λ (x : Message). response_tag x.head) first.answers later.answers
+    ∙ ap (λ (ts : List ℕ). ts ++ response_tags later.answers) (step_tells reliable disk s m).tags
+    ∙ ap (λ (ts : List ℕ). tags_done first.executed ++ ts) (answers_tags first.machine first.disk ms)
+    ∙ sym (map-append (λ (e : Execution). e.initiator_task_tag) first.executed later.executed)
+
+-- ---- CmdSN
+
+pub answers_cmd_sns : (s : Machine) (disk : Disk) (ms : List Message) → s.session.begun ≡ true → s.session.exp_cmd_sn < 2 ^ 32 → AllByRecursion HasCmdSn ms
+    → Count s.session.exp_cmd_sn (cmd_sns (answers s disk ms).accepted) (answers s disk ms).machine.session.exp_cmd_sn
+unfolding answers
+answers_cmd_sns s disk [] b f all = refl
+answers_cmd_sns s disk (m ∷ ms) b f all =
+    let first : Stepped = step s disk m in
+    let later : Stepped = answers first.machine first.disk ms in
+    let t : StepTells reliable s m first = step_tells reliable disk s m in
+    subst (λ (ns : List ℕ). Count s.session.exp_cmd_sn ns later.machine.session.exp_cmd_sn)
+    (sym (flat_map-append (λ (x : Message). given_number (cmd_sn_of x.head)) first.accepted later.accepted))
+    (count_append s.session.exp_cmd_sn (cmd_sns first.accepted) (cmd_sns later.accepted) first.machine.session.exp_cmd_sn later.machine.session.exp_cmd_sn
+    (t.cmd_sns b f all.0) (answers_cmd_sns first.machine first.disk ms (t.begun b) (t.fits f all.0.login) all.1))
+
+-- ---- a closed session
+
+pub closed_step : (s : Machine) (disk : Disk) (m : Message) → is_closed s ≡ true → step s disk m ≡ unchanged s disk
+closed_step s disk m e = rw e refl
+
+pub closed_answers : (s : Machine) (disk : Disk) (ms : List Message) → is_closed s ≡ true → answers s disk ms ≡ unchanged s disk
+unfolding answers
+closed_answers s disk [] e = refl
+closed_answers s disk (m ∷ ms) e =
+    ap (λ (r : Stepped). then_stepped r (answers r.machine r.disk ms)) (closed_step s disk m e)
+    ∙ ap (λ (r : Stepped). then_stepped (unchanged s disk) r) (closed_answers s disk ms e)
+
+-- ---- what is held
+
+pub record IsFit (s : Machine) : Type 0 where
+  pub held : IsInRange s.session.settings.preferences → IsHeld s.session.held
+  pub limit : s.session.held.target_max_recv ≤ limit s.session.settings
+
+pub step_fit : (s : Machine) (disk : Disk) (m : Message) → IsFit s → IsFit (step s disk m).machine
+step_fit s disk m f =
+    let t : StepTells reliable s m (step s disk m) = step_tells reliable disk s m in
+    record {
+      held = λ p. let q : IsInRange s.session.settings.preferences = subst (λ (x : Settings). IsInRange x.preferences) t.settings p in t.held q (f.held q);
+      limit = subst (λ (x : Settings). (step s disk m).machine.session.held.target_max_recv ≤ limit x) (sym t.settings) (t.limit f.limit);
+    }
+
+pub answers_fit : (s : Machine) (disk : Disk) (ms : List Message) → IsFit s → IsFit (answers s disk ms).machine
+unfolding answers
+answers_fit s disk [] f = f
+answers_fit s disk (m ∷ ms) f = answers_fit (step s disk m).machine (step s disk m).disk ms (step_fit s disk m f)
+
+pub answers_settings : (s : Machine) (disk : Disk) (ms : List Message) → (answers s disk ms).machine.session.settings ≡ s.session.settings
+unfolding answers
+answers_settings s disk [] = refl
+answers_settings s disk (m ∷ ms) = answers_settings (step s disk m).machine (step s disk m).disk ms ∙ (step_tells reliable disk s m).settings
+
+-- ---- from the first login request
+
+opening_over : (settings : Settings) (n : ℕ) (disk : Disk) (m : Message) → is_over_limit (opening settings n) m.segment ≡ true
+    → step (opening settings n) disk m ≡ shut_down (opening settings n) disk
+opening_over settings n disk m e = rw e refl
+
+opening_login : (settings : Settings) (n : ℕ) (disk : Disk) (m : Message) → is_over_limit (opening settings n) m.segment ≡ false
+    → step (opening settings n) disk m ≡ on disk [] (login_step (opening_session settings n) m)
+opening_login settings n disk m e = rw e refl
+
+-- after messages of which the first does this
+abbrev From : Disk → List Message → ℕ → Stepped → Type 0
+From disk ms first r = CountOn first (cmd_sns (then_stepped r (answers r.machine r.disk ms)).accepted)
+
+from_closed : (disk : Disk) (ms : List Message) (first : ℕ) (s : Machine) → is_closed s ≡ true → CountOn first (cmd_sns (answers s disk ms).accepted)
+from_closed disk ms first s e = subst (λ (r : Stepped). CountOn first (cmd_sns r.accepted)) (sym (closed_answers s disk ms e))
+    (λ k le. absurd (omega (arith, le)))
+
+from_login : (s : Machine) (disk : Disk) (ms : List Message) (first : ℕ) → s.session.begun ≡ true → s.session.exp_cmd_sn ≡ first → first < 2 ^ 32 →
+    AllByRecursion HasCmdSn ms
+    → CountOn first (cmd_sns (answers s disk ms).accepted)
+from_login s disk ms first b e lt all =
+    let c : Count first (cmd_sns (answers s disk ms).accepted) (answers s disk ms).machine.session.exp_cmd_sn =
+    subst (λ (n : ℕ). Count n (cmd_sns (answers s disk ms).accepted) (answers s disk ms).machine.session.exp_cmd_sn) e
+    (answers_cmd_sns s disk ms b (subst (λ (n : ℕ). n < 2 ^ 32) (sym e) lt) all) in
+    count_on first (cmd_sns (answers s disk ms).accepted) (answers s disk ms).machine.session.exp_cmd_sn lt c
+
+from_request : (settings : Settings) (n : ℕ) (disk : Disk) (m : Message) (ms : List Message) (h : LoginPdu) (head : Head) → head ≡ LoginRequest h → h.cmd_sn
+    < 2 ^ 32
+    → AllByRecursion HasCmdSn ms → From disk ms h.cmd_sn (on disk [] (login_in (opening_session settings n) head m.segment))
+from_request settings n disk m ms h head k lt all =
+    let c : IsReply (numbered (opening_session settings n) h) (login_request (opening_session settings n) h m.segment) =
+    request_reply (opening_session settings n) h m.segment in
+    subst (λ (x : Head). From disk ms h.cmd_sn (on disk [] (login_in (opening_session settings n) x m.segment))) (sym k)
+    (from_login (on disk [] (login_request (opening_session settings n) h m.segment)).machine disk ms h.cmd_sn c.begun c.exp_cmd_sn lt all)
+
+pub first_numbers : (settings : Settings) (n : ℕ) (disk : Disk) (m : Message) (ms : List Message) (h : LoginPdu) → m.head ≡ LoginRequest h → h.cmd_sn < 2 ^ 32
+    → AllByRecursion HasCmdSn ms → CountOn h.cmd_sn (cmd_sns (answers (opening settings n) disk (m ∷ ms)).accepted)
+unfolding answers
+first_numbers settings n disk m ms h k lt all =
+    by_cases (is_over_limit (opening settings n) m.segment)
+    (λ e. subst (From disk ms h.cmd_sn) (sym (opening_over settings n disk m e))
+    (from_closed disk ms h.cmd_sn (shut_down (opening settings n) disk).machine refl))
+    (λ e. subst (From disk ms h.cmd_sn) (sym (opening_login settings n disk m e)) (from_request settings n disk m ms h m.head k lt all))

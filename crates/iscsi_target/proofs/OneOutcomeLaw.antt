@@ -1,0 +1,178 @@
+-- A call of feed has one outcome.
+use Rattle.std.proofs.Common.{◌≡◌, inl, inr, ℕ, Bool, true, false, List, ◌++◌, take, drop, Some, None, Result, Ok, Err, refl, sym, ap, subst, ◌∙◌, arith}
+use Rattle.std.proofs.Common.{append_assoc}
+use Rattle.std.specs.Prelude.{Option}
+use Rattle.std.proofs.lemmas.List.{drop_all, take-append-drop}
+use Rattle.scsi_disk.specs.Disk.{Disk}
+use Rattle.iscsi_stream.specs.Stream.{Message}
+use Rattle.iscsi_stream.specs.Canonical.{canon}
+use Rattle.iscsi_stream.specs.Framing.{HasTaken}
+use Rattle.iscsi_stream.proofs.FrontLemmas.{Course, Sight, HearsUpTo, HearAlike, IsLeft, framer_hears, framer_leaves, framer_refuses, hear_alike, sight}
+use Rattle.iscsi_stream.proofs.OneEndingLaw.{Outcome, Ended, Over, GoesOn, Breaks, EndAlike, end_of, end_alike}
+use Rattle.iscsi_stream.proofs.ReadyLemmas.{apart}
+use Rattle.iscsi_login.specs.declared.phase.Phase.{Phase}
+use Rattle.iscsi_target.specs.declared.fault.TargetFault.{TargetFault}
+use Rattle.iscsi_target.specs.declared.fault.TargetFault.TheVariants as faults
+use Rattle.iscsi_target.specs.State.{Machine, Stepped, closed}
+use Rattle.iscsi_target.specs.State.{joined}
+use Rattle.iscsi_target.specs.Machine.{answers, is_closed, then_stepped}
+use Rattle.iscsi_target.specs.Feed.{Alike, Connection, Ends, Fed, FedAlike, FedIf, Feeds, GoesWell, Store}
+use Rattle.iscsi_target.proofs.NumberLaws.{closed_answers}
+use Rattle.iscsi_target.proofs.ContinuationLemmas.{then_nothing}
+use Rattle.iscsi_target.proofs.AppendLemmas.{answers_append}
+use Rattle.iscsi_target.proofs.FeedingLemmas.{answers_close, stands}
+
+-- ---- what messages lead to
+
+course : Machine → Disk → Course Stepped
+course s disk = record {
+  to = answers s disk;
+  over = λ r. is_closed r.machine;
+  stays = λ first more over. (let r : Stepped = answers s disk first in
+      answers_append s disk first more ∙ ap (then_stepped r) (closed_answers r.machine r.disk more over) ∙ then_nothing r);
+}
+
+-- ---- what ended a call
+
+-- what is answered where the framer refuses nothing
+abbrev outcome_of : Option ℕ → Phase → Result Phase TargetFault
+outcome_of None phase = Ok phase
+outcome_of (Some rule) phase = Err (faults.Protocol rule)
+
+abbrev outcome : Stepped → Result Phase TargetFault
+outcome r = outcome_of r.rule r.machine.session.phase
+
+answered_ok : (r : Stepped) (phase : Phase) → r.rule ≡ None → phase ≡ r.machine.session.phase → Ok phase ≡ outcome r
+answered_ok r phase rule e = ap Ok e ∙ ap (λ (x : Option ℕ). outcome_of x r.machine.session.phase) (sym rule)
+
+answered_rule : (r : Stepped) (rule : ℕ) → r.rule ≡ Some rule → Err (faults.Protocol rule) ≡ outcome r
+answered_rule r rule e = ap (λ (x : Option ℕ). outcome_of x r.machine.session.phase) (sym e)
+
+-- what a call leaves behind messages that lead to this
+abbrev leaves : Stepped → Outcome Machine (Result Phase TargetFault)
+leaves r = record {
+  is_over = is_closed;
+  session = joined r.machine;
+  ended = outcome r;
+  going = outcome r;
+  shut = closed r.machine;
+  broken = λ fault. Err (faults.Stream fault);
+  shut_is = refl;
+}
+
+-- the end of a call, by what it answers
+ended : (s : List ℕ) (ms : List Message) (old : Connection) (before : Store) (output piece : List ℕ) (result : Result Phase TargetFault) (new : Connection)
+    (after : Store) (written : List ℕ)
+    (f : Feeds old before output piece result new after written) (h : HasTaken s ms f.framing)
+    → GoesWell result before after → Ends piece result f.framing f.count f.stepped new
+    → Ended (leaves f.stepped) (sight s ms f.framing h (drop f.count piece)) result new.machine new.framing
+ended s ms old before output piece (Ok phase) new after written f h well e =
+    elim e.3 [
+      | inl over ↦ Over over (answered_ok f.stepped phase e.0 e.2) e.1
+      | inr on_ ↦
+          GoesOn on_.live (answered_ok f.stepped phase e.0 e.2) e.1
+          (subst (IsLeft (sight s ms f.framing h (drop f.count piece))) (sym on_.framing_is)
+          (framer_leaves s ms f.framing (drop f.count piece) h f.answered.ready (drop_all f.count piece (omega (arith, on_.all)))))
+    ]
+ended s ms old before output piece (Err faults.NoMemory) new after written f h well e = absurd (well.memory refl)
+ended s ms old before output piece (Err (faults.Stream fault)) new after written f h well e =
+    Breaks fault e.0.live refl e.3 (framer_refuses s ms f.framing (drop f.count piece) fault h e.1 e.2)
+ended s ms old before output piece (Err (faults.Protocol rule)) new after written f h well e =
+    let is : f.stepped ≡ answers old.machine before.disk f.messages = f.answered.works well.device in
+    Over (ap (λ (r : Stepped). is_closed r.machine) is ∙ answers_close old.machine before.disk f.messages rule (ap (λ (r : Stepped). r.rule) (sym is) ∙ e.0))
+    (answered_rule f.stepped rule e.0) e.1
+ended s ms old before output piece (Err faults.Closed) new after written f h well e = absurd e
+
+-- ---- two calls
+
+-- A call heard these PDUs of the stream, and ended so.
+record Run (stream : List ℕ) (ms : List Message) (old : Connection) (disk : Disk) (output : List ℕ) (result : Result Phase TargetFault) (new : Connection)
+    (disk_now : Disk) (written : List ℕ) : Type 0 where
+  messages : List Message
+  sight : Sight
+  hears : HearsUpTo (course old.machine disk) old.framing.limit stream ms messages sight
+  disk_is : disk_now ≡ (answers old.machine disk messages).disk
+  output_is : written ≡ output ++ canon (answers old.machine disk messages).answers
+  ended : Ended (leaves (answers old.machine disk messages)) sight result new.machine new.framing
+
+run_of : (stream : List ℕ) (ms : List Message) (old : Connection) (before : Store) (output piece : List ℕ) (result : Result Phase TargetFault)
+    (new : Connection) (after : Store) (written : List ℕ)
+    → HasTaken stream ms old.framing → Feeds old before output piece result new after written → GoesWell result before after
+    → Run (stream ++ piece) ms old before.disk output result new after.disk written
+unfolding course
+run_of stream ms old before output piece result new after written t f well =
+    let s : List ℕ = stream ++ take f.count piece in
+    let h : HasTaken s (ms ++ f.messages) f.framing = f.answered.taken stream ms t in
+    let is : f.stepped ≡ answers old.machine before.disk f.messages = f.answered.works well.device in
+    let stood = stands output f.framing (drop f.count piece) f.stepped f.answered.failures result new.machine after written well.memory f.leaves in
+    let x : Sight = sight s (ms ++ f.messages) f.framing h (drop f.count piece) in
+    let e : Ended (leaves (answers old.machine before.disk f.messages)) x result new.machine new.framing =
+    subst (λ (r : Stepped). Ended (leaves r) x result new.machine new.framing) is
+    (ended s (ms ++ f.messages) old before output piece result new after written f h well f.ends) in
+    let whole : stream ++ piece ≡ s ++ drop f.count piece =
+    ap (λ (y : List ℕ). stream ++ y) (sym (take-append-drop f.count piece)) ∙ sym (append_assoc stream (take f.count piece) (drop f.count piece)) in
+    record {
+      messages = f.messages;
+      sight = x;
+      hears = framer_hears (course old.machine before.disk) old.framing.limit (stream
+          ++ piece) s (drop f.count piece) ms f.messages f.framing h f.answered.limit whole
+          (end_of (leaves (answers old.machine before.disk f.messages)) x result new.machine new.framing e);
+      disk_is = stood.disk ∙ ap (λ (r : Stepped). r.disk) is;
+      output_is = stood.output_is ∙ ap (λ (r : Stepped). output ++ canon r.answers) is;
+      ended = e;
+    }
+
+run_alike : (stream : List ℕ) (ms : List Message) (old : Connection) (disk : Disk) (output : List ℕ) (result other : Result Phase TargetFault)
+    (new now : Connection) (first second : Disk) (written rewritten : List ℕ)
+    → Run stream ms old disk output result new first written → Run stream ms old disk output other now second rewritten →
+    FedAlike result other new now first second written rewritten
+unfolding course
+run_alike stream ms old disk output result other new now first second written rewritten a b =
+    let h : HearAlike (course old.machine disk) a.messages b.messages a.sight b.sight =
+    hear_alike (course old.machine disk) old.framing.limit stream ms a.messages b.messages a.sight b.sight a.hears b.hears in
+    let e : EndAlike is_closed result other new.machine now.machine new.framing now.framing =
+    end_alike (leaves (answers old.machine disk a.messages)) a.sight b.sight result other new.machine now.machine new.framing now.framing h.sight a.ended
+    (subst (λ (r : Stepped). Ended (leaves r) b.sight other now.machine now.framing) h.same b.ended) in
+    record {
+      answered = e.answered;
+      alike = record { machine = e.session_is; framing = e.framing };
+      disk = b.disk_is ∙ ap (λ (r : Stepped). r.disk) h.same ∙ sym a.disk_is;
+      output = b.output_is ∙ ap (λ (r : Stepped). output ++ canon r.answers) h.same ∙ sym a.output_is;
+    }
+
+-- ---- the law
+
+by_state : (closed_ : Bool) (stream : List ℕ) (ms : List Message) (old same : Connection) (before store : Store) (output piece : List ℕ)
+    (result other : Result Phase TargetFault) (a b : Connection) (first second : Store) (written rewritten : List ℕ)
+    → is_closed old.machine ≡ closed_ → (is_closed old.machine ≡ false → HasTaken stream ms old.framing) → Alike old same → store.disk ≡ before.disk
+    → FedIf closed_ old before output piece result a first written → GoesWell result before first →
+    FedIf closed_ same store output piece other b second rewritten → GoesWell other store second
+    → FedAlike result other a b first.disk second.disk written rewritten
+by_state true stream ms old same before store output piece result other a b first second written rewritten c t like disk f well g well' =
+    let machine : b.machine ≡ a.machine = ap (λ (x : Connection). x.machine) g.connection ∙ like.machine
+    ∙ ap (λ (x : Connection). x.machine) (sym f.connection) in
+    record {
+      answered = g.result_is ∙ sym f.result_is;
+      alike = record { machine = machine; framing = λ live. absurd (apart (ap (λ (x : Connection). is_closed x.machine) f.connection ∙ c) live) };
+      disk = ap (λ (x : Store). x.disk) g.store ∙ disk ∙ ap (λ (x : Store). x.disk) (sym f.store);
+      output = g.output_is ∙ sym f.output_is;
+    }
+by_state false stream ms old same before store output piece result other a b first second written rewritten c t like disk f well g well' =
+    let is : same ≡ old = λ i. record { machine = like.machine i; framing = like.framing c i } in
+    let t' : HasTaken stream ms same.framing = subst (λ (x : Connection). HasTaken stream ms x.framing) (sym is) (t c) in
+    let r : Run (stream ++ piece) ms same store.disk output other b second.disk rewritten =
+    run_of stream ms same store output piece other b second rewritten t' g well' in
+    run_alike (stream ++ piece) ms old before.disk output result other a b first.disk second.disk written rewritten
+    (run_of stream ms old before output piece result a first written (t c) f well)
+    (subst (λ (d : Disk). Run (stream ++ piece) ms old d output other b second.disk rewritten) disk
+    (subst (λ (x : Connection). Run (stream ++ piece) ms x store.disk output other b second.disk rewritten) is r))
+
+pub one_outcome : (stream piece output written rewritten : List ℕ) (ms : List Message) (old same a b : Connection) (before store first second : Store)
+    (result other : Result Phase TargetFault)
+    → (is_closed old.machine ≡ false → HasTaken stream ms old.framing) → Alike old same → store.disk ≡ before.disk
+    → Fed old before output piece result a first written → GoesWell result before first → Fed same store output piece other b second rewritten →
+    GoesWell other store second
+    → FedAlike result other a b first.disk second.disk written rewritten
+one_outcome stream piece output written rewritten ms old same a b before store first second result other t like disk f well g well' =
+    by_state (is_closed old.machine) stream ms old same before store output piece result other a b first second written rewritten refl t like disk f well
+    (subst (λ (x : Bool). FedIf x same store output piece other b second rewritten) (ap is_closed like.machine) g) well'

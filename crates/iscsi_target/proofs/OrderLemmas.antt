@@ -1,0 +1,108 @@
+-- What orders give and leave.
+use Rattle.std.proofs.Common.{◌≡◌, ◌≤◌, inl, inr, ◌∙◌, ℕ, ◌*◌, List, [], Bool, true, false, min, length, Option, Some, None, refl, sym, ap, subst, arith}
+use Rattle.std.specs.Prelude.{◌||◌, ◌&&◌, if◌then◌else◌}
+use Rattle.std.proofs.lemmas.Bool.{cases_lt}
+use Rattle.std.proofs.lemmas.List.{length-take}
+use Rattle.scsi_cdb.specs.declared.sense.Sense.{Sense}
+use Rattle.scsi_disk.specs.Disk.{Disk}
+use Rattle.scsi_disk.specs.Effect.{Effect, Executes, FailsBy, wanted_data, outcome_by, disk_by}
+use Rattle.scsi_disk.specs.Plan.{plan_of, plan_by, first_refusal, is_write, is_unknown, transfer, wanted_length, expected_length}
+use Rattle.scsi_disk.specs.declared.order.Order.{Order}
+use Rattle.scsi_disk.specs.declared.order.Outcome.{Outcome}
+use Rattle.iscsi_target.specs.declared.due.Due.{Due}
+use Rattle.iscsi_target.specs.Staged.{IsStaged, CountsR2ts}
+use Rattle.scsi_disk.specs.declared.order.Plan.{Plan}
+use Rattle.scsi_disk.specs.declared.order.Plan.TheVariants.{Refuse, Take, Give}
+
+-- ---- a WRITE gives no bytes
+
+none_by : (r : Option Sense) (disk : Disk) (order : Order) → is_write order.cdb ≡ true → (outcome_by (plan_by r order disk.count) disk order).bytes ≡ []
+none_by (Some sense) disk order e = refl
+none_by None disk order e = rw e refl
+
+failed_none : (plan : Plan) (disk : Disk) (order : Order) (bytes : List ℕ) (after : Effect) → FailsBy plan disk order bytes after → after.outcome.bytes ≡ []
+failed_none (Refuse sense) disk order bytes after f = absurd f
+failed_none (Take n) disk order bytes after f = ap (λ (o : Outcome). o.bytes) f.0
+failed_none (Give n) disk order bytes after f = ap (λ (o : Outcome). o.bytes) f.0
+
+pub write_gives_none : (fb fa : ℕ) (disk : Disk) (order : Order) (bytes : List ℕ) (after : Effect) → Executes fb fa disk order bytes after → is_write order.cdb
+    ≡ true → after.outcome.bytes ≡ []
+write_gives_none fb fa disk order bytes after x e =
+    elim (cases_lt fb fa) [
+      | inl lt ↦ failed_none (plan_of order disk.count) disk order bytes after (x.fails lt)
+      | inr ge ↦ ap (λ (a : Effect). a.outcome.bytes) (x.works (omega (arith, ge, x.rises))) ∙ none_by (first_refusal order disk.count) disk order e
+    ]
+
+-- ---- an order that takes no bytes
+
+disk_kept : (plan : Plan) (disk : Disk) (order : Order) (bytes : List ℕ) → ((n : ℕ) → plan ≡ Take n → ⊥) → disk_by plan disk order bytes ≡ disk
+disk_kept (Refuse sense) disk order bytes no_take = refl
+disk_kept (Take n) disk order bytes no_take = absurd (no_take n refl)
+disk_kept (Give n) disk order bytes no_take = refl
+
+fails_keeps : (plan : Plan) (disk : Disk) (order : Order) (bytes : List ℕ) (after : Effect) → ((n : ℕ) → plan ≡ Take n → ⊥) →
+    FailsBy plan disk order bytes after → after.disk ≡ disk
+fails_keeps (Refuse sense) disk order bytes after no_take f = absurd f
+fails_keeps (Take n) disk order bytes after no_take f = absurd (no_take n refl)
+fails_keeps (Give n) disk order bytes after no_take f = f.2
+
+pub order_keeps : (fb fa : ℕ) (disk : Disk) (order : Order) (bytes : List ℕ) (after : Effect) → Executes fb fa disk order bytes after
+    → ((n : ℕ) → plan_of order disk.count ≡ Take n → ⊥) → after.disk ≡ disk
+order_keeps fb fa disk order bytes after x no_take =
+    elim (cases_lt fb fa) [
+      | inl lt ↦ fails_keeps (plan_of order disk.count) disk order bytes after no_take (x.fails lt)
+      | inr ge ↦ ap (λ (a : Effect). a.disk) (x.works (omega (arith, ge, x.rises))) ∙ disk_kept (plan_of order disk.count) disk order bytes no_take
+    ]
+
+-- ---- no more bytes than are expected
+
+expected_by : (b : Bool) (n : ℕ) → (if b then n else 0) ≤ n
+expected_by true n = omega arith
+expected_by false n = omega arith
+
+expected_most : (order : Order) → expected_length order ≤ order.expected
+expected_most order = expected_by (order.read || (order.write && (is_write order.cdb || is_unknown order.cdb))) order.expected
+
+given_by : (w : Bool) (n : ℕ) (disk : Disk) (order : Order) → length (outcome_by
+    (if w then Take n else Give (min (wanted_length order disk.count) (expected_length order))) disk order).bytes ≤ order.expected
+given_by true n disk order = omega arith
+given_by false n disk order = omega (
+  arith,
+  length-take (min (wanted_length order disk.count) (expected_length order)) (wanted_data disk order),
+  expected_most order,
+)
+
+given_most_by : (r : Option Sense) (disk : Disk) (order : Order) → length (outcome_by (plan_by r order disk.count) disk order).bytes ≤ order.expected
+given_most_by (Some sense) disk order = omega arith
+given_most_by None disk order = given_by (is_write order.cdb) (512 * (transfer order.cdb).count) disk order
+
+pub given_most : (fb fa : ℕ) (disk : Disk) (order : Order) (bytes : List ℕ) (after : Effect) → Executes fb fa disk order bytes after →
+    length after.outcome.bytes ≤ order.expected
+given_most fb fa disk order bytes after x =
+    elim (cases_lt fb fa) [
+      | inl lt ↦ omega (arith, ap length (failed_none (plan_of order disk.count) disk order bytes after (x.fails lt)))
+      | inr ge ↦ omega (
+        arith,
+        ap (λ (a : Effect). length a.outcome.bytes) (x.works (omega (arith, ge, x.rises))),
+        given_most_by (first_refusal order disk.count) disk order,
+      )
+    ]
+
+-- ---- what a plan to take bytes says
+
+pub takes_is : (r : Option Sense) (order : Order) (n count : ℕ) → plan_by r order count ≡ Take n → (is_write order.cdb ≡ true)
+    × (n ≡ 512 * (transfer order.cdb).count)
+takes_is (Some sense) order n count e = absurd cc
+takes_is None order n count e = takes_by (is_write order.cdb) order n count refl e
+  where
+    takes_by : (w : Bool) (order : Order) (n count : ℕ) → is_write order.cdb ≡ w →
+        (if w then Take (512 * (transfer order.cdb).count) else Give (min (wanted_length order count) (expected_length order))) ≡ Take n
+        → (is_write order.cdb ≡ true) × (n ≡ 512 * (transfer order.cdb).count)
+    takes_by true order n count is e = (is, cc)
+    takes_by false order n count is e = absurd cc
+
+pub staged_at : (order known : Order) (total : ℕ) (bytes : List ℕ) (due : Due) → order ≡ known → is_write known.cdb ≡ true → total
+    ≡ 512 * (transfer known.cdb).count → length bytes ≤ total → CountsR2ts total (length bytes) 0 due
+    → IsStaged order total bytes due 0
+staged_at order known total bytes due e w t fits asked = subst (λ (o : Order). IsStaged o total bytes due 0) (sym e)
+    (record { is_write = w; total_is = t; fits = fits; counted_r2ts = asked })

@@ -1,0 +1,128 @@
+-- What holds in each state that messages lead to from the opening state.
+use Rattle.std.proofs.Common.{◌≡◌, ◌≤◌, ℕ, List, [], ◌∷◌, Bool, true, false, length, Some, refl, sym, ap, ◌∙◌, subst, arith}
+use Rattle.std.specs.Prelude.{nat_lt}
+use Rattle.std.proofs.lemmas.Bool.{ltb-false, ltb-true}
+use Rattle.scsi_disk.specs.Disk.{Disk}
+use Rattle.iscsi_pdu.specs.declared.head.Head.{Head}
+use Rattle.iscsi_pdu.specs.declared.head.Head.TheVariants.{NopOut, ScsiCommand, TaskRequest, TextRequest, LogoutRequest}
+use Rattle.iscsi_stream.specs.Segment.{Segment, Bytes, Text, segment_bytes}
+use Rattle.iscsi_stream.specs.Stream.{Message}
+use Rattle.iscsi_login.specs.declared.key.NegKey.{NegKey}
+use Rattle.iscsi_login.specs.declared.key.NegKey.TheVariants as keys
+use Rattle.iscsi_login.specs.declared.phase.Phase.{Phase}
+use Rattle.iscsi_login.specs.Key.{rule_of}
+use Rattle.iscsi_login.specs.Negotiation.{Allows, IsInRange}
+use Rattle.iscsi_login.specs.Held.{IsHeld, defaults, held_value}
+use Rattle.iscsi_login.proofs.AgreementLaw.{default_allowed}
+use Rattle.iscsi_target_session.specs.Configured.{Settings}
+use Rattle.iscsi_target_session.specs.Session.{limit}
+use Rattle.iscsi_target.specs.State.{Machine, Execution, Stepped, opening, unchanged, max_cmd_sn}
+use Rattle.iscsi_pdu.specs.Serial.{is_within}
+use Rattle.iscsi_target.specs.Machine.{Met, Dropped, plainly, followed, having_accepted, step, answers, is_closed, is_over_limit, full_step, full_met}
+use Rattle.iscsi_target.specs.Machine.{phase_step, due_met, request}
+use Rattle.iscsi_login.specs.Stage.{is_closed_phase}
+use Rattle.iscsi_target.specs.Tiles.{TilesDataIn, GiveTiles, bytes_given}
+use Rattle.iscsi_target.specs.Laws.{IsOutside, cmd_sn_of, cmd_sn_if}
+use Rattle.iscsi_target_session.proofs.CaseLemmas.{by_cases}
+use Rattle.iscsi_target.proofs.SendingLemmas.{StepTells, step_tells, Gives}
+use Rattle.iscsi_target.proofs.NumberLaws.{IsFit, answers_fit, answers_settings}
+use Rattle.iscsi_target.specs.Execution.{reliable}
+
+-- ---- what is held
+
+default_held : (key : NegKey) → Allows (rule_of key) (held_value defaults key)
+default_held keys.MaxConnections = default_allowed keys.MaxConnections
+default_held keys.InitialR2T = default_allowed keys.InitialR2T
+default_held keys.ImmediateData = default_allowed keys.ImmediateData
+default_held keys.MaxBurstLength = default_allowed keys.MaxBurstLength
+default_held keys.FirstBurstLength = default_allowed keys.FirstBurstLength
+default_held keys.DefaultTime2Wait = default_allowed keys.DefaultTime2Wait
+default_held keys.DefaultTime2Retain = default_allowed keys.DefaultTime2Retain
+default_held keys.MaxOutstandingR2T = default_allowed keys.MaxOutstandingR2T
+default_held keys.DataPDUInOrder = default_allowed keys.DataPDUInOrder
+default_held keys.DataSequenceInOrder = default_allowed keys.DataSequenceInOrder
+default_held keys.ErrorRecoveryLevel = default_allowed keys.ErrorRecoveryLevel
+default_held keys.HeaderDigest = default_allowed keys.HeaderDigest
+default_held keys.DataDigest = default_allowed keys.DataDigest
+default_held keys.AuthMethod = default_allowed keys.AuthMethod
+
+opening_fit : (settings : Settings) (n : ℕ) → IsFit (opening settings n)
+opening_fit settings n = record {
+  held = λ p. record { values = default_held; initiator_max_recv = (omega arith, omega arith); target_max_recv = (omega arith, omega arith) };
+  limit = omega arith;
+}
+
+pub reached_fit : (settings : Settings) (n : ℕ) (disk : Disk) (ms : List Message) → IsFit (answers (opening settings n) disk ms).machine
+reached_fit settings n disk ms = answers_fit (opening settings n) disk ms (opening_fit settings n)
+
+pub reached_held : (settings : Settings) (n : ℕ) (disk : Disk) (ms : List Message) → IsInRange settings.preferences →
+    IsHeld (answers (opening settings n) disk ms).machine.session.held
+reached_held settings n disk ms p =
+    (reached_fit settings n disk ms).held (subst (λ (x : Settings). IsInRange x.preferences) (sym (answers_settings (opening settings n) disk ms)) p)
+
+-- ---- Data-In
+
+-- what a store that doesn't fail gives
+gives_tiles : (answers : List Message) (es : List Execution) → Gives reliable answers es → GiveTiles bytes_given answers es
+gives_tiles answers [] g = g
+gives_tiles answers (e ∷ es) g = (g.0, g.1, g.2, g.3, gives_tiles g.1 es g.4)
+
+pub reached_data_in : (settings : Settings) (n : ℕ) (disk : Disk) (ms : List Message) (m : Message) → IsInRange settings.preferences
+    → TilesDataIn (step (answers (opening settings n) disk ms).machine (answers (opening settings n) disk ms).disk m)
+reached_data_in settings n disk ms m p =
+    let r : Stepped = answers (opening settings n) disk ms in
+    let t : StepTells reliable r.machine m (step r.machine r.disk m) = step_tells reliable r.disk r.machine m in
+    gives_tiles (step r.machine r.disk m).answers (step r.machine r.disk m).executed
+    (t.gives (subst (λ (x : Settings). IsInRange x.preferences) (sym (answers_settings (opening settings n) disk ms)) p) (reached_held settings n disk ms p))
+
+-- ---- outside the window
+
+outside_if : (s : Machine) (count : ℕ) (m : Message) (i : Bool) (cmd_sn n : ℕ) → cmd_sn_if i cmd_sn ≡ Some n
+    → is_within n s.session.exp_cmd_sn (max_cmd_sn s) ≡ false → request s count m i cmd_sn ≡ plainly Dropped
+outside_if s count m true cmd_sn n e o = absurd cc
+outside_if s count m false cmd_sn n e o =
+    let f : cmd_sn ≡ n = cc in
+    rw f (rw o refl)
+
+outside_due : (s : Machine) (count : ℕ) (m : Message) (head : Head) (n : ℕ) → cmd_sn_of head ≡ Some n
+    → is_within n s.session.exp_cmd_sn (max_cmd_sn s) ≡ false → due_met s count m head ≡ plainly Dropped
+outside_due s count m (NopOut h) n e o = outside_if s count m h.immediate h.cmd_sn n e o
+outside_due s count m (ScsiCommand h) n e o = outside_if s count m h.immediate h.cmd_sn n e o
+outside_due s count m (TaskRequest h) n e o = outside_if s count m h.immediate h.cmd_sn n e o
+outside_due s count m (TextRequest h) n e o = outside_if s count m h.immediate h.cmd_sn n e o
+outside_due s count m (LogoutRequest h) n e o = outside_if s count m h.immediate h.cmd_sn n e o
+outside_due s count m _ n e o = absurd cc
+
+outside_met : (s : Machine) (count : ℕ) (m : Message) → IsOutside s m → full_met s count m ≡ plainly Dropped
+outside_met s count m o = rw (o.kind, o.size) (outside_due s count m m.head o.number o.is_number o.outside)
+
+outside_full : (s : Machine) (disk : Disk) (m : Message) → IsOutside s m → full_step reliable s disk m ≡ unchanged s disk
+outside_full s disk m o = ap (λ (x : Met). having_accepted x.accepted (followed reliable s disk x.next)) (outside_met s disk.count m o)
+
+within_limit : (s : Machine) (segment : Segment) → nat_lt s.session.held.target_max_recv (length (segment_bytes segment)) ≡ false
+    → s.session.held.target_max_recv ≤ limit s.session.settings → is_over_limit s segment ≡ false
+unfolding segment_bytes
+within_limit s (Bytes bytes) e le =
+    by_cases (nat_lt (limit s.session.settings) (length bytes))
+    (λ f. absurd (omega (arith, le, ltb-false s.session.held.target_max_recv (length bytes) e, ltb-true (limit s.session.settings) (length bytes) f))) (λ f. f)
+within_limit s (Text pairs) e le = refl
+
+pub outside_step : (s : Machine) (disk : Disk) (m : Message) → s.session.held.target_max_recv ≤ limit s.session.settings → IsOutside s m → step s disk m
+    ≡ unchanged s disk
+outside_step s disk m le o =
+    let open_ : is_closed s ≡ false = ap is_closed_phase o.phase in
+    let short : is_over_limit s m.segment ≡ false = within_limit s m.segment o.size le in
+    rw (open_, short) (ap (λ (p : Phase). phase_step reliable p s disk m) o.phase ∙ outside_full s disk m o)
+
+pub reached_outside : (settings : Settings) (n : ℕ) (disk : Disk) (ms : List Message) (m : Message) → IsOutside (answers (opening settings n) disk ms).machine m
+    → step (answers (opening settings n) disk ms).machine (answers (opening settings n) disk ms).disk m
+    ≡ unchanged (answers (opening settings n) disk ms).machine (answers (opening settings n) disk ms).disk
+reached_outside settings n disk ms m o =
+    let r : Stepped = answers (opening settings n) disk ms in
+    outside_step r.machine r.disk m (reached_fit settings n disk ms).limit o
+
+pub reached_limit : (settings : Settings) (n : ℕ) (disk : Disk) (ms : List Message) →
+    (answers (opening settings n) disk ms).machine.session.held.target_max_recv ≤ limit settings
+reached_limit settings n disk ms =
+    subst (λ (x : Settings). (answers (opening settings n) disk ms).machine.session.held.target_max_recv ≤ limit x)
+    (answers_settings (opening settings n) disk ms) (reached_fit settings n disk ms).limit

@@ -1,0 +1,229 @@
+-- What the parts of a session do with a store.
+use Rattle.std.proofs.Common.{◌≡◌, ◌≤◌, inl, inr, ◌∙◌, ℕ, List, [], ◌∷◌, ◌++◌, map, Option, None, refl, sym, ap, subst, arith}
+use Rattle.std.specs.Prelude.{Result, Ok, Err, IfOk, OnErr}
+use Rattle.std.proofs.lemmas.Bool.{cases_lt}
+use Rattle.std.proofs.lemmas.List.{append-nil}
+use Rattle.scsi_disk.specs.Disk.{Disk}
+use Rattle.scsi_disk.specs.Effect.{Effect, Executes, effect}
+use Rattle.scsi_disk.specs.declared.order.Order.{Order}
+use Rattle.iscsi_stream.specs.Stream.{Message}
+use Rattle.iscsi_stream.specs.Canonical.{canon}
+use Rattle.iscsi_target_session.specs.Session.{Session, Reply, counted, ended}
+use Rattle.iscsi_target.specs.State.{Machine, Stepped, Execution, on, unchanged, left, closed, waiting}
+use Rattle.iscsi_stream.specs.Pieces.{Pieces, data_of}
+use Rattle.iscsi_target.specs.State.{joined}
+use Rattle.iscsi_target.specs.Execution.{Device, reliable, device_next, execute, command_answers, data_in_parts}
+use Rattle.iscsi_target.specs.Machine.{Next, Dropped, Answered, Queued, followed, RunsIn, having_accepted}
+use Rattle.iscsi_target.specs.Laws.{joined_execution, joined_stepped}
+use Rattle.iscsi_target.specs.Feed.{Store}
+use Rattle.iscsi_target.specs.declared.tasks.Task.{Task}
+use Rattle.iscsi_target.specs.Inside.{Serves, Leaves, Handles, Works, Follows, Halts, store_of}
+use Rattle.iscsi_target_session.specs.Replies.{Does, Attempts}
+use Rattle.iscsi_target.proofs.OpenWriteLemmas.{data_of_one}
+use Rattle.iscsi_target_session.proofs.CaseLemmas.{by_ok}
+
+-- ---- what leaves the disk
+
+pub leaves_serves : (n : ℕ) (r : Stepped) (f : Device → Stepped) (disk : Disk) (broken : Option ℕ) (new : Machine) (before after : List ℕ)
+    → ((d : Device) → f d ≡ r) → r.executed ≡ [] → r.disk ≡ disk → new ≡ r.machine → after ≡ before ++ canon r.answers → broken ≡ r.rule →
+    Serves n n f broken new disk before after
+leaves_serves n r f disk broken new before after is none same is_new is_after is_rule = record {
+  device = reliable;
+  rises = omega arith;
+  works = λ _. refl;
+  runs = subst (λ (xs : List Execution). RunsIn reliable n xs n) (sym (ap (λ (x : Stepped). x.executed) (is reliable) ∙ none)) refl;
+  machine = ap joined is_new ∙ ap (λ (x : Stepped). joined x.machine) (sym (is reliable));
+  disk_is = sym same ∙ ap (λ (x : Stepped). x.disk) (sym (is reliable));
+  output = is_after ∙ ap (λ (x : Stepped). before ++ canon x.answers) (sym (is reliable));
+  rule_is = is_rule ∙ ap (λ (x : Stepped). x.rule) (sym (is reliable));
+}
+
+-- what was done with a message that leaves the disk, over any store
+pub leaves_handles : {E : Type 0} (result : Result (Option ℕ) E) (n : ℕ) (r : Stepped) (f : Device → Stepped) (disk : Disk) (old new : Machine)
+    (before after : List ℕ)
+    → ((d : Device) → f d ≡ r) → r.executed ≡ [] → r.disk ≡ disk → Leaves r result old new before after →
+    Handles f result old (store_of disk n) before new (store_of disk n) after
+leaves_handles (Ok rule) n r f disk old new before after is none same h = record {
+  ok =
+      leaves_serves n r f disk rule new before after is none same h.machine h.output h.rule_is;
+  err = tt;
+}
+leaves_handles (Err e) n r f disk old new before after is none same h = record {
+  ok = tt;
+  err = record { machine = h.err; rises = omega arith; disk_is = refl; unwritten = h.unwritten };
+}
+
+-- a message that changes nothing, over any store
+pub unchanged_serves : (n : ℕ) (s : Machine) (f : Device → Stepped) (disk : Disk) (new : Machine) (out : List ℕ) → ((d : Device) → f d ≡ unchanged s disk) → new
+    ≡ s → Serves n n f None new disk out out
+unchanged_serves n s f disk new out is e = leaves_serves n (unchanged s disk) f disk None new out out is refl refl e (sym (append-nil out)) refl
+
+pub attempts : {E : Type 0} (r : Reply) (result : Result (Option ℕ) E) (old new : Session) (before after : List ℕ) → Does r result old new before after →
+    Attempts r result old new before after
+attempts r (Ok rule) old new before after h = record { ok = h.ok; err = tt; unwritten = tt }
+attempts r (Err e) old new before after h = record { ok = tt; err = ap ended h.err; unwritten = h.unwritten }
+
+-- what a session replied is what the target did, whose tasks go with the session
+pub relays : {E : Type 0} (r : Reply) (result : Result (Option ℕ) E) (old new : Machine) (session : Session) (disk : Disk) (before after : List ℕ)
+    → Attempts r result old.session session before after → new ≡ record { session = session; tasks = left session old.tasks } →
+    Leaves (on disk old.tasks r) result old new before after
+relays r (Ok rule) old new session disk before after h e = record {
+  machine = e ∙ ap (λ (s : Session). record { session = s; tasks = left s old.tasks }) h.ok.session;
+  output = h.ok.output;
+  rule_is = h.ok.rule_is;
+  err = tt;
+  unwritten = tt;
+}
+relays r (Err x) old new session disk before after h e = record {
+  machine = tt;
+  output = tt;
+  rule_is = tt;
+  err = ap closed e ∙ ap (λ (s : Session). record { session = s; tasks = [] }) h.err;
+  unwritten = h.unwritten;
+}
+
+-- ---- the same step
+
+runs_joined : (d : Device) (before : ℕ) (xs : List Execution) (after : ℕ) → RunsIn d before xs after → RunsIn d before (map joined_execution xs) after
+runs_joined d before [] after h = h
+runs_joined d before (x ∷ xs) after h = (
+  h.0,
+  subst (λ (bytes : List ℕ). Executes before h.0 x.disk x.order bytes (d 0 x.disk x.order bytes)) (sym (data_of_one (data_of x.pieces))) h.1,
+  runs_joined (device_next d) h.0 xs after h.2,
+)
+
+runs_apart : (d : Device) (before : ℕ) (xs : List Execution) (after : ℕ) → RunsIn d before (map joined_execution xs) after → RunsIn d before xs after
+runs_apart d before [] after h = h
+runs_apart d before (x ∷ xs) after h = (
+  h.0,
+  subst (λ (bytes : List ℕ). Executes before h.0 x.disk x.order bytes (d 0 x.disk x.order bytes)) (data_of_one (data_of x.pieces)) h.1,
+  runs_apart (device_next d) h.0 xs after h.2,
+)
+
+-- where a piece ended makes no difference to what a store did
+pub runs_as : (d : Device) (before after : ℕ) (a b : Stepped) → joined_stepped a ≡ joined_stepped b → RunsIn d before a.executed after →
+    RunsIn d before b.executed after
+runs_as d before after a b e h = runs_apart d before b.executed after (subst (λ (x : Stepped). RunsIn d before x.executed after) e
+    (runs_joined d before a.executed after h))
+
+-- the count of failures never falls
+pub runs_rise : (d : Device) (before : ℕ) (xs : List Execution) (after : ℕ) → RunsIn d before xs after → before ≤ after
+runs_rise d before [] after h = omega (arith, h)
+runs_rise d before (x ∷ xs) after h = let a = h.1.rises in let b = runs_rise (device_next d) h.0 xs after h.2 in omega (arith, a, b)
+
+pub serves_same : (fb fa : ℕ) (f g : Device → Stepped) (broken : Option ℕ) (new : Machine) (now : Disk) (before after : List ℕ)
+    → ((d : Device) → joined_stepped (g d) ≡ joined_stepped (f d)) → Serves fb fa g broken new now before after → Serves fb fa f broken new now before after
+serves_same fb fa f g broken new now before after is h =
+    let q : joined_stepped (g h.device) ≡ joined_stepped (f h.device) = is h.device in
+    record {
+      device = h.device;
+      rises = h.rises;
+      works = h.works;
+      runs = runs_as h.device fb fa (g h.device) (f h.device) q h.runs;
+      machine = h.machine ∙ ap (λ (x : Stepped). x.machine) q;
+      disk_is = h.disk_is ∙ ap (λ (x : Stepped). x.disk) q;
+      output = h.output ∙ ap (λ (x : Stepped). before ++ canon x.answers) q;
+      rule_is = h.rule_is ∙ ap (λ (x : Stepped). x.rule) q;
+    }
+
+pub serves_if : {E : Type 0} (result : Result (Option ℕ) E) (fb fa : ℕ) (f g : Device → Stepped) (new : Machine) (now : Disk) (before after : List ℕ)
+    → ((d : Device) → g d ≡ f d) → IfOk result (λ b. Serves fb fa g b new now before after) → IfOk result (λ b. Serves fb fa f b new now before after)
+serves_if result fb fa f g new now before after is h =
+    by_ok (λ b. Serves fb fa g b new now before after) (λ b. Serves fb fa f b new now before after) result
+    (λ b. serves_same fb fa f g b new now before after (λ d. ap joined_stepped (is d))) h
+
+pub same_if : {E : Type 0} (result : Result (Option ℕ) E) (fb fa : ℕ) (f g : Device → Stepped) (new : Machine) (now : Disk) (before after : List ℕ)
+    → ((d : Device) → joined_stepped (g d) ≡ joined_stepped (f d)) → IfOk result (λ b. Serves fb fa g b new now before after) →
+    IfOk result (λ b. Serves fb fa f b new now before after)
+same_if result fb fa f g new now before after is h =
+    by_ok (λ b. Serves fb fa g b new now before after) (λ b. Serves fb fa f b new now before after) result
+    (λ b. serves_same fb fa f g b new now before after is) h
+
+pub accepts_by : (fb fa : ℕ) (ms : List Message) (g : Device → Stepped) (broken : Option ℕ) (new : Machine) (now : Disk) (before after : List ℕ)
+    → Serves fb fa g broken new now before after → Serves fb fa (λ d. having_accepted ms (g d)) broken new now before after
+accepts_by fb fa ms g broken new now before after h = record {
+  device = h.device;
+  rises = h.rises;
+  works = h.works;
+  runs = h.runs;
+  machine = h.machine;
+  disk_is = h.disk_is;
+  output = h.output;
+  rule_is = h.rule_is;
+}
+
+-- ---- an order
+
+pub order_serves : (fb fa tag : ℕ) (s : Machine) (disk : Disk) (order : Order) (pieces : Pieces) (e : Effect) (new : Machine) (now : Disk)
+    (before after : List ℕ)
+    → Executes fb fa disk order (data_of pieces) e → new ≡ record s { session = counted s.session } → now ≡ e.disk
+    → after ≡ before ++ canon (command_answers s.session (waiting s.tasks) tag e.outcome (data_in_parts s.session.held e.outcome.bytes))
+    → Serves fb fa (λ d. execute d s disk tag order pieces) None new now before after
+order_serves fb fa tag s disk order pieces e new now before after x is_new is_now is_after =
+    elim (cases_lt fb fa) [
+      | inl lt ↦ record {
+        device = λ _ _ _ _. e;
+        rises = x.rises;
+        works = λ same. absurd (omega (arith, same, lt));
+        runs = (fa, x, refl);
+        machine = ap joined is_new;
+        disk_is = is_now;
+        output = is_after;
+        rule_is = refl;
+      }
+      | inr ge ↦
+          let same : e ≡ effect disk order (data_of pieces) = x.works (omega (arith, ge, x.rises)) in
+          record {
+            device = reliable;
+            rises = x.rises;
+            works = λ _. refl;
+            runs = (fa, subst (λ (y : Effect). Executes fb fa disk order (data_of pieces) y) same x, refl);
+            machine = ap joined is_new;
+            disk_is = is_now ∙ ap (λ (y : Effect). y.disk) same;
+            output = is_after ∙ ap (λ (y : Effect). before ++ canon (command_answers s.session (waiting s.tasks) tag y.outcome
+                (data_in_parts s.session.held y.outcome.bytes))) same;
+            rule_is = refl;
+          }
+    ]
+
+pub on_err : {A E P : Type 0} (result : Result A E) → P → OnErr result P
+on_err (Ok x) h = tt
+on_err (Err e) h = h
+
+-- ---- what comes of a PDU
+
+pub answered_follows : {E : Type 0} (result : Result (Option ℕ) E) (n : ℕ) (s : Machine) (r : Reply) (next : Next) (disk : Disk) (new : Machine)
+    (before after : List ℕ) → next ≡ Answered r → Leaves (on disk s.tasks r) result s new before after
+    → Follows next result s (store_of disk n) before new (store_of disk n) after
+answered_follows (Ok rule) n s r next disk new before after is h = record {
+  ok = leaves_serves n (on disk s.tasks r) (λ d. followed d s disk next) disk rule new before after (λ d. ap (followed d s disk) is) refl refl h.machine
+      h.output h.rule_is;
+  err = tt;
+}
+answered_follows (Err e) n s r next disk new before after is h = record {
+  ok = tt;
+  err = subst (λ (x : Next). Halts n n s disk x new disk before after) (sym is) (record {
+    machine = h.err;
+    rises = omega arith;
+    disk_is = refl;
+    unwritten = h.unwritten;
+  });
+}
+
+pub dropped_follows : {E : Type 0} (n : ℕ) (s : Machine) (next : Next) (disk : Disk) (new : Machine) (out : List ℕ) → next ≡ Dropped → new ≡ s →
+    Follows {E = E} next (Ok None) s (store_of disk n) out new (store_of disk n) out
+dropped_follows n s next disk new out is e = record {
+  ok = unchanged_serves n s (λ d. followed d s disk next) disk new out (λ d. ap (followed d s disk) is) e;
+  err = tt;
+}
+
+pub follows_as : {E : Type 0} (result : Result (Option ℕ) E) (a b : Next) (old : Machine) (before : Store) (output : List ℕ) (new : Machine) (after : Store)
+    (written : List ℕ) → a ≡ b → Follows a result old before output new after written
+    → Follows b result old before output new after written
+follows_as result a b old before output new after written e h = subst (λ (x : Next). Follows x result old before output new after written) e h
+
+pub works_follow : {E : Type 0} (result : Result (Option ℕ) E) (next : Next) (session : Session) (tasks : List Task) (old : Machine) (before : Store)
+    (output : List ℕ) (new : Machine) (after : Store) (written : List ℕ) → next ≡ Queued session tasks
+    → Works session tasks result before output new after written → Follows next result old before output new after written
+works_follow result next session tasks old before output new after written is h =
+    subst (λ (x : Next). Follows x result old before output new after written) (sym is) (record { ok = h.ok; err = h.err })

@@ -1,0 +1,536 @@
+-- Tasks in their turn over a store, one after another.
+use Rattle.std.proofs.Common.{◌≡◌, ◌≤◌, ◌⊎◌, inl, inr, ℕ, zero, suc, ◌+◌, List, [], ◌∷◌, ◌++◌, length, Bool, true, false, Option, Some, None, refl, sym, ap}
+use Rattle.std.proofs.Common.{◌∙◌, subst, arith, append_assoc}
+use Rattle.std.specs.Prelude.{◌==◌, ◌||◌, nat_lt, if◌then◌else◌, Result, Ok, Err}
+use Rattle.std.proofs.lemmas.List.{append-nil}
+use Rattle.scsi_disk.specs.Disk.{Disk}
+use Rattle.scsi_disk.specs.Plan.{plan_of}
+use Rattle.scsi_disk.specs.declared.order.Plan.{Plan}
+use Rattle.scsi_disk.specs.declared.order.Plan.TheVariants.{Refuse, Take, Give}
+use Rattle.iscsi_pdu.specs.Rules.{data_out_of_order}
+use Rattle.iscsi_pdu.specs.declared.head.Head.{Head}
+use Rattle.iscsi_pdu.specs.declared.head.Head.TheVariants.{ScsiCommand}
+use Rattle.iscsi_pdu.specs.declared.head.scsi_command.ScsiCommand.{ScsiCommand as Command}
+use Rattle.iscsi_stream.specs.Segment.{segment_bytes}
+use Rattle.iscsi_stream.specs.Stream.{Message}
+use Rattle.iscsi_stream.proofs.ReadyLemmas.{apart}
+use Rattle.iscsi_login.specs.Stage.{is_closed_phase}
+use Rattle.iscsi_target_session.specs.Session.{Session}
+use Rattle.iscsi_target.specs.Write.{Write}
+use Rattle.iscsi_target.specs.declared.tasks.Task.{Task}
+use Rattle.iscsi_target.specs.declared.tasks.Task.TheVariants.{Request, Data}
+use Rattle.iscsi_target.specs.State.{Machine, Execution, Stepped, on, unchanged, waiting, closed}
+use Rattle.iscsi_target.specs.State.{breaks}
+use Rattle.iscsi_target.specs.Execution.{Device, reliable, device_next, device_after}
+use Rattle.iscsi_target.specs.Command.{order_of, opened, planned, proceed, scsi_command, breaks_burst_rules, breaks_rules, task_of}
+use Rattle.iscsi_target.specs.State.{joined_task}
+use Rattle.iscsi_target.specs.Transfer.{joined_write}
+use Rattle.iscsi_target.specs.Machine.{Next, Dropped, Answered, Queued, with_write, handled, begun, is_closed, stays, done_in_turn, done_first, then_stepped}
+use Rattle.iscsi_target.specs.Machine.{first_rule, RunsIn}
+use Rattle.iscsi_target_session.specs.Requests.{request_answered}
+use Rattle.iscsi_target.specs.State.{joined}
+use Rattle.iscsi_target.specs.Feed.{Store}
+use Rattle.iscsi_target.specs.Inside.{Serves, GivesUp, Handles, Halts, Stops, Works}
+use Rattle.iscsi_stream.specs.Canonical.{canon}
+use Rattle.iscsi_stream.proofs.WritingLemmas.{canon_append}
+use Rattle.iscsi_target.specs.Laws.{task_in, joined_stepped}
+use Rattle.iscsi_target.proofs.CommandLemmas.{proceeds_asking, proceeds_waiting}
+use Rattle.iscsi_target.proofs.ContinuationLemmas.{then_nothing}
+use Rattle.iscsi_target.proofs.AcceptedOrderLaw.{begun_leads}
+use Rattle.iscsi_target.proofs.JoiningLemmas.{ones, idem, size_same, done_same, first_same}
+use Rattle.iscsi_target.proofs.DispatchLemmas.{alone, session_of}
+use Rattle.iscsi_target.proofs.ServingLemmas.{runs_as, serves_same, unchanged_serves}
+use Rattle.iscsi_target.proofs.TurnLemmas.{done_alone, runs_append}
+use Rattle.iscsi_target_session.proofs.CaseLemmas.{by_cases}
+use Rattle.iscsi_target.proofs.TurnLemmas.{Writes, Waits, Opens, Begins, begins, with_tasks}
+use Rattle.iscsi_target.proofs.ReplyLemmas.{request_answered_reply}
+
+-- ---- what a task looks at
+
+planned_looks : (d : Device) (s : Machine) (disk : Disk) (h : Command) (bytes : List ℕ) (plan : Plan) → planned d s disk h bytes plan
+    ≡ planned (λ n. d 0) s disk h bytes plan
+planned_looks d s disk h bytes (Take total) = refl
+planned_looks d s disk h bytes (Refuse sense) = refl
+planned_looks d s disk h bytes (Give given) = refl
+
+handled_looks : (d : Device) (s : Machine) (disk : Disk) (m : Message) (head : Head) → handled d s disk m head ≡ handled (λ n. d 0) s disk m head
+handled_looks d s disk m (ScsiCommand h) =
+    ap (λ (r : Stepped). if breaks_burst_rules s.session.held h (length (segment_bytes m.segment)) then breaks s disk data_out_of_order m else r)
+    (planned_looks d s disk h (segment_bytes m.segment) (plan_of (order_of h) disk.count))
+handled_looks d s disk m head = refl
+
+-- it is what the store does with its first order
+begun_looks : (d : Device) (s : Machine) (disk : Disk) (task : Task) → begun d s disk task ≡ begun (λ n. d 0) s disk task
+begun_looks d s disk (Request m) = handled_looks d s disk m m.head
+begun_looks d s disk (Data w) = refl
+
+pub begun_first : (d e : Device) (s : Machine) (disk : Disk) (task : Task) → d 0 ≡ e 0 → begun d s disk task ≡ begun e s disk task
+begun_first d e s disk task same = begun_looks d s disk task ∙ (λ i. begun (λ n. same i) s disk task) ∙ sym (begun_looks e s disk task)
+
+-- ---- what a task executes
+
+record Looks (s : Machine) (disk : Disk) (task : Task) (r : Stepped) : Type 0 where
+  few : (r.executed ≡ []) ⊎ ((e : Execution) × (r.executed ≡ e ∷ []))
+  pure : r.executed ≡ [] → (d : Device) → begun d s disk task ≡ r
+  rule : is_closed r.machine ≡ false → r.rule ≡ None
+
+not_command : (d : Device) (s : Machine) (disk : Disk) (m : Message) (head : Head) → task_in head ≡ [] → handled d s disk m head
+    ≡ on disk s.tasks (request_answered s.session (waiting s.tasks) m head)
+not_command d s disk m (ScsiCommand h) e = absurd cc
+not_command d s disk m head e = refl
+
+planned_is : (d : Device) (s : Machine) (disk : Disk) (h : Command) (bytes : List ℕ) (total : ℕ) (plan : Plan) → plan ≡ Take total →
+    planned d s disk h bytes plan ≡ proceed d s disk (opened h total bytes)
+planned_is d s disk h bytes total (Take n) e = let same : n ≡ total = cc in ap (λ (k : ℕ). proceed d s disk (opened h k bytes)) same
+planned_is d s disk h bytes total (Refuse sense) e = absurd cc
+planned_is d s disk h bytes total (Give given) e = absurd cc
+
+command_is : (d : Device) (s : Machine) (disk : Disk) (m : Message) (h : Command) (bytes : List ℕ) → breaks_burst_rules s.session.held h (length bytes) ≡ false
+    → scsi_command d s disk m h bytes ≡ planned d s disk h bytes (plan_of (order_of h) disk.count)
+command_is d s disk m h bytes e = rw e refl
+
+-- a write that is first goes on
+writes_begun : (d : Device) (s : Machine) (disk : Disk) (task : Task) (w : Write) → Writes s disk task w → begun d s disk task ≡ proceed d s disk w
+writes_begun d s disk _ _ (Waits w) = refl
+writes_begun d s disk _ _ (Opens m h total k e f) =
+    ap (λ (x : Head). handled d s disk m x) k ∙ command_is d s disk m h (segment_bytes m.segment) e
+    ∙ planned_is d s disk h (segment_bytes m.segment) total (plan_of (order_of h) disk.count) f
+
+refused_is : (d : Device) (s : Machine) (disk : Disk) (m : Message) (h : Command) → m.head ≡ ScsiCommand h →
+    breaks_burst_rules s.session.held h (length (segment_bytes m.segment)) ≡ true
+    → begun d s disk (Request m) ≡ breaks s disk data_out_of_order m
+refused_is d s disk m h k e = ap (λ (x : Head). handled d s disk m x) k ∙ rw e refl
+
+no_rule : (rule : Option ℕ) (over : Bool) → ((k : ℕ) → rule ≡ Some k → over ≡ true) → over ≡ false → rule ≡ None
+no_rule None over why live = refl
+no_rule (Some k) over why live = absurd (apart (why k refl) live)
+
+begins_look : Begins (λ device s disk task r. Looks s disk task r)
+begins_look = record {
+  request_ = λ device s disk m none. record {
+    few = inl refl;
+    pure = λ e d. not_command d s disk m m.head none;
+    rule = λ live. no_rule (request_answered s.session (waiting s.tasks) m m.head).rule
+        (is_closed (on disk s.tasks (request_answered s.session (waiting s.tasks) m m.head)).machine)
+        (request_answered_reply s.session (waiting s.tasks) m m.head).rule live;
+  };
+  refused_ = λ device s disk m h k broke. record { few = inl refl; pure = λ e d. refused_is d s disk m h k broke; rule = λ live. absurd cc };
+  command_ = λ device s disk m h k none. record { few = inr (_, refl); pure = λ e d. absurd cc; rule = λ live. refl };
+  write_ = λ device s disk task w is whole. record { few = inr (_, refl); pure = λ e d. absurd cc; rule = λ live. refl };
+  send_r2t_ = λ device s disk task w is whole idle. record {
+    few = inl refl;
+    pure = λ e d. writes_begun d s disk task w is
+        ∙ proceeds_asking d s disk w whole idle;
+    rule = λ live. refl;
+  };
+  wait_ = λ device s disk task w is whole idle. record {
+    few = inl refl;
+    pure = λ e d. writes_begun d s disk task w is ∙ proceeds_waiting d s disk w whole idle;
+    rule = λ live. refl;
+  };
+}
+
+looks : (device : Device) (s : Machine) (disk : Disk) (task : Task) → Looks s disk task (begun device s disk task)
+looks device s disk task = begins (λ device s disk task r. Looks s disk task r) begins_look device s disk task
+
+-- ---- one store and then another
+
+-- its first order is the first one's, and then it is the second
+abbrev then_device : Device → Device → Device
+then_device d e zero = d 0
+then_device d e (suc n) = e n
+
+next_is : (d e : Device) → device_next (then_device d e) ≡ e
+next_is d e = λ i n. then_device d e (one_more n i)
+  where
+    one_more : (n : ℕ) → n + 1 ≡ suc n
+    one_more n = omega arith
+
+-- a store that does the first task as the first, and the others as the second
+pub record Joins (d e both : Device) (s : Machine) (disk : Disk) (task : Task) : Type 0 where
+  pub first : begun both s disk task ≡ begun d s disk task
+  pub later : device_after (begun d s disk task).executed both ≡ e
+  pub runs : (before after : ℕ) → RunsIn d before (begun d s disk task).executed after → RunsIn both before (begun d s disk task).executed after
+  pub works : d ≡ reliable → e ≡ reliable → both ≡ reliable
+
+runs_none : (d e : Device) (before after : ℕ) (es : List Execution) → es ≡ [] → RunsIn d before es after → RunsIn e before es after
+runs_none d e before after [] none h = h
+runs_none d e before after (x ∷ es) none h = absurd cc
+
+runs_one : (d e : Device) (before after : ℕ) (es : List Execution) (x : Execution) → es ≡ x ∷ [] → RunsIn d before es after →
+    RunsIn (then_device d e) before es after
+runs_one d e before after [] x one h = absurd cc
+runs_one d e before after (y ∷ []) x one h = h
+runs_one d e before after (y ∷ z ∷ es) x one h = absurd cc
+
+both_reliable : (d e : Device) → d ≡ reliable → e ≡ reliable → then_device d e ≡ reliable
+both_reliable d e p q = λ i n. at n i
+  where
+    at : (n : ℕ) → then_device d e n ≡ reliable n
+    at zero = ap (λ (x : Device). x 0) p
+    at (suc n) = ap (λ (x : Device). x n) q
+
+pub joins : (d e : Device) (s : Machine) (disk : Disk) (task : Task) → (both : Device) × Joins d e both s disk task
+joins d e s disk task =
+    let l = looks d s disk task in
+    elim l.few [
+      | inl none ↦ (
+        e,
+        record {
+          first = l.pure none e;
+          later = ap (λ (es : List Execution). device_after es e) none;
+          runs = λ before after h. runs_none d e before after (begun d s disk task).executed none h;
+          works = λ p q. q;
+        },
+      )
+      | inr one ↦ (
+        then_device d e,
+        record {
+          first = begun_first (then_device d e) d s disk task refl;
+          later = ap (λ (es : List Execution). device_after es (then_device d e)) one.1 ∙ next_is d e;
+          runs = λ before after h. runs_one d e before after (begun d s disk task).executed one.0 one.1 h;
+          works = both_reliable d e;
+        },
+      )
+    ]
+
+-- ---- one task after another
+
+serves_by : (fb fa : ℕ) (f : Device → Stepped) (d : Device) (x : Stepped) (broken : Option ℕ) (new : Machine) (now : Disk) (before after : List ℕ) → f d ≡ x →
+    fb ≤ fa → (fa ≡ fb → d ≡ reliable)
+    → RunsIn d fb x.executed fa → joined new ≡ joined x.machine → now ≡ x.disk → after ≡ before ++ canon x.answers → broken ≡ x.rule →
+    Serves fb fa f broken new now before after
+serves_by fb fa f d x broken new now before after is rises works runs machine disk output rule = record {
+  device = d;
+  rises = rises;
+  works = works;
+  runs = subst (λ (r : Stepped). RunsIn d fb r.executed fa) (sym is) runs;
+  machine = machine ∙ ap (λ (r : Stepped). joined r.machine) (sym is);
+  disk_is = disk ∙ ap (λ (r : Stepped). r.disk) (sym is);
+  output = output ∙ ap (λ (r : Stepped). before ++ canon r.answers) (sym is);
+  rule_is = rule ∙ ap (λ (r : Stepped). r.rule) (sym is);
+}
+
+-- a task that is done, and those behind it
+turn_on : (d : Device) (s : Session) (disk : Disk) (task : Task) (more : List Task) → stays more (begun d (with_tasks s more) disk task) ≡ false →
+    is_closed (begun d (with_tasks s more) disk task).machine ≡ false
+    → (begun d (with_tasks s more) disk task).machine.tasks ≡ more
+    → (let r : Stepped = begun d (with_tasks s more) disk task in done_in_turn d s disk (task ∷ more)
+    ≡ then_stepped r (done_in_turn (device_after r.executed d) r.machine.session r.disk more))
+unfolding done_in_turn
+turn_on d s disk task [] stay live tasks =
+    let r : Stepped = begun d (with_tasks s []) disk task in
+    sym (then_nothing r) ∙ ap (λ (ts : List Task). then_stepped r (unchanged (with_tasks r.machine.session ts) r.disk)) tasks
+turn_on d s disk task (x ∷ more) stay live tasks =
+    let r : Stepped = begun d (with_tasks s (x ∷ more)) disk task in
+    ap (λ (b : Bool). if b || is_closed r.machine then r else then_stepped r (done_in_turn (device_after r.executed d) r.machine.session r.disk (x ∷ more)))
+    stay
+    ∙ ap (λ (b : Bool). if b then r else then_stepped r (done_in_turn (device_after r.executed d) r.machine.session r.disk (x ∷ more))) live
+
+first_on : (k : ℕ) (d : Device) (s : Session) (disk : Disk) (task : Task) (more : List Task) → stays more (begun d (with_tasks s more) disk task) ≡ false →
+    is_closed (begun d (with_tasks s more) disk task).machine ≡ false
+    → (let r : Stepped = begun d (with_tasks s more) disk task in done_first (suc k) d s disk (task ∷ more)
+    ≡ then_stepped r (done_first k (device_after r.executed d) r.machine.session r.disk more))
+unfolding done_first
+first_on k d s disk task more stay live =
+    let r : Stepped = begun d (with_tasks s more) disk task in
+    ap (λ (b : Bool). if b || is_closed r.machine then r else then_stepped r (done_first k (device_after r.executed d) r.machine.session r.disk more)) stay
+    ∙ ap (λ (b : Bool). if b then r else then_stepped r (done_first k (device_after r.executed d) r.machine.session r.disk more)) live
+
+-- the first task was done, and left a target that goes on
+pub record Goes (fb fm : ℕ) (s : Session) (disk : Disk) (task : Task) (more : List Task) (rule : Option ℕ) (mid : Machine) (mid_disk : Disk)
+    (before out : List ℕ) : Type 0 where
+  pub serves : Serves fb fm (λ d. begun d (with_tasks s more) disk task) rule mid mid_disk before out
+  pub live : is_closed mid ≡ false
+  pub done : nat_lt (length more) (length mid.tasks) ≡ false
+
+-- the same of the definitions
+record Leads (d : Device) (s : Session) (disk : Disk) (task : Task) (more : List Task) (mid : Machine) : Type 0 where
+  live : is_closed (begun d (with_tasks s more) disk task).machine ≡ false
+  stay : stays more (begun d (with_tasks s more) disk task) ≡ false
+  tasks : (begun d (with_tasks s more) disk task).machine.tasks ≡ more
+  session : mid.session ≡ (begun d (with_tasks s more) disk task).machine.session
+  ones_ : ones mid.tasks ≡ ones more
+
+leads : (fb fm : ℕ) (s : Session) (disk : Disk) (task : Task) (more : List Task) (rule : Option ℕ) (mid : Machine) (mid_disk : Disk) (before out : List ℕ) →
+    (g : Goes fb fm s disk task more rule mid mid_disk before out)
+    → Leads g.serves.device s disk task more mid
+leads fb fm s disk task more rule mid mid_disk before out g =
+    let h = g.serves in
+    let r : Stepped = begun h.device (with_tasks s more) disk task in
+    let session : mid.session ≡ r.machine.session = ap (λ (x : Machine). x.session) h.machine in
+    let same : ones mid.tasks ≡ ones r.machine.tasks = ap (λ (x : Machine). x.tasks) h.machine in
+    let live : is_closed r.machine ≡ false = ap (λ (x : Session). is_closed_phase x.phase) (sym session) ∙ g.live in
+    let stay : stays more r ≡ false = ap (λ (n : ℕ). nat_lt (length more) n) (sym (size_same mid.tasks r.machine.tasks same)) ∙ g.done in
+    let tasks : r.machine.tasks ≡ more = (begun_leads h.device s disk task more).behind live stay in
+    record { live = live; stay = stay; tasks = tasks; session = session; ones_ = same ∙ ap ones tasks }
+
+pub then_serves : (fb fm fa : ℕ) (s : Session) (disk : Disk) (task : Task) (more : List Task) (rule : Option ℕ) (mid : Machine) (mid_disk : Disk)
+    (before out : List ℕ) (broken : Option ℕ) (new : Machine) (now : Disk) (after : List ℕ)
+    → Goes fb fm s disk task more rule mid mid_disk before out → Serves fm fa (λ d. done_in_turn d mid.session mid_disk mid.tasks) broken new now out after
+    → Serves fb fa (λ d. done_in_turn d s disk (task ∷ more)) broken new now before after
+then_serves fb fm fa s disk task more rule mid mid_disk before out broken new now after g e =
+    let h = g.serves in
+    let l = leads fb fm s disk task more rule mid mid_disk before out g in
+    let r : Stepped = begun h.device (with_tasks s more) disk task in
+    let j = joins h.device e.device (with_tasks s more) disk task in
+    let q : Stepped = done_in_turn e.device mid.session mid_disk more in
+    let same : joined_stepped (done_in_turn e.device mid.session mid_disk mid.tasks)
+    ≡ joined_stepped q = (done_same e.device mid.session mid_disk mid.tasks more l.ones_).is in
+    let ses : r.machine.session ≡ mid.session = sym l.session in
+    let dsk : r.disk ≡ mid_disk = sym h.disk_is in
+    let is : done_in_turn j.0 s disk (task ∷ more) ≡ then_stepped r q =
+    turn_on j.0 s disk task more (ap (stays more) j.1.first ∙ l.stay) (ap (λ (x : Stepped). is_closed x.machine) j.1.first ∙ l.live)
+    (ap (λ (x : Stepped). x.machine.tasks) j.1.first ∙ l.tasks)
+    ∙ ap (λ (x : Stepped). then_stepped x (done_in_turn (device_after x.executed j.0) x.machine.session x.disk more)) j.1.first
+    ∙ (λ i. then_stepped r (done_in_turn (j.1.later i) (ses i) (dsk i) more)) in
+    serves_by fb fa (λ d. done_in_turn d s disk (task ∷ more)) j.0 (then_stepped r q) broken new now before after is (omega (arith, h.rises, e.rises))
+    (λ x. j.1.works (h.works (omega (arith, x, h.rises, e.rises))) (e.works (omega (arith, x, h.rises, e.rises))))
+    (runs_append j.0 fb fm fa r.executed q.executed (j.1.runs fb fm h.runs)
+    (subst (λ (d : Device). RunsIn d fm q.executed fa) (sym j.1.later) (runs_as e.device fm fa (done_in_turn e.device mid.session mid_disk mid.tasks) q same
+    e.runs)))
+    (e.machine ∙ ap (λ (x : Stepped). x.machine) same)
+    (e.disk_is ∙ ap (λ (x : Stepped). x.disk) same)
+    (e.output ∙ ap (λ (x : Stepped). out ++ canon x.answers) same ∙ ap (λ (x : List ℕ). x ++ canon q.answers) h.output
+    ∙ append_assoc before (canon r.answers) (canon q.answers)
+    ∙ ap (λ (x : List ℕ). before ++ x) (sym (canon_append r.answers q.answers)))
+    (e.rule_is ∙ ap (λ (x : Stepped). x.rule) same ∙ ap (λ (x : Option ℕ). first_rule x q.rule)
+    (sym ((looks h.device (with_tasks s more) disk task).rule l.live)))
+
+-- the first task was done, and memory ran out behind it
+pub then_stops : (fb fm fa : ℕ) (s : Session) (disk : Disk) (task : Task) (more : List Task) (rule : Option ℕ) (mid : Machine) (mid_disk : Disk)
+    (before out : List ℕ) (new : Machine) (now : Disk) (after : List ℕ)
+    → Goes fb fm s disk task more rule mid mid_disk before out → Stops fm fa mid.session mid_disk mid.tasks new now out after →
+    Stops fb fa s disk (task ∷ more) new now before after
+then_stops fb fm fa s disk task more rule mid mid_disk before out new now after g e =
+    let h = g.serves in
+    let l = leads fb fm s disk task more rule mid mid_disk before out g in
+    let r : Stepped = begun h.device (with_tasks s more) disk task in
+    let j = joins h.device e.device (with_tasks s more) disk task in
+    let q : Stepped = done_first e.done e.device mid.session mid_disk more in
+    let same : joined_stepped (done_first e.done e.device mid.session mid_disk mid.tasks)
+    ≡ joined_stepped q = (first_same e.done e.device mid.session mid_disk mid.tasks more l.ones_).is in
+    let ses : r.machine.session ≡ mid.session = sym l.session in
+    let dsk : r.disk ≡ mid_disk = sym h.disk_is in
+    let is : done_first (suc e.done) j.0 s disk (task ∷ more) ≡ then_stepped r q =
+    first_on e.done j.0 s disk task more (ap (stays more) j.1.first ∙ l.stay) (ap (λ (x : Stepped). is_closed x.machine) j.1.first ∙ l.live)
+    ∙ ap (λ (x : Stepped). then_stepped x (done_first e.done (device_after x.executed j.0) x.machine.session x.disk more)) j.1.first
+    ∙ (λ i. then_stepped r (done_first e.done (j.1.later i) (ses i) (dsk i) more)) in
+    let runs : RunsIn j.0 fb (then_stepped r q).executed e.failures =
+    runs_append j.0 fb fm e.failures r.executed q.executed (j.1.runs fb fm h.runs)
+    (subst (λ (d : Device). RunsIn d fm q.executed e.failures) (sym j.1.later) (runs_as e.device fm e.failures
+    (done_first e.done e.device mid.session mid_disk mid.tasks) q same e.runs)) in
+    record {
+      done = suc e.done;
+      device = j.0;
+      failures = e.failures;
+      runs = subst (λ (x : Stepped). RunsIn j.0 fb x.executed e.failures) (sym is) runs;
+      rises = e.rises;
+      machine = e.machine ∙ ap (λ (x : Stepped). closed x.machine) same ∙ ap (λ (x : Stepped). closed x.machine) (sym is);
+      disk_is = e.disk_is ∙ ap (λ (x : Stepped). x.disk) same ∙ ap (λ (x : Stepped). x.disk) (sym is);
+      output = e.output ∙ ap (λ (x : Stepped). out ++ canon x.answers) same ∙ ap (λ (x : List ℕ). x ++ canon q.answers) h.output
+          ∙ append_assoc before (canon r.answers) (canon q.answers)
+          ∙ ap (λ (x : List ℕ). before ++ x) (sym (canon_append r.answers q.answers)) ∙ ap (λ (x : Stepped). before ++ canon x.answers) (sym is);
+    }
+
+-- memory ran out at the first task
+pub first_stops : (fb fa : ℕ) (s : Session) (disk : Disk) (tasks more : List Task) (new : Machine) (now : Disk) (before after : List ℕ) →
+    GivesUp fb fa (with_tasks s more) new disk now before after
+    → Stops fb fa s disk tasks new now before after
+unfolding done_first
+first_stops fb fa s disk tasks more new now before after h = record {
+  done = 0;
+  device = reliable;
+  failures = fb;
+  runs = refl;
+  rises = h.rises;
+  machine = h.machine;
+  disk_is = h.disk_is;
+  output = h.unwritten ∙ sym (append-nil before);
+}
+
+-- the first task ends the session, or stays
+stop_at : (d : Device) (s : Session) (disk : Disk) (task : Task) (more : List Task) →
+    (stays more (begun d (with_tasks s more) disk task) || is_closed (begun d (with_tasks s more) disk task).machine) ≡ true
+    → done_in_turn d s disk (task ∷ more) ≡ begun d (with_tasks s more) disk task
+unfolding done_in_turn
+stop_at d s disk task [] e = refl
+stop_at d s disk task (x ∷ more) e = rw e refl
+
+pub stop_serves : (fb fa : ℕ) (s : Session) (disk : Disk) (task : Task) (more : List Task) (rule : Option ℕ) (new : Machine) (now : Disk)
+    (before after : List ℕ)
+    → Serves fb fa (λ d. begun d (with_tasks s more) disk task) rule new now before after → (nat_lt (length more) (length new.tasks) || is_closed new) ≡ true
+    → Serves fb fa (λ d. done_in_turn d s disk (task ∷ more)) rule new now before after
+stop_serves fb fa s disk task more rule new now before after h e =
+    let r : Stepped = begun h.device (with_tasks s more) disk task in
+    let session : new.session ≡ r.machine.session = ap (λ (x : Machine). x.session) h.machine in
+    let size : length new.tasks ≡ length r.machine.tasks = size_same new.tasks r.machine.tasks (ap (λ (x : Machine). x.tasks) h.machine) in
+    let size_back = sym size in
+    let session_back = sym session in
+    let stop : (stays more r || is_closed r.machine) ≡ true = (λ i. nat_lt (length more) (size_back i) || is_closed_phase (session_back i).phase) ∙ e in
+    serves_by fb fa (λ d. done_in_turn d s disk (task ∷ more)) h.device r rule new now before after (stop_at h.device s disk task more stop) h.rises h.works
+    h.runs h.machine h.disk_is h.output h.rule_is
+
+-- there is no task
+pub none_serves : (n : ℕ) (s : Session) (disk : Disk) (new : Machine) (out : List ℕ) → new ≡ with_tasks s [] →
+    Serves n n (λ d. done_in_turn d s disk []) None new disk out out
+unfolding done_in_turn
+none_serves n s disk new out e = unchanged_serves n (with_tasks s []) (λ d. done_in_turn d s disk []) disk new out (λ d. refl) e
+
+-- ---- all of them
+
+-- what is left to do is what was to be done
+pub record GoesOn (E : Type 0) (old : Machine) (before : Store) (output : List ℕ) (now : Machine) (mid : Store) (written : List ℕ) : Type 0 where
+  pub works : (result : Result (Option ℕ) E) (new : Machine) (after : Store) (more : List ℕ) → Works now.session now.tasks result mid written new after more →
+      Works old.session old.tasks result before output new after more
+
+pub goes_start : {E : Type 0} (old : Machine) (before : Store) (output : List ℕ) → GoesOn E old before output old before output
+goes_start old before output = record { works = λ result new after more h. h }
+
+works_then : {E : Type 0} (result : Result (Option ℕ) E) (s : Session) (task : Task) (behind : List Task) (rule : Option ℕ) (before mid after : Store)
+    (next new : Machine) (output out written : List ℕ)
+    → Goes before.failures mid.failures s before.disk task behind rule next mid.disk output out → Works next.session next.tasks result mid out new after written
+    → Works s (task ∷ behind) result before output new after written
+works_then (Ok broken) s task behind rule before mid after next new output out written g h = record {
+  ok = then_serves before.failures mid.failures after.failures s before.disk task behind rule next mid.disk output out broken new after.disk written g h.ok;
+  err = tt;
+}
+works_then (Err e) s task behind rule before mid after next new output out written g h = record {
+  ok = tt;
+  err = then_stops before.failures mid.failures after.failures s before.disk task behind rule next mid.disk output out new after.disk written g h.err;
+}
+
+pub either : (a b : Bool) → b ≡ true → (a || b) ≡ true
+either true b e = refl
+either false b e = e
+
+-- the first task was done
+pub goes_then : {E : Type 0} (old now next : Machine) (before mid after : Store) (output written more : List ℕ) (session : Session) (task : Task)
+    (behind : List Task) (rule : Option ℕ)
+    → GoesOn E old before output now mid written → now ≡ with_tasks session (task ∷ behind) →
+    Goes mid.failures after.failures session mid.disk task behind rule next after.disk written more
+    → GoesOn E old before output next after more
+goes_then old now next before mid after output written more session task behind rule g is step = record {
+  works = λ result new last w h. g.works result new last w
+      (subst (λ (m : Machine). Works m.session m.tasks result mid written new last w) (sym is)
+      (works_then result session task behind rule mid after last next new written more w step h));
+}
+
+-- the first task ended the session, or stays
+pub goes_stop : (E : Type 0) (old now new : Machine) (before mid after : Store) (output written more : List ℕ) (session : Session) (task : Task)
+    (behind : List Task) (rule : Option ℕ)
+    → GoesOn E old before output now mid written → now ≡ with_tasks session (task ∷ behind) →
+    Serves mid.failures after.failures (λ d. begun d (with_tasks session behind) mid.disk task) rule new after.disk written more
+    → (nat_lt (length behind) (length new.tasks) || is_closed new) ≡ true → Works {E = E} old.session old.tasks (Ok rule) before output new after more
+goes_stop E old now new before mid after output written more session task behind rule g is h stop =
+    g.works (Ok rule) new after more
+    (subst (λ (m : Machine). Works {E = E} m.session m.tasks (Ok rule) mid written new after more) (sym is)
+    (record { ok = stop_serves mid.failures after.failures session mid.disk task behind rule new after.disk written more h stop; err = tt }))
+
+-- memory ran out at the first task
+pub goes_short : {E : Type 0} (e : E) (old now new : Machine) (before mid after : Store) (output written more : List ℕ) (session : Session) (task : Task)
+    (behind : List Task)
+    → GoesOn E old before output now mid written → now ≡ with_tasks session (task ∷ behind) →
+    GivesUp mid.failures after.failures (with_tasks session behind) new mid.disk after.disk written more
+    → Works old.session old.tasks (Err e) before output new after more
+goes_short e old now new before mid after output written more session task behind g is h =
+    g.works (Err e) new after more
+    (subst (λ (m : Machine). Works m.session m.tasks (Err e) mid written new after more) (sym is)
+    (record { ok = tt; err = first_stops mid.failures after.failures session mid.disk (task ∷ behind) behind new after.disk written more h }))
+
+-- no task is left
+pub goes_end : (E : Type 0) (old now new : Machine) (before mid : Store) (output written : List ℕ) (session : Session) →
+    GoesOn E old before output now mid written → now ≡ with_tasks session [] → new ≡ with_tasks session []
+    → Works {E = E} old.session old.tasks (Ok None) before output new mid written
+goes_end E old now new before mid output written session g none is =
+    g.works (Ok None) new mid written
+    (subst (λ (m : Machine). Works {E = E} m.session m.tasks (Ok None) mid written new mid written) (sym none)
+    (record { ok = none_serves mid.failures session mid.disk new written is; err = tt }))
+
+-- ---- a request that is the only task
+
+alone_handles : {E : Type 0} (result : Result (Option ℕ) E) (session : Session) (m : Message) (before : Store) (output : List ℕ) (new : Machine) (after : Store)
+    (written : List ℕ)
+    → breaks_rules session.held (length (segment_bytes m.segment)) m.head ≡ false →
+    Handles (λ d. handled d (with_tasks session []) before.disk m m.head) result (with_tasks session []) before output new after written
+    → Works session (task_of before.disk.count m ∷ []) result before output new after written
+alone_handles (Ok rule) session m before output new after written keeps h = record {
+  ok = serves_same before.failures after.failures (λ d. done_in_turn d session before.disk (task_of before.disk.count m ∷ []))
+      (λ d. handled d (with_tasks session []) before.disk m m.head) rule new after.disk output written
+      (λ d. ap joined_stepped (sym (done_alone d session before.disk (task_of before.disk.count m) ∙ alone d (with_tasks session []) before.disk m keeps)))
+      h.ok;
+  err = tt;
+}
+alone_handles (Err e) session m before output new after written keeps h = record {
+  ok = tt;
+  err = first_stops before.failures after.failures session before.disk (task_of before.disk.count m ∷ []) [] new after.disk output written h.err;
+}
+
+pub alone_works : {E : Type 0} (result : Result (Option ℕ) E) (s : Machine) (m : Message) (before : Store) (output : List ℕ) (new : Machine) (after : Store)
+    (written : List ℕ)
+    → s.tasks ≡ [] → breaks_rules s.session.held (length (segment_bytes m.segment)) m.head ≡ false →
+    Handles (λ d. handled d s before.disk m m.head) result s before output new after written
+    → Works s.session (s.tasks ++ task_of before.disk.count m ∷ []) result before output new after written
+alone_works result s m before output new after written none keeps h =
+    let is : s ≡ with_tasks s.session [] = ap (with_tasks s.session) none in
+    subst (λ (ts : List Task). Works s.session (ts ++ task_of before.disk.count m ∷ []) result before output new after written) (sym none)
+    (alone_handles result s.session m before output new after written keeps (subst
+    (λ (x : Machine). Handles (λ d. handled d x before.disk m m.head) result x before output new after written) is h))
+
+-- memory ran out before a request was kept as a task
+pub short_works : {E : Type 0} (e : E) (s : Machine) (tasks : List Task) (before : Store) (output : List ℕ) →
+    Works s.session tasks (Err e) before output s before output
+short_works e s tasks before output = record {
+  ok = tt;
+  err = first_stops before.failures before.failures s.session before.disk tasks s.tasks s before.disk output output
+      (record { machine = refl; rises = omega arith; disk_is = refl; unwritten = refl });
+}
+
+-- memory ran out, whatever comes of the PDU
+pub short_halts : (n : ℕ) (s new : Machine) (disk : Disk) (out : List ℕ) (next : Next) → session_of s next ≡ s.session → closed new ≡ closed s →
+    Halts n n s disk next new disk out out
+short_halts n s new disk out Dropped same e = record { machine = e; rises = omega arith; disk_is = refl; unwritten = refl }
+short_halts n s new disk out (Answered r) same e = record { machine = e; rises = omega arith; disk_is = refl; unwritten = refl }
+short_halts n s new disk out (Queued session tasks) same e =
+    first_stops n n session disk tasks s.tasks new disk out out (record {
+      machine = e ∙ ap (λ (x : Session). closed (with_tasks x s.tasks)) (sym same);
+      rises = omega arith;
+      disk_is = refl;
+      unwritten = refl;
+    })
+
+-- where a piece of a write ended makes no difference
+pub works_same : {E : Type 0} (result : Result (Option ℕ) E) (session : Session) (ts us : List Task) (before : Store) (output : List ℕ) (new : Machine)
+    (after : Store) (written : List ℕ) → ones ts ≡ ones us → Works session ts result before output new after written
+    → Works session us result before output new after written
+works_same (Ok rule) session ts us before output new after written e h = record {
+  ok = serves_same before.failures after.failures (λ d. done_in_turn d session before.disk us)
+      (λ d. done_in_turn d session before.disk ts) rule new after.disk output written (λ d. (done_same d session before.disk ts us e).is) h.ok;
+  err = tt;
+}
+works_same (Err x) session ts us before output new after written e h =
+    let q = h.err in
+    let same : joined_stepped (done_first q.done q.device session before.disk ts)
+    ≡ joined_stepped (done_first q.done q.device session before.disk us) = (first_same q.done q.device session before.disk ts us e).is in
+    record {
+      ok = tt;
+      err = record {
+        done = q.done;
+        device = q.device;
+        failures = q.failures;
+        runs = runs_as q.device before.failures q.failures (done_first q.done q.device session before.disk ts)
+            (done_first q.done q.device session before.disk us) same q.runs;
+        rises = q.rises;
+        machine = q.machine ∙ ap (λ (y : Stepped). closed y.machine) same;
+        disk_is = q.disk_is ∙ ap (λ (y : Stepped). y.disk) same;
+        output = q.output ∙ ap (λ (y : Stepped). output ++ canon y.answers) same;
+      };
+    }
+
+-- a write in its place, and the same with its pieces joined
+pub ones_written : (v : Write) (tasks : List Task) → ones (with_write (joined_write v) tasks) ≡ ones (with_write v tasks)
+ones_written v [] = refl
+ones_written v (Request m ∷ more) = ap (λ (ts : List Task). Request m ∷ ts) (ones_written v more)
+ones_written v (Data w ∷ more) =
+    by_cases (w.initiator_task_tag == v.initiator_task_tag) (λ h. rw h (ap (λ (x : Write). Data x ∷ ones more) (idem v)))
+    (λ h. rw h (ap (λ (ts : List Task). joined_task (Data w) ∷ ts) (ones_written v more)))

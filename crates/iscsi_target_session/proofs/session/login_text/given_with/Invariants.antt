@@ -1,6 +1,0 @@
-use Rattle.std.proofs.Common.{◌≡◌, ◌++◌, take, drop, length}
-use Rattle.iscsi_target_session.specs.LoginText.{known_keys, given_with}
-use Rattle.iscsi_target_session.proofs.session.login_text.given_with.Given as goal
-
-abbrev pub invariant-loop-n : goal.invariant-loop-n
-invariant-loop-n l = (length l.now ≡ 27) × (take l.n l.now ++ given_with (drop l.n known_keys) (drop l.n l.given) l.text ≡ given_with known_keys l.given l.text)

@@ -1,0 +1,6 @@
+use Rattle.std.proofs.Common.{◌≡◌, drop}
+use Rattle.iscsi_target_session.specs.LoginText.{known_keys, repeats_key}
+use Rattle.iscsi_target_session.proofs.session.login_text.repeats_key.Given as goal
+
+abbrev pub invariant-loop-n : goal.invariant-loop-n
+invariant-loop-n l = repeats_key (drop l.n known_keys) (drop l.n l.seen) l.text ≡ repeats_key known_keys l.seen l.text

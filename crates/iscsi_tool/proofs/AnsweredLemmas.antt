@@ -1,0 +1,94 @@
+-- What is written, and why answering ends, told of the session.
+use Rattle.std.proofs.Common.{◌≡◌, ◌⊎◌, inl, inr, ℕ, Bool, List, [], ◌++◌, Option, Some, Result, Ok, Err, OnOk, refl, arith}
+use Rattle.hex.specs.Hex.{IsBytes, encode_lower}
+use Rattle.iscsi_stream.specs.declared.fault.ToolFault.TheVariants as tool
+use Rattle.iscsi_stream.specs.declared.fault.ToolFault.{ToolFault}
+use Rattle.iscsi_target.specs.State.{opening, unchanged}
+use Rattle.scsi_disk.specs.Disk.{Disk, zeros}
+use Rattle.iscsi_stream.specs.Stream.{ReadsAs}
+use Rattle.iscsi_target.specs.declared.fault.TargetFault.TheVariants as faults
+use Rattle.iscsi_target.specs.Machine.{answers}
+use Rattle.iscsi_service.specs.declared.session.SessionFault.{SessionFault}
+use Rattle.iscsi_service.specs.declared.session.SessionFault.TheVariants as session
+use Rattle.iscsi_service.specs.Session.{target_settings, ServesAll, Serves, EndsBy, EndsWell}
+use Rattle.iscsi_tool.specs.Answering.{filter_fault, AnswersAll, AnswersFirst, AnswersBytes, AnswersHex, SpellsAnswers, line_end}
+use Rattle.iscsi_tool.specs.Spelling.{Finishes}
+use Rattle.iscsi_tool.specs.HexText.{BytesOf, HexTextFails}
+use Rattle.iscsi_tool.proofs.SpellingLemmas.{lent_took}
+
+all_answered : (blocks : ℕ) (read : List ℕ) (disk_now : Disk) (written : List ℕ) → ServesAll target_settings (zeros blocks) read disk_now written →
+    AnswersAll blocks read written
+all_answered blocks read disk_now written a ms given rest s = (a ms given rest s).output_is
+
+pub done_answered : (blocks : ℕ) (read : List ℕ) (disk_now : Disk) (written : List ℕ) → Serves target_settings (zeros blocks) (Ok tt) read disk_now written
+    × EndsBy target_settings (zeros blocks) (Ok tt) read
+    → AnswersBytes blocks (Ok tt) read written
+done_answered blocks read disk_now written s = (all_answered blocks read disk_now written s.0, s.1)
+
+pub fault_answered : (fault : SessionFault) (blocks : ℕ) (read : List ℕ) (disk_now : Disk) (written : List ℕ) →
+    Serves target_settings (zeros blocks) (Err fault) read disk_now written × EndsBy target_settings (zeros blocks) (Err fault) read
+    → AnswersBytes blocks (Err (filter_fault fault)) read written
+fault_answered (session.Target faults.NoMemory) blocks read disk_now written s = (disk_now, s.0)
+fault_answered (session.Target (faults.Stream fault)) blocks read disk_now written s = (all_answered blocks read disk_now written s.0, s.1)
+fault_answered (session.Target (faults.Protocol rule)) blocks read disk_now written s = (all_answered blocks read disk_now written s.0, s.1)
+fault_answered (session.Target faults.Closed) blocks read disk_now written s = absurd s.0
+fault_answered session.Read blocks read disk_now written s = (all_answered blocks read disk_now written s.0, s.1)
+fault_answered session.Write blocks read disk_now written s = tt
+
+pub no_bytes : IsBytes []
+no_bytes i = omega arith
+
+-- nothing was read, and nothing is written
+pub none_answered : (blocks : ℕ) → AnswersFirst blocks [] []
+unfolding answers ReadsAs
+none_answered blocks = (
+  zeros blocks,
+  record {
+    receives = record { messages = []; given = []; rest = []; whole = refl; reads = refl };
+    front = unchanged (opening target_settings 1) (zeros blocks);
+    stops = inl refl;
+    disk_is = refl;
+    output_is = refl;
+  },
+)
+
+-- ---- digits
+
+-- the answers that a writer of digits took, and what was written behind them
+pub spells : (blocks : ℕ) (bytes taken rest answered ending : List ℕ) (outcome result : Result (Unit {0}) ToolFault) (is_cut : Bool) (held : Option (List ℕ))
+    → bytes ≡ taken ++ rest → AnswersBytes blocks outcome taken answered
+    → OnOk outcome (EndsWell target_settings (zeros blocks) (Some bytes) (Some rest)) → Finishes outcome is_cut result ending
+    → (result ≡ Err tool.Write) ⊎ SpellsAnswers blocks result bytes (lent_took is_cut held (encode_lower answered) ++ ending)
+spells blocks bytes taken rest answered ending outcome result is_cut held whole answers ends (inl failed) = inl failed
+spells blocks bytes taken rest answered ending outcome result is_cut held whole answers ends (inr f) =
+    let done : SpellsAnswers blocks outcome bytes (encode_lower answered ++ line_end outcome) =
+    record { taken = taken; rest = rest; whole = whole; answered = answered; answers = answers; ends = ends; spelled = refl } in
+    inr (rw (f.0, f.1, f.2) done)
+
+unless : {P : Type 0} (outcome : Result (Unit {0}) ToolFault) → (outcome ≡ Err tool.Write → ⊥) → (outcome ≡ Err tool.Write) ⊎ P → P
+unless outcome other (inl e) = absurd (other e)
+unless outcome other (inr p) = p
+
+-- the text was read, and its bytes are answered
+pub text_answered : (blocks : ℕ) (outcome : Result (Unit {0}) ToolFault) (read bytes written : List ℕ) → BytesOf read bytes
+    → (outcome ≡ Err tool.Write) ⊎ SpellsAnswers blocks outcome bytes written → AnswersHex blocks outcome read written
+text_answered blocks (Ok done) read bytes written m s = (bytes, m, unless (Ok done) (λ e. cc e) s)
+text_answered blocks (Err tool.NoMemory) read bytes written m s = inr (bytes, m, unless (Err tool.NoMemory) (λ e. cc e) s)
+text_answered blocks (Err (tool.Stream fault)) read bytes written m s = (bytes, m, unless (Err (tool.Stream fault)) (λ e. cc e) s)
+text_answered blocks (Err (tool.Text fault)) read bytes written m s = (bytes, m, unless (Err (tool.Text fault)) (λ e. cc e) s)
+text_answered blocks (Err tool.TextTooLong) read bytes written m s = (bytes, m, unless (Err tool.TextTooLong) (λ e. cc e) s)
+text_answered blocks (Err tool.Read) read bytes written m s = inr (bytes, m, unless (Err tool.Read) (λ e. cc e) s)
+text_answered blocks (Err tool.Write) read bytes written m s = tt
+text_answered blocks (Err tool.NotHex) read bytes written m s = absurd (unless (Err tool.NotHex) (λ e. cc e) s).answers
+text_answered blocks (Err (tool.Protocol rule)) read bytes written m s = (bytes, m, unless (Err (tool.Protocol rule)) (λ e. cc e) s)
+
+-- the text could not be read, or is not hex
+pub text_refused : (blocks : ℕ) (fault : ToolFault) (read : List ℕ) → HexTextFails fault read → AnswersHex blocks (Err fault) read []
+text_refused blocks tool.NoMemory read h = inl refl
+text_refused blocks (tool.Stream fault) read h = absurd h
+text_refused blocks (tool.Text fault) read h = absurd h
+text_refused blocks tool.TextTooLong read h = absurd h
+text_refused blocks tool.Read read h = inl refl
+text_refused blocks tool.Write read h = absurd h
+text_refused blocks tool.NotHex read h = (h, refl)
+text_refused blocks (tool.Protocol rule) read h = absurd h

@@ -1,9 +1,0 @@
-use Rattle.std.proofs.Common.{◌≡◌, false, rules}
-use Rattle.scsi_cdb.specs.Blocks.{is_listed}
-use Rattle.scsi_cdb.proofs.Records.{is_unknown}
-use Rattle.scsi_cdb.proofs.block.Cdb.record_of.Goals as goal
-
-pub returns-in_default : goal.returns-in_default
-returns-in_default c =
-    let unlisted : is_listed c.args.block.now ≡ false = search rules in
-    is_unknown c.args.block.now (search rules) unlisted

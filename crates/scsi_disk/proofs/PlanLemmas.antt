@@ -1,0 +1,105 @@
+-- What is known of an order that is planned to take or to give.
+use Rattle.std.proofs.Common.{◌≡◌, ℕ, zero, suc, ◌+◌, ◌-◌, ◌*◌, ◌/◌, ◌<◌, ◌≤◌, Bool, true, false, cond, min, List, [], ◌∷◌, ◌++◌, length, take, Option, Some}
+use Rattle.std.proofs.Common.{None, refl, sym, ◌∙◌, ap, arith, zero-add, add-zero}
+use Rattle.std.proofs.lemmas.List.{append_assoc, take-append-le, length-append}
+use Rattle.std.specs.List.{AllByRecursion}
+use borrow.Author.Tests.{ltb-false}
+use Rattle.scsi_cdb.specs.declared.sense.Sense.{Sense}
+use Rattle.scsi_disk.specs.declared.order.Order.{Order}
+use Rattle.scsi_disk.specs.declared.order.Plan.TheVariants.{Refuse, Take, Give}
+use Rattle.scsi_disk.specs.Disk.{Disk, IsDisk, joined, blocks_from}
+use Rattle.scsi_disk.specs.Effect.{wanted_data}
+use Rattle.scsi_disk.specs.Plan.{transfer, is_write, is_read, first_of, refusals, first_refusal, plan_by, plan_of, wanted_length, expected_length}
+
+-- where nothing is refused, each test was false
+pub all_false : {A : Type 0} (rows : List (Bool × A)) → first_of rows ≡ None → AllByRecursion (λ row. row.0 ≡ false) rows
+all_false [] e = tt
+all_false ((true, reason) ∷ rows) e = absurd (let h : Some reason ≡ None = e in cc)
+all_false ((false, reason) ∷ rows) e = (refl, all_false rows e)
+
+-- the blocks that an order names are inside the disk, and few
+pub record NamesBlocks (order : Order) (blocks : ℕ) : Type 0 where
+  pub few : (transfer order.cdb).count ≤ 8192
+  pub inside : (transfer order.cdb).first + (transfer order.cdb).count ≤ blocks
+
+unrefused : (order : Order) (blocks : ℕ) → first_refusal order blocks ≡ None → NamesBlocks order blocks
+unrefused order blocks e =
+    let tests = all_false (refusals order blocks) e in
+    record { few = ltb-false _ _ tests.1.1.1.1.1.1.0; inside = ltb-false _ _ tests.1.1.1.1.1.1.1.0 }
+
+pub record IsTaken (order : Order) (blocks n : ℕ) : Type 0 where
+  pub names : NamesBlocks order blocks
+  pub length : n ≡ 512 * (transfer order.cdb).count
+
+pub record IsGiven (order : Order) (blocks n : ℕ) : Type 0 where
+  pub names : NamesBlocks order blocks
+  pub most : n ≤ wanted_length order blocks
+
+taken_by : (order : Order) (blocks n : ℕ) (r : Option Sense) → first_refusal order blocks ≡ r → plan_by r order blocks ≡ Take n → IsTaken order blocks n
+taken_by order blocks n (Some sense) e p = absurd (let h : Refuse sense ≡ Take n = p in cc)
+taken_by order blocks n None e p = record {
+  names = unrefused order blocks e;
+  length = elim (is_write order.cdb) as (λ b. cond b (Take (512 * (transfer order.cdb).count)) (Give (min (wanted_length order blocks) (expected_length order)))
+      ≡ Take n → n ≡ 512 * (transfer order.cdb).count) [
+        | true ↦ λ h. cc
+        | false ↦ λ h. cc
+      ] p;
+}
+
+pub taken : (order : Order) (blocks n : ℕ) → plan_of order blocks ≡ Take n → IsTaken order blocks n
+taken order blocks n p = taken_by order blocks n (first_refusal order blocks) refl p
+
+given_by : (order : Order) (blocks n : ℕ) (r : Option Sense) → first_refusal order blocks ≡ r → plan_by r order blocks ≡ Give n → IsGiven order blocks n
+given_by order blocks n (Some sense) e p = absurd (let h : Refuse sense ≡ Give n = p in cc)
+given_by order blocks n None e p = record {
+  names = unrefused order blocks e;
+  most = elim (is_write order.cdb) as (λ b. cond b (Take (512 * (transfer order.cdb).count)) (Give (min (wanted_length order blocks) (expected_length order)))
+      ≡ Give n → n ≤ wanted_length order blocks) [
+        | true ↦ λ h. cc
+        | false ↦ λ h. let least : min (wanted_length order blocks) (expected_length order) ≡ n = cc in omega arith
+      ] p;
+}
+
+pub given : (order : Order) (blocks n : ℕ) → plan_of order blocks ≡ Give n → IsGiven order blocks n
+given order blocks n p = given_by order blocks n (first_refusal order blocks) refl p
+
+-- ---- the front of some blocks
+
+pub joined-add : (block : ℕ → List ℕ) (first c d : ℕ) → joined block first (c + d) ≡ joined block first c ++ joined block (first + c) d
+unfolding joined
+joined-add block first zero d = ap (joined block first) (zero-add d) ∙ ap (λ k. joined block k d) (sym (add-zero first))
+joined-add block first (suc c) d =
+    let more : suc c + d ≡ suc (c + d) = omega arith in
+    let next : first + 1 + c ≡ first + suc c = omega arith in
+    ap (joined block first) more ∙ ap (λ t. block first ++ t) (joined-add block (first + 1) c d ∙ ap (λ k. joined block (first + 1) c ++ joined block k d) next)
+    ∙ sym (append_assoc (block first) (joined block (first + 1) c) (joined block (first + suc c) d))
+
+length-joined : (size : ℕ) (block : ℕ → List ℕ) (first c : ℕ) → ((n : ℕ) → first ≤ n → n < first + c → length (block n) ≡ size) → length (joined block first c)
+    ≡ size * c
+unfolding joined
+length-joined size block first zero h = let e : 0 ≡ size * zero = omega arith in e
+length-joined size block first (suc c) h =
+    let rest = length-joined size block (first + 1) c (λ n low high. h n (omega arith) (omega arith)) in
+    let here = h first (omega arith) (omega arith) in
+    length-append (block first) (joined block (first + 1) c) ∙ (let e : length (block first) + length (joined block (first + 1) c)
+    ≡ size * suc c = omega arith in e)
+
+-- a front needs only the blocks that it reaches into
+pub front-joined : (disk : Disk) (first count n : ℕ) → IsDisk disk → first + count ≤ disk.count → n ≤ 512 * count
+    → take n (joined disk.block first ((n + 511) / 512)) ≡ take n (joined disk.block first count)
+front-joined disk first count n is inside fits =
+    let c = (n + 511) / 512 in
+    let few : (n + 511) / 512 ≤ count = omega arith in
+    let all : (n + 511) / 512 + (count - (n + 511) / 512) ≡ count = omega arith in
+    let long = length-joined 512 disk.block first ((n + 511) / 512) (λ k low high. is.inside k (omega arith)) in
+    let covers : n ≤ length (joined disk.block first ((n + 511) / 512)) = omega arith in
+    sym (ap (λ k. take n (joined disk.block first k)) (sym all) ∙ ap (take n) (joined-add disk.block first ((n + 511) / 512) (count - (n + 511) / 512))
+    ∙ take-append-le n (joined disk.block first ((n + 511) / 512)) (joined disk.block (first + (n + 511) / 512) (count - (n + 511) / 512)) covers)
+
+-- what a READ gives is the front of the blocks that it names
+pub read_gives : (disk : Disk) (order : Order) (n : ℕ) → IsDisk disk → plan_of order disk.count ≡ Give n → is_read order.cdb ≡ true
+    → take n (blocks_from disk (transfer order.cdb).first ((n + 511) / 512)) ≡ take n (wanted_data disk order)
+read_gives disk order n is p reads =
+    let facts = given order disk.count n p in
+    let most : n ≤ 512 * (transfer order.cdb).count = rw reads at facts.most in
+    rw reads (front-joined disk (transfer order.cdb).first (transfer order.cdb).count n is facts.names.inside most)
