@@ -5,7 +5,7 @@ use Rattle.std.proofs.lemmas.List.{length-append, length-map, map-append, take_a
 use Rattle.iscsi_stream.specs.declared.fault.StreamFault.{StreamFault}
 use Rattle.iscsi_stream.specs.Segment.{no_login}
 use Rattle.iscsi_stream.specs.Stream.{Message, StreamMeans, longest_segment}
-use Rattle.iscsi_stream.proofs.Meaning.{one_meaning}
+use Rattle.iscsi_stream.proofs.OneMeaningLaw.{one_meaning}
 use Rattle.iscsi_compare.specs.declared.fault.Which.{Which}
 use Rattle.iscsi_compare.specs.declared.fault.Which.TheVariants.{First, Second}
 use Rattle.iscsi_compare.specs.declared.fault.CompareFault.TheVariants as fault
@@ -64,4 +64,4 @@ other_whole_runs s t ms ns x y place other_place a b p q part same =
 
 pub no_run_refused : (which : Which) (f : StreamFault) (s t : List ℕ) (ms ns : List Message) (x y : Input) → Rest s x → Rest t y → StreamMeans s ms → StreamMeans t ns → FailsInJob (fault.Stream which f) x y → ⊥
 no_run_refused First f s t ms ns x y a b p q fails = refused_whole f s ms fails.0 x a p fails.3.0
-no_run_refused Second f s t ms ns x y a b p q fails = refused_whole f t ns fails.1 y b q fails.3.1
+no_run_refused Second f s t ms ns x y a b p q fails = refused_whole f t ns fails.1 y b q fails.3.2

@@ -46,7 +46,7 @@ rest_from s (Some more) x consumed is = record { more = more; left_is = is; whol
 pub rest_of : (s : List ℕ) (left : Option (List ℕ)) (x : Input) → Gave (Some s) left x → Rest s x
 rest_of s left x gave = rest_from s left x gave.consumed gave.left_is
 
-all_read : (s : List ℕ) (x : Input) → Rest s x → IsAtEnd x.left → s ≡ x.read
+pub all_read : (s : List ℕ) (x : Input) → Rest s x → IsAtEnd x.left → s ≡ x.read
 all_read s x rest end =
     let none : rest.more ≡ [] = subst IsAtEnd rest.left_is end in
     rest.whole ∙ ap (λ (y : List ℕ). x.read ++ y) none ∙ append-nil x.read
