@@ -1,6 +1,6 @@
 -- Two runs in step.
 use Rattle.std.proofs.Common.{◌≡◌, ℕ, ◌≤◌, Bool, true, false, List, [], ◌∷◌, ◌++◌, length, take, drop, Option, Some, None, refl, sym, ap, subst, ◌∙◌, append-nil, arith}
-use Rattle.std.specs.Prelude.{◌↔◌, ◌&&◌, not, map, option_map, option_to_list}
+use Rattle.std.specs.Prelude.{◌↔◌, not, map, option_map, option_to_list}
 use Rattle.std.specs.Io.KnownBytes.{Consumes}
 use Rattle.std.proofs.KnownBytes.{Consumes-nil, Consumes-trans}
 use Rattle.std.proofs.lemmas.List.{same_from_push, map_push, length_push, length-map, length-take, length-drop}
@@ -119,14 +119,21 @@ ready_next read ms v rest k left r ready =
     let header : IsHeader (take 48 t.rest) good.0 (length segment) = subst (λ (j : ℕ). IsHeader (take 48 t.rest) good.0 j) (sym size) good.1.header in
     let means = means_of t.rest good.0 segment header (is.1 ∙ ap pdu_len (sym size)) (ap (λ (j : ℕ). take j (drop 48 t.rest)) size) in
     let within : length segment ≤ v.limit = omega (arith, size, good.1.within) in
-    let reads = reads_one_more v.limit no_login t.given ms t.rest good.0 segment t.reads means within in
-    (Some (record { head = good.0; segment = segment_of (continues (after_all no_login ms) good.0) good.0 segment }), (t.given ++ t.rest, rest, record {
-      whole = r.whole ∙ ap (λ (x : List ℕ). x ++ rest) t.whole;
-      reads = subst (λ (limit : ℕ). ReadsAs limit no_login (t.given ++ t.rest)
-          (ms ++ record { head = good.0; segment = segment_of (continues (after_all no_login ms) good.0) good.0 segment } ∷ [])) r.limit reads;
-    }))
+    let reads = reads_one_more v.limit no_login t.given ms t.rest good.0 segment t.reads means within in (
+      Some (record { head = good.0; segment = segment_of (continues (after_all no_login ms) good.0) good.0 segment }),
+      (
+        t.given ++ t.rest,
+        rest,
+        record {
+          whole = r.whole ∙ ap (λ (x : List ℕ). x ++ rest) t.whole;
+          reads = subst (λ (limit : ℕ). ReadsAs limit no_login (t.given ++ t.rest)
+              (ms ++ record { head = good.0; segment = segment_of (continues (after_all no_login ms) good.0) good.0 segment } ∷ [])) r.limit reads;
+        },
+      ),
+    )
 
-next_exists : (p : Bool) (side : Side) (x : Input) (ms : List Message) → is_ready side.framer ≡ p → Stands p side x ms → (next : Option Message) × GoesOn x ms next
+next_exists : (p : Bool) (side : Side) (x : Input) (ms : List Message) → is_ready side.framer ≡ p → Stands p side x ms
+    → (next : Option Message) × GoesOn x ms next
 next_exists true side x ms ready r = ready_next x.read ms side.framer (pending side) side.reads x.left r ready
 next_exists false side x ms ready r = (None, r.1)
 

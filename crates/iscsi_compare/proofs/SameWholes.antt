@@ -14,10 +14,13 @@ use Rattle.iscsi_compare.specs.SameJob.{renumbered_message, SameJob}
 use Rattle.iscsi_compare.specs.SameJobVerdict.{AgreeOnJob, PartFromJob, FailsInJob}
 use Rattle.iscsi_compare.proofs.Wholes.{Rest, all_read, following, follows, refused_whole}
 
-pub same_whole_runs : (s t : List ℕ) (ms ns : List Message) (x y : Input) → Rest s x → Rest t y → StreamMeans s ms → StreamMeans t ns → AgreeOnJob x y → SameJob ms ns
+pub same_whole_runs : (s t : List ℕ) (ms ns : List Message) (x y : Input) → Rest s x → Rest t y → StreamMeans s ms
+    → StreamMeans t ns → AgreeOnJob x y → SameJob ms ns
 same_whole_runs s t ms ns x y a b p q agree =
-    let one : agree.0 ≡ ms = one_meaning longest_segment no_login x.read agree.0 ms agree.3.0.0 (subst (λ (z : List ℕ). StreamMeans z ms) (all_read s x a agree.3.0.1) p) in
-    let two : agree.1 ≡ ns = one_meaning longest_segment no_login y.read agree.1 ns agree.3.1.0 (subst (λ (z : List ℕ). StreamMeans z ns) (all_read t y b agree.3.1.1) q) in
+    let one : agree.0 ≡ ms = one_meaning longest_segment no_login x.read agree.0 ms agree.3.0.0
+    (subst (λ (z : List ℕ). StreamMeans z ms) (all_read s x a agree.3.0.1) p) in
+    let two : agree.1 ≡ ns = one_meaning longest_segment no_login y.read agree.1 ns agree.3.1.0
+    (subst (λ (z : List ℕ). StreamMeans z ns) (all_read t y b agree.3.1.1) q) in
     subst (λ (xs : List Message). SameJob xs ns) one (subst (SameJob agree.0) two agree.2)
 
 -- ---- where they part
@@ -29,7 +32,8 @@ first_of : (m n : Message) (a b : List Message) → m ∷ a ≡ n ∷ b → m �
 first_of m n a b e = cc
 
 -- as many first messages of one job are of one job
-fronts : (a b c d : List Message) → length b ≡ length a → (s : SameJob (a ++ c) (b ++ d)) → (b ≡ map (renumbered_message s.0) a) × (d ≡ map (renumbered_message s.0) c)
+fronts : (a b c d : List Message) → length b ≡ length a → (s : SameJob (a ++ c) (b ++ d))
+    → (b ≡ map (renumbered_message s.0) a) × (d ≡ map (renumbered_message s.0) c)
 fronts a b c d same s =
     let f = renumbered_message s.0 in
     let whole : b ++ d ≡ map f a ++ map f c = s.1 ∙ map-append f a c in
@@ -45,7 +49,8 @@ one_more a b c d m n same s =
     let next : n ≡ f m = first_of n (f m) d (map f c) both.1 in
     (s.0, ap (λ (xs : List Message). xs ++ n ∷ []) both.0 ∙ ap (λ (x : Message). map f a ++ x ∷ []) next ∙ sym (map-append f a (m ∷ [])))
 
-part_first : (a b : List Message) (next other : Option Message) (c d : List Message) → SameJob a b → SameJob (a ++ following next c) (b ++ following other d) → SameJob (a ++ option_to_list next) (b ++ option_to_list other)
+part_first : (a b : List Message) (next other : Option Message) (c d : List Message) → SameJob a b
+    → SameJob (a ++ following next c) (b ++ following other d) → SameJob (a ++ option_to_list next) (b ++ option_to_list other)
 part_first a b (Some m) (Some n) c d s t = one_more a b c d m n (same_count a b s) t
 part_first a b None None c d s t = t
 part_first a b (Some m) None c d s t =
@@ -53,7 +58,8 @@ part_first a b (Some m) None c d s t =
 part_first a b None (Some n) c d s t =
     absurd (omega (arith, same_count a b s, same_count (a ++ []) (b ++ n ∷ d) t, length-append b (n ∷ d), ap length (append-nil a)))
 
-pub other_whole_runs : (s t : List ℕ) (ms ns : List Message) (x y : Input) (place other_place : ℕ) → Rest s x → Rest t y → StreamMeans s ms → StreamMeans t ns → PartFromJob x y place other_place → SameJob ms ns → ⊥
+pub other_whole_runs : (s t : List ℕ) (ms ns : List Message) (x y : Input) (place other_place : ℕ) → Rest s x → Rest t y → StreamMeans s ms
+    → StreamMeans t ns → PartFromJob x y place other_place → SameJob ms ns → ⊥
 other_whole_runs s t ms ns x y place other_place a b p q part same =
     let one = follows s ms part.ms x part.next a p part.goes_on in
     let two = follows t ns part.ns y part.other_next b q part.other_goes_on in
@@ -62,6 +68,7 @@ other_whole_runs s t ms ns x y place other_place a b p q part same =
 
 -- ---- no fault
 
-pub no_run_refused : (which : Which) (f : StreamFault) (s t : List ℕ) (ms ns : List Message) (x y : Input) → Rest s x → Rest t y → StreamMeans s ms → StreamMeans t ns → FailsInJob (fault.Stream which f) x y → ⊥
+pub no_run_refused : (which : Which) (f : StreamFault) (s t : List ℕ) (ms ns : List Message) (x y : Input) → Rest s x → Rest t y → StreamMeans s ms
+    → StreamMeans t ns → FailsInJob (fault.Stream which f) x y → ⊥
 no_run_refused First f s t ms ns x y a b p q fails = refused_whole f s ms fails.0 x a p fails.3.0
 no_run_refused Second f s t ms ns x y a b p q fails = refused_whole f t ns fails.1 y b q fails.3.2

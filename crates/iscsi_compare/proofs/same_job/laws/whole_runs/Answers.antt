@@ -3,7 +3,8 @@ use Rattle.iscsi_compare.proofs.SameWholes.{same_whole_runs, other_whole_runs, n
 use Rattle.iscsi_compare.proofs.same_job.laws.whole_runs.Goals as goal
 
 pub returns-clause-same : goal.returns-clause-same
-returns-clause-same c s t ms ns left other_left first second gave other_gave p q agree = same_whole_runs s t ms ns first second (rest_of s left first gave) (rest_of t other_left second other_gave) p q agree
+returns-clause-same c s t ms ns left other_left first second gave other_gave p q agree =
+    same_whole_runs s t ms ns first second (rest_of s left first gave) (rest_of t other_left second other_gave) p q agree
 
 pub returns-clause-differ : goal.returns-clause-differ
 returns-clause-differ c s t ms ns left other_left first second place other_place gave other_gave p q part =
