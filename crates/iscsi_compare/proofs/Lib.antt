@@ -7,6 +7,7 @@ pub mod SameNext
 pub mod SameRuns
 pub mod SameSegments
 pub mod SameSteps
+pub mod SameWholes
 pub mod Sides
 pub mod Steps
 pub mod Wholes

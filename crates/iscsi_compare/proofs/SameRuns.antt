@@ -1,12 +1,18 @@
 -- Two runs in step.
-use Rattle.std.proofs.Common.{◌≡◌, ℕ, Bool, true, false, List, [], ◌∷◌, ◌++◌, length, Option, Some, None, refl, sym, ap, subst, ◌∙◌, append-nil, arith}
-use Rattle.std.specs.Prelude.{◌↔◌, map, option_map, option_to_list}
+use Rattle.std.proofs.Common.{◌≡◌, ℕ, ◌≤◌, Bool, true, false, List, [], ◌∷◌, ◌++◌, length, take, drop, Option, Some, None, refl, sym, ap, subst, ◌∙◌, append-nil, arith}
+use Rattle.std.specs.Prelude.{◌↔◌, not, map, option_map, option_to_list}
 use Rattle.std.specs.Io.KnownBytes.{Consumes}
 use Rattle.std.proofs.KnownBytes.{Consumes-nil, Consumes-trans}
-use Rattle.std.proofs.lemmas.List.{same_from_push, map_push, length_push, length-map}
+use Rattle.std.proofs.lemmas.List.{same_from_push, map_push, length_push, length-map, length-take, length-drop}
 use Rattle.iscsi_pdu.specs.declared.head.Head.{Head}
-use Rattle.iscsi_stream.specs.Stream.{Message}
-use Rattle.iscsi_stream.specs.Framing.{Framing, given_up, message_of, is_ready}
+use Rattle.iscsi_pdu.specs.Meaning.{IsHeader}
+use Rattle.iscsi_stream.specs.Segment.{no_login, continues, segment_of}
+use Rattle.iscsi_stream.specs.Stream.{pdu_len, Message, ReadsAs, after_all}
+use Rattle.iscsi_stream.specs.Framing.{Framing, length_at, is_whole, given_up, message_of, is_ready}
+use Rattle.iscsi_stream.proofs.HeadLemmas.{means_of}
+use Rattle.iscsi_stream.proofs.SettledBytesLemmas.{is_whole-settled}
+use Rattle.iscsi_stream.proofs.ReadyLemmas.{is_whole-is}
+use Rattle.iscsi_stream.proofs.OneMeaningLaw.{reads_one_more}
 use Rattle.iscsi_compare.specs.declared.fault.Which.{Which}
 use Rattle.iscsi_compare.specs.declared.fault.Which.TheVariants.{First, Second}
 use Rattle.iscsi_compare.specs.declared.fault.CompareFault.{CompareFault}
@@ -14,14 +20,14 @@ use Rattle.iscsi_compare.specs.declared.fault.CompareFault.TheVariants as fault
 use Rattle.iscsi_compare.specs.declared.side.Side.{Side}
 use Rattle.iscsi_compare.specs.declared.same_job.renaming.Renaming.{Renaming}
 use Rattle.iscsi_compare.specs.Comparing.{Input, input_of, BeginsWith, GoesOn}
-use Rattle.iscsi_compare.specs.Inside.{HasRead, IsOpen, ReadsOn, Stands, SideFails, pending}
+use Rattle.iscsi_compare.specs.Inside.{ReadTo, HasRead, IsOpen, ReadsOn, Stands, SideFails, pending}
 use Rattle.iscsi_compare.specs.SameJob.{Renumbering, renumbered_message, SameJob}
 use Rattle.iscsi_compare.specs.SameJobLearning.{Learns}
 use Rattle.iscsi_compare.specs.SameJobJudge.{Allows, IsSoundRenaming, NextIs, LearnsNext}
 use Rattle.iscsi_compare.specs.SameJobVerdict.{AgreeOnJob, PartFromJob, FailsInJob}
 use Rattle.iscsi_compare.proofs.Sides.{read_given, begins, stands_at}
 use Rattle.iscsi_compare.proofs.Steps.{Compared, GivesUp, gave}
-use Rattle.iscsi_compare.proofs.SameLearning.{some_left}
+use Rattle.iscsi_compare.proofs.SameLearning.{some_left, and_second}
 use Rattle.iscsi_compare.proofs.SameJobLaws.{same_self}
 
 -- ---- what is known of two lists
@@ -92,12 +98,44 @@ first_fails (fault.Stream Second f) x y ms ns s fails begun = (let no : Second �
 first_fails (fault.Read First) x y ms ns s fails begun = (ms, ns, s, (fails.1, begun))
 first_fails (fault.Read Second) x y ms ns s fails begun = (let no : Second ≡ First = fails.0 in absurd cc)
 
-second_fails : (e : CompareFault) (x y : Input) (ms ns : List Message) → SameJob ms ns → SideFails e Second y ns → BeginsWith x ms → FailsInJob e x y
-second_fails fault.NoMemory x y ms ns s fails begun = (ms, ns, s, (begun, fails))
-second_fails (fault.Stream Second f) x y ms ns s fails begun = (ms, ns, s, (begun, fails.1))
-second_fails (fault.Stream First f) x y ms ns s fails begun = (let no : First ≡ Second = fails.0 in absurd cc)
-second_fails (fault.Read Second) x y ms ns s fails begun = (ms, ns, s, (begun, fails.1))
-second_fails (fault.Read First) x y ms ns s fails begun = (let no : First ≡ Second = fails.0 in absurd cc)
+second_fails : (e : CompareFault) (x y : Input) (ms ns : List Message) (next : Option Message) → SameJob ms ns → SideFails e Second y ns → BeginsWith x ms
+    → GoesOn x ms next → FailsInJob e x y
+second_fails fault.NoMemory x y ms ns next s fails begun goes = (ms, ns, s, (begun, fails))
+second_fails (fault.Stream Second f) x y ms ns next s fails begun goes = (ms, ns, s, (next, goes, fails.1))
+second_fails (fault.Stream First f) x y ms ns next s fails begun goes = (let no : First ≡ Second = fails.0 in absurd cc)
+second_fails (fault.Read Second) x y ms ns next s fails begun goes = (ms, ns, s, (next, goes, fails.1))
+second_fails (fault.Read First) x y ms ns next s fails begun goes = (let no : First ≡ Second = fails.0 in absurd cc)
+
+-- a PDU that is ready is the stream's next
+ready_next : (read : List ℕ) (ms : List Message) (v : Framing) (rest : List ℕ) (k : ℕ) (left : Option (List ℕ)) → ReadTo read ms v rest k → is_ready v ≡ true
+    → (next : Option Message) × GoesOn (input_of read left) ms next
+ready_next read ms v rest k left r ready =
+    let t = r.taken in
+    let is = is_whole-is t.rest (sym (ap is_whole t.held ∙ is_whole-settled t.rest) ∙ and_second (not v.failed) (is_whole v.held) ready) in
+    let good = t.begun is.0 in
+    let n = length_at t.rest in
+    let segment = take n (drop 48 t.rest) in
+    let size : length segment ≡ n = omega (arith, length-take n (drop 48 t.rest), length-drop 48 t.rest, is.1) in
+    let header : IsHeader (take 48 t.rest) good.0 (length segment) = subst (λ (j : ℕ). IsHeader (take 48 t.rest) good.0 j) (sym size) good.1.header in
+    let means = means_of t.rest good.0 segment header (is.1 ∙ ap pdu_len (sym size)) (ap (λ (j : ℕ). take j (drop 48 t.rest)) size) in
+    let within : length segment ≤ v.limit = omega (arith, size, good.1.within) in
+    let reads = reads_one_more v.limit no_login t.given ms t.rest good.0 segment t.reads means within in (
+      Some (record { head = good.0; segment = segment_of (continues (after_all no_login ms) good.0) good.0 segment }),
+      (
+        t.given ++ t.rest,
+        rest,
+        record {
+          whole = r.whole ∙ ap (λ (x : List ℕ). x ++ rest) t.whole;
+          reads = subst (λ (limit : ℕ). ReadsAs limit no_login (t.given ++ t.rest)
+              (ms ++ record { head = good.0; segment = segment_of (continues (after_all no_login ms) good.0) good.0 segment } ∷ [])) r.limit reads;
+        },
+      ),
+    )
+
+next_exists : (p : Bool) (side : Side) (x : Input) (ms : List Message) → is_ready side.framer ≡ p → Stands p side x ms
+    → (next : Option Message) × GoesOn x ms next
+next_exists true side x ms ready r = ready_next x.read ms side.framer (pending side) side.reads x.left r ready
+next_exists false side x ms ready r = (None, r.1)
 
 -- ---- the loop
 
@@ -172,19 +210,20 @@ job_first_stops e a b c d f first second known held now step reads =
 
 -- the second stream has a fault
 pub job_second_stops : (e : CompareFault) (a b c d f h : Option (List ℕ)) (first second first_new : Side) (known : Renaming) (held now : List ℕ) (p : Bool) →
-    JobInStep a b d f first second known held now
+    JobInStep a b d f first second known held now → is_ready first_new.framer ≡ p
     → ReadsOn first b c (Stands p first_new) → ReadsOn second f h (SideFails e second.which) → Compared (FailsInJob e) a c d h
-job_second_stops e a b c d f h first second first_new known held now p step reads others =
+job_second_stops e a b c d f h first second first_new known held now p step ready reads others =
     let one = reads step.read step.ms step.has_read in
     let two = others step.other_read step.ns step.other_has_read in
     let x = input_of (step.read ++ one.0) c in
-    let y = input_of (step.other_read ++ two.0) h in (
+    let y = input_of (step.other_read ++ two.0) h in
+    let next = next_exists p first_new x step.ms ready one.3 in (
       x,
       y,
       gave a b c step.read one.0 step.consumed one.1 one.2,
       gave d f h step.other_read two.0 step.other_consumed two.1 two.2,
-      second_fails e x y step.ms step.ns (job_of a b d f first second known held now step)
-          (subst (λ (w : Which). SideFails e w y step.ns) step.other_which two.3) (begun p first_new x step.ms one.3),
+      second_fails e x y step.ms step.ns next.0 (job_of a b d f first second known held now step)
+          (subst (λ (w : Which). SideFails e w y step.ns) step.other_which two.3) (begun p first_new x step.ms one.3) next.1,
     )
 
 -- both went on

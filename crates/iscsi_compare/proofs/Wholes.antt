@@ -46,7 +46,7 @@ rest_from s (Some more) x consumed is = record { more = more; left_is = is; whol
 pub rest_of : (s : List ℕ) (left : Option (List ℕ)) (x : Input) → Gave (Some s) left x → Rest s x
 rest_of s left x gave = rest_from s left x gave.consumed gave.left_is
 
-all_read : (s : List ℕ) (x : Input) → Rest s x → IsAtEnd x.left → s ≡ x.read
+pub all_read : (s : List ℕ) (x : Input) → Rest s x → IsAtEnd x.left → s ≡ x.read
 all_read s x rest end =
     let none : rest.more ≡ [] = subst IsAtEnd rest.left_is end in
     rest.whole ∙ ap (λ (y : List ℕ). x.read ++ y) none ∙ append-nil x.read
@@ -84,7 +84,7 @@ abbrev pub following : Option Message → List Message → List Message
 following None behind = []
 following (Some m) behind = m ∷ behind
 
-follows : (s : List ℕ) (ms before : List Message) (x : Input) (next : Option Message) → Rest s x → StreamMeans s ms → GoesOn x before next →
+pub follows : (s : List ℕ) (ms before : List Message) (x : Input) (next : Option Message) → Rest s x → StreamMeans s ms → GoesOn x before next →
     (behind : List Message) × (ms ≡ before ++ following next behind)
 follows s ms before x None a p goes = (
   [],
@@ -116,7 +116,7 @@ other_wholes s t ms ns x y place other_place a b p q part e =
 nothing_behind : (s given rest : List ℕ) (ms ns : List Message) → StreamMeans s ns → Splits longest_segment s ms given rest → length rest ≡ 0
 nothing_behind s given rest ms ns means splits = ap length (all_given s given rest ms ns means splits)
 
-refused_whole : (f : StreamFault) (s : List ℕ) (ns ms : List Message) (x : Input) → Rest s x → StreamMeans s ns → IsRefused f x ms → ⊥
+pub refused_whole : (f : StreamFault) (s : List ℕ) (ns ms : List Message) (x : Input) → Rest s x → StreamMeans s ns → IsRefused f x ms → ⊥
 refused_whole stream.NoMemory s ns ms x a means r = absurd r.3
 refused_whole (stream.Head f place) s ns ms x a means r =
     let on = splits_more longest_segment x.read a.more ms r.0 r.1 f r.2 r.3.0 r.3.1 in

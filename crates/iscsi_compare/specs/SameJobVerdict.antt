@@ -40,11 +40,12 @@ FailsInJob fault.NoMemory first second =
 FailsInJob (fault.Stream First f) first second =
     BehindOneJob (λ ms ns. IsRefused f first ms × BeginsWith second ns)
 FailsInJob (fault.Stream Second f) first second =
-    BehindOneJob (λ ms ns. BeginsWith first ms × IsRefused f second ns)
+    BehindOneJob (λ ms ns.
+    (next : Option Message) × GoesOn first ms next × IsRefused f second ns)
 FailsInJob (fault.Read First) first second =
     BehindOneJob (λ ms ns. Stops first ms × BeginsWith second ns)
 FailsInJob (fault.Read Second) first second =
-    BehindOneJob (λ ms ns. BeginsWith first ms × Stops second ns)
+    BehindOneJob (λ ms ns. (next : Option Message) × GoesOn first ms next × Stops second ns)
 
 -- What was read of the streams where a comparison of two runs answers.
 abbrev pub ComparesJobs : Result Verdict CompareFault → Input → Input → Type 0

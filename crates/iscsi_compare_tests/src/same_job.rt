@@ -262,12 +262,10 @@ fn due_of(said: &str) -> Option<Verdict> {
         return Some(Verdict::Same);
     }
     let (place, other_place) = said.split_once(' ')?;
-    Some(
-        Verdict::Differ {
-            place: place.parse::<u64>().ok()?,
-            other_place: other_place.parse::<u64>().ok()?,
-        },
-    )
+    Some(Verdict::Differ {
+        place: place.parse::<u64>().ok()?,
+        other_place: other_place.parse::<u64>().ok()?,
+    })
 }
 
 // What is said of the two runs of a row, and of the same the other way round.
@@ -330,9 +328,20 @@ fn run() -> &'static str {
 }
 
 // What is said where the streams fail after so many reads.
-fn said_of(alloc: Global, first: &[u8], second: &[u8], before: (usize, usize)) -> Result<Verdict, CompareFault> {
-    let mut mine = Failing { rest: first, before: before.0 };
-    let mut other = Failing { rest: second, before: before.1 };
+fn said_of(
+    alloc: Global,
+    first: &[u8],
+    second: &[u8],
+    before: (usize, usize),
+) -> Result<Verdict, CompareFault> {
+    let mut mine = Failing {
+        rest: first,
+        before: before.0,
+    };
+    let mut other = Failing {
+        rest: second,
+        before: before.1,
+    };
     let mut lines = Vec::new(alloc);
     compare_jobs(alloc, &mut mine, &mut other, &mut lines)
 }
@@ -344,11 +353,22 @@ fn each_read_fails(rt: HostRuntime) -> Result<(), Fail> {
     // Two pieces of a stream, and its end.
     for before in 0..3usize {
         let due = Err(CompareFault::Read(Which::First));
-        assert_eq!(&rt; said_of(rt.alloc(), &first, &second, (before, 3)), due, "{before}");
+        assert_eq!(&rt;
+            said_of(rt.alloc(), &first, &second, (before, 3)),
+            due,
+            "{before}"
+        );
         let due = Err(CompareFault::Read(Which::Second));
-        assert_eq!(&rt; said_of(rt.alloc(), &first, &second, (3, before)), due, "{before}");
+        assert_eq!(&rt;
+            said_of(rt.alloc(), &first, &second, (3, before)),
+            due,
+            "{before}"
+        );
     }
-    assert_eq!(&rt; said_of(rt.alloc(), &first, &second, (3, 3)), Ok(Verdict::Same));
+    assert_eq!(&rt;
+        said_of(rt.alloc(), &first, &second, (3, 3)),
+        Ok(Verdict::Same)
+    );
     Ok(())
 }
 
@@ -367,7 +387,10 @@ fn refused_memory_changes_no_verdict(rt: HostRuntime) -> Result<(), Fail> {
     let second = ample(rt.alloc(), "< ")?;
     let said = said_of(rt.alloc(), &first, &second, (3, 3));
     if said == Err(CompareFault::NoMemory) {
-        assert_eq!(&rt; said_of(rt.alloc(), &first, &second, (3, 3)), Ok(Verdict::Same));
+        assert_eq!(&rt;
+            said_of(rt.alloc(), &first, &second, (3, 3)),
+            Ok(Verdict::Same)
+        );
     } else {
         assert_eq!(&rt; said, Ok(Verdict::Same));
     }

@@ -1,8 +1,14 @@
 //! Laws of two runs of one job: functions that do nothing, whose contracts are the theorems.
 
-ghost use Rattle.std.specs.Prelude.{◌≡◌, List};
-ghost use Rattle.iscsi_stream.specs.Stream.{Message};
+ghost use Rattle.std.specs.Prelude.{◌≡◌, ℕ, List, Option, Some, Ok, Err};
+ghost use Rattle.iscsi_stream.specs.declared.fault.StreamFault.{StreamFault};
+ghost use Rattle.iscsi_stream.specs.Stream.{Message, StreamMeans};
+ghost use Rattle.iscsi_compare.specs.declared.fault.Which.{Which};
+ghost use Rattle.iscsi_compare.specs.declared.fault.CompareFault.TheVariants as fault;
+ghost use Rattle.iscsi_compare.specs.declared.verdict.Verdict.TheVariants as verdict;
+ghost use Rattle.iscsi_compare.specs.Comparing.{Input, Gave};
 ghost use Rattle.iscsi_compare.specs.SameJob.{SameJob};
+ghost use Rattle.iscsi_compare.specs.SameJobVerdict.{ComparesJobs};
 
 /// Equal meanings are of one job; so each list of messages is of one job with itself.
 pub fn equal_meanings()
@@ -17,4 +23,21 @@ pub fn either_way()
 /// Two that are of one job with a third are of one job.
 pub fn through_a_third()
     ensures { (ms ns os : List Message) → SameJob ms ns → SameJob ns os → SameJob ms os }
+{}
+
+/// Of two streams of the profile, of which as much was read as was needed: a verdict says truly
+/// whether they are of one job, and no fault of a stream is answered.
+pub fn whole_runs()
+    ensures same { (s t : List ℕ) (ms ns : List Message) (left other_left : Option (List ℕ))
+        (first second : Input) → Gave (Some s) left first → Gave (Some t) other_left second
+        → StreamMeans s ms → StreamMeans t ns
+        → ComparesJobs (Ok verdict.Same) first second → SameJob ms ns }
+    ensures differ { (s t : List ℕ) (ms ns : List Message) (left other_left : Option (List ℕ))
+        (first second : Input) (place other_place : ℕ) → Gave (Some s) left first
+        → Gave (Some t) other_left second → StreamMeans s ms → StreamMeans t ns
+        → ComparesJobs (Ok (verdict.Differ place other_place)) first second → SameJob ms ns → ⊥ }
+    ensures no_fault { (s t : List ℕ) (ms ns : List Message) (left other_left : Option (List ℕ))
+        (first second : Input) (which : Which) (f : StreamFault) → Gave (Some s) left first
+        → Gave (Some t) other_left second → StreamMeans s ms → StreamMeans t ns
+        → ComparesJobs (Err (fault.Stream which f)) first second → ⊥ }
 {}

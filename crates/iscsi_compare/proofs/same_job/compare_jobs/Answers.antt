@@ -35,7 +35,7 @@ returns-in_err-advance-clause-compares g c =
     rw (p.1, p.2) (job_second_stops c.in_err-advance.field-0.0 (g.R.Read.remaining c.args.mine.now) (g.R.Read.remaining l.mine)
     (g.R.Read.remaining c.advance.new.r) (g.Q.Read.remaining c.args.other.now) (g.Q.Read.remaining l.other)
     (g.Q.Read.remaining c.advance-in-loop-renaming.new.r) l.first l.second c.advance.new.self l.renaming c.args.out.now.items l.out.items c.in_ok-some.some
-    l.invariant c.in_ok-some.ensures.ok c.in_err-advance.ensures.err)
+    l.invariant c.in_ok-some.ensures.ready c.in_ok-some.ensures.ok c.in_err-advance.ensures.err)
 
 pub returns-in_err-accepts_next-clause-compares : goal.returns-in_err-accepts_next-clause-compares
 returns-in_err-accepts_next-clause-compares g c =
