@@ -1,4 +1,6 @@
-//! Two runs of one job by example: headers in words of hex, worked out by hand from the tables of RFC 7143, section 11.
+//! Two runs of one job by example: headers in words of hex, worked out by hand from the tables of RFC
+//! 7143, section 11; the runs against a captured session were renumbered by a script. Long, since it
+//! has a table of 40 rows.
 
 use hex::FromHexError;
 use iscsi_compare::same_job::compare_jobs;

@@ -1,4 +1,5 @@
-//! The numbers of a head that two runs of one job may choose differently.
+//! The numbers of a head that two runs of one job may choose differently. Long, since it has two
+//! tables of 17 kinds.
 
 ghost use Rattle.std.specs.Prelude.{◌≡◌};
 ghost use Rattle.iscsi_compare.specs.SameJobNumbers.{none, numbers, with_numbers};
