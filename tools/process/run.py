@@ -35,6 +35,9 @@ CANONICAL = of_hex(
     "00000000 00000000 00000000 00000000 61626300",
 )
 LINE = b"0 NOP-Out i=1 itt=00000001 ttt=ffffffff cmdsn=00000005 expstatsn=00000002 data=3\n"
+# The same with another CmdSN.
+OTHER = CANONICAL[:24] + of_hex("00000006") + CANONICAL[28:]
+OTHER_LINE = b"0 NOP-Out i=1 itt=00000001 ttt=ffffffff cmdsn=00000006 expstatsn=00000002 data=3\n"
 HEADER = "{} 00000000 00000000 00000000 00000000 00000000 00000000 00000000 00000000 00000000 00000000"
 UNKNOWN = of_hex(HEADER.format("10800000 00000000"))
 ADDITIONAL = of_hex(HEADER.format("40800000 01000000"))
@@ -71,7 +74,8 @@ REPORT = (
 
 @dataclass
 class Row:
-    """Words and input, and what is due. `says` is a word that standard error has, where it isn't one known line."""
+    """Words and input, and what is due. `says` is a word that standard error has, where it isn't one known line; `files`
+    are the names and bytes of files in the folder that the program runs in."""
 
     name: str
     words: list
@@ -80,6 +84,7 @@ class Row:
     line: bytes = b""
     status: int = 0
     says: Optional[bytes] = None
+    files: Optional[dict] = None
 
 
 LOOP = ["loop", "--blocks", "2048", "--piece", "48"]
@@ -111,6 +116,21 @@ ROWS = [
     Row("a ping before the login", ANSWER, CANONICAL, b"", b"protocol: rule 1\n", 1),
     Row("a command out of its turn", ANSWER, OUT_OF_TURN, LOGGED_IN + bytes(3) + REJECTED, b"protocol: rule 9\n", 1),
     Row("a line that is none", LOOP, b"capacity\nread 0\n", b"", b"script: line 2\n", 1),
+    # Two streams.
+    Row("a stream and its canonical stream", ["compare", "a", "b"], files={"a": PING + PING, "b": CANONICAL + CANONICAL}),
+    Row("a stream against the standard input", ["compare", "a"], CANONICAL, files={"a": PING}),
+    Row("two texts of hex", ["compare", "--hex", "a"], PING.hex(" ").encode(), files={"a": CANONICAL.hex().encode()}),
+    Row("a PDU less", ["compare", "a", "b"], b"", LINE + b"0 end\n", status=1, files={"a": PING, "b": b""}),
+    Row("another number", ["compare", "a"], OTHER, LINE + OTHER_LINE, status=1, files={"a": PING}),
+    Row("another number in a run of one job", ["compare", "--same-job", "a"], OTHER, files={"a": PING}),
+    Row("a PDU less in a run of one job", ["compare", "--same-job", "a"], b"", LINE + b"0 end\n", status=1, files={"a": PING}),
+    Row("a first stream that is cut", ["compare", "a", "b"], b"", b"", b"a: stream: truncated at 52\n", 1, files={"a": PING + b"@", "b": PING}),
+    Row("a second stream that is refused", ["compare", "a"], PING + UNKNOWN, b"", b"standard input: stream: unknown opcode at 52\n", 1, files={"a": PING + PING}),
+    Row("a text that is no hex", ["compare", "--hex", "a", "b"], b"", b"", b"b: input: not hex\n", 1, files={"a": b"40", "b": b"4g"}),
+    Row("no such file", ["compare", "a", "b"], b"", b"", b"b: read failed\n", 4, files={"a": PING}),
+    Row("a folder", ["compare", "."], b"", b"", b".: read failed\n", 4),
+    Row("no file to compare", ["compare"], says=b"<A>", status=2),
+    Row("three files to compare", ["compare", "a", "b", "c"], says=b"'c'", status=2),
     # Words that are no job.
     Row("help", ["--help"], says=b"Usage: lanthovur", status=2),
     Row("an unknown word", ["shoe"], says=b"shoe", status=2),
@@ -135,6 +155,9 @@ def run(program, row, **streams):
     """Runs the program on a row, in an empty folder."""
     streams = {"input": row.given, "stdout": subprocess.PIPE, **streams}
     with tempfile.TemporaryDirectory() as room:
+        for name, held in (row.files or {}).items():
+            with open(os.path.join(room, name), "wb") as file:
+                file.write(held)
         return subprocess.run([program, *row.words], stderr=subprocess.PIPE, timeout=SECONDS, cwd=room, **streams)
 
 

@@ -104,6 +104,7 @@ IsJob (job.Filter filter) = HasDisk filter.work
 IsJob (job.Serve port blocks sessions) = (0 < blocks) × (blocks ≤ most_blocks)
 IsJob (job.Loop blocks piece) =
     (0 < blocks) × (blocks ≤ most_blocks) × (0 < piece) × (piece ≤ 4096)
+IsJob (job.Compare comparison) = Unit {0}
 
 -- A work that ended well has read its input to the end; answers to bytes end also where the session
 -- is closed.

@@ -2,3 +2,4 @@ pub mod HexText
 pub mod Answering
 pub mod Spelling
 pub mod Filtering
+pub mod Comparisons

@@ -2,10 +2,12 @@
 #![tactic(auto)]
 
 mod answering;
+mod comparing;
 mod filter;
 mod hex_text;
 mod hex_writer;
 mod words;
 
+pub use comparing::{ComparisonFault, Sameness, compare_bytes, compare_hex};
 pub use filter::{Filter, Work, run_filter, status};
-pub use words::{Job, LineFault, read_words};
+pub use words::{Comparison, Job, LineFault, read_words};

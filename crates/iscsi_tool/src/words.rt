@@ -7,6 +7,7 @@ ghost use Rattle.iscsi_tool.specs.Filtering.{HasDisk, IsJob};
 ghost use Rattle.iscsi_tool.specs.declared.filter.Work.TheVariants.{Normalise};
 ghost use Rattle.iscsi_tool.specs.declared.words.Job.TheVariants as job;
 
+use crate::comparing::Sameness;
 use crate::filter::{Filter, Work};
 use clap::error::ErrorKind;
 use clap::{Arg, ArgAction, ArgMatches, Command, Error};
@@ -16,9 +17,22 @@ use std::alloc::{AllocError, AllocFailed, Global};
 use std::convert::AsStr;
 use thiserror::Error;
 
+/// Two inputs to compare.
+#[derive(Clone, Copy, Debug, PartialEq, Eq)]
+pub struct Comparison<'a> {
+    /// The file of the first stream.
+    pub first: &'a str,
+    /// The file of the second stream, or the standard input.
+    pub second: Option<&'a str>,
+    /// What makes them the same.
+    pub sameness: Sameness,
+    /// Whether both are hex text.
+    pub hex: bool,
+}
+
 /// What the words ask for.
 #[derive(Clone, Copy, Debug, PartialEq, Eq)]
-pub enum Job {
+pub enum Job<'a> {
     /// A filter from the standard input to the standard output.
     Filter(Filter),
     /// A target's service on 127.0.0.1.
@@ -37,6 +51,8 @@ pub enum Job {
         /// The most bytes that are written before they are read, 1 to 4096.
         piece: u32,
     },
+    /// Whether two streams have the same meaning.
+    Compare(Comparison<'a>),
 }
 
 /// Why words are refused.
@@ -64,7 +80,7 @@ impl<T: Drop> From<AllocFailed<T>> for LineFault {
 }
 
 /// What is done with no words.
-const UNASKED: Job = Job::Filter(Filter {
+const UNASKED: Job<'static> = Job::Filter(Filter {
     work: Work::Normalise,
     hex: true,
 });
@@ -116,6 +132,11 @@ fn number<'a>(alloc: Global, name: &'a str, value: &'a str, help: &'a str) -> Ar
         .required(true)
         .action(ArgAction::Set)
         .help(help)
+}
+
+// The name of a file.
+fn file<'a>(alloc: Global, name: &'a str, help: &'a str) -> Arg<'a> {
+    Arg::new(alloc, name).action(ArgAction::Set).help(help)
 }
 
 fn blocks<'a>(alloc: Global) -> Arg<'a> {
@@ -171,11 +192,30 @@ fn loop_program<'a>(alloc: Global) -> Result<Command<'a>, AllocError> {
         ))
 }
 
+fn compare_program<'a>(alloc: Global) -> Result<Command<'a>, AllocError> {
+    program(
+        alloc,
+        "compare",
+        "Says where two streams differ in meaning; silent where they don't",
+    )?
+    .arg(file(alloc, "A", "the file of the first stream").required(true))?
+    .arg(file(
+        alloc,
+        "B",
+        "the file of the second stream; without it the standard input",
+    ))?
+    .arg(flag(
+        alloc,
+        "same-job",
+        "tags, session ids and serial numbers may differ as in two runs of one job",
+    ))
+}
+
 fn command<'a>(alloc: Global) -> Result<Command<'a>, AllocError> {
     Command::new(alloc, "lanthovur")
         .about(
-            "Shows, normalises and answers iSCSI byte streams, serves a disk, and runs both ends \
-            of a session; with no words it does 'normalise --hex'.",
+            "Shows, normalises, compares and answers iSCSI byte streams, serves a disk, and runs \
+            both ends of a session; with no words it does 'normalise --hex'.",
         )
         .no_binary_name(true)
         .disable_version_flag(true)
@@ -188,6 +228,7 @@ fn command<'a>(alloc: Global) -> Result<Command<'a>, AllocError> {
             "Writes a line for each PDU of the standard input",
         )?)?
         .subcommand(normalise_program(alloc)?)?
+        .subcommand(compare_program(alloc)?)?
         .subcommand(answer_program(alloc)?)?
         .subcommand(serve_program(alloc)?)?
         .subcommand(loop_program(alloc)?)
@@ -195,7 +236,7 @@ fn command<'a>(alloc: Global) -> Result<Command<'a>, AllocError> {
 
 /// The job that the words of a command line ask for, without the program's name. Words that are no
 /// job, and those that ask for help, return `Usage` with the text to print.
-pub fn read_words<S: AsStr>(alloc: Global, words: &[S]) -> Result<Job, LineFault>
+pub fn read_words<'a, S: AsStr>(alloc: Global, words: &'a [S]) -> Result<Job<'a>, LineFault>
     ensures unasked { words.now ≡ [] →
         result ≡ Ok (job.Filter (record { work = Normalise; hex = true })) }
     // A disk has 1 to 2^40 blocks, and a piece 1 to 4096 bytes.
@@ -216,6 +257,9 @@ pub fn read_words<S: AsStr>(alloc: Global, words: &[S]) -> Result<Job, LineFault
     }
     if name == "loop" {
         return loop_of(alloc, asked);
+    }
+    if name == "compare" {
+        return Ok(comparison_of(asked));
     }
     Ok(Job::Filter(Filter {
         work: work_of(alloc, name, asked)?,
@@ -241,7 +285,23 @@ fn work_of(alloc: Global, name: &str, asked: &ArgMatches<'_>) -> Result<Work, Li
     Ok(Work::Normalise)
 }
 
-fn service_of(alloc: Global, asked: &ArgMatches<'_>) -> Result<Job, LineFault>
+fn comparison_of<'a>(asked: &ArgMatches<'a>) -> Job<'a>
+    ensures disk { IsJob result }
+{
+    let sameness = if asked.get_flag("same-job") {
+        Sameness::Job
+    } else {
+        Sameness::Meaning
+    };
+    Job::Compare(Comparison {
+        first: asked.get_str("A").unwrap_or(""),
+        second: asked.get_str("B"),
+        sameness,
+        hex: asked.get_flag("hex"),
+    })
+}
+
+fn service_of(alloc: Global, asked: &ArgMatches<'_>) -> Result<Job<'static>, LineFault>
     ensures disk { IfOk result IsJob }
 {
     let Some(port) = asked.get_str("port").and_then(number_of) else {
@@ -268,7 +328,7 @@ fn service_of(alloc: Global, asked: &ArgMatches<'_>) -> Result<Job, LineFault>
     })
 }
 
-fn loop_of(alloc: Global, asked: &ArgMatches<'_>) -> Result<Job, LineFault>
+fn loop_of(alloc: Global, asked: &ArgMatches<'_>) -> Result<Job<'static>, LineFault>
     ensures disk { IfOk result IsJob }
 {
     let blocks = asked.get_str("blocks").and_then(blocks_of);

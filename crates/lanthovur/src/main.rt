@@ -1,32 +1,38 @@
-//! The command `lanthovur`: shows, normalises and answers iSCSI byte streams, serves a disk, and
-//! runs both ends of a session.
+//! The command `lanthovur`: shows, normalises, compares and answers iSCSI byte streams, serves a
+//! disk, and runs both ends of a session.
 #![tactic(auto)]
 
-ghost use Rattle.std.specs.Prelude.{IfOk};
-ghost use Rattle.iscsi_tool.specs.Filtering.{HasDisk, IsJob};
+ghost use Rattle.iscsi_tool.specs.Filtering.{HasDisk};
 
+use iscsi_compare::{Verdict, Which};
 use iscsi_service::{ServeFault, run_loop, serve};
-use iscsi_tool::{Filter, Job, LineFault, read_words, run_filter, status};
+use iscsi_stream::ToolFault;
+use iscsi_tool::{
+    Comparison, ComparisonFault, Filter, Job, LineFault, compare_bytes, compare_hex, read_words,
+    run_filter, status,
+};
 use std::alloc::Global;
-use std::io;
-use std::io::ErrorKind;
+use std::io::{ErrorKind, Read};
 use std::process::ExitCode;
+use std::{fs, io};
 
 /// What is said of words that are not UTF-8.
 const NOT_UTF8: &str =
     "error: the words are not all UTF-8\n\nFor more information, try '--help'.\n";
 
-/// The words of the command line, judged before any input is read.
-fn job_of(rt: &HostRuntime) -> Result<Job, LineFault>
-    ensures disk { IfOk result IsJob }
-{
+/// What is said of a file that can't be opened.
+const UNREAD_FIRST: ComparisonFault = ComparisonFault::Input(Which::First, ToolFault::Read);
+
+const UNREAD_SECOND: ComparisonFault = ComparisonFault::Input(Which::Second, ToolFault::Read);
+
+/// The words of the command line.
+fn words_of(rt: &HostRuntime) -> Result<Vec<String>, LineFault> {
     let alloc = rt.alloc();
     let words = match std::env::args(rt) {
         Ok(words) => words,
         Err(error) => return Err(unread_words(alloc, &error)),
     };
-    let words: Vec<String> = words.skip(1).collect(alloc)?;
-    read_words(alloc, words.as_slice())
+    Ok(words.skip(1).collect(alloc)?)
 }
 
 /// Why there are no words to judge: memory ran out, or one of them is not UTF-8.
@@ -66,8 +72,78 @@ fn ended(rt: &HostRuntime, outcome: Result<(), ServeFault>) -> ExitCode {
     }
 }
 
+/// Compares two inputs. The lines of a difference go to the standard output.
+fn compare(rt: &HostRuntime, comparison: Comparison<'_>) -> ExitCode {
+    let Ok(mut first) = fs::open(rt, comparison.first) else {
+        return stopped(rt, comparison, UNREAD_FIRST);
+    };
+    let Some(name) = comparison.second else {
+        let mut input = rt.stdin();
+        return compare_with(rt, comparison, &mut first, &mut input);
+    };
+    let Ok(mut second) = fs::open(rt, name) else {
+        return stopped(rt, comparison, UNREAD_SECOND);
+    };
+    compare_with(rt, comparison, &mut first, &mut second)
+}
+
+/// Compares two readers, before any word of the job is said.
+fn compare_with<R: Read, Q: Read>(
+    rt: &HostRuntime,
+    comparison: Comparison<'_>,
+    first: &mut R,
+    second: &mut Q,
+) -> ExitCode {
+    let mut output = rt.stdout();
+    let sameness = comparison.sameness;
+    let outcome = if comparison.hex {
+        compare_hex(rt.alloc(), sameness, first, second, &mut output)
+    } else {
+        compare_bytes(rt.alloc(), sameness, first, second, &mut output)
+    };
+    match outcome {
+        Ok(Verdict::Same) => ExitCode::SUCCESS,
+        Ok(Verdict::Differ { .. }) => ExitCode::from(1),
+        Err(fault) => stopped(rt, comparison, fault),
+    }
+}
+
+/// The exit status of a comparison that stopped; its line names the input, if it is of one.
+fn stopped(rt: &HostRuntime, comparison: Comparison<'_>, fault: ComparisonFault) -> ExitCode {
+    let _ = match fault {
+        ComparisonFault::Input(Which::First, reason) => {
+            let name = comparison.first;
+            eprintln!(rt; "{name}: {reason}")
+        }
+        ComparisonFault::Input(Which::Second, reason) => {
+            let name = comparison.second.unwrap_or("standard input");
+            eprintln!(rt; "{name}: {reason}")
+        }
+        ComparisonFault::Own(reason) => eprintln!(rt; "{reason}"),
+    };
+    ExitCode::from(fault.status())
+}
+
+/// Words that ask for no job; what there is to say goes to the standard error.
+fn refused(rt: &HostRuntime, fault: LineFault) -> ExitCode {
+    match fault {
+        LineFault::NoMemory => {
+            let _ = eprintln!(rt; "memory");
+            ExitCode::from(3)
+        }
+        LineFault::Usage(text) => {
+            let _ = eprint!(rt; "{text}");
+            ExitCode::from(2)
+        }
+    }
+}
+
 fn main(rt: HostRuntime) -> ExitCode {
-    match job_of(&rt) {
+    let words = match words_of(&rt) {
+        Ok(words) => words,
+        Err(fault) => return refused(&rt, fault),
+    };
+    match read_words(rt.alloc(), words.as_slice()) {
         Ok(Job::Filter(filter)) => run(&rt, filter),
         Ok(
             Job::Serve {
@@ -85,13 +161,7 @@ fn main(rt: HostRuntime) -> ExitCode {
             let result = run_loop(&rt, blocks, piece, &mut input, &mut output);
             ended(&rt, result)
         }
-        Err(LineFault::NoMemory) => {
-            let _ = eprintln!(rt; "memory");
-            ExitCode::from(3)
-        }
-        Err(LineFault::Usage(text)) => {
-            let _ = eprint!(rt; "{text}");
-            ExitCode::from(2)
-        }
+        Ok(Job::Compare(comparison)) => compare(&rt, comparison),
+        Err(fault) => refused(&rt, fault),
     }
 }

@@ -63,6 +63,14 @@ const JOBS: &[(&str, &str)] = &[
         "loop --piece 04096 --blocks 1099511627776",
         "Loop { blocks: 1099511627776, piece: 4096 }",
     ),
+    (
+        "compare a",
+        "Compare(Comparison { first: \"a\", second: None, sameness: Meaning, hex: false })",
+    ),
+    (
+        "compare --hex a --same-job b",
+        "Compare(Comparison { first: \"a\", second: Some(\"b\"), sameness: Job, hex: true })",
+    ),
 ];
 
 const BLOCKS: &str =
@@ -109,6 +117,11 @@ const REFUSED: &[(&str, &str)] = &[
         "error: the argument '--text' cannot be used multiple times\n",
     ),
     ("show --text", "error: unexpected argument '--text' found\n"),
+    (
+        "compare",
+        "error: the following required arguments were not provided:\n  <A>\n",
+    ),
+    ("compare a b c", "error: unexpected argument 'c' found\n"),
     ("--text", "error: unexpected argument '--text' found\n"),
     (
         "normalise --blocks 8",
