@@ -19,7 +19,8 @@ returns-in-Ok-write_fully g c =
     let j = c.in-Ok.ensures.compares in
     let said : Result Verdict CompareFault = Ok c.in-Ok.verdict in
     let told : Tells said [] c.deref.result.now =
-    subst (Tells said []) (sym c.deref.ensures.value) (subst (λ (x : List ℕ). Tells said x c.judged.new.lines.items) c.new-lines.ensures.items c.in-Ok.ensures.tells) in
+    subst (Tells said []) (sym c.deref.ensures.value) (subst (λ (x : List ℕ). Tells said x c.judged.new.lines.items) c.new-lines.ensures.items
+    c.in-Ok.ensures.tells) in
     record { compares = (j.0, j.1, c.deref.result.now, j.2, j.3, c.in-Ok-write_fully.ensures.ok, (said, j.4, (refl, told))) }
 
 pub returns : goal.returns
@@ -27,7 +28,18 @@ returns g c =
     let j = c.in-Ok.ensures.compares in
     let said : Result Verdict CompareFault = Ok c.in-Ok.verdict in
     let told : Tells said [] c.deref.result.now =
-    subst (Tells said []) (sym c.deref.ensures.value) (subst (λ (x : List ℕ). Tells said x c.judged.new.lines.items) c.new-lines.ensures.items c.in-Ok.ensures.tells) in
+    subst (Tells said []) (sym c.deref.ensures.value) (subst (λ (x : List ℕ). Tells said x c.judged.new.lines.items) c.new-lines.ensures.items
+    c.in-Ok.ensures.tells) in
     let front = c.in-Err-write_fully.ensures.err.1 in
     let own : ToolFault → ComparisonFault = λ f. fault.Own f in
-    record { compares = (j.0, j.1, take front.0 c.deref.result.now, j.2, j.3, front.1, (said, j.4, (ap own c.in-Err-write_fully.ensures.err.0, (c.deref.result.now, front.0, told, refl)))) }
+    record {
+      compares = (
+        j.0,
+        j.1,
+        take front.0 c.deref.result.now,
+        j.2,
+        j.3,
+        front.1,
+        (said, j.4, (ap own c.in-Err-write_fully.ensures.err.0, (c.deref.result.now, front.0, told, refl))),
+      );
+    }

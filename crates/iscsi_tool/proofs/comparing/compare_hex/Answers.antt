@@ -9,15 +9,16 @@ use Rattle.iscsi_tool.proofs.comparing.compare_hex.Goals as goal
 whole : (sameness : Sameness) (outcome : Outcome) (bytes other_bytes source other_source written : List ℕ) {left other_left : Option (List ℕ)}
     (first second : Input) → source ≡ bytes → other_source ≡ other_bytes → Gave (Some source) left first → Gave (Some other_source) other_left second
     → ComparesBytes sameness outcome first second written → ComparesWhole sameness outcome bytes other_bytes written
-whole sameness outcome bytes other_bytes source other_source written {left = left} {other_left = other_left} first second e f gave other_gave compares = record {
-  first = first;
-  second = second;
-  left = left;
-  other_left = other_left;
-  gave = subst (λ (s : List ℕ). Gave (Some s) left first) e gave;
-  other_gave = subst (λ (s : List ℕ). Gave (Some s) other_left second) f other_gave;
-  compares = compares;
-}
+whole sameness outcome bytes other_bytes source other_source written {left = left} {other_left = other_left} first second e f gave other_gave compares =
+    record {
+      first = first;
+      second = second;
+      left = left;
+      other_left = other_left;
+      gave = subst (λ (s : List ℕ). Gave (Some s) left first) e gave;
+      other_gave = subst (λ (s : List ℕ). Gave (Some s) other_left second) f other_gave;
+      compares = compares;
+    }
 
 pub returns-in-Err : goal.returns-in-Err
 returns-in-Err g c =
@@ -32,7 +33,12 @@ returns-in-Err g c =
         (e.1, refl),
         (Consumes-nil (g.Q.Read.remaining c.args.other.now), refl),
         Appends-nil (g.W.Write.contents c.args.w.now),
-        inl (record { reason = c.in-Err.fault; fails = e.2; outcome_is = ap (λ (f : ComparisonFault). let r : Outcome = Err f in r) c.input_fault.ensures; none = refl }),
+        inl (record {
+          reason = c.in-Err.fault;
+          fails = e.2;
+          outcome_is = ap (λ (f : ComparisonFault). let r : Outcome = Err f in r) c.input_fault.ensures;
+          none = refl;
+        }),
       );
     }
 
@@ -50,7 +56,13 @@ returns-in-Err-read_bytes g c =
         (o.1, refl),
         (e.1, refl),
         Appends-nil (g.W.Write.contents c.args.w.now),
-        inr (inl (record { reason = c.in-Err-read_bytes.fault; fails = e.2; outcome_is = ap (λ (f : ComparisonFault). let r : Outcome = Err f in r) c.input_fault-in-Err-read_bytes.ensures; none = refl })),
+        inr (inl (record {
+          reason = c.in-Err-read_bytes.fault;
+          fails = e.2;
+          outcome_is =
+              ap (λ (f : ComparisonFault). let r : Outcome = Err f in r) c.input_fault-in-Err-read_bytes.ensures;
+          none = refl;
+        })),
       );
     }
 
@@ -78,7 +90,8 @@ returns g c =
           other_bytes = other_bytes;
           bytes_of = o.3;
           other_bytes_of = p.3;
-          compares = whole c.args.sameness c.compare_bytes.result bytes other_bytes c.as_slice-source.result.now c.as_slice-other_source.result.now j.2 j.0 j.1 c.as_slice-source.ensures.value c.as_slice-other_source.ensures.value j.3 j.4 j.6;
+          compares = whole c.args.sameness c.compare_bytes.result bytes other_bytes c.as_slice-source.result.now c.as_slice-other_source.result.now j.2 j.0 j.1
+              c.as_slice-source.ensures.value c.as_slice-other_source.ensures.value j.3 j.4 j.6;
         })),
       );
     }
