@@ -1,5 +1,8 @@
-//! Tests of `iscsi_compare`: two streams by example.
+//! Tests of `iscsi_compare`: two streams, and two runs of one job, by example.
 #![tactic(auto)]
 
 #[cfg(test)]
 mod same_job;
+#[cfg(test)]
+mod tests;
+pub mod uses;

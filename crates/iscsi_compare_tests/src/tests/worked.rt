@@ -1,0 +1,168 @@
+//! Worked streams: against their canonical streams, against each other, and with a PDU more or less.
+
+use super::failing::{SURE, Source, in_pieces};
+use super::{bytes_of, compared, same};
+use iscsi_compare::{CompareFault, Verdict, Which, compare};
+use iscsi_pdu::HeadFault;
+use iscsi_stream::StreamFault;
+use std::alloc::Global;
+use std::process::Abort;
+use std::test::Fail;
+
+/// A NOP-Out with free bits, a LUN that has no meaning and padding, a Data-In without status, a
+/// READ(10) and a Reject.
+pub const RAW: &str =
+    "c0800000 00000003 11111111 11111111 00000001 ffffffff 00000005 00000002 00000000 00000000 00000000 00000000 616263ff\n\
+    25860002 00000000 00000000 00000000 00000003 ffffffff 00000009 00000006 00000006 00000000 00000000 00000007\n\
+    01c10000 00000000 00000000 00000000 00000001 00000200 00000001 00000003 28000000 0000ff00 01001122 33445566\n\
+    3f000400 00000000 11111111 11111111 00000005 00000009 00000003 00000001 00000001 00000007 00000000 00000000";
+
+/// The same as the profile writes them.
+pub const CANONICAL: &str =
+    "40800000 00000003 00000000 00000000 00000001 ffffffff 00000005 00000002 00000000 00000000 00000000 00000000 61626300\n\
+    25800000 00000000 00000000 00000000 00000003 ffffffff 00000000 00000006 00000006 00000000 00000000 00000000\n\
+    01c10000 00000000 00000000 00000000 00000001 00000200 00000001 00000003 28000000 00001f00 01000000 00000000\n\
+    3f800400 00000000 00000000 00000000 ffffffff 00000000 00000003 00000001 00000001 00000000 00000000 00000000";
+
+// Where the last of the four begins, and where they end.
+const LAST: usize = 148;
+
+const END: usize = 196;
+
+const REJECT_LINE: &str =
+    "148 Reject reason=04 statsn=00000003 expcmdsn=00000001 maxcmdsn=00000001 data=0\n";
+
+fn parted(place: u64, other_place: u64) -> Result<Verdict, CompareFault> {
+    Ok(Verdict::Differ { place, other_place })
+}
+
+// What is said of two streams, and the lines.
+fn check(
+    rt: &impl Abort,
+    alloc: Global,
+    streams: (&[u8], &[u8]),
+    due: Result<Verdict, CompareFault>,
+    lines: &str,
+) {
+    let mut told = Vec::new(alloc);
+    let said = compared(alloc, streams.0, streams.1, &mut told);
+    same(rt, &said, &due, &lines);
+    same(rt, &told.as_slice(), &lines.as_bytes(), &due);
+}
+
+#[test]
+fn a_stream_and_its_canonical_stream_in_any_pieces(rt: HostRuntime) -> Result<(), Fail> {
+    let raw = bytes_of(rt.alloc(), RAW)?;
+    let canonical = bytes_of(rt.alloc(), CANONICAL)?;
+    for step in [1usize, 47, 48] {
+        let mut lines = Vec::new(rt.alloc());
+        let mut first = Source::new(&raw, in_pieces(step));
+        let mut second = Source::new(&canonical, SURE);
+        let said = compare(rt.alloc(), &mut first, &mut second, &mut lines);
+        same(&rt, &said, &Ok(Verdict::Same), &step);
+        let mut first = Source::new(&raw, SURE);
+        let mut second = Source::new(&canonical, in_pieces(step));
+        let said = compare(rt.alloc(), &mut first, &mut second, &mut lines);
+        same(&rt, &said, &Ok(Verdict::Same), &step);
+        same(&rt, &lines.len(), &0, &step);
+    }
+    check(&rt, rt.alloc(), (b"", b""), Ok(Verdict::Same), "");
+    Ok(())
+}
+
+#[test]
+fn a_pdu_more_or_less(rt: HostRuntime) -> Result<(), Fail> {
+    let raw = bytes_of(rt.alloc(), RAW)?;
+    let canonical = bytes_of(rt.alloc(), CANONICAL)?;
+    let less = canonical.get(..LAST).ok_or("short")?;
+    let mut lines = String::from_str(rt.alloc(), REJECT_LINE)?;
+    lines.push_str("148 end\n")?;
+    check(&rt, rt.alloc(), (&raw, less), parted(148, 148), &lines);
+    let mut lines = String::from_str(rt.alloc(), "148 end\n")?;
+    lines.push_str(REJECT_LINE)?;
+    check(&rt, rt.alloc(), (less, &raw), parted(148, 148), &lines);
+    Ok(())
+}
+
+/// The lines of two PDUs that differ in their data alone are equal.
+#[test]
+fn data_that_differ(rt: HostRuntime) -> Result<(), Fail> {
+    let raw = bytes_of(rt.alloc(), RAW)?;
+    let mut other = bytes_of(rt.alloc(), CANONICAL)?;
+    if let Some(byte) = other.get_mut(50) {
+        *byte = b'd';
+    }
+    let lines = "0 NOP-Out i=1 itt=00000001 ttt=ffffffff cmdsn=00000005 expstatsn=00000002 data=3\n\
+        0 NOP-Out i=1 itt=00000001 ttt=ffffffff cmdsn=00000005 expstatsn=00000002 data=3\n";
+    check(&rt, rt.alloc(), (&raw, &other), parted(0, 0), lines);
+    Ok(())
+}
+
+// A stream that is cut, against a whole one.
+fn check_cut(rt: &impl Abort, alloc: Global, cut: &[u8], whole: &[u8], place: u64) {
+    let fault = StreamFault::Truncated(place);
+    let due = Err(CompareFault::Stream(Which::First, fault));
+    check(rt, alloc, (cut, whole), due, "");
+    let due = Err(CompareFault::Stream(Which::Second, fault));
+    check(rt, alloc, (whole, cut), due, "");
+    // The first stream's comes first.
+    let due = Err(CompareFault::Stream(Which::First, fault));
+    check(rt, alloc, (cut, cut), due, "");
+}
+
+#[test]
+fn a_stream_that_is_cut(rt: HostRuntime) -> Result<(), Fail> {
+    let whole = bytes_of(rt.alloc(), CANONICAL)?;
+    for len in [1usize, 47, 48, 51, 53, 99, 101, LAST + 1, END - 1] {
+        let place = match len {
+            0..52 => 0,
+            52..100 => 52,
+            100..148 => 100,
+            _ => 148,
+        };
+        let cut = whole.get(..len).ok_or("short")?;
+        check_cut(&rt, rt.alloc(), cut, &whole, place);
+    }
+    Ok(())
+}
+
+/// What follows a difference isn't looked at; what comes before it is.
+#[test]
+fn a_header_that_is_refused(rt: HostRuntime) -> Result<(), Fail> {
+    let whole = bytes_of(rt.alloc(), CANONICAL)?;
+    let mut bad = bytes_of(rt.alloc(), RAW)?;
+    if let Some(byte) = bad.get_mut(LAST) {
+        *byte = 0x10;
+    }
+    let fault = StreamFault::Head(HeadFault::UnknownOpcode, 148);
+    let due = Err(CompareFault::Stream(Which::Second, fault));
+    check(&rt, rt.alloc(), (&whole, &bad), due, "");
+    let rest = whole.get(52..).ok_or("short")?;
+    let mut lines = Vec::new(rt.alloc());
+    same(
+        &rt,
+        &compared(rt.alloc(), rest, &bad, &mut lines),
+        &parted(0, 0),
+        &"before it",
+    );
+    Ok(())
+}
+
+/// Meaning is that of each PDU: one text in one PDU and in two differ.
+#[test]
+fn a_login_text_in_two_pdus(rt: HostRuntime) -> Result<(), Fail> {
+    let one = bytes_of(
+        rt.alloc(),
+        "43870000 00000004 40000001 00000000 00000000 00000000 00000001 00000000 00000000 00000000 00000000 00000000 413d3100",
+    )?;
+    let two = bytes_of(
+        rt.alloc(),
+        "43400000 00000002 40000001 00000000 00000000 00000000 00000001 00000000 00000000 00000000 00000000 00000000 413d0000\n\
+        43870000 00000002 40000001 00000000 00000000 00000000 00000001 00000000 00000000 00000000 00000000 00000000 31000000",
+    )?;
+    let lines =
+        "0 Login-Request t=1 c=0 csg=1 nsg=3 vmax=00 vmin=00 isid=400000010000 tsih=0000 itt=00000000 cid=0000 cmdsn=00000001 expstatsn=00000000 data=4\n\
+        0 Login-Request t=0 c=1 csg=0 vmax=00 vmin=00 isid=400000010000 tsih=0000 itt=00000000 cid=0000 cmdsn=00000001 expstatsn=00000000 data=2\n";
+    check(&rt, rt.alloc(), (&one, &two), parted(0, 0), lines);
+    Ok(())
+}
