@@ -236,6 +236,21 @@ def kept_buffer(ping):
     return int(not is_kept)
 
 
+def comparisons(session):
+    """How many runs of `compare` ended wrongly: with the same stream, and with one that has a PDU less."""
+    shorter = session[: sorted(ends(session))[-2]]
+    failed = 0
+    for hexed in (False, True):
+        spelled = (lambda stream: stream.hex().encode()) if hexed else (lambda stream: stream)
+        with open(f"{ROOM}/other", "wb") as file:
+            file.write(spelled(session))
+        for more in ([], ["--same-job"]):
+            words = ["compare", f"{ROOM}/other", *(["--hex"] if hexed else []), *more]
+            for name, stream in (("the same", session), ("a PDU less", shorter)):
+                failed += sweep(f"{' '.join(['compare', *words[2:]])}, {name}", words, spelled(stream))
+    return failed
+
+
 def main():
     if not os.path.isfile(PROGRAM):
         sys.exit(f"there is no program {PROGRAM}: `./lanthovur </dev/null` builds it")
@@ -252,6 +267,7 @@ def main():
         (["loop", "--blocks", "8", "--piece", "48"], b"tur 0\nread 0\n"),
     ]
     failed = sum(sweep(" ".join(words), words, data) for words, data in cases)
+    failed += comparisons(session)
     answer = ["answer", "--blocks", "2048"]
     for name, came, stops, due, status in dialogues():
         if run(answer, came)[0][:2] != (status, due):

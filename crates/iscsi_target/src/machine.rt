@@ -15,7 +15,7 @@ mod dispatch;
 mod writes;
 
 use crate::tasks::Tasks;
-use iscsi_login::{Params, Phase, Stage};
+use iscsi_login::{Params, Phase, Session as SessionType, Stage};
 use iscsi_target_session::{Config, Numbers, Received, Session};
 use std::alloc::{AllocError, Global};
 use std::marker::Model;
@@ -70,6 +70,27 @@ impl Machine {
         ensures { result ≡ is_closed self.now }
     {
         self.session.is_closed()
+    }
+
+    /// The initiator's name, once it gave one.
+    pub fn initiator_name(&self) -> &[u8]
+        ensures { result.now ≡ self.now.session.initiator_name }
+    {
+        self.session.initiator_name()
+    }
+
+    /// The ISID of the first Login Request.
+    pub fn isid(&self) -> [u8; 6]
+        ensures { result ≡ self.now.session.isid }
+    {
+        self.session.isid()
+    }
+
+    /// Whether the session is normal or of discovery.
+    pub fn session_type(&self) -> SessionType
+        ensures { result ≡ self.now.session.session_type }
+    {
+        self.session.session_type()
     }
 
     /// The stage of the login.

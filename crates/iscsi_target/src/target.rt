@@ -13,7 +13,7 @@ ghost use Rattle.iscsi_target.specs.Inside.{connection, store_of, target_fault, 
 
 use crate::fault::TargetFault;
 use crate::machine::Machine;
-use iscsi_login::{Params, Phase, Stage};
+use iscsi_login::{Params, Phase, Session as SessionType, Stage};
 use iscsi_pdu::LOGIN_SEGMENT;
 use iscsi_stream::{Framer, StreamFault};
 use iscsi_target_session::{Config, Received};
@@ -123,6 +123,29 @@ impl Target {
         ensures phase { result ≡ self.now.machine.session.phase }
     {
         self.machine.phase()
+    }
+
+    /// The initiator's name, as the first text of the login gave it; empty before. With the ISID it
+    /// says which port of which initiator the session is with (RFC 7143, sections 4.1 and 13.5).
+    pub fn initiator_name(&self) -> &[u8]
+        ensures name { result.now ≡ self.now.machine.session.initiator_name }
+    {
+        self.machine.initiator_name()
+    }
+
+    /// The ISID of the first Login Request; zero before (RFC 7143, section 11.12.5).
+    pub fn isid(&self) -> [u8; 6]
+        ensures isid { result ≡ self.now.machine.session.isid }
+    {
+        self.machine.isid()
+    }
+
+    /// Whether the session is normal, as it is until the first text of the login says otherwise, or
+    /// of discovery (RFC 7143, section 13.21).
+    pub fn session_type(&self) -> SessionType
+        ensures session_type { result ≡ self.now.machine.session.session_type }
+    {
+        self.machine.session_type()
     }
 
     /// Where the login is: security at first, then the stage of the first request that isn't

@@ -18,7 +18,7 @@ use Rattle.iscsi_target_session.specs.Session.{Session, Reply, shut, ended, coun
 use Rattle.scsi_disk.specs.Plan.{first_of}
 use Rattle.iscsi_pdu.specs.Rules.{kind_not_due}
 use Rattle.iscsi_target_session.specs.declared.status.Status.{Status}
-use Rattle.iscsi_target_session.specs.LoginText.{initiator_error, unsupported_version, session_does_not_exist, out_of_resources, is_operational, known_keys, seen_with, session_for, answer_pairs, held_after, text_refusals}
+use Rattle.iscsi_target_session.specs.LoginText.{initiator_error, unsupported_version, session_does_not_exist, out_of_resources, is_operational, known_keys, seen_with, session_for, answer_pairs, held_after, text_refusals, initiator_for}
 
 -- ---- stages
 
@@ -131,6 +131,7 @@ after_text s r pairs = record s {
   phase = phase_at (stage_after s r);
   has_text = true;
   has_operational_text = s.has_operational_text || is_operational s.stage;
+  initiator_name = initiator_for s pairs;
   session_type = session_for s pairs;
   seen_keys = seen_with known_keys s.seen_keys pairs;
   held = held_after s pairs;
@@ -186,9 +187,10 @@ request_refusals s r =
     ∷ (r.transits && not (is_move (stage_named r.current_stage) (stage_asked r)), initiator_error)
     ∷ []
 
--- The first request settles the CmdSN that is due (section 11.12.8).
+-- The first request settles the CmdSN that is due and the ISID (sections 11.12.5 and 11.12.8).
 abbrev pub numbered : Session → LoginRequest → Session
-numbered s r = if s.begun then s else record s { begun = true; exp_cmd_sn = r.cmd_sn }
+numbered s r =
+    if s.begun then s else record s { begun = true; exp_cmd_sn = r.cmd_sn; isid = r.isid }
 
 -- The session in the request's stage (section 11.12.3).
 abbrev pub entered : Session → LoginRequest → Session

@@ -95,6 +95,16 @@ abbrev pub is_name : Option Typed → Bool
 is_name (Some (values.Plain name)) = not (is_empty name)
 is_name _ = false
 
+-- The name, if there is one (section 13.5).
+abbrev pub name_in : Option Typed → List ℕ
+name_in (Some (values.Plain name)) = name
+name_in _ = []
+
+-- The initiator's name once this text is whole: the first text settles it (section 13.5).
+abbrev pub initiator_for : Session → Pairs → List ℕ
+initiator_for s pairs =
+    if s.has_text then s.initiator_name else name_in (value_for (codes "InitiatorName") pairs)
+
 -- The type of session; one that isn't named is normal (section 13.21).
 abbrev pub session_named : Option Typed → Option SessionType
 session_named None = Some sessions.Normal

@@ -30,6 +30,9 @@ pub record Session : Type 0 where
   -- whether a whole text came, and whether one came in the operational stage
   pub has_text : Bool
   pub has_operational_text : Bool
+  -- who the initiator says that it is, once it did: its name and its ISID
+  pub initiator_name : List ℕ
+  pub isid : List ℕ
   pub session_type : SessionType
   pub held : Held
   -- the CmdSN that is due, and the StatSN of the next answer that carries and advances it
@@ -47,6 +50,8 @@ opening_session settings first_stat_sn = record {
   seen_keys = replicate 27 false;
   has_text = false;
   has_operational_text = false;
+  initiator_name = [];
+  isid = replicate 6 0;
   session_type = session_types.Normal;
   held = defaults;
   exp_cmd_sn = 0;

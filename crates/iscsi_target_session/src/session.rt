@@ -39,6 +39,8 @@ pub struct Session {
     seen_keys: [bool; 27],
     has_text: bool,
     has_operational_text: bool,
+    initiator_name: Vec<u8>,
+    isid: [u8; 6],
     session_type: iscsi_login::Session,
     held: Params,
     exp_cmd_sn: u32,
@@ -59,6 +61,8 @@ impl Model for Session {
       seen_keys = s.seen_keys;
       has_text = s.has_text;
       has_operational_text = s.has_operational_text;
+      initiator_name = s.initiator_name.items;
+      isid = s.isid;
       session_type = s.session_type;
       held = s.held;
       exp_cmd_sn = s.exp_cmd_sn;
@@ -80,6 +84,8 @@ impl Session {
             seen_keys: [false; 27],
             has_text: false,
             has_operational_text: false,
+            initiator_name: Vec::new(alloc),
+            isid: [0; 6],
             session_type: iscsi_login::Session::Normal,
             held: Params::defaults(),
             exp_cmd_sn: 0,
@@ -120,6 +126,21 @@ impl Session {
         ensures { result ≡ self.now.session_type }
     {
         self.session_type
+    }
+
+    /// The initiator's name, as the first text of the login gave it; empty before (RFC 7143, section
+    /// 13.5).
+    pub fn initiator_name(&self) -> &[u8]
+        ensures { result.now ≡ self.now.initiator_name }
+    {
+        &self.initiator_name
+    }
+
+    /// The ISID of the first Login Request; zero before (RFC 7143, section 11.12.5).
+    pub fn isid(&self) -> [u8; 6]
+        ensures { result ≡ self.now.isid }
+    {
+        self.isid
     }
 
     /// The serial numbers of an answer, while so many tasks wait.

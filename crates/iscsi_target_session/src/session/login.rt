@@ -12,6 +12,7 @@ ghost use Rattle.iscsi_stream.specs.Segment.{Bytes, Text as Whole, segment_of, t
 ghost use Rattle.iscsi_target_session.specs.Session.{ended};
 ghost use Rattle.scsi_disk.specs.Plan.{first_of};
 ghost use Rattle.iscsi_target_session.specs.Login.{stage_named, is_due_stage, is_move, stage_asked, stage_after, tsih_at, phase_at, response, refuse, after_text, whole_text, segment_taken, request_refusals, login_request, login_step};
+ghost use Rattle.iscsi_target_session.specs.LoginText.{initiator_for};
 ghost use Rattle.iscsi_target_session.specs.Replies.{Replied, Does, Attempts};
 ghost use Rattle.iscsi_target_session.specs.Inside.{rolled_back, login_answer};
 
@@ -75,11 +76,13 @@ impl Session {
         ensures { Attempts (login_request self.old request.now received.now.segment) result
             self.old self.new out.old.items out.new.items }
     {
-        let (begun, exp_cmd_sn, stage) = (self.begun, self.exp_cmd_sn, self.stage);
+        let (begun, exp_cmd_sn) = (self.begun, self.exp_cmd_sn);
+        let (isid, stage) = (self.isid, self.stage);
         let result = self.begin_stage(request, received, out);
         if result.is_err() {
             self.begun = begun;
             self.exp_cmd_sn = exp_cmd_sn;
+            self.isid = isid;
             self.stage = stage;
         }
         result
@@ -104,6 +107,7 @@ impl Session {
         if !self.begun {
             self.begun = true;
             self.exp_cmd_sn = request.cmd_sn;
+            self.isid = request.isid;
         }
         if let Some(why) = refusal {
             return self.refuse(request, why, out);
@@ -263,6 +267,7 @@ impl Session {
         if let Some(why) = self.text_refusal(text, &answer) {
             return self.refuse(request, why, out);
         }
+        let initiator_name = self.initiator_for(*out.allocator(), text)?;
         let stage = self.stage_after(request);
         let response = LoginResponse {
             transits: request.transits,
@@ -271,13 +276,14 @@ impl Session {
             ..self.response(request)
         };
         self.answer(response, &answer, out)?;
-        self.hold(stage, text);
+        self.hold(stage, text, initiator_name);
         Ok(None)
     }
 
     // Applies what a text that was answered negotiates, in the stage that follows.
-    fn hold(&mut self, stage: Stage, text: &Text<'_>)
-        requires { DeclaresWell text.now }
+    fn hold(&mut self, stage: Stage, text: &Text<'_>, initiator_name: Vec<u8>)
+        requires declares { DeclaresWell text.now }
+        requires name { initiator_name.items ≡ initiator_for self.old text.now }
         ensures { (request : LoginRequest) → stage_after self.old request ≡ stage
             → self.new ≡ after_text self.old request text.now }
     {
@@ -290,6 +296,7 @@ impl Session {
         self.has_operational_text = self.has_operational_text
             || matches!(self.stage, Stage::Operational);
         self.session_type = session_type;
+        self.initiator_name = initiator_name;
         self.stage = stage;
         self.phase = phase_at(stage);
     }

@@ -1,6 +1,6 @@
 //! What a login text declares, and why it is refused (RFC 7143, sections 6.3, 11.13.5 and 13).
 
-ghost use Rattle.std.specs.Prelude.{◌≡◌, ◌<◌, ◌≤◌, not, ◌&&◌, ◌||◌, [], slice_index_or, false, None, Some, is_none, IfSome, length, codes};
+ghost use Rattle.std.specs.Prelude.{◌≡◌, ◌<◌, ◌≤◌, not, ◌&&◌, ◌||◌, [], slice_index_or, false, None, Some, is_none, IfSome, IfOk, length, codes};
 ghost use Rattle.std.specs.Option.{option_map};
 ghost use Rattle.std.specs.Str.{bytes_eq};
 ghost use Rattle.iscsi_text.specs.Key.{target_address};
@@ -9,12 +9,13 @@ ghost use Rattle.iscsi_text.specs.Canonical.{canonical_text};
 ghost use Rattle.iscsi_text.specs.Reading.{has_key};
 ghost use Rattle.iscsi_login.specs.Answer.{DeclaresWell, max_recv_key};
 ghost use Rattle.scsi_disk.specs.Plan.{first_of};
-ghost use Rattle.iscsi_target_session.specs.LoginText.{known_keys, repeats_key, seen_with, is_name, value_for, is_bad_length, session_named, session_in, session_for, is_normal, names_target, demands_authentication, declared_tag, declared_length, answer_pairs, text_refusals};
+ghost use Rattle.iscsi_target_session.specs.LoginText.{known_keys, repeats_key, seen_with, is_name, name_in, initiator_for, value_for, is_bad_length, session_named, session_in, session_for, is_normal, names_target, demands_authentication, declared_tag, declared_length, answer_pairs, text_refusals};
 
 use super::Session;
 use crate::status::Status;
 use iscsi_login::{Answered, NegKey, Session as SessionType, Stage, declares_well, result};
 use iscsi_text::{Text, Value};
+use std::alloc::{AllocError, Global};
 
 /// The most bytes of an answer (own rule).
 const LONGEST_ANSWER: usize = 8192;
@@ -103,6 +104,24 @@ impl Session {
         } else {
             session_in(text).unwrap_or(SessionType::Normal)
         }
+    }
+
+    // The initiator's name once this text is whole, to keep: the first text settles it.
+    pub(super) fn initiator_for(
+        &self,
+        alloc: Global,
+        text: &Text<'_>,
+    ) -> Result<Vec<u8>, AllocError>
+        ensures { IfOk result (λ name. name.items ≡ initiator_for self.now text.now) }
+    {
+        let name = if self.has_text {
+            self.initiator_name.as_slice()
+        } else {
+            name_of(text)
+        };
+        let mut kept = Vec::new(alloc);
+        kept.extend_from_slice(name)?;
+        Ok(kept)
     }
 
     // The tag of the portal group, which goes with the first text of a normal session.
@@ -249,6 +268,16 @@ fn has_initiator_name(text: &Text<'_>) -> bool
     match value_of(text, b"InitiatorName") {
         Some(Value::Plain(name)) => !name.is_empty(),
         _ => false,
+    }
+}
+
+// The initiator's name, if there is one; else it's empty.
+fn name_of<'a>(text: &Text<'a>) -> &'a [u8]
+    ensures { result.now ≡ name_in (value_for (codes "InitiatorName") text.now) }
+{
+    match value_of(text, b"InitiatorName") {
+        Some(Value::Plain(name)) => name,
+        _ => &[],
     }
 }
 

@@ -7,7 +7,7 @@ use super::queues::{
 use super::rows::{Dialogue, FAILING, LOGIN, LOGINS, LONG, REQUESTS, SHORT, WRITES};
 use super::{BY_PDU, feed_pieces, pdu_of, same, target_of, target_with};
 use iscsi_examples::{SESSION, append_pdu};
-use iscsi_login::{Phase, Preferences, Stage};
+use iscsi_login::{Phase, Preferences, Session, Stage};
 use iscsi_stream::StreamFault;
 use iscsi_target::{Target, TargetFault};
 use scsi_disk::{BlockStore, FailAt, MemoryStore, SparseStore};
@@ -261,6 +261,19 @@ fn longer_segments_than_declared(rt: HostRuntime) -> Result<(), Fail> {
     Ok(())
 }
 
+// Whose session it is after the login.
+fn check_initiator(rt: &impl Abort, target: &Target) {
+    let due = b"iqn.2026-01.example:host".as_slice();
+    same(rt, &target.initiator_name(), &due, &"the initiator's name");
+    same(rt, &target.isid(), &[0x40, 0, 0, 1, 0, 0], &"its ISID");
+    same(
+        rt,
+        &target.session_type(),
+        &Session::Normal,
+        &"the session's type",
+    );
+}
+
 // A target after its login.
 fn logged_in(rt: &impl Abort, alloc: Global, store: &mut MemoryStore) -> Result<Box<Target>, Fail> {
     let mut target = target_of(alloc)?;
@@ -280,6 +293,7 @@ fn logged_in(rt: &impl Abort, alloc: Global, store: &mut MemoryStore) -> Result<
         &4096,
         &"what is held",
     );
+    check_initiator(rt, &target);
     Ok(target)
 }
 
