@@ -87,6 +87,11 @@ class Row:
     files: Optional[dict] = None
 
 
+# One job that was captured twice, each direction of it.
+FIRST, SECOND = (
+    {end: open(f"{TOP}/docs/session/{folder}{end}.hex", "rb").read() for end in ("initiator", "target")} for folder in ("", "second/")
+)
+
 LOOP = ["loop", "--blocks", "2048", "--piece", "48"]
 ANSWER = ["answer", "--blocks", "8"]
 ROWS = [
@@ -123,6 +128,8 @@ ROWS = [
     Row("a PDU less", ["compare", "a", "b"], b"", LINE + b"0 end\n", status=1, files={"a": PING, "b": b""}),
     Row("another number", ["compare", "a"], OTHER, LINE + OTHER_LINE, status=1, files={"a": PING}),
     Row("another number in a run of one job", ["compare", "--same-job", "a"], OTHER, files={"a": PING}),
+    Row("an initiator that was captured twice", ["compare", "--hex", "--same-job", "a"], SECOND["initiator"], files={"a": FIRST["initiator"]}),
+    Row("a target that was captured twice", ["compare", "--hex", "--same-job", "a"], SECOND["target"], files={"a": FIRST["target"]}),
     Row("a PDU less in a run of one job", ["compare", "--same-job", "a"], b"", LINE + b"0 end\n", status=1, files={"a": PING}),
     Row("a first stream that is cut", ["compare", "a", "b"], b"", b"", b"a: stream: truncated at 52\n", 1, files={"a": PING + b"@", "b": PING}),
     Row("a second stream that is refused", ["compare", "a"], PING + UNKNOWN, b"", b"standard input: stream: unknown opcode at 52\n", 1, files={"a": PING + PING}),
