@@ -1,0 +1,90 @@
+-- What commands that were executed exactly leave in a block.
+use Rattle.std.proofs.Common.{◌≡◌, ℕ, zero, suc, ◌+◌, Bool, true, false, if◌then◌else◌, List, [], ◌∷◌, ◌++◌, Option, None, Some, refl, sym, ap, subst, ◌∙◌, take}
+use Rattle.std.specs.Prelude.{unwrap_or, nat_lt, ◌*◌, ◌-◌, length as list_length}
+use Rattle.scsi_disk.specs.declared.order.Order.{Order}
+use Rattle.scsi_disk.specs.declared.order.Plan.{Plan}
+use Rattle.scsi_disk.specs.declared.order.Plan.TheVariants.{Refuse, Take, Give}
+use Rattle.scsi_disk.specs.Disk.{Disk, cut, joined, overlaid}
+use Rattle.scsi_disk.specs.Effect.{effect, disk_by, outcome_by, wanted_data}
+use Rattle.scsi_disk.specs.Plan.{plan_of, transfer, is_read}
+use Rattle.iscsi_stream.specs.Pieces.{data_of}
+use Rattle.iscsi_target.specs.State.{Execution}
+use Rattle.iscsi_hall.specs.Blocks.{Follows, block_by, written_by, later_or, last_written, block_left}
+
+-- ---- one command
+
+chosen : (b c : Bool) (x y : List ℕ) → (if b then y else if c then x else y) ≡ unwrap_or (if b then None else if c then Some x else None) y
+chosen true c x y = refl
+chosen false true x y = refl
+chosen false false x y = refl
+
+plan_block : (p : Plan) (disk : Disk) (order : Order) (bytes : List ℕ) (n : ℕ) → (disk_by p disk order bytes).block n
+    ≡ unwrap_or (block_by p order bytes n) (disk.block n)
+unfolding overlaid
+plan_block (Refuse sense) disk order bytes n = refl
+plan_block (Give length) disk order bytes n = refl
+plan_block (Take length) disk order bytes n = let first : ℕ = (transfer order.cdb).first in
+    chosen (nat_lt n first) (nat_lt (512 * (n - first)) (list_length bytes)) (cut 512 bytes (n - first)) (disk.block n)
+
+plan_count : (p : Plan) (disk : Disk) (order : Order) (bytes : List ℕ) → (disk_by p disk order bytes).count ≡ disk.count
+plan_count (Refuse sense) disk order bytes = refl
+plan_count (Give length) disk order bytes = refl
+plan_count (Take length) disk order bytes = refl
+
+-- ---- one after another
+
+later_first : (later earlier : Option (List ℕ)) (d : List ℕ) → unwrap_or (later_or later earlier) d ≡ unwrap_or later (unwrap_or earlier d)
+later_first None earlier d = refl
+later_first (Some x) earlier d = refl
+
+pub follow_count : (disk last : Disk) (es : List Execution) → Follows disk es last → last.count ≡ disk.count
+unfolding Follows
+follow_count disk last [] f = ap (λ (d : Disk). d.count) f
+follow_count disk last (e ∷ es) f =
+    follow_count (effect e.disk e.order (data_of e.pieces)).disk last es f.1 ∙ plan_count (plan_of e.order e.disk.count) e.disk e.order (data_of e.pieces)
+    ∙ ap (λ (d : Disk). d.count) f.0
+
+pub follow_block : (disk last : Disk) (es : List Execution) → Follows disk es last → (n : ℕ) → last.block n ≡ block_left disk es n
+unfolding Follows last_written
+follow_block disk last [] f n = ap (λ (d : Disk). d.block n) f
+follow_block disk last (e ∷ es) f n =
+    let next : Disk = (effect e.disk e.order (data_of e.pieces)).disk in
+    let same : next.count ≡ disk.count = plan_count (plan_of e.order e.disk.count) e.disk e.order (data_of e.pieces) ∙ ap (λ (d : Disk). d.count) f.0 in
+    let first : next.block n ≡ unwrap_or (written_by disk.count e n) (disk.block n) =
+    plan_block (plan_of e.order e.disk.count) e.disk e.order (data_of e.pieces) n
+    ∙ ap (λ (d : Disk). unwrap_or (written_by d.count e n) (d.block n)) f.0 in
+    follow_block next last es f.1 n
+    ∙ ap (λ (c : ℕ). unwrap_or (last_written c es n) (next.block n)) same
+    ∙ ap (λ (b : List ℕ). unwrap_or (last_written disk.count es n) b) first
+    ∙ sym (later_first (last_written disk.count es n) (written_by disk.count e n) (disk.block n))
+
+follow_front : (disk last : Disk) (past : List Execution) (e : Execution) (later : List Execution) → Follows disk (past ++ e ∷ later) last →
+    Follows disk past e.disk
+unfolding Follows
+follow_front disk last [] e later f = f.0
+follow_front disk last (p ∷ past) e later f = (f.0, follow_front (effect p.disk p.order (data_of p.pieces)).disk last past e later f.1)
+
+-- ---- a read
+
+if_true : (b : Bool) (x y : List ℕ) → b ≡ true → (if b then x else y) ≡ x
+if_true true x y e = refl
+if_true false x y e = absurd cc
+
+given_bytes : (p : Plan) (length : ℕ) (disk : Disk) (order : Order) → p ≡ Give length → (outcome_by p disk order).bytes ≡ take length (wanted_data disk order)
+given_bytes p length disk order e = subst (λ (q : Plan). (outcome_by q disk order).bytes ≡ take length (wanted_data disk order)) (sym e) refl
+
+joined_same : (f g : ℕ → List ℕ) → ((n : ℕ) → f n ≡ g n) → (first count : ℕ) → joined f first count ≡ joined g first count
+unfolding joined
+joined_same f g h first zero = refl
+joined_same f g h first (suc count) =
+    ap (λ (x : List ℕ). x ++ joined f (first + 1) count) (h first) ∙ ap (λ (x : List ℕ). g first ++ x) (joined_same f g h (first + 1) count)
+
+pub read_bytes : (disk last : Disk) (past later : List Execution) (e : Execution) (length : ℕ) → Follows disk (past ++ e ∷ later) last →
+    is_read e.order.cdb ≡ true → plan_of e.order disk.count ≡ Give length →
+    (effect e.disk e.order (data_of e.pieces)).outcome.bytes
+    ≡ take length (joined (block_left disk past) (transfer e.order.cdb).first (transfer e.order.cdb).count)
+read_bytes disk last past later e length f is p =
+    let front : Follows disk past e.disk = follow_front disk last past e later f in
+    given_bytes (plan_of e.order e.disk.count) length e.disk e.order (ap (λ (c : ℕ). plan_of e.order c) (follow_count disk e.disk past front) ∙ p)
+    ∙ ap (λ (x : List ℕ). take length x) (if_true (is_read e.order.cdb) _ _ is
+    ∙ joined_same e.disk.block (block_left disk past) (follow_block disk e.disk past front) (transfer e.order.cdb).first (transfer e.order.cdb).count)

@@ -1,0 +1,132 @@
+-- One session in company: CmdSN counts on.
+use Rattle.std.proofs.Common.{◌≡◌, ◌<◌, ℕ, ◌^◌, true, false, List, [], ◌∷◌, ◌++◌, refl, sym, ap, subst, ◌∙◌, arith, append_assoc}
+use Rattle.std.specs.List.{AllByRecursion}
+use Rattle.std.proofs.lemmas.Grind.{flat_map-append}
+use Rattle.scsi_disk.specs.Disk.{Disk}
+use Rattle.iscsi_stream.specs.Stream.{Message}
+use Rattle.iscsi_pdu.specs.declared.head.Head.{Head}
+use Rattle.iscsi_pdu.specs.declared.head.Head.TheVariants.{LoginRequest}
+use Rattle.iscsi_pdu.specs.declared.head.login_request.LoginRequest.{LoginRequest as LoginPdu}
+use Rattle.iscsi_target_session.specs.Session.{opening_session}
+use Rattle.iscsi_target_session.specs.Login.{login_in, login_request, login_step, numbered}
+use Rattle.iscsi_target_session.specs.Configured.{Settings}
+use Rattle.iscsi_target.specs.State.{Machine, Stepped, on, opening, shut_down}
+use Rattle.iscsi_target.specs.Execution.{reliable}
+use Rattle.iscsi_target.specs.Machine.{answers, is_closed, is_over_limit, step, then_stepped}
+use Rattle.iscsi_target.specs.Laws.{CountOn, FitsNumber, HasCmdSn, login_cmd_sn, given_number, cmd_sn_of, cmd_sns}
+use Rattle.iscsi_target_session.proofs.CaseLemmas.{by_cases}
+use Rattle.iscsi_target.proofs.NumberLaws.{answers_cmd_sns, count_on}
+use Rattle.iscsi_target.proofs.ReplyLemmas.{Count, IsReply, request_reply}
+use Rattle.iscsi_target.proofs.SendingLemmas.{count_append, step_tells}
+use Rattle.iscsi_hall.specs.Company.{Group, answers_over, messages_in}
+use Rattle.iscsi_hall.proofs.CompanyLemmas.{over_closed}
+
+answers_begun : (s : Machine) (disk : Disk) (ms : List Message) → s.session.begun ≡ true → (answers s disk ms).machine.session.begun ≡ true
+unfolding answers
+answers_begun s disk [] b = b
+answers_begun s disk (m ∷ ms) b = answers_begun (step s disk m).machine (step s disk m).disk ms ((step_tells reliable disk s m).begun b)
+
+answers_fits : (s : Machine) (disk : Disk) (ms : List Message) → s.session.exp_cmd_sn < 2 ^ 32 → AllByRecursion HasCmdSn ms →
+    (answers s disk ms).machine.session.exp_cmd_sn < 2 ^ 32
+unfolding answers
+answers_fits s disk [] lt all = lt
+answers_fits s disk (m ∷ ms) lt all =
+    answers_fits (step s disk m).machine (step s disk m).disk ms ((step_tells reliable disk s m).fits lt all.0.login) all.1
+
+all_parts : (a b : List Message) → AllByRecursion HasCmdSn (a ++ b) → AllByRecursion HasCmdSn a × AllByRecursion HasCmdSn b
+all_parts [] b all = (tt, all)
+all_parts (m ∷ a) b all = let rest = all_parts a b all.1 in ((all.0, rest.0), rest.1)
+
+over_cmd_sns : (s : Machine) (disk : Disk) (gs : List Group) → s.session.begun ≡ true → s.session.exp_cmd_sn < 2 ^ 32 →
+    AllByRecursion HasCmdSn (messages_in gs) → Count s.session.exp_cmd_sn (cmd_sns (answers_over s disk gs).accepted)
+    (answers_over s disk gs).machine.session.exp_cmd_sn
+unfolding answers_over
+over_cmd_sns s disk [] b lt all = refl
+over_cmd_sns s disk (g ∷ gs) b lt all =
+    let first : Stepped = answers s g.0 g.1 in
+    let later : Stepped = answers_over first.machine first.disk gs in
+    let both = all_parts g.1 (messages_in gs) all in
+    subst (λ (ns : List ℕ). Count s.session.exp_cmd_sn ns later.machine.session.exp_cmd_sn)
+    (sym (flat_map-append (λ (x : Message). given_number (cmd_sn_of x.head)) first.accepted later.accepted))
+    (count_append s.session.exp_cmd_sn (cmd_sns first.accepted) (cmd_sns later.accepted) first.machine.session.exp_cmd_sn later.machine.session.exp_cmd_sn
+    (answers_cmd_sns s g.0 g.1 b lt both.0)
+    (over_cmd_sns first.machine first.disk gs (answers_begun s g.0 g.1 b) (answers_fits s g.0 g.1 lt both.0) both.1))
+
+-- messages and then groups, as one
+behind_count : (s : Machine) (disk : Disk) (ms : List Message) (gs : List Group) (n : ℕ) → s.session.begun ≡ true → s.session.exp_cmd_sn ≡ n → n < 2 ^ 32 →
+    AllByRecursion HasCmdSn (ms ++ messages_in gs) →
+    CountOn n (cmd_sns (then_stepped (answers s disk ms) (answers_over (answers s disk ms).machine (answers s disk ms).disk gs)).accepted)
+unfolding answers_over
+behind_count s disk ms gs n b same lt all =
+    let r : Stepped = answers_over s disk ((disk, ms) ∷ gs) in
+    let low : s.session.exp_cmd_sn < 2 ^ 32 = subst (λ (k : ℕ). k < 2 ^ 32) (sym same) lt in
+    count_on n (cmd_sns r.accepted) r.machine.session.exp_cmd_sn lt
+    (subst (λ (k : ℕ). Count k (cmd_sns r.accepted) r.machine.session.exp_cmd_sn) same (over_cmd_sns s disk ((disk, ms) ∷ gs) b low all))
+
+nothing_counts : (n : ℕ) (ms : List Message) → ms ≡ [] → CountOn n (cmd_sns ms)
+nothing_counts n ms e = subst (λ (xs : List Message). CountOn n (cmd_sns xs)) (sym e) (λ k le. absurd (omega (arith, le)))
+
+closed_accepts : (s : Machine) (disk : Disk) (ms : List Message) (gs : List Group) → is_closed s ≡ true →
+    (then_stepped (answers s disk ms) (answers_over (answers s disk ms).machine (answers s disk ms).disk gs)).accepted ≡ []
+unfolding answers_over
+closed_accepts s disk ms gs e = (over_closed s disk ((disk, ms) ∷ gs) e).0
+
+opening_over : (settings : Settings) (n : ℕ) (disk : Disk) (m : Message) → is_over_limit (opening settings n) m.segment ≡ true
+    → step (opening settings n) disk m ≡ shut_down (opening settings n) disk
+opening_over settings n disk m e = rw e refl
+
+opening_login : (settings : Settings) (n : ℕ) (disk : Disk) (m : Message) → is_over_limit (opening settings n) m.segment ≡ false
+    → step (opening settings n) disk m ≡ on disk [] (login_step (opening_session settings n) m)
+opening_login settings n disk m e = rw e refl
+
+-- behind the first PDU that came
+abbrev Behind : Disk → List Message → List Group → ℕ → Stepped → Type 0
+Behind disk ms gs first r = CountOn first (cmd_sns (then_stepped r
+    (then_stepped (answers r.machine r.disk ms) (answers_over (answers r.machine r.disk ms).machine (answers r.machine r.disk ms).disk gs))).accepted)
+
+behind_login : (settings : Settings) (n : ℕ) (disk : Disk) (m : Message) (ms : List Message) (gs : List Group) (h : LoginPdu) (head : Head) →
+    head ≡ LoginRequest h → h.cmd_sn < 2 ^ 32 → AllByRecursion HasCmdSn (ms ++ messages_in gs) →
+    Behind disk ms gs h.cmd_sn (on disk [] (login_in (opening_session settings n) head m.segment))
+behind_login settings n disk m ms gs h head k lt all =
+    let c : IsReply (numbered (opening_session settings n) h) (login_request (opening_session settings n) h m.segment) =
+    request_reply (opening_session settings n) h m.segment in
+    subst (λ (x : Head). Behind disk ms gs h.cmd_sn (on disk [] (login_in (opening_session settings n) x m.segment))) (sym k)
+    (behind_count (on disk [] (login_request (opening_session settings n) h m.segment)).machine disk ms gs h.cmd_sn c.begun c.exp_cmd_sn lt all)
+
+behind_first : (settings : Settings) (n : ℕ) (disk : Disk) (m : Message) (ms : List Message) (gs : List Group) (h : LoginPdu) →
+    m.head ≡ LoginRequest h → h.cmd_sn < 2 ^ 32 → AllByRecursion HasCmdSn (ms ++ messages_in gs) →
+    Behind disk ms gs h.cmd_sn (step (opening settings n) disk m)
+behind_first settings n disk m ms gs h k lt all =
+    by_cases (is_over_limit (opening settings n) m.segment)
+    (λ e. subst (Behind disk ms gs h.cmd_sn) (sym (opening_over settings n disk m e))
+    (nothing_counts h.cmd_sn _ (closed_accepts (shut_down (opening settings n) disk).machine disk ms gs refl)))
+    (λ e. subst (Behind disk ms gs h.cmd_sn) (sym (opening_login settings n disk m e)) (behind_login settings n disk m ms gs h m.head k lt all))
+
+first_group : (settings : Settings) (n : ℕ) (disk : Disk) (ms : List Message) (gs : List Group) (first : Message) (more : List Message) (h : LoginPdu) →
+    ms ++ messages_in gs ≡ first ∷ more → first.head ≡ LoginRequest h → h.cmd_sn < 2 ^ 32 → AllByRecursion HasCmdSn more →
+    (messages_in gs ≡ first ∷ more → CountOn h.cmd_sn (cmd_sns (answers_over (opening settings n) disk gs).accepted)) →
+    CountOn h.cmd_sn (cmd_sns (then_stepped (answers (opening settings n) disk ms)
+    (answers_over (answers (opening settings n) disk ms).machine (answers (opening settings n) disk ms).disk gs)).accepted)
+unfolding answers
+first_group settings n disk [] gs first more h e k lt all go = go e
+first_group settings n disk (m ∷ ms) gs first more h e k lt all go =
+    let same : m ≡ first = cc in
+    let rest : ms ++ messages_in gs ≡ more = cc in
+    let r : Stepped = step (opening settings n) disk m in
+    let head : m.head ≡ LoginRequest h = ap (λ (x : Message). x.head) same ∙ k in
+    let later : Stepped = answers r.machine r.disk ms in
+    subst (λ (xs : List Message). CountOn h.cmd_sn (cmd_sns xs))
+    (sym (append_assoc r.accepted later.accepted (answers_over later.machine later.disk gs).accepted))
+    (behind_first settings n disk m ms gs h head lt (subst (λ (xs : List Message). AllByRecursion HasCmdSn xs) (sym rest) all))
+
+login_fits : (head : Head) (h : LoginPdu) → head ≡ LoginRequest h → FitsNumber (login_cmd_sn head) → h.cmd_sn < 2 ^ 32
+login_fits head h k f = subst (λ (x : Head). FitsNumber (login_cmd_sn x)) k f
+
+pub over_commands : (settings : Settings) (n : ℕ) (disk : Disk) (gs : List Group) (first : Message) (more : List Message) (h : LoginPdu) →
+    messages_in gs ≡ first ∷ more → first.head ≡ LoginRequest h → AllByRecursion HasCmdSn (first ∷ more) →
+    CountOn h.cmd_sn (cmd_sns (answers_over (opening settings n) disk gs).accepted)
+unfolding answers_over
+over_commands settings n disk [] first more h e k all = absurd cc
+over_commands settings n disk (g ∷ gs) first more h e k all =
+    first_group settings n g.0 g.1 gs first more h e k (login_fits first.head h k all.0.login) all.1
+    (λ f. over_commands settings n g.0 gs first more h f k all)

@@ -1,0 +1,15 @@
+use Rattle.std.proofs.Common.{List, ◌∷◌, ◌++◌, subst}
+use Rattle.iscsi_target.specs.State.{Execution}
+use Rattle.iscsi_hall.specs.Turns.{executed_in}
+use Rattle.iscsi_hall.specs.Blocks.{Follows}
+use Rattle.iscsi_hall.proofs.BlockLemmas.{follow_block, read_bytes}
+use Rattle.iscsi_hall.proofs.ExactLemmas.{runs_follows}
+use Rattle.iscsi_hall.proofs.laws.last_write_is_read.Goals as goal
+
+pub returns : goal.returns
+returns c = record {
+  read = λ seats after store last es past later e length r same split is p.
+      read_bytes store.disk last.disk past later e length
+      (subst (λ (x : List Execution). Follows store.disk x last.disk) split (runs_follows seats after store last es r same)) is p;
+  blocks = λ seats after store last es n r same. follow_block store.disk last.disk (executed_in es) (runs_follows seats after store last es r same) n;
+}

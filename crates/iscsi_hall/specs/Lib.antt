@@ -1,0 +1,5 @@
+pub mod Seats
+pub mod Turns
+pub mod Blocks
+pub mod Company
+pub mod Reinstatement

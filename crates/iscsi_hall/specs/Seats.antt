@@ -1,0 +1,117 @@
+-- What a hall of seats holds, and what its calls do: several sessions of a target at a time, over
+-- one store (RFC 7143, section 4.2; which seat may be read and fed is own rule).
+use Rattle.std.specs.Prelude.{◌≡◌, ℕ, Bool, false, not, ◌==◌, ◌&&◌, List, [], length, drop, get_or, set, Option, None, Some, Result, Ok, Err}
+use Rattle.iscsi_login.specs.declared.phase.Phase.{Phase}
+use Rattle.iscsi_target_session.specs.Configured.{Settings}
+use Rattle.iscsi_target.specs.declared.fault.TargetFault.{TargetFault}
+use Rattle.iscsi_target.specs.Machine.{is_closed}
+use Rattle.iscsi_target.specs.Feed.{Connection, Store, FedNext, Finishes, opening_connection}
+
+-- ---- a seat
+
+-- A session with what it has still to write and to take.
+pub record Seat : Type 0 where
+  pub connection : Connection
+  -- the answers that are not written
+  pub waiting : List ℕ
+  -- what was read and not taken
+  pub unfed : List ℕ
+
+-- A session to which nothing came, whose first StatSN is 1 (section 4.2.2.2; own rule).
+abbrev pub opening_seat : Settings → Seat
+opening_seat settings = record {
+  connection = opening_connection settings 1;
+  waiting = [];
+  unfed = [];
+}
+
+-- What the session is doing (section 6.3).
+abbrev pub phase_of : Seat → Phase
+phase_of s = s.connection.machine.session.phase
+
+-- The session goes on, and all its answers are written.
+abbrev pub is_idle : Seat → Bool
+is_idle s = length s.waiting == 0 && not (is_closed s.connection.machine)
+
+-- More may be read: all that was read is taken, and all answers are written (own rule).
+abbrev pub may_read : Seat → Bool
+may_read s = is_idle s && length s.unfed == 0
+
+-- The next PDU may be taken: something that was read is not, and all answers are written (own
+-- rule).
+abbrev pub may_take : Seat → Bool
+may_take s = is_idle s && not (length s.unfed == 0)
+
+-- The seat with what was read.
+abbrev pub received : List ℕ → Seat → Seat
+received piece s = record s { unfed = piece }
+
+-- The seat when so many bytes of its answers were written.
+abbrev pub with_sent : ℕ → Seat → Seat
+with_sent count s = record s { waiting = drop count s.waiting }
+
+-- What is not taken behind a call that took so many bytes; behind a fault it is dropped.
+abbrev pub left_of : Result ℕ TargetFault → List ℕ → List ℕ
+left_of (Ok count) unfed = drop count unfed
+left_of (Err fault) unfed = []
+
+-- What a call of feed_next answers, by what it took and the phase behind it.
+abbrev pub with_phase : Phase → Result ℕ TargetFault → Result (ℕ × Phase) TargetFault
+with_phase phase (Ok count) = Ok (count, phase)
+with_phase phase (Err fault) = Err fault
+
+-- One call of feed_next with what was not taken; its answers wait.
+pub record TakesAt (old : Seat) (before : Store) (result : Result ℕ TargetFault) (new : Seat)
+    (after : Store) : Type 0 where
+  pub fed : FedNext old.connection before [] old.unfed (with_phase (phase_of new) result)
+      new.connection after new.waiting
+  pub unfed : new.unfed ≡ left_of result old.unfed
+
+-- The stream ended; what waits stays.
+pub record FinishesAt (old : Seat) (result : Result (Unit {0}) TargetFault)
+    (new : Seat) : Type 0 where
+  pub finishes : Finishes old.connection result new.connection
+  pub waiting : new.waiting ≡ old.waiting
+  pub unfed : new.unfed ≡ old.unfed
+
+-- ---- a hall
+
+-- Seats, each free or with a session.
+pub record Hall : Type 0 where
+  pub seats : List (Option Seat)
+
+-- What is in a seat; none where it is free, or there is no such seat.
+abbrev pub seat_at : Hall → ℕ → Option Seat
+seat_at hall place = get_or hall.seats place None
+
+-- The hall with this in a seat.
+abbrev pub with_seat : Hall → ℕ → Option Seat → Hall
+with_seat hall place seat = record { seats = set hall.seats place seat }
+
+-- Of a seat that may be free: more may be read there (own rule).
+abbrev pub may_read_at : Option Seat → Bool
+may_read_at None = false
+may_read_at (Some s) = may_read s
+
+-- Of a seat that may be free: the next PDU may be taken there (own rule).
+abbrev pub may_take_at : Option Seat → Bool
+may_take_at None = false
+may_take_at (Some s) = may_take s
+
+-- What waits to be written there.
+abbrev pub waiting_at : Option Seat → List ℕ
+waiting_at None = []
+waiting_at (Some s) = s.waiting
+
+-- One session did so, and every other seat is as it was.
+pub record Changes (place : ℕ) (old new : Hall) (P : Seat → Seat → Type 0) : Type 0 where
+  pub before : Seat
+  pub after : Seat
+  pub was : seat_at old place ≡ Some before
+  pub now : new.seats ≡ set old.seats place (Some after)
+  pub does : P before after
+
+-- One turn: the session of a seat took a PDU, over the store of all.
+abbrev pub Takes : ℕ → Hall → Store → Result ℕ TargetFault → Hall → Store → Type 0
+Takes place old before result new after =
+    Changes place old new (λ was now. TakesAt was before result now after)

@@ -1,0 +1,97 @@
+//! Laws of every interleaving of sessions: functions that do nothing, whose contracts are the
+//! theorems.
+
+ghost use Rattle.std.specs.Prelude.{◌≡◌, ◌<◌, ◌^◌, ◌∷◌, ◌++◌, ℕ, true, List, Some, map, take};
+ghost use Rattle.std.specs.List.{AllByRecursion};
+ghost use Rattle.scsi_disk.specs.declared.order.Plan.TheVariants.{Give};
+ghost use Rattle.scsi_disk.specs.Disk.{Disk, joined};
+ghost use Rattle.scsi_disk.specs.Effect.{effect};
+ghost use Rattle.scsi_disk.specs.Plan.{is_read, plan_of, transfer};
+ghost use Rattle.iscsi_stream.specs.Pieces.{data_of};
+ghost use Rattle.iscsi_pdu.specs.declared.head.Head.TheVariants as heads;
+ghost use Rattle.iscsi_pdu.specs.declared.head.login_request.LoginRequest.{LoginRequest};
+ghost use Rattle.iscsi_stream.specs.Stream.{Message};
+ghost use Rattle.iscsi_login.specs.Negotiation.{IsInRange};
+ghost use Rattle.iscsi_target_session.specs.Configured.{Settings};
+ghost use Rattle.iscsi_target.specs.Tiles.{IsModest, IsTiled, TilesDataIn, r2t_ranges, total_of};
+ghost use Rattle.iscsi_target.specs.Machine.{step};
+ghost use Rattle.iscsi_target.specs.State.{Execution, Machine, opening};
+ghost use Rattle.iscsi_target.specs.Feed.{Store};
+ghost use Rattle.iscsi_target.specs.Laws.{AreInOrder, CountOn, HasCmdSn, Leads, cmd_sns, response_tags, stat_sns};
+ghost use Rattle.iscsi_hall.specs.Turns.{Event, Runs, Seats, Session, Stays, events_of, executed_in};
+ghost use Rattle.iscsi_hall.specs.Blocks.{Follows, block_left};
+ghost use Rattle.iscsi_hall.specs.Company.{Group, HaveCount, IsCalm, answers_in, answers_over, groups_in, messages_in};
+
+/// One disk of all sessions: whatever the order of their turns, the blocks are those that all
+/// executed commands leave, one after another.
+pub fn one_disk_of_all()
+    // Over a store that may fail, each does what it does, or what it may do where the device fails.
+    ensures may { (seats after : Seats) (store last : Store) (es : List Event)
+        → Runs seats store es after last → Leads store.disk (executed_in es) last.disk }
+    // Where no failure was counted, each does exactly what it does.
+    ensures follows { (seats after : Seats) (store last : Store) (es : List Event)
+        → Runs seats store es after last → last.failures ≡ store.failures
+        → Follows store.disk (executed_in es) last.disk }
+{}
+
+/// What is read is what was written last: where no failure was counted, a READ that is done gives
+/// of each block what the last write to it, of whichever session, left, or what it was at first;
+/// and so are the blocks in the end.
+pub fn last_write_is_read()
+    ensures read { (seats after : Seats) (store last : Store) (es : List Event)
+        (past later : List Execution) (e : Execution) (length : ℕ)
+        → Runs seats store es after last → last.failures ≡ store.failures
+        → executed_in es ≡ past ++ e ∷ later → is_read e.order.cdb ≡ true
+        → plan_of e.order store.disk.count ≡ Give length
+        → (effect e.disk e.order (data_of e.pieces)).outcome.bytes
+        ≡ take length (joined (block_left store.disk past) (transfer e.order.cdb).first
+        (transfer e.order.cdb).count) }
+    ensures blocks { (seats after : Seats) (store last : Store) (es : List Event) (n : ℕ)
+        → Runs seats store es after last → last.failures ≡ store.failures
+        → last.disk.block n ≡ block_left store.disk (executed_in es) n }
+{}
+
+/// Each session is its own: while one session has a seat, its turns are its own machine's, each
+/// over the blocks that it met, whatever other sessions do between them.
+pub fn each_its_own()
+    ensures own { (seats after : Seats) (store last : Store) (es : List Event) (seat : ℕ)
+        (s : Machine) → Runs seats store es after last → seats seat ≡ Some s → Stays seat es
+        → (end : Machine) × (after seat ≡ Some end) × Session s (events_of seat es) end }
+{}
+
+/// One session in company: what the laws of `iscsi_target` say of a session that has the disk for
+/// itself holds of one between whose PDUs others change it. They speak of `answers_over`, where
+/// each group of PDUs meets a disk of its own.
+pub fn in_company()
+    // This is what a session of a hall answers, where no failure was counted and memory was there.
+    ensures session { (s end : Machine) (es : List Event) → Session s es end
+        → AllByRecursion IsCalm es
+        → (disk : Disk) → answers_in es ≡ (answers_over s disk (groups_in es)).answers }
+    // The commands that were accepted are those that were executed, in their order, and those that
+    // wait.
+    ensures order { (settings : Settings) (n : ℕ) (disk : Disk) (gs : List Group)
+        → AreInOrder (answers_over (opening settings n) disk gs) }
+    ensures answered { (s : Machine) (disk : Disk) (gs : List Group)
+        → response_tags (answers_over s disk gs).answers
+        ≡ map (λ e. e.initiator_task_tag) (answers_over s disk gs).executed }
+    // CmdSN and StatSN count on.
+    ensures commands { (settings : Settings) (n : ℕ) (disk : Disk) (gs : List Group)
+        (first : Message) (ms : List Message) (request : LoginRequest)
+        → messages_in gs ≡ first ∷ ms → first.head ≡ heads.LoginRequest request
+        → AllByRecursion HasCmdSn (first ∷ ms)
+        → CountOn request.cmd_sn (cmd_sns (answers_over (opening settings n) disk gs).accepted) }
+    ensures status { (s : Machine) (disk : Disk) (gs : List Group) → s.session.stat_sn < 2 ^ 32
+        → CountOn s.session.stat_sn (stat_sns (answers_over s disk gs).answers) }
+    // Data-In tile what commands give, the data of writes tile what they take, and R2Ts ask for at
+    // most a burst inside the transfer, whatever disk the next PDU meets.
+    ensures data_in { (settings : Settings) (n : ℕ) (disk now : Disk) (gs : List Group)
+        (m : Message) → IsInRange settings.preferences
+        → TilesDataIn (step (answers_over (opening settings n) disk gs).machine now m) }
+    ensures writes { (settings : Settings) (n : ℕ) (disk now : Disk) (gs : List Group)
+        (m : Message) → HaveCount now.count gs → AllByRecursion IsTiled
+        (step (answers_over (opening settings n) disk gs).machine now m).executed }
+    ensures modest { (settings : Settings) (n : ℕ) (disk now : Disk) (gs : List Group)
+        (m : Message) → HaveCount now.count gs
+        → let t = step (answers_over (opening settings n) disk gs).machine now m in AllByRecursion
+        (IsModest t.machine.session.held (total_of t.machine.tasks)) (r2t_ranges t.answers) }
+{}

@@ -1,0 +1,173 @@
+//! The session of a seat, with what it has still to take and to write.
+
+ghost use Rattle.std.specs.Prelude.{◌≡◌, ◌≤◌, length, not, true, OnOk, OnErr};
+ghost use Rattle.iscsi_target.specs.Machine.{is_closed};
+ghost use Rattle.iscsi_target.specs.Inside.{store_of};
+ghost use Rattle.iscsi_hall.specs.Reinstatement.{is_served, session_of, takes_over};
+ghost use Rattle.iscsi_hall.specs.Seats.{opening_seat, phase_of, is_idle, may_read, may_take, received, with_sent, TakesAt, FinishesAt};
+
+use iscsi_login::{Phase, Session};
+use iscsi_target::{Config, Target, TargetFault};
+use scsi_disk::BlockStore;
+use std::alloc::{AllocError, Global};
+use std::marker::Model;
+
+/// The StatSN of a session's first answer.
+const FIRST_STAT_SN: u32 = 1;
+/// The most bytes that are read at a time.
+pub const MOST_READ: usize = 4096;
+
+/// A session, what was read of its stream and not taken, and the answers that are not written.
+#[derive(Drop)]
+pub struct Seat {
+    target: Target,
+    output: Vec<u8>,
+    sent: usize,
+    unfed: Vec<u8>,
+    fed: usize,
+}
+
+impl Model for Seat {
+    ghost use Rattle.std.specs.Prelude.{◌≤◌, drop, length};
+    ghost use Rattle.iscsi_hall.specs.Seats.{Seat};
+
+    ghost Value = { Seat };
+
+    ghost view = { λ s. record {
+      connection = s.target;
+      waiting = drop s.sent s.output.items;
+      unfed = drop s.fed s.unfed.items;
+    } };
+
+    ghost invariant = { λ s. (s.sent ≤ length s.output.items) × (s.fed ≤ length s.unfed.items)
+        × (length s.unfed.items ≤ 4096) };
+}
+
+impl Seat {
+    /// A session in which nothing came. It takes no memory.
+    pub fn new(alloc: Global, config: Config) -> Seat
+        ensures { result ≡ opening_seat config }
+    {
+        Seat {
+            target: Target::new(alloc, config, FIRST_STAT_SN),
+            output: Vec::new(alloc),
+            sent: 0,
+            unfed: Vec::new(alloc),
+            fed: 0,
+        }
+    }
+
+    /// What the session is doing.
+    pub fn phase(&self) -> Phase
+        ensures { result ≡ phase_of self.now }
+    {
+        self.target.phase()
+    }
+
+    /// Whether the session goes on, all that was read was taken, and nothing waits.
+    pub fn may_read(&self) -> bool
+        ensures { result ≡ may_read self.now }
+    {
+        self.is_idle() && self.fed == self.unfed.len()
+    }
+
+    /// Whether the session goes on, something that was read was not taken, and nothing waits.
+    pub fn may_take(&self) -> bool
+        ensures { result ≡ may_take self.now }
+    {
+        self.is_idle() && self.fed != self.unfed.len()
+    }
+
+    /// Whether this session takes the place of another: both are normal sessions in full feature
+    /// phase with one port of an initiator.
+    pub fn takes_over(&self, older: &Seat) -> bool
+        ensures { result ≡ takes_over (session_of self.now) (session_of older.now) }
+    {
+        self.is_served()
+            && older.is_served()
+            && self.target.initiator_name() == older.target.initiator_name()
+            && self.target.isid() == older.target.isid()
+    }
+
+    // Whether the session is a normal one in full feature phase.
+    fn is_served(&self) -> bool
+        ensures { result ≡ is_served (session_of self.now) }
+    {
+        matches!(self.target.phase(), Phase::Full)
+            && matches!(self.target.session_type(), Session::Normal)
+    }
+
+    // Whether the session goes on, and nothing waits.
+    fn is_idle(&self) -> bool
+        ensures { result ≡ is_idle self.now }
+    {
+        self.sent == self.output.len() && self.goes_on()
+    }
+
+    // Whether the session goes on.
+    fn goes_on(&self) -> bool
+        ensures { result ≡ not (is_closed self.now.connection.machine) }
+    {
+        match self.target.phase() {
+            Phase::Login | Phase::Full => true,
+            Phase::Closed => false,
+        }
+    }
+
+    /// Keeps what was read.
+    pub fn receive(&mut self, piece: &[u8]) -> Result<(), AllocError>
+        requires may { may_read self.old ≡ true }
+        requires short { length piece.now ≤ 4096 }
+        ensures ok { OnOk result (self.new ≡ received piece.now self.old) }
+        ensures err { OnErr result (self.new ≡ self.old) }
+    {
+        self.unfed.clear();
+        self.fed = 0;
+        self.unfed.extend_from_slice(piece)
+    }
+
+    /// Takes the next PDU of what was read, and keeps its answers.
+    pub fn take<S: BlockStore>(&mut self, store: &mut S) -> Result<usize, TargetFault>
+        requires may { may_take self.old ≡ true }
+        ensures takes { TakesAt self.old (store_of (S.disk store.old) (S.failures store.old))
+            result self.new (store_of (S.disk store.new) (S.failures store.new)) }
+    {
+        self.output.clear();
+        self.sent = 0;
+        match self
+            .target
+            .feed_next(&self.unfed[self.fed..], store, &mut self.output)
+        {
+            Ok((taken, _)) => {
+                self.fed += taken;
+                Ok(taken)
+            }
+            Err(fault) => {
+                self.fed = self.unfed.len();
+                Err(fault)
+            }
+        }
+    }
+
+    /// What is still to be written.
+    pub fn waiting(&self) -> &[u8]
+        ensures { result.now ≡ self.now.waiting }
+    {
+        &self.output[self.sent..]
+    }
+
+    /// So many bytes of it were written.
+    pub fn sent(&mut self, count: usize)
+        requires few { count ≤ length self.old.waiting }
+        ensures { self.new ≡ with_sent count self.old }
+    {
+        self.sent += count;
+    }
+
+    /// The stream ended.
+    pub fn finish(&mut self) -> Result<(), TargetFault>
+        ensures finishes { FinishesAt self.old result self.new }
+    {
+        self.target.finish()
+    }
+}

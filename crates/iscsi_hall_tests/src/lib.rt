@@ -1,0 +1,6 @@
+//! Tests of `iscsi_hall`: several sessions over one disk.
+#![tactic(auto)]
+
+#[cfg(test)]
+mod tests;
+pub mod uses;

@@ -1,0 +1,169 @@
+//! Several sessions over one disk. Their PDUs are those of a worked session, or worked out by hand
+//! from the tables of RFC 7143, section 11.
+
+use iscsi_examples::{SESSION, append_pdu};
+use iscsi_hall::{Hall, MOST_READ};
+use iscsi_login::Preferences;
+use iscsi_target::{Config, TargetFault};
+use scsi_disk::SparseStore;
+use std::alloc::Global;
+use std::fmt::Debug;
+use std::process::Abort;
+use std::test::Fail;
+
+mod interleaved;
+mod places;
+mod reinstated;
+
+// The lines of the worked session: its login, and what comes then up to its read and its logout.
+const LOGIN: (usize, usize) = (0, 5);
+
+const PING: (usize, usize) = (5, 3);
+
+const WRITE: (usize, usize) = (8, 7);
+
+const READ: (usize, usize) = (15, 4);
+
+const LOGOUT: (usize, usize) = (19, 3);
+
+/// The most turns that one read leads to here.
+const MOST_TURNS: usize = 4096;
+
+// Asserts that a value is the one that is due, in a row of which this tells.
+fn same<T: PartialEq + Debug>(rt: &impl Abort, value: &T, due: &T, row: &impl Debug) {
+    assert_eq!(rt; *value, *due, "{row:?}");
+}
+
+// What the target of the worked session is configured with: bursts of 1,024 bytes, segments of 512.
+fn config(alloc: Global) -> Result<Config, Fail> {
+    let mut preferences = Preferences::standard();
+    preferences.max_burst = 1024;
+    preferences.first_burst = 1024;
+    preferences.max_recv = 512;
+    Ok(Config::new(alloc, b"iqn.2026-01.example:disk", 1, 1, preferences)?)
+}
+
+// A hall, and the disk of all its sessions.
+#[derive(Drop)]
+struct Room {
+    hall: Hall,
+    store: SparseStore,
+}
+
+// A disk of 2,048 blocks of 00, and so many seats, all taken. It stands in a box: a function that
+// owns it is then proved much sooner.
+fn full_room(alloc: Global, seats: usize) -> Result<Box<Room>, Fail> {
+    let store = SparseStore::new(alloc, 2048);
+    let hall = Hall::new(alloc, seats)?;
+    let mut room = Box::new(alloc, Room { hall, store })?;
+    for _ in 0..seats {
+        room.hall.seat(config(alloc)?).ok_or("no seat")?;
+    }
+    Ok(room)
+}
+
+// Writes what waits at a seat.
+fn write_out(room: &mut Room, seat: usize, out: &mut Vec<u8>) -> Result<(), Fail> {
+    let waiting = room.hall.waiting(seat);
+    let count = waiting.len();
+    out.extend_from_slice(waiting)?;
+    if room.hall.is_taken(seat) {
+        room.hall.sent(seat, count);
+    }
+    Ok(())
+}
+
+// Reads a piece for a seat, has it taken turn by turn, and writes all answers. Gives the fault that
+// came, if one did.
+fn read_piece(
+    room: &mut Room,
+    seat: usize,
+    piece: &[u8],
+    out: &mut Vec<u8>,
+) -> Result<Option<TargetFault>, Fail> {
+    if piece.len() > MOST_READ || !room.hall.may_read(seat) {
+        return Err(Fail::from("may not be read"));
+    }
+    room.hall.receive(seat, piece)?;
+    for _ in 0..MOST_TURNS {
+        if !room.hall.may_take(seat) {
+            return Ok(None);
+        }
+        let result = room.hall.take(seat, &mut room.store);
+        write_out(room, seat, out)?;
+        if let Err(fault) = result {
+            return Ok(Some(fault));
+        }
+    }
+    Err(Fail::from("too many turns"))
+}
+
+// Reads a stream for a seat in pieces of this length, up to a fault.
+fn read_pieces(
+    room: &mut Room,
+    seat: usize,
+    stream: &[u8],
+    len: usize,
+    out: &mut Vec<u8>,
+) -> Result<Option<TargetFault>, Fail> {
+    for piece in stream.chunks(len.max(1)) {
+        let fault = read_piece(room, seat, piece, out)?;
+        if fault.is_some() {
+            return Ok(fault);
+        }
+    }
+    Ok(None)
+}
+
+// The PDUs of one end, of which this is the mark, in a text of both.
+fn pdus_at(alloc: Global, mark: &str, lines: &str) -> Result<Vec<u8>, Fail> {
+    let mut pdus = Vec::new(alloc);
+    for line in lines.lines() {
+        if let Some(pdu) = line.strip_prefix(mark) {
+            append_pdu(pdu, &mut pdus)?;
+        }
+    }
+    Ok(pdus)
+}
+
+// So many lines of the worked session, from one on.
+fn part(alloc: Global, lines: (usize, usize)) -> Result<String, Fail> {
+    let (first, count) = lines;
+    let mut text = String::new(alloc);
+    for line in SESSION.lines().skip(first).take(count) {
+        text.push_str(line)?;
+        text.push_str("\n")?;
+    }
+    Ok(text)
+}
+
+// Has a seat read what the initiator sends in these lines, in pieces of this length, and asserts
+// that the target answers as they say.
+fn play(
+    rt: &impl Abort,
+    alloc: Global,
+    room: &mut Room,
+    seat: usize,
+    lines: &str,
+    len: usize,
+) -> Result<(), Fail> {
+    let stream = pdus_at(alloc, "I> ", lines)?;
+    let want = pdus_at(alloc, "T> ", lines)?;
+    let mut out = Vec::new(alloc);
+    let fault = read_pieces(room, seat, &stream, len, &mut out)?;
+    same(rt, &out.as_slice(), &want.as_slice(), &(seat, len, lines));
+    same(rt, &fault, &None, &(seat, len, lines));
+    Ok(())
+}
+
+// The same with lines of the worked session.
+fn play_part(
+    rt: &impl Abort,
+    alloc: Global,
+    room: &mut Room,
+    seat: usize,
+    lines: (usize, usize),
+    len: usize,
+) -> Result<(), Fail> {
+    play(rt, alloc, room, seat, &part(alloc, lines)?, len)
+}
