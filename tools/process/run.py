@@ -92,6 +92,7 @@ FIRST, SECOND = (
     {end: open(f"{TOP}/docs/session/{folder}{end}.hex", "rb").read() for end in ("initiator", "target")} for folder in ("", "second/")
 )
 
+SERVE = ["serve", "--port", "0", "--blocks", "1", "--sessions", "0"]
 LOOP = ["loop", "--blocks", "2048", "--piece", "48"]
 ANSWER = ["answer", "--blocks", "8"]
 ROWS = [
@@ -106,6 +107,7 @@ ROWS = [
     Row("the same as hex text", [*ANSWER, "--hex"], NAMELESS.hex().encode(), REFUSAL.hex().encode() + b"\n"),
     Row("a script", LOOP, SCRIPT, REPORT),
     Row("no connection is served", ["serve", "--port", "0", "--blocks", "1", "--sessions", "0"], b"", b"listening\n"),
+    Row("no connection is served at a time", [*SERVE, "--at-once", "64", "--idle", "1"], b"", b"listening\n"),
     # Input that is refused.
     Row("an unknown opcode", ["normalise"], PING + UNKNOWN, CANONICAL, b"stream: unknown opcode at 52\n", 1),
     Row("an additional header", ["normalise"], PING + ADDITIONAL, CANONICAL, b"stream: additional header at 52\n", 1),
@@ -144,6 +146,14 @@ ROWS = [
     Row("no blocks", ["answer"], says=b"--blocks", status=2),
     Row("too few blocks", ["answer", "--blocks", "0"], says=b"is a number from 1 to", status=2),
     Row("a port that is none", ["serve", "--port", "65536", "--blocks", "1", "--sessions", "0"], says=b"--port", status=2),
+    Row("no session at a time", [*SERVE, "--at-once", "0"], says=b"'--at-once <k>' is a number from 1 to 64", status=2),
+    Row("too many at a time", [*SERVE, "--at-once", "65"], says=b"'--at-once <k>' is a number from 1 to 64", status=2),
+    Row("an address that is none", [*SERVE, "--at-once", "1", "--listen", "localhost"], says=b"'--listen <ADDR>' is", status=2),
+    Row("a name that is none", [*SERVE, "--at-once", "1", "--name", "a b"], says=b"'--name <IQN>' has", status=2),
+    Row("no time", [*SERVE, "--at-once", "1", "--idle", "0"], says=b"'--idle <S>' is a number from 1 to 65535", status=2),
+    Row("too much time", [*SERVE, "--at-once", "1", "--login-within", "65536"], says=b"'--login-within <S>' is a number", status=2),
+    Row("a time limit without --at-once", [*SERVE, "--idle", "1"], says=b"--at-once", status=2),
+    Row("a port to print without --at-once", [*SERVE, "--print-port"], says=b"--at-once", status=2),
     Row("a piece of no bytes", ["loop", "--blocks", "1", "--piece", "0"], says=b"--piece", status=2),
     Row("words that are not UTF-8", [b"\xff"], says=b"UTF-8", status=2),
 ]

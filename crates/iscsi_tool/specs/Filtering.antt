@@ -11,6 +11,7 @@ use Rattle.iscsi_stream.specs.Normalising.{Parts, IsCanonical, Wrote, RestFails,
 use Rattle.iscsi_stream.specs.Shown.{AreLines}
 use Rattle.iscsi_stream.specs.Texts.{CanonicalOf, NormalisesText, longest_text}
 use Rattle.iscsi_service.specs.Session.{target_settings, EndsWell}
+use Rattle.iscsi_server.specs.Service.{IsService}
 use Rattle.iscsi_tool.specs.declared.filter.Filter.{Filter}
 use Rattle.iscsi_tool.specs.declared.filter.Work.{Work}
 use Rattle.iscsi_tool.specs.declared.filter.Work.TheVariants.{Show, Normalise, Text, Answer}
@@ -102,6 +103,7 @@ HasDisk _ = Unit {0}
 abbrev pub IsJob : Job → Type 0
 IsJob (job.Filter filter) = HasDisk filter.work
 IsJob (job.Serve port blocks sessions) = (0 < blocks) × (blocks ≤ most_blocks)
+IsJob (job.ServeAtOnce options) = IsService options
 IsJob (job.Loop blocks piece) =
     (0 < blocks) × (blocks ≤ most_blocks) × (0 < piece) × (piece ≤ 4096)
 IsJob (job.Compare comparison) = Unit {0}

@@ -6,6 +6,7 @@ mod comparing;
 mod filter;
 mod hex_text;
 mod hex_writer;
+mod serve_words;
 mod words;
 
 pub use comparing::{ComparisonFault, Sameness, compare_bytes, compare_hex};

@@ -9,8 +9,10 @@ ghost use Rattle.iscsi_tool.specs.declared.words.Job.TheVariants as job;
 
 use crate::comparing::Sameness;
 use crate::filter::{Filter, Work};
+use crate::serve_words::{serve_program, service_of};
 use clap::error::ErrorKind;
 use clap::{Arg, ArgAction, ArgMatches, Command, Error};
+use iscsi_server::Options;
 use iscsi_service::LONGEST_PIECE;
 use scsi_disk::MOST_BLOCKS;
 use std::alloc::{AllocError, AllocFailed, Global};
@@ -44,6 +46,8 @@ pub enum Job<'a> {
         /// How many connections are served, one after another.
         sessions: u16,
     },
+    /// Such a service of several sessions at a time.
+    ServeAtOnce(Options<'a>),
     /// Both ends of a session over a socket, as a script on the standard input says.
     Loop {
         /// How many blocks of 512 bytes the target's disk has, 1 to 2^40.
@@ -96,7 +100,7 @@ fn usage(alloc: Global, error: Error) -> LineFault {
 }
 
 // A word that may stand there or not.
-fn flag<'a>(alloc: Global, name: &'a str, help: &'a str) -> Arg<'a> {
+pub(crate) fn flag<'a>(alloc: Global, name: &'a str, help: &'a str) -> Arg<'a> {
     Arg::new(alloc, name)
         .long(name)
         .action(ArgAction::SetTrue)
@@ -125,7 +129,7 @@ fn normalise_program<'a>(alloc: Global) -> Result<Command<'a>, AllocError> {
 }
 
 // A number that has to be given.
-fn number<'a>(alloc: Global, name: &'a str, value: &'a str, help: &'a str) -> Arg<'a> {
+pub(crate) fn number<'a>(alloc: Global, name: &'a str, value: &'a str, help: &'a str) -> Arg<'a> {
     Arg::new(alloc, name)
         .long(name)
         .value_name(value)
@@ -139,7 +143,7 @@ fn file<'a>(alloc: Global, name: &'a str, help: &'a str) -> Arg<'a> {
     Arg::new(alloc, name).action(ArgAction::Set).help(help)
 }
 
-fn blocks<'a>(alloc: Global) -> Arg<'a> {
+pub(crate) fn blocks<'a>(alloc: Global) -> Arg<'a> {
     number(
         alloc,
         "blocks",
@@ -156,26 +160,6 @@ fn answer_program<'a>(alloc: Global) -> Result<Command<'a>, AllocError> {
     )?
     .bin_name("lanthovur answer")?
     .arg(blocks(alloc))
-}
-
-fn serve_program<'a>(alloc: Global) -> Result<Command<'a>, AllocError> {
-    Command::new(alloc, "serve")
-        .about("Serves a target's disk on 127.0.0.1, one connection after another")
-        .disable_version_flag(true)
-        .bin_name("lanthovur serve")?
-        .arg(number(
-            alloc,
-            "port",
-            "P",
-            "the port, 0 to 65535; 0 is one that the system picks",
-        ))?
-        .arg(blocks(alloc))?
-        .arg(number(
-            alloc,
-            "sessions",
-            "n",
-            "how many connections are served, 0 to 65535",
-        ))
 }
 
 fn loop_program<'a>(alloc: Global) -> Result<Command<'a>, AllocError> {
@@ -301,33 +285,6 @@ fn comparison_of<'a>(asked: &ArgMatches<'a>) -> Job<'a>
     })
 }
 
-fn service_of(alloc: Global, asked: &ArgMatches<'_>) -> Result<Job<'static>, LineFault>
-    ensures disk { IfOk result IsJob }
-{
-    let Some(port) = asked.get_str("port").and_then(number_of) else {
-        return Err(bad_number(
-            alloc,
-            serve_program(alloc),
-            "'--port <P>' is a number from 0 to 65535",
-        ));
-    };
-    let Some(blocks) = asked.get_str("blocks").and_then(blocks_of) else {
-        return Err(bad_number(alloc, serve_program(alloc), BAD_BLOCKS));
-    };
-    let Some(sessions) = asked.get_str("sessions").and_then(number_of) else {
-        return Err(bad_number(
-            alloc,
-            serve_program(alloc),
-            "'--sessions <n>' is a number from 0 to 65535",
-        ));
-    };
-    Ok(Job::Serve {
-        port,
-        blocks,
-        sessions,
-    })
-}
-
 fn loop_of(alloc: Global, asked: &ArgMatches<'_>) -> Result<Job<'static>, LineFault>
     ensures disk { IfOk result IsJob }
 {
@@ -357,16 +314,8 @@ fn piece_of(digits: &str) -> Option<u32>
     }
 }
 
-// The number that digits spell, up to 65535.
-fn number_of(digits: &str) -> Option<u16> {
-    if !digits.bytes().all(|c| c.is_ascii_digit()) {
-        return None;
-    }
-    digits.parse::<u16>().ok()
-}
-
 // The number of blocks that digits spell, from 1 to 2^40.
-fn blocks_of(digits: &str) -> Option<u64>
+pub(crate) fn blocks_of(digits: &str) -> Option<u64>
     ensures range { IfSome result (λ n. (0 < n) × (n ≤ most_blocks)) }
 {
     if !digits.bytes().all(|c| c.is_ascii_digit()) {
@@ -378,10 +327,14 @@ fn blocks_of(digits: &str) -> Option<u64>
     }
 }
 
-const BAD_BLOCKS: &str = "'--blocks <N>' is a number from 1 to 1099511627776";
+pub(crate) const BAD_BLOCKS: &str = "'--blocks <N>' is a number from 1 to 1099511627776";
 
 // The usage error for a number out of range.
-fn bad_number(alloc: Global, program: Result<Command<'_>, AllocError>, text: &str) -> LineFault {
+pub(crate) fn bad_number(
+    alloc: Global,
+    program: Result<Command<'_>, AllocError>,
+    text: &str,
+) -> LineFault {
     let Ok(mut program) = program else {
         return LineFault::NoMemory;
     };

@@ -5,6 +5,7 @@
 ghost use Rattle.iscsi_tool.specs.Filtering.{HasDisk};
 
 use iscsi_compare::{Verdict, Which};
+use iscsi_server::serve_at_once;
 use iscsi_service::{ServeFault, run_loop, serve};
 use iscsi_stream::ToolFault;
 use iscsi_tool::{
@@ -153,6 +154,10 @@ fn main(rt: HostRuntime) -> ExitCode {
             },
         ) => {
             let result = serve(&rt, port, blocks, sessions);
+            ended(&rt, result)
+        }
+        Ok(Job::ServeAtOnce(options)) => {
+            let result = serve_at_once(&rt, options);
             ended(&rt, result)
         }
         Ok(Job::Loop { blocks, piece }) => {

@@ -1,0 +1,4 @@
+pub mod Limits
+pub mod Moving
+pub mod Service
+pub mod Serving

@@ -1,0 +1,26 @@
+-- How long a peer may keep its seat (own rule).
+use Rattle.std.specs.Prelude.{ℕ, Bool, true, false, Option, Some, None, nat_le, ◌||◌, if◌then◌else◌}
+use Rattle.iscsi_login.specs.declared.phase.Phase.{Phase}
+use Rattle.iscsi_login.specs.declared.phase.Phase.TheVariants as phase
+use Rattle.iscsi_server.specs.declared.limits.Limits.{Limits}
+use Rattle.iscsi_server.specs.declared.session_end.SessionEnd.{SessionEnd}
+use Rattle.iscsi_server.specs.declared.session_end.SessionEnd.TheVariants as ends
+
+-- There is a limit, and so many seconds reach it.
+abbrev pub is_passed : Option ℕ → ℕ → Bool
+is_passed (Some limit) seconds = nat_le limit seconds
+is_passed None seconds = false
+
+-- A peer takes none of the last answers of a closed session for so many seconds at most.
+abbrev pub last_write : ℕ
+last_write = 30
+
+-- Why a session is ended that was accepted, and had its last byte, so many seconds ago.
+abbrev pub broken_limit : Limits → Phase → ℕ → ℕ → Option SessionEnd
+broken_limit limits phase.Login accepted silent =
+    if is_passed limits.login_within accepted then Some ends.LoginTooLate
+    else if is_passed limits.idle silent then Some ends.Idle else None
+broken_limit limits phase.Full accepted silent =
+    if is_passed limits.idle silent then Some ends.Idle else None
+broken_limit limits phase.Closed accepted silent =
+    if is_passed limits.idle silent || nat_le last_write silent then Some ends.Idle else None

@@ -1,0 +1,30 @@
+-- A service of several sessions at a time: what it has, and when it is done.
+use Rattle.std.specs.Prelude.{◌≡◌, ℕ, ◌<◌, ◌≤◌, false, List, length, is_some}
+use Rattle.iscsi_login.specs.Negotiation.{standard}
+use Rattle.iscsi_target_session.specs.Configured.{Settings}
+use Rattle.iscsi_hall.specs.Seats.{Hall, seat_at}
+
+-- The seats, how many connections were accepted, and how many are to be.
+pub record Service : Type 0 where
+  pub hall : Hall
+  pub accepted : ℕ
+  pub sessions : ℕ
+
+-- No session has a seat.
+abbrev pub IsEmpty : Hall → Type 0
+IsEmpty hall =
+    (seat : ℕ) → seat < length hall.seats → is_some (seat_at hall seat) ≡ false
+
+-- All connections were accepted, and their sessions are over.
+abbrev pub IsDone : Service → Type 0
+IsDone service = (service.sessions ≤ service.accepted) × IsEmpty service.hall
+
+-- What the target is configured with for the session of a number: portal group 1, and the number as
+-- its TSIH (RFC 7143, section 11.12.6; own rule).
+abbrev pub settings_of : List ℕ → ℕ → Settings
+settings_of name number = record {
+  name = name;
+  group = 1;
+  tsih = number;
+  preferences = standard;
+}

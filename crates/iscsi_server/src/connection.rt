@@ -1,0 +1,124 @@
+//! The connection of a seat: what the system told of it, and when a byte went over it.
+
+ghost use Rattle.std.specs.Prelude.{◌≤◌, length};
+ghost use Rattle.iscsi_server.specs.Moving.{MovesAtMost};
+
+use mio::event::Event;
+use mio::net::TcpStream;
+use std::io::{self, ErrorKind, Read, Write};
+use std::time::{Duration, Instant};
+
+/// What a read or a write of a connection gave.
+#[derive(Clone, Copy, Debug, PartialEq, Eq)]
+pub enum Moved {
+    /// So many bytes went.
+    Bytes(usize),
+    /// None can go now.
+    Nothing,
+    /// None will ever go.
+    End,
+    /// It failed.
+    Failed,
+}
+
+/// The connection of a seat. The system tells once that it is ready, and not again before a read or
+/// a write was answered that it isn't: so this is noted.
+#[derive(Drop)]
+pub struct Connection {
+    stream: TcpStream,
+    is_readable: bool,
+    is_writable: bool,
+    // the peer sends no more: no event comes for that again
+    is_half_closed: bool,
+    accepted: Instant,
+    moved: Instant,
+}
+
+impl Connection {
+    /// A connection that was accepted at this time. It counts as ready until it is tried.
+    pub fn new(stream: TcpStream, now: Instant) -> Connection {
+        Connection {
+            stream,
+            is_readable: true,
+            is_writable: true,
+            is_half_closed: false,
+            accepted: now,
+            moved: now,
+        }
+    }
+
+    /// Notes what the system told.
+    pub fn note(&mut self, event: &Event) {
+        let is_broken = event.is_error();
+        self.is_half_closed |= is_broken || event.is_read_closed();
+        self.is_readable |= event.is_readable() || self.is_half_closed;
+        self.is_writable |= event.is_writable() || event.is_write_closed() || is_broken;
+    }
+
+    /// Whether a read may give something.
+    pub fn is_readable(&self) -> bool {
+        self.is_readable
+    }
+
+    /// Whether a write may take something.
+    pub fn is_writable(&self) -> bool {
+        self.is_writable
+    }
+
+    /// Reads what came, at this time.
+    pub fn read(&mut self, buffer: &mut [u8], now: Instant) -> Moved
+        ensures bound { MovesAtMost (length buffer.new) result }
+    {
+        match self.stream.read(buffer) {
+            Ok(0) => Moved::End,
+            Ok(count) => {
+                // A short read has emptied the socket; only the peer's end may follow without an
+                // event of its own.
+                self.is_readable = self.is_half_closed || count == buffer.len();
+                self.moved = now;
+                Moved::Bytes(count)
+            }
+            Err(error) => {
+                self.is_readable = error.kind() != ErrorKind::WouldBlock;
+                unmoved(&error)
+            }
+        }
+    }
+
+    /// Writes what the socket takes, at this time.
+    pub fn write(&mut self, bytes: &[u8], now: Instant) -> Moved
+        ensures bound { MovesAtMost (length bytes.now) result }
+    {
+        match self.stream.write(bytes) {
+            Ok(0) => Moved::End,
+            Ok(count) => {
+                self.moved = now;
+                Moved::Bytes(count)
+            }
+            Err(error) => {
+                self.is_writable = error.kind() != ErrorKind::WouldBlock;
+                unmoved(&error)
+            }
+        }
+    }
+
+    /// How long ago it was accepted.
+    pub fn since_accepted(&self, now: Instant) -> Duration {
+        now.duration_since(self.accepted)
+    }
+
+    /// How long ago a byte went over it.
+    pub fn since_moved(&self, now: Instant) -> Duration {
+        now.duration_since(self.moved)
+    }
+}
+
+// What an error of a read or a write says. A call that a signal interrupted is tried again.
+fn unmoved(error: &io::Error) -> Moved
+    ensures bound { MovesAtMost 0 result }
+{
+    match error.kind() {
+        ErrorKind::WouldBlock | ErrorKind::Interrupted => Moved::Nothing,
+        _ => Moved::Failed,
+    }
+}

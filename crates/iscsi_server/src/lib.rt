@@ -1,0 +1,16 @@
+//! A target's service for several sessions at a time, in one thread, over one disk (RFC 7143).
+#![tactic(auto)]
+
+mod connection;
+mod limits;
+mod options;
+mod peer;
+mod server;
+mod service;
+mod session_end;
+
+pub use limits::{LAST_WRITE, Limits};
+pub use options::{MOST_AT_ONCE, Options};
+pub use server::Server;
+pub use service::serve_at_once;
+pub use session_end::SessionEnd;

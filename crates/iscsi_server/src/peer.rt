@@ -1,0 +1,189 @@
+//! The peer of a seat: its connection is read, its PDUs are taken, its answers are written.
+
+ghost use Rattle.std.specs.Prelude.{◌≡◌, ◌<◌, length, is_some, true};
+ghost use Rattle.iscsi_service.specs.Session.{HasExecuted};
+ghost use Rattle.iscsi_hall.specs.Seats.{may_read_at, may_take_at, seat_at, waiting_at};
+
+use crate::connection::{Connection, Moved};
+use crate::session_end::SessionEnd;
+use iscsi_hall::Hall;
+use iscsi_stream::PIECE;
+use iscsi_target::TargetFault;
+use scsi_disk::BlockStore;
+use std::time::Instant;
+
+/// How many reads, PDUs and writes a seat has in a turn, before the others have theirs.
+const STEPS: usize = 64;
+/// A write of so many bytes ends a turn, too.
+const LONG_WRITE: usize = 65_536;
+
+/// The peer of a seat.
+#[derive(Drop)]
+pub struct Peer {
+    /// Its connection.
+    pub connection: Connection,
+    /// Why its session ends; the first reason stays.
+    pub end: Option<SessionEnd>,
+}
+
+// What a step leaves to do.
+#[derive(Clone, Copy)]
+enum Step {
+    // perhaps another step
+    Went,
+    // nothing in this turn
+    Rests,
+    // nothing: the session is over
+    Over,
+}
+
+impl Peer {
+    /// A peer whose session begins.
+    pub fn new(connection: Connection) -> Peer {
+        Peer {
+            connection,
+            end: None,
+        }
+    }
+
+    /// Whether a turn would do something.
+    pub fn wants_turn(&self, hall: &Hall, seat: usize) -> bool {
+        if !hall.waiting(seat).is_empty() {
+            self.connection.is_writable()
+        } else if hall.may_read(seat) {
+            self.connection.is_readable()
+        } else {
+            true
+        }
+    }
+
+    /// A turn of its session: at most 64 reads, PDUs and writes, and no more behind a write of 65,536
+    /// bytes. Says whether the session is over;
+    /// where that is for a fault, it is kept as its end.
+    #[tactic(auto, using(crate::proofs::ExecutedLemmas::none_executed))]
+    pub fn turn<S: BlockStore>(
+        &mut self,
+        hall: &mut Hall,
+        store: &mut S,
+        seat: usize,
+        now: Instant,
+    ) -> bool
+        ensures blocks { HasExecuted (S.disk store.old) (S.disk store.new) }
+        ensures seats { length hall.new.seats ≡ length hall.old.seats }
+    {
+        for _ in 0..STEPS {
+            match self.step(hall, store, seat, now) {
+                Step::Went => {}
+                Step::Rests => return false,
+                Step::Over => return true,
+            }
+        }
+        false
+    }
+
+    /// Keeps why the session ends, unless there was a reason before.
+    pub fn end_by(&mut self, end: SessionEnd) {
+        self.end = Some(self.end.unwrap_or(end));
+    }
+
+    // Writes what waits; if nothing does, takes a PDU; if none is there, reads. A session in which
+    // none of these may be done is closed, and its answers are written.
+    #[tactic(auto, using(crate::proofs::ExecutedLemmas::none_executed))]
+    fn step<S: BlockStore>(
+        &mut self,
+        hall: &mut Hall,
+        store: &mut S,
+        seat: usize,
+        now: Instant,
+    ) -> Step
+        ensures blocks { HasExecuted (S.disk store.old) (S.disk store.new) }
+        ensures seats { length hall.new.seats ≡ length hall.old.seats }
+    {
+        if !hall.waiting(seat).is_empty() {
+            self.write(hall, seat, now)
+        } else if hall.may_take(seat) {
+            self.take(hall, store, seat)
+        } else if hall.may_read(seat) {
+            self.read(hall, seat, now)
+        } else {
+            Step::Over
+        }
+    }
+
+    // Writes what the connection takes.
+    fn write(&mut self, hall: &mut Hall, seat: usize, now: Instant) -> Step
+        requires some { 0 < length (waiting_at (seat_at hall.old seat)) }
+        ensures seats { length hall.new.seats ≡ length hall.old.seats }
+    {
+        if !self.connection.is_writable() {
+            return Step::Rests;
+        }
+        match self.connection.write(hall.waiting(seat), now) {
+            Moved::Bytes(count) => {
+                hall.sent(seat, count);
+                if count < LONG_WRITE {
+                    Step::Went
+                } else {
+                    Step::Rests
+                }
+            }
+            Moved::Nothing => Step::Rests,
+            Moved::End | Moved::Failed => self.over(SessionEnd::Write),
+        }
+    }
+
+    // Takes a PDU. A fault closes the session, and its last answers are still written. Where the login
+    // is completed the turn ends, so that an older session of the same port can leave first.
+    #[tactic(auto, using(crate::proofs::ExecutedLemmas::turn_executed))]
+    fn take<S: BlockStore>(&mut self, hall: &mut Hall, store: &mut S, seat: usize) -> Step
+        requires may { may_take_at (seat_at hall.old seat) ≡ true }
+        ensures blocks { HasExecuted (S.disk store.old) (S.disk store.new) }
+        ensures seats { length hall.new.seats ≡ length hall.old.seats }
+    {
+        let was = hall.phase(seat);
+        if let Err(fault) = hall.take(seat, store) {
+            self.end_by(SessionEnd::Target(fault));
+        }
+        if was == hall.phase(seat) {
+            Step::Went
+        } else {
+            Step::Rests
+        }
+    }
+
+    // Reads what came.
+    fn read(&mut self, hall: &mut Hall, seat: usize, now: Instant) -> Step
+        requires may { may_read_at (seat_at hall.old seat) ≡ true }
+        ensures seats { length hall.new.seats ≡ length hall.old.seats }
+    {
+        if !self.connection.is_readable() {
+            return Step::Rests;
+        }
+        let mut buffer = [0u8; PIECE];
+        match self.connection.read(&mut buffer, now) {
+            Moved::Bytes(count) => match hall.receive(seat, &buffer[..count]) {
+                Ok(()) => Step::Went,
+                Err(_) => self.over(SessionEnd::Target(TargetFault::NoMemory)),
+            },
+            Moved::Nothing => Step::Rests,
+            Moved::End => self.finish(hall, seat),
+            Moved::Failed => self.over(SessionEnd::Read),
+        }
+    }
+
+    // The peer sends no more.
+    fn finish(&mut self, hall: &mut Hall, seat: usize) -> Step
+        requires taken { is_some (seat_at hall.old seat) ≡ true }
+        ensures seats { length hall.new.seats ≡ length hall.old.seats }
+    {
+        match hall.finish(seat) {
+            Ok(()) => Step::Over,
+            Err(fault) => self.over(SessionEnd::Target(fault)),
+        }
+    }
+
+    fn over(&mut self, end: SessionEnd) -> Step {
+        self.end_by(end);
+        Step::Over
+    }
+}

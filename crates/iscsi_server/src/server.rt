@@ -1,0 +1,388 @@
+//! A listening socket, and the sessions of those who came there.
+
+ghost use Rattle.std.specs.Prelude.{◌≡◌, ◌≤◌, ◌↔◌, ◌+◌, ◌<◌, length, true, IsTrue, IfOk, IfErr, OnOk};
+ghost use Rattle.iscsi_login.specs.Name.{IsName};
+ghost use Rattle.iscsi_service.specs.Session.{HasExecuted};
+ghost use Rattle.iscsi_service.specs.Serving.{EndsService};
+ghost use Rattle.iscsi_service.specs.declared.serve_fault.ServeFault.TheVariants as serve;
+ghost use Rattle.iscsi_server.specs.Serving.{IsDone, IsEmpty, settings_of};
+
+use crate::connection::Connection;
+use crate::limits::{Limits, sooner};
+use crate::options::Options;
+use crate::peer::Peer;
+use crate::session_end::SessionEnd;
+use iscsi_hall::Hall;
+use iscsi_login::{Phase, Preferences};
+use iscsi_service::ServeFault;
+use iscsi_target::Config;
+use mio::net::{TcpListener, TcpStream};
+use mio::{Events, Interest, Poll, Token};
+use scsi_disk::BlockStore;
+use std::alloc::{AllocError, Global};
+use std::io::ErrorKind;
+use std::marker::Model;
+use std::net::SocketAddr;
+use std::time::{Duration, Instant};
+
+/// The token of the listener; those of connections are the numbers of their seats.
+const LISTENER: Token = Token(usize::MAX);
+/// The tag of the target's portal group.
+const GROUP: u16 = 1;
+
+/// A listening socket, and the sessions of those who came there, some at a time, over one store. All
+/// is done in one thread, by calls of `turn`.
+#[derive(Drop)]
+pub struct Server<'a> {
+    options: Options<'a>,
+    poll: Poll,
+    events: Events,
+    listener: TcpListener,
+    // whether a connection may wait to be accepted
+    is_asked: bool,
+    // how many connections were accepted
+    accepted: u16,
+    hall: Hall,
+    peers: Vec<Option<Peer>>,
+}
+
+impl<'a> Model for Server<'a> {
+    ghost use Rattle.std.specs.Prelude.{◌≤◌};
+    ghost use Rattle.iscsi_server.specs.Serving.{Service};
+
+    ghost Value = { Service };
+
+    ghost view = { λ s. record {
+      hall = s.hall;
+      accepted = s.accepted;
+      sessions = s.options.sessions;
+    } };
+
+    ghost invariant = { λ s. s.accepted ≤ s.options.sessions };
+}
+
+impl<'a> Server<'a> {
+    /// Listens, with all seats free. `Network` is answered where that fails, and `NoMemory` where
+    /// memory runs out.
+    pub fn open(rt: &HostRuntime, options: Options<'a>) -> Result<Server<'a>, ServeFault>
+        ensures seats { IfOk result (λ server. length server.hall.seats ≡ options.entry.at_once) }
+        ensures accepted { IfOk result (λ server. server.accepted ≡ 0) }
+        ensures sessions { IfOk result (λ server. server.sessions ≡ options.entry.sessions) }
+        ensures ends { IfErr result EndsService }
+    {
+        let alloc = rt.alloc();
+        let count = usize::from(options.at_once);
+        let peers = no_peers(alloc, count)?;
+        let events = Events::with_capacity(alloc, count + 1)?;
+        let hall = Hall::new(alloc, count)?;
+        let (poll, listener) = listen(rt, SocketAddr::new(options.listen, options.port))?;
+        Ok(Server {
+            options,
+            poll,
+            events,
+            listener,
+            is_asked: true,
+            accepted: 0,
+            hall,
+            peers,
+        })
+    }
+
+    /// The port at which it listens; `Network` where the system doesn't tell it.
+    pub fn port(&self) -> Result<u16, ServeFault>
+        ensures ends { IfErr result (λ fault. fault ≡ serve.Network) }
+    {
+        match self.listener.local_addr() {
+            Ok(address) => Ok(address.port()),
+            Err(_) => Err(ServeFault::Network),
+        }
+    }
+
+    /// Whether all sessions were served.
+    pub fn is_done(&self) -> bool
+        ensures done { IsTrue result ↔ IsDone self.now }
+    {
+        self.accepted >= self.options.sessions && is_empty(&self.hall)
+    }
+
+    /// Waits until there is something to do, accepts who came, as long as a seat is free and not
+    /// all connections were accepted, and gives each seat a turn.
+    ///
+    /// The line of a session that ends with a fault goes to the standard error, and the others go
+    /// on. Only being out of memory outside of sessions (`NoMemory`), and the system's refusing to
+    /// wait, to accept or to tell the time (`Network`) are answered.
+    #[tactic(auto, using(crate::proofs::ExecutedLemmas::none_executed))]
+    pub fn turn<S: BlockStore>(&mut self, rt: &HostRuntime, store: &mut S) -> Result<(), ServeFault>
+        // Whatever comes of it, the blocks are those that commands left.
+        ensures blocks { HasExecuted (S.disk store.old) (S.disk store.new) }
+        ensures seats { length self.new.hall.seats ≡ length self.old.hall.seats }
+        ensures sessions { self.new.sessions ≡ self.old.sessions }
+        ensures accepted { self.old.accepted ≤ self.new.accepted }
+        ensures ends { IfErr result EndsService }
+    {
+        self.wait(now(rt)?)?;
+        let now = now(rt)?;
+        self.admit(rt.alloc(), now)?;
+        self.serve_peers(rt, store, now);
+        Ok(())
+    }
+
+    // Waits until there is something to do, and notes what the system tells.
+    fn wait(&mut self, now: Instant) -> Result<(), ServeFault>
+        ensures same { self.new ≡ self.old }
+        ensures ends { IfErr result EndsService }
+    {
+        let timeout = if self.is_busy() {
+            Some(Duration::ZERO)
+        } else {
+            self.time_left(now)
+        };
+        if self.poll.poll(&mut self.events, timeout).is_err() {
+            return Err(ServeFault::Network);
+        }
+        for event in self.events.iter() {
+            if event.token() == LISTENER {
+                self.is_asked = true;
+            } else if let Some(Some(peer)) = self.peers.get_mut(event.token().0) {
+                peer.connection.note(event);
+            }
+        }
+        Ok(())
+    }
+
+    // Whether there is something to do of which the system will not tell again: what was not read to
+    // its end, or who was not accepted.
+    fn is_busy(&self) -> bool {
+        if self.may_admit() {
+            return true;
+        }
+        for (seat, peer) in self.peers.iter().enumerate() {
+            if let Some(peer) = peer {
+                if peer.wants_turn(&self.hall, seat) {
+                    return true;
+                }
+            }
+        }
+        false
+    }
+
+    // Whether a connection is to be accepted, if one waits.
+    fn may_admit(&self) -> bool
+        ensures open { result ≡ true → self.now.accepted < self.now.sessions }
+    {
+        self.accepted < self.options.sessions
+            && self.is_asked
+            && self.peers.iter().any(|peer| peer.is_none())
+    }
+
+    // How long until the time of a session is over; none: for ever.
+    fn time_left(&self, now: Instant) -> Option<Duration> {
+        let mut left = None;
+        for (seat, peer) in self.peers.iter().enumerate() {
+            if let Some(peer) = peer {
+                let phase = self.hall.phase(seat).unwrap_or(Phase::Closed);
+                let accepted = peer.connection.since_accepted(now);
+                let silent = peer.connection.since_moved(now);
+                let limits = &self.options.limits;
+                left = sooner(left, limits.time_left(phase, accepted, silent));
+            }
+        }
+        left
+    }
+
+    // Accepts those who wait, as far as there are seats.
+    fn admit(&mut self, alloc: Global, now: Instant) -> Result<(), ServeFault>
+        ensures seats { length self.new.hall.seats ≡ length self.old.hall.seats }
+        ensures sessions { self.new.sessions ≡ self.old.sessions }
+        ensures accepted { self.old.accepted ≤ self.new.accepted }
+        ensures ends { IfErr result EndsService }
+    {
+        for _ in 0..self.peers.len() {
+            if !self.may_admit() {
+                return Ok(());
+            }
+            match self.listener.accept() {
+                Ok((stream, _)) => self.welcome(alloc, stream, now)?,
+                Err(error) if error.kind() == ErrorKind::WouldBlock => {
+                    self.is_asked = false;
+                    return Ok(());
+                }
+                Err(_) => return Err(ServeFault::Network),
+            }
+        }
+        Ok(())
+    }
+
+    // Gives a connection a seat. Its number, counted from 1, is the TSIH of its session.
+    fn welcome(
+        &mut self,
+        alloc: Global,
+        mut stream: TcpStream,
+        now: Instant,
+    ) -> Result<(), ServeFault>
+        requires open { self.old.accepted < self.old.sessions }
+        ensures seats { length self.new.hall.seats ≡ length self.old.hall.seats }
+        ensures sessions { self.new.sessions ≡ self.old.sessions }
+        ensures accepted { self.new.accepted ≡ self.old.accepted + 1 }
+        ensures ends { IfErr result EndsService }
+    {
+        self.accepted += 1;
+        let config = configuration(alloc, self.options.name, self.accepted)?;
+        let Some(seat) = self.hall.seat(config) else {
+            return Ok(());
+        };
+        if !watch(&self.poll, &mut stream, seat) {
+            return Err(ServeFault::Network);
+        }
+        if let Some(place) = self.peers.get_mut(seat) {
+            *place = Some(Peer::new(Connection::new(stream, now)));
+        }
+        Ok(())
+    }
+
+    // A turn for each peer.
+    #[tactic(auto, using(crate::proofs::ExecutedLemmas::none_executed))]
+    fn serve_peers<S: BlockStore>(&mut self, rt: &HostRuntime, store: &mut S, now: Instant)
+        ensures blocks { HasExecuted (S.disk store.old) (S.disk store.new) }
+        ensures seats { length self.new.hall.seats ≡ length self.old.hall.seats }
+        ensures sessions { self.new.sessions ≡ self.old.sessions }
+        ensures accepted { self.new.accepted ≡ self.old.accepted }
+    {
+        for seat in 0..self.peers.len() {
+            self.serve_peer(rt, store, seat, now);
+        }
+    }
+
+    // A turn for the peer of a seat, if there is one. A session that is over leaves.
+    #[tactic(auto, using(crate::proofs::ExecutedLemmas::none_executed))]
+    fn serve_peer<S: BlockStore>(
+        &mut self,
+        rt: &HostRuntime,
+        store: &mut S,
+        seat: usize,
+        now: Instant,
+    )
+        ensures blocks { HasExecuted (S.disk store.old) (S.disk store.new) }
+        ensures seats { length self.new.hall.seats ≡ length self.old.hall.seats }
+        ensures sessions { self.new.sessions ≡ self.old.sessions }
+        ensures accepted { self.new.accepted ≡ self.old.accepted }
+    {
+        let Some(Some(peer)) = self.peers.get_mut(seat) else {
+            return;
+        };
+        let was = self.hall.phase(seat);
+        let is_over = peer.turn(&mut self.hall, store, seat, now)
+            || is_late(&self.options.limits, peer, self.hall.phase(seat), now);
+        if is_over {
+            let end = peer.end;
+            self.dismiss(rt, seat, end);
+        } else if was != self.hall.phase(seat) {
+            self.end_older(rt, seat);
+        }
+    }
+
+    // Ends an older session whose place that of this seat takes, since its login is completed now.
+    fn end_older(&mut self, rt: &HostRuntime, seat: usize)
+        ensures seats { length self.new.hall.seats ≡ length self.old.hall.seats }
+        ensures sessions { self.new.sessions ≡ self.old.sessions }
+        ensures accepted { self.new.accepted ≡ self.old.accepted }
+    {
+        if let Some(older) = self.hall.taken_over(seat) {
+            self.dismiss(rt, older, Some(SessionEnd::TakenOver));
+        }
+    }
+
+    // Frees a seat, and prints why its session ended.
+    fn dismiss(&mut self, rt: &HostRuntime, seat: usize, end: Option<SessionEnd>)
+        ensures seats { length self.new.hall.seats ≡ length self.old.hall.seats }
+        ensures sessions { self.new.sessions ≡ self.old.sessions }
+        ensures accepted { self.new.accepted ≡ self.old.accepted }
+    {
+        if let Some(end) = end {
+            let _ = eprintln!(rt; "{end}");
+        }
+        self.hall.leave(seat);
+        if let Some(place) = self.peers.get_mut(seat) {
+            *place = None;
+        }
+    }
+}
+
+// Whether no session has a seat.
+fn is_empty(hall: &Hall) -> bool
+    ensures empty { IsTrue result ↔ IsEmpty hall.now }
+{
+    for seat in 0..hall.seats() {
+        if hall.is_taken(seat) {
+            return false;
+        }
+    }
+    true
+}
+
+// So many places for peers.
+fn no_peers(alloc: Global, count: usize) -> Result<Vec<Option<Peer>>, AllocError> {
+    let mut peers = Vec::new(alloc);
+    for _ in 0..count {
+        peers.push(None)?;
+    }
+    Ok(peers)
+}
+
+// Whether the time of a session is over, which is kept as its end.
+fn is_late(limits: &Limits, peer: &mut Peer, phase: Option<Phase>, now: Instant) -> bool {
+    let accepted = peer.connection.since_accepted(now).as_secs();
+    let silent = peer.connection.since_moved(now).as_secs();
+    match limits.broken(phase.unwrap_or(Phase::Closed), accepted, silent) {
+        Some(end) => {
+            peer.end_by(end);
+            true
+        }
+        None => false,
+    }
+}
+
+// What tells of a listener and of connections, and the listener.
+fn listen(rt: &HostRuntime, address: SocketAddr) -> Result<(Poll, TcpListener), ServeFault>
+    ensures ends { IfErr result EndsService }
+{
+    let Ok(poll) = Poll::new(rt) else {
+        return Err(ServeFault::Network);
+    };
+    let Ok(mut listener) = TcpListener::bind(rt, address) else {
+        return Err(ServeFault::Network);
+    };
+    let registry = poll.registry();
+    match registry.register(&mut listener, LISTENER, Interest::READABLE) {
+        Ok(()) => Ok((poll, listener)),
+        Err(_) => Err(ServeFault::Network),
+    }
+}
+
+// Has the system tell of a connection, under the number of its seat. Says whether it will.
+fn watch(poll: &Poll, stream: &mut TcpStream, seat: usize) -> bool {
+    // An answer waits for no other one; where the system refuses this, it is only slower.
+    let _ = stream.set_nodelay(true);
+    let interest = Interest::READABLE | Interest::WRITABLE;
+    poll.registry()
+        .register(stream, Token(seat), interest)
+        .is_ok()
+}
+
+// What the session of this number is configured with. The only error is that memory ran out, where
+// name and number are in range.
+fn configuration(alloc: Global, name: &[u8], number: u16) -> Result<Config, AllocError>
+    ensures settings { IfOk result (λ config. config ≡ settings_of name.now number) }
+    ensures ok { OnOk result (IsName name.now) }
+{
+    Config::new(alloc, name, GROUP, number, Preferences::standard()).map_err(|_| AllocError)
+}
+
+fn now(rt: &HostRuntime) -> Result<Instant, ServeFault>
+    ensures ends { IfErr result EndsService }
+{
+    match Instant::now(rt) {
+        Ok(now) => Ok(now),
+        Err(_) => Err(ServeFault::Network),
+    }
+}

@@ -1,0 +1,67 @@
+//! A service of several sessions at a time.
+
+ghost use Rattle.std.specs.Prelude.{◌≡◌, ◌⊎◌, IfErr};
+ghost use Rattle.iscsi_service.specs.Session.{HasExecuted};
+ghost use Rattle.iscsi_service.specs.Serving.{EndsService};
+ghost use Rattle.iscsi_service.specs.declared.serve_fault.ServeFault.TheVariants as serve;
+ghost use Rattle.iscsi_server.specs.Service.{IsService};
+
+use crate::options::Options;
+use crate::server::Server;
+use iscsi_service::ServeFault;
+use scsi_disk::{BlockStore, SparseStore};
+
+/// Listens, prints `listening` and, if that is asked, the port on a line of its own, and serves so
+/// many connections, some at a time, over one store of so many blocks of 00.
+///
+/// A session that ends with a fault has the fault's line on standard error, and the others go on.
+/// Only being out of memory outside of sessions and a fault of the network end the service; `Write`
+/// is answered where what it prints first cannot be printed.
+///
+/// Each session is one of RFC 7143, sections 6 and 11; that they take turns in one thread, a PDU at a
+/// time, is own rule.
+pub fn serve_at_once(rt: &HostRuntime, options: Options<'_>) -> Result<(), ServeFault>
+    requires service { IsService options }
+    ensures ends { IfErr result (λ fault. EndsService fault ⊎ (fault ≡ serve.Write)) }
+{
+    let mut store = SparseStore::new(rt.alloc(), options.blocks);
+    let mut server = Server::open(rt, options)?;
+    announce(rt, &server, options.print_port)?;
+    serve_all(rt, &mut server, &mut store)
+}
+
+// Tells that connections are accepted, and at which port.
+fn announce(rt: &HostRuntime, server: &Server<'_>, print_port: bool) -> Result<(), ServeFault>
+    ensures fault { IfErr result
+        (λ fault. (fault ≡ serve.Network) ⊎ (fault ≡ serve.Write)) }
+{
+    if println!(rt; "listening").is_err() {
+        return Err(ServeFault::Write);
+    }
+    if print_port {
+        let port = server.port()?;
+        if println!(rt; "{port}").is_err() {
+            return Err(ServeFault::Write);
+        }
+    }
+    Ok(())
+}
+
+// Turn after turn, until all sessions were served.
+#[tactic(auto, using(crate::proofs::ExecutedLemmas::none_executed))]
+fn serve_all<S: BlockStore>(
+    rt: &HostRuntime,
+    server: &mut Server<'_>,
+    store: &mut S,
+) -> Result<(), ServeFault>
+    ensures blocks { HasExecuted (S.disk store.old) (S.disk store.new) }
+    ensures ends { IfErr result EndsService }
+{
+    for _ in 0..u64::MAX {
+        if server.is_done() {
+            return Ok(());
+        }
+        server.turn(rt, store)?;
+    }
+    Ok(())
+}

@@ -1,0 +1,29 @@
+//! Why a session of a seat ends, where it has a line.
+
+use iscsi_target::TargetFault;
+use thiserror::Error;
+
+/// Why a session of a seat ends, but for a logout, a refused login and an end between two PDUs. The
+/// service goes on.
+#[derive(Clone, Copy, Debug, PartialEq, Eq, Error)]
+pub enum SessionEnd {
+    /// The target refuses what its initiator sent, or the session had no memory.
+    #[error(transparent)]
+    Target(TargetFault),
+    /// A read of the connection failed.
+    #[error("read failed")]
+    Read,
+    /// A write to the connection failed, or took no byte.
+    #[error("write failed")]
+    Write,
+    /// No byte went either way for as long as a peer may be silent.
+    #[error("session: idle")]
+    Idle,
+    /// The peer had not logged in when its time for that was over.
+    #[error("session: login too late")]
+    LoginTooLate,
+    /// The same port of an initiator logged in once more, and that session took its place (RFC
+    /// 7143, section 6.3.5).
+    #[error("session: taken over")]
+    TakenOver,
+}

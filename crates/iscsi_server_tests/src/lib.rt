@@ -1,0 +1,5 @@
+//! Tests of `iscsi_server`: several sessions at a time over sockets.
+#![tactic(auto)]
+
+#[cfg(test)]
+mod tests;
