@@ -1,6 +1,7 @@
 //! A target's service for several sessions at a time, in one thread, over one disk (RFC 7143).
 #![tactic(auto)]
 
+mod configuration;
 mod connection;
 mod limits;
 mod options;
@@ -8,6 +9,7 @@ mod peer;
 mod server;
 mod service;
 mod session_end;
+mod system;
 
 pub use limits::{LAST_WRITE, Limits};
 pub use options::{MOST_AT_ONCE, Options};

@@ -5,11 +5,14 @@ ghost use Rattle.iscsi_service.specs.Session.{HasExecuted};
 ghost use Rattle.iscsi_hall.specs.Seats.{may_read_at, may_take_at, seat_at, waiting_at};
 
 use crate::connection::{Connection, Moved};
+use crate::limits::Limits;
 use crate::session_end::SessionEnd;
 use iscsi_hall::Hall;
+use iscsi_login::Phase;
 use iscsi_stream::PIECE;
 use iscsi_target::TargetFault;
 use scsi_disk::BlockStore;
+use std::alloc::{AllocError, Global};
 use std::time::Instant;
 
 /// How many reads, PDUs and writes a seat has in a turn, before the others have theirs.
@@ -79,6 +82,19 @@ impl Peer {
             }
         }
         false
+    }
+
+    /// Whether the time of its session is over, which is then kept as its end.
+    pub fn is_late(&mut self, limits: &Limits, phase: Option<Phase>, now: Instant) -> bool {
+        let accepted = self.connection.since_accepted(now).as_secs();
+        let silent = self.connection.since_moved(now).as_secs();
+        match limits.broken(phase.unwrap_or(Phase::Closed), accepted, silent) {
+            Some(end) => {
+                self.end_by(end);
+                true
+            }
+            None => false,
+        }
     }
 
     /// Keeps why the session ends, unless there was a reason before.
@@ -186,4 +202,13 @@ impl Peer {
         self.end_by(end);
         Step::Over
     }
+}
+
+/// So many places for peers.
+pub fn no_peers(alloc: Global, count: usize) -> Result<Vec<Option<Peer>>, AllocError> {
+    let mut peers = Vec::new(alloc);
+    for _ in 0..count {
+        peers.push(None)?;
+    }
+    Ok(peers)
 }

@@ -1,37 +1,32 @@
-//! A listening socket, and the sessions of those who came there.
+//! A listening socket, and the sessions of those who came there. Long, since all of it is what a turn
+//! of the service does.
 
-ghost use Rattle.std.specs.Prelude.{◌≡◌, ◌≤◌, ◌↔◌, ◌+◌, ◌<◌, length, true, IsTrue, IfOk, IfErr, OnOk};
-ghost use Rattle.iscsi_login.specs.Name.{IsName};
+ghost use Rattle.std.specs.Prelude.{◌≡◌, ◌≤◌, ◌↔◌, ◌+◌, ◌<◌, length, true, IsTrue, IfOk, IfErr};
 ghost use Rattle.iscsi_service.specs.Session.{HasExecuted};
 ghost use Rattle.iscsi_service.specs.Serving.{EndsService};
 ghost use Rattle.iscsi_service.specs.declared.serve_fault.ServeFault.TheVariants as serve;
-ghost use Rattle.iscsi_server.specs.Serving.{IsDone, IsEmpty, settings_of};
+ghost use Rattle.iscsi_server.specs.Serving.{IsDone, IsEmpty};
 
+use crate::configuration::configuration;
 use crate::connection::Connection;
-use crate::limits::{Limits, sooner};
+use crate::limits::sooner;
 use crate::options::Options;
-use crate::peer::Peer;
+use crate::peer::{Peer, no_peers};
 use crate::session_end::SessionEnd;
+use crate::system::{LISTENER, listen, now, watch};
 use iscsi_hall::Hall;
-use iscsi_login::{Phase, Preferences};
+use iscsi_login::Phase;
 use iscsi_service::ServeFault;
-use iscsi_target::Config;
 use mio::net::{TcpListener, TcpStream};
-use mio::{Events, Interest, Poll, Token};
+use mio::{Events, Poll};
 use scsi_disk::BlockStore;
-use std::alloc::{AllocError, Global};
+use std::alloc::Global;
 use std::io::ErrorKind;
 use std::marker::Model;
 use std::net::SocketAddr;
 use std::time::{Duration, Instant};
 
-/// The token of the listener; those of connections are the numbers of their seats.
-const LISTENER: Token = Token(usize::MAX);
-/// The tag of the target's portal group.
-const GROUP: u16 = 1;
-
-/// A listening socket, and the sessions of those who came there, some at a time, over one store. All
-/// is done in one thread, by calls of `turn`.
+/// A listening socket, and the sessions of those who came there, some at a time, by calls of `turn`.
 #[derive(Drop)]
 pub struct Server<'a> {
     options: Options<'a>,
@@ -150,8 +145,7 @@ impl<'a> Server<'a> {
         Ok(())
     }
 
-    // Whether there is something to do of which the system will not tell again: what was not read to
-    // its end, or who was not accepted.
+    // Whether there is something to do of which the system will not tell again.
     fn is_busy(&self) -> bool {
         if self.may_admit() {
             return true;
@@ -272,7 +266,7 @@ impl<'a> Server<'a> {
         };
         let was = self.hall.phase(seat);
         let is_over = peer.turn(&mut self.hall, store, seat, now)
-            || is_late(&self.options.limits, peer, self.hall.phase(seat), now);
+            || peer.is_late(&self.options.limits, self.hall.phase(seat), now);
         if is_over {
             let end = peer.end;
             self.dismiss(rt, seat, end);
@@ -318,71 +312,4 @@ fn is_empty(hall: &Hall) -> bool
         }
     }
     true
-}
-
-// So many places for peers.
-fn no_peers(alloc: Global, count: usize) -> Result<Vec<Option<Peer>>, AllocError> {
-    let mut peers = Vec::new(alloc);
-    for _ in 0..count {
-        peers.push(None)?;
-    }
-    Ok(peers)
-}
-
-// Whether the time of a session is over, which is kept as its end.
-fn is_late(limits: &Limits, peer: &mut Peer, phase: Option<Phase>, now: Instant) -> bool {
-    let accepted = peer.connection.since_accepted(now).as_secs();
-    let silent = peer.connection.since_moved(now).as_secs();
-    match limits.broken(phase.unwrap_or(Phase::Closed), accepted, silent) {
-        Some(end) => {
-            peer.end_by(end);
-            true
-        }
-        None => false,
-    }
-}
-
-// What tells of a listener and of connections, and the listener.
-fn listen(rt: &HostRuntime, address: SocketAddr) -> Result<(Poll, TcpListener), ServeFault>
-    ensures ends { IfErr result EndsService }
-{
-    let Ok(poll) = Poll::new(rt) else {
-        return Err(ServeFault::Network);
-    };
-    let Ok(mut listener) = TcpListener::bind(rt, address) else {
-        return Err(ServeFault::Network);
-    };
-    let registry = poll.registry();
-    match registry.register(&mut listener, LISTENER, Interest::READABLE) {
-        Ok(()) => Ok((poll, listener)),
-        Err(_) => Err(ServeFault::Network),
-    }
-}
-
-// Has the system tell of a connection, under the number of its seat. Says whether it will.
-fn watch(poll: &Poll, stream: &mut TcpStream, seat: usize) -> bool {
-    // An answer waits for no other one; where the system refuses this, it is only slower.
-    let _ = stream.set_nodelay(true);
-    let interest = Interest::READABLE | Interest::WRITABLE;
-    poll.registry()
-        .register(stream, Token(seat), interest)
-        .is_ok()
-}
-
-// What the session of this number is configured with. The only error is that memory ran out, where
-// name and number are in range.
-fn configuration(alloc: Global, name: &[u8], number: u16) -> Result<Config, AllocError>
-    ensures settings { IfOk result (λ config. config ≡ settings_of name.now number) }
-    ensures ok { OnOk result (IsName name.now) }
-{
-    Config::new(alloc, name, GROUP, number, Preferences::standard()).map_err(|_| AllocError)
-}
-
-fn now(rt: &HostRuntime) -> Result<Instant, ServeFault>
-    ensures ends { IfErr result EndsService }
-{
-    match Instant::now(rt) {
-        Ok(now) => Ok(now),
-        Err(_) => Err(ServeFault::Network),
-    }
 }

@@ -1,0 +1,50 @@
+//! What is asked of the system: a listener, to be told of sockets that are ready, the time.
+
+ghost use Rattle.std.specs.Prelude.{◌≡◌, IfErr};
+ghost use Rattle.iscsi_service.specs.Serving.{EndsService};
+
+use iscsi_service::ServeFault;
+use mio::net::{TcpListener, TcpStream};
+use mio::{Interest, Poll, Token};
+use std::net::SocketAddr;
+use std::time::Instant;
+
+/// The token of the listener; those of connections are the numbers of their seats.
+pub const LISTENER: Token = Token(usize::MAX);
+
+/// What tells of a listener and of connections, and the listener. The only fault is `Network`.
+pub fn listen(rt: &HostRuntime, address: SocketAddr) -> Result<(Poll, TcpListener), ServeFault>
+    ensures ends { IfErr result EndsService }
+{
+    let Ok(poll) = Poll::new(rt) else {
+        return Err(ServeFault::Network);
+    };
+    let Ok(mut listener) = TcpListener::bind(rt, address) else {
+        return Err(ServeFault::Network);
+    };
+    let registry = poll.registry();
+    match registry.register(&mut listener, LISTENER, Interest::READABLE) {
+        Ok(()) => Ok((poll, listener)),
+        Err(_) => Err(ServeFault::Network),
+    }
+}
+
+/// Has the system tell of a connection, under the number of its seat. Says whether it will.
+pub fn watch(poll: &Poll, stream: &mut TcpStream, seat: usize) -> bool {
+    // An answer waits for no other one; where the system refuses this, it is only slower.
+    let _ = stream.set_nodelay(true);
+    let interest = Interest::READABLE | Interest::WRITABLE;
+    poll.registry()
+        .register(stream, Token(seat), interest)
+        .is_ok()
+}
+
+/// The time. The only fault is `Network`, where the system doesn't tell it.
+pub fn now(rt: &HostRuntime) -> Result<Instant, ServeFault>
+    ensures ends { IfErr result EndsService }
+{
+    match Instant::now(rt) {
+        Ok(now) => Ok(now),
+        Err(_) => Err(ServeFault::Network),
+    }
+}
