@@ -134,14 +134,14 @@ record Begun (t e : target_session.Session) (n : ℕ) : Type 0 where
   cmd_sn : e.exp_cmd_sn ≡ n
   session_type : e.session_type ≡ t.session_type
 
-begun_if : (b : Bool) (t : target_session.Session) (k n : ℕ) → t.begun ≡ b → k ≡ n → (t.begun ≡ true → t.exp_cmd_sn ≡ n)
-    → Begun t (if b then t else record t { begun = true; exp_cmd_sn = k }) n
-begun_if true t k n is same due = record { cmd_sn = due is; session_type = refl }
-begun_if false t k n is same due = record { cmd_sn = same; session_type = refl }
+begun_if : (b : Bool) (t : target_session.Session) (k n : ℕ) (isid : List ℕ) → t.begun ≡ b → k ≡ n → (t.begun ≡ true → t.exp_cmd_sn ≡ n)
+    → Begun t (if b then t else record t { begun = true; exp_cmd_sn = k; isid = isid }) n
+begun_if true t k n isid is same due = record { cmd_sn = due is; session_type = refl }
+begun_if false t k n isid is same due = record { cmd_sn = same; session_type = refl }
 
 begins : (t : target_session.Session) (h : LoginRequest) (n : ℕ) → h.cmd_sn ≡ n → (t.begun ≡ true → t.exp_cmd_sn ≡ n) → Begun t (entered t h) n
 begins t h n same due =
-    let k : Begun t (numbered t h) n = begun_if t.begun t h.cmd_sn n refl same due in
+    let k : Begun t (numbered t h) n = begun_if t.begun t h.cmd_sn n h.isid refl same due in
     record { cmd_sn = k.cmd_sn; session_type = k.session_type }
 
 -- what it tells of its numbers, and has counted then

@@ -115,7 +115,7 @@ pub record SameState (s e : target_session.Session) : Type 0 where
 
 pub entered_same : (s : target_session.Session) (h : LoginRequest) → SameState s (entered s h)
 entered_same s h =
-    let k : SameState s (numbered s h) = cond_both s.begun s (record s { begun = true; exp_cmd_sn = h.cmd_sn }) (SameState s)
+    let k : SameState s (numbered s h) = cond_both s.begun s (record s { begun = true; exp_cmd_sn = h.cmd_sn; isid = h.isid }) (SameState s)
     (λ is. record { has_text = refl; seen_keys = refl; settings = refl; stat_sn = refl; gathered = refl }) (λ is. record {
       has_text = refl;
       seen_keys = refl;
@@ -287,19 +287,21 @@ text_keeps m =
     (λ is. record { stage = refl; number = refl }) (λ is. record { stage = refl; number = refl })
 
 entered_phase : (t : target_session.Session) (h : LoginRequest) → (entered t h).phase ≡ t.phase
-entered_phase t h = phase_if t.begun t h.cmd_sn
+entered_phase t h = phase_if t.begun t h.cmd_sn h.isid
   where
-    phase_if : (b : Bool) (s : target_session.Session) (n : ℕ) → (if b then s else record s { begun = true; exp_cmd_sn = n }).phase ≡ s.phase
-    phase_if true s n = refl
-    phase_if false s n = refl
+    phase_if : (b : Bool) (s : target_session.Session) (n : ℕ) (isid : List ℕ)
+        → (if b then s else record s { begun = true; exp_cmd_sn = n; isid = isid }).phase ≡ s.phase
+    phase_if true s n isid = refl
+    phase_if false s n isid = refl
 
-begun_if : (b : Bool) (s : target_session.Session) (n : ℕ) → s.begun ≡ b → (if b then s else record s { begun = true; exp_cmd_sn = n }).begun ≡ true
-begun_if true s n e = e
-begun_if false s n e = refl
+begun_if : (b : Bool) (s : target_session.Session) (n : ℕ) (isid : List ℕ) → s.begun ≡ b
+    → (if b then s else record s { begun = true; exp_cmd_sn = n; isid = isid }).begun ≡ true
+begun_if true s n isid e = e
+begun_if false s n isid e = refl
 
 -- a request that was taken has begun the login, in its stage
 entered_begun : (t : target_session.Session) (h : LoginRequest) → (entered t h).begun ≡ true
-entered_begun t h = begun_if t.begun t h.cmd_sn refl
+entered_begun t h = begun_if t.begun t h.cmd_sn h.isid refl
 
 in_stage : (stage other : Stage) → unwrap_or (stage_named (stage_number stage)) other ≡ stage
 in_stage stages.Security other = refl

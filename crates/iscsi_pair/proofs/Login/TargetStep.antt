@@ -197,7 +197,7 @@ record Keeps (s e : Session) : Type 0 where
 
 numbered_keeps : (s : Session) (h : LoginRequest) → s.exp_cmd_sn < 2 ^ 32 → RequestFits h → Keeps s (numbered s h)
 numbered_keeps s h sn f =
-    cond_both s.begun s (record s { begun = true; exp_cmd_sn = h.cmd_sn }) (Keeps s)
+    cond_both s.begun s (record s { begun = true; exp_cmd_sn = h.cmd_sn; isid = h.isid }) (Keeps s)
     (λ is. record { phase = refl; settings = refl; held = refl; gathered = refl; stat_sn = refl; cmd_sn = sn })
     (λ is. record { phase = refl; settings = refl; held = refl; gathered = refl; stat_sn = refl; cmd_sn = f.cmd_sn })
 
