@@ -148,22 +148,31 @@ impl Peer {
         }
     }
 
-    // Takes a PDU. A fault closes the session, and its last answers are still written. Where the login
-    // is completed the turn ends, so that an older session of the same port can leave first.
-    #[tactic(auto, using(crate::proofs::ExecutedLemmas::turn_executed))]
+    // Takes a PDU. Where the login is completed the turn ends, so that an older session of the same
+    // port can leave first.
     fn take<S: BlockStore>(&mut self, hall: &mut Hall, store: &mut S, seat: usize) -> Step
         requires may { may_take_at (seat_at hall.old seat) ≡ true }
         ensures blocks { HasExecuted (S.disk store.old) (S.disk store.new) }
         ensures seats { length hall.new.seats ≡ length hall.old.seats }
     {
         let was = hall.phase(seat);
-        if let Err(fault) = hall.take(seat, store) {
-            self.end_by(SessionEnd::Target(fault));
-        }
+        self.take_pdu(hall, store, seat);
         if was == hall.phase(seat) {
             Step::Went
         } else {
             Step::Rests
+        }
+    }
+
+    // Takes a PDU. A fault closes the session, and its last answers are still written.
+    #[tactic(auto, using(crate::proofs::ExecutedLemmas::turn_executed))]
+    fn take_pdu<S: BlockStore>(&mut self, hall: &mut Hall, store: &mut S, seat: usize)
+        requires may { may_take_at (seat_at hall.old seat) ≡ true }
+        ensures blocks { HasExecuted (S.disk store.old) (S.disk store.new) }
+        ensures seats { length hall.new.seats ≡ length hall.old.seats }
+    {
+        if let Err(fault) = hall.take(seat, store) {
+            self.end_by(SessionEnd::Target(fault));
         }
     }
 
