@@ -95,9 +95,14 @@ def received(peer, count):
     return got
 
 
-def log_in(peer):
+def login_of(port):
+    """The login of a port of the initiator: the last two bytes of its ISID are the port's number."""
+    return LOGIN[:12] + port.to_bytes(2, "big") + LOGIN[14:]
+
+
+def log_in(peer, port=0):
     """Logs in, and gives the answer."""
-    peer.sendall(LOGIN)
+    peer.sendall(login_of(port))
     return received(peer, 48 + 56)
 
 
@@ -225,7 +230,7 @@ def broken_rule(program, room):
     """A session that breaks a rule has its Reject and its line, and another one goes on."""
     with Service(program, 2, "--at-once", "2") as service:
         with service.peer() as other, service.peer() as peer:
-            log_in(other)
+            log_in(other, 1)
             peer.sendall(ROWS.OUT_OF_TURN)
             answers = received(peer, 1000)
             other.sendall(LOGOUT)
@@ -259,10 +264,10 @@ def sixty_four(program, room):
     """64 sessions at once, and one more, which waits until another one logs out."""
     with Service(program, 65, "--at-once", "64") as service:
         peers = [service.peer() for _ in range(64)]
-        answers = [log_in(peer) for peer in peers]
+        answers = [log_in(peer, port) for port, peer in enumerate(peers)]
         tsihs = {answer[14:16] for answer in answers}
         more = service.peer()
-        more.sendall(LOGIN)
+        more.sendall(login_of(64))
         more.settimeout(0.5)
         try:
             early = more.recv(1)
@@ -278,6 +283,19 @@ def sixty_four(program, room):
     is_well = all(len(answer) == 104 for answer in answers) and len(tsihs) == 64
     is_well = is_well and early is None and len(left) == 48 and len(late) == 104
     return (is_well and seen == (b"listening\n", b"", 0)) or (len(tsihs), early, len(left), len(late), seen)
+
+
+def same_port(program, room):
+    """The same port of an initiator logs in once more, as after a restart: its first session is ended, and the second goes on."""
+    with Service(program, 2, "--at-once", "2") as service:
+        with service.peer() as first, service.peer() as second:
+            log_in(first)
+            log_in(second)
+            is_shut = received(first, 1) == b""
+            second.sendall(LOGOUT)
+            rest = received(second, 1000)
+        seen = service.ended()
+    return (is_shut and len(rest) == 48 and seen == (b"listening\n", b"session: taken over\n", 0)) or (is_shut, rest.hex(), seen)
 
 
 def as_before(program, room):
@@ -324,6 +342,7 @@ CASES = [
     (broken_rule, []),
     (unread_answers, ["iscsi-inq"]),
     (sixty_four, []),
+    (same_port, []),
     (as_before, []),
     (other_name, ["iscsi-inq"]),
 ]
