@@ -88,11 +88,24 @@ fn options(sessions: u16, at_once: u16, idle: u16) -> Options<'static> {
     }
 }
 
-// A server; it stands in a box, so that functions which own it are proved sooner.
-fn open<'a>(rt: &HostRuntime, options: Options<'a>) -> Result<Box<Server<'a>>, Fail> {
+/// A server, and the disk of all its sessions.
+#[derive(Drop)]
+struct Service<'a> {
+    server: Server<'a>,
+    store: SparseStore,
+}
+
+impl Service<'_> {
+    fn turn(&mut self, rt: &HostRuntime) -> Result<(), Fail> {
+        Ok(self.server.turn(rt, &mut self.store)?)
+    }
+}
+
+// A service; it stands in a box, so that functions which own it are proved sooner.
+fn open<'a>(rt: &HostRuntime, options: Options<'a>) -> Result<Box<Service<'a>>, Fail> {
     let store = SparseStore::new(rt.alloc(), options.blocks);
-    let server = Server::open(rt, options, store)?;
-    Ok(Box::new(rt.alloc(), server)?)
+    let server = Server::open(rt, options)?;
+    Ok(Box::new(rt.alloc(), Service { server, store })?)
 }
 
 // So many clients, in the order in which they are accepted.
@@ -123,7 +136,7 @@ fn receive(client: &TcpStream, out: &mut Vec<u8>) -> Result<bool, Fail> {
 // What comes to a client while the server has turns, up to so many bytes.
 fn answers(
     rt: &HostRuntime,
-    server: &mut Server<'_>,
+    service: &mut Service<'_>,
     client: &TcpStream,
     count: usize,
 ) -> Result<Vec<u8>, Fail> {
@@ -133,7 +146,7 @@ fn answers(
             break;
         }
         if !receive(client, &mut out)? {
-            server.turn(rt)?;
+            service.turn(rt)?;
         }
     }
     Ok(out)
@@ -142,7 +155,7 @@ fn answers(
 // A client writes requests. Says whether it has the answers that are due.
 fn is_answered(
     rt: &HostRuntime,
-    server: &mut Server<'_>,
+    service: &mut Service<'_>,
     client: &TcpStream,
     requests: &str,
     due: &str,
@@ -150,17 +163,17 @@ fn is_answered(
     let mut writer = client;
     writer.write_all(&pdus_of(rt.alloc(), requests)?)?;
     let due = pdus_of(rt.alloc(), due)?;
-    let out = answers(rt, server, client, due.len())?;
+    let out = answers(rt, service, client, due.len())?;
     Ok(out.as_slice() == due.as_slice())
 }
 
 // Has turns until all sessions were served, and says whether they were.
-fn finish(rt: &HostRuntime, server: &mut Server<'_>) -> Result<bool, Fail> {
+fn finish(rt: &HostRuntime, service: &mut Service<'_>) -> Result<bool, Fail> {
     for _ in 0..MOST_TURNS {
-        if server.is_done() {
+        if service.server.is_done() {
             return Ok(true);
         }
-        server.turn(rt)?;
+        service.turn(rt)?;
     }
     Ok(false)
 }
@@ -169,17 +182,17 @@ fn finish(rt: &HostRuntime, server: &mut Server<'_>) -> Result<bool, Fail> {
 // served then.
 fn run(
     rt: &HostRuntime,
-    server: &mut Server<'_>,
+    service: &mut Service<'_>,
     clients: &[TcpStream],
     rows: Rows<'_>,
 ) -> Result<(Option<usize>, bool), Fail> {
     for (row, (place, requests, due)) in rows.iter().enumerate() {
         let client = clients.get(*place).ok_or("no such client")?;
-        if !is_answered(rt, server, client, requests, due)? {
+        if !is_answered(rt, service, client, requests, due)? {
             return Ok((Some(row), false));
         }
     }
-    Ok((None, finish(rt, server)?))
+    Ok((None, finish(rt, service)?))
 }
 
 /// All answers were those that are due, and all sessions were served.
@@ -197,9 +210,9 @@ const TWO: Rows<'static> = &[
 
 #[test]
 fn two_sessions_at_once(rt: HostRuntime) -> Result<(), Fail> {
-    let mut server = open(&rt, options(2, 2, 5))?;
-    let clients = clients(&rt, &server, 2)?;
-    let seen = run(&rt, &mut server, &clients, TWO)?;
+    let mut service = open(&rt, options(2, 2, 5))?;
+    let clients = clients(&rt, &service.server, 2)?;
+    let seen = run(&rt, &mut service, &clients, TWO)?;
     same(&rt, &seen, &WELL, &"two at once");
     Ok(())
 }
@@ -214,9 +227,9 @@ const AGAIN: Rows<'static> = &[
 // The first client stays and sends nothing: for longer than a test may take it would keep its seat.
 #[test]
 fn the_same_port_once_more(rt: HostRuntime) -> Result<(), Fail> {
-    let mut server = open(&rt, options(2, 2, 120))?;
-    let clients = clients(&rt, &server, 2)?;
-    let seen = run(&rt, &mut server, &clients, AGAIN)?;
+    let mut service = open(&rt, options(2, 2, 120))?;
+    let clients = clients(&rt, &service.server, 2)?;
+    let seen = run(&rt, &mut service, &clients, AGAIN)?;
     same(&rt, &seen, &WELL, &"the same port");
     Ok(())
 }
@@ -230,9 +243,9 @@ const FAULT: Rows<'static> = &[
 
 #[test]
 fn a_fault_ends_its_session_alone(rt: HostRuntime) -> Result<(), Fail> {
-    let mut server = open(&rt, options(2, 2, 5))?;
-    let clients = clients(&rt, &server, 2)?;
-    let seen = run(&rt, &mut server, &clients, FAULT)?;
+    let mut service = open(&rt, options(2, 2, 5))?;
+    let clients = clients(&rt, &service.server, 2)?;
+    let seen = run(&rt, &mut service, &clients, FAULT)?;
     same(&rt, &seen, &WELL, &"a fault");
     Ok(())
 }
@@ -247,18 +260,18 @@ const ONE: Rows<'static> = &[
 
 #[test]
 fn one_more_than_there_are_seats(rt: HostRuntime) -> Result<(), Fail> {
-    let mut server = open(&rt, options(2, 1, 5))?;
-    let clients = clients(&rt, &server, 2)?;
-    let seen = run(&rt, &mut server, &clients, ONE)?;
+    let mut service = open(&rt, options(2, 1, 5))?;
+    let clients = clients(&rt, &service.server, 2)?;
+    let seen = run(&rt, &mut service, &clients, ONE)?;
     same(&rt, &seen, &WELL, &"one at a time");
     Ok(())
 }
 
 #[test]
 fn a_silent_peer_leaves(rt: HostRuntime) -> Result<(), Fail> {
-    let mut server = open(&rt, options(2, 2, 1))?;
-    let clients = clients(&rt, &server, 2)?;
-    let seen = run(&rt, &mut server, &clients, &[(0, LOGIN, LOGIN_1)])?;
+    let mut service = open(&rt, options(2, 2, 1))?;
+    let clients = clients(&rt, &service.server, 2)?;
+    let seen = run(&rt, &mut service, &clients, &[(0, LOGIN, LOGIN_1)])?;
     same(&rt, &seen, &WELL, &"silent peers");
     Ok(())
 }

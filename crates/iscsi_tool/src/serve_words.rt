@@ -2,6 +2,7 @@
 //! time.
 
 ghost use Rattle.std.specs.Prelude.{◌≡◌, ◌<◌, ◌≤◌, IfOk, IfSome};
+ghost use Rattle.iscsi_login.specs.Name.{IsName};
 ghost use Rattle.iscsi_tool.specs.Filtering.{IsJob};
 
 use crate::words::{BAD_BLOCKS, Job, LineFault, bad_number, blocks, blocks_of, flag, number};
@@ -151,7 +152,9 @@ pub(crate) fn service_of<'a>(alloc: Global, asked: &ArgMatches<'a>) -> Result<Jo
 }
 
 // The address to listen at, and the target's name.
-fn place_of<'a>(alloc: Global, asked: &ArgMatches<'a>) -> Result<(IpAddr, &'a [u8]), LineFault> {
+fn place_of<'a>(alloc: Global, asked: &ArgMatches<'a>) -> Result<(IpAddr, &'a [u8]), LineFault>
+    ensures name { IfOk result (λ place. IsName place.1.now) }
+{
     let listen = match asked.get_str("listen") {
         Some(text) => match text.parse::<IpAddr>() {
             Ok(address) => address,
