@@ -11,6 +11,9 @@ use std::net::{IpAddr, Ipv4Addr, TcpStream};
 use std::process::Abort;
 use std::test::Fail;
 
+/// How many blocks the disk has.
+const BLOCKS: u64 = 8;
+
 /// The most turns that answers take.
 const MOST_TURNS: usize = 1000;
 
@@ -76,7 +79,7 @@ fn options(sessions: u16, at_once: u16, idle: u16) -> Options<'static> {
     Options {
         listen: IpAddr::V4(Ipv4Addr::LOCALHOST),
         port: 0,
-        blocks: 8,
+        blocks: BLOCKS,
         sessions,
         at_once,
         name: b"iqn.2026-01.example:disk",
@@ -103,7 +106,7 @@ impl Service<'_> {
 
 // A service; it stands in a box, so that functions which own it are proved sooner.
 fn open<'a>(rt: &HostRuntime, options: Options<'a>) -> Result<Box<Service<'a>>, Fail> {
-    let store = SparseStore::new(rt.alloc(), options.blocks);
+    let store = SparseStore::new(rt.alloc(), BLOCKS);
     let server = Server::open(rt, options)?;
     Ok(Box::new(rt.alloc(), Service { server, store })?)
 }
