@@ -153,10 +153,10 @@ def held_peer(program, room):
     """A writer is stopped in the middle of its write; another one works; then the first one ends."""
     image = f"{room}/large"
     with open(image, "wb") as file:
-        file.write(os.urandom(BLOCKS * 512))
-    with Service(program, 100, "--at-once", "2") as service:
-        # 4 MiB in two seconds
-        writer = start("qemu-img", "convert", "-n", "-r", "2M", "-f", "raw", "-O", "raw", image, service.url)
+        file.write(os.urandom(64 << 20))
+    with Service(program, 100, "--at-once", "2", blocks=(64 << 20) // 512) as service:
+        # 64 MiB in four seconds
+        writer = start("qemu-img", "convert", "-n", "-r", "16M", "-f", "raw", "-O", "raw", image, service.url)
         time.sleep(1)
         is_running = writer.poll() is None
         writer.send_signal(signal.SIGSTOP)
