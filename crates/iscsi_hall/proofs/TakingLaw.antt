@@ -9,12 +9,12 @@ use Rattle.iscsi_target.specs.declared.fault.TargetFault.TheVariants as faults
 use Rattle.iscsi_target.specs.State.{Machine, Stepped, closed, joined, unchanged}
 use Rattle.iscsi_target.specs.Machine.{is_closed}
 use Rattle.iscsi_target.specs.Feed.{Answers, Connection, Store, Feeds, FedNextIf, Stands, StopsShort, StopsAt}
-use Rattle.iscsi_hall.specs.Seats.{Seat, Hall, phase_of, seat_at, waiting_at, with_phase, TakesAt, Takes, may_take, may_take_at}
+use Rattle.iscsi_hall.specs.Seats.{Seat, Hall, phase_of, seat_at, waiting_at, with_phase, TakesAt, Takes, has_room, may_take, may_take_at}
 use Rattle.iscsi_hall.specs.Turns.{Turn, IsFront, IsOwn, IsLeft, IsTurn, TakesTurn, answers_of, machines, machine_in}
 use Rattle.iscsi_hall.proofs.SeatLemmas.{some_within, changed_same, others_stay}
 
 -- what a call did, as a turn of a seat
-record Acts (seat : ℕ) (old : Connection) (before : Store) (most : ℕ → Type 0) (new : Connection) (after : Store) (written : List ℕ) : Type 0 where
+record Acts (seat : ℕ) (old : Connection) (before : Store) (most : ℕ → Type 0) (new : Connection) (after : Store) (output written : List ℕ) : Type 0 where
   pub turn : Turn
   pub seat_is : turn.seat ≡ seat
   pub met : turn.before ≡ before
@@ -22,14 +22,14 @@ record Acts (seat : ℕ) (old : Connection) (before : Store) (most : ℕ → Typ
   pub few : most (length turn.messages)
   pub own : IsOwn old.machine turn
   pub left : IsLeft turn.front.machine new.machine
-  pub answers_are : written ≡ canon (answers_of turn)
+  pub answers_are : written ≡ output ++ canon (answers_of turn)
 
 -- no fault of memory
-acts_whole : (seat : ℕ) (old new : Connection) (before after : Store) (bytes written : List ℕ) (most : ℕ → Type 0) (framing : _)
+acts_whole : (seat : ℕ) (old new : Connection) (before after : Store) (bytes output written : List ℕ) (most : ℕ → Type 0) (framing : _)
     (ms : List Message) (r : Stepped) (a : Answers old before bytes framing ms r after) → is_closed old.machine ≡ false → most (length ms) →
-    Stands [] r a.failures after written → IsLeft r.machine new.machine →
-    Acts seat old before most new after written
-acts_whole seat old new before after bytes written most framing ms r a open_ few s l = record {
+    Stands output r a.failures after written → IsLeft r.machine new.machine →
+    Acts seat old before most new after output written
+acts_whole seat old new before after bytes output written most framing ms r a open_ few s l = record {
   turn = record { seat = seat; before = before; messages = ms; stepped = r; front = unchanged r.machine r.disk; after = after };
   seat_is = refl;
   met = refl;
@@ -44,7 +44,7 @@ acts_whole seat old new before after bytes written most framing ms r a open_ few
     disk = s.disk;
   };
   left = l;
-  answers_are = s.output_is ∙ ap canon (sym (append-nil r.answers));
+  answers_are = s.output_is ∙ ap (λ ms. output ++ canon ms) (sym (append-nil r.answers));
 }
 
 front_of : (framing : _) (rest : List ℕ) (r : Stepped) (counted : ℕ) (front : Stepped) (after : ℕ) →
@@ -52,12 +52,12 @@ front_of : (framing : _) (rest : List ℕ) (r : Stepped) (counted : ℕ) (front 
 front_of framing rest r counted front after (inl none) = inl none
 front_of framing rest r counted front after (inr at) = inr (at.message, at.stops)
 
-acts_short : (seat : ℕ) (old new : Connection) (before after : Store) (bytes written rest : List ℕ) (most : ℕ → Type 0) (framing : _) (ms : List Message)
+acts_short : (seat : ℕ) (old new : Connection) (before after : Store) (bytes output written rest : List ℕ) (most : ℕ → Type 0) (framing : _) (ms : List Message)
     (r : Stepped)
     (a : Answers old before bytes framing ms r after) → is_closed old.machine ≡ false → most (length ms) →
-    StopsShort [] framing rest r a.failures new.machine after written →
-    Acts seat old before most new after written
-acts_short seat old new before after bytes written rest most framing ms r a open_ few s = record {
+    StopsShort output framing rest r a.failures new.machine after written →
+    Acts seat old before most new after output written
+acts_short seat old new before after bytes output written rest most framing ms r a open_ few s = record {
   turn = record { seat = seat; before = before; messages = ms; stepped = r; front = s.front; after = after };
   seat_is = refl;
   met = refl;
@@ -78,22 +78,22 @@ acts_short seat old new before after bytes written rest most framing ms r a open
 abbrev one_if : Result ℕ TargetFault → ℕ → Type 0
 one_if result n = OnOk result (n ≤ 1)
 
-acts : (b : Bool) (seat : ℕ) (old new : Connection) (before after : Store) (piece written : List ℕ) (phase : Phase) (result : Result ℕ TargetFault)
-    → is_closed old.machine ≡ false → b ≡ false → FedNextIf b old before [] piece (with_phase phase result) new after written →
-    Acts seat old before (one_if result) new after written
-acts true seat old new before after piece written phase result open_ live f = absurd cc
-acts false seat old new before after piece written phase (Ok n) open_ live f =
-    acts_whole seat old new before after _ written (one_if (Ok n)) f.fed.framing f.fed.messages f.fed.stepped f.fed.answered open_ f.one f.fed.leaves
+acts : (b : Bool) (seat : ℕ) (old new : Connection) (before after : Store) (output piece written : List ℕ) (phase : Phase) (result : Result ℕ TargetFault)
+    → is_closed old.machine ≡ false → b ≡ false → FedNextIf b old before output piece (with_phase phase result) new after written →
+    Acts seat old before (one_if result) new after output written
+acts true seat old new before after output piece written phase result open_ live f = absurd cc
+acts false seat old new before after output piece written phase (Ok n) open_ live f =
+    acts_whole seat old new before after _ output written (one_if (Ok n)) f.fed.framing f.fed.messages f.fed.stepped f.fed.answered open_ f.one f.fed.leaves
     (inl f.fed.ends.1)
-acts false seat old new before after piece written phase (Err faults.NoMemory) open_ live f =
-    acts_short seat old new before after _ written _ (one_if (Err faults.NoMemory)) f.framing f.messages f.stepped f.answered open_ tt f.leaves
-acts false seat old new before after piece written phase (Err (faults.Stream fault)) open_ live f =
-    acts_whole seat old new before after _ written (one_if (Err (faults.Stream fault))) f.framing f.messages f.stepped f.answered open_ tt f.leaves
+acts false seat old new before after output piece written phase (Err faults.NoMemory) open_ live f =
+    acts_short seat old new before after _ output written _ (one_if (Err faults.NoMemory)) f.framing f.messages f.stepped f.answered open_ tt f.leaves
+acts false seat old new before after output piece written phase (Err (faults.Stream fault)) open_ live f =
+    acts_whole seat old new before after _ output written (one_if (Err (faults.Stream fault))) f.framing f.messages f.stepped f.answered open_ tt f.leaves
     (inr f.ends.3)
-acts false seat old new before after piece written phase (Err (faults.Protocol rule)) open_ live f =
-    acts_whole seat old new before after _ written (one_if (Err (faults.Protocol rule))) f.framing f.messages f.stepped f.answered open_ tt f.leaves
+acts false seat old new before after output piece written phase (Err (faults.Protocol rule)) open_ live f =
+    acts_whole seat old new before after _ output written (one_if (Err (faults.Protocol rule))) f.framing f.messages f.stepped f.answered open_ tt f.leaves
     (inl f.ends.1)
-acts false seat old new before after piece written phase (Err faults.Closed) open_ live f = absurd f.ends
+acts false seat old new before after output piece written phase (Err faults.Closed) open_ live f = absurd f.ends
 
 -- a session that may take a PDU is not closed
 open_if : (written over unfed : Bool) → ((written && not over) && unfed) ≡ true → over ≡ false
@@ -104,7 +104,7 @@ open_if false over unfed e = absurd cc
 takes_open : (o : Option Seat) (s : Seat) → o ≡ Some s → may_take_at o ≡ true → is_closed s.connection.machine ≡ false
 takes_open o s same may =
     let e : may_take s ≡ true = subst (λ (x : Option Seat). may_take_at x ≡ true) same may in
-    open_if (length s.waiting == 0) (is_closed s.connection.machine) (not (length s.unfed == 0)) e
+    open_if (has_room s) (is_closed s.connection.machine) (not (length s.unfed == 0)) e
 
 -- so it is one of a hall
 pub takes_turn : (seat : ℕ) (old new : Hall) (before after : Store) (result : Result ℕ TargetFault) (t : Takes seat old before result new after)
@@ -113,8 +113,8 @@ takes_turn seat old new before after result t may =
     let live : is_closed t.before.connection.machine ≡ false = takes_open (seat_at old seat) t.before t.was may in
     let within : seat < length old.seats = some_within old.seats seat t.before t.was in
     let now : seat_at new seat ≡ Some t.after = changed_same seat old new (Some t.after) within t.now in
-    let a : Acts seat t.before.connection before (one_if result) t.after.connection after t.after.waiting =
-    acts (is_closed t.before.connection.machine) seat t.before.connection t.after.connection before after t.before.unfed t.after.waiting
+    let a : Acts seat t.before.connection before (one_if result) t.after.connection after t.before.waiting t.after.waiting =
+    acts (is_closed t.before.connection.machine) seat t.before.connection t.after.connection before after t.before.waiting t.before.unfed t.after.waiting
     (phase_of t.after) result live live t.does.fed in
     record {
       turn = a.turn;
@@ -131,5 +131,6 @@ takes_turn seat old new before after result t may =
         others = λ k ne. others_stay seat old new (Some t.after) t.now k (ap (λ (j : ℕ). j == k) (sym a.seat_is) ∙ ne);
         last_is = a.last_is;
       };
-      answers_are = ap waiting_at now ∙ a.answers_are;
+      answers_are = ap waiting_at now ∙ a.answers_are
+        ∙ ap (λ (w : List ℕ). w ++ canon (answers_of a.turn)) (sym (ap waiting_at t.was));
     }

@@ -1,6 +1,6 @@
 -- What a hall of seats holds, and what its calls do: several sessions of a target at a time, over
 -- one store (RFC 7143, section 4.2; which seat may be read and fed is own rule).
-use Rattle.std.specs.Prelude.{◌≡◌, ℕ, Bool, false, not, ◌==◌, ◌&&◌, List, [], length, drop, get_or, set, Option, None, Some, Result, Ok, Err}
+use Rattle.std.specs.Prelude.{◌≡◌, ℕ, Bool, true, false, not, ◌==◌, ◌&&◌, ◌||◌, nat_lt, List, [], length, drop, get_or, set, Option, None, Some, Result, Ok, Err}
 use Rattle.iscsi_login.specs.declared.phase.Phase.{Phase}
 use Rattle.iscsi_target_session.specs.Configured.{Settings}
 use Rattle.iscsi_target.specs.declared.fault.TargetFault.{TargetFault}
@@ -14,6 +14,8 @@ pub record Seat : Type 0 where
   pub connection : Connection
   -- the answers that are not written
   pub waiting : List ℕ
+  -- the peer was offered what waits, and has not taken all of it
+  pub offered : Bool
   -- what was read and not taken
   pub unfed : List ℕ
 
@@ -22,6 +24,7 @@ abbrev pub opening_seat : Settings → Seat
 opening_seat settings = record {
   connection = opening_connection settings 1;
   waiting = [];
+  offered = false;
   unfed = [];
 }
 
@@ -37,18 +40,27 @@ is_idle s = length s.waiting == 0 && not (is_closed s.connection.machine)
 abbrev pub may_read : Seat → Bool
 may_read s = is_idle s && length s.unfed == 0
 
--- The next PDU may be taken: something that was read is not, and all answers are written (own
--- rule).
+-- More answers may be gathered, to be written together: none waits, or they have less than 65,536
+-- bytes and were not offered to the peer (own rule).
+abbrev pub has_room : Seat → Bool
+has_room s = length s.waiting == 0 || (not s.offered && nat_lt (length s.waiting) 65536)
+
+-- The seat where answers are gathered: the peer was not offered what waits.
+abbrev pub gathering : Seat → Seat
+gathering s = record s { offered = false }
+
+-- The next PDU may be taken: something that was read is not, the session goes on, and there is room
+-- for answers (own rule).
 abbrev pub may_take : Seat → Bool
-may_take s = is_idle s && not (length s.unfed == 0)
+may_take s = has_room s && not (is_closed s.connection.machine) && not (length s.unfed == 0)
 
 -- The seat with what was read.
 abbrev pub received : List ℕ → Seat → Seat
 received piece s = record s { unfed = piece }
 
--- The seat when so many bytes of its answers were written.
+-- The seat when its answers were offered, and so many bytes of them written.
 abbrev pub with_sent : ℕ → Seat → Seat
-with_sent count s = record s { waiting = drop count s.waiting }
+with_sent count s = record s { waiting = drop count s.waiting; offered = true }
 
 -- What is not taken behind a call that took so many bytes; behind a fault it is dropped.
 abbrev pub left_of : Result ℕ TargetFault → List ℕ → List ℕ
@@ -60,11 +72,12 @@ abbrev pub with_phase : Phase → Result ℕ TargetFault → Result (ℕ × Phas
 with_phase phase (Ok count) = Ok (count, phase)
 with_phase phase (Err fault) = Err fault
 
--- One call of feed_next with what was not taken; its answers wait.
+-- One call of feed_next with what was not taken; its answers wait behind those that did.
 pub record TakesAt (old : Seat) (before : Store) (result : Result ℕ TargetFault) (new : Seat)
     (after : Store) : Type 0 where
-  pub fed : FedNext old.connection before [] old.unfed (with_phase (phase_of new) result)
+  pub fed : FedNext old.connection before old.waiting old.unfed (with_phase (phase_of new) result)
       new.connection after new.waiting
+  pub offered : new.offered ≡ false
   pub unfed : new.unfed ≡ left_of result old.unfed
 
 -- The stream ended; what waits stays.
@@ -72,6 +85,7 @@ pub record FinishesAt (old : Seat) (result : Result (Unit {0}) TargetFault)
     (new : Seat) : Type 0 where
   pub finishes : Finishes old.connection result new.connection
   pub waiting : new.waiting ≡ old.waiting
+  pub offered : new.offered ≡ old.offered
   pub unfed : new.unfed ≡ old.unfed
 
 -- ---- a hall

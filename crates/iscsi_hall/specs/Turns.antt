@@ -175,14 +175,15 @@ abbrev pub machines : Hall → Seats
 machines hall place = machine_in (seat_at hall place)
 
 -- One turn was taken at a seat, of at most one PDU where there is no fault, and its answers wait
--- there.
+-- there, behind those that did.
 pub record TakesTurn (seat : ℕ) (old : Hall) (before : Store) (result : Result ℕ TargetFault)
     (new : Hall) (after : Store) : Type 0 where
   pub turn : Turn
   pub seat_is : turn.seat ≡ seat
   pub one : OnOk result (length turn.messages ≤ 1)
   pub is_turn : IsTurn (machines old) before turn (machines new) after
-  pub answers_are : waiting_at (seat_at new seat) ≡ canon (answers_of turn)
+  pub answers_are : waiting_at (seat_at new seat)
+      ≡ waiting_at (seat_at old seat) ++ canon (answers_of turn)
 
 -- This happened in the hall, and no block changed.
 abbrev pub HappensIn : Event → Hall → Hall → Type 0

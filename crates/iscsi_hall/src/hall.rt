@@ -17,10 +17,12 @@ use std::marker::Model;
 /// Several sessions at a time over one store, which each turn is given: a row of seats, each free
 /// or with a session.
 ///
-/// A seat is read only where all that was read before is taken, and takes a PDU only where all
-/// answers before are written (own rule): so a peer that reads nothing is not read, and a seat
-/// keeps the answers to one PDU. Seats are numbered from 0; a place behind the last one counts as
-/// free.
+/// A seat is read only where all that was read before is taken and all answers are written. It takes
+/// PDU after PDU of what was read, until all is taken or 65,536 bytes of answers wait; where they
+/// were offered to the peer, it takes none before all of them are written (own rule). So the answers
+/// to one read leave in one write, a peer that reads nothing is not read, and beyond those bytes a
+/// seat keeps the answers to one PDU. Seats are numbered from 0; a place behind the last one counts
+/// as free.
 #[derive(Drop)]
 pub struct Hall {
     alloc: Global,
@@ -118,7 +120,7 @@ impl Hall {
     }
 
     /// Whether `take` may be called: the seat's session goes on, has not taken all that was read,
-    /// and nothing of it waits to be written.
+    /// and nothing waits to be written, or less than 65,536 bytes that were not offered to the peer.
     pub fn may_take(&self, seat: usize) -> bool
         ensures { result ≡ may_take_at (seat_at self.now seat) }
     {
@@ -154,10 +156,10 @@ impl Hall {
         }
     }
 
-    /// Keeps what was read for a seat: at most 4,096 bytes. Where memory runs out nothing is kept.
+    /// Keeps what was read for a seat: at most 8,192 bytes. Where memory runs out nothing is kept.
     pub fn receive(&mut self, seat: usize, piece: &[u8]) -> Result<(), AllocError>
         requires may { may_read_at (seat_at self.old seat) ≡ true }
-        requires short { length piece.now ≤ 4096 }
+        requires short { length piece.now ≤ 8192 }
         ensures ok { OnOk result
             (Changes seat self.old self.new (λ before after. after ≡ received piece.now before)) }
         ensures err { OnErr result (self.new ≡ self.old) }
@@ -170,7 +172,7 @@ impl Hall {
     }
 
     /// One turn, over the store of all: the session of a seat takes what was read up to the end of
-    /// one PDU, and its answers wait to be written. Says how many bytes it took. A fault closes
+    /// one PDU, and its answers wait to be written, behind those that do. Says how many bytes it took. A fault closes
     /// this session alone: what was read is dropped, and what the fault leaves is as
     /// `Target::feed_next` says.
     pub fn take<S: BlockStore>(&mut self, seat: usize, store: &mut S) -> Result<usize, TargetFault>
@@ -196,7 +198,7 @@ impl Hall {
         }
     }
 
-    /// So many bytes of what waits were written.
+    /// What waits was offered to the peer, and so many bytes of it were written.
     pub fn sent(&mut self, seat: usize, count: usize)
         requires taken { is_some (seat_at self.old seat) ≡ true }
         requires few { count ≤ length (waiting_at (seat_at self.old seat)) }

@@ -4,7 +4,7 @@ ghost use Rattle.std.specs.Prelude.{◌≡◌, ◌≤◌, length, not, true, OnO
 ghost use Rattle.iscsi_target.specs.Machine.{is_closed};
 ghost use Rattle.iscsi_target.specs.Inside.{store_of};
 ghost use Rattle.iscsi_hall.specs.Reinstatement.{is_served, session_of, takes_over};
-ghost use Rattle.iscsi_hall.specs.Seats.{opening_seat, phase_of, is_idle, may_read, may_take, received, with_sent, TakesAt, FinishesAt};
+ghost use Rattle.iscsi_hall.specs.Seats.{opening_seat, phase_of, is_idle, has_room, gathering, may_read, may_take, received, with_sent, TakesAt, FinishesAt};
 
 use iscsi_login::{Phase, Session};
 use iscsi_target::{Config, Target, TargetFault};
@@ -15,7 +15,9 @@ use std::marker::Model;
 /// The StatSN of a session's first answer.
 const FIRST_STAT_SN: u32 = 1;
 /// The most bytes that are read at a time.
-pub const MOST_READ: usize = 4096;
+pub const MOST_READ: usize = 8192;
+/// Of answers that wait, so many bytes are written before more are gathered.
+const GATHERED: usize = 65_536;
 
 /// A session, what was read of its stream and not taken, and the answers that are not written.
 #[derive(Drop)]
@@ -23,12 +25,13 @@ pub struct Seat {
     target: Target,
     output: Vec<u8>,
     sent: usize,
+    offered: bool,
     unfed: Vec<u8>,
     fed: usize,
 }
 
 impl Model for Seat {
-    ghost use Rattle.std.specs.Prelude.{◌≤◌, drop, length};
+    ghost use Rattle.std.specs.Prelude.{◌≡◌, ◌≤◌, drop, false, length};
     ghost use Rattle.iscsi_hall.specs.Seats.{Seat};
 
     ghost Value = { Seat };
@@ -36,11 +39,12 @@ impl Model for Seat {
     ghost view = { λ s. record {
       connection = s.target;
       waiting = drop s.sent s.output.items;
+      offered = s.offered;
       unfed = drop s.fed s.unfed.items;
     } };
 
     ghost invariant = { λ s. (s.sent ≤ length s.output.items) × (s.fed ≤ length s.unfed.items)
-        × (length s.unfed.items ≤ 4096) };
+        × (length s.unfed.items ≤ 8192) × (s.offered ≡ false → s.sent ≡ 0) };
 }
 
 impl Seat {
@@ -52,6 +56,7 @@ impl Seat {
             target: Target::new(alloc, config, FIRST_STAT_SN),
             output: Vec::new(alloc),
             sent: 0,
+            offered: false,
             unfed: Vec::new(alloc),
             fed: 0,
         }
@@ -71,11 +76,12 @@ impl Seat {
         self.is_idle() && self.fed == self.unfed.len()
     }
 
-    /// Whether the session goes on, something that was read was not taken, and nothing waits.
+    /// Whether the session goes on, something that was read was not taken, and there is room for
+    /// more answers.
     pub fn may_take(&self) -> bool
         ensures { result ≡ may_take self.now }
     {
-        self.is_idle() && self.fed != self.unfed.len()
+        self.has_room() && self.goes_on() && self.fed != self.unfed.len()
     }
 
     /// Whether this session takes the place of another: both are normal sessions in full feature
@@ -104,6 +110,14 @@ impl Seat {
         self.sent == self.output.len() && self.goes_on()
     }
 
+    // Whether nothing waits, or little that was not offered to the peer.
+    fn has_room(&self) -> bool
+        ensures { result ≡ has_room self.now }
+    {
+        let waiting = self.output.len() - self.sent;
+        waiting == 0 || (!self.offered && waiting < GATHERED)
+    }
+
     // Whether the session goes on.
     fn goes_on(&self) -> bool
         ensures { result ≡ not (is_closed self.now.connection.machine) }
@@ -117,7 +131,7 @@ impl Seat {
     /// Keeps what was read.
     pub fn receive(&mut self, piece: &[u8]) -> Result<(), AllocError>
         requires may { may_read self.old ≡ true }
-        requires short { length piece.now ≤ 4096 }
+        requires short { length piece.now ≤ 8192 }
         ensures ok { OnOk result (self.new ≡ received piece.now self.old) }
         ensures err { OnErr result (self.new ≡ self.old) }
     {
@@ -126,14 +140,25 @@ impl Seat {
         self.unfed.extend_from_slice(piece)
     }
 
-    /// Takes the next PDU of what was read, and keeps its answers.
+    // Has answers gathered behind those that wait. What was written is dropped.
+    fn gather(&mut self)
+        requires room { has_room self.old ≡ true }
+        ensures { self.new ≡ gathering self.old }
+    {
+        if self.sent == self.output.len() {
+            self.output.clear();
+            self.sent = 0;
+        }
+        self.offered = false;
+    }
+
+    /// Takes the next PDU of what was read, and keeps its answers behind those that wait.
     pub fn take<S: BlockStore>(&mut self, store: &mut S) -> Result<usize, TargetFault>
         requires may { may_take self.old ≡ true }
         ensures takes { TakesAt self.old (store_of (S.disk store.old) (S.failures store.old))
             result self.new (store_of (S.disk store.new) (S.failures store.new)) }
     {
-        self.output.clear();
-        self.sent = 0;
+        self.gather();
         match self
             .target
             .feed_next(&self.unfed[self.fed..], store, &mut self.output)
@@ -156,11 +181,12 @@ impl Seat {
         &self.output[self.sent..]
     }
 
-    /// So many bytes of it were written.
+    /// It was offered to the peer, and so many bytes of it were written.
     pub fn sent(&mut self, count: usize)
         requires few { count ≤ length self.old.waiting }
         ensures { self.new ≡ with_sent count self.old }
     {
+        self.offered = true;
         self.sent += count;
     }
 

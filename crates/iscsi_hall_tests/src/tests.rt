@@ -1,17 +1,18 @@
 //! Several sessions over one disk. Their PDUs are those of a worked session, or worked out by hand
 //! from the tables of RFC 7143, section 11.
 
-use iscsi_examples::{SESSION, append_pdu};
+use iscsi_examples::{LineFault, SESSION, append_pdu};
 use iscsi_hall::{Hall, MOST_READ};
 use iscsi_login::Preferences;
 use iscsi_target::{Config, TargetFault};
 use scsi_disk::SparseStore;
-use std::alloc::Global;
+use std::alloc::{AllocError, Global};
 use std::fmt::Debug;
 use std::process::Abort;
 use std::test::Fail;
 
 mod interleaved;
+mod memory;
 mod places;
 mod reinstated;
 
@@ -26,6 +27,27 @@ const READ: (usize, usize) = (15, 4);
 
 const LOGOUT: (usize, usize) = (19, 3);
 
+/// Why there is nothing to look at.
+#[derive(Clone, Copy, Debug, PartialEq, Eq)]
+enum Trouble {
+    /// Memory ran out.
+    NoMemory,
+    /// A step isn't possible.
+    Step(&'static str),
+}
+
+impl From<AllocError> for Trouble {
+    fn from(_: AllocError) -> Trouble {
+        Trouble::NoMemory
+    }
+}
+
+impl From<LineFault> for Trouble {
+    fn from(_: LineFault) -> Trouble {
+        Trouble::Step("no line")
+    }
+}
+
 /// The most turns that one read leads to here.
 const MOST_TURNS: usize = 4096;
 
@@ -35,12 +57,16 @@ fn same<T: PartialEq + Debug>(rt: &impl Abort, value: &T, due: &T, row: &impl De
 }
 
 // What the target of the worked session is configured with: bursts of 1,024 bytes, segments of 512.
-fn config(alloc: Global) -> Result<Config, Fail> {
+fn config(alloc: Global) -> Result<Config, Trouble> {
     let mut preferences = Preferences::standard();
     preferences.max_burst = 1024;
     preferences.first_burst = 1024;
     preferences.max_recv = 512;
-    Ok(Config::new(alloc, b"iqn.2026-01.example:disk", 1, 1, preferences)?)
+    let name = b"iqn.2026-01.example:disk";
+    match Config::new(alloc, name, 1, 1, preferences) {
+        Ok(config) => Ok(config),
+        Err(_) => Err(Trouble::NoMemory),
+    }
 }
 
 // A hall, and the disk of all its sessions.
@@ -52,18 +78,23 @@ struct Room {
 
 // A disk of 2,048 blocks of 00, and so many seats, all taken. It stands in a box: a function that
 // owns it is then proved much sooner.
-fn full_room(alloc: Global, seats: usize) -> Result<Box<Room>, Fail> {
+fn full_room(alloc: Global, seats: usize) -> Result<Box<Room>, Trouble> {
     let store = SparseStore::new(alloc, 2048);
     let hall = Hall::new(alloc, seats)?;
-    let mut room = Box::new(alloc, Room { hall, store })?;
+    let mut room = match Box::new(alloc, Room { hall, store }) {
+        Ok(room) => room,
+        Err(fault) => return Err(AllocError::from(fault).into()),
+    };
     for _ in 0..seats {
-        room.hall.seat(config(alloc)?).ok_or("no seat")?;
+        room.hall
+            .seat(config(alloc)?)
+            .ok_or(Trouble::Step("no seat"))?;
     }
     Ok(room)
 }
 
 // Writes what waits at a seat.
-fn write_out(room: &mut Room, seat: usize, out: &mut Vec<u8>) -> Result<(), Fail> {
+fn write_out(room: &mut Room, seat: usize, out: &mut Vec<u8>) -> Result<(), Trouble> {
     let waiting = room.hall.waiting(seat);
     let count = waiting.len();
     out.extend_from_slice(waiting)?;
@@ -73,6 +104,14 @@ fn write_out(room: &mut Room, seat: usize, out: &mut Vec<u8>) -> Result<(), Fail
     Ok(())
 }
 
+// Reads a piece for a seat.
+fn read_into(room: &mut Room, seat: usize, piece: &[u8]) -> Result<(), Trouble> {
+    if piece.len() > MOST_READ || !room.hall.may_read(seat) {
+        return Err(Trouble::Step("may not be read"));
+    }
+    Ok(room.hall.receive(seat, piece)?)
+}
+
 // Reads a piece for a seat, has it taken turn by turn, and writes all answers. Gives the fault that
 // came, if one did.
 fn read_piece(
@@ -80,11 +119,8 @@ fn read_piece(
     seat: usize,
     piece: &[u8],
     out: &mut Vec<u8>,
-) -> Result<Option<TargetFault>, Fail> {
-    if piece.len() > MOST_READ || !room.hall.may_read(seat) {
-        return Err(Fail::from("may not be read"));
-    }
-    room.hall.receive(seat, piece)?;
+) -> Result<Option<TargetFault>, Trouble> {
+    read_into(room, seat, piece)?;
     for _ in 0..MOST_TURNS {
         if !room.hall.may_take(seat) {
             return Ok(None);
@@ -95,7 +131,7 @@ fn read_piece(
             return Ok(Some(fault));
         }
     }
-    Err(Fail::from("too many turns"))
+    Err(Trouble::Step("too many turns"))
 }
 
 // Reads a stream for a seat in pieces of this length, up to a fault.
@@ -105,7 +141,7 @@ fn read_pieces(
     stream: &[u8],
     len: usize,
     out: &mut Vec<u8>,
-) -> Result<Option<TargetFault>, Fail> {
+) -> Result<Option<TargetFault>, Trouble> {
     for piece in stream.chunks(len.max(1)) {
         let fault = read_piece(room, seat, piece, out)?;
         if fault.is_some() {
@@ -116,7 +152,7 @@ fn read_pieces(
 }
 
 // The PDUs of one end, of which this is the mark, in a text of both.
-fn pdus_at(alloc: Global, mark: &str, lines: &str) -> Result<Vec<u8>, Fail> {
+fn pdus_at(alloc: Global, mark: &str, lines: &str) -> Result<Vec<u8>, Trouble> {
     let mut pdus = Vec::new(alloc);
     for line in lines.lines() {
         if let Some(pdu) = line.strip_prefix(mark) {
@@ -127,7 +163,7 @@ fn pdus_at(alloc: Global, mark: &str, lines: &str) -> Result<Vec<u8>, Fail> {
 }
 
 // So many lines of the worked session, from one on.
-fn part(alloc: Global, lines: (usize, usize)) -> Result<String, Fail> {
+fn part(alloc: Global, lines: (usize, usize)) -> Result<String, Trouble> {
     let (first, count) = lines;
     let mut text = String::new(alloc);
     for line in SESSION.lines().skip(first).take(count) {

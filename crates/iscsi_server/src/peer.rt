@@ -7,9 +7,8 @@ ghost use Rattle.iscsi_hall.specs.Seats.{may_read_at, may_take_at, seat_at, wait
 use crate::connection::{Connection, Moved};
 use crate::limits::Limits;
 use crate::session_end::SessionEnd;
-use iscsi_hall::Hall;
+use iscsi_hall::{Hall, MOST_READ};
 use iscsi_login::Phase;
-use iscsi_stream::PIECE;
 use iscsi_target::TargetFault;
 use scsi_disk::BlockStore;
 use std::alloc::{AllocError, Global};
@@ -51,7 +50,9 @@ impl Peer {
 
     /// Whether a turn would do something.
     pub fn wants_turn(&self, hall: &Hall, seat: usize) -> bool {
-        if !hall.waiting(seat).is_empty() {
+        if hall.may_take(seat) {
+            true
+        } else if !hall.waiting(seat).is_empty() {
             self.connection.is_writable()
         } else if hall.may_read(seat) {
             self.connection.is_readable()
@@ -102,8 +103,9 @@ impl Peer {
         self.end = Some(self.end.unwrap_or(end));
     }
 
-    // Writes what waits; if nothing does, takes a PDU; if none is there, reads. A session in which
-    // none of these may be done is closed, and its answers are written.
+    // Takes a PDU, if one is there and its answers may be gathered; else writes what waits; if
+    // nothing does, reads. A session in which none of these may be done is closed, and its answers
+    // are written.
     #[tactic(auto, using(crate::proofs::ExecutedLemmas::none_executed))]
     fn step<S: BlockStore>(
         &mut self,
@@ -115,10 +117,10 @@ impl Peer {
         ensures blocks { HasExecuted (S.disk store.old) (S.disk store.new) }
         ensures seats { length hall.new.seats ≡ length hall.old.seats }
     {
-        if !hall.waiting(seat).is_empty() {
-            self.write(hall, seat, now)
-        } else if hall.may_take(seat) {
+        if hall.may_take(seat) {
             self.take(hall, store, seat)
+        } else if !hall.waiting(seat).is_empty() {
+            self.write(hall, seat, now)
         } else if hall.may_read(seat) {
             self.read(hall, seat, now)
         } else {
@@ -132,6 +134,7 @@ impl Peer {
         ensures seats { length hall.new.seats ≡ length hall.old.seats }
     {
         if !self.connection.is_writable() {
+            hall.sent(seat, 0);
             return Step::Rests;
         }
         match self.connection.write(hall.waiting(seat), now) {
@@ -143,7 +146,10 @@ impl Peer {
                     Step::Rests
                 }
             }
-            Moved::Nothing => Step::Rests,
+            Moved::Nothing => {
+                hall.sent(seat, 0);
+                Step::Rests
+            }
             Moved::End | Moved::Failed => self.over(SessionEnd::Write),
         }
     }
@@ -184,7 +190,7 @@ impl Peer {
         if !self.connection.is_readable() {
             return Step::Rests;
         }
-        let mut buffer = [0u8; PIECE];
+        let mut buffer = [0u8; MOST_READ];
         match self.connection.read(&mut buffer, now) {
             Moved::Bytes(count) => match hall.receive(seat, &buffer[..count]) {
                 Ok(()) => Step::Went,

@@ -14,12 +14,17 @@ use std::alloc::Global;
 use std::test::Fail;
 
 /// The lengths of pieces: a byte, less than a header, a header, and as much as is read at a time.
-const LENGTHS: &[usize] = &[1, 47, 48, 4096];
+const LENGTHS: &[usize] = &[1, 47, 48, 8192];
 
 // A READ of block 3, which is of 00, as the first command of a session, and its answer.
-const FIRST_READ: &str =
+pub(super) const FIRST_READ: &str =
     "I> 01c10000 00000000 00000000 00000000 00000001 00000200 00000001 00000003 28000000 00030000 01000000 00000000\n\
     T> 25800000 00000200 00000000 00000000 00000001 ffffffff 00000000 00000002 00000009 00000000 00000000 00000000 00*512\n\
+    T> 21800000 00000000 00000000 00000000 00000001 00000000 00000003 00000002 00000009 00000001 00000000 00000000";
+
+// The same READ where another session has written 44 to the block.
+pub(super) const FIRST_READ_OF_44: &str =
+    "T> 25800000 00000200 00000000 00000000 00000001 ffffffff 00000000 00000002 00000009 00000000 00000000 00000000 44*512\n\
     T> 21800000 00000000 00000000 00000000 00000001 00000000 00000003 00000002 00000009 00000001 00000000 00000000";
 
 // The same READ as the second command, after the worked session has written 44 to the block.

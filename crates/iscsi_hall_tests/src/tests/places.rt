@@ -1,6 +1,8 @@
 //! Which seats are taken, read and fed.
 
-use super::{LOGIN, PING, Room, config, full_room, part, pdus_at, play_part, same, write_out};
+use super::{
+    LOGIN, PING, Room, config, full_room, part, pdus_at, play_part, read_into, same, write_out,
+};
 use iscsi_login::Phase;
 use iscsi_stream::StreamFault;
 use iscsi_target::TargetFault;
@@ -43,7 +45,7 @@ fn one_session_more(rt: HostRuntime) -> Result<(), Fail> {
 fn sixty_four_seats(rt: HostRuntime) -> Result<(), Fail> {
     let mut room = full_room(rt.alloc(), 64)?;
     for seat in 0..64 {
-        play_part(&rt, rt.alloc(), &mut room, seat, LOGIN, 4096)?;
+        play_part(&rt, rt.alloc(), &mut room, seat, LOGIN, 8192)?;
     }
     for seat in 0..64 {
         same(&rt, &room.hall.phase(seat), &Some(Phase::Full), &seat);
@@ -68,30 +70,74 @@ fn take(room: &mut Room) -> Result<usize, Fail> {
 fn with_an_answer(alloc: Global) -> Result<Box<Room>, Fail> {
     let stream = pdus_at(alloc, "I> ", &part(alloc, LOGIN)?)?;
     let mut room = full_room(alloc, 1)?;
-    if stream.len() > 4096 || !room.hall.may_read(0) {
-        return Err(Fail::from("may not be read"));
-    }
-    room.hall.receive(0, &stream)?;
+    read_into(&mut room, 0, &stream)?;
     take(&mut room)?;
     Ok(room)
 }
 
-/// A seat whose answers aren't all written is not read, and takes nothing.
+// So many bytes of what waits at the first seat are written.
+fn send(room: &mut Room, count: usize) {
+    if room.hall.waiting(0).len() >= count && room.hall.is_taken(0) {
+        room.hall.sent(0, count);
+    }
+}
+
+/// A seat whose answers were offered, and aren't all written, is not read, and takes nothing.
 #[test]
 fn answers_that_wait(rt: HostRuntime) -> Result<(), Fail> {
     let mut room = with_an_answer(rt.alloc())?;
     // A header, and a text of 39 bytes in 40.
     same(&rt, &room.hall.waiting(0).len(), &88, &"the first answer");
+    same(&rt, &may(&room, 0), &(false, true), &"nothing was offered");
+    send(&mut room, 0);
     same(&rt, &may(&room, 0), &(false, false), &"nothing is written");
-    if room.hall.waiting(0).len() >= 47 && room.hall.is_taken(0) {
-        room.hall.sent(0, 47);
-    }
+    send(&mut room, 47);
     same(&rt, &room.hall.waiting(0).len(), &41, &"what is left");
     same(&rt, &may(&room, 0), &(false, false), &"a part is written");
     let mut out = Vec::new(rt.alloc());
     write_out(&mut room, 0, &mut out)?;
     same(&rt, &out.len(), &41, &"the rest");
     same(&rt, &may(&room, 0), &(false, true), &"all is written");
+    Ok(())
+}
+
+/// The answers to what was read wait together, and are those that were written one by one.
+#[test]
+fn answers_that_are_gathered(rt: HostRuntime) -> Result<(), Fail> {
+    let mut room = with_an_answer(rt.alloc())?;
+    take(&mut room)?;
+    let mut out = Vec::new(rt.alloc());
+    write_out(&mut room, 0, &mut out)?;
+    let want = pdus_at(rt.alloc(), "T> ", &part(rt.alloc(), LOGIN)?)?;
+    same(
+        &rt,
+        &out.as_slice(),
+        &want.as_slice(),
+        &"the login's answers",
+    );
+    same(&rt, &may(&room, 0), &(true, false), &"all is written");
+    Ok(())
+}
+
+// Two READs of 128 blocks.
+const TWO_READS: &str =
+    "I> 01c10000 00000000 00000000 00000000 00000001 00010000 00000001 00000003 28000000 00000000 80000000 00000000\n\
+    I> 01c10000 00000000 00000000 00000000 00000002 00010000 00000002 00000003 28000000 00000000 80000000 00000000";
+
+/// No more answers are gathered where 65,536 bytes of them wait.
+#[test]
+fn answers_enough(rt: HostRuntime) -> Result<(), Fail> {
+    let mut room = full_room(rt.alloc(), 1)?;
+    play_part(&rt, rt.alloc(), &mut room, 0, LOGIN, 48)?;
+    read_into(&mut room, 0, &pdus_at(rt.alloc(), "I> ", TWO_READS)?)?;
+    take(&mut room)?;
+    // 64 bursts of 1,024 bytes, each in one segment with a header, and a response.
+    same(&rt, &room.hall.waiting(0).len(), &68_656, &"of one READ");
+    same(&rt, &may(&room, 0), &(false, false), &"enough");
+    write_out(&mut room, 0, &mut Vec::new(rt.alloc()))?;
+    same(&rt, &may(&room, 0), &(false, true), &"all is written");
+    take(&mut room)?;
+    same(&rt, &room.hall.waiting(0).len(), &68_656, &"of the other");
     Ok(())
 }
 
