@@ -132,5 +132,5 @@ takes_turn seat old new before after result t may =
         last_is = a.last_is;
       };
       answers_are = ap waiting_at now ∙ a.answers_are
-        ∙ ap (λ (w : List ℕ). w ++ canon (answers_of a.turn)) (sym (ap waiting_at t.was));
+          ∙ ap (λ (w : List ℕ). w ++ canon (answers_of a.turn)) (sym (ap waiting_at t.was));
     }
