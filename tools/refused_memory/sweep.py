@@ -226,6 +226,83 @@ def sweep(name, words, data, stops=None, run=run):
     return failed
 
 
+def rest_of(peer):
+    """What still comes over a connection whose peer is told that no more is sent."""
+    came = b""
+    try:
+        peer.shutdown(socket.SHUT_WR)
+        while part := peer.recv(4096):
+            came += part
+    except TimeoutError:
+        raise
+    except OSError:
+        pass
+    return came
+
+
+def run_company(first, second, fail_at=0):
+    """Two sessions at a time: the second begins behind the first PDU of the first, and ends before its others."""
+    with socket.create_server(("127.0.0.1", 0)) as free:
+        port = free.getsockname()[1]
+    words = ["serve", "--blocks", "2048", "--sessions", "2", "--at-once", "2", "--port", str(port)]
+    pipes = {"stdout": subprocess.PIPE, "stderr": subprocess.PIPE}
+    came = [b"", b""]
+    cut = sorted(ends(first))[1]
+    with subprocess.Popen([PROGRAM, *words], env=refusing(fail_at), **pipes) as service:
+        if service.stdout.readline() == b"listening\n":
+            try:
+                with socket.create_connection(("127.0.0.1", port), timeout=SECONDS) as one:
+                    one.sendall(first[:cut])
+                    came[0] = one.recv(4096)
+                    with socket.create_connection(("127.0.0.1", port), timeout=SECONDS) as other:
+                        other.sendall(second)
+                        came[1] = rest_of(other)
+                    one.sendall(first[cut:])
+                    came[0] += rest_of(one)
+            except TimeoutError:
+                raise
+            except OSError:
+                # a service, or a session, that ran out of memory is gone
+                pass
+        err = service.stderr.read()
+    return (service.returncode, came, err), *told()
+
+
+def second_of(due):
+    """The answers of a session whose TSIH is 2, by those of one whose TSIH is 1."""
+    found = bytearray(due)
+    for at in ends(due) - {len(due)}:
+        if due[at] & 0x3F == 0x23 and due[at + 14 : at + 16] == b"\0\1":
+            found[at + 15] = 2
+    return bytes(found)
+
+
+def company(sessions):
+    """Refuses each allocation of two sessions at a time, and answers how many runs ended wrongly: of the sessions, each told
+    as what comes, the answers and where they may stop, one alone may end early, unless the service ends."""
+    (first, due, stops), (second, later_due, later_stops) = sessions
+    later_due = second_of(later_due)
+    ample, count, _ = run_company(first, second)
+    failed, refused, ended_alone = int(ample != (0, [due, later_due], b"")), 0, 0
+    if failed:
+        print(f"two at once: {ample}")
+    for at in range(1, MOST):
+        (status, came, err), _, was_refused = run_company(first, second, at)
+        if not was_refused:
+            break
+        refused += 1
+        whole = [came[0] == due, came[1] == later_due]
+        fronts = [due.startswith(came[0]) and len(came[0]) in stops, later_due.startswith(came[1]) and len(came[1]) in later_stops]
+        one_alone = status == 0 and any(whole) and all(is_whole or is_front for is_whole, is_front in zip(whole, fronts))
+        service_ends = status == 3 and all(is_whole or is_front for is_whole, is_front in zip(whole, fronts))
+        ended_alone += one_alone
+        if err not in (b"memory\n", b"") or not (one_alone or service_ends):
+            failed += 1
+            print(f"two at once at {at}: status {status}, whole {whole}, fronts {fronts}, {err[:60]!r}")
+    print(f"two at once: {refused} of {count} allocations refused in turn; in {ended_alone} at most one session ended early", flush=True)
+    return failed + int(ended_alone == 0)
+
+
 def kept_buffer(ping):
     """How many runs ended wrongly in which each allocation is refused that one PDU of 4,096 bytes does not ask for."""
     long_pdu = ping[:5] + (4048).to_bytes(3, "big") + ping[8:48] + bytes(4048)
@@ -277,6 +354,8 @@ def main():
         if name in ("login", "reads back a write"):
             failed += sweep(f"answer --hex, {name}", [*answer, "--hex"], came.hex().encode(), {2 * stop for stop in stops})
             failed += sweep(f"serve, {name}", ["serve", "--blocks", "2048", "--sessions", "1"], came, stops, run_service)
+    named = {name: (came, due, stops) for name, came, stops, due, _ in dialogues()}
+    failed += company([named["login"], named["reads back a write"]])
     failed += kept_buffer(ping)
     print(f"{failed} runs of the program ended wrongly")
     return failed
