@@ -7,7 +7,7 @@ use Rattle.scsi_disk.specs.Disk.{Disk}
 use Rattle.iscsi_stream.specs.Stream.{Message}
 use Rattle.iscsi_login.specs.Negotiation.{IsInRange}
 use Rattle.iscsi_target_session.specs.Configured.{Settings}
-use Rattle.iscsi_target.specs.State.{Machine, Execution, Stepped, closed, joined, opening}
+use Rattle.iscsi_target.specs.State.{Machine, Execution, Stepped, joined, opening}
 use Rattle.iscsi_target.specs.Execution.{reliable}
 use Rattle.iscsi_target.specs.Machine.{answers, is_closed, step, then_stepped}
 use Rattle.iscsi_target.specs.Tiles.{GiveTiles, TilesDataIn, bytes_given}
@@ -21,7 +21,7 @@ use Rattle.iscsi_target.proofs.ReplyLemmas.{Count}
 use Rattle.iscsi_target.proofs.SendingLemmas.{Gives, StepTells, count_append, step_tells}
 use Rattle.iscsi_target.proofs.WriteTilingLaws.{KeepsWrites, answers_sound, step_goes}
 use Rattle.iscsi_target.proofs.WriteTilingLaws.{IsSound}
-use Rattle.iscsi_hall.specs.Turns.{Event, Comes, Takes, Ends, Goes, IsEnded, IsLeft, Session}
+use Rattle.iscsi_hall.specs.Turns.{Event, Comes, Takes, Ends, Goes, IsEnded, IsLeft, Session, executed_in}
 use Rattle.iscsi_hall.specs.Company.{Group, HaveCount, IsCalm, answers_in, answers_over, groups_in}
 
 -- ---- StatSN and tags
@@ -160,7 +160,7 @@ over_keeps settings n disk now gs m all =
 
 -- ---- a session of a hall
 
-over_joined : (s : Machine) (disk : Disk) (gs : List Group) → joined_stepped (answers_over (joined s) disk gs) ≡ joined_stepped (answers_over s disk gs)
+pub over_joined : (s : Machine) (disk : Disk) (gs : List Group) → joined_stepped (answers_over (joined s) disk gs) ≡ joined_stepped (answers_over s disk gs)
 unfolding answers_over answers
 over_joined s disk [] = answers_joined s disk []
 over_joined s disk (g ∷ gs) =
@@ -173,9 +173,10 @@ over_joined s disk (g ∷ gs) =
     ∙ ap (λ (r : Stepped). then_stepped (joined_stepped b) r) (over_joined b.machine b.disk gs)
     ∙ sym (joined_then b (answers_over b.machine b.disk gs))
 
-closed_quiet : (s end : Machine) (es : List Event) → is_closed s ≡ true → Session s es end → (answers_in es ≡ []) × (groups_in es ≡ [])
+pub closed_quiet : (s end : Machine) (es : List Event) → is_closed s ≡ true → Session s es end → (answers_in es ≡ []) × (groups_in es ≡ [])
+    × (executed_in es ≡ [])
 unfolding Session
-closed_quiet s end [] e h = (refl, refl)
+closed_quiet s end [] e h = (refl, refl, refl)
 closed_quiet s end (Comes k settings ∷ es) e h = absurd h
 closed_quiet s end (Goes k ∷ es) e h = absurd h
 closed_quiet s end (Takes t ∷ es) e h = let f : is_closed s ≡ false = h.1.live in absurd (cc (e, f))

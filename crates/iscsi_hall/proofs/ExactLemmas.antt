@@ -1,12 +1,12 @@
 -- Where no failure was counted, what was executed did exactly what its order does.
-use Rattle.std.proofs.Common.{◌≡◌, ◌≤◌, ◌⊎◌, inl, inr, ℕ, List, [], ◌∷◌, ◌++◌, refl, sym, ap, subst, ◌∙◌, arith}
+use Rattle.std.proofs.Common.{◌≡◌, ◌≤◌, inl, inr, ℕ, List, [], ◌∷◌, ◌++◌, refl, sym, ap, subst, arith}
 use Rattle.scsi_disk.specs.Disk.{Disk}
-use Rattle.scsi_disk.specs.Effect.{Effect, Executes, effect}
+use Rattle.scsi_disk.specs.Effect.{Effect, effect}
 use Rattle.iscsi_stream.specs.Pieces.{data_of}
 use Rattle.iscsi_stream.specs.Stream.{Message}
 use Rattle.iscsi_target.specs.State.{Machine, Execution, Stepped}
 use Rattle.iscsi_target.specs.Execution.{Device, reliable, device_next}
-use Rattle.iscsi_target.specs.Machine.{RunsIn, MayStop, answers, step}
+use Rattle.iscsi_target.specs.Machine.{RunsIn, answers, step}
 use Rattle.iscsi_target.specs.Feed.{Store}
 use Rattle.iscsi_target.proofs.DiskFoldLemmas.{Does, Goes, step_does, first_does}
 use Rattle.iscsi_target.proofs.FeedInvariant.{may_rise}

@@ -6,3 +6,4 @@ pub mod TakingLaw
 pub mod CompanyLemmas
 pub mod ReinstatementLemmas
 pub mod CompanyNumberLemmas
+pub mod OwnOrderLemmas

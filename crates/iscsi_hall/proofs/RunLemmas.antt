@@ -1,13 +1,13 @@
 -- Interleaved sessions: what they execute, and each by itself.
-use Rattle.std.proofs.Common.{◌≡◌, ◌≤◌, ◌⊎◌, inl, inr, ℕ, Bool, true, false, ◌==◌, List, [], ◌∷◌, ◌++◌, Option, None, Some, refl, sym, ap, subst, ◌∙◌, arith}
+use Rattle.std.proofs.Common.{◌≡◌, inl, inr, ℕ, Bool, true, false, ◌==◌, List, [], ◌∷◌, Some, refl, sym, ap, subst, ◌∙◌}
 use Rattle.std.proofs.lemmas.Bool.{eqb-true}
 use Rattle.std.proofs.lemmas.Option.{same_Some}
 use Rattle.scsi_disk.specs.Disk.{Disk}
-use Rattle.iscsi_target.specs.State.{Machine, Execution, Stepped}
+use Rattle.iscsi_target.specs.State.{Machine, Stepped}
 use Rattle.iscsi_target.specs.Laws.{Leads}
 use Rattle.iscsi_target.specs.Feed.{Store}
 use Rattle.iscsi_target.proofs.FailingDiskLemmas.{leads_append, may_leads, stop_leads}
-use Rattle.iscsi_hall.specs.Turns.{Seats, Turn, IsFront, IsOwn, IsLeft, IsEnded, IsTurn, OthersStay, Event, Comes, Takes, Ends, Goes, Moves, Happens, Runs, Session, KeepsSession, Stays, executed_of, executed_by, executed_in, seat_of, only_if, events_of}
+use Rattle.iscsi_hall.specs.Turns.{Seats, Turn, IsFront, IsOwn, IsEnded, OthersStay, Event, Comes, Takes, Ends, Goes, Happens, Runs, Session, KeepsSession, Stays, executed_of, executed_by, executed_in, seat_of, only_if, events_of}
 
 -- ---- the blocks
 

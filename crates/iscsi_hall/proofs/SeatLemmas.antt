@@ -1,5 +1,5 @@
 -- The seats of a hall.
-use Rattle.std.proofs.Common.{◌⊎◌, inl, inr, ◌≡◌, ◌≢◌, ◌<◌, ℕ, zero, suc, Bool, true, false, ◌==◌, List, [], ◌∷◌, length, Option, None, Some, refl, sym, ap, ◌∙◌, arith, get_or, set, is_some}
+use Rattle.std.proofs.Common.{inl, inr, ◌≡◌, ◌<◌, ℕ, zero, suc, Bool, true, false, ◌==◌, List, [], ◌∷◌, length, Option, None, Some, refl, sym, ap, ◌∙◌, arith, get_or, set, is_some}
 use Rattle.std.proofs.lemmas.Option.{none-some}
 use Rattle.std.proofs.lemmas.Bool.{eqb-false, eqb-true}
 use Rattle.std.proofs.lemmas.List.{get_or-set_same, get_or-set_other}
@@ -9,9 +9,8 @@ use Rattle.std.specs.List.{position}
 use Rattle.iscsi_target_session.specs.Configured.{Settings}
 use Rattle.iscsi_target.specs.declared.fault.TargetFault.{TargetFault}
 use Rattle.iscsi_target.specs.declared.fault.TargetFault.TheVariants as faults
-use Rattle.iscsi_target.specs.Feed.{Connection, Store, Finishes}
-use Rattle.iscsi_target.specs.State.{Machine}
-use Rattle.iscsi_hall.specs.Seats.{Seat, Hall, FinishesAt, opening_seat, received, with_sent, seat_at, with_seat, may_read_at, may_take_at, waiting_at, Changes}
+use Rattle.iscsi_target.specs.Feed.{Connection, Finishes}
+use Rattle.iscsi_hall.specs.Seats.{Seat, Hall, FinishesAt, opening_seat, seat_at, with_seat, may_read_at, may_take_at, Changes}
 use Rattle.iscsi_hall.specs.Turns.{Comes, Ends, Goes, HappensIn, IsEnded, OthersStay, SameMachines, machine_in, machines}
 
 -- a taken seat is one of the hall

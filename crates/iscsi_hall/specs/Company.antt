@@ -1,12 +1,12 @@
 -- One session in company: what it does with its PDUs where other sessions change the blocks between
 -- them (RFC 7143, section 4.2).
-use Rattle.std.specs.Prelude.{◌≡◌, ℕ, List, [], ◌∷◌, ◌++◌}
+use Rattle.std.specs.Prelude.{◌≡◌, ℕ, List, [], ◌∷◌}
 use Rattle.std.specs.List.{flat_map, AllByRecursion}
 use Rattle.scsi_disk.specs.Disk.{Disk}
 use Rattle.iscsi_stream.specs.Stream.{Message}
 use Rattle.iscsi_target.specs.State.{Machine, Stepped, unchanged}
 use Rattle.iscsi_target.specs.Machine.{answers, then_stepped}
-use Rattle.iscsi_hall.specs.Turns.{Event, Comes, Takes, Ends, Goes, answers_of}
+use Rattle.iscsi_hall.specs.Turns.{Event, Takes, answers_of}
 
 -- PDUs that came together, and the disk that they met.
 abbrev pub Group : Type 0

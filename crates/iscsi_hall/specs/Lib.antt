@@ -3,3 +3,4 @@ pub mod Turns
 pub mod Blocks
 pub mod Company
 pub mod Reinstatement
+pub mod OwnOrder

@@ -17,9 +17,10 @@ ghost use Rattle.iscsi_target.specs.Tiles.{IsModest, IsTiled, TilesDataIn, r2t_r
 ghost use Rattle.iscsi_target.specs.Machine.{step};
 ghost use Rattle.iscsi_target.specs.State.{Execution, Machine, opening};
 ghost use Rattle.iscsi_target.specs.Feed.{Store};
-ghost use Rattle.iscsi_target.specs.Laws.{AreInOrder, CountOn, HasCmdSn, Leads, cmd_sns, response_tags, stat_sns};
+ghost use Rattle.iscsi_target.specs.Laws.{AreInOrder, Command, CountOn, HasCmdSn, Leads, cmd_sns, joined_execution, response_tags, stat_sns, tasks_done, tasks_in};
 ghost use Rattle.iscsi_hall.specs.Turns.{Event, Runs, Seats, Session, Stays, events_of, executed_in};
 ghost use Rattle.iscsi_hall.specs.Blocks.{Follows, block_left};
+ghost use Rattle.iscsi_hall.specs.OwnOrder.{executed_for, placed_in};
 ghost use Rattle.iscsi_hall.specs.Company.{Group, HaveCount, IsCalm, answers_in, answers_over, groups_in, messages_in};
 
 /// One disk of all sessions: whatever the order of their turns, the blocks are those that all
@@ -57,6 +58,29 @@ pub fn each_its_own()
     ensures own { (seats after : Seats) (store last : Store) (es : List Event) (seat : ℕ)
         (s : Machine) → Runs seats store es after last → seats seat ≡ Some s → Stays seat es
         → (end : Machine) × (after seat ≡ Some end) × Session s (events_of seat es) end }
+{}
+
+/// The order of a session's commands in the one list of all is its own: what the list has of a
+/// seat is what that seat's turns executed, one after another.
+pub fn own_order()
+    // The one list of what was executed, each with its seat.
+    ensures all { (es : List Event) → map (λ p. p.1) (placed_in es) ≡ executed_in es }
+    ensures turns { (es : List Event) (seat : ℕ)
+        → executed_for seat (placed_in es) ≡ executed_in (events_of seat es) }
+    // While one session has the seat, and where no failure was counted and memory was there, they
+    // are those of its own machine with its own PDUs, pieces of data joined.
+    ensures own { (seats after : Seats) (store last : Store) (es : List Event) (seat : ℕ)
+        (s : Machine) → Runs seats store es after last → seats seat ≡ Some s → Stays seat es
+        → AllByRecursion IsCalm (events_of seat es) → (disk : Disk)
+        → map joined_execution (executed_for seat (placed_in es)) ≡ map joined_execution
+        (answers_over s disk (groups_in (events_of seat es))).executed }
+    // They are the commands that it accepted, in their order, and then come those that wait.
+    ensures accepted { (seats after : Seats) (store last : Store) (es : List Event) (seat n : ℕ)
+        (settings : Settings) → Runs seats store es after last
+        → seats seat ≡ Some (opening settings n) → Stays seat es
+        → AllByRecursion IsCalm (events_of seat es) → (disk : Disk) → (more : List Command)
+        × (tasks_in (answers_over (opening settings n) disk (groups_in (events_of seat es))).accepted
+        ≡ tasks_done (executed_for seat (placed_in es)) ++ more) }
 {}
 
 /// One session in company: what the laws of `iscsi_target` say of a session that has the disk for

@@ -1,4 +1,4 @@
-use Rattle.std.proofs.Common.{List, ◌∷◌, ◌++◌, subst}
+use Rattle.std.proofs.Common.{List, subst}
 use Rattle.iscsi_target.specs.State.{Execution}
 use Rattle.iscsi_hall.specs.Turns.{executed_in}
 use Rattle.iscsi_hall.specs.Blocks.{Follows}
