@@ -7,3 +7,4 @@ pub mod CompanyLemmas
 pub mod ReinstatementLemmas
 pub mod CompanyNumberLemmas
 pub mod OwnOrderLemmas
+pub mod BoundLemmas

@@ -1,16 +1,16 @@
 -- A call of feed_next is a turn.
-use Rattle.std.proofs.Common.{◌≡◌, ◌≤◌, ◌<◌, ◌⊎◌, inl, inr, ℕ, Bool, true, false, ◌==◌, ◌&&◌, not, List, [], ◌∷◌, ◌++◌, length, take, Option, None, Some, refl, sym, ap, subst, ◌∙◌, arith, append-nil}
+use Rattle.std.proofs.Common.{◌≡◌, ◌≤◌, ◌<◌, ◌⊎◌, inl, inr, ℕ, Bool, true, false, ◌==◌, ◌&&◌, not, List, ◌++◌, length, Option, Some, refl, sym, ap, subst, ◌∙◌, arith, append-nil}
 use Rattle.std.specs.Prelude.{Result, Ok, Err, OnOk}
 use Rattle.iscsi_stream.specs.Stream.{Message}
 use Rattle.iscsi_stream.specs.Canonical.{canon}
 use Rattle.iscsi_login.specs.declared.phase.Phase.{Phase}
 use Rattle.iscsi_target.specs.declared.fault.TargetFault.{TargetFault}
 use Rattle.iscsi_target.specs.declared.fault.TargetFault.TheVariants as faults
-use Rattle.iscsi_target.specs.State.{Machine, Stepped, closed, joined, unchanged}
+use Rattle.iscsi_target.specs.State.{Stepped, unchanged}
 use Rattle.iscsi_target.specs.Machine.{is_closed}
-use Rattle.iscsi_target.specs.Feed.{Answers, Connection, Store, Feeds, FedNextIf, Stands, StopsShort, StopsAt}
-use Rattle.iscsi_hall.specs.Seats.{Seat, Hall, phase_of, seat_at, waiting_at, with_phase, TakesAt, Takes, has_room, may_take, may_take_at}
-use Rattle.iscsi_hall.specs.Turns.{Turn, IsFront, IsOwn, IsLeft, IsTurn, TakesTurn, answers_of, machines, machine_in}
+use Rattle.iscsi_target.specs.Feed.{Answers, Connection, Store, FedNextIf, Stands, StopsShort, StopsAt}
+use Rattle.iscsi_hall.specs.Seats.{Seat, Hall, phase_of, seat_at, waiting_at, with_phase, Takes, has_room, may_take, may_take_at}
+use Rattle.iscsi_hall.specs.Turns.{Turn, IsFront, IsOwn, IsLeft, TakesTurn, answers_of, machines, machine_in}
 use Rattle.iscsi_hall.proofs.SeatLemmas.{some_within, changed_same, others_stay}
 
 -- what a call did, as a turn of a seat

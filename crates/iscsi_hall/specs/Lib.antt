@@ -4,3 +4,4 @@ pub mod Blocks
 pub mod Company
 pub mod Reinstatement
 pub mod OwnOrder
+pub mod Bounds

@@ -1,9 +1,10 @@
 //! Laws of every interleaving of sessions: functions that do nothing, whose contracts are the
 //! theorems.
 
-ghost use Rattle.std.specs.Prelude.{◌≡◌, ◌<◌, ◌^◌, ◌∷◌, ◌++◌, ℕ, true, List, Some, map, take};
+ghost use Rattle.std.specs.Prelude.{◌≡◌, ◌<◌, ◌≤◌, ◌+◌, ◌^◌, ◌∷◌, ◌++◌, ℕ, true, List, Result, Some, length, map, take};
 ghost use Rattle.std.specs.List.{AllByRecursion};
-ghost use Rattle.scsi_disk.specs.declared.order.Plan.TheVariants.{Give};
+ghost use Rattle.scsi_disk.specs.declared.order.Order.{Order};
+ghost use Rattle.scsi_disk.specs.declared.order.Plan.TheVariants.{Give, Take};
 ghost use Rattle.scsi_disk.specs.Disk.{Disk, joined};
 ghost use Rattle.scsi_disk.specs.Effect.{effect};
 ghost use Rattle.scsi_disk.specs.Plan.{is_read, plan_of, transfer};
@@ -11,15 +12,19 @@ ghost use Rattle.iscsi_stream.specs.Pieces.{data_of};
 ghost use Rattle.iscsi_pdu.specs.declared.head.Head.TheVariants as heads;
 ghost use Rattle.iscsi_pdu.specs.declared.head.login_request.LoginRequest.{LoginRequest};
 ghost use Rattle.iscsi_stream.specs.Stream.{Message};
+ghost use Rattle.iscsi_stream.specs.Canonical.{canon};
 ghost use Rattle.iscsi_login.specs.Negotiation.{IsInRange};
 ghost use Rattle.iscsi_target_session.specs.Configured.{Settings};
 ghost use Rattle.iscsi_target.specs.Tiles.{IsModest, IsTiled, TilesDataIn, r2t_ranges, total_of};
 ghost use Rattle.iscsi_target.specs.Machine.{step};
 ghost use Rattle.iscsi_target.specs.State.{Execution, Machine, opening};
+ghost use Rattle.iscsi_target.specs.declared.fault.TargetFault.{TargetFault};
 ghost use Rattle.iscsi_target.specs.Feed.{Store};
 ghost use Rattle.iscsi_target.specs.Laws.{AreInOrder, Command, CountOn, HasCmdSn, Leads, cmd_sns, joined_execution, response_tags, stat_sns, tasks_done, tasks_in};
-ghost use Rattle.iscsi_hall.specs.Turns.{Event, Runs, Seats, Session, Stays, events_of, executed_in};
+ghost use Rattle.iscsi_hall.specs.Seats.{Hall, may_take_at, seat_at, waiting_at};
+ghost use Rattle.iscsi_hall.specs.Turns.{Event, Runs, Seats, Session, Stays, TakesTurn, answers_of, events_of, executed_in};
 ghost use Rattle.iscsi_hall.specs.Blocks.{Follows, block_left};
+ghost use Rattle.iscsi_hall.specs.Bounds.{ExecutesFew, IsNumbered};
 ghost use Rattle.iscsi_hall.specs.OwnOrder.{executed_for, placed_in};
 ghost use Rattle.iscsi_hall.specs.Company.{Group, HaveCount, IsCalm, answers_in, answers_over, groups_in, messages_in};
 
@@ -81,6 +86,32 @@ pub fn own_order()
         → AllByRecursion IsCalm (events_of seat es) → (disk : Disk) → (more : List Command)
         × (tasks_in (answers_over (opening settings n) disk (groups_in (events_of seat es))).accepted
         ≡ tasks_done (executed_for seat (placed_in es)) ++ more) }
+{}
+
+/// Little is there of a session at a time: whatever came to it in company, and whatever the store
+/// did, at most nine tasks are there between two PDUs, eight of the window and an immediate one; and
+/// for a PDU at most nine commands are executed.
+///
+/// So a seat keeps, beside what its framer holds of one PDU and one read: the data of nine writes,
+/// and less than 65,536 bytes of answers with the answers to one PDU.
+pub fn few_at_a_time()
+    ensures tasks { (settings : Settings) (n : ℕ) (end : Machine) (es : List Event)
+        → Session (opening settings n) es end → AllByRecursion IsNumbered es
+        → length end.tasks ≤ 9 }
+    ensures executed { (settings : Settings) (n : ℕ) (end : Machine) (es : List Event)
+        → Session (opening settings n) es end → AllByRecursion IsNumbered es
+        → AllByRecursion ExecutesFew es }
+    // A write takes, and a READ gives, at most 4,194,304 bytes.
+    ensures write { (order : Order) (blocks n : ℕ) → plan_of order blocks ≡ Take n
+        → n ≤ 4_194_304 }
+    ensures read { (order : Order) (blocks n : ℕ) → is_read order.cdb ≡ true
+        → plan_of order blocks ≡ Give n → n ≤ 4_194_304 }
+    // What waits to be written at a seat behind a turn: less than 65,536 bytes, and the answers of
+    // that turn, which is of one PDU at most where there is no fault.
+    ensures waits { (seat : ℕ) (old new : Hall) (before after : Store)
+        (result : Result ℕ TargetFault) (t : TakesTurn seat old before result new after)
+        → may_take_at (seat_at old seat) ≡ true
+        → length (waiting_at (seat_at new seat)) ≤ 65_535 + length (canon (answers_of t.turn)) }
 {}
 
 /// One session in company: what the laws of `iscsi_target` say of a session that has the disk for
