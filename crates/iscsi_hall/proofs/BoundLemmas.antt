@@ -43,7 +43,10 @@ use Rattle.iscsi_target.specs.declared.fault.TargetFault.{TargetFault}
 use Rattle.iscsi_target.specs.Feed.{Store}
 use Rattle.iscsi_hall.specs.Seats.{Hall, Seat, has_room as has_room_at, may_take_at, seat_at, waiting_at}
 use Rattle.iscsi_hall.specs.Turns.{Event, Comes, Takes, Ends, Goes, IsEnded, IsLeft, Session, TakesTurn, answers_of}
-use Rattle.iscsi_hall.specs.Bounds.{ExecutesFew, IsNumbered}
+use Rattle.iscsi_hall.specs.Company.{Group, HaveCount, answers_over}
+use Rattle.iscsi_hall.specs.Bounds.{ExecutesFew, HoldsFew, IsNumbered}
+use Rattle.iscsi_target.proofs.WriteTilingLaws.{IsSound}
+use Rattle.iscsi_hall.proofs.CompanyLemmas.{over_sound}
 
 -- at most eight take a place, and the first alone may take none
 pub record AreFew (tasks : List Task) : Type 0 where
@@ -446,3 +449,18 @@ most_given order blocks n e p =
     let few = g.names.few in
     let most : n ≤ 512 * (transfer order.cdb).count = subst (λ (k : ℕ). n ≤ k) (read_wants order blocks e) g.most in
     omega (arith, few, most)
+
+-- ---- what writes hold
+
+sound_few : (count : ℕ) (tasks : List Task) → IsSound count tasks → AllByRecursion HoldsFew tasks
+sound_few count [] o = tt
+sound_few count (Request m ∷ more) o = (tt, sound_few count more o.1)
+sound_few count (Data w ∷ more) o =
+    let most : w.total ≤ 4_194_304 = most_taken w.order count w.total o.0.plan in
+    let fits : received w ≤ w.total = o.0.fits in
+    (omega (arith, most, fits), sound_few count more o.1)
+
+pub held_few : (settings : Settings) (n count : ℕ) (disk : Disk) (gs : List Group) → HaveCount count gs →
+    AllByRecursion HoldsFew (answers_over (opening settings n) disk gs).machine.tasks
+held_few settings n count disk gs all =
+    sound_few count (answers_over (opening settings n) disk gs).machine.tasks (over_sound count (opening settings n) disk gs all tt)

@@ -144,7 +144,7 @@ over_data_in settings n disk now gs m p =
     gives_tiles (step r.machine now m).answers (step r.machine now m).executed
     (t.gives q ((over_fit (opening settings n) disk gs (opening_fit settings n disk)).held q))
 
-over_sound : (count : ℕ) (s : Machine) (disk : Disk) (gs : List Group) → HaveCount count gs → IsSound count s.tasks →
+pub over_sound : (count : ℕ) (s : Machine) (disk : Disk) (gs : List Group) → HaveCount count gs → IsSound count s.tasks →
     IsSound count (answers_over s disk gs).machine.tasks
 unfolding answers_over
 over_sound count s disk [] all o = o

@@ -2,7 +2,10 @@
 -- rule).
 use Rattle.std.specs.Prelude.{◌≡◌, ◌≤◌, ◌*◌, length}
 use Rattle.std.specs.List.{AllByRecursion}
+use Rattle.iscsi_target.specs.declared.tasks.Task.{Task}
+use Rattle.iscsi_target.specs.declared.tasks.Task.TheVariants.{Request, Data}
 use Rattle.iscsi_target.specs.State.{unchanged}
+use Rattle.iscsi_target.specs.Transfer.{received}
 use Rattle.iscsi_target.specs.Laws.{HasCmdSn}
 use Rattle.iscsi_hall.specs.Turns.{Event, Takes, executed_by}
 use Rattle.iscsi_hall.specs.Company.{groups_by, messages_in}
@@ -16,3 +19,8 @@ IsNumbered _ = Unit {0}
 -- For each PDU of the event at most nine commands were executed.
 abbrev pub ExecutesFew : Event → Type 0
 ExecutesFew e = length (executed_by e) ≤ 9 * length (messages_in (groups_by e))
+
+-- The task is a write that has at most 4,194,304 bytes of its data, or another request.
+abbrev pub HoldsFew : Task → Type 0
+HoldsFew (Request m) = Unit {0}
+HoldsFew (Data w) = received w ≤ 4_194_304

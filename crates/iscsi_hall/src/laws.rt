@@ -24,7 +24,7 @@ ghost use Rattle.iscsi_target.specs.Laws.{AreInOrder, Command, CountOn, HasCmdSn
 ghost use Rattle.iscsi_hall.specs.Seats.{Hall, may_take_at, seat_at, waiting_at};
 ghost use Rattle.iscsi_hall.specs.Turns.{Event, Runs, Seats, Session, Stays, TakesTurn, answers_of, events_of, executed_in};
 ghost use Rattle.iscsi_hall.specs.Blocks.{Follows, block_left};
-ghost use Rattle.iscsi_hall.specs.Bounds.{ExecutesFew, IsNumbered};
+ghost use Rattle.iscsi_hall.specs.Bounds.{ExecutesFew, HoldsFew, IsNumbered};
 ghost use Rattle.iscsi_hall.specs.OwnOrder.{executed_for, placed_in};
 ghost use Rattle.iscsi_hall.specs.Company.{Group, HaveCount, IsCalm, answers_in, answers_over, groups_in, messages_in};
 
@@ -101,6 +101,10 @@ pub fn few_at_a_time()
     ensures executed { (settings : Settings) (n : ℕ) (end : Machine) (es : List Event)
         → Session (opening settings n) es end → AllByRecursion IsNumbered es
         → AllByRecursion ExecutesFew es }
+    // Where no failure was counted, a write that waits for data has at most 4,194,304 bytes of them.
+    ensures held { (settings : Settings) (n count : ℕ) (disk : Disk) (gs : List Group)
+        → HaveCount count gs
+        → AllByRecursion HoldsFew (answers_over (opening settings n) disk gs).machine.tasks }
     // A write takes, and a READ gives, at most 4,194,304 bytes.
     ensures write { (order : Order) (blocks n : ℕ) → plan_of order blocks ≡ Take n
         → n ≤ 4_194_304 }
