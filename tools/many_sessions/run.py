@@ -16,6 +16,7 @@ import shutil
 import signal
 import socket
 import statistics
+import struct
 import subprocess
 import sys
 import tempfile
@@ -26,6 +27,9 @@ TOP = os.path.dirname(os.path.dirname(os.path.dirname(os.path.abspath(__file__))
 SECONDS = 60
 NAME = "iqn.2026-01.example:disk"
 BLOCKS = 8192
+# The longest transfer, and the longest segment that the target takes, in bytes.
+MOST = 4 << 20
+SEGMENT = 8192
 
 
 def process_rows():
@@ -147,6 +151,19 @@ def two_halves(program, room):
         compare = ("qemu-img", "compare", "--image-opts")
         halves = [(f"driver=raw,file.driver=file,file.filename={image}", service.half(n)) for n, image in enumerate(images)]
         return all_end_well([start(*compare, *pair) for pair in halves])
+
+
+def large_disk(program, room):
+    """Two writers at once behind the first 2^32 blocks of a disk of 2^33; then each place is read back, by two readers at once."""
+    places = [((1 << 32) + 100) * 512, ((1 << 33) - 128) * 512]
+    with Service(program, 4, "--at-once", "2", blocks=1 << 33) as service:
+        for order in ("write", "read"):
+            # -P names the byte that is written, or that each byte has to be
+            words = [f"{order} -P {number + 1} {place} 65536" for number, place in enumerate(places)]
+            seen = all_end_well([start("qemu-io", "-f", "raw", "-c", word, service.url) for word in words])
+            if seen is not True:
+                return seen
+        return service.ended() == (b"listening\n", b"", 0)
 
 
 def held_peer(program, room):
@@ -334,6 +351,7 @@ def other_name(program, room):
 CASES = [
     (two_perf, ["iscsi-perf"]),
     (two_halves, ["qemu-img"]),
+    (large_disk, ["qemu-io"]),
     (held_peer, ["qemu-img", "iscsi-inq"]),
     (partial_write, ["iscsi-inq"]),
     (silent_peer, ["iscsi-inq"]),
@@ -351,17 +369,52 @@ CASES = [
 # ---- figures
 
 
+def data_out(r2t, data_sn, offset, data, is_final):
+    """A Data-Out of the write with tag 2 that an R2T asked for (RFC 7143, section 11.7)."""
+    flags = 0x80 if is_final else 0
+    head = struct.pack(">BBHI8s4s4sIIIIII", 5, flags, 0, len(data), bytes(8), r2t[16:20], r2t[20:24], 0, 2, 0, data_sn, offset, 0)
+    return head + data
+
+
+def write_most(peer):
+    """Begins a write of 4 MiB, and sends all of its data but the last byte."""
+    cdb = "2a000000 00000020 00000000 00000000"
+    peer.sendall(ROWS.of_hex("01a10000 00000000 00000000 00000000 00000002 00400000 00000001 00000002", cdb))
+    left = MOST
+    while left:
+        r2t = received(peer, 48)
+        offset, desired = struct.unpack(">II", r2t[40:48])
+        left = MOST - offset - desired
+        places = range(0, desired, SEGMENT)
+        run = b"".join(data_out(r2t, n, offset + at, bytes(SEGMENT), at + SEGMENT == desired) for n, at in enumerate(places))
+        peer.sendall(run if left else run[:-1])
+
+
+def ask_much(peer):
+    """Asks for 4 MiB eight times, and reads nothing."""
+    for number in range(8):
+        numbers = f"{number + 2:08x} 00400000 {number + 1:08x} 00000002"
+        peer.sendall(ROWS.of_hex("01c10000 00000000 00000000 00000000", numbers, "28000000 00000020 00000000 00000000"))
+
+
 def memory_figures(program):
-    """The resident memory of 64 sessions: logged in, and each with a write of 4 MiB that lacks its last byte."""
-    with Service(program, 64, "--at-once", "64") as service:
-        empty = service.resident()
-        peers = [service.peer() for _ in range(64)]
-        for peer in peers:
-            log_in(peer)
-        idle = service.resident()
-        for peer in peers:
-            peer.close()
-    print(f"resident MB: {empty:.1f} with no session, {idle:.1f} with 64 that are logged in")
+    """The resident memory of 64 sessions: logged in; each with a write of 4 MiB that lacks its last byte; and each with eight
+    READs of 4 MiB of which its peer reads nothing."""
+    said = []
+    states = (("logged in", None), ("in a write of 4 MiB", write_most), ("with eight READs of 4 MiB, unread", ask_much))
+    for what, does in states:
+        with Service(program, 64, "--at-once", "64") as service:
+            empty = service.resident()
+            peers = [service.peer() for _ in range(64)]
+            for port, peer in enumerate(peers):
+                log_in(peer, port)
+                if does:
+                    does(peer)
+            time.sleep(2)
+            said.append(f"{service.resident():.1f} with 64 {what}")
+            for peer in peers:
+                peer.close()
+    print(f"resident MB: {empty:.1f} with no session, {', '.join(said)}")
 
 
 def rates(speed, services, size, depth, seconds=2):
