@@ -1,7 +1,8 @@
 //! How long a peer may keep its seat.
 
-ghost use Rattle.std.specs.Prelude.{◌≡◌};
-ghost use Rattle.iscsi_server.specs.Limits.{broken_limit, is_passed};
+ghost use Rattle.std.specs.Prelude.{◌≡◌, option_map};
+ghost use Rattle.std.specs.Duration.{as_nanos};
+ghost use Rattle.iscsi_server.specs.Limits.{broken_limit, is_passed, left_of, shorter, time_left};
 
 use crate::session_end::SessionEnd;
 use iscsi_login::Phase;
@@ -42,7 +43,10 @@ impl Limits {
         phase: Phase,
         accepted: Duration,
         silent: Duration,
-    ) -> Option<Duration> {
+    ) -> Option<Duration>
+        ensures left { option_map as_nanos result
+            ≡ time_left self.now phase (as_nanos accepted) (as_nanos silent) }
+    {
         let idle = left(self.idle.map(u64::from), silent);
         match phase {
             Phase::Login => sooner(idle, left(self.login_within.map(u64::from), accepted)),
@@ -63,12 +67,20 @@ fn is_over(limit: Option<u16>, seconds: u64) -> bool
 }
 
 // What is left of a limit in seconds after this time.
-fn left(limit: Option<u64>, gone: Duration) -> Option<Duration> {
-    Some(Duration::from_secs(limit?).saturating_sub(gone))
+fn left(limit: Option<u64>, gone: Duration) -> Option<Duration>
+    ensures { option_map as_nanos result ≡ left_of limit (as_nanos gone) }
+{
+    match limit {
+        Some(limit) => Some(Duration::from_secs(limit).saturating_sub(gone)),
+        None => None,
+    }
 }
 
 // The shorter of two times, of which none is the longest.
-pub(crate) fn sooner(one: Option<Duration>, other: Option<Duration>) -> Option<Duration> {
+pub(crate) fn sooner(one: Option<Duration>, other: Option<Duration>) -> Option<Duration>
+    ensures { option_map as_nanos result
+        ≡ shorter (option_map as_nanos one) (option_map as_nanos other) }
+{
     match (one, other) {
         (Some(one), Some(other)) => Some(one.min(other)),
         (None, left) | (left, None) => left,

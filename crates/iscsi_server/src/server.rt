@@ -93,9 +93,10 @@ impl<'a> Server<'a> {
         }
     }
 
-    /// Whether all sessions were served.
+    /// Whether all sessions were served. No more connections are accepted than are to be.
     pub fn is_done(&self) -> bool
         ensures done { IsTrue result ↔ IsDone self.now }
+        ensures limit { self.now.accepted ≤ self.now.sessions }
     {
         self.accepted >= self.options.sessions && is_empty(&self.hall)
     }
