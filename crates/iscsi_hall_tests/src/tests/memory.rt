@@ -10,17 +10,31 @@ use std::test::Fail;
 // The ping and the write of the worked session, which come behind its login.
 const PING_AND_WRITE: (usize, usize) = (5, 10);
 
-// What is read and what is due.
+// What comes for a seat, the answers that are due, and those that it gives: no room is asked for
+// while it does.
+#[derive(Drop)]
+struct Part {
+    came: Vec<u8>,
+    due: Vec<u8>,
+    out: Vec<u8>,
+}
+
+fn part_of(alloc: Global, lines: &str) -> Result<Part, Trouble> {
+    Ok(Part {
+        came: pdus_at(alloc, "I> ", lines)?,
+        due: pdus_at(alloc, "T> ", lines)?,
+        out: Vec::with_capacity(alloc, 4096)?,
+    })
+}
+
+// Two sessions that are logged in, and what they do then.
 #[derive(Drop)]
 struct Stage {
     room: Box<Room>,
-    /// The bytes that come for each seat, and the answers that are due.
-    came: [Vec<u8>; 2],
-    due: [Vec<u8>; 2],
-    /// The answers of the second seat, where the write of the first was executed.
+    write: Part,
+    read: Part,
+    /// The answers of the second session, where the write of the first was executed.
     later: Vec<u8>,
-    /// What the seats answered: no room is asked for while they do.
-    out: [Vec<u8>; 2],
 }
 
 fn new_stage(alloc: Global) -> Result<Stage, Trouble> {
@@ -32,28 +46,17 @@ fn new_stage(alloc: Global) -> Result<Stage, Trouble> {
             return Err(Trouble::NoMemory);
         }
     }
-    let write = part(alloc, PING_AND_WRITE)?;
     Ok(Stage {
         room,
-        came: [
-            pdus_at(alloc, "I> ", &write)?,
-            pdus_at(alloc, "I> ", FIRST_READ)?,
-        ],
-        due: [
-            pdus_at(alloc, "T> ", &write)?,
-            pdus_at(alloc, "T> ", FIRST_READ)?,
-        ],
+        write: part_of(alloc, &part(alloc, PING_AND_WRITE)?)?,
+        read: part_of(alloc, FIRST_READ)?,
         later: pdus_at(alloc, "T> ", FIRST_READ_OF_44)?,
-        out: [
-            Vec::with_capacity(alloc, 4096)?,
-            Vec::with_capacity(alloc, 4096)?,
-        ],
     })
 }
 
 // Has a seat read what comes for it. Says whether memory was refused to it, and closes it then.
-fn serve(room: &mut Room, seat: usize, came: &[u8], out: &mut Vec<u8>) -> bool {
-    match read_pieces(room, seat, came, 48, out) {
+fn serve(room: &mut Room, seat: usize, part: &mut Part) -> bool {
+    match read_pieces(room, seat, &part.came, 48, &mut part.out) {
         Ok(None) => false,
         Ok(Some(_)) | Err(_) => {
             room.hall.leave(seat);
@@ -80,13 +83,16 @@ fn refused_memory_ends_one_session(rt: HostRuntime) -> Result<(), Fail> {
         Ok(stage) => stage,
         Err(_) => new_stage(rt.alloc())?,
     };
-    let first = serve(&mut stage.room, 0, &stage.came[0], &mut stage.out[0]);
-    let second = serve(&mut stage.room, 1, &stage.came[1], &mut stage.out[1]);
+    let first = serve(&mut stage.room, 0, &mut stage.write);
+    let second = serve(&mut stage.room, 1, &mut stage.read);
     assert!(rt; !(first && second), "one was refused");
-    check(&rt, &stage.out[0], &stage.due[0], first, "the write");
-    let is_new = stage.out[1].starts_with(stage.later.as_slice());
-    let due = if is_new { &stage.later } else { &stage.due[1] };
-    check(&rt, &stage.out[1], due, second, "the read");
+    check(&rt, &stage.write.out, &stage.write.due, first, "the write");
+    let is_new = stage.read.out.starts_with(stage.later.as_slice());
+    if is_new {
+        check(&rt, &stage.read.out, &stage.later, second, "the read");
+    } else {
+        check(&rt, &stage.read.out, &stage.read.due, second, "the read");
+    }
     // The read gives what the write left where that was answered.
     assert!(rt; first || second || is_new, "a write is lost");
     same(&rt, &stage.room.hall.phase(0), &left(first), &"first");
