@@ -10,6 +10,7 @@ use crate::session_end::SessionEnd;
 use iscsi_hall::{Hall, MOST_READ};
 use iscsi_login::Phase;
 use iscsi_target::TargetFault;
+use mio::Poll;
 use scsi_disk::BlockStore;
 use std::alloc::{AllocError, Global};
 use std::time::Instant;
@@ -96,6 +97,16 @@ impl Peer {
             }
             None => false,
         }
+    }
+
+    /// Has the system tell when it may write again, where that is waited for. Says whether it will;
+    /// where not, that is kept as its end.
+    pub fn is_followed(&mut self, poll: &Poll, seat: usize) -> bool {
+        let is = self.connection.follow(poll, seat);
+        if !is {
+            self.end_by(SessionEnd::Write);
+        }
+        is
     }
 
     /// Keeps why the session ends, unless there was a reason before.

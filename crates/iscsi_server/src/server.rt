@@ -267,7 +267,8 @@ impl<'a> Server<'a> {
         };
         let was = self.hall.phase(seat);
         let is_over = peer.turn(&mut self.hall, store, seat, now)
-            || peer.is_late(&self.options.limits, self.hall.phase(seat), now);
+            || peer.is_late(&self.options.limits, self.hall.phase(seat), now)
+            || !peer.is_followed(&self.poll, seat);
         if is_over {
             let end = peer.end;
             self.dismiss(rt, seat, end);
