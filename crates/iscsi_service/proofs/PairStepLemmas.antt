@@ -1,6 +1,6 @@
 -- What the steps of a loop lead its pair to.
 use Rattle.std.specs.Prelude.{replicate}
-use Rattle.std.proofs.Common.{◌≡◌, ◌<◌, ◌≤◌, inl, inr, ℕ, zero, suc, ◌+◌, ◌-◌, ◌*◌, List, [], ◌∷◌, ◌++◌, length, take, drop, Option, Some, None, Ok, refl, sym}
+use Rattle.std.proofs.Common.{◌≡◌, ◌<◌, ◌≤◌, inl, inr, true, ℕ, zero, suc, ◌+◌, ◌-◌, ◌*◌, List, [], ◌∷◌, ◌++◌, length, take, drop, Option, Some, None, Ok, refl, sym}
 use Rattle.std.proofs.Common.{ap, ◌∙◌, subst, append-nil, arith}
 use mathlib.Core.Path.{fun_ext}
 use Rattle.std.proofs.lemmas.Bool.{cases_lt}
@@ -54,8 +54,8 @@ joined_length block first (suc count) each =
     omega (arith, more, here, both)
 
 -- the blocks of a disk are those of some bytes
-pub has_blocks : (disk : Disk) → IsDisk disk → HasBlocks disk
-has_blocks disk is =
+pub has_blocks : (disk : Disk) → IsDisk disk → disk.tells ≡ true → HasBlocks disk
+has_blocks disk is tells =
     let bytes : List ℕ = joined disk.block 0 disk.count in
     let each : (n : ℕ) → n < 0 + disk.count → length (disk.block n) ≡ 512 = λ n below. is.inside n (omega (arith, below)) in
     let size : length bytes ≡ 512 * disk.count = joined_length disk.block 0 disk.count each in
@@ -64,7 +64,7 @@ has_blocks disk is =
       is = same_disk (disk_of bytes) disk (omega (arith, size)) (fun_ext (λ n. elim (cases_lt n disk.count) [
         | inl below ↦ part_of disk.block 0 disk.count n each below ∙ ap disk.block (let e : 0 + n ≡ n = omega arith in e)
         | inr past ↦ cut_past 512 bytes n (omega (arith, size, past)) ∙ sym (is.outside n past)
-      ]));
+      ])) (sym tells);
     }
 
 -- ---- one event more
@@ -104,10 +104,10 @@ stored disk = record { disk = disk; failures = 0 }
 
 -- a piece reaches the target
 pub asks_on : (i : initiator.Connection) (old new : target.Connection) (before after : Disk) (out back written piece : List ℕ) (n : ℕ) (phase : Phase)
-    → target.Fed old (stored before) back piece (Ok phase) new (stored after) written → IsDisk after → take n out ≡ piece → length piece ≡ n → 0 < n
+    → target.Fed old (stored before) back piece (Ok phase) new (stored after) written → IsDisk after → after.tells ≡ true → take n out ≡ piece → length piece ≡ n → 0 < n
     → GoOn (ends_of i old before out back) (ends_of i new after (drop n out) written)
-asks_on i old new before after out back written piece n phase fed is front size some = λ blocks requests outcomes h.
-    let b : HasBlocks after = has_blocks after is in
+asks_on i old new before after out back written piece n phase fed is tells front size some = λ blocks requests outcomes h.
+    let b : HasBlocks after = has_blocks after is tells in
     let here : Ends = ends_of i old before out back in
     let there : Ends = ends_of i new after (drop n out) written in
     let receives : TargetReceives piece (world_of here h.bytes) (world_of there b.bytes) = record {
@@ -151,11 +151,11 @@ left_of n rest = take_all (length rest - n) (drop n rest) (omega (arith, length-
 
 -- the next piece of what goes to the target
 pub asks_more : (i : initiator.Connection) (old new : target.Connection) (before after : Disk) (rest back written read : List ℕ) (n : ℕ) (phase : Phase)
-    → target.Fed old (stored before) back read (Ok phase) new (stored after) written → IsDisk after → read ≡ take n rest → n ≤ length rest → 0 < n
+    → target.Fed old (stored before) back read (Ok phase) new (stored after) written → IsDisk after → after.tells ≡ true → read ≡ take n rest → n ≤ length rest → 0 < n
     → GoOn (ends_of i old before rest back) (ends_of i new after (take (length rest - n) (drop n rest)) written)
-asks_more i old new before after rest back written read n phase fed is same within some =
+asks_more i old new before after rest back written read n phase fed is tells same within some =
     subst (λ (x : List ℕ). GoOn (ends_of i old before rest back) (ends_of i new after x written)) (sym (left_of n rest))
-    (asks_on i old new before after rest back written read n phase fed is (sym same) (ap length same ∙ length-take-le n rest within) some)
+    (asks_on i old new before after rest back written read n phase fed is tells (sym same) (ap length same ∙ length-take-le n rest within) some)
 
 -- the next piece of what goes to the initiator
 pub hears_more : (old new : initiator.Connection) (t : target.Connection) (disk : Disk) (out rest written read : List ℕ) (n : ℕ) (phase : Phase)

@@ -1,12 +1,14 @@
 -- What orders give and leave.
-use Rattle.std.proofs.Common.{◌≡◌, ◌≤◌, inl, inr, ◌∙◌, ℕ, ◌*◌, List, [], Bool, true, false, min, length, Option, Some, None, refl, sym, ap, subst, arith}
+use Rattle.std.proofs.Common.{◌≡◌, ◌≤◌, inl, inr, ◌∙◌, ℕ, ◌*◌, List, [], Bool, true, false, min, length, Option, Some, None, IsTrue, refl, sym, ap, subst, arith}
 use Rattle.std.specs.Prelude.{◌||◌, ◌&&◌, if◌then◌else◌}
-use Rattle.std.proofs.lemmas.Bool.{cases_lt}
+use Rattle.std.proofs.lemmas.Bool.{cases_lt, false≢true}
 use Rattle.std.proofs.lemmas.List.{length-take}
+use Rattle.scsi_cdb.specs.declared.cdb.Cdb.{Cdb}
+use Rattle.scsi_cdb.specs.declared.cdb.Cdb.TheVariants.{TestUnitReady, Inquiry, Capacity10, Read10, Write10, SyncCache10, Read16, Write16, Capacity16, ReportLuns, Unknown}
 use Rattle.scsi_cdb.specs.declared.sense.Sense.{Sense}
 use Rattle.scsi_disk.specs.Disk.{Disk}
 use Rattle.scsi_disk.specs.Effect.{Effect, Executes, FailsBy, wanted_data, outcome_by, disk_by}
-use Rattle.scsi_disk.specs.Plan.{plan_of, plan_by, first_refusal, is_write, is_unknown, transfer, wanted_length, expected_length}
+use Rattle.scsi_disk.specs.Plan.{plan_of, plan_by, first_refusal, is_read, is_write, is_unknown, transfer, wanted_length, expected_length}
 use Rattle.scsi_disk.specs.declared.order.Order.{Order}
 use Rattle.scsi_disk.specs.declared.order.Outcome.{Outcome}
 use Rattle.iscsi_target.specs.declared.due.Due.{Due}
@@ -20,16 +22,31 @@ none_by : (r : Option Sense) (disk : Disk) (order : Order) → is_write order.cd
 none_by (Some sense) disk order e = refl
 none_by None disk order e = rw e refl
 
-failed_none : (plan : Plan) (disk : Disk) (order : Order) (bytes : List ℕ) (after : Effect) → FailsBy plan disk order bytes after → after.outcome.bytes ≡ []
-failed_none (Refuse sense) disk order bytes after f = absurd f
-failed_none (Take n) disk order bytes after f = ap (λ (o : Outcome). o.bytes) f.0
-failed_none (Give n) disk order bytes after f = ap (λ (o : Outcome). o.bytes) f.0
+not_both : (c : Cdb) → IsTrue (is_read c) → is_write c ≡ true → ⊥
+not_both (TestUnitReady a) r w = false≢true w
+not_both (Inquiry a b d e) r w = false≢true w
+not_both (Capacity10 a) r w = false≢true w
+not_both (Read10 t) r w = false≢true w
+not_both (Write10 t) r w = false≢true r
+not_both (SyncCache10 s) r w = false≢true w
+not_both (Read16 t) r w = false≢true w
+not_both (Write16 t) r w = false≢true r
+not_both (Capacity16 a b) r w = false≢true w
+not_both (ReportLuns a b d) r w = false≢true w
+not_both (Unknown a) r w = false≢true w
+
+failed_none : (plan : Plan) (disk : Disk) (order : Order) (bytes : List ℕ) (after : Effect) → is_write order.cdb ≡ true → FailsBy plan disk order bytes after →
+    after.outcome.bytes ≡ []
+failed_none (Refuse sense) disk order bytes after w f = absurd f
+failed_none (Take n) disk order bytes after w (inl is, each) = ap (λ (o : Outcome). o.bytes) is
+failed_none (Take n) disk order bytes after w (inr other, each) = ap (λ (o : Outcome). o.bytes) other.1
+failed_none (Give n) disk order bytes after w f = absurd (not_both order.cdb f.1 w)
 
 pub write_gives_none : (fb fa : ℕ) (disk : Disk) (order : Order) (bytes : List ℕ) (after : Effect) → Executes fb fa disk order bytes after → is_write order.cdb
     ≡ true → after.outcome.bytes ≡ []
 write_gives_none fb fa disk order bytes after x e =
     elim (cases_lt fb fa) [
-      | inl lt ↦ failed_none (plan_of order disk.count) disk order bytes after (x.fails lt)
+      | inl lt ↦ failed_none (plan_of order disk.count) disk order bytes after e (x.fails lt)
       | inr ge ↦ ap (λ (a : Effect). a.outcome.bytes) (x.works (omega (arith, ge, x.rises))) ∙ none_by (first_refusal order disk.count) disk order e
     ]
 
@@ -72,6 +89,29 @@ given_by false n disk order = omega (
   expected_most order,
 )
 
+-- so many bytes a plan gives at most
+abbrev given : Plan → ℕ
+given (Give n) = n
+given _ = 0
+
+failed_most : (plan : Plan) (disk : Disk) (order : Order) (bytes : List ℕ) (after : Effect) → FailsBy plan disk order bytes after
+    → length after.outcome.bytes ≤ given plan
+failed_most (Refuse sense) disk order bytes after f = absurd f
+failed_most (Take n) disk order bytes after (inl is, each) = omega (arith, ap (λ (o : Outcome). length o.bytes) is)
+failed_most (Take n) disk order bytes after (inr other, each) = omega (arith, ap (λ (o : Outcome). length o.bytes) other.1)
+failed_most (Give n) disk order bytes after (inl is, reads, same) = omega (arith, ap (λ (o : Outcome). length o.bytes) is)
+failed_most (Give n) disk order bytes after (inr other, reads, same) =
+    let given_bytes = other.1 in omega (arith, ap (λ (o : Outcome). length o.bytes) given_bytes.2, given_bytes.1)
+
+limit_by : (w : Bool) (n : ℕ) (disk : Disk) (order : Order)
+    → given (if w then Take n else Give (min (wanted_length order disk.count) (expected_length order))) ≤ order.expected
+limit_by true n disk order = omega arith
+limit_by false n disk order = omega (arith, expected_most order)
+
+limit : (r : Option Sense) (disk : Disk) (order : Order) → given (plan_by r order disk.count) ≤ order.expected
+limit (Some sense) disk order = omega arith
+limit None disk order = limit_by (is_write order.cdb) (512 * (transfer order.cdb).count) disk order
+
 given_most_by : (r : Option Sense) (disk : Disk) (order : Order) → length (outcome_by (plan_by r order disk.count) disk order).bytes ≤ order.expected
 given_most_by (Some sense) disk order = omega arith
 given_most_by None disk order = given_by (is_write order.cdb) (512 * (transfer order.cdb).count) disk order
@@ -80,7 +120,11 @@ pub given_most : (fb fa : ℕ) (disk : Disk) (order : Order) (bytes : List ℕ) 
     length after.outcome.bytes ≤ order.expected
 given_most fb fa disk order bytes after x =
     elim (cases_lt fb fa) [
-      | inl lt ↦ omega (arith, ap length (failed_none (plan_of order disk.count) disk order bytes after (x.fails lt)))
+      | inl lt ↦ omega (
+        arith,
+        failed_most (plan_of order disk.count) disk order bytes after (x.fails lt),
+        limit (first_refusal order disk.count) disk order,
+      )
       | inr ge ↦ omega (
         arith,
         ap (λ (a : Effect). length a.outcome.bytes) (x.works (omega (arith, ge, x.rises))),

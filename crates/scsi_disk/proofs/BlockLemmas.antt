@@ -137,8 +137,8 @@ is_disk xs are = record {
   outside = λ n ge. cut_past 512 xs n (let w = are.whole in omega arith);
 }
 
-pub same_disk : (c d : Disk) → c.count ≡ d.count → c.block ≡ d.block → c ≡ d
-same_disk c d count block = λ i. record { count = count i; block = block i }
+pub same_disk : (c d : Disk) → c.count ≡ d.count → c.block ≡ d.block → c.tells ≡ d.tells → c ≡ d
+same_disk c d count block tells = λ i. record { count = count i; block = block i; tells = tells i }
 
 pub disk_of-zeros : (blocks : ℕ) → disk_of (replicate (512 * blocks) 0) ≡ zeros blocks
-disk_of-zeros blocks = same_disk _ _ (omega (arith, length-replicate {A = ℕ} (512 * blocks) 0)) (cut-zeros 512 blocks)
+disk_of-zeros blocks = same_disk _ _ (omega (arith, length-replicate {A = ℕ} (512 * blocks) 0)) (cut-zeros 512 blocks) refl

@@ -3,3 +3,4 @@ pub mod OverlayLemmas
 pub mod PlanLemmas
 pub mod SparseLemmas
 pub mod RunLemmas
+pub mod AnsweredLemmas

@@ -130,7 +130,7 @@ module _ (size first i c : ℕ) (bytes : List ℕ) (block : ℕ → List ℕ) (r
 -- a disk with the front of some bytes written, and then the blocks behind that front
 pub written_next : (first i c : ℕ) (bytes : List ℕ) (disk : Disk) → 512 * (i + c) ≤ length bytes
     → written (first + i) (take (512 * c) (drop (512 * i) bytes)) (written first (take (512 * i) bytes) disk) ≡ written first (take (512 * (i + c)) bytes) disk
-written_next first i c bytes disk room = same_disk _ _ refl (fun_ext (overlaid_more_at 512 first i c bytes disk.block room (omega arith)))
+written_next first i c bytes disk room = same_disk _ _ refl (fun_ext (overlaid_more_at 512 first i c bytes disk.block room (omega arith))) refl
 
 overlaid_none : (size first : ℕ) (block : ℕ → List ℕ) (n : ℕ) → overlaid size first [] block n ≡ block n
 unfolding overlaid
@@ -141,7 +141,7 @@ overlaid_none size first block n =
     ]
 
 pub written_none : (first : ℕ) (disk : Disk) → written first [] disk ≡ disk
-written_none first disk = same_disk _ _ refl (fun_ext (λ n. overlaid_none 512 first disk.block n))
+written_none first disk = same_disk _ _ refl (fun_ext (λ n. overlaid_none 512 first disk.block n)) refl
 
 -- a write of no byte
 pub written_short : (first : ℕ) (bytes : List ℕ) (disk : Disk) → length bytes ≡ 0 → written first (take 512 bytes) disk ≡ disk
@@ -176,6 +176,7 @@ first_at size first bytes block n some long =
 pub first_alone : (first : ℕ) (bytes : List ℕ) (d e : Disk) → 512 ≤ length bytes → e ≡ written first (take 512 bytes) d → IsOldOrNew d (written first bytes d) e
 first_alone first bytes d e long is = record {
   count = ap (λ (x : Disk). x.count) is;
+  tells = ap (λ (x : Disk). x.tells) is;
   each = λ n. let same = ap (λ (x : Disk). x.block n) is in
       elim (first_at 512 first bytes d.block n (omega arith) long) [ inl h ↦ inl (same ∙ h) | inr h ↦ inr (same ∙ h) ];
 }

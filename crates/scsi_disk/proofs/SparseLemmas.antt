@@ -48,7 +48,7 @@ unfolding block_in zero_blocks
 zeros_at size count m n if_in none = ap (λ o. cond (nat_lt n count) (block_in size o (n % 64)) []) (none m)
 
 pub fresh : (count : ℕ) → disk_in (record { count = count; extents = empty }) ≡ zeros count
-fresh count = same_disk _ _ refl (fun_ext (λ n. zeros_at 512 count (n / 64) n (get {R = nat_cmp} empty) (λ k. get-empty nat_cmp k)))
+fresh count = same_disk _ _ refl (fun_ext (λ n. zeros_at 512 count (n / 64) n (get {R = nat_cmp} empty) (λ k. get-empty nat_cmp k))) refl
 
 pub none_yet : (count : ℕ) (es : List (ℕ × List ℕ)) → es ≡ [] → 0 < count → count ≤ 2 ^ 40 → AreExtents count (from_entries es)
 none_yet count es none some few = record {
@@ -156,7 +156,7 @@ pub unseen : (count : ℕ) (m n : FinMap nat_cmp (List ℕ)) (k : ℕ) (v : List
     ≡ disk_in (record { count = count; extents = m })
 unseen count m n k v h blank none = same_disk _ _ refl (fun_ext (λ p.
     ap (λ o. cond (nat_lt p count) (block_in 512 o (p % 64)) []) (h (p / 64))
-    ∙ ap (λ t. cond (nat_lt p count) t []) (same_blocks (is_at (nat_cmp k) (p / 64)) (get m (p / 64)) v (p % 64) blank (omega arith) (none (p / 64)))))
+    ∙ ap (λ t. cond (nat_lt p count) t []) (same_blocks (is_at (nat_cmp k) (p / 64)) (get m (p / 64)) v (p % 64) blank (omega arith) (none (p / 64))))) refl
 
 at_key : (k q : ℕ) → is_at (nat_cmp k) q ≡ true → k ≡ q
 at_key k q e = grind (arith, nat_tests)
@@ -237,7 +237,7 @@ module _ (count p c : ℕ) (m n : FinMap nat_cmp (List ℕ)) (old new ys : List 
       ]
 
   pub run_written : disk_in (record { count = count; extents = n }) ≡ written p ys (disk_in (record { count = count; extents = m }))
-  run_written = same_disk _ _ refl (fun_ext run_written_at)
+  run_written = same_disk _ _ refl (fun_ext run_written_at) refl
 
 -- an extent that is there is found
 pub some_at : (es : List (ℕ × List ℕ)) (k : ℕ) → IsSome (get (from_entries {R = nat_cmp} es) k) → IsSome (lookup (is_at (nat_cmp k)) es)

@@ -1,12 +1,14 @@
 -- What a store of blocks is seen as, and what a read gives and a write leaves.
-use Rattle.std.specs.Prelude.{◌^◌, ◌≡◌, ℕ, zero, suc, ◌+◌, ◌-◌, ◌*◌, ◌/◌, ◌%◌, ◌<◌, ◌≤◌, ◌⊎◌, if◌then◌else◌, nat_lt, List, [], ◌++◌, length, take, drop, replicate, Result, IsErrOf}
+use Rattle.std.specs.Prelude.{◌^◌, ◌≡◌, ℕ, zero, suc, ◌+◌, ◌-◌, ◌*◌, ◌/◌, ◌%◌, ◌<◌, ◌≤◌, ◌⊎◌, if◌then◌else◌, nat_lt, Bool, true, List, [], ◌++◌, length, take, drop, replicate, Result, IsErrOf}
 use Rattle.scsi_disk.specs.declared.store.StoreFault.{StoreFault}
-use Rattle.scsi_disk.specs.declared.store.StoreFault.TheVariants.{Device}
+use Rattle.scsi_disk.specs.declared.store.StoreFault.TheVariants.{Device, NoMemory}
 
 -- so many blocks, and the bytes of each
 pub record Disk : Type 0 where
   pub count : ℕ
   pub block : ℕ → List ℕ
+  -- whether its store tells each failure, so that what it says is so
+  pub tells : Bool
 
 -- There is a block, each has 512 bytes, and past the last one there is nothing.
 pub record IsDisk (disk : Disk) : Type 0 where
@@ -37,12 +39,13 @@ overlaid size first bytes block n =
 -- the disk after a write of these bytes from the first block on
 abbrev pub written : ℕ → List ℕ → Disk → Disk
 written first bytes disk =
-    record { count = disk.count; block = overlaid 512 first bytes disk.block }
+    record { count = disk.count; block = overlaid 512 first bytes disk.block; tells = disk.tells }
 
 -- Each block is that of one of two disks: where the new one is the old one after a write, each
 -- block of the write is old or new and no other has changed.
 pub record IsOldOrNew (old new disk : Disk) : Type 0 where
   pub count : disk.count ≡ old.count
+  pub tells : disk.tells ≡ old.tells
   pub each : (n : ℕ) → (disk.block n ≡ old.block n) ⊎ (disk.block n ≡ new.block n)
 
 -- so many blocks of a size, of 00, and nothing past them
@@ -55,11 +58,11 @@ most_blocks = 2 ^ 40
 
 -- a disk of so many blocks of 00
 abbrev pub zeros : ℕ → Disk
-zeros count = record { count = count; block = zero_blocks 512 count }
+zeros count = record { count = count; block = zero_blocks 512 count; tells = true }
 
 -- a disk of these bytes
 abbrev pub disk_of : List ℕ → Disk
-disk_of bytes = record { count = length bytes / 512; block = cut 512 bytes }
+disk_of bytes = record { count = length bytes / 512; block = cut 512 bytes; tells = true }
 
 -- bytes of 1 to 65,536 whole blocks
 pub record AreBlocks (bytes : List ℕ) : Type 0 where
@@ -67,8 +70,14 @@ pub record AreBlocks (bytes : List ℕ) : Type 0 where
   pub some : 0 < length bytes
   pub few : length bytes ≤ 33554432
 
--- A store tells a failure of its device exactly where its count of them rose.
-pub record Tells {T : Type 0} (before after : ℕ) (result : Result T StoreFault) : Type 0 where
+-- A store tells a failure of its device only where its count of failures rose, and wherever it rose,
+-- unless the count of those that no code can tell rose too, which a store that tells each failure
+-- has none of. Want of memory is no failure.
+pub record Tells {T : Type 0} (tells : Bool) (before after untold_before untold_after : ℕ)
+    (result : Result T StoreFault) : Type 0 where
   pub rises : before ≤ after
-  pub told : before < after → IsErrOf result Device
+  pub untold : untold_before ≤ untold_after
+  pub honest : tells ≡ true → untold_after ≡ untold_before
+  pub told : untold_after ≡ untold_before → before < after → IsErrOf result Device
   pub only : IsErrOf result Device → before < after
+  pub memory : IsErrOf result NoMemory → after ≡ before

@@ -1,5 +1,5 @@
 -- What an order answers and leaves. Status and sense are those of SPC-4; residuals are own rules.
-use Rattle.std.specs.Prelude.{◌≡◌, ℕ, ◌-◌, ◌<◌, ◌≤◌, nat_lt, IsTrue, if◌then◌else◌, List, [], length, take, Some, None, unwrap_or}
+use Rattle.std.specs.Prelude.{◌≡◌, ◌⊎◌, ℕ, ◌-◌, ◌<◌, ◌≤◌, nat_lt, false, IsTrue, if◌then◌else◌, List, [], length as size, length, take, Some, None, unwrap_or}
 use Rattle.scsi_cdb.specs.declared.sense.Sense.{Sense}
 use Rattle.scsi_cdb.specs.declared.sense.Sense.TheVariants.{ReadError, WriteError}
 use Rattle.scsi_cdb.specs.declared.residual.Residual.{Residual}
@@ -84,15 +84,25 @@ IsSuppliedBy _ bytes = Unit {0}
 abbrev pub IsSupplied : ℕ → Order → List ℕ → Type 0
 IsSupplied count order bytes = IsSuppliedBy (plan_of order count) bytes
 
+-- GOOD, with as many bytes as are due, whatever they are
+abbrev pub HasOtherData : Disk → Order → ℕ → Outcome → Type 0
+HasOtherData disk order length outcome =
+    (bytes : List ℕ) × (size bytes ≡ length)
+    × (outcome ≡ good order (wanted_length order disk.count) bytes)
+
 -- What a failure of the store leaves: CHECK CONDITION, after a write with each block in range old
--- or new and no other changed, after a read with none changed.
+-- or new and no other changed, after a read with none changed; over a store that does not tell each
+-- failure also GOOD, after a read with any bytes.
 abbrev pub FailsBy : Plan → Disk → Order → List ℕ → Effect → Type 0
 FailsBy (Refuse sense) disk order bytes after = ⊥
 FailsBy (Take length) disk order bytes after =
-    (after.outcome ≡ check order WriteError)
+    ((after.outcome ≡ check order WriteError)
+    ⊎ ((disk.tells ≡ false) × (after.outcome ≡ good order length [])))
     × IsOldOrNew disk (written (transfer order.cdb).first bytes disk) after.disk
 FailsBy (Give length) disk order bytes after =
-    (after.outcome ≡ check order ReadError) × IsTrue (is_read order.cdb) × (after.disk ≡ disk)
+    ((after.outcome ≡ check order ReadError)
+    ⊎ ((disk.tells ≡ false) × HasOtherData disk order length after.outcome))
+    × IsTrue (is_read order.cdb) × (after.disk ≡ disk)
 
 -- An order was executed on a store, whose failures were counted before and after.
 pub record Executes (failures_before failures_after : ℕ) (disk : Disk) (order : Order)

@@ -1,5 +1,5 @@
 -- A store that keeps only what was written, in extents of 64 blocks.
-use Rattle.std.specs.Prelude.{◌≡◌, ℕ, ◌+◌, ◌/◌, ◌%◌, ◌^◌, ◌<◌, ◌≤◌, if◌then◌else◌, nat_lt, List, [], length, replicate, Option, Some, None, IsSome, refl}
+use Rattle.std.specs.Prelude.{◌≡◌, ℕ, ◌+◌, ◌/◌, ◌%◌, ◌^◌, ◌<◌, ◌≤◌, if◌then◌else◌, nat_lt, true, List, [], length, replicate, Option, Some, None, IsSome, refl}
 use Rattle.std.specs.Coded.{Coded, code_by, coded×, coded_ℕ, coded_list}
 use Rattle.std.specs.FinMap as map
 use Rattle.std.specs.Ordering.{nat_cmp}
@@ -27,6 +27,7 @@ abbrev pub disk_in : Extents → Disk
 disk_in s = record {
   count = s.count;
   block = λ n. if nat_lt n s.count then block_in 512 (get s.extents (n / 64)) (n % 64) else [];
+  tells = true;
 }
 
 -- there are 1 to 2^40 blocks, and each extent has 64

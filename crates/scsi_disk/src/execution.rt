@@ -2,8 +2,9 @@
 
 ghost use Rattle.std.specs.Prelude.{◌≡◌, ◌+◌, ◌*◌, ◌/◌, ◌<◌, ◌≤◌, length as size, take as front, OnOk, OnErr, IfOk, IsOk, IsErr, IsErrOf, IsTrue};
 ghost use Rattle.scsi_disk.specs.Disk.{Tells, IsOldOrNew, blocks_from, written};
+ghost use Rattle.scsi_disk.specs.Lasting.{Adds, Settled, Within};
 ghost use Rattle.scsi_disk.specs.Plan.{transfer, is_read, parameter_data, wanted_length, plan_of};
-ghost use Rattle.scsi_disk.specs.Effect.{Effect, IsSupplied, IsSuppliedBy, Executes, effect, residual_of, good, check, wanted_data, disk_by, outcome_by};
+ghost use Rattle.scsi_disk.specs.Effect.{Effect, IsSupplied, IsSuppliedBy, Executes, effect, residual_of, good, check, HasOtherData, wanted_data, disk_by, outcome_by};
 
 use crate::order::{Order, Outcome, Plan};
 use crate::planning::{
@@ -64,10 +65,13 @@ fn read_front<S: BlockStore>(
     length: u32,
 ) -> Result<Vec<u8>, StoreFault>
     requires { 512 * first + 512 * ((length + 511) / 512) ≤ 512 * (S.disk store.old).count }
-    ensures ok { IfOk result (λ v. v.items
+    ensures ok { IfOk result (λ v. S.failures store.new ≡ S.failures store.old → v.items
         ≡ front length (blocks_from (S.disk store.old) first ((length + 511) / 512))) }
+    ensures size { IfOk result (λ v. size v.items ≡ length) }
     ensures disk { S.disk store.new ≡ S.disk store.old }
-    ensures tells { Tells (S.failures store.old) (S.failures store.new) result }
+    ensures kept { Within (S.kept store.old) (S.kept store.new) }
+    ensures tells { Tells (S.disk store.old).tells (S.failures store.old) (S.failures store.new)
+        (S.untold store.old) (S.untold store.new) result }
 {
     let length = length as usize;
     let mut bytes = vec![in alloc; 0u8; 512 * ((length + 511) / 512)]?;
@@ -85,11 +89,16 @@ fn give<S: BlockStore>(
     store: &mut S,
 ) -> Result<Outcome, StoreFault>
     requires { plan_of order.now (S.disk store.old).count ≡ Plan.Give length }
-    ensures ok { IfOk result
-        (λ outcome. outcome ≡ outcome_by (Plan.Give length) (S.disk store.old) order.now) }
+    ensures ok { IfOk result (λ outcome. S.failures store.new ≡ S.failures store.old
+        → outcome ≡ outcome_by (Plan.Give length) (S.disk store.old) order.now) }
+    ensures untold { IfOk result (λ outcome. S.failures store.old < S.failures store.new
+        → IsTrue (is_read order.now.cdb)
+        × HasOtherData (S.disk store.old) order.now length outcome) }
     ensures disk { S.disk store.new ≡ S.disk store.old }
+    ensures kept { Within (S.kept store.old) (S.kept store.new) }
     ensures device { IsErrOf result StoreFault.Device → IsTrue (is_read order.now.cdb) }
-    ensures tells { Tells (S.failures store.old) (S.failures store.new) result }
+    ensures tells { Tells (S.disk store.old).tells (S.failures store.old) (S.failures store.new)
+        (S.untold store.old) (S.untold store.new) result }
 {
     let blocks = store.blocks();
     let wanted = wanted_length(order, blocks);
@@ -116,14 +125,19 @@ fn take<S: BlockStore>(
     requires supplied { size bytes.now ≡ length }
     ensures ok { IfOk result
         (λ outcome. outcome ≡ outcome_by (Plan.Take length) (S.disk store.old) order.now) }
-    ensures written { OnOk result
-        (S.disk store.new ≡ disk_by (Plan.Take length) (S.disk store.old) order.now bytes.now) }
+    ensures written { OnOk result (S.failures store.new ≡ S.failures store.old
+        → S.disk store.new ≡ disk_by (Plan.Take length) (S.disk store.old) order.now bytes.now) }
+    ensures lasts { OnOk result (S.failures store.new ≡ S.failures store.old
+        → Settled (S.disk store.new) (S.kept store.new)) }
     ensures count { (S.disk store.new).count ≡ (S.disk store.old).count }
     ensures no_memory { IsErrOf result StoreFault.NoMemory
-        → S.disk store.new ≡ S.disk store.old }
-    ensures device { IsErrOf result StoreFault.Device → IsOldOrNew (S.disk store.old)
+        → (S.disk store.new ≡ S.disk store.old) × Within (S.kept store.old) (S.kept store.new) }
+    ensures each { IsOldOrNew (S.disk store.old)
         (written (transfer order.now.cdb).first bytes.now (S.disk store.old)) (S.disk store.new) }
-    ensures tells { Tells (S.failures store.old) (S.failures store.new) result }
+    ensures kept { Adds (written (transfer order.now.cdb).first bytes.now (S.disk store.old))
+        (S.kept store.old) (S.kept store.new) }
+    ensures tells { Tells (S.disk store.old).tells (S.failures store.old) (S.failures store.new)
+        (S.untold store.old) (S.untold store.new) result }
 {
     store.write(transfer_of(&order.cdb).first, bytes)?;
     Ok(good(order, length, Vec::new(alloc)))
@@ -154,8 +168,12 @@ fn settled(
 /// Where the plan takes bytes, as many bytes are given; of another order they are not looked at.
 /// Where the device of the store does not fail, blocks and outcome are the effect of the order.
 /// Where it fails, the outcome is CHECK CONDITION with `ReadError` or `WriteError`; then each block
-/// of a WRITE is old or new, and no other has changed. An error says that memory ran out, and no
-/// block has changed.
+/// of a WRITE is old or new, and no other has changed. Over a store that cannot tell each failure
+/// the outcome may then be GOOD, after a READ with any bytes. An error says that memory ran out, and
+/// no block has changed.
+///
+/// Where a crash would have left the blocks and nothing else, it still does, if no failure was
+/// counted. A crash meanwhile leaves each block as it was or as the order leaves it.
 ///
 /// The data of a READ or WRITE are copied once. Status and sense are those of SPC-4, the residual
 /// is an own rule: what the command has is held against what the initiator expects.
@@ -171,6 +189,13 @@ pub fn execute<S: BlockStore>(
         (S.disk store.old) order.now bytes.now
         (record { disk = S.disk store.new; outcome = outcome })) }
     ensures count { (S.disk store.new).count ≡ (S.disk store.old).count }
+    // Where no failure was counted, what was answered lasts.
+    ensures lasts { S.failures store.new ≡ S.failures store.old
+        → Settled (S.disk store.old) (S.kept store.old)
+        → Settled (S.disk store.new) (S.kept store.new) }
+    // Whatever comes of it, a crash leaves each block old or new.
+    ensures crash { Adds (effect (S.disk store.old) order.now bytes.now).disk
+        (S.kept store.old) (S.kept store.new) }
     // Memory ran out.
     ensures err { OnErr result (S.disk store.new ≡ S.disk store.old) }
     ensures err_failures { OnErr result (S.failures store.new ≡ S.failures store.old) }
@@ -194,6 +219,11 @@ pub fn execute_planned<S: BlockStore>(
         (S.disk store.old) order.now bytes.now
         (record { disk = S.disk store.new; outcome = outcome })) }
     ensures count { (S.disk store.new).count ≡ (S.disk store.old).count }
+    ensures lasts { S.failures store.new ≡ S.failures store.old
+        → Settled (S.disk store.old) (S.kept store.old)
+        → Settled (S.disk store.new) (S.kept store.new) }
+    ensures crash { Adds (effect (S.disk store.old) order.now bytes.now).disk
+        (S.kept store.old) (S.kept store.new) }
     ensures err { OnErr result (S.disk store.new ≡ S.disk store.old) }
     ensures err_failures { OnErr result (S.failures store.new ≡ S.failures store.old) }
 {

@@ -1,6 +1,6 @@
 //! A store of which one call fails, for trying out what a failure does.
 
-ghost use Rattle.std.specs.Prelude.{◌≡◌, ◌+◌, ◌*◌, ◌/◌, ◌%◌, ◌≤◌, true, false, length, take, Some, OnOk, IsOk, IsErrOf};
+ghost use Rattle.std.specs.Prelude.{◌≡◌, refl, ◌+◌, ◌*◌, ◌/◌, ◌%◌, ◌≤◌, true, false, length, take, Some, OnOk, IsOk, IsErrOf};
 ghost use Rattle.scsi_disk.specs.Disk.{disk_of, blocks_from, written, IsOldOrNew, Tells};
 ghost use Rattle.scsi_disk.specs.FailAt.{disk_in, failures_in, is_next, later, passed};
 
@@ -65,6 +65,10 @@ impl BlockStore for FailAt {
 
     ghost failures = { failures_in };
 
+    ghost kept = { λ s n c. c ≡ (disk_in s).block n };
+
+    ghost stays = { λ s n. refl };
+
     fn blocks(&self) -> u64 {
         self.store.blocks()
     }
@@ -79,7 +83,7 @@ impl BlockStore for FailAt {
         ensures ok { OnOk result
             (out.new ≡ blocks_from (disk_in self.old) lba (length out.old / 512)) }
         ensures disk { disk_in self.new ≡ disk_in self.old }
-        ensures tells { Tells (failures_in self.old) (failures_in self.new) result }
+        ensures tells { Tells true (failures_in self.old) (failures_in self.new) 0 0 result }
         // It fails where it is the call that fails, and else works.
         ensures later { self.new.before ≡ later self.old.before }
         ensures fails { is_next self.old.before ≡ true → IsErrOf result StoreFault.Device }
@@ -99,7 +103,7 @@ impl BlockStore for FailAt {
             → disk_in self.new ≡ disk_in self.old }
         ensures device { IsErrOf result StoreFault.Device → IsOldOrNew (disk_in self.old)
             (written lba bytes.now (disk_in self.old)) (disk_in self.new) }
-        ensures tells { Tells (failures_in self.old) (failures_in self.new) result }
+        ensures tells { Tells true (failures_in self.old) (failures_in self.new) 0 0 result }
         // It fails where it is the call that fails, after its first block, and else works.
         ensures later { self.new.before ≡ later self.old.before }
         ensures fails { is_next self.old.before ≡ true → IsErrOf result StoreFault.Device }

@@ -15,7 +15,7 @@ mod store;
 pub use execution::{execute, execute_planned};
 pub use fail_at::FailAt;
 pub use laws::run_without_failures;
-pub use memory::MemoryStore;
+pub use memory::{MemoryStore, read_blocks, write_blocks};
 pub use order::{Order, Outcome, Plan};
 pub use planning::plan;
 pub use running::run_orders;

@@ -1,6 +1,6 @@
 //! A store that keeps each block in memory.
 
-ghost use Rattle.std.specs.Prelude.{◌≡◌, ◌+◌, ◌*◌, ◌/◌, ◌%◌, ◌^◌, ◌<◌, ◌≤◌, length, IsOk, IfOk};
+ghost use Rattle.std.specs.Prelude.{◌≡◌, refl, ◌+◌, ◌*◌, ◌/◌, ◌%◌, ◌^◌, ◌<◌, ◌≤◌, length, IsOk, IfOk};
 ghost use Rattle.scsi_disk.specs.Disk.{joined, overlaid, cut, zeros, disk_of, blocks_from, written};
 
 use crate::store::{BlockStore, StoreFault};
@@ -8,7 +8,7 @@ use std::alloc::{AllocError, Global};
 use std::marker::Model;
 
 /// Reads whole blocks of some bytes, from block `lba` on.
-pub(crate) fn read_blocks(bytes: &[u8], lba: usize, out: &mut [u8])
+pub fn read_blocks(bytes: &[u8], lba: usize, out: &mut [u8])
     requires whole { length out.old % 512 ≡ 0 }
     requires inside { 512 * lba + length out.old ≤ length bytes.now }
     ensures { out.new ≡ joined (cut 512 bytes.now) lba (length out.old / 512) }
@@ -18,7 +18,7 @@ pub(crate) fn read_blocks(bytes: &[u8], lba: usize, out: &mut [u8])
 }
 
 /// Writes whole blocks of some bytes, from block `lba` on.
-pub(crate) fn write_blocks(bytes: &mut [u8], lba: usize, contents: &[u8])
+pub fn write_blocks(bytes: &mut [u8], lba: usize, contents: &[u8])
     requires whole { length contents.now % 512 ≡ 0 }
     requires inside { 512 * lba + length contents.now ≤ length bytes.old }
     ensures { cut 512 bytes.new ≡ overlaid 512 lba contents.now (cut 512 bytes.old) }
@@ -60,6 +60,10 @@ impl BlockStore for MemoryStore {
     ghost disk = { disk_of };
 
     ghost failures = { λ _. 0 };
+
+    ghost kept = { λ s n c. c ≡ (disk_of s).block n };
+
+    ghost stays = { λ s n. refl };
 
     fn blocks(&self) -> u64 {
         (self.bytes.len() / 512) as u64

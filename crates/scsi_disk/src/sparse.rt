@@ -1,8 +1,9 @@
 //! A store that keeps only what was written.
 
-ghost use Rattle.std.specs.Prelude.{◌≡◌, ◌+◌, ◌*◌, ◌/◌, ◌%◌, ◌^◌, ◌<◌, ◌≤◌, length, ℕ, true, IsOk, IfOk, IsSome, OnOk, IsErrOf};
+ghost use Rattle.std.specs.Prelude.{◌≡◌, refl, ◌+◌, ◌*◌, ◌/◌, ◌%◌, ◌^◌, ◌<◌, ◌≤◌, length, ℕ, true, IsOk, IfOk, IsSome, OnOk, IsErrOf};
 ghost use Rattle.std.specs.FinMap.{get};
 ghost use Rattle.scsi_disk.specs.Disk.{Disk, most_blocks, zeros, blocks_from, written, cut, overlaid};
+ghost use Rattle.scsi_disk.specs.Lasting.{Within};
 ghost use Rattle.scsi_disk.specs.Sparse.{disk_in, IsBlank, HasBlocks};
 
 use crate::memory::{read_blocks, write_blocks};
@@ -198,6 +199,10 @@ impl BlockStore for SparseStore {
 
     ghost failures = { λ _. 0 };
 
+    ghost kept = { λ s n c. c ≡ (disk_in s).block n };
+
+    ghost stays = { λ s n. refl };
+
     fn blocks(&self) -> u64 {
         self.blocks
     }
@@ -212,6 +217,8 @@ impl BlockStore for SparseStore {
         ensures works { IsOk result }
         ensures read { out.new ≡ blocks_from (disk_in self.old) lba (length out.old / 512) }
         ensures disk { disk_in self.new ≡ disk_in self.old }
+        ensures kept { Within (λ n c. c ≡ (disk_in self.old).block n)
+            (λ n c. c ≡ (disk_in self.new).block n) }
     {
         prove!(lba <= self.blocks);
         let blocks = out.len() / 512;

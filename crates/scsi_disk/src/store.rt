@@ -1,7 +1,8 @@
 //! What a store of blocks does, and how it fails.
 
-ghost use Rattle.std.specs.Prelude.{◌≡◌, ℕ, ◌+◌, ◌*◌, ◌/◌, ◌%◌, ◌≤◌, length, OnOk, IsErrOf};
+ghost use Rattle.std.specs.Prelude.{◌≡◌, ℕ, List, ◌+◌, ◌*◌, ◌/◌, ◌%◌, ◌≤◌, length, OnOk, IsErrOf};
 ghost use Rattle.scsi_disk.specs.Disk.{Disk, IsDisk, blocks_from, written, IsOldOrNew, Tells};
+ghost use Rattle.scsi_disk.specs.Lasting.{Adds, Settled, Within};
 
 use std::alloc::AllocError;
 use thiserror::Error;
@@ -31,44 +32,65 @@ impl From<AllocError> for StoreFault {
 
 /// Blocks of 512 bytes, numbered from 0.
 ///
-/// Contracts see a store as the number of its blocks with the bytes of each, and as the number of
-/// times that its device failed.
+/// Contracts see a store as the number of its blocks with the bytes of each, as the number of times
+/// that its device failed, and as what each block may be after a crash, block by block. What they
+/// say of blocks is so where no failure was counted.
 pub trait BlockStore {
     /// What is stored, however it is kept.
     ghost disk: { Self → Disk };
 
-    /// How often the device failed.
+    /// How often the device failed, told or untold.
     ghost failures: { Self → ℕ };
+
+    /// How often it failed and told something else: a wrong answer, or a write that is not there.
+    ghost untold: { Self → ℕ } = { λ _. 0 };
+
+    /// What each block may be after a crash at this moment.
+    ghost kept: { Self → ℕ → List ℕ → Type 0 };
 
     /// How many blocks there are: at least 1, and always as many.
     fn blocks(&self) -> u64
         ensures count { result ≡ (disk self.now).count }
         ensures disk { IsDisk (disk self.now) };
 
-    /// How often the device failed.
+    /// How often the device failed and told it.
     fn failures(&self) -> u64
-        ensures { result ≡ failures self.now };
+        ensures { result + untold self.now ≡ failures self.now };
 
     /// Reads the whole blocks that `out` has room for, from block `lba` on. They lie inside the
-    /// store. `Device` comes exactly where `failures` rose. No block changes.
+    /// store. `Device` comes exactly where `failures` rose, but for a failure that no code can
+    /// tell. No block changes.
     fn read(&mut self, lba: u64, out: &mut [u8]) -> Result<(), StoreFault>
         requires whole { length out.old % 512 ≡ 0 }
         requires inside { 512 * lba + length out.old ≤ 512 * (disk self.old).count }
-        ensures ok { OnOk result
-            (out.new ≡ blocks_from (disk self.old) lba (length out.old / 512)) }
+        ensures ok { OnOk result (failures self.new ≡ failures self.old
+            → out.new ≡ blocks_from (disk self.old) lba (length out.old / 512)) }
         ensures disk { disk self.new ≡ disk self.old }
-        ensures tells { Tells (failures self.old) (failures self.new) result };
+        ensures kept { Within (kept self.old) (kept self.new) }
+        ensures tells { Tells (disk self.old).tells (failures self.old) (failures self.new)
+            (untold self.old) (untold self.new) result };
 
     /// Writes whole blocks, from block `lba` on. They lie inside the store.
     ///
-    /// After `NoMemory` no block has changed. `Device` comes exactly where `failures` rose; then
-    /// each block in range is old or new, and no other has changed.
+    /// After `NoMemory` no block has changed. `Device` comes exactly where `failures` rose, but for
+    /// a failure that no code can tell; then each block in range is old or new, and no other has
+    /// changed.
     fn write(&mut self, lba: u64, bytes: &[u8]) -> Result<(), StoreFault>
         requires whole { length bytes.now % 512 ≡ 0 }
         requires inside { 512 * lba + length bytes.now ≤ 512 * (disk self.old).count }
-        ensures ok { OnOk result (disk self.new ≡ written lba bytes.now (disk self.old)) }
-        ensures no_memory { IsErrOf result StoreFault.NoMemory → disk self.new ≡ disk self.old }
-        ensures device { IsErrOf result StoreFault.Device
-            → IsOldOrNew (disk self.old) (written lba bytes.now (disk self.old)) (disk self.new) }
-        ensures tells { Tells (failures self.old) (failures self.new) result };
+        ensures ok { OnOk result (failures self.new ≡ failures self.old
+            → disk self.new ≡ written lba bytes.now (disk self.old)) }
+        // What was answered well lasts.
+        ensures lasts { OnOk result (failures self.new ≡ failures self.old
+            → Settled (disk self.new) (kept self.new)) }
+        ensures no_memory { IsErrOf result StoreFault.NoMemory
+            → (disk self.new ≡ disk self.old) × Within (kept self.old) (kept self.new) }
+        ensures each { IsOldOrNew (disk self.old) (written lba bytes.now (disk self.old))
+            (disk self.new) }
+        ensures kept { Adds (written lba bytes.now (disk self.old)) (kept self.old) (kept self.new) }
+        ensures tells { Tells (disk self.old).tells (failures self.old) (failures self.new)
+            (untold self.old) (untold self.new) result };
+
+    /// A process that ends leaves what its device was given, so that is one of the outcomes.
+    ghost stays: { (s : Self) (n : ℕ) → kept s n ((disk s).block n) };
 }

@@ -9,7 +9,7 @@ use scsi_disk::{BlockStore, StoreFault};
 pub fn copy_block<S: BlockStore>(store: &mut S, from: u64, to: u64) -> Result<(), StoreFault>
     requires from { from < (S.disk store.old).count }
     requires to { to < (S.disk store.old).count }
-    ensures copied { OnOk result (S.disk store.new
+    ensures copied { OnOk result (S.failures store.new ≡ S.failures store.old → S.disk store.new
         ≡ written to (blocks_from (S.disk store.old) from 1) (S.disk store.old)) }
 {
     let mut block = [0; 512];

@@ -42,7 +42,7 @@ writes xs ys first count whole inside =
     record {
       bytes = put_mid (512 * first) (length ys) xs ys;
       is = same_disk _ _ (ap (λ (n : ℕ). n / 512) (length_put (512 * first) (length ys) xs ys refl room))
-          (cut-put 512 xs ys first count whole (omega (arith, room)));
+          (cut-put 512 xs ys first count whole (omega (arith, room))) refl;
     }
 
 -- what is written there is read there

@@ -1,14 +1,14 @@
 use Rattle.std.proofs.Common.{◌+◌, ◌++◌, ◌∷◌, [], ◌∙◌, refl, arith}
 use Rattle.std.proofs.lemmas.List.{take_all}
 use Rattle.scsi_disk.specs.Runs.{RunsSome}
-use Rattle.scsi_disk.proofs.RunLemmas.{on_err, ran_none, ran_next}
+use Rattle.scsi_disk.proofs.RunLemmas.{on_err, ran_none, ran_next, ran_rises}
 use Rattle.scsi_disk.proofs.running.run_orders.Goals as goal
 
 pub loop-order-init : goal.loop-order-init
 loop-order-init g c =
     let disk = g.S.BlockStore.disk in
     let failures = g.S.BlockStore.failures in
-    record { count = refl; ran = ran_none (failures c.args.store.now) (disk c.args.store.now) _ c.new-told.ensures.items }
+    record { count = refl; ran = ran_none (failures c.args.store.now) (disk c.args.store.now) _ c.new-told.ensures.items; lasts = λ same settled. settled }
 
 pub execute-requires : goal.execute-requires
 execute-requires g c =
@@ -57,7 +57,22 @@ loop-order-preserved g c =
     record {
       count = c.in_ok-outcome.ensures.count ∙ c.loop-order.invariant.count;
       ran = rw c.in_ok-push.ensures.items (ran_next orders i o (omega arith) c.loop-order-item.is _ _ _ _ _ _ _ c.loop-order.invariant.ran done);
+      lasts = λ same settled.
+          (let before = ran_rises _ _ _ _ _ _ c.loop-order.invariant.ran in
+          let after = done.rises in
+          c.in_ok-outcome.ensures.lasts (omega (arith, before, after, same)) (c.loop-order.invariant.lasts (omega (arith, before, after, same)) settled));
     }
 
 pub returns-clause-ok : goal.returns-clause-ok
 returns-clause-ok g c = rw (take_all c.loop-order.order-index c.args.orders.now (omega arith)) at c.loop-order.invariant.ran
+
+pub returns-in_err-outcome-clause-lasts : goal.returns-in_err-outcome-clause-lasts
+returns-in_err-outcome-clause-lasts g c = λ same settled.
+    let stayed = c.in_err-outcome.ensures.err_failures in
+    c.execute.ensures.lasts stayed (c.loop-order.invariant.lasts (omega (arith, stayed, same)) settled)
+
+pub returns-in_err-push-clause-lasts : goal.returns-in_err-push-clause-lasts
+returns-in_err-push-clause-lasts g c = λ same settled.
+    let before = ran_rises _ _ _ _ _ _ c.loop-order.invariant.ran in
+    let after = c.in_ok-outcome.ensures.ok.rises in
+    c.execute.ensures.lasts (omega (arith, before, after, same)) (c.loop-order.invariant.lasts (omega (arith, before, after, same)) settled)

@@ -1,0 +1,103 @@
+-- From what a store answered to what a command answers.
+use Rattle.std.proofs.Common.{◌≡◌, ◌<◌, ◌≤◌, ℕ, List, Bool, true, false, Result, Ok, Err, OnOk, IfOk, IsErr, IsErrOf, IsTrue, inl, inr, refl, sym, ap, ◌∙◌, subst, arith}
+use Rattle.std.proofs.lemmas.Bool.{false≢true}
+use Rattle.std.specs.declared.alloc.AllocError.{AllocError}
+use Rattle.scsi_cdb.specs.declared.sense.Sense.TheVariants.{ReadError, WriteError}
+use Rattle.scsi_disk.specs.declared.order.Order.{Order}
+use Rattle.scsi_disk.specs.declared.order.Outcome.{Outcome}
+use Rattle.scsi_disk.specs.declared.order.Plan.{Plan}
+use Rattle.scsi_disk.specs.declared.order.Plan.TheVariants.{Give, Take}
+use Rattle.scsi_disk.specs.declared.store.StoreFault.{StoreFault}
+use Rattle.scsi_disk.specs.declared.store.StoreFault.TheVariants.{Device, NoMemory}
+use Rattle.scsi_disk.specs.Disk.{Disk, IsOldOrNew, Tells, written}
+use Rattle.scsi_disk.specs.Lasting.{Settled, Within, Adds}
+use Rattle.scsi_disk.specs.Plan.{is_read, plan_of, transfer}
+use Rattle.scsi_disk.specs.Effect.{Effect, Executes, FailsBy, HasOtherData, effect, check, good, disk_by, outcome_by}
+
+-- a failure was counted and not told, so that the store does not tell each
+does_not_tell : {T : Type 0} (tells : Bool) (before after ub ua : ℕ) (result : Result T StoreFault) → Tells tells before after ub ua result → before < after
+    → (IsErrOf result Device → ⊥) → tells ≡ false
+does_not_tell true before after ub ua result t rose not = absurd (not (t.told (t.honest refl) rose))
+does_not_tell false before after ub ua result t rose not = refl
+
+not_err : {T : Type 0} (x : T) → IsErrOf (Ok x) Device → ⊥
+not_err x e = cc
+
+-- what was settled still is, where no block changed
+pub settled_on : (disk now : Disk) (old new : ℕ → List ℕ → Type 0) → now ≡ disk → Within old new → Settled disk old → Settled now new
+settled_on disk now old new same within settled = λ n bytes h. settled n bytes (within n bytes h) ∙ sym (ap (λ (d : Disk). d.block n) same)
+
+module _ (before after ub ua : ℕ) (disk now : Disk) (order : Order) (bytes : List ℕ) (length : ℕ) where
+  abbrev pub at : Outcome → Effect
+  at o = record { disk = now; outcome = o }
+
+  -- ---- a plan to give
+
+  module _ (plan : plan_of order disk.count ≡ Give length) (same : now ≡ disk) where
+    worked : (o : Outcome) → o ≡ outcome_by (Give length) disk order → at o ≡ effect disk order bytes
+    worked o e =
+        ap (λ (d : Disk). record { disk = d; outcome = o }) same
+        ∙ ap (λ (x : Outcome). record { disk = disk; outcome = x }) e
+        ∙ ap (λ (p : Plan). record { disk = disk_by p disk order bytes; outcome = outcome_by p disk order }) (sym plan)
+
+    failed : (o : Outcome) → FailsBy (Give length) disk order bytes (at o) → FailsBy (plan_of order disk.count) disk order bytes (at o)
+    failed o f = subst (λ (p : Plan). FailsBy p disk order bytes (at o)) (sym plan) f
+
+    pub gave : (answer : Result Outcome StoreFault) (result : Result Outcome AllocError)
+        → IfOk answer (λ o. after ≡ before → o ≡ outcome_by (Give length) disk order)
+        → IfOk answer (λ o. before < after → IsTrue (is_read order.cdb) × HasOtherData disk order length o)
+        → (IsErrOf answer Device → IsTrue (is_read order.cdb)) → Tells disk.tells before after ub ua answer
+        → IfOk answer (λ o. result ≡ Ok o) → (IsErrOf answer Device → IfOk result (λ o. o ≡ check order ReadError)) → (IsErrOf answer NoMemory → IsErr result)
+        → IfOk result (λ o. Executes before after disk order bytes (at o))
+    gave (Ok o) result works other read tells is device none =
+        subst (λ (r : Result Outcome AllocError). IfOk r (λ o. Executes before after disk order bytes (at o))) (sym is) (record {
+          rises = tells.rises;
+          works = λ e. worked o (works e);
+          fails = λ rose. failed o (inr (does_not_tell disk.tells before after ub ua (Ok o) tells rose (not_err o), (other rose).1), (other rose).0, same);
+        })
+    gave (Err Device) (Ok x) works other read tells is device none = record {
+      rises = tells.rises;
+      works = λ e. absurd (omega (arith, tells.only refl, e));
+      fails = λ rose. failed x (inl (device refl), read refl, same);
+    }
+    gave (Err NoMemory) (Ok x) works other read tells is device none = absurd (false≢true (none refl))
+    gave answer (Err f) works other read tells is device none = tt
+
+  -- ---- a plan to take
+
+  module _ (plan : plan_of order disk.count ≡ Take length) where
+    took_all : (o : Outcome) → o ≡ outcome_by (Take length) disk order → now ≡ disk_by (Take length) disk order bytes → at o ≡ effect disk order bytes
+    took_all o e same =
+        ap (λ (d : Disk). record { disk = d; outcome = o }) same
+        ∙ ap (λ (x : Outcome). record { disk = disk_by (Take length) disk order bytes; outcome = x }) e
+        ∙ ap (λ (p : Plan). record { disk = disk_by p disk order bytes; outcome = outcome_by p disk order }) (sym plan)
+
+    missed : (o : Outcome) → FailsBy (Take length) disk order bytes (at o) → FailsBy (plan_of order disk.count) disk order bytes (at o)
+    missed o f = subst (λ (p : Plan). FailsBy p disk order bytes (at o)) (sym plan) f
+
+    pub took : (answer : Result Outcome StoreFault) (result : Result Outcome AllocError)
+        → IfOk answer (λ o. o ≡ outcome_by (Take length) disk order)
+        → OnOk answer (after ≡ before → now ≡ disk_by (Take length) disk order bytes)
+        → IsOldOrNew disk (written (transfer order.cdb).first bytes disk) now → Tells disk.tells before after ub ua answer
+        → IfOk answer (λ o. result ≡ Ok o) → (IsErrOf answer Device → IfOk result (λ o. o ≡ check order WriteError)) → (IsErrOf answer NoMemory → IsErr result)
+        → IfOk result (λ o. Executes before after disk order bytes (at o))
+    took (Ok o) result works same each tells is device none =
+        subst (λ (r : Result Outcome AllocError). IfOk r (λ o. Executes before after disk order bytes (at o))) (sym is) (record {
+          rises = tells.rises;
+          works = λ e. took_all o works (same e);
+          fails = λ rose. missed o (inr (does_not_tell disk.tells before after ub ua (Ok o) tells rose (not_err o), works), each);
+        })
+    took (Err Device) (Ok x) works same each tells is device none = record {
+      rises = tells.rises;
+      works = λ e. absurd (omega (arith, tells.only refl, e));
+      fails = λ rose. missed x (inl (device refl), each);
+    }
+    took (Err NoMemory) (Ok x) works same each tells is device none = absurd (false≢true (none refl))
+    took answer (Err f) works same each tells is device none = tt
+
+  -- what was settled still is, where no failure was counted
+  pub took_settled : (old new : ℕ → List ℕ → Type 0) (answer : Result Outcome StoreFault) → OnOk answer (after ≡ before → Settled now new)
+      → (IsErrOf answer NoMemory → (now ≡ disk) × Within old new) → Tells disk.tells before after ub ua answer → after ≡ before → Settled disk old → Settled now new
+  took_settled old new (Ok o) lasts none tells same settled = lasts same
+  took_settled old new (Err Device) lasts none tells same settled = absurd (omega (arith, tells.only refl, same))
+  took_settled old new (Err NoMemory) lasts none tells same settled = settled_on disk now old new (none refl).0 (none refl).1 settled

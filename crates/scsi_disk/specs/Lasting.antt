@@ -1,0 +1,15 @@
+-- What a crash leaves of the blocks of a disk, each by itself.
+use Rattle.std.specs.Prelude.{◌≡◌, ◌⊎◌, ℕ, List}
+use Rattle.scsi_disk.specs.Disk.{Disk}
+
+-- a crash leaves this disk and no other
+abbrev pub Settled : Disk → (ℕ → List ℕ → Type 0) → Type 0
+Settled disk kept = (n : ℕ) (bytes : List ℕ) → kept n bytes → bytes ≡ disk.block n
+
+-- a crash leaves nothing that it would not have left before
+abbrev pub Within : (ℕ → List ℕ → Type 0) → (ℕ → List ℕ → Type 0) → Type 0
+Within old new = (n : ℕ) (bytes : List ℕ) → new n bytes → old n bytes
+
+-- a crash leaves of each block what it would have left before, or that of this disk
+abbrev pub Adds : Disk → (ℕ → List ℕ → Type 0) → (ℕ → List ℕ → Type 0) → Type 0
+Adds disk old new = (n : ℕ) (bytes : List ℕ) → new n bytes → old n bytes ⊎ (bytes ≡ disk.block n)

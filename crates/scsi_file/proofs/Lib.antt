@@ -1,0 +1,2 @@
+pub mod PastLemmas
+pub mod ZeroLemmas

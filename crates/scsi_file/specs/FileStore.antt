@@ -1,0 +1,12 @@
+-- What a store on a medium shows.
+use Rattle.std.specs.Prelude.{ℕ}
+use Rattle.scsi_file.specs.declared.file_store.FileStore.{FileStore}
+use Rattle.scsi_file.specs.declared.medium.Medium.{Ghosts}
+
+-- what the store keeps its blocks on
+abbrev pub medium_of : {M : Type 0} {g : Ghosts M} → FileStore M g → M
+medium_of s = s.medium
+
+-- how many of its calls failed
+abbrev pub failed_by : {M : Type 0} {g : Ghosts M} → FileStore M g → ℕ
+failed_by s = s.failed

@@ -1,0 +1,17 @@
+-- What a medium did and did not say.
+use Rattle.std.specs.Prelude.{◌≡◌, ◌≤◌, ℕ, Bool, true, false, Result, IsErrOf}
+use Rattle.scsi_disk.specs.declared.store.StoreFault.{StoreFault}
+use Rattle.scsi_disk.specs.declared.store.StoreFault.TheVariants.{NoMemory}
+use Rattle.scsi_disk.specs.Disk.{Disk}
+
+-- the same blocks, on a medium that does not tell each failure
+abbrev pub hiding : Disk → Disk
+hiding disk = record { count = disk.count; block = disk.block; tells = false }
+
+-- How often a medium did something else than it said, before a call and after it: never, where it
+-- tells each failure, and not at this call, where memory ran out.
+pub record Hides {T : Type 0} (tells : Bool) (before after : ℕ) (result : Result T StoreFault)
+    : Type 0 where
+  pub rises : before ≤ after
+  pub honest : tells ≡ true → after ≡ before
+  pub memory : IsErrOf result NoMemory → after ≡ before

@@ -1,0 +1,121 @@
+//! A store on a medium, each write of which is synced before it is answered.
+
+ghost use Rattle.std.specs.Prelude.{◌≡◌, ℕ, true, false, List, ◌+◌, ◌*◌, ◌/◌, ◌%◌, ◌<◌, ◌≤◌, length, OnOk, IfOk, IsErrOf, IsTrue};
+ghost use Rattle.scsi_disk.specs.Disk.{Disk, blocks_from, written};
+ghost use Rattle.scsi_disk.specs.Lasting.{Settled};
+
+use crate::medium::Medium;
+use scsi_disk::{BlockStore, StoreFault};
+
+/// A store on a medium: what it answered well lasts.
+///
+/// A write is synced before it is answered. After a sync that failed the medium is asked nothing
+/// more, and each call fails, since what was written may be lost with no further error.
+#[derive(Drop)]
+pub struct FileStore<M: Medium> {
+    medium: M,
+    failed: u64,
+    broken: bool,
+    ghost sound: { broken ≡ false → IsTrue (M.Medium.usable medium) },
+}
+
+impl<M: Medium + Drop> FileStore<M> {
+    ghost use Rattle.scsi_file.specs.FileStore.{medium_of, failed_by};
+
+    /// A store on a medium, all that a read of it gives being made to last first. The fault is that
+    /// this sync failed.
+    pub fn new(medium: M) -> Result<FileStore<M>, StoreFault>
+        requires { IsTrue (M.Medium.usable medium) }
+        ensures seen { IfOk result (λ store.
+            M.Medium.seen (medium_of store) ≡ M.Medium.seen medium) }
+        ensures settled { IfOk result (λ store.
+            M.Medium.untold (medium_of store) ≡ M.Medium.untold medium
+            → Settled (M.Medium.seen (medium_of store)) (M.Medium.kept (medium_of store))) }
+        ensures failed { IfOk result (λ store. failed_by store ≡ 0) }
+        ensures untold { IfOk result (λ store.
+            M.Medium.untold medium ≤ M.Medium.untold (medium_of store)) }
+    {
+        let mut medium = medium;
+        medium.sync()?;
+        Ok(FileStore {
+            medium,
+            failed: 0,
+            broken: false,
+        })
+    }
+}
+
+impl<M: Medium> FileStore<M> {
+    ghost use Rattle.scsi_file.specs.FileStore.{medium_of, failed_by};
+
+    /// The medium, as the store leaves it.
+    pub fn into_medium(self) -> M
+        ensures { result ≡ medium_of self }
+    {
+        self.medium
+    }
+
+    // Counts a failure.
+    fn fail(&mut self) -> StoreFault
+        requires { failed_by self.old < 18446744073709551615 }
+        ensures medium { medium_of self.new ≡ medium_of self.old }
+        ensures counted { failed_by self.new ≡ failed_by self.old + 1 }
+        ensures device { result ≡ StoreFault.Device }
+        ensures broken { self.new.broken ≡ self.old.broken }
+    {
+        self.failed += 1;
+        StoreFault::Device
+    }
+}
+
+impl<M: Medium> BlockStore for FileStore<M> {
+    ghost disk = { λ s. M.Medium.seen s.medium };
+
+    ghost failures = { λ s. s.failed + M.Medium.untold s.medium };
+
+    ghost untold = { λ s. M.Medium.untold s.medium };
+
+    ghost kept = { λ s. M.Medium.kept s.medium };
+
+    ghost stays = { λ s n. M.Medium.stays s.medium n };
+
+    fn blocks(&self) -> u64 {
+        self.medium.blocks()
+    }
+
+    fn failures(&self) -> u64 {
+        self.failed
+    }
+
+    fn read(&mut self, lba: u64, out: &mut [u8]) -> Result<(), StoreFault> {
+        if self.failed == u64::MAX {
+            return Err(StoreFault::NoMemory);
+        }
+        if self.broken {
+            return Err(self.fail());
+        }
+        match self.medium.read_at(lba, out) {
+            Err(StoreFault::Device) => Err(self.fail()),
+            answer => answer,
+        }
+    }
+
+    fn write(&mut self, lba: u64, bytes: &[u8]) -> Result<(), StoreFault> {
+        if self.failed == u64::MAX {
+            return Err(StoreFault::NoMemory);
+        }
+        if self.broken {
+            return Err(self.fail());
+        }
+        match self.medium.write_at(lba, bytes) {
+            Ok(()) => {}
+            Err(StoreFault::NoMemory) => return Err(StoreFault::NoMemory),
+            Err(StoreFault::Device) => return Err(self.fail()),
+        }
+        if self.medium.sync().is_err() {
+            self.broken = true;
+            return Err(self.fail());
+        }
+        Ok(())
+    }
+}

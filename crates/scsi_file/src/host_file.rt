@@ -1,0 +1,231 @@
+//! A file of the operating system as a medium.
+//!
+//! No contract says what a file keeps. So each of its calls counts as one that may have done
+//! something else than it said, and a crash may leave anything: what is proved of a store on it is
+//! that it asks the right things in the right order, and nothing more after a sync that failed.
+//! What is left to read is that each call below asks the system for what its name says.
+
+ghost use Rattle.std.specs.Prelude.{◌≡◌, true, ◌<◌, ◌≤◌, ◌*◌, ◌^◌, IfErr, IfOk, OnErr, OnOk};
+ghost use Rattle.scsi_disk.specs.Disk.{most_blocks};
+ghost use Rattle.scsi_file.specs.HostFile.{unknown};
+
+use crate::medium::Medium;
+use scsi_disk::{MOST_BLOCKS, StoreFault};
+use std::fs::{File, OpenOptions};
+use std::io::{self, ErrorKind, Seek, SeekFrom};
+use std::os::fd::AsRawFd;
+use std::os::unix::fs::{FileExt, FileTypeExt};
+use std::rt::Files;
+use thiserror::Error;
+
+/// Why an image is not served.
+#[derive(Clone, Copy, Debug, PartialEq, Eq, Error)]
+pub enum OpenFault {
+    /// It cannot be opened, measured or read.
+    #[error("cannot be opened")]
+    NotOpened,
+    /// It may be read alone.
+    #[error("may not be written")]
+    ReadOnly,
+    /// It is neither a regular file nor a block device.
+    #[error("is no disk image")]
+    NoImage,
+    /// Another process has it.
+    #[error("is in use")]
+    InUse,
+    /// It has no byte.
+    #[error("is empty")]
+    Empty,
+    /// It has no whole number of blocks of 512 bytes.
+    #[error("is not whole blocks")]
+    NotWhole,
+    /// It has more than 2^40 blocks.
+    #[error("is too large")]
+    TooLarge,
+    /// It is there already.
+    #[error("is there already")]
+    Exists,
+    /// It cannot be made at its size.
+    #[error("cannot be made")]
+    NotMade,
+    /// What an earlier process left in it cannot be made to last.
+    #[error("cannot be synced")]
+    NotSynced,
+}
+
+/// An image: a regular file or a block device, each 512 bytes of which are a block.
+#[derive(Drop)]
+pub struct HostFile {
+    file: File,
+    blocks: u64,
+    calls: u64,
+    ghost some: { 0 < blocks },
+    ghost few: { blocks ≤ most_blocks },
+}
+
+impl HostFile {
+    /// Opens an image that is there, cuts nothing, and takes it for this process alone. What an
+    /// earlier process left is synced, and the system's copies are dropped, since after a sync
+    /// that failed they may differ from the disk.
+    pub fn open(rt: &HostRuntime, path: &str) -> Result<HostFile, OpenFault> {
+        let mut how = File::options();
+        let file = match how.read(true).write(true).open(rt, path) {
+            Ok(file) => own(file)?,
+            Err(error) => return Err(not_opened(error)),
+        };
+        let bytes = measure(&file)?;
+        settle(&file)?;
+        HostFile::of(file, bytes)
+    }
+
+    /// Makes an image of so many blocks of 00, from 1 to 2^40, at its full size, where there is no
+    /// file; it and its name last.
+    pub fn create(rt: &HostRuntime, path: &str, blocks: u64) -> Result<HostFile, OpenFault>
+        requires some { 0 < blocks }
+        requires few { blocks ≤ most_blocks }
+    {
+        let mut how = File::options();
+        let file = match how.read(true).write(true).create_new(true).open(rt, path) {
+            Ok(file) => own(file)?,
+            Err(error) if error.kind() == ErrorKind::AlreadyExists => return Err(OpenFault::Exists),
+            Err(error) => return Err(not_opened(error)),
+        };
+        if file.set_len(512 * blocks).is_err() {
+            return Err(OpenFault::NotMade);
+        }
+        settle(&file)?;
+        match File::open(rt, folder_of(path)) {
+            Ok(folder) if folder.sync_all().is_ok() => HostFile::of(file, 512 * blocks),
+            _ => Err(OpenFault::NotSynced),
+        }
+    }
+
+    // An image of so many bytes.
+    fn of(file: File, bytes: u64) -> Result<HostFile, OpenFault> {
+        if bytes == 0 {
+            return Err(OpenFault::Empty);
+        }
+        if bytes % 512 != 0 {
+            return Err(OpenFault::NotWhole);
+        }
+        let blocks = bytes / 512;
+        if blocks > MOST_BLOCKS {
+            return Err(OpenFault::TooLarge);
+        }
+        Ok(HostFile {
+            file,
+            blocks,
+            calls: 0,
+        })
+    }
+
+    // Counts a call; after 2^64 of them there are none.
+    fn count(&mut self) -> Result<(), StoreFault>
+        ensures counted { OnOk result (self.old.calls < self.new.calls) }
+        ensures kept { self.old.calls ≤ self.new.calls }
+        ensures blocks { self.new.blocks ≡ self.old.blocks }
+        ensures same { OnErr result (self.new.calls ≡ self.old.calls) }
+        ensures err { IfErr result (λ fault. fault ≡ StoreFault.NoMemory) }
+    {
+        if self.calls == u64::MAX {
+            return Err(StoreFault::NoMemory);
+        }
+        self.calls += 1;
+        Ok(())
+    }
+}
+
+// Takes a file for this process alone.
+fn own(file: File) -> Result<File, OpenFault> {
+    if file.try_lock().is_err() {
+        return Err(OpenFault::InUse);
+    }
+    Ok(file)
+}
+
+// How many bytes an image has. The length that the system tells of a block device is 0, so there
+// the end is looked for.
+fn measure(mut file: &File) -> Result<u64, OpenFault> {
+    let Ok(about) = file.metadata() else {
+        return Err(OpenFault::NotOpened);
+    };
+    if about.is_file() {
+        return Ok(about.len());
+    }
+    if !about.file_type().is_block_device() {
+        return Err(OpenFault::NoImage);
+    }
+    match file.seek(SeekFrom::End(0)) {
+        Ok(end) => Ok(end),
+        Err(_) => Err(OpenFault::NotOpened),
+    }
+}
+
+// Makes all that was written to a file last, and drops the system's copies of it.
+fn settle(file: &File) -> Result<(), OpenFault> {
+    if file.sync_all().is_err()
+        || libc::posix_fadvise(file.as_raw_fd(), 0, 0, libc::POSIX_FADV_DONTNEED) != 0
+    {
+        return Err(OpenFault::NotSynced);
+    }
+    Ok(())
+}
+
+// The folder that a file is in.
+fn folder_of(path: &str) -> &str {
+    match path.rsplit_once('/') {
+        None => ".",
+        Some(("", _)) => "/",
+        Some((folder, _)) => folder,
+    }
+}
+
+// Why a file was not opened.
+fn not_opened(error: io::Error) -> OpenFault {
+    match error.kind() {
+        ErrorKind::PermissionDenied | ErrorKind::ReadOnlyFilesystem => OpenFault::ReadOnly,
+        ErrorKind::IsADirectory => OpenFault::NoImage,
+        _ => OpenFault::NotOpened,
+    }
+}
+
+// What the system answered.
+fn told(answer: io::Result<()>) -> Result<(), StoreFault>
+    ensures { IfErr result (λ fault. fault ≡ StoreFault.Device) }
+{
+    match answer {
+        Ok(()) => Ok(()),
+        Err(_) => Err(StoreFault::Device),
+    }
+}
+
+impl Medium for HostFile {
+    ghost seen = { λ s. unknown s.blocks };
+
+    ghost kept = { λ s n c. Unit {0} };
+
+    ghost usable = { λ _. true };
+
+    ghost untold = { λ s. s.calls };
+
+    ghost stays = { λ s n. tt };
+
+    fn blocks(&self) -> u64 {
+        self.blocks
+    }
+
+    fn read_at(&mut self, lba: u64, out: &mut [u8]) -> Result<(), StoreFault> {
+        self.count()?;
+        told(self.file.read_exact_at(out, 512 * lba))
+    }
+
+    fn write_at(&mut self, lba: u64, bytes: &[u8]) -> Result<(), StoreFault> {
+        self.count()?;
+        told(self.file.write_all_at(bytes, 512 * lba))
+    }
+
+    fn sync(&mut self) -> Result<(), StoreFault> {
+        self.count()?;
+        told(self.file.sync_data())
+    }
+}

@@ -1,0 +1,154 @@
+//! Writes cut off at each call of the medium, and each mixture of old and new blocks after that.
+
+use super::{letters, read, same, spelled, write};
+use scsi_disk::StoreFault;
+use scsi_file::{CrashMemory, FileStore, StopsAt};
+use std::alloc::{AllocError, Global};
+use std::process::Abort;
+use std::test::Fail;
+
+/// What comes of two writes, of `XY` to blocks 2 and 3 and of `Z` to block 3, where a medium stops
+/// after so many calls: a store syncs it as it begins, and each write asks it for a write and a
+/// sync.
+struct Row {
+    calls: u64,
+    answers: [Result<(), StoreFault>; 2],
+    /// What the medium has, if nothing crashes.
+    seen: &'static [u8; 8],
+    /// What a crash may leave.
+    outcomes: &'static [&'static [u8; 8]],
+}
+
+const FAILED: Result<(), StoreFault> = Err(StoreFault::Device);
+
+const ROWS: &[Row] = &[
+    Row {
+        calls: 0,
+        answers: [FAILED, FAILED],
+        seen: b"abcdefgh",
+        outcomes: &[b"abcdefgh"],
+    },
+    Row {
+        calls: 1,
+        answers: [FAILED, FAILED],
+        seen: b"abcdefgh",
+        outcomes: &[b"abcdefgh"],
+    },
+    Row {
+        calls: 2,
+        answers: [FAILED, FAILED],
+        seen: b"abXYefgh",
+        outcomes: &[b"abcdefgh", b"abXdefgh", b"abcYefgh", b"abXYefgh"],
+    },
+    Row {
+        calls: 3,
+        answers: [Ok(()), FAILED],
+        seen: b"abXYefgh",
+        outcomes: &[b"abXYefgh"],
+    },
+    Row {
+        calls: 4,
+        answers: [Ok(()), FAILED],
+        seen: b"abXZefgh",
+        outcomes: &[b"abXYefgh", b"abXZefgh"],
+    },
+    Row {
+        calls: 5,
+        answers: [Ok(()), Ok(())],
+        seen: b"abXZefgh",
+        outcomes: &[b"abXZefgh"],
+    },
+];
+
+/// The medium that the two writes leave, with their answers.
+fn written(
+    alloc: Global,
+    calls: u64,
+) -> Result<(Option<CrashMemory>, [Result<(), StoreFault>; 2]), AllocError> {
+    let medium = StopsAt::new(letters(alloc)?, calls);
+    match FileStore::new(medium) {
+        Err(fault) => Ok((None, [Err(fault), Err(fault)])),
+        Ok(mut store) => {
+            let first = write(&mut store, 2, b"XY");
+            let second = write(&mut store, 3, b"Z");
+            Ok((Some(store.into_medium().into_medium()), [first, second]))
+        }
+    }
+}
+
+/// Which outcome of the row a crash leaves, by how far each of blocks 2 and 3 goes back, and whether
+/// a store on what is left reads just that.
+fn crashed(
+    alloc: Global,
+    row: &Row,
+    second: usize,
+    third: usize,
+) -> Result<Option<(usize, bool)>, AllocError> {
+    let (Some(mut medium), _) = written(alloc, row.calls)? else {
+        return Ok(None);
+    };
+    medium.crash(&[0, 0, second, third]);
+    let left = spelled(medium.bytes());
+    let place = place_of(row.outcomes, &left);
+    let again = match FileStore::new(medium) {
+        Err(_) => false,
+        Ok(mut store) => read(&mut store) == Ok(left),
+    };
+    Ok(Some((place, again)))
+}
+
+/// The place of an outcome, and the number of them where it is none.
+fn place_of(outcomes: &[&[u8; 8]], left: &[u8; 8]) -> usize {
+    let mut place = 0;
+    for outcome in outcomes {
+        if *outcome == left {
+            return place;
+        }
+        if place < outcomes.len() {
+            place += 1;
+        }
+    }
+    place
+}
+
+#[test]
+fn each_write_is_cut_off_at_each_call(rt: HostRuntime) -> Result<(), Fail> {
+    for row in ROWS {
+        let (medium, answers) = written(rt.alloc(), row.calls)?;
+        same(&rt, &answers, &row.answers, &row.calls);
+        if let Some(medium) = medium {
+            same(&rt, &spelled(medium.bytes()), row.seen, &row.calls);
+        }
+    }
+    Ok(())
+}
+
+/// Asserts that a crash leaves each outcome of the row, and no other.
+fn check_crashes(rt: &impl Abort, alloc: Global, row: &Row) -> Result<(), AllocError> {
+    let mut reached = [false; 4];
+    for back in 0..9 {
+        if let Some((place, again)) = crashed(alloc, row, back / 3, back % 3)? {
+            same(rt, &(place < row.outcomes.len()), &true, &(row.calls, back));
+            same(rt, &again, &true, &(row.calls, back));
+            if let Some(is) = reached.get_mut(place) {
+                *is = true;
+            }
+        }
+    }
+    let count = reached.iter().filter(|is| **is).count();
+    let due = if row.calls == 0 {
+        0
+    } else {
+        row.outcomes.len()
+    };
+    same(rt, &count, &due, &row.calls);
+    Ok(())
+}
+
+#[test]
+fn a_crash_leaves_each_mixture_and_nothing_else(rt: HostRuntime) -> Result<(), Fail> {
+    for row in ROWS {
+        check_crashes(&rt, rt.alloc(), row)?;
+    }
+    Ok(())
+}

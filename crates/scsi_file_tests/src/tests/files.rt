@@ -1,0 +1,108 @@
+//! Images: what is refused, and what is kept.
+
+use super::{read, same, write};
+use scsi_disk::{BlockStore, StoreFault};
+use scsi_file::{FileStore, HostFile, OpenFault};
+use std::test::Fail;
+
+/// What a file has, and why it is no image.
+const REFUSED: &[(&str, &[u8], OpenFault)] = &[
+    ("empty.img", b"", OpenFault::Empty),
+    ("half.img", &[0; 256], OpenFault::NotWhole),
+    ("block-and-a-byte.img", &[0; 513], OpenFault::NotWhole),
+];
+
+/// The fault of opening an image, which is dropped again.
+fn fault_of(rt: &HostRuntime, path: &str) -> Option<OpenFault> {
+    HostFile::open(rt, path).err()
+}
+
+#[test]
+fn what_is_no_image_is_refused(rt: HostRuntime) -> Result<(), Fail> {
+    for (path, bytes, due) in REFUSED {
+        assert!(rt; std::fs::write(&rt, *path, *bytes).is_ok());
+        same(&rt, &fault_of(&rt, path), &Some(*due), path);
+        let _ = std::fs::remove_file(&rt, *path);
+    }
+    same(
+        &rt,
+        &fault_of(&rt, "missing.img"),
+        &Some(OpenFault::NotOpened),
+        &"missing",
+    );
+    same(
+        &rt,
+        &fault_of(&rt, "/dev/null"),
+        &Some(OpenFault::NoImage),
+        &"/dev/null",
+    );
+    same(
+        &rt,
+        &fault_of(&rt, "."),
+        &Some(OpenFault::NoImage),
+        &"folder",
+    );
+    Ok(())
+}
+
+#[test]
+fn an_image_has_one_owner(rt: HostRuntime) -> Result<(), Fail> {
+    let path = "owned.img";
+    let _ = std::fs::remove_file(&rt, path);
+    let Ok(first) = HostFile::create(&rt, path, 8) else {
+        panic!(rt; "not made");
+    };
+    same(
+        &rt,
+        &fault_of(&rt, path),
+        &Some(OpenFault::InUse),
+        &"a second owner",
+    );
+    same(
+        &rt,
+        &HostFile::create(&rt, path, 8).err(),
+        &Some(OpenFault::Exists),
+        &"made twice",
+    );
+    drop(first);
+    same(&rt, &fault_of(&rt, path), &None, &"after the first");
+    let _ = std::fs::remove_file(&rt, path);
+    Ok(())
+}
+
+/// Opens an image as a store, reads its first 8 blocks, and writes two.
+fn use_image(rt: &HostRuntime, path: &str) -> Option<([u8; 8], Result<(), StoreFault>, u64)> {
+    let Ok(medium) = HostFile::open(rt, path) else {
+        return None;
+    };
+    let Ok(mut store) = FileStore::new(medium) else {
+        return None;
+    };
+    let Ok(before) = read(&mut store) else {
+        return None;
+    };
+    let answer = write(&mut store, 6, b"yz");
+    Some((before, answer, store.blocks()))
+}
+
+#[test]
+fn an_image_keeps_what_was_written(rt: HostRuntime) -> Result<(), Fail> {
+    let path = "kept.img";
+    let _ = std::fs::remove_file(&rt, path);
+    assert!(rt; HostFile::create(&rt, path, 9).is_ok());
+    same(
+        &rt,
+        &use_image(&rt, path),
+        &Some(([0; 8], Ok(()), 9)),
+        &"new",
+    );
+    let after = *b"\0\0\0\0\0\0yz";
+    same(
+        &rt,
+        &use_image(&rt, path),
+        &Some((after, Ok(()), 9)),
+        &"opened again",
+    );
+    let _ = std::fs::remove_file(&rt, path);
+    Ok(())
+}
