@@ -9,6 +9,7 @@ ghost use Rattle.iscsi_target.specs.Machine.{is_closed};
 ghost use Rattle.iscsi_target.specs.Feed.{opening_connection, Feeds, FeedsNext, Fed, FedNext, Finishes, HasAnswered};
 ghost use Rattle.iscsi_target_session.specs.Configured.{Settings};
 ghost use Rattle.scsi_disk.specs.Disk.{Disk};
+ghost use Rattle.scsi_disk.specs.Lasting.{Settled};
 ghost use Rattle.iscsi_target.specs.Inside.{connection, store_of, target_fault, AnswersReady, ShutsReady, RestFails, TakesOne, FailsOne};
 
 use crate::fault::TargetFault;
@@ -84,6 +85,8 @@ impl Target {
             → HasAnswered settings n disk stream self.old (S.disk store.old) out.old.items
             → HasAnswered settings n disk (stream ++ piece.now) self.new (S.disk store.new)
             out.new.items }
+        // A crash leaves the blocks that the answered commands led to, and no others.
+        ensures lasts { S.failures store.new ≡ 0 → Settled (S.disk store.new) (S.kept store.new) }
     {
         if self.machine.is_closed() {
             return Err(TargetFault::Closed);
@@ -104,6 +107,8 @@ impl Target {
         ensures fed { FedNext self.old (store_of (S.disk store.old) (S.failures store.old))
             out.old.items piece.now result self.new
             (store_of (S.disk store.new) (S.failures store.new)) out.new.items }
+        // A crash leaves the blocks that the answered commands led to, and no others.
+        ensures lasts { S.failures store.new ≡ 0 → Settled (S.disk store.new) (S.kept store.new) }
     {
         if self.machine.is_closed() {
             return Err(TargetFault::Closed);
