@@ -39,8 +39,7 @@ impl Machine {
             result self.old (store_of (S.disk store.old) (S.failures store.old)) out.old.items
             self.new (store_of (S.disk store.new) (S.failures store.new)) out.new.items }
         ensures crash { Crashes ((order_of command.now, bytes.now) ∷ [])
-            (S.disk store.old) (S.disk store.new)
-            (S.kept store.old) (S.kept store.new) }
+            (S.disk store.old) (S.disk store.new) (S.kept store.old) (S.kept store.new) }
     {
         if self.breaks_burst_rules(command, bytes.len()) {
             return self.breach(DATA_OUT_OF_ORDER, received, out);
@@ -119,8 +118,7 @@ impl Machine {
             result self.old (store_of (S.disk store.old) (S.failures store.old)) out.old.items
             self.new (store_of (S.disk store.new) (S.failures store.new)) out.new.items }
         ensures crash { Crashes []
-            (S.disk store.old) (S.disk store.new)
-            (S.kept store.old) (S.kept store.new) }
+            (S.disk store.old) (S.disk store.new) (S.kept store.old) (S.kept store.new) }
     {
         let outcome = execute_planned(*out.allocator(), &order, planned, &[], store)?;
         self.send_outcome(tag, &outcome, out)?;

@@ -41,8 +41,7 @@ impl Machine {
             result self.old (store_of (S.disk store.old) (S.failures store.old)) out.old.items
             self.new (store_of (S.disk store.new) (S.failures store.new)) out.new.items }
         ensures crash { Crashes (commands_at self.old (S.disk store.old).count received.now)
-            (S.disk store.old) (S.disk store.new)
-            (S.kept store.old) (S.kept store.new) }
+            (S.disk store.old) (S.disk store.new) (S.kept store.old) (S.kept store.new) }
     {
         match self.phase() {
             Phase::Login => self.log_in(received, out),
@@ -76,9 +75,9 @@ impl Machine {
         ensures follows { Follows (full_met self.old (S.disk store.old).count received.now).next
             result self.old (store_of (S.disk store.old) (S.failures store.old)) out.old.items
             self.new (store_of (S.disk store.new) (S.failures store.new)) out.new.items }
-        ensures crash { Crashes (commands_by (full_met self.old (S.disk store.old).count received.now).next)
-            (S.disk store.old) (S.disk store.new)
-            (S.kept store.old) (S.kept store.new) }
+        ensures crash { Crashes
+            (commands_by (full_met self.old (S.disk store.old).count received.now).next)
+            (S.disk store.old) (S.disk store.new) (S.kept store.old) (S.kept store.new) }
     {
         if !self.is_due_kind(&received.pdu.head) {
             return self.breach(KIND_NOT_DUE, received, out);
@@ -122,9 +121,10 @@ impl Machine {
         ensures follows { Follows (due_met self.old (S.disk store.old).count received.now received.now.head).next
             result self.old (store_of (S.disk store.old) (S.failures store.old)) out.old.items
             self.new (store_of (S.disk store.new) (S.failures store.new)) out.new.items }
-        ensures crash { Crashes (commands_by (due_met self.old (S.disk store.old).count received.now received.now.head).next)
-            (S.disk store.old) (S.disk store.new)
-            (S.kept store.old) (S.kept store.new) }
+        ensures crash { Crashes
+            (commands_by (due_met self.old (S.disk store.old).count received.now
+            received.now.head).next)
+            (S.disk store.old) (S.disk store.new) (S.kept store.old) (S.kept store.new) }
     {
         let (immediate, cmd_sn) = match &received.pdu.head {
             Head::DataOut(head) => return self.data_out(
@@ -168,9 +168,9 @@ impl Machine {
         ensures follows { Follows (immediate self.old (S.disk store.old).count received.now).next
             result self.old (store_of (S.disk store.old) (S.failures store.old)) out.old.items
             self.new (store_of (S.disk store.new) (S.failures store.new)) out.new.items }
-        ensures crash { Crashes (commands_by (immediate self.old (S.disk store.old).count received.now).next)
-            (S.disk store.old) (S.disk store.new)
-            (S.kept store.old) (S.kept store.new) }
+        ensures crash { Crashes
+            (commands_by (immediate self.old (S.disk store.old).count received.now).next)
+            (S.disk store.old) (S.disk store.new) (S.kept store.old) (S.kept store.new) }
     {
         if self.tasks.len() > 0 {
             return self.reject(TOO_MANY_IMMEDIATE, received, out);
@@ -193,9 +193,9 @@ impl Machine {
         ensures follows { Follows (in_turn self.old (S.disk store.old).count received.now cmd_sn).next
             result self.old (store_of (S.disk store.old) (S.failures store.old)) out.old.items
             self.new (store_of (S.disk store.new) (S.failures store.new)) out.new.items }
-        ensures crash { Crashes (commands_by (in_turn self.old (S.disk store.old).count received.now cmd_sn).next)
-            (S.disk store.old) (S.disk store.new)
-            (S.kept store.old) (S.kept store.new) }
+        ensures crash { Crashes
+            (commands_by (in_turn self.old (S.disk store.old).count received.now cmd_sn).next)
+            (S.disk store.old) (S.disk store.new) (S.kept store.old) (S.kept store.new) }
     {
         if !self.is_within(cmd_sn) {
             return Ok(None);
@@ -268,9 +268,9 @@ impl Machine {
             (self.old.tasks ++ task_of (S.disk store.old).count received.now ∷ [])
             result (store_of (S.disk store.old) (S.failures store.old)) out.old.items
             self.new (store_of (S.disk store.new) (S.failures store.new)) out.new.items }
-        ensures crash { Crashes (commands_of (self.old.tasks ++ task_of (S.disk store.old).count received.now ∷ []))
-            (S.disk store.old) (S.disk store.new)
-            (S.kept store.old) (S.kept store.new) }
+        ensures crash { Crashes
+            (commands_of (self.old.tasks ++ task_of (S.disk store.old).count received.now ∷ []))
+            (S.disk store.old) (S.disk store.new) (S.kept store.old) (S.kept store.new) }
     {
         if self.tasks.len() == 0 {
             return self.handle(received, store, out);
@@ -325,8 +325,7 @@ impl Machine {
             result (store_of (S.disk store.old) (S.failures store.old)) out.old.items
             self.new (store_of (S.disk store.new) (S.failures store.new)) out.new.items }
         ensures crash { Crashes (commands_of self.old.tasks)
-            (S.disk store.old) (S.disk store.new)
-            (S.kept store.old) (S.kept store.new) }
+            (S.disk store.old) (S.disk store.new) (S.kept store.old) (S.kept store.new) }
     {
         while let Some(task) = self.tasks.take_first() {
             let behind = self.tasks.len();
@@ -351,8 +350,7 @@ impl Machine {
             result self.old (store_of (S.disk store.old) (S.failures store.old)) out.old.items
             self.new (store_of (S.disk store.new) (S.failures store.new)) out.new.items }
         ensures crash { Crashes (command_of task)
-            (S.disk store.old) (S.disk store.new)
-            (S.kept store.old) (S.kept store.new) }
+            (S.disk store.old) (S.disk store.new) (S.kept store.old) (S.kept store.new) }
     {
         match task {
             Task::Request(kept) => self.handle(&kept.received(), store, out),
@@ -374,8 +372,7 @@ impl Machine {
             result self.old (store_of (S.disk store.old) (S.failures store.old)) out.old.items
             self.new (store_of (S.disk store.new) (S.failures store.new)) out.new.items }
         ensures crash { Crashes (command_in received.now.head (segment_bytes received.now.segment))
-            (S.disk store.old) (S.disk store.new)
-            (S.kept store.old) (S.kept store.new) }
+            (S.disk store.old) (S.disk store.new) (S.kept store.old) (S.kept store.new) }
     {
         match &received.pdu.head {
             Head::ScsiCommand(head) => self.scsi_command(

@@ -51,8 +51,7 @@ impl Machine {
             result self.old (store_of (S.disk store.old) (S.failures store.old)) out.old.items
             self.new (store_of (S.disk store.new) (S.failures store.new)) out.new.items }
         ensures crash { Crashes ((order_of command.now, bytes.now) ∷ [])
-            (S.disk store.old) (S.disk store.new)
-            (S.kept store.old) (S.kept store.new) }
+            (S.disk store.old) (S.disk store.new) (S.kept store.old) (S.kept store.new) }
     {
         let write = opened(*out.allocator(), command, total, bytes)?;
         self.proceed(write, store, out)
@@ -72,8 +71,7 @@ impl Machine {
             result self.old (store_of (S.disk store.old) (S.failures store.old)) out.old.items
             self.new (store_of (S.disk store.new) (S.failures store.new)) out.new.items }
         ensures crash { Crashes ((write.order, data_of write.pieces) ∷ [])
-            (S.disk store.old) (S.disk store.new)
-            (S.kept store.old) (S.kept store.new) }
+            (S.disk store.old) (S.disk store.new) (S.kept store.old) (S.kept store.new) }
     {
         if write.is_whole() {
             return self.execute_write(&write, store, out);
@@ -99,8 +97,7 @@ impl Machine {
             result self.old (store_of (S.disk store.old) (S.failures store.old)) out.old.items
             self.new (store_of (S.disk store.new) (S.failures store.new)) out.new.items }
         ensures crash { Crashes ((write.now.order, data_of write.now.pieces) ∷ [])
-            (S.disk store.old) (S.disk store.new)
-            (S.kept store.old) (S.kept store.new) }
+            (S.disk store.old) (S.disk store.new) (S.kept store.old) (S.kept store.new) }
     {
         out.reserve(RESPONSE_LEN)?;
         let outcome = execute(*out.allocator(), &write.order, &write.data, store)?;
@@ -169,8 +166,7 @@ impl Machine {
             result self.old (store_of (S.disk store.old) (S.failures store.old)) out.old.items
             self.new (store_of (S.disk store.new) (S.failures store.new)) out.new.items }
         ensures crash { Crashes (commands_by (data_out self.old received.now head.now bytes.now))
-            (S.disk store.old) (S.disk store.new)
-            (S.kept store.old) (S.kept store.new) }
+            (S.disk store.old) (S.disk store.new) (S.kept store.old) (S.kept store.new) }
     {
         let Some((place, write)) = self.tasks.take_write(head.initiator_task_tag) else {
             return Ok(None);

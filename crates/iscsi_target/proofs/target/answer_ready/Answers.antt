@@ -53,22 +53,28 @@ pub returns-in-Ok-clause-crash : goal.returns-in-Ok-clause-crash
 returns-in-Ok-clause-crash g c =
     let continued : c.continued.result ≡ continues c.args.framer.now.logins c.in-Some.pdu.head = search rules in
     let same : message c.continued.result c.in-Some.pdu.head c.in-Some.pdu.bytes.now
-    ≡ message_of c.args.framer.now c.in-Some.pdu.head c.in-Some.pdu.bytes.now = ap (λ (b : Bool). message b c.in-Some.pdu.head c.in-Some.pdu.bytes.now) continued in
+    ≡ message_of c.args.framer.now c.in-Some.pdu.head c.in-Some.pdu.bytes.now = ap (λ
+    (b : Bool). message b c.in-Some.pdu.head c.in-Some.pdu.bytes.now) continued in
     inr (
       c.in-Some.pdu.head,
       c.in-Some.pdu.bytes.now,
       c.in-Some.ensures.means,
-      subst (λ (x : Message). Crashes (commands_at c.args.machine.now (g.S.BlockStore.disk c.args.store.now).count x) (g.S.BlockStore.disk c.args.store.now) (g.S.BlockStore.disk c.answer_pdu.new.store) (g.S.BlockStore.kept c.args.store.now) (g.S.BlockStore.kept c.answer_pdu.new.store)) same c.answer_pdu.ensures.crash,
+      subst (λ (x : Message). Crashes (commands_at c.args.machine.now (g.S.BlockStore.disk c.args.store.now).count x)
+          (g.S.BlockStore.disk c.args.store.now) (g.S.BlockStore.disk c.answer_pdu.new.store) (g.S.BlockStore.kept c.args.store.now)
+          (g.S.BlockStore.kept c.answer_pdu.new.store)) same c.answer_pdu.ensures.crash,
     )
 
 pub returns-in-Err-clause-crash : goal.returns-in-Err-clause-crash
 returns-in-Err-clause-crash g c =
     let continued : c.continued.result ≡ continues c.args.framer.now.logins c.in-Some.pdu.head = search rules in
     let same : message c.continued.result c.in-Some.pdu.head c.in-Some.pdu.bytes.now
-    ≡ message_of c.args.framer.now c.in-Some.pdu.head c.in-Some.pdu.bytes.now = ap (λ (b : Bool). message b c.in-Some.pdu.head c.in-Some.pdu.bytes.now) continued in
+    ≡ message_of c.args.framer.now c.in-Some.pdu.head c.in-Some.pdu.bytes.now = ap (λ
+    (b : Bool). message b c.in-Some.pdu.head c.in-Some.pdu.bytes.now) continued in
     inr (
       c.in-Some.pdu.head,
       c.in-Some.pdu.bytes.now,
       c.in-Some.ensures.means,
-      subst (λ (x : Message). Crashes (commands_at c.args.machine.now (g.S.BlockStore.disk c.args.store.now).count x) (g.S.BlockStore.disk c.args.store.now) (g.S.BlockStore.disk c.answer_pdu.new.store) (g.S.BlockStore.kept c.args.store.now) (g.S.BlockStore.kept c.answer_pdu.new.store)) same c.answer_pdu.ensures.crash,
+      subst (λ (x : Message). Crashes (commands_at c.args.machine.now (g.S.BlockStore.disk c.args.store.now).count x)
+          (g.S.BlockStore.disk c.args.store.now) (g.S.BlockStore.disk c.answer_pdu.new.store) (g.S.BlockStore.kept c.args.store.now)
+          (g.S.BlockStore.kept c.answer_pdu.new.store)) same c.answer_pdu.ensures.crash,
     )

@@ -55,12 +55,20 @@ returns-in_err-broken-clause-limit g c =
 
 pub returns-in_err-broken-clause-crash : goal.returns-in_err-broken-clause-crash
 returns-in_err-broken-clause-crash g c =
-    subst (λ (m : Machine). CrashesNext (connection m c.args.framer.now) c.args.piece.now (g.S.BlockStore.disk c.args.store.now) (g.S.BlockStore.disk c.answer_ready.new.store) (g.S.BlockStore.kept c.args.store.now) (g.S.BlockStore.kept c.answer_ready.new.store)) c.in_ok-taken.ensures.kept
-    (next_by (connection c.take_bytes.new.machine c.args.framer.now) c.args.piece.now c.in_ok-taken.taken c.take_bytes.new.framer (g.S.BlockStore.disk c.args.store.now) (g.S.BlockStore.disk c.answer_ready.new.store) (g.S.BlockStore.kept c.args.store.now) (g.S.BlockStore.kept c.answer_ready.new.store)
+    subst (λ (m : Machine). CrashesNext (connection m c.args.framer.now) c.args.piece.now (g.S.BlockStore.disk c.args.store.now)
+    (g.S.BlockStore.disk c.answer_ready.new.store) (g.S.BlockStore.kept c.args.store.now)
+    (g.S.BlockStore.kept c.answer_ready.new.store)) c.in_ok-taken.ensures.kept
+    (next_by (connection c.take_bytes.new.machine c.args.framer.now) c.args.piece.now c.in_ok-taken.taken c.take_bytes.new.framer
+    (g.S.BlockStore.disk c.args.store.now) (g.S.BlockStore.disk c.answer_ready.new.store) (g.S.BlockStore.kept c.args.store.now)
+    (g.S.BlockStore.kept c.answer_ready.new.store)
     c.in_ok-taken.ensures.ok c.answer_ready.ensures.crash)
 
 pub returns-clause-crash : goal.returns-clause-crash
 returns-clause-crash g c =
-    subst (λ (m : Machine). CrashesNext (connection m c.args.framer.now) c.args.piece.now (g.S.BlockStore.disk c.args.store.now) (g.S.BlockStore.disk c.answer_ready.new.store) (g.S.BlockStore.kept c.args.store.now) (g.S.BlockStore.kept c.answer_ready.new.store)) c.in_ok-taken.ensures.kept
-    (next_by (connection c.take_bytes.new.machine c.args.framer.now) c.args.piece.now c.in_ok-taken.taken c.take_bytes.new.framer (g.S.BlockStore.disk c.args.store.now) (g.S.BlockStore.disk c.answer_ready.new.store) (g.S.BlockStore.kept c.args.store.now) (g.S.BlockStore.kept c.answer_ready.new.store)
+    subst (λ (m : Machine). CrashesNext (connection m c.args.framer.now) c.args.piece.now (g.S.BlockStore.disk c.args.store.now)
+    (g.S.BlockStore.disk c.answer_ready.new.store) (g.S.BlockStore.kept c.args.store.now)
+    (g.S.BlockStore.kept c.answer_ready.new.store)) c.in_ok-taken.ensures.kept
+    (next_by (connection c.take_bytes.new.machine c.args.framer.now) c.args.piece.now c.in_ok-taken.taken c.take_bytes.new.framer
+    (g.S.BlockStore.disk c.args.store.now) (g.S.BlockStore.disk c.answer_ready.new.store) (g.S.BlockStore.kept c.args.store.now)
+    (g.S.BlockStore.kept c.answer_ready.new.store)
     c.in_ok-taken.ensures.ok c.answer_ready.ensures.crash)

@@ -60,7 +60,8 @@ pub returns-then-len-eq0-clause-crash : goal.returns-then-len-eq0-clause-crash
 returns-then-len-eq0-clause-crash g c =
     let none : c.args.self.now.tasks ≡ [] = ap (λ (x : Machine). x.tasks) (sym c.self.view_is)
     ∙ no_length c.self.inside.tasks (omega (arith, c.len.ensures.value, c.if-len-eq0.true)) in
-    subst (λ (orders : List Supplied). Crashes orders (g.S.BlockStore.disk c.args.store.now) (g.S.BlockStore.disk c.handle.new.store) (g.S.BlockStore.kept c.args.store.now) (g.S.BlockStore.kept c.handle.new.store))
+    subst (λ (orders : List Supplied). Crashes orders (g.S.BlockStore.disk c.args.store.now) (g.S.BlockStore.disk c.handle.new.store)
+    (g.S.BlockStore.kept c.args.store.now) (g.S.BlockStore.kept c.handle.new.store))
     (sym (commands_alone (g.S.BlockStore.disk c.args.store.now).count c.args.received.now c.args.self.now.tasks none)) c.handle.ensures.crash
 
 pub returns-clause-crash : goal.returns-clause-crash
@@ -72,4 +73,5 @@ returns-clause-crash g c =
     ap (with_tasks c.self.inside.session) (c.push.ensures ∙ ap (λ (t : Task). c.self.inside.tasks ++ t ∷ []) task)
     ∙ ap (λ (x : Machine). with_tasks x.session (x.tasks ++ task_of (g.S.BlockStore.disk c.args.store.now).count c.args.received.now ∷ [])) c.self.view_is
     in
-    subst (λ (x : Machine). Crashes (commands_of x.tasks) (g.S.BlockStore.disk c.args.store.now) (g.S.BlockStore.disk c.work_off.new.store) (g.S.BlockStore.kept c.args.store.now) (g.S.BlockStore.kept c.work_off.new.store)) pushed c.work_off.ensures.crash
+    subst (λ (x : Machine). Crashes (commands_of x.tasks) (g.S.BlockStore.disk c.args.store.now) (g.S.BlockStore.disk c.work_off.new.store)
+    (g.S.BlockStore.kept c.args.store.now) (g.S.BlockStore.kept c.work_off.new.store)) pushed c.work_off.ensures.crash

@@ -19,5 +19,7 @@ returns-in-Full-clause-answers g c =
 
 pub returns-in-Full-clause-crash : goal.returns-in-Full-clause-crash
 returns-in-Full-clause-crash g c =
-    subst (λ (phase : Phase). Crashes (commands_in phase c.args.self.now (g.S.BlockStore.disk c.args.store.now).count c.args.received.now) (g.S.BlockStore.disk c.args.store.now) (g.S.BlockStore.disk c.serve.new.store) (g.S.BlockStore.kept c.args.store.now) (g.S.BlockStore.kept c.serve.new.store))
+    subst (λ (phase : Phase). Crashes (commands_in phase c.args.self.now (g.S.BlockStore.disk c.args.store.now).count c.args.received.now)
+    (g.S.BlockStore.disk c.args.store.now) (g.S.BlockStore.disk c.serve.new.store) (g.S.BlockStore.kept c.args.store.now)
+    (g.S.BlockStore.kept c.serve.new.store))
     (sym (sym c.phase.ensures.phase ∙ c.in-Full.is)) c.serve.ensures.crash

@@ -124,8 +124,11 @@ returns-clause-crash g c =
     ap (with_tasks c.self.inside.session) put ∙ ap (λ (x : Machine). with_tasks x.session
     (with_write (joined_write (with_data c.in-Some.write c.args.head.now c.args.bytes.now)) x.tasks)) c.self.view_is in
     let v : Write = with_data c.in-Some.write c.args.head.now c.args.bytes.now in
-    subst (λ (x : Next). Crashes (commands_by x) (g.S.BlockStore.disk c.args.store.now) (g.S.BlockStore.disk c.work_off.new.store) (g.S.BlockStore.kept c.args.store.now) (g.S.BlockStore.kept c.work_off.new.store))
+    subst (λ (x : Next). Crashes (commands_by x) (g.S.BlockStore.disk c.args.store.now) (g.S.BlockStore.disk c.work_off.new.store)
+    (g.S.BlockStore.kept c.args.store.now) (g.S.BlockStore.kept c.work_off.new.store))
     (sym (data_taken_by c.args.self.now c.args.received.now c.args.head.now c.args.bytes.now c.in-Some.write here due))
-    (subst (λ (orders : List Supplied). Crashes orders (g.S.BlockStore.disk c.args.store.now) (g.S.BlockStore.disk c.work_off.new.store) (g.S.BlockStore.kept c.args.store.now) (g.S.BlockStore.kept c.work_off.new.store))
+    (subst (λ (orders : List Supplied). Crashes orders (g.S.BlockStore.disk c.args.store.now) (g.S.BlockStore.disk c.work_off.new.store)
+    (g.S.BlockStore.kept c.args.store.now) (g.S.BlockStore.kept c.work_off.new.store))
     (commands_same (with_write (joined_write v) c.args.self.now.tasks) (with_write v c.args.self.now.tasks) (ones_written v c.args.self.now.tasks))
-    (subst (λ (x : Machine). Crashes (commands_of x.tasks) (g.S.BlockStore.disk c.args.store.now) (g.S.BlockStore.disk c.work_off.new.store) (g.S.BlockStore.kept c.args.store.now) (g.S.BlockStore.kept c.work_off.new.store)) whole c.work_off.ensures.crash))
+    (subst (λ (x : Machine). Crashes (commands_of x.tasks) (g.S.BlockStore.disk c.args.store.now) (g.S.BlockStore.disk c.work_off.new.store)
+    (g.S.BlockStore.kept c.args.store.now) (g.S.BlockStore.kept c.work_off.new.store)) whole c.work_off.ensures.crash))

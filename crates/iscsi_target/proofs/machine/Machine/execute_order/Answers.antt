@@ -45,12 +45,18 @@ returns-clause-handles g c = record {
 
 pub returns-in_err-outcome-clause-crash : goal.returns-in_err-outcome-clause-crash
 returns-in_err-outcome-clause-crash g c =
-    none_written c.args.order [] (g.S.BlockStore.disk c.args.store.now) (g.S.BlockStore.disk c.execute_planned.new.store) (g.S.BlockStore.kept c.args.store.now) (g.S.BlockStore.kept c.execute_planned.new.store) c.execute_planned.ensures.count c.requires.gives (g.met.S.BlockStore.stays c.args.store.now) c.execute_planned.ensures.crash
+    none_written c.args.order [] (g.S.BlockStore.disk c.args.store.now) (g.S.BlockStore.disk c.execute_planned.new.store)
+    (g.S.BlockStore.kept c.args.store.now) (g.S.BlockStore.kept c.execute_planned.new.store) c.execute_planned.ensures.count c.requires.gives
+    (g.met.S.BlockStore.stays c.args.store.now) c.execute_planned.ensures.crash
 
 pub returns-in_err-send_outcome-clause-crash : goal.returns-in_err-send_outcome-clause-crash
 returns-in_err-send_outcome-clause-crash g c =
-    none_written c.args.order [] (g.S.BlockStore.disk c.args.store.now) (g.S.BlockStore.disk c.execute_planned.new.store) (g.S.BlockStore.kept c.args.store.now) (g.S.BlockStore.kept c.execute_planned.new.store) c.execute_planned.ensures.count c.requires.gives (g.met.S.BlockStore.stays c.args.store.now) c.execute_planned.ensures.crash
+    none_written c.args.order [] (g.S.BlockStore.disk c.args.store.now) (g.S.BlockStore.disk c.execute_planned.new.store)
+    (g.S.BlockStore.kept c.args.store.now) (g.S.BlockStore.kept c.execute_planned.new.store) c.execute_planned.ensures.count c.requires.gives
+    (g.met.S.BlockStore.stays c.args.store.now) c.execute_planned.ensures.crash
 
 pub returns-clause-crash : goal.returns-clause-crash
 returns-clause-crash g c =
-    none_written c.args.order [] (g.S.BlockStore.disk c.args.store.now) (g.S.BlockStore.disk c.execute_planned.new.store) (g.S.BlockStore.kept c.args.store.now) (g.S.BlockStore.kept c.execute_planned.new.store) c.execute_planned.ensures.count c.requires.gives (g.met.S.BlockStore.stays c.args.store.now) c.execute_planned.ensures.crash
+    none_written c.args.order [] (g.S.BlockStore.disk c.args.store.now) (g.S.BlockStore.disk c.execute_planned.new.store)
+    (g.S.BlockStore.kept c.args.store.now) (g.S.BlockStore.kept c.execute_planned.new.store) c.execute_planned.ensures.count c.requires.gives
+    (g.met.S.BlockStore.stays c.args.store.now) c.execute_planned.ensures.crash

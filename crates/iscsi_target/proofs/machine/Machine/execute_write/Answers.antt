@@ -43,7 +43,10 @@ pub returns-clause-crash : goal.returns-clause-crash
 returns-clause-crash g c =
     let w = c.write.inside in
     let supplied : IsSupplied (g.S.BlockStore.disk c.args.store.now).count w.order c.deref.result.now = search rules in
-    subst (λ (v : Write). Crashes ((v.order, data_of v.pieces) ∷ []) (g.S.BlockStore.disk c.args.store.now) (g.S.BlockStore.disk c.execute.new.store) (g.S.BlockStore.kept c.args.store.now) (g.S.BlockStore.kept c.execute.new.store)) c.write.view_is
-    (subst (λ (bytes : List ℕ). Crashes ((w.order, bytes) ∷ []) (g.S.BlockStore.disk c.args.store.now) (g.S.BlockStore.disk c.execute.new.store) (g.S.BlockStore.kept c.args.store.now) (g.S.BlockStore.kept c.execute.new.store))
+    subst (λ (v : Write). Crashes ((v.order, data_of v.pieces) ∷ []) (g.S.BlockStore.disk c.args.store.now)
+    (g.S.BlockStore.disk c.execute.new.store) (g.S.BlockStore.kept c.args.store.now) (g.S.BlockStore.kept c.execute.new.store)) c.write.view_is
+    (subst (λ (bytes : List ℕ). Crashes ((w.order, bytes) ∷ []) (g.S.BlockStore.disk c.args.store.now) (g.S.BlockStore.disk c.execute.new.store)
+    (g.S.BlockStore.kept c.args.store.now) (g.S.BlockStore.kept c.execute.new.store))
     (c.deref.ensures.value ∙ sym (data_of_one w.data.items))
-    (one_done w.order c.deref.result.now (g.S.BlockStore.disk c.args.store.now) (g.S.BlockStore.disk c.execute.new.store) (g.S.BlockStore.kept c.args.store.now) (g.S.BlockStore.kept c.execute.new.store) c.execute.ensures.count supplied c.execute.ensures.crash))
+    (one_done w.order c.deref.result.now (g.S.BlockStore.disk c.args.store.now) (g.S.BlockStore.disk c.execute.new.store)
+    (g.S.BlockStore.kept c.args.store.now) (g.S.BlockStore.kept c.execute.new.store) c.execute.ensures.count supplied c.execute.ensures.crash))

@@ -19,4 +19,6 @@ returns-then-breaks_burst_rules-clause-handles g c =
 
 pub returns-in-Refuse-clause-crash : goal.returns-in-Refuse-clause-crash
 returns-in-Refuse-clause-crash g c =
-    any_orders ((order_of c.args.command.now, c.args.bytes.now) ∷ []) (g.S.BlockStore.disk c.args.store.now) (g.S.BlockStore.disk c.execute_order.new.store) (g.S.BlockStore.kept c.args.store.now) (g.S.BlockStore.kept c.execute_order.new.store) c.execute_order.ensures.crash
+    any_orders ((order_of c.args.command.now, c.args.bytes.now) ∷ []) (g.S.BlockStore.disk c.args.store.now)
+    (g.S.BlockStore.disk c.execute_order.new.store) (g.S.BlockStore.kept c.args.store.now)
+    (g.S.BlockStore.kept c.execute_order.new.store) c.execute_order.ensures.crash

@@ -42,7 +42,8 @@ returns-clause-follows g c =
 
 pub returns-clause-crash : goal.returns-clause-crash
 returns-clause-crash g c =
-    subst (λ (x : Next). Crashes (commands_by x) (g.S.BlockStore.disk c.args.store.now) (g.S.BlockStore.disk c.serve_due.new.store) (g.S.BlockStore.kept c.args.store.now) (g.S.BlockStore.kept c.serve_due.new.store))
+    subst (λ (x : Next). Crashes (commands_by x) (g.S.BlockStore.disk c.args.store.now) (g.S.BlockStore.disk c.serve_due.new.store)
+    (g.S.BlockStore.kept c.args.store.now) (g.S.BlockStore.kept c.serve_due.new.store))
     (ap (λ (x : Met). x.next) (due_served c.args.self.now (g.S.BlockStore.disk c.args.store.now).count c.received.inside.continued c.received.inside.pdu.head
     c.received.inside.pdu.bytes.now c.args.received.now c.received.view_is (sym c.is_due_kind.ensures ∙ c.if-not-is_due_kind.false)
     (sym c.is_too_long.ensures ∙ c.if-is_too_long.false))) c.serve_due.ensures.crash

@@ -64,5 +64,7 @@ returns-in-None-clause-crash g c =
     let none : c.args.self.now.tasks ≡ [] = ap (λ (x : Machine). x.tasks) (sym c.self.view_is)
     ∙ no_length c.self.inside.tasks (omega (arith, c.len.ensures.value, c.if-len-gt0.false)) in
     let kept : refusal c.args.self.now c.args.received.now ≡ None = sym c.refusal.ensures ∙ c.in-None.is in
-    subst (λ (x : Next). Crashes (commands_by x) (g.S.BlockStore.disk c.args.store.now) (g.S.BlockStore.disk c.admit.new.store) (g.S.BlockStore.kept c.args.store.now) (g.S.BlockStore.kept c.admit.new.store))
-    (sym (sym (at_once c.args.self.now (g.S.BlockStore.disk c.args.store.now).count c.args.received.now none) ∙ admitted_none c.args.self.now (g.S.BlockStore.disk c.args.store.now).count c.args.received.now kept)) c.admit.ensures.crash
+    subst (λ (x : Next). Crashes (commands_by x) (g.S.BlockStore.disk c.args.store.now) (g.S.BlockStore.disk c.admit.new.store)
+    (g.S.BlockStore.kept c.args.store.now) (g.S.BlockStore.kept c.admit.new.store))
+    (sym (sym (at_once c.args.self.now (g.S.BlockStore.disk c.args.store.now).count c.args.received.now none) ∙ admitted_none c.args.self.now
+    (g.S.BlockStore.disk c.args.store.now).count c.args.received.now kept)) c.admit.ensures.crash

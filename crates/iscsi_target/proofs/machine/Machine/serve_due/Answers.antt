@@ -31,6 +31,7 @@ returns-in-LoginRequest-clause-follows g c =
 
 pub returns-in-DataOut-clause-crash : goal.returns-in-DataOut-clause-crash
 returns-in-DataOut-clause-crash g c =
-    subst (λ (x : Next). Crashes (commands_by x) (g.S.BlockStore.disk c.args.store.now) (g.S.BlockStore.disk c.data_out.new.store) (g.S.BlockStore.kept c.args.store.now) (g.S.BlockStore.kept c.data_out.new.store))
+    subst (λ (x : Next). Crashes (commands_by x) (g.S.BlockStore.disk c.args.store.now) (g.S.BlockStore.disk c.data_out.new.store)
+    (g.S.BlockStore.kept c.args.store.now) (g.S.BlockStore.kept c.data_out.new.store))
     (data_is_due c.args.self.now (g.S.BlockStore.disk c.args.store.now).count c.received.inside.continued c.received.inside.pdu.head
     c.received.inside.pdu.bytes.now c.args.received.now c.received.view_is c.in-DataOut.head c.in-DataOut.is) c.data_out.ensures.crash

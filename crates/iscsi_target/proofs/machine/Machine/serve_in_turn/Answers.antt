@@ -53,7 +53,8 @@ returns-in_default-clause-follows g c =
     c.if-not-is_within.false same) ∙ admitted_none (advanced c.args.self.now) (g.S.BlockStore.disk c.args.store.now).count c.args.received.now kept)
     (subst (λ (x : Machine). Works x.session (x.tasks ++ task_of (g.S.BlockStore.disk c.args.store.now).count c.args.received.now ∷ []) c.admit.result
     (store_of (g.S.BlockStore.disk c.args.store.now) (g.S.BlockStore.failures c.args.store.now)) c.args.out.now.items c.admit.new.self
-    (store_of (g.S.BlockStore.disk c.admit.new.store) (g.S.BlockStore.failures c.admit.new.store)) c.admit.new.out.items) c.advance.ensures c.admit.ensures.works)
+    (store_of (g.S.BlockStore.disk c.admit.new.store)
+    (g.S.BlockStore.failures c.admit.new.store)) c.admit.new.out.items) c.advance.ensures c.admit.ensures.works)
 
 pub returns-then-is_err-clause-follows : goal.returns-then-is_err-clause-follows
 returns-then-is_err-clause-follows g c =
@@ -104,7 +105,10 @@ returns-in_default-clause-crash g c =
     let none : c.refusal.result ≡ None = search rules in
     let kept : refusal (advanced c.args.self.now) c.args.received.now ≡ None = ap (λ (x : Machine). refusal x c.args.received.now) (sym c.advance.ensures)
     ∙ sym c.refusal.ensures ∙ none in
-    subst (λ (x : Next). Crashes (commands_by x) (g.S.BlockStore.disk c.args.store.now) (g.S.BlockStore.disk c.admit.new.store) (g.S.BlockStore.kept c.args.store.now) (g.S.BlockStore.kept c.admit.new.store))
+    subst (λ (x : Next). Crashes (commands_by x) (g.S.BlockStore.disk c.args.store.now) (g.S.BlockStore.disk c.admit.new.store)
+    (g.S.BlockStore.kept c.args.store.now) (g.S.BlockStore.kept c.admit.new.store))
     (sym (sym (inside c.args.self.now (g.S.BlockStore.disk c.args.store.now).count c.args.received.now c.args.cmd_sn c.is_within.result c.is_within.ensures
     c.if-not-is_within.false same) ∙ admitted_none (advanced c.args.self.now) (g.S.BlockStore.disk c.args.store.now).count c.args.received.now kept))
-    (subst (λ (x : Machine). Crashes (commands_of (x.tasks ++ task_of (g.S.BlockStore.disk c.args.store.now).count c.args.received.now ∷ [])) (g.S.BlockStore.disk c.args.store.now) (g.S.BlockStore.disk c.admit.new.store) (g.S.BlockStore.kept c.args.store.now) (g.S.BlockStore.kept c.admit.new.store)) c.advance.ensures c.admit.ensures.crash)
+    (subst (λ (x : Machine). Crashes (commands_of (x.tasks ++ task_of (g.S.BlockStore.disk c.args.store.now).count c.args.received.now ∷ []))
+    (g.S.BlockStore.disk c.args.store.now) (g.S.BlockStore.disk c.admit.new.store) (g.S.BlockStore.kept c.args.store.now)
+    (g.S.BlockStore.kept c.admit.new.store)) c.advance.ensures c.admit.ensures.crash)

@@ -50,7 +50,8 @@ loop-task-preserved g c =
     (g.S.BlockStore.disk c.begin.new.store) c.loop-task.out.items c.begin.new.out.items =
     record { serves = c.in_ok-broken.ensures.handles.ok; live = sym c.is_closed.ensures ∙ c.if-is_closed.false; done = search rules } in
     record {
-      works = goes_then c.args.self.now c.loop-task.self c.begin.new.self (store_of (g.S.BlockStore.disk c.args.store.now) (g.S.BlockStore.failures c.args.store.now))
+      works = goes_then c.args.self.now c.loop-task.self c.begin.new.self (store_of (g.S.BlockStore.disk c.args.store.now)
+          (g.S.BlockStore.failures c.args.store.now))
           (store_of (g.S.BlockStore.disk c.loop-task.store) (g.S.BlockStore.failures c.loop-task.store))
           (store_of (g.S.BlockStore.disk c.begin.new.store) (g.S.BlockStore.failures c.begin.new.store)) c.args.out.now.items c.loop-task.out.items
           c.begin.new.out.items
