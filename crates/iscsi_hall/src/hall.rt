@@ -2,6 +2,8 @@
 
 ghost use Rattle.std.specs.Prelude.{◌≡◌, ◌≤◌, ℕ, false, length, option_map, is_none, is_some, replicate, true, None, Some, IfOk, IfSome, IfNone, OnOk, OnErr};
 ghost use Rattle.std.specs.List.{position};
+ghost use Rattle.scsi_disk.specs.Lasting.{Settled};
+ghost use Rattle.iscsi_target.specs.Crash.{CrashesNext};
 ghost use Rattle.iscsi_target.specs.Inside.{store_of};
 ghost use Rattle.iscsi_hall.specs.Seats.{opening_seat, phase_of, may_read_at, may_take_at, received, with_sent, waiting_at, seat_at, with_seat, Changes, Takes, FinishesAt};
 ghost use Rattle.iscsi_hall.specs.Reinstatement.{takes_place_of};
@@ -181,6 +183,11 @@ impl Hall {
             result self.new (store_of (S.disk store.new) (S.failures store.new)) }
         ensures turn { TakesTurn seat self.old (store_of (S.disk store.old) (S.failures store.old))
             result self.new (store_of (S.disk store.new) (S.failures store.new)) }
+        // A crash leaves the blocks that the answered commands led to, and no others.
+        ensures lasts { S.failures store.new ≡ 0 → Settled (S.disk store.new) (S.kept store.new) }
+        // Whatever comes of it, a crash leaves each block as before, or as a command of the PDU does.
+        ensures crash { IfSome (seat_at self.old seat) (λ taken. CrashesNext taken.connection
+            taken.unfed (S.disk store.old) (S.disk store.new) (S.kept store.old) (S.kept store.new)) }
     {
         let Some(fed) = &mut self.seats[seat] else {
             unreachable!()

@@ -2,6 +2,7 @@
 
 ghost use Rattle.std.specs.Prelude.{◌≡◌, ◌≤◌, length, not, true, OnOk, OnErr};
 ghost use Rattle.iscsi_target.specs.Machine.{is_closed};
+ghost use Rattle.iscsi_target.specs.Crash.{CrashesNext};
 ghost use Rattle.iscsi_target.specs.Inside.{store_of};
 ghost use Rattle.iscsi_hall.specs.Reinstatement.{is_served, session_of, takes_over};
 ghost use Rattle.iscsi_hall.specs.Seats.{opening_seat, phase_of, is_idle, has_room, gathering, may_read, may_take, received, with_sent, TakesAt, FinishesAt};
@@ -157,6 +158,8 @@ impl Seat {
         requires may { may_take self.old ≡ true }
         ensures takes { TakesAt self.old (store_of (S.disk store.old) (S.failures store.old))
             result self.new (store_of (S.disk store.new) (S.failures store.new)) }
+        ensures crash { CrashesNext self.old.connection self.old.unfed (S.disk store.old)
+            (S.disk store.new) (S.kept store.old) (S.kept store.new) }
     {
         self.gather();
         match self

@@ -2,6 +2,7 @@
 
 ghost use Rattle.std.specs.Prelude.{◌≡◌, ◌≤◌, ◌<◌, ℕ, List, [], true, false, length, take, Ok, IfOk, IfErr, OnOk};
 ghost use Rattle.std.specs.Io.KnownBytes.{Appends, Consumes};
+ghost use Rattle.scsi_disk.specs.Lasting.{Settled};
 ghost use Rattle.iscsi_pdu.specs.Meaning.{AreBytes};
 ghost use Rattle.iscsi_login.specs.Negotiation.{IsInRange};
 ghost use Rattle.iscsi_login.specs.Stage.{is_closed_phase};
@@ -84,6 +85,8 @@ pub fn serve_stream<S: BlockStore, R: Read, W: Write>(
         × EndsBy config (S.disk store.old) result read) }
     // Whatever comes of it, the blocks are those that commands left.
     ensures blocks { HasExecuted (S.disk store.old) (S.disk store.new) }
+    // A crash leaves these blocks, and no others.
+    ensures lasts { S.failures store.new ≡ 0 → Settled (S.disk store.new) (S.kept store.new) }
     ensures end { S.failures store.new ≡ S.failures store.old → OnOk result
         (EndsWell config (S.disk store.old) (R.remaining r.old) (R.remaining r.new)) }
 {

@@ -42,6 +42,8 @@ use Rattle.iscsi_target.specs.declared.tasks.Task.TheVariants.{Data}
 use Rattle.iscsi_target.proofs.WriteTilingLaws.{immediate_fits}
 use Rattle.iscsi_target.specs.Command.{scsi_command, opened, planned, order_of, breaks_burst_rules, breaks_rules, task_planned, task_by, task_of}
 use Rattle.iscsi_target.specs.Execution.{Device}
+use Rattle.std.proofs.lemmas.List.{append-nil}
+use Rattle.iscsi_target.specs.Crash.{command_in, command_of, commands_of}
 use Rattle.std.specs.Prelude.{◌≢◌, [], ◌∷◌, ◌++◌}
 use Rattle.iscsi_stream.specs.Pieces.{Pieces, data_of}
 use Rattle.iscsi_pdu.specs.Rules.{data_out_of_order}
@@ -415,3 +417,31 @@ full_answers (Ok rule) s m before output new after written live within is h = re
   err = tt;
 }
 full_answers (Err e) s m before output new after written live within is h = record { ok = tt; err = inr (is, h.err) }
+
+-- ---- the commands that are there
+
+pub command_is_in : (c : Bool) (hd : Head) (bytes : List ℕ) (m : Message) (is : message c hd bytes ≡ m) (h : Command) → hd ≡ ScsiCommand h →
+    (order_of h, bytes) ∷ [] ≡ command_in m.head (segment_bytes m.segment)
+command_is_in c hd bytes m is h e =
+    sym (ap (λ (x : Head). command_in x (segment_bytes m.segment)) (head_of c hd bytes m is ∙ e)
+    ∙ ap (λ (b : List ℕ). (order_of h, b) ∷ []) (plain c hd bytes m is (ap is_last e)))
+
+planned_command : (m : Message) (h : Command) (bytes : List ℕ) (plan : Plan) → m.head ≡ ScsiCommand h → segment_bytes m.segment ≡ bytes →
+    command_of (task_planned m h bytes plan) ≡ (order_of h, bytes) ∷ []
+planned_command m h bytes (Take total) e f = ap (λ (b : List ℕ). (order_of h, b) ∷ []) (data_of_one bytes)
+planned_command m h bytes (Refuse sense) e f =
+    ap (λ (x : Head). command_in x (segment_bytes m.segment)) e ∙ ap (λ (b : List ℕ). (order_of h, b) ∷ []) f
+planned_command m h bytes (Give given) e f =
+    ap (λ (x : Head). command_in x (segment_bytes m.segment)) e ∙ ap (λ (b : List ℕ). (order_of h, b) ∷ []) f
+
+task_command_by : (count : ℕ) (m : Message) (head : Head) → m.head ≡ head → command_of (task_by count m head) ≡ command_in head (segment_bytes m.segment)
+task_command_by count m (heads.ScsiCommand h) e = planned_command m h (segment_bytes m.segment) (plan_of (order_of h) count) e refl
+task_command_by count m head e = ap (λ (x : Head). command_in x (segment_bytes m.segment)) e
+
+pub task_command : (count : ℕ) (m : Message) → command_of (task_of count m) ≡ command_in m.head (segment_bytes m.segment)
+task_command count m = task_command_by count m m.head refl
+
+pub commands_alone : (count : ℕ) (m : Message) (tasks : List Task) → tasks ≡ [] →
+    commands_of (tasks ++ task_of count m ∷ []) ≡ command_in m.head (segment_bytes m.segment)
+commands_alone count m tasks none = ap (λ (ts : List Task). commands_of (ts ++ task_of count m ∷ [])) none
+    ∙ append-nil (command_of (task_of count m)) ∙ task_command count m

@@ -435,7 +435,7 @@ halts_front r m old new disk now fb fa before after e d (inr h) =
     halts_by r m old new disk now fb fa before after (full_met old disk.count m).next e d h.0 refl h.1
 
 -- the rest of the piece begins with the PDU
-rest_moves : (old now framing : Framing) (rest : List ℕ) (n : ℕ) (m : Message) (next : Framing) → Takes now rest n framing → Moves framing next [] (m ∷ []) →
+pub rest_moves : (old now framing : Framing) (rest : List ℕ) (n : ℕ) (m : Message) (next : Framing) → Takes now rest n framing → Moves framing next [] (m ∷ []) →
     Moves now next (take n rest) (m ∷ [])
 rest_moves old now framing rest n m next t g =
     subst (λ (x : List ℕ). Moves now next x (m ∷ [])) (append-nil (take n rest))

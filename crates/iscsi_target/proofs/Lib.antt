@@ -35,3 +35,4 @@ pub mod KeepingLemmas
 pub mod StreamingLemmas
 pub mod OneOutcomeLaw
 pub mod OutOfMemoryLemmas
+pub mod CrashLemmas

@@ -265,6 +265,11 @@ leads fb fm s disk task more rule mid mid_disk before out g =
     let tasks : r.machine.tasks ≡ more = (begun_leads h.device s disk task more).behind live stay in
     record { live = live; stay = stay; tasks = tasks; session = session; ones_ = same ∙ ap ones tasks }
 
+-- and the others are left
+pub left_behind : (fb fm : ℕ) (s : Session) (disk : Disk) (task : Task) (more : List Task) (rule : Option ℕ) (mid : Machine) (mid_disk : Disk)
+    (before out : List ℕ) → Goes fb fm s disk task more rule mid mid_disk before out → ones mid.tasks ≡ ones more
+left_behind fb fm s disk task more rule mid mid_disk before out g = (leads fb fm s disk task more rule mid mid_disk before out g).ones_
+
 pub then_serves : (fb fm fa : ℕ) (s : Session) (disk : Disk) (task : Task) (more : List Task) (rule : Option ℕ) (mid : Machine) (mid_disk : Disk)
     (before out : List ℕ) (broken : Option ℕ) (new : Machine) (now : Disk) (after : List ℕ)
     → Goes fb fm s disk task more rule mid mid_disk before out → Serves fm fa (λ d. done_in_turn d mid.session mid_disk mid.tasks) broken new now out after

@@ -9,5 +9,6 @@ pub mod Tiles
 pub mod Worked
 pub mod Sessions
 pub mod Feed
+pub mod Crash
 pub mod Inside
 pub mod Laws

@@ -9,6 +9,8 @@ ghost use Rattle.iscsi_target.specs.Machine.{is_closed};
 ghost use Rattle.iscsi_target.specs.Feed.{opening_connection, Feeds, FeedsNext, Fed, FedNext, Finishes, HasAnswered};
 ghost use Rattle.iscsi_target_session.specs.Configured.{Settings};
 ghost use Rattle.scsi_disk.specs.Disk.{Disk};
+ghost use Rattle.scsi_disk.specs.Lasting.{Settled};
+ghost use Rattle.iscsi_target.specs.Crash.{CrashesNext, CrashesReady};
 ghost use Rattle.iscsi_target.specs.Inside.{connection, store_of, target_fault, AnswersReady, ShutsReady, RestFails, TakesOne, FailsOne};
 
 use crate::fault::TargetFault;
@@ -84,6 +86,8 @@ impl Target {
             → HasAnswered settings n disk stream self.old (S.disk store.old) out.old.items
             → HasAnswered settings n disk (stream ++ piece.now) self.new (S.disk store.new)
             out.new.items }
+        // A crash leaves the blocks that the answered commands led to, and no others.
+        ensures lasts { S.failures store.new ≡ 0 → Settled (S.disk store.new) (S.kept store.new) }
     {
         if self.machine.is_closed() {
             return Err(TargetFault::Closed);
@@ -104,6 +108,11 @@ impl Target {
         ensures fed { FedNext self.old (store_of (S.disk store.old) (S.failures store.old))
             out.old.items piece.now result self.new
             (store_of (S.disk store.new) (S.failures store.new)) out.new.items }
+        // A crash leaves the blocks that the answered commands led to, and no others.
+        ensures lasts { S.failures store.new ≡ 0 → Settled (S.disk store.new) (S.kept store.new) }
+        // Whatever comes of it, a crash leaves each block as before, or as a command of the PDU does.
+        ensures crash { CrashesNext self.old piece.now (S.disk store.old) (S.disk store.new)
+            (S.kept store.old) (S.kept store.new) }
     {
         if self.machine.is_closed() {
             return Err(TargetFault::Closed);
@@ -225,6 +234,8 @@ fn feed_once<S: BlockStore>(
         (store_of (S.disk store.new) (S.failures store.new)) out.new.items }
     ensures limit { framer.new.limit ≡ limit machine.new.session.settings }
     ensures unready { is_ready framer.new ≡ false }
+    ensures crash { CrashesNext (connection machine.old framer.old) piece.now (S.disk store.old)
+        (S.disk store.new) (S.kept store.old) (S.kept store.new) }
 {
     let (taken, broken) = feed_one(machine, framer, piece, store, out)?;
     let phase = machine.phase();
@@ -256,6 +267,8 @@ fn feed_one<S: BlockStore>(
         (store_of (S.disk store.new) (S.failures store.new)) out.new.items) }
     ensures limit { framer.new.limit ≡ limit machine.new.session.settings }
     ensures unready { is_ready framer.new ≡ false }
+    ensures crash { CrashesNext (connection machine.old framer.old) piece.now (S.disk store.old)
+        (S.disk store.new) (S.kept store.old) (S.kept store.new) }
 {
     let taken = take_bytes(machine, framer, piece)?;
     let broken = answer_ready(machine, framer, store, out)?;
@@ -311,6 +324,8 @@ fn answer_ready<S: BlockStore>(
         (store_of (S.disk store.old) (S.failures store.old)) out.old.items
         (connection machine.new framer.new)
         (store_of (S.disk store.new) (S.failures store.new)) out.new.items) }
+    ensures crash { CrashesReady (connection machine.old framer.old) (S.disk store.old)
+        (S.disk store.new) (S.kept store.old) (S.kept store.new) }
 {
     let Some(pdu) = framer.pdu() else {
         return Ok(None);

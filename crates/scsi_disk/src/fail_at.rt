@@ -69,6 +69,8 @@ impl BlockStore for FailAt {
 
     ghost stays = { λ s n. refl };
 
+    ghost lasts = { λ s never n c left. left };
+
     fn blocks(&self) -> u64 {
         self.store.blocks()
     }

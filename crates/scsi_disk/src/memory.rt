@@ -65,6 +65,8 @@ impl BlockStore for MemoryStore {
 
     ghost stays = { λ s n. refl };
 
+    ghost lasts = { λ s never n c left. left };
+
     fn blocks(&self) -> u64 {
         (self.bytes.len() / 512) as u64
     }

@@ -203,6 +203,8 @@ impl BlockStore for SparseStore {
 
     ghost stays = { λ s n. refl };
 
+    ghost lasts = { λ s never n c left. left };
+
     fn blocks(&self) -> u64 {
         self.blocks
     }

@@ -93,4 +93,7 @@ pub trait BlockStore {
 
     /// A process that ends leaves what its device was given, so that is one of the outcomes.
     ghost stays: { (s : Self) (n : ℕ) → kept s n ((disk s).block n) };
+
+    /// Where no failure was ever counted, a crash leaves these blocks and no others.
+    ghost lasts: { (s : Self) → failures s ≡ 0 → Settled (disk s) (kept s) };
 }

@@ -17,6 +17,8 @@ pub struct FileStore<M: Medium> {
     failed: u64,
     broken: bool,
     ghost sound: { broken ≡ false → IsTrue (M.Medium.usable medium) },
+    ghost settled: { failed + M.Medium.untold medium ≡ 0
+        → Settled (M.Medium.seen medium) (M.Medium.kept medium) },
 }
 
 impl<M: Medium + Drop> FileStore<M> {
@@ -54,18 +56,6 @@ impl<M: Medium> FileStore<M> {
     {
         self.medium
     }
-
-    // Counts a failure.
-    fn fail(&mut self) -> StoreFault
-        requires { failed_by self.old < 18446744073709551615 }
-        ensures medium { medium_of self.new ≡ medium_of self.old }
-        ensures counted { failed_by self.new ≡ failed_by self.old + 1 }
-        ensures device { result ≡ StoreFault.Device }
-        ensures broken { self.new.broken ≡ self.old.broken }
-    {
-        self.failed += 1;
-        StoreFault::Device
-    }
 }
 
 impl<M: Medium> BlockStore for FileStore<M> {
@@ -78,6 +68,8 @@ impl<M: Medium> BlockStore for FileStore<M> {
     ghost kept = { λ s. M.Medium.kept s.medium };
 
     ghost stays = { λ s n. M.Medium.stays s.medium n };
+
+    ghost lasts = { λ s. s.settled };
 
     fn blocks(&self) -> u64 {
         self.medium.blocks()
@@ -92,10 +84,10 @@ impl<M: Medium> BlockStore for FileStore<M> {
             return Err(StoreFault::NoMemory);
         }
         if self.broken {
-            return Err(self.fail());
+            return Err(fail(&mut self.failed));
         }
         match self.medium.read_at(lba, out) {
-            Err(StoreFault::Device) => Err(self.fail()),
+            Err(StoreFault::Device) => Err(fail(&mut self.failed)),
             answer => answer,
         }
     }
@@ -105,17 +97,27 @@ impl<M: Medium> BlockStore for FileStore<M> {
             return Err(StoreFault::NoMemory);
         }
         if self.broken {
-            return Err(self.fail());
+            return Err(fail(&mut self.failed));
         }
         match self.medium.write_at(lba, bytes) {
             Ok(()) => {}
             Err(StoreFault::NoMemory) => return Err(StoreFault::NoMemory),
-            Err(StoreFault::Device) => return Err(self.fail()),
+            Err(StoreFault::Device) => return Err(fail(&mut self.failed)),
         }
         if self.medium.sync().is_err() {
             self.broken = true;
-            return Err(self.fail());
+            return Err(fail(&mut self.failed));
         }
         Ok(())
     }
+}
+
+// Counts a failure.
+fn fail(failed: &mut u64) -> StoreFault
+    requires { failed.old < 18446744073709551615 }
+    ensures counted { failed.new ≡ failed.old + 1 }
+    ensures device { result ≡ StoreFault.Device }
+{
+    *failed += 1;
+    StoreFault::Device
 }

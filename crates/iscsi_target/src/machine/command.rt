@@ -1,6 +1,6 @@
 //! SCSI commands, and the Data-In that they send (RFC 7143, sections 11.3, 11.4 and 11.7).
 
-ghost use Rattle.std.specs.Prelude.{◌≡◌, ◌≢◌, ◌<◌, ◌≤◌, ◌^◌, ◌+◌, ◌++◌, ℕ, [], length, take, OnOk, OnErr, IfOk};
+ghost use Rattle.std.specs.Prelude.{◌≡◌, ◌∷◌, ◌≢◌, ◌<◌, ◌≤◌, ◌^◌, ◌+◌, ◌++◌, ℕ, [], length, take, OnOk, OnErr, IfOk};
 ghost use Rattle.scsi_disk.specs.Plan.{plan_of};
 ghost use Rattle.iscsi_pdu.specs.Meaning.{Fits};
 ghost use Rattle.iscsi_login.specs.Held.{first_burst, is_on, max_burst};
@@ -8,6 +8,7 @@ ghost use Rattle.iscsi_stream.specs.Canonical.{canon};
 ghost use Rattle.iscsi_target.specs.State.{waiting};
 ghost use Rattle.iscsi_target.specs.Execution.{data_in_parts, sequence_parts, data_in_head, data_ins, command_answers, execute};
 ghost use Rattle.iscsi_target.specs.Command.{order_of, breaks_burst_rules, scsi_command};
+ghost use Rattle.iscsi_target.specs.Crash.{Crashes};
 ghost use Rattle.iscsi_target.specs.Inside.{Handles, TakePlaces, store_of};
 
 use super::Machine;
@@ -33,10 +34,12 @@ impl Machine {
     ) -> Result<Option<u8>, AllocError>
         requires places { TakePlaces self.old.tasks }
         requires room { length self.old.tasks < 9 }
-        ensures { Handles (λ device. scsi_command device self.old (S.disk store.old)
+        ensures handles { Handles (λ device. scsi_command device self.old (S.disk store.old)
             received.now command.now bytes.now)
             result self.old (store_of (S.disk store.old) (S.failures store.old)) out.old.items
             self.new (store_of (S.disk store.new) (S.failures store.new)) out.new.items }
+        ensures crash { Crashes ((order_of command.now, bytes.now) ∷ [])
+            (S.disk store.old) (S.disk store.new) (S.kept store.old) (S.kept store.new) }
     {
         if self.breaks_burst_rules(command, bytes.len()) {
             return self.breach(DATA_OUT_OF_ORDER, received, out);
@@ -111,9 +114,11 @@ impl Machine {
     ) -> Result<Option<u8>, AllocError>
         requires planned { planned ≡ plan_of order (S.disk store.old).count }
         requires gives { (n : ℕ) → plan_of order (S.disk store.old).count ≢ Plan.Take n }
-        ensures { Handles (λ device. execute device self.old (S.disk store.old) tag order [])
+        ensures handles { Handles (λ device. execute device self.old (S.disk store.old) tag order [])
             result self.old (store_of (S.disk store.old) (S.failures store.old)) out.old.items
             self.new (store_of (S.disk store.new) (S.failures store.new)) out.new.items }
+        ensures crash { Crashes []
+            (S.disk store.old) (S.disk store.new) (S.kept store.old) (S.kept store.new) }
     {
         let outcome = execute_planned(*out.allocator(), &order, planned, &[], store)?;
         self.send_outcome(tag, &outcome, out)?;

@@ -4,12 +4,14 @@
 ghost use Rattle.std.specs.Prelude.{◌≡◌, ◌≢◌, ◌⊎◌, ◌↔◌, ◌<◌, ◌≤◌, ◌^◌, ◌++◌, ◌∷◌, [], None, Some, length, nat_lt, IsTrue, IfOk, true, false};
 ghost use Rattle.iscsi_pdu.specs.Serial.{distance};
 ghost use Rattle.scsi_disk.specs.Disk.{Disk};
+ghost use Rattle.iscsi_stream.specs.Segment.{segment_bytes};
 ghost use Rattle.iscsi_target.specs.State.{max_cmd_sn, on, waiting};
 ghost use Rattle.iscsi_target_session.specs.Login.{login_step};
 ghost use Rattle.iscsi_target.specs.Command.{breaks_rules, task_of};
 ghost use Rattle.iscsi_target.specs.Machine.{is_due_kind, is_tag_of, tag_of, advanced, handled, begun, immediate, in_turn, due_met, full_met, is_closed, is_over_limit};
 ghost use Rattle.iscsi_target_session.specs.Requests.{request_answered};
 ghost use Rattle.iscsi_target.specs.Laws.{cmd_sn_of};
+ghost use Rattle.iscsi_target.specs.Crash.{Crashes, command_in, command_of, commands_at, commands_by, commands_of};
 ghost use Rattle.iscsi_target.specs.Inside.{Leaves, Handles, Works, Follows, Answers, TakePlaces, refusal, store_of};
 
 use super::Machine;
@@ -35,9 +37,11 @@ impl Machine {
     ) -> Result<Option<u8>, AllocError>
         requires within { is_over_limit self.old received.now.segment ≡ false }
         requires live { is_closed self.old ≡ false }
-        ensures { Answers received.now
+        ensures answers { Answers received.now
             result self.old (store_of (S.disk store.old) (S.failures store.old)) out.old.items
             self.new (store_of (S.disk store.new) (S.failures store.new)) out.new.items }
+        ensures crash { Crashes (commands_at self.old (S.disk store.old).count received.now)
+            (S.disk store.old) (S.disk store.new) (S.kept store.old) (S.kept store.new) }
     {
         match self.phase() {
             Phase::Login => self.log_in(received, out),
@@ -68,9 +72,12 @@ impl Machine {
         store: &mut S,
         out: &mut Vec<u8>,
     ) -> Result<Option<u8>, AllocError>
-        ensures { Follows (full_met self.old (S.disk store.old).count received.now).next
+        ensures follows { Follows (full_met self.old (S.disk store.old).count received.now).next
             result self.old (store_of (S.disk store.old) (S.failures store.old)) out.old.items
             self.new (store_of (S.disk store.new) (S.failures store.new)) out.new.items }
+        ensures crash { Crashes
+            (commands_by (full_met self.old (S.disk store.old).count received.now).next)
+            (S.disk store.old) (S.disk store.new) (S.kept store.old) (S.kept store.new) }
     {
         if !self.is_due_kind(&received.pdu.head) {
             return self.breach(KIND_NOT_DUE, received, out);
@@ -111,9 +118,13 @@ impl Machine {
         store: &mut S,
         out: &mut Vec<u8>,
     ) -> Result<Option<u8>, AllocError>
-        ensures { Follows (due_met self.old (S.disk store.old).count received.now received.now.head).next
+        ensures follows { Follows (due_met self.old (S.disk store.old).count received.now received.now.head).next
             result self.old (store_of (S.disk store.old) (S.failures store.old)) out.old.items
             self.new (store_of (S.disk store.new) (S.failures store.new)) out.new.items }
+        ensures crash { Crashes
+            (commands_by (due_met self.old (S.disk store.old).count received.now
+            received.now.head).next)
+            (S.disk store.old) (S.disk store.new) (S.kept store.old) (S.kept store.new) }
     {
         let (immediate, cmd_sn) = match &received.pdu.head {
             Head::DataOut(head) => return self.data_out(
@@ -154,9 +165,12 @@ impl Machine {
         store: &mut S,
         out: &mut Vec<u8>,
     ) -> Result<Option<u8>, AllocError>
-        ensures { Follows (immediate self.old (S.disk store.old).count received.now).next
+        ensures follows { Follows (immediate self.old (S.disk store.old).count received.now).next
             result self.old (store_of (S.disk store.old) (S.failures store.old)) out.old.items
             self.new (store_of (S.disk store.new) (S.failures store.new)) out.new.items }
+        ensures crash { Crashes
+            (commands_by (immediate self.old (S.disk store.old).count received.now).next)
+            (S.disk store.old) (S.disk store.new) (S.kept store.old) (S.kept store.new) }
     {
         if self.tasks.len() > 0 {
             return self.reject(TOO_MANY_IMMEDIATE, received, out);
@@ -176,9 +190,12 @@ impl Machine {
         out: &mut Vec<u8>,
     ) -> Result<Option<u8>, AllocError>
         requires number { cmd_sn_of received.now.head ≡ Some cmd_sn }
-        ensures { Follows (in_turn self.old (S.disk store.old).count received.now cmd_sn).next
+        ensures follows { Follows (in_turn self.old (S.disk store.old).count received.now cmd_sn).next
             result self.old (store_of (S.disk store.old) (S.failures store.old)) out.old.items
             self.new (store_of (S.disk store.new) (S.failures store.new)) out.new.items }
+        ensures crash { Crashes
+            (commands_by (in_turn self.old (S.disk store.old).count received.now cmd_sn).next)
+            (S.disk store.old) (S.disk store.new) (S.kept store.old) (S.kept store.new) }
     {
         if !self.is_within(cmd_sn) {
             return Ok(None);
@@ -247,10 +264,13 @@ impl Machine {
         requires room { waiting self.old.tasks ≤ 7 }
         requires turn { self.old.tasks ≡ [] ⊎ (cmd_sn_of received.now.head ≢ None) }
         requires kept { refusal self.old received.now ≡ None }
-        ensures { Works self.old.session
+        ensures works { Works self.old.session
             (self.old.tasks ++ task_of (S.disk store.old).count received.now ∷ [])
             result (store_of (S.disk store.old) (S.failures store.old)) out.old.items
             self.new (store_of (S.disk store.new) (S.failures store.new)) out.new.items }
+        ensures crash { Crashes
+            (commands_of (self.old.tasks ++ task_of (S.disk store.old).count received.now ∷ []))
+            (S.disk store.old) (S.disk store.new) (S.kept store.old) (S.kept store.new) }
     {
         if self.tasks.len() == 0 {
             return self.handle(received, store, out);
@@ -301,9 +321,11 @@ impl Machine {
         store: &mut S,
         out: &mut Vec<u8>,
     ) -> Result<Option<u8>, AllocError>
-        ensures { Works self.old.session self.old.tasks
+        ensures works { Works self.old.session self.old.tasks
             result (store_of (S.disk store.old) (S.failures store.old)) out.old.items
             self.new (store_of (S.disk store.new) (S.failures store.new)) out.new.items }
+        ensures crash { Crashes (commands_of self.old.tasks)
+            (S.disk store.old) (S.disk store.new) (S.kept store.old) (S.kept store.new) }
     {
         while let Some(task) = self.tasks.take_first() {
             let behind = self.tasks.len();
@@ -324,9 +346,11 @@ impl Machine {
     ) -> Result<Option<u8>, AllocError>
         requires places { TakePlaces self.old.tasks }
         requires room { length self.old.tasks < 9 }
-        ensures { Handles (λ device. begun device self.old (S.disk store.old) task)
+        ensures handles { Handles (λ device. begun device self.old (S.disk store.old) task)
             result self.old (store_of (S.disk store.old) (S.failures store.old)) out.old.items
             self.new (store_of (S.disk store.new) (S.failures store.new)) out.new.items }
+        ensures crash { Crashes (command_of task)
+            (S.disk store.old) (S.disk store.new) (S.kept store.old) (S.kept store.new) }
     {
         match task {
             Task::Request(kept) => self.handle(&kept.received(), store, out),
@@ -343,10 +367,12 @@ impl Machine {
     ) -> Result<Option<u8>, AllocError>
         requires places { TakePlaces self.old.tasks }
         requires room { length self.old.tasks < 9 }
-        ensures { Handles (λ device. handled device self.old (S.disk store.old)
+        ensures handles { Handles (λ device. handled device self.old (S.disk store.old)
             received.now received.now.head)
             result self.old (store_of (S.disk store.old) (S.failures store.old)) out.old.items
             self.new (store_of (S.disk store.new) (S.failures store.new)) out.new.items }
+        ensures crash { Crashes (command_in received.now.head (segment_bytes received.now.segment))
+            (S.disk store.old) (S.disk store.new) (S.kept store.old) (S.kept store.new) }
     {
         match &received.pdu.head {
             Head::ScsiCommand(head) => self.scsi_command(

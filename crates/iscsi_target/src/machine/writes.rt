@@ -1,15 +1,17 @@
 //! Writes, and the data that they take (RFC 7143, sections 11.3, 11.7 and 11.8).
 
-ghost use Rattle.std.specs.Prelude.{◌≡◌, ◌<◌, ◌≤◌, ◌^◌, ℕ, length, IfOk, true, false};
+ghost use Rattle.std.specs.Prelude.{◌≡◌, [], ◌∷◌, ◌<◌, ◌≤◌, ◌^◌, ℕ, length, IfOk, true, false};
 ghost use Rattle.scsi_disk.specs.Disk.{Disk};
 ghost use Rattle.scsi_disk.specs.Plan.{plan_of};
 ghost use Rattle.iscsi_pdu.specs.Meaning.{Fits};
+ghost use Rattle.iscsi_stream.specs.Pieces.{data_of};
 ghost use Rattle.iscsi_stream.specs.Segment.{segment_bytes};
 ghost use Rattle.iscsi_target.specs.State.{waiting};
 ghost use Rattle.iscsi_target.specs.Execution.{execute};
 ghost use Rattle.iscsi_target.specs.Transfer.{is_whole, is_idle, desired};
 ghost use Rattle.iscsi_target.specs.Command.{order_of, r2t_head, led_by, send_r2t, proceed, opened, breaks_rules, task_of};
 ghost use Rattle.iscsi_target.specs.Machine.{data_out};
+ghost use Rattle.iscsi_target.specs.Crash.{Crashes, commands_by};
 ghost use Rattle.iscsi_target.specs.Inside.{Leaves, Handles, Follows, TakePlaces, store_of};
 
 use super::Machine;
@@ -44,10 +46,12 @@ impl Machine {
         requires fits { length bytes.now ≤ total }
         requires places { TakePlaces self.old.tasks }
         requires room { length self.old.tasks < 9 }
-        ensures { Handles (λ device. proceed device self.old (S.disk store.old)
+        ensures handles { Handles (λ device. proceed device self.old (S.disk store.old)
             (opened command.now total bytes.now))
             result self.old (store_of (S.disk store.old) (S.failures store.old)) out.old.items
             self.new (store_of (S.disk store.new) (S.failures store.new)) out.new.items }
+        ensures crash { Crashes ((order_of command.now, bytes.now) ∷ [])
+            (S.disk store.old) (S.disk store.new) (S.kept store.old) (S.kept store.new) }
     {
         let write = opened(*out.allocator(), command, total, bytes)?;
         self.proceed(write, store, out)
@@ -63,9 +67,11 @@ impl Machine {
     ) -> Result<Option<u8>, AllocError>
         requires places { TakePlaces self.old.tasks }
         requires room { length self.old.tasks < 9 }
-        ensures { Handles (λ device. proceed device self.old (S.disk store.old) write)
+        ensures handles { Handles (λ device. proceed device self.old (S.disk store.old) write)
             result self.old (store_of (S.disk store.old) (S.failures store.old)) out.old.items
             self.new (store_of (S.disk store.new) (S.failures store.new)) out.new.items }
+        ensures crash { Crashes ((write.order, data_of write.pieces) ∷ [])
+            (S.disk store.old) (S.disk store.new) (S.kept store.old) (S.kept store.new) }
     {
         if write.is_whole() {
             return self.execute_write(&write, store, out);
@@ -86,10 +92,12 @@ impl Machine {
         out: &mut Vec<u8>,
     ) -> Result<Option<u8>, AllocError>
         requires { is_whole write.now ≡ true }
-        ensures { Handles (λ device. execute device self.old (S.disk store.old)
+        ensures handles { Handles (λ device. execute device self.old (S.disk store.old)
             write.now.initiator_task_tag write.now.order write.now.pieces)
             result self.old (store_of (S.disk store.old) (S.failures store.old)) out.old.items
             self.new (store_of (S.disk store.new) (S.failures store.new)) out.new.items }
+        ensures crash { Crashes ((write.now.order, data_of write.now.pieces) ∷ [])
+            (S.disk store.old) (S.disk store.new) (S.kept store.old) (S.kept store.new) }
     {
         out.reserve(RESPONSE_LEN)?;
         let outcome = execute(*out.allocator(), &write.order, &write.data, store)?;
@@ -154,9 +162,11 @@ impl Machine {
         out: &mut Vec<u8>,
     ) -> Result<Option<u8>, AllocError>
         requires { length bytes.now < 2 ^ 24 }
-        ensures { Follows (data_out self.old received.now head.now bytes.now)
+        ensures follows { Follows (data_out self.old received.now head.now bytes.now)
             result self.old (store_of (S.disk store.old) (S.failures store.old)) out.old.items
             self.new (store_of (S.disk store.new) (S.failures store.new)) out.new.items }
+        ensures crash { Crashes (commands_by (data_out self.old received.now head.now bytes.now))
+            (S.disk store.old) (S.disk store.new) (S.kept store.old) (S.kept store.new) }
     {
         let Some((place, write)) = self.tasks.take_write(head.initiator_task_tag) else {
             return Ok(None);

@@ -1,4 +1,4 @@
-use Rattle.std.proofs.Common.{◌≡◌, ◌≤◌, Bool, ℕ, length, refl, sym, ap, subst, ◌∙◌, rules}
+use Rattle.std.proofs.Common.{◌≡◌, ◌≤◌, Bool, ℕ, length, refl, sym, ap, subst, ◌∙◌, rules, inr}
 use Rattle.iscsi_stream.specs.Segment.{continues}
 use Rattle.iscsi_stream.specs.Framing.{Framing, is_ready, message_of}
 use Rattle.iscsi_stream.specs.Stream.{Message, message}
@@ -7,6 +7,7 @@ use Rattle.iscsi_target.specs.State.{Machine, closed}
 use Rattle.iscsi_target.specs.Inside.{HaltsAt}
 use Rattle.iscsi_target.proofs.DispatchLemmas.{over_none}
 use Rattle.iscsi_target.proofs.OutOfMemoryLemmas.{halts_closed, halts_settings}
+use Rattle.iscsi_target.specs.Crash.{Crashes, commands_at}
 use Rattle.iscsi_target.proofs.target.answer_ready.Goals as goal
 
 pub answer_pdu-requires-clause-within : goal.answer_pdu-requires-clause-within
@@ -23,7 +24,7 @@ returns-in-Err-clause-err g c =
     ap (λ (b : Bool). message b c.in-Some.pdu.head c.in-Some.pdu.bytes.now) continued in
     let halts : HaltsAt (g.S.BlockStore.failures c.args.store.now) (g.S.BlockStore.failures c.answer_pdu.new.store) c.args.machine.now
     (g.S.BlockStore.disk c.args.store.now) m c.answer_pdu.new.self (g.S.BlockStore.disk c.answer_pdu.new.store) c.args.out.now.items
-    c.answer_pdu.new.out.items = c.in-Err.ensures.err in
+    c.answer_pdu.new.out.items = c.in-Err.ensures.answers.err in
     let within = over_none c.args.machine.now c.continued.result c.in-Some.pdu.head c.in-Some.pdu.bytes.now
     (subst (λ (n : ℕ). length c.in-Some.pdu.bytes.now ≤ n) c.requires.limit c.in-Some.ensures.within) in
     record {
@@ -47,3 +48,33 @@ returns-in-Err-clause-err g c =
           (g.S.BlockStore.disk c.args.store.now) m c.answer_pdu.new.self (g.S.BlockStore.disk c.answer_pdu.new.store) c.args.out.now.items
           c.answer_pdu.new.out.items halts));
     }
+
+pub returns-in-Ok-clause-crash : goal.returns-in-Ok-clause-crash
+returns-in-Ok-clause-crash g c =
+    let continued : c.continued.result ≡ continues c.args.framer.now.logins c.in-Some.pdu.head = search rules in
+    let same : message c.continued.result c.in-Some.pdu.head c.in-Some.pdu.bytes.now
+    ≡ message_of c.args.framer.now c.in-Some.pdu.head c.in-Some.pdu.bytes.now = ap (λ
+    (b : Bool). message b c.in-Some.pdu.head c.in-Some.pdu.bytes.now) continued in
+    inr (
+      c.in-Some.pdu.head,
+      c.in-Some.pdu.bytes.now,
+      c.in-Some.ensures.means,
+      subst (λ (x : Message). Crashes (commands_at c.args.machine.now (g.S.BlockStore.disk c.args.store.now).count x)
+          (g.S.BlockStore.disk c.args.store.now) (g.S.BlockStore.disk c.answer_pdu.new.store) (g.S.BlockStore.kept c.args.store.now)
+          (g.S.BlockStore.kept c.answer_pdu.new.store)) same c.answer_pdu.ensures.crash,
+    )
+
+pub returns-in-Err-clause-crash : goal.returns-in-Err-clause-crash
+returns-in-Err-clause-crash g c =
+    let continued : c.continued.result ≡ continues c.args.framer.now.logins c.in-Some.pdu.head = search rules in
+    let same : message c.continued.result c.in-Some.pdu.head c.in-Some.pdu.bytes.now
+    ≡ message_of c.args.framer.now c.in-Some.pdu.head c.in-Some.pdu.bytes.now = ap (λ
+    (b : Bool). message b c.in-Some.pdu.head c.in-Some.pdu.bytes.now) continued in
+    inr (
+      c.in-Some.pdu.head,
+      c.in-Some.pdu.bytes.now,
+      c.in-Some.ensures.means,
+      subst (λ (x : Message). Crashes (commands_at c.args.machine.now (g.S.BlockStore.disk c.args.store.now).count x)
+          (g.S.BlockStore.disk c.args.store.now) (g.S.BlockStore.disk c.answer_pdu.new.store) (g.S.BlockStore.kept c.args.store.now)
+          (g.S.BlockStore.kept c.answer_pdu.new.store)) same c.answer_pdu.ensures.crash,
+    )

@@ -5,6 +5,8 @@ use Rattle.iscsi_target.specs.State.{Machine}
 use Rattle.iscsi_target.specs.Feed.{Connection, Store}
 use Rattle.iscsi_target.specs.Inside.{connection, store_of, AnswersReady}
 use Rattle.iscsi_target.proofs.FeedInvariant.{fed_none, fed_one, stays_within}
+use Rattle.iscsi_target.specs.Crash.{CrashesNext}
+use Rattle.iscsi_target.proofs.CrashLemmas.{next_by}
 use Rattle.iscsi_target.proofs.target.feed_one.Goals as goal
 
 pub returns-clause-ok : goal.returns-clause-ok
@@ -50,3 +52,23 @@ pub returns-in_err-broken-clause-limit : goal.returns-in_err-broken-clause-limit
 returns-in_err-broken-clause-limit g c =
     c.in_err-broken.ensures.err.limit ∙ ap (λ (v : Framing). v.limit) c.in_ok-taken.ensures.ok.gathered ∙ c.requires.limit
     ∙ ap limit (sym (c.in_err-broken.ensures.err.settings ∙ ap (λ (m : Machine). m.session.settings) c.in_ok-taken.ensures.kept))
+
+pub returns-in_err-broken-clause-crash : goal.returns-in_err-broken-clause-crash
+returns-in_err-broken-clause-crash g c =
+    subst (λ (m : Machine). CrashesNext (connection m c.args.framer.now) c.args.piece.now (g.S.BlockStore.disk c.args.store.now)
+    (g.S.BlockStore.disk c.answer_ready.new.store) (g.S.BlockStore.kept c.args.store.now)
+    (g.S.BlockStore.kept c.answer_ready.new.store)) c.in_ok-taken.ensures.kept
+    (next_by (connection c.take_bytes.new.machine c.args.framer.now) c.args.piece.now c.in_ok-taken.taken c.take_bytes.new.framer
+    (g.S.BlockStore.disk c.args.store.now) (g.S.BlockStore.disk c.answer_ready.new.store) (g.S.BlockStore.kept c.args.store.now)
+    (g.S.BlockStore.kept c.answer_ready.new.store)
+    c.in_ok-taken.ensures.ok c.answer_ready.ensures.crash)
+
+pub returns-clause-crash : goal.returns-clause-crash
+returns-clause-crash g c =
+    subst (λ (m : Machine). CrashesNext (connection m c.args.framer.now) c.args.piece.now (g.S.BlockStore.disk c.args.store.now)
+    (g.S.BlockStore.disk c.answer_ready.new.store) (g.S.BlockStore.kept c.args.store.now)
+    (g.S.BlockStore.kept c.answer_ready.new.store)) c.in_ok-taken.ensures.kept
+    (next_by (connection c.take_bytes.new.machine c.args.framer.now) c.args.piece.now c.in_ok-taken.taken c.take_bytes.new.framer
+    (g.S.BlockStore.disk c.args.store.now) (g.S.BlockStore.disk c.answer_ready.new.store) (g.S.BlockStore.kept c.args.store.now)
+    (g.S.BlockStore.kept c.answer_ready.new.store)
+    c.in_ok-taken.ensures.ok c.answer_ready.ensures.crash)

@@ -1,10 +1,12 @@
-use Rattle.std.proofs.Common.{arith, ap, set, Some}
+use Rattle.std.proofs.Common.{◌≡◌, arith, ap, set, Option, Some, subst, sym}
+use Rattle.std.specs.Prelude.{IfSome}
 use Rattle.std.proofs.lemmas.Grind.{common_steps}
 use Rattle.std.specs.Vec.{with_item}
 use Rattle.iscsi_target.specs.Feed.{Store}
 use Rattle.iscsi_target.specs.Inside.{store_of}
 use Rattle.iscsi_hall.specs.contracts.hall.Hall.{the_view}
-use Rattle.iscsi_hall.specs.Seats.{Hall, Takes}
+use Rattle.iscsi_target.specs.Crash.{CrashesNext}
+use Rattle.iscsi_hall.specs.Seats.{Hall, Seat, Takes, seat_at}
 use Rattle.iscsi_hall.proofs.TakingLaw.{takes_turn}
 use Rattle.iscsi_hall.proofs.hall.Hall.take.Goals as goal
 
@@ -22,3 +24,9 @@ returns-clause-turn g c =
       does = c.take.ensures.takes;
     } in
     takes_turn c.args.seat c.args.self.now new before after c.take.result takes c.requires.may
+
+pub returns-clause-crash : goal.returns-clause-crash
+returns-clause-crash g c =
+    let was : seat_at c.args.self.now c.args.seat ≡ Some c.in-Some.fed = grind (arith, common_steps) in
+    subst (λ (taken : Option Seat). IfSome taken (λ s. CrashesNext s.connection s.unfed (g.S.BlockStore.disk c.args.store.now)
+    (g.S.BlockStore.disk c.take.new.store) (g.S.BlockStore.kept c.args.store.now) (g.S.BlockStore.kept c.take.new.store))) (sym was) c.take.ensures.crash

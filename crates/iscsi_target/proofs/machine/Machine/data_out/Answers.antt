@@ -1,4 +1,4 @@
-use Rattle.std.proofs.Common.{◌≡◌, ℕ, ◌+◌, length, true, false, sym, ap, ◌∙◌, subst, rules}
+use Rattle.std.proofs.Common.{◌≡◌, ℕ, ◌+◌, length, true, false, sym, ap, ◌∙◌, subst, rules, List}
 use Rattle.std.specs.Prelude.{Some, None, insert}
 use Rattle.iscsi_login.specs.Held.{first_burst}
 use Rattle.iscsi_pdu.specs.Rules.{data_out_of_order}
@@ -15,10 +15,14 @@ use Rattle.iscsi_target.proofs.TaskPlaceLemmas.{tag_found, with_same}
 use Rattle.iscsi_target.proofs.ServingLemmas.{answered_follows, dropped_follows, works_follow, on_err}
 use Rattle.iscsi_target.proofs.DispatchLemmas.{data_dropped, data_refused, data_taken_by, data_session}
 use Rattle.iscsi_target.proofs.TaskRunLemmas.{short_halts, works_same, ones_written}
+use Rattle.iscsi_target.specs.Crash.{Crashes, commands_by, commands_of}
+use Rattle.iscsi_target.proofs.CrashLemmas.{commands_same}
+use Rattle.scsi_disk.specs.Runs.{Supplied}
+use Rattle.iscsi_target.specs.Machine.{Next}
 use Rattle.iscsi_target.proofs.machine.Machine.data_out.Goals as goal
 
-pub returns-in_default : goal.returns-in_default
-returns-in_default g c =
+pub returns-in_default-clause-follows : goal.returns-in_default-clause-follows
+returns-in_default-clause-follows g c =
     let none : write_of c.args.self.now.tasks c.args.head.now.initiator_task_tag
     ≡ None = ap (λ (x : Machine). write_of x.tasks c.args.head.now.initiator_task_tag) (sym c.self.view_is) ∙ c.in_default.ensures.none in
     dropped_follows (g.S.BlockStore.failures c.args.store.now) c.args.self.now (data_out c.args.self.now c.args.received.now c.args.head.now c.args.bytes.now)
@@ -26,8 +30,8 @@ returns-in_default g c =
     (data_dropped c.args.self.now c.args.received.now c.args.head.now c.args.bytes.now none)
     (ap (with_tasks c.self.inside.session) c.in_default.ensures.kept ∙ c.self.view_is)
 
-pub returns-in_err-is_due : goal.returns-in_err-is_due
-returns-in_err-is_due g c = record {
+pub returns-in_err-is_due-clause-follows : goal.returns-in_err-is_due-clause-follows
+returns-in_err-is_due-clause-follows g c = record {
   ok = search rules;
   err = on_err c.from_residual.result (short_halts (g.S.BlockStore.failures c.args.store.now) c.args.self.now
       (with_tasks c.self.inside.session c.take_write.new.self) (g.S.BlockStore.disk c.args.store.now) c.args.out.now.items
@@ -35,8 +39,8 @@ returns-in_err-is_due g c = record {
       (data_session c.args.self.now c.args.received.now c.args.head.now c.args.bytes.now) (ap closed c.self.view_is));
 }
 
-pub returns-then-not-is_due : goal.returns-then-not-is_due
-returns-then-not-is_due g c =
+pub returns-then-not-is_due-clause-follows : goal.returns-then-not-is_due-clause-follows
+returns-then-not-is_due-clause-follows g c =
     let found : write_of c.self.inside.tasks c.args.head.now.initiator_task_tag ≡ Some c.in-Some.write = c.in-Some.ensures.some in
     let here : write_of c.args.self.now.tasks c.args.head.now.initiator_task_tag
     ≡ Some c.in-Some.write = ap (λ (x : Machine). write_of x.tasks c.args.head.now.initiator_task_tag) (sym c.self.view_is) ∙ found in
@@ -61,8 +65,8 @@ returns-then-not-is_due g c =
     (subst (λ (x : Machine). Leaves (breaks x (g.S.BlockStore.disk c.args.store.now) data_out_of_order c.args.received.now) c.breach.result x c.breach.new.self
     c.args.out.now.items c.breach.new.out.items) whole (c.breach.ensures (g.S.BlockStore.disk c.args.store.now)))
 
-pub returns : goal.returns
-returns g c =
+pub returns-clause-follows : goal.returns-clause-follows
+returns-clause-follows g c =
     let found : write_of c.self.inside.tasks c.args.head.now.initiator_task_tag ≡ Some c.in-Some.write = c.in-Some.ensures.some in
     let here : write_of c.args.self.now.tasks c.args.head.now.initiator_task_tag
     ≡ Some c.in-Some.write = ap (λ (x : Machine). write_of x.tasks c.args.head.now.initiator_task_tag) (sym c.self.view_is) ∙ found in
@@ -95,4 +99,36 @@ returns g c =
     (ones_written (with_data c.in-Some.write c.args.head.now c.args.bytes.now) c.args.self.now.tasks)
     (subst (λ (x : Machine). Works x.session x.tasks c.work_off.result (store_of (g.S.BlockStore.disk c.args.store.now)
     (g.S.BlockStore.failures c.args.store.now)) c.args.out.now.items c.work_off.new.self (store_of (g.S.BlockStore.disk c.work_off.new.store)
-    (g.S.BlockStore.failures c.work_off.new.store)) c.work_off.new.out.items) whole c.work_off.ensures))
+    (g.S.BlockStore.failures c.work_off.new.store)) c.work_off.new.out.items) whole c.work_off.ensures.works))
+
+pub returns-clause-crash : goal.returns-clause-crash
+returns-clause-crash g c =
+    let found : write_of c.self.inside.tasks c.args.head.now.initiator_task_tag ≡ Some c.in-Some.write = c.in-Some.ensures.some in
+    let here : write_of c.args.self.now.tasks c.args.head.now.initiator_task_tag
+    ≡ Some c.in-Some.write = ap (λ (x : Machine). write_of x.tasks c.args.head.now.initiator_task_tag) (sym c.self.view_is) ∙ found in
+    let tag : c.in-Some.write.initiator_task_tag ≡ c.args.head.now.initiator_task_tag =
+    tag_found c.args.head.now.initiator_task_tag c.self.inside.tasks c.in-Some.write found in
+    let burst : c.first_burst.result ≡ first_burst c.args.self.now.session.held = c.first_burst.ensures
+    ∙ ap (λ (x : Machine). first_burst x.session.held) c.self.view_is in
+    let due : is_in_sequence (first_burst c.args.self.now.session.held) c.in-Some.write c.args.head.now (received c.in-Some.write
+    + length c.args.bytes.now) c.in-Some.write.due ≡ true =
+    ap (λ (k : ℕ). is_in_sequence k c.in-Some.write c.args.head.now (received c.in-Some.write + length c.args.bytes.now) c.in-Some.write.due) (sym burst)
+    ∙ sym c.in_ok-is_due.ensures.due ∙ c.if-not-is_due.false in
+    let taken : c.take.new.self ≡ joined_write (with_data c.in-Some.write c.args.head.now c.args.bytes.now) =
+    c.in_ok-is_due.ensures.taken c.if-not-is_due.false in
+    let put : c.put_write.new.self ≡ with_write (joined_write (with_data c.in-Some.write c.args.head.now c.args.bytes.now)) c.self.inside.tasks =
+    c.put_write.ensures ∙ ap (λ (x : Write). insert c.take_write.new.self c.in-Some.place (Data x)) taken
+    ∙ c.in-Some.ensures.back (joined_write (with_data c.in-Some.write c.args.head.now c.args.bytes.now)) tag in
+    let whole : with_tasks c.self.inside.session c.put_write.new.self ≡ with_tasks c.args.self.now.session
+    (with_write (joined_write (with_data c.in-Some.write c.args.head.now c.args.bytes.now)) c.args.self.now.tasks) =
+    ap (with_tasks c.self.inside.session) put ∙ ap (λ (x : Machine). with_tasks x.session
+    (with_write (joined_write (with_data c.in-Some.write c.args.head.now c.args.bytes.now)) x.tasks)) c.self.view_is in
+    let v : Write = with_data c.in-Some.write c.args.head.now c.args.bytes.now in
+    subst (λ (x : Next). Crashes (commands_by x) (g.S.BlockStore.disk c.args.store.now) (g.S.BlockStore.disk c.work_off.new.store)
+    (g.S.BlockStore.kept c.args.store.now) (g.S.BlockStore.kept c.work_off.new.store))
+    (sym (data_taken_by c.args.self.now c.args.received.now c.args.head.now c.args.bytes.now c.in-Some.write here due))
+    (subst (λ (orders : List Supplied). Crashes orders (g.S.BlockStore.disk c.args.store.now) (g.S.BlockStore.disk c.work_off.new.store)
+    (g.S.BlockStore.kept c.args.store.now) (g.S.BlockStore.kept c.work_off.new.store))
+    (commands_same (with_write (joined_write v) c.args.self.now.tasks) (with_write v c.args.self.now.tasks) (ones_written v c.args.self.now.tasks))
+    (subst (λ (x : Machine). Crashes (commands_of x.tasks) (g.S.BlockStore.disk c.args.store.now) (g.S.BlockStore.disk c.work_off.new.store)
+    (g.S.BlockStore.kept c.args.store.now) (g.S.BlockStore.kept c.work_off.new.store)) whole c.work_off.ensures.crash))

@@ -2,6 +2,7 @@ use Rattle.std.proofs.Common.{◌<◌, ℕ, ◌^◌, [], refl, arith, rules}
 use Rattle.scsi_disk.specs.Effect.{Effect}
 use Rattle.iscsi_target.proofs.OrderLemmas.{order_keeps, given_most}
 use Rattle.iscsi_target.proofs.ServingLemmas.{order_serves, on_err}
+use Rattle.iscsi_target.proofs.CrashLemmas.{none_written}
 use Rattle.iscsi_target.proofs.machine.Machine.execute_order.Goals as goal
 
 pub send_outcome-requires : goal.send_outcome-requires
@@ -16,8 +17,8 @@ send_outcome-requires g c =
       short,
     )
 
-pub returns-in_err-send_outcome : goal.returns-in_err-send_outcome
-returns-in_err-send_outcome g c = record {
+pub returns-in_err-send_outcome-clause-handles : goal.returns-in_err-send_outcome-clause-handles
+returns-in_err-send_outcome-clause-handles g c = record {
   ok = search rules;
   err = let fa : ℕ = g.S.BlockStore.failures c.execute_planned.new.store in
       let now = g.S.BlockStore.disk c.execute_planned.new.store in
@@ -31,8 +32,8 @@ returns-in_err-send_outcome g c = record {
       });
 }
 
-pub returns : goal.returns
-returns g c = record {
+pub returns-clause-handles : goal.returns-clause-handles
+returns-clause-handles g c = record {
   ok = let fa : ℕ = g.S.BlockStore.failures c.execute_planned.new.store in
       let now = g.S.BlockStore.disk c.execute_planned.new.store in
       let e : Effect = record { disk = now; outcome = c.in_ok-outcome.outcome } in
@@ -41,3 +42,21 @@ returns g c = record {
       c.in_ok-send_outcome.ensures.ok;
   err = search rules;
 }
+
+pub returns-in_err-outcome-clause-crash : goal.returns-in_err-outcome-clause-crash
+returns-in_err-outcome-clause-crash g c =
+    none_written c.args.order [] (g.S.BlockStore.disk c.args.store.now) (g.S.BlockStore.disk c.execute_planned.new.store)
+    (g.S.BlockStore.kept c.args.store.now) (g.S.BlockStore.kept c.execute_planned.new.store) c.execute_planned.ensures.count c.requires.gives
+    (g.met.S.BlockStore.stays c.args.store.now) c.execute_planned.ensures.crash
+
+pub returns-in_err-send_outcome-clause-crash : goal.returns-in_err-send_outcome-clause-crash
+returns-in_err-send_outcome-clause-crash g c =
+    none_written c.args.order [] (g.S.BlockStore.disk c.args.store.now) (g.S.BlockStore.disk c.execute_planned.new.store)
+    (g.S.BlockStore.kept c.args.store.now) (g.S.BlockStore.kept c.execute_planned.new.store) c.execute_planned.ensures.count c.requires.gives
+    (g.met.S.BlockStore.stays c.args.store.now) c.execute_planned.ensures.crash
+
+pub returns-clause-crash : goal.returns-clause-crash
+returns-clause-crash g c =
+    none_written c.args.order [] (g.S.BlockStore.disk c.args.store.now) (g.S.BlockStore.disk c.execute_planned.new.store)
+    (g.S.BlockStore.kept c.args.store.now) (g.S.BlockStore.kept c.execute_planned.new.store) c.execute_planned.ensures.count c.requires.gives
+    (g.met.S.BlockStore.stays c.args.store.now) c.execute_planned.ensures.crash

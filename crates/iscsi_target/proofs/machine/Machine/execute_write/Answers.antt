@@ -1,6 +1,6 @@
-use Rattle.std.proofs.Common.{◌≡◌, ℕ, List, [], refl, sym, subst, ◌∙◌, rules}
+use Rattle.std.proofs.Common.{◌≡◌, ℕ, List, [], refl, sym, subst, ◌∙◌, rules, ◌∷◌}
 use Rattle.std.specs.Prelude.{None}
-use Rattle.scsi_disk.specs.Effect.{Effect, Executes}
+use Rattle.scsi_disk.specs.Effect.{Effect, Executes, IsSupplied}
 use Rattle.iscsi_target.specs.Write.{Write}
 use Rattle.iscsi_target.specs.State.{waiting}
 use Rattle.iscsi_target.specs.Execution.{Device, execute}
@@ -10,10 +10,13 @@ use Rattle.iscsi_target.proofs.OpenWriteLemmas.{data_of_one}
 use Rattle.iscsi_target.proofs.OrderLemmas.{write_gives_none}
 use Rattle.iscsi_target.proofs.ServingLemmas.{order_serves}
 use Rattle.iscsi_target.proofs.CommandLemmas.{told_write}
+use Rattle.iscsi_target.proofs.CrashLemmas.{one_done}
+use Rattle.iscsi_target.specs.Crash.{Crashes}
+use Rattle.iscsi_stream.specs.Pieces.{data_of}
 use Rattle.iscsi_target.proofs.machine.Machine.execute_write.Goals as goal
 
-pub returns : goal.returns
-returns g c = record {
+pub returns-clause-handles : goal.returns-clause-handles
+returns-clause-handles g c = record {
   ok = let fa : ℕ = g.S.BlockStore.failures c.execute.new.store in
       let now = g.S.BlockStore.disk c.execute.new.store in
       let e : Effect = record { disk = now; outcome = c.in_ok-outcome.outcome } in
@@ -35,3 +38,15 @@ returns g c = record {
       c.in_ok-reserve.ensures.items c.in-Ok.ensures.ok));
   err = search rules;
 }
+
+pub returns-clause-crash : goal.returns-clause-crash
+returns-clause-crash g c =
+    let w = c.write.inside in
+    let supplied : IsSupplied (g.S.BlockStore.disk c.args.store.now).count w.order c.deref.result.now = search rules in
+    subst (λ (v : Write). Crashes ((v.order, data_of v.pieces) ∷ []) (g.S.BlockStore.disk c.args.store.now)
+    (g.S.BlockStore.disk c.execute.new.store) (g.S.BlockStore.kept c.args.store.now) (g.S.BlockStore.kept c.execute.new.store)) c.write.view_is
+    (subst (λ (bytes : List ℕ). Crashes ((w.order, bytes) ∷ []) (g.S.BlockStore.disk c.args.store.now) (g.S.BlockStore.disk c.execute.new.store)
+    (g.S.BlockStore.kept c.args.store.now) (g.S.BlockStore.kept c.execute.new.store))
+    (c.deref.ensures.value ∙ sym (data_of_one w.data.items))
+    (one_done w.order c.deref.result.now (g.S.BlockStore.disk c.args.store.now) (g.S.BlockStore.disk c.execute.new.store)
+    (g.S.BlockStore.kept c.args.store.now) (g.S.BlockStore.kept c.execute.new.store) c.execute.ensures.count supplied c.execute.ensures.crash))

@@ -1,4 +1,4 @@
-use Rattle.std.proofs.Common.{◌≡◌, inl, [], ◌∷◌, ◌++◌, true, sym, ap, ◌∙◌, arith}
+use Rattle.std.proofs.Common.{◌≡◌, inl, [], ◌∷◌, ◌++◌, true, sym, ap, ◌∙◌, arith, subst}
 use Rattle.std.specs.Prelude.{Some, None}
 use Rattle.iscsi_pdu.specs.Rules.{too_many_immediate}
 use Rattle.iscsi_target.specs.State.{Machine, waiting}
@@ -9,10 +9,12 @@ use Rattle.iscsi_target.specs.Inside.{refusal, store_of}
 use Rattle.iscsi_target.proofs.WindowLemmas.{no_length, some_length}
 use Rattle.iscsi_target.proofs.ServingLemmas.{answered_follows, works_follow}
 use Rattle.iscsi_target.proofs.DispatchLemmas.{no_room, at_once, admitted_some, admitted_none}
+use Rattle.iscsi_target.specs.Crash.{Crashes, commands_by}
+use Rattle.iscsi_target.specs.Machine.{Next}
 use Rattle.iscsi_target.proofs.machine.Machine.serve_at_once.Goals as goal
 
-pub returns-then-len-gt0 : goal.returns-then-len-gt0
-returns-then-len-gt0 g c =
+pub returns-then-len-gt0-clause-follows : goal.returns-then-len-gt0-clause-follows
+returns-then-len-gt0-clause-follows g c =
     let busy : is_busy c.args.self.now.tasks ≡ true = ap (λ (x : Machine). is_busy x.tasks) (sym c.self.view_is)
     ∙ some_length c.self.inside.tasks (omega (arith, c.len.ensures.value, c.if-len-gt0.true)) in
     answered_follows c.reject.result (g.S.BlockStore.failures c.args.store.now) c.args.self.now
@@ -32,8 +34,8 @@ pub admit-requires-clause-turn : goal.admit-requires-clause-turn
 admit-requires-clause-turn g c = inl (ap (λ (x : Machine). x.tasks) (sym c.self.view_is)
     ∙ no_length c.self.inside.tasks (omega (arith, c.len.ensures.value, c.if-len-gt0.false)))
 
-pub returns-in-Some : goal.returns-in-Some
-returns-in-Some g c =
+pub returns-in-Some-clause-follows : goal.returns-in-Some-clause-follows
+returns-in-Some-clause-follows g c =
     let none : c.args.self.now.tasks ≡ [] = ap (λ (x : Machine). x.tasks) (sym c.self.view_is)
     ∙ no_length c.self.inside.tasks (omega (arith, c.len.ensures.value, c.if-len-gt0.false)) in
     let some : refusal c.args.self.now c.args.received.now ≡ Some c.in-Some.rule = sym c.refusal.ensures ∙ c.in-Some.is in
@@ -45,8 +47,8 @@ returns-in-Some g c =
     ∙ admitted_some c.args.self.now (g.S.BlockStore.disk c.args.store.now).count c.args.received.now c.in-Some.rule some)
     (c.breach.ensures (g.S.BlockStore.disk c.args.store.now))
 
-pub returns-in-None : goal.returns-in-None
-returns-in-None g c =
+pub returns-in-None-clause-follows : goal.returns-in-None-clause-follows
+returns-in-None-clause-follows g c =
     let none : c.args.self.now.tasks ≡ [] = ap (λ (x : Machine). x.tasks) (sym c.self.view_is)
     ∙ no_length c.self.inside.tasks (omega (arith, c.len.ensures.value, c.if-len-gt0.false)) in
     let kept : refusal c.args.self.now c.args.received.now ≡ None = sym c.refusal.ensures ∙ c.in-None.is in
@@ -55,4 +57,14 @@ returns-in-None g c =
     (store_of (g.S.BlockStore.disk c.args.store.now) (g.S.BlockStore.failures c.args.store.now)) c.args.out.now.items c.admit.new.self
     (store_of (g.S.BlockStore.disk c.admit.new.store) (g.S.BlockStore.failures c.admit.new.store)) c.admit.new.out.items
     (sym (at_once c.args.self.now (g.S.BlockStore.disk c.args.store.now).count c.args.received.now none)
-    ∙ admitted_none c.args.self.now (g.S.BlockStore.disk c.args.store.now).count c.args.received.now kept) c.admit.ensures
+    ∙ admitted_none c.args.self.now (g.S.BlockStore.disk c.args.store.now).count c.args.received.now kept) c.admit.ensures.works
+
+pub returns-in-None-clause-crash : goal.returns-in-None-clause-crash
+returns-in-None-clause-crash g c =
+    let none : c.args.self.now.tasks ≡ [] = ap (λ (x : Machine). x.tasks) (sym c.self.view_is)
+    ∙ no_length c.self.inside.tasks (omega (arith, c.len.ensures.value, c.if-len-gt0.false)) in
+    let kept : refusal c.args.self.now c.args.received.now ≡ None = sym c.refusal.ensures ∙ c.in-None.is in
+    subst (λ (x : Next). Crashes (commands_by x) (g.S.BlockStore.disk c.args.store.now) (g.S.BlockStore.disk c.admit.new.store)
+    (g.S.BlockStore.kept c.args.store.now) (g.S.BlockStore.kept c.admit.new.store))
+    (sym (sym (at_once c.args.self.now (g.S.BlockStore.disk c.args.store.now).count c.args.received.now none) ∙ admitted_none c.args.self.now
+    (g.S.BlockStore.disk c.args.store.now).count c.args.received.now kept)) c.admit.ensures.crash

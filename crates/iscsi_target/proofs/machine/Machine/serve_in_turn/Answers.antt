@@ -12,17 +12,19 @@ use Rattle.iscsi_target.specs.Inside.{Leaves, Works, refusal, store_of}
 use Rattle.iscsi_target.proofs.WindowLemmas.{room_within}
 use Rattle.iscsi_target.proofs.ServingLemmas.{answered_follows, dropped_follows, works_follow, on_err}
 use Rattle.iscsi_target.proofs.DispatchLemmas.{outside, out_of_turn, inside, admitted_some, admitted_none, turned_back, any_ok}
+use Rattle.iscsi_target.specs.Crash.{Crashes, commands_by, commands_of}
+use Rattle.iscsi_target.specs.Machine.{Next}
 use Rattle.iscsi_target.proofs.machine.Machine.serve_in_turn.Goals as goal
 
-pub returns-then-not-is_within : goal.returns-then-not-is_within
-returns-then-not-is_within g c =
+pub returns-then-not-is_within-clause-follows : goal.returns-then-not-is_within-clause-follows
+returns-then-not-is_within-clause-follows g c =
     dropped_follows (g.S.BlockStore.failures c.args.store.now) c.args.self.now (in_turn c.args.self.now (g.S.BlockStore.disk c.args.store.now).count
     c.args.received.now c.args.cmd_sn).next (g.S.BlockStore.disk c.args.store.now) c.args.self.now c.args.out.now.items
     (outside c.args.self.now (g.S.BlockStore.disk c.args.store.now).count c.args.received.now c.args.cmd_sn c.is_within.result c.is_within.ensures
     c.if-not-is_within.true) refl
 
-pub returns-then-cmd_sn-numbers : goal.returns-then-cmd_sn-numbers
-returns-then-cmd_sn-numbers g c =
+pub returns-then-cmd_sn-numbers-clause-follows : goal.returns-then-cmd_sn-numbers-clause-follows
+returns-then-cmd_sn-numbers-clause-follows g c =
     let apart : (c.args.cmd_sn == c.args.self.now.session.exp_cmd_sn) ≡ false = search rules in
     answered_follows c.breach.result (g.S.BlockStore.failures c.args.store.now) c.args.self.now
     (breach c.args.self.now.session (waiting c.args.self.now.tasks) command_out_of_turn c.args.received.now)
@@ -37,8 +39,8 @@ admit-requires-clause-room g c =
     c.numbers.ensures.fits c.numbers.ensures.few in
     subst (λ (x : Machine). waiting x.tasks ≤ 7) (sym c.advance.ensures) free
 
-pub returns-in_default : goal.returns-in_default
-returns-in_default g c =
+pub returns-in_default-clause-follows : goal.returns-in_default-clause-follows
+returns-in_default-clause-follows g c =
     let same : (c.args.cmd_sn == c.args.self.now.session.exp_cmd_sn) ≡ true = search rules in
     let none : c.refusal.result ≡ None = search rules in
     let kept : refusal (advanced c.args.self.now) c.args.received.now ≡ None = ap (λ (x : Machine). refusal x c.args.received.now) (sym c.advance.ensures)
@@ -51,10 +53,11 @@ returns-in_default g c =
     c.if-not-is_within.false same) ∙ admitted_none (advanced c.args.self.now) (g.S.BlockStore.disk c.args.store.now).count c.args.received.now kept)
     (subst (λ (x : Machine). Works x.session (x.tasks ++ task_of (g.S.BlockStore.disk c.args.store.now).count c.args.received.now ∷ []) c.admit.result
     (store_of (g.S.BlockStore.disk c.args.store.now) (g.S.BlockStore.failures c.args.store.now)) c.args.out.now.items c.admit.new.self
-    (store_of (g.S.BlockStore.disk c.admit.new.store) (g.S.BlockStore.failures c.admit.new.store)) c.admit.new.out.items) c.advance.ensures c.admit.ensures)
+    (store_of (g.S.BlockStore.disk c.admit.new.store)
+    (g.S.BlockStore.failures c.admit.new.store)) c.admit.new.out.items) c.advance.ensures c.admit.ensures.works)
 
-pub returns-then-is_err : goal.returns-then-is_err
-returns-then-is_err g c =
+pub returns-then-is_err-clause-follows : goal.returns-then-is_err-clause-follows
+returns-then-is_err-clause-follows g c =
     let due : c.args.cmd_sn ≡ c.args.self.now.session.exp_cmd_sn = search rules in
     let back : (with_tasks c.expect.new.self c.self.inside.tasks) ≡ record c.breach-result.new.self {
       session =
@@ -78,8 +81,8 @@ returns-then-is_err g c =
     (c.breach-result.ensures (g.S.BlockStore.disk c.args.store.now)))
     (search rules) (on_err c.breach-result.result back)
 
-pub returns-else-is_err : goal.returns-else-is_err
-returns-else-is_err g c =
+pub returns-else-is_err-clause-follows : goal.returns-else-is_err-clause-follows
+returns-else-is_err-clause-follows g c =
     let same : (c.args.cmd_sn == c.args.self.now.session.exp_cmd_sn) ≡ true = search rules in
     let some : c.refusal.result ≡ Some c.in-Some.rule = search rules in
     let rule : refusal (advanced c.args.self.now) c.args.received.now ≡ Some c.in-Some.rule =
@@ -95,3 +98,17 @@ returns-else-is_err g c =
     c.breach-result.new.self c.args.out.now.items c.breach-result.new.out.items) c.advance.ensures
     (c.breach-result.ensures (g.S.BlockStore.disk c.args.store.now)))
     (any_ok c.breach-result.result refl) (search rules)
+
+pub returns-in_default-clause-crash : goal.returns-in_default-clause-crash
+returns-in_default-clause-crash g c =
+    let same : (c.args.cmd_sn == c.args.self.now.session.exp_cmd_sn) ≡ true = search rules in
+    let none : c.refusal.result ≡ None = search rules in
+    let kept : refusal (advanced c.args.self.now) c.args.received.now ≡ None = ap (λ (x : Machine). refusal x c.args.received.now) (sym c.advance.ensures)
+    ∙ sym c.refusal.ensures ∙ none in
+    subst (λ (x : Next). Crashes (commands_by x) (g.S.BlockStore.disk c.args.store.now) (g.S.BlockStore.disk c.admit.new.store)
+    (g.S.BlockStore.kept c.args.store.now) (g.S.BlockStore.kept c.admit.new.store))
+    (sym (sym (inside c.args.self.now (g.S.BlockStore.disk c.args.store.now).count c.args.received.now c.args.cmd_sn c.is_within.result c.is_within.ensures
+    c.if-not-is_within.false same) ∙ admitted_none (advanced c.args.self.now) (g.S.BlockStore.disk c.args.store.now).count c.args.received.now kept))
+    (subst (λ (x : Machine). Crashes (commands_of (x.tasks ++ task_of (g.S.BlockStore.disk c.args.store.now).count c.args.received.now ∷ []))
+    (g.S.BlockStore.disk c.args.store.now) (g.S.BlockStore.disk c.admit.new.store) (g.S.BlockStore.kept c.args.store.now)
+    (g.S.BlockStore.kept c.admit.new.store)) c.advance.ensures c.admit.ensures.crash)

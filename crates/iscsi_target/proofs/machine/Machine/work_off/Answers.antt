@@ -1,30 +1,34 @@
-use Rattle.std.proofs.Common.{◌≡◌, true, length, sym, ap, ◌∙◌, rules}
+use Rattle.std.proofs.Common.{◌≡◌, ◌∷◌, true, length, sym, ap, ◌∙◌, rules}
 use Rattle.std.specs.Prelude.{◌||◌, nat_lt}
 use Rattle.std.specs.declared.alloc.AllocError.{AllocError}
 use Rattle.iscsi_target.specs.Machine.{is_closed}
 use Rattle.iscsi_target.specs.Inside.{store_of}
+use Rattle.iscsi_target.specs.Crash.{commands_of}
+use Rattle.iscsi_target.proofs.CrashLemmas.{goes_first, task_done, tasks_left}
 use Rattle.iscsi_target.proofs.ServingLemmas.{on_err}
 use Rattle.iscsi_target.proofs.TurnLemmas.{with_tasks}
-use Rattle.iscsi_target.proofs.TaskRunLemmas.{goes_start, goes_then, goes_stop, goes_short, goes_end, either}
+use Rattle.iscsi_target.proofs.TaskRunLemmas.{Goes, left_behind, goes_start, goes_then, goes_stop, goes_short, goes_end, either}
 use Rattle.iscsi_target.proofs.machine.Machine.work_off.Goals as goal
 use Rattle.iscsi_target.proofs.machine.Machine.work_off.Goals.{then-is_closed-via-then-is_closed, then-is_closed-via-else-is_closed+then-len-behind}
 
 pub loop-task-init : goal.loop-task-init
-loop-task-init g c = goes_start c.args.self.now (store_of (g.S.BlockStore.disk c.args.store.now) (g.S.BlockStore.failures c.args.store.now))
-    c.args.out.now.items
+loop-task-init g c = record {
+  works = goes_start c.args.self.now (store_of (g.S.BlockStore.disk c.args.store.now) (g.S.BlockStore.failures c.args.store.now)) c.args.out.now.items;
+  crash = goes_first (commands_of c.args.self.now.tasks) (g.S.BlockStore.disk c.args.store.now) (g.S.BlockStore.kept c.args.store.now);
+}
 
-pub returns-in_err-broken : goal.returns-in_err-broken
-returns-in_err-broken g c =
+pub returns-in_err-broken-clause-works : goal.returns-in_err-broken-clause-works
+returns-in_err-broken-clause-works g c =
     let h = goes_short c.in_err-broken.field-0.0 c.args.self.now c.loop-task.self c.begin.new.self (store_of (g.S.BlockStore.disk c.args.store.now)
     (g.S.BlockStore.failures c.args.store.now)) (store_of (g.S.BlockStore.disk c.loop-task.store) (g.S.BlockStore.failures c.loop-task.store))
     (store_of (g.S.BlockStore.disk c.begin.new.store) (g.S.BlockStore.failures c.begin.new.store)) c.args.out.now.items c.loop-task.out.items
     c.begin.new.out.items
-    c.self.inside.session c.in-Some.task c.take_first.new.self c.loop-task.invariant (sym c.self.view_is
-    ∙ ap (with_tasks c.self.inside.session) c.in-Some.ensures.some) c.in_err-broken.ensures.err in
+    c.self.inside.session c.in-Some.task c.take_first.new.self c.loop-task.invariant.works (sym c.self.view_is
+    ∙ ap (with_tasks c.self.inside.session) c.in-Some.ensures.some) c.in_err-broken.ensures.handles.err in
     record { ok = search rules; err = on_err c.from_residual.result h.err }
 
-pub returns-then-is_closed : goal.returns-then-is_closed
-returns-then-is_closed g c =
+pub returns-then-is_closed-clause-works : goal.returns-then-is_closed-clause-works
+returns-then-is_closed-clause-works g c =
     let stop : (nat_lt (length c.take_first.new.self) (length c.begin.new.self.tasks) || is_closed c.begin.new.self) ≡ true = elim c.then-is_closed.branch [
       | then-is_closed-via-then-is_closed w ↦ either (nat_lt (length c.take_first.new.self) (length c.begin.new.self.tasks)) (is_closed c.begin.new.self)
           (sym c.is_closed.ensures ∙ w.if-is_closed.true)
@@ -34,23 +38,58 @@ returns-then-is_closed g c =
     (g.S.BlockStore.failures c.args.store.now)) (store_of (g.S.BlockStore.disk c.loop-task.store) (g.S.BlockStore.failures c.loop-task.store))
     (store_of (g.S.BlockStore.disk c.begin.new.store) (g.S.BlockStore.failures c.begin.new.store)) c.args.out.now.items c.loop-task.out.items
     c.begin.new.out.items
-    c.self.inside.session c.in-Some.task c.take_first.new.self c.in_ok-broken.broken c.loop-task.invariant (sym c.self.view_is
-    ∙ ap (with_tasks c.self.inside.session) c.in-Some.ensures.some) c.in_ok-broken.ensures.ok stop
+    c.self.inside.session c.in-Some.task c.take_first.new.self c.in_ok-broken.broken c.loop-task.invariant.works (sym c.self.view_is
+    ∙ ap (with_tasks c.self.inside.session) c.in-Some.ensures.some) c.in_ok-broken.ensures.handles.ok stop
 
 pub loop-task-preserved : goal.loop-task-preserved
 loop-task-preserved g c =
-    goes_then c.args.self.now c.loop-task.self c.begin.new.self (store_of (g.S.BlockStore.disk c.args.store.now) (g.S.BlockStore.failures c.args.store.now))
-    (store_of (g.S.BlockStore.disk c.loop-task.store) (g.S.BlockStore.failures c.loop-task.store))
-    (store_of (g.S.BlockStore.disk c.begin.new.store) (g.S.BlockStore.failures c.begin.new.store)) c.args.out.now.items c.loop-task.out.items
-    c.begin.new.out.items
-    c.self.inside.session c.in-Some.task c.take_first.new.self c.in_ok-broken.broken c.loop-task.invariant (sym c.self.view_is
-    ∙ ap (with_tasks c.self.inside.session) c.in-Some.ensures.some)
-    (record { serves = c.in_ok-broken.ensures.ok; live = sym c.is_closed.ensures ∙ c.if-is_closed.false; done = search rules })
+    let is : c.loop-task.self ≡ with_tasks c.self.inside.session (c.in-Some.task ∷ c.take_first.new.self) =
+    sym c.self.view_is ∙ ap (with_tasks c.self.inside.session) c.in-Some.ensures.some in
+    let step : Goes (g.S.BlockStore.failures c.loop-task.store) (g.S.BlockStore.failures c.begin.new.store) c.self.inside.session
+    (g.S.BlockStore.disk c.loop-task.store) c.in-Some.task c.take_first.new.self c.in_ok-broken.broken c.begin.new.self
+    (g.S.BlockStore.disk c.begin.new.store) c.loop-task.out.items c.begin.new.out.items =
+    record { serves = c.in_ok-broken.ensures.handles.ok; live = sym c.is_closed.ensures ∙ c.if-is_closed.false; done = search rules } in
+    record {
+      works = goes_then c.args.self.now c.loop-task.self c.begin.new.self (store_of (g.S.BlockStore.disk c.args.store.now)
+          (g.S.BlockStore.failures c.args.store.now))
+          (store_of (g.S.BlockStore.disk c.loop-task.store) (g.S.BlockStore.failures c.loop-task.store))
+          (store_of (g.S.BlockStore.disk c.begin.new.store) (g.S.BlockStore.failures c.begin.new.store)) c.args.out.now.items c.loop-task.out.items
+          c.begin.new.out.items
+          c.self.inside.session c.in-Some.task c.take_first.new.self c.in_ok-broken.broken c.loop-task.invariant.works is step;
+      crash = tasks_left (commands_of c.args.self.now.tasks) c.take_first.new.self c.begin.new.self.tasks (g.S.BlockStore.disk c.args.store.now)
+          (g.S.BlockStore.disk c.begin.new.store) (g.S.BlockStore.kept c.args.store.now) (g.S.BlockStore.kept c.begin.new.store)
+          (left_behind (g.S.BlockStore.failures c.loop-task.store) (g.S.BlockStore.failures c.begin.new.store) c.self.inside.session
+          (g.S.BlockStore.disk c.loop-task.store) c.in-Some.task c.take_first.new.self c.in_ok-broken.broken c.begin.new.self
+          (g.S.BlockStore.disk c.begin.new.store) c.loop-task.out.items c.begin.new.out.items step)
+          (task_done (commands_of c.args.self.now.tasks) c.loop-task.self c.self.inside.session c.in-Some.task c.take_first.new.self
+          (g.S.BlockStore.disk c.args.store.now) (g.S.BlockStore.disk c.loop-task.store) (g.S.BlockStore.disk c.begin.new.store)
+          (g.S.BlockStore.kept c.args.store.now) (g.S.BlockStore.kept c.loop-task.store) (g.S.BlockStore.kept c.begin.new.store) is
+          c.loop-task.invariant.crash (g.met.S.BlockStore.stays c.loop-task.store) c.in_ok-broken.ensures.crash);
+    }
 
-pub returns : goal.returns
-returns g c =
+pub returns-clause-works : goal.returns-clause-works
+returns-clause-works g c =
     goes_end AllocError c.args.self.now c.loop-task.self (with_tasks c.self.inside.session c.take_first.new.self)
     (store_of (g.S.BlockStore.disk c.args.store.now) (g.S.BlockStore.failures c.args.store.now))
     (store_of (g.S.BlockStore.disk c.loop-task.store) (g.S.BlockStore.failures c.loop-task.store)) c.args.out.now.items c.loop-task.out.items
-    c.self.inside.session c.loop-task.invariant (sym c.self.view_is ∙ ap (with_tasks c.self.inside.session) c.in_default.ensures.none)
+    c.self.inside.session c.loop-task.invariant.works (sym c.self.view_is ∙ ap (with_tasks c.self.inside.session) c.in_default.ensures.none)
     (ap (with_tasks c.self.inside.session) (c.in_default.ensures.kept ∙ c.in_default.ensures.none))
+
+pub returns-in_err-broken-clause-crash : goal.returns-in_err-broken-clause-crash
+returns-in_err-broken-clause-crash g c =
+    (task_done (commands_of c.args.self.now.tasks) c.loop-task.self c.self.inside.session c.in-Some.task c.take_first.new.self
+    (g.S.BlockStore.disk c.args.store.now) (g.S.BlockStore.disk c.loop-task.store) (g.S.BlockStore.disk c.begin.new.store)
+    (g.S.BlockStore.kept c.args.store.now) (g.S.BlockStore.kept c.loop-task.store) (g.S.BlockStore.kept c.begin.new.store)
+    (sym c.self.view_is ∙ ap (with_tasks c.self.inside.session) c.in-Some.ensures.some)
+    c.loop-task.invariant.crash (g.met.S.BlockStore.stays c.loop-task.store) c.in_err-broken.ensures.crash).done
+
+pub returns-then-is_closed-clause-crash : goal.returns-then-is_closed-clause-crash
+returns-then-is_closed-clause-crash g c =
+    (task_done (commands_of c.args.self.now.tasks) c.loop-task.self c.self.inside.session c.in-Some.task c.take_first.new.self
+    (g.S.BlockStore.disk c.args.store.now) (g.S.BlockStore.disk c.loop-task.store) (g.S.BlockStore.disk c.begin.new.store)
+    (g.S.BlockStore.kept c.args.store.now) (g.S.BlockStore.kept c.loop-task.store) (g.S.BlockStore.kept c.begin.new.store)
+    (sym c.self.view_is ∙ ap (with_tasks c.self.inside.session) c.in-Some.ensures.some)
+    c.loop-task.invariant.crash (g.met.S.BlockStore.stays c.loop-task.store) c.in_ok-broken.ensures.crash).done
+
+pub returns-clause-crash : goal.returns-clause-crash
+returns-clause-crash g c = c.loop-task.invariant.crash.done

@@ -1,0 +1,172 @@
+-- What a crash leaves, command by command.
+use Rattle.std.proofs.Common.{◌≡◌, ◌⊎◌, inl, inr, ℕ, ◌*◌, ◌-◌, List, [], ◌∷◌, ◌++◌, Bool, true, false, length, refl, sym, ap, ◌∙◌, subst}
+use Rattle.std.specs.Prelude.{nat_lt, if◌then◌else◌}
+use Rattle.scsi_disk.specs.Disk.{Disk, cut, overlaid}
+use Rattle.scsi_disk.specs.Plan.{plan_of, transfer}
+use Rattle.scsi_disk.specs.Effect.{effect, disk_by, IsSupplied}
+use Rattle.scsi_disk.specs.Lasting.{Adds}
+use Rattle.scsi_disk.specs.Runs.{Supplied}
+use Rattle.scsi_disk.specs.declared.order.Order.{Order}
+use Rattle.scsi_disk.specs.declared.order.Plan.{Plan}
+use Rattle.scsi_disk.specs.declared.order.Plan.TheVariants.{Refuse, Take, Give}
+use Rattle.iscsi_target.specs.declared.tasks.Task.{Task}
+use Rattle.iscsi_target.specs.declared.tasks.Task.TheVariants.{Request, Data}
+use Rattle.iscsi_target_session.specs.Session.{Session}
+use Rattle.iscsi_target.specs.State.{Machine, joined_task}
+use Rattle.iscsi_stream.specs.Framing.{Framing, Takes, given_up, message_of}
+use Rattle.iscsi_stream.specs.Stream.{Message}
+use Rattle.iscsi_stream.proofs.TakingLemmas.{moves_gave}
+use Rattle.iscsi_target.specs.Feed.{Connection}
+use Rattle.iscsi_target.specs.Inside.{connection}
+use Rattle.iscsi_target.specs.Crash.{IsBehind, Crashes, CrashesReady, CrashesNext, command_of, commands_of}
+use Rattle.iscsi_target.proofs.FeedInvariant.{rest_moves}
+use Rattle.iscsi_stream.specs.Pieces.{data_of}
+use Rattle.iscsi_target.proofs.JoiningLemmas.{ones}
+use Rattle.iscsi_target.proofs.OpenWriteLemmas.{data_of_one}
+use Rattle.iscsi_target.proofs.TurnLemmas.{with_tasks}
+
+-- nothing was done
+pub none_done : (orders : List Supplied) (disk : Disk) (kept : ℕ → List ℕ → Type 0) → Crashes orders disk disk kept kept
+none_done orders disk kept = record { count = refl; adds = λ n c h. inl h }
+
+-- one command was executed
+pub one_done : (order : Order) (bytes : List ℕ) (before after : Disk) (old new : ℕ → List ℕ → Type 0) → after.count ≡ before.count →
+    IsSupplied before.count order bytes → Adds (effect before order bytes).disk old new → Crashes ((order, bytes) ∷ []) before after old new
+one_done order bytes before after old new count supplied adds = record {
+  count = count;
+  adds = λ n c h. elim (adds n c h) [ inl was ↦ inl was | inr is ↦ inr (inl (supplied, is)) ];
+}
+
+same_disk : (plan : Plan) (disk : Disk) (order : Order) (bytes : List ℕ) → ((k : ℕ) → plan ≡ Take k → ⊥) → disk_by plan disk order bytes ≡ disk
+same_disk (Refuse sense) disk order bytes gives = refl
+same_disk (Give k) disk order bytes gives = refl
+same_disk (Take k) disk order bytes gives = absurd (gives k refl)
+
+-- one that writes nothing was
+pub none_written : (order : Order) (bytes : List ℕ) (before after : Disk) (old new : ℕ → List ℕ → Type 0) → after.count ≡ before.count →
+    ((k : ℕ) → plan_of order before.count ≡ Take k → ⊥) → ((n : ℕ) → old n (before.block n)) → Adds (effect before order bytes).disk old new →
+    Crashes [] before after old new
+none_written order bytes before after old new count gives stays adds = record {
+  count = count;
+  adds = λ n c h. elim (adds n c h) [
+    | inl was ↦ inl was
+    | inr is ↦ inl (subst (λ (x : List ℕ). old n x)
+        (sym (is ∙ ap (λ (d : Disk). d.block n) (same_disk (plan_of order before.count) before order bytes gives))) (stays n))
+  ];
+}
+
+pub any_orders : (orders : List Supplied) (before after : Disk) (old new : ℕ → List ℕ → Type 0) → Crashes [] before after old new →
+    Crashes orders before after old new
+any_orders orders before after old new h = record {
+  count = h.count;
+  adds = λ n c k. elim (h.adds n c k) [ inl was ↦ inl was | inr none ↦ absurd none ];
+}
+
+-- ---- on another disk
+
+over_by : (x y : Bool) (a b k c : List ℕ) → c ≡ (if x then a else if y then k else a) → (c ≡ a) ⊎ (c ≡ (if x then b else if y then k else b))
+over_by true y a b k c e = inl e
+over_by false true a b k c e = inr e
+over_by false false a b k c e = inl e
+
+over : (size first n : ℕ) (bytes : List ℕ) (a b : ℕ → List ℕ) (c : List ℕ) → c ≡ overlaid size first bytes a n → (c ≡ a n) ⊎ (c ≡ overlaid size first bytes b n)
+unfolding overlaid
+over size first n bytes a b c e = over_by (nat_lt n first) (nat_lt (size * (n - first)) (length bytes)) (a n) (b n) (cut size bytes (n - first)) c e
+
+moved_by : (plan : Plan) (before now : Disk) (order : Order) (bytes : List ℕ) (n : ℕ) (c : List ℕ) → c ≡ (disk_by plan now order bytes).block n →
+    (c ≡ now.block n) ⊎ (c ≡ (disk_by plan before order bytes).block n)
+moved_by (Refuse sense) before now order bytes n c e = inl e
+moved_by (Give k) before now order bytes n c e = inl e
+moved_by (Take k) before now order bytes n c e = over 512 (transfer order.cdb).first n bytes now.block before.block c e
+
+pub moved : (orders : List Supplied) (before now : Disk) (n : ℕ) (c : List ℕ) → now.count ≡ before.count → IsBehind now orders n c →
+    (c ≡ now.block n) ⊎ IsBehind before orders n c
+moved [] before now n c same h = absurd h
+moved (o ∷ orders) before now n c same (inr h) = elim (moved orders before now n c same h) [ inl is ↦ inl is | inr more ↦ inr (inr more) ]
+moved (o ∷ orders) before now n c same (inl h) =
+    let is : c ≡ (disk_by (plan_of o.0 before.count) now o.0 o.1).block n =
+    h.1 ∙ ap (λ (k : ℕ). (disk_by (plan_of o.0 k) now o.0 o.1).block n) same in
+    elim (moved_by (plan_of o.0 before.count) before now o.0 o.1 n c is) [
+      | inl was ↦ inl was
+      | inr new ↦ inr (inl (subst (λ (k : ℕ). IsSupplied k o.0 o.1) same h.0, new))
+    ]
+
+pub at_left : (xs ys : List Supplied) (disk : Disk) (n : ℕ) (c : List ℕ) → IsBehind disk xs n c → IsBehind disk (xs ++ ys) n c
+at_left [] ys disk n c h = absurd h
+at_left (x ∷ xs) ys disk n c (inl h) = inl h
+at_left (x ∷ xs) ys disk n c (inr h) = inr (at_left xs ys disk n c h)
+
+pub at_right : (xs ys : List Supplied) (disk : Disk) (n : ℕ) (c : List ℕ) → IsBehind disk ys n c → IsBehind disk (xs ++ ys) n c
+at_right [] ys disk n c h = h
+at_right (x ∷ xs) ys disk n c h = inr (at_right xs ys disk n c h)
+
+-- ---- tasks in their turn
+
+-- some of the commands were done, and these are left
+pub record Pends (all left : List Supplied) (before now : Disk) (old kept : ℕ → List ℕ → Type 0) : Type 0 where
+  pub done : Crashes all before now old kept
+  pub rest : (n : ℕ) (c : List ℕ) → IsBehind before left n c → IsBehind before all n c
+
+pub goes_first : (all : List Supplied) (disk : Disk) (kept : ℕ → List ℕ → Type 0) → Pends all all disk disk kept kept
+goes_first all disk kept = record { done = none_done all disk kept; rest = λ n c h. h }
+
+-- the first of them was done
+pub goes_on : (all first left : List Supplied) (before now after : Disk) (old kept new : ℕ → List ℕ → Type 0) → Pends all (first ++ left) before now old kept →
+    ((n : ℕ) → kept n (now.block n)) → Crashes first now after kept new → Pends all left before after old new
+goes_on all first left before now after old kept new g stays h = record {
+  done = record {
+    count = h.count ∙ g.done.count;
+    adds = λ n c k. elim (h.adds n c k) [
+      | inl was ↦ g.done.adds n c was
+      | inr is ↦ elim (moved first before now n c g.done.count is) [
+        | inl here ↦ g.done.adds n c (subst (λ (x : List ℕ). kept n x) (sym here) (stays n))
+        | inr new ↦ inr (g.rest n c (at_left first left before n c new))
+      ]
+    ];
+  };
+  rest = λ n c k. g.rest n c (at_right first left before n c k);
+}
+
+-- ---- pieces joined
+
+command_joined : (task : Task) → command_of (joined_task task) ≡ command_of task
+command_joined (Request m) = refl
+command_joined (Data w) = ap (λ (bytes : List ℕ). (w.order, bytes) ∷ []) (data_of_one (data_of w.pieces))
+
+pub commands_joined : (tasks : List Task) → commands_of (ones tasks) ≡ commands_of tasks
+commands_joined [] = refl
+commands_joined (task ∷ more) = λ i. command_joined task i ++ commands_joined more i
+
+pub commands_same : (ts us : List Task) → ones ts ≡ ones us → commands_of ts ≡ commands_of us
+commands_same ts us e = sym (commands_joined ts) ∙ ap commands_of e ∙ commands_joined us
+
+-- the first task was done
+pub task_done : (all : List Supplied) (now : Machine) (session : Session) (task : Task) (rest : List Task) (before mid after : Disk)
+    (old kept new : ℕ → List ℕ → Type 0) → now ≡ with_tasks session (task ∷ rest) → Pends all (commands_of now.tasks) before mid old kept →
+    ((n : ℕ) → kept n (mid.block n)) → Crashes (command_of task) mid after kept new → Pends all (commands_of rest) before after old new
+task_done all now session task rest before mid after old kept new is g stays h =
+    goes_on all (command_of task) (commands_of rest) before mid after old kept new
+    (subst (λ (m : Machine). Pends all (commands_of m.tasks) before mid old kept) is g) stays h
+
+-- and these are left
+pub tasks_left : (all : List Supplied) (rest left : List Task) (before after : Disk) (old new : ℕ → List ℕ → Type 0) → ones left ≡ ones rest →
+    Pends all (commands_of rest) before after old new → Pends all (commands_of left) before after old new
+tasks_left all rest left before after old new e g =
+    subst (λ (orders : List Supplied). Pends all orders before after old new) (sym (commands_same left rest e)) g
+
+-- ---- the next PDU
+
+pub next_by : (old : Connection) (piece : List ℕ) (n : ℕ) (framing : Framing) (before after : Disk) (kept new : ℕ → List ℕ → Type 0)
+    → Takes old.framing piece n framing → CrashesReady (connection old.machine framing) before after kept new → CrashesNext old piece before after kept new
+next_by old piece n framing before after kept new t (inl h) = inl h
+next_by old piece n framing before after kept new t (inr h) =
+    let m : Message = message_of framing h.0 h.1 in
+    inr (
+      m,
+      record {
+        framing = given_up framing h.0;
+        count = n;
+        taken = rest_moves old.framing old.framing framing piece n m (given_up framing h.0) t (moves_gave framing h.0 h.1 h.2);
+      },
+      h.3,
+    )

@@ -1,0 +1,94 @@
+-- What a crash leaves of the blocks, by the commands whose data a target has (RFC 7143, sections
+-- 11.3 and 11.7).
+use Rattle.std.specs.Prelude.{◌≡◌, ◌⊎◌, ℕ, List, [], ◌∷◌, take}
+use Rattle.std.specs.List.{flat_map}
+use Rattle.scsi_disk.specs.Disk.{Disk}
+use Rattle.scsi_disk.specs.Effect.{effect, IsSupplied}
+use Rattle.scsi_disk.specs.Runs.{Supplied}
+use Rattle.iscsi_pdu.specs.declared.head.Head.{Head}
+use Rattle.iscsi_pdu.specs.declared.head.Head.TheVariants as heads
+use Rattle.iscsi_pdu.specs.Meaning.{Means}
+use Rattle.iscsi_stream.specs.Pieces.{data_of}
+use Rattle.iscsi_stream.specs.Segment.{segment_bytes}
+use Rattle.iscsi_stream.specs.Stream.{Message}
+use Rattle.iscsi_stream.specs.Framing.{Framing, Moves, message_of}
+use Rattle.iscsi_login.specs.declared.phase.Phase.{Phase}
+use Rattle.iscsi_login.specs.declared.phase.Phase.TheVariants as phases
+use Rattle.iscsi_target.specs.declared.tasks.Task.{Task}
+use Rattle.iscsi_target.specs.declared.tasks.Task.TheVariants.{Request, Data}
+use Rattle.iscsi_target.specs.State.{Machine}
+use Rattle.iscsi_target.specs.Command.{order_of}
+use Rattle.iscsi_target.specs.Machine.{Next, Dropped, Answered, Queued, full_met}
+use Rattle.iscsi_target.specs.Feed.{Connection}
+
+-- ---- commands and their data
+
+-- The command of a request with these immediate data, if it is one (section 11.3).
+abbrev pub command_in : Head → List ℕ → List Supplied
+command_in (heads.ScsiCommand h) bytes = (order_of h, bytes) ∷ []
+command_in _ bytes = []
+
+-- The command of a task, if it is one, with the data that came for it (sections 11.3 and 11.7).
+abbrev pub command_of : Task → List Supplied
+command_of (Request m) = command_in m.head (segment_bytes m.segment)
+command_of (Data w) = (w.order, data_of w.pieces) ∷ []
+
+-- The commands of tasks (section 11.3).
+abbrev pub commands_of : List Task → List Supplied
+commands_of tasks = flat_map command_of tasks
+
+-- The commands of the tasks that are done in their turn (section 4.2.2.1).
+abbrev pub commands_by : Next → List Supplied
+commands_by Dropped = []
+commands_by (Answered r) = []
+commands_by (Queued session tasks) = commands_of tasks
+
+-- The commands that may be executed for a PDU, by the phase (section 4.2.4).
+abbrev pub commands_in : Phase → Machine → ℕ → Message → List Supplied
+commands_in phases.Login s count m = []
+commands_in phases.Full s count m = commands_by (full_met s count m).next
+commands_in phases.Closed s count m = []
+
+-- The commands that may be executed for a PDU, on a disk of so many blocks (section 4.2.4).
+abbrev pub commands_at : Machine → ℕ → Message → List Supplied
+commands_at s count m = commands_in s.session.phase s count m
+
+-- ---- a crash
+
+-- So is the block of the disk behind one of these commands, of those whose data are all there.
+abbrev pub IsBehind : Disk → List Supplied → ℕ → List ℕ → Type 0
+IsBehind disk [] n bytes = ⊥
+IsBehind disk (o ∷ orders) n bytes =
+    (IsSupplied disk.count o.0 o.1 × (bytes ≡ (effect disk o.0 o.1).disk.block n))
+    ⊎ IsBehind disk orders n bytes
+
+-- A crash leaves of each block what it would have left before, or that behind one of these commands;
+-- there are as many blocks.
+pub record Crashes (orders : List Supplied) (before after : Disk)
+    (old new : ℕ → List ℕ → Type 0) : Type 0 where
+  pub count : after.count ≡ before.count
+  pub adds : (n : ℕ) (bytes : List ℕ) → new n bytes → old n bytes ⊎ IsBehind before orders n bytes
+
+-- The same behind a call, by the PDU that is ready, if one is.
+abbrev pub CrashesReady : Connection → Disk → Disk → (ℕ → List ℕ → Type 0) → (ℕ → List ℕ → Type 0)
+    → Type 0
+CrashesReady old before after kept_before kept_after =
+    Crashes [] before after kept_before kept_after
+    ⊎ ((head : Head) × (segment : List ℕ) × Means old.framing.held head segment
+    × Crashes (commands_at old.machine before.count (message_of old.framing head segment))
+    before after kept_before kept_after)
+
+-- The first PDU that the bytes complete is this one.
+pub record IsNext (old : Connection) (piece : List ℕ) (m : Message) : Type 0 where
+  pub framing : Framing
+  pub count : ℕ
+  pub taken : Moves old.framing framing (take count piece) (m ∷ [])
+
+-- A crash behind a call with these bytes leaves what it would have left before it, or of each block
+-- that, or the one behind a command that may be executed for the next PDU.
+abbrev pub CrashesNext : Connection → List ℕ → Disk → Disk → (ℕ → List ℕ → Type 0)
+    → (ℕ → List ℕ → Type 0) → Type 0
+CrashesNext old piece before after kept_before kept_after =
+    Crashes [] before after kept_before kept_after
+    ⊎ ((m : Message) × IsNext old piece m
+    × Crashes (commands_at old.machine before.count m) before after kept_before kept_after)
