@@ -198,7 +198,7 @@ impl Peer {
         requires may { may_read_at (seat_at hall.old seat) ≡ true }
         ensures seats { length hall.new.seats ≡ length hall.old.seats }
     {
-        if !self.connection.is_readable() {
+        if !self.connection.is_worth_a_read() {
             return Step::Rests;
         }
         let mut buffer = [0u8; MOST_READ];
