@@ -185,7 +185,7 @@ impl Hall {
             result self.new (store_of (S.disk store.new) (S.failures store.new)) }
         // A crash leaves the blocks that the answered commands led to, and no others.
         ensures lasts { S.failures store.new ≡ 0 → Settled (S.disk store.new) (S.kept store.new) }
-        // Whatever comes of it, a crash leaves each block as before, or as a command of the PDU does.
+        // Come what may, a crash leaves each block as before, or as a command of the PDU does.
         ensures crash { IfSome (seat_at self.old seat) (λ taken. CrashesNext taken.connection
             taken.unfed (S.disk store.old) (S.disk store.new) (S.kept store.old) (S.kept store.new)) }
     {

@@ -55,21 +55,21 @@ commands_at s count m = commands_in s.session.phase s count m
 
 -- ---- a crash
 
--- So is the block of the disk behind one of these commands, of those whose data are all there.
+-- The block has these bytes behind one of these commands, of those whose data are all there.
 abbrev pub IsBehind : Disk → List Supplied → ℕ → List ℕ → Type 0
 IsBehind disk [] n bytes = ⊥
 IsBehind disk (o ∷ orders) n bytes =
     (IsSupplied disk.count o.0 o.1 × (bytes ≡ (effect disk o.0 o.1).disk.block n))
     ⊎ IsBehind disk orders n bytes
 
--- A crash leaves of each block what it would have left before, or that behind one of these commands;
--- there are as many blocks.
+-- A crash leaves of each block what it would have left before, or the block behind one of these
+-- commands; there are as many blocks.
 pub record Crashes (orders : List Supplied) (before after : Disk)
     (old new : ℕ → List ℕ → Type 0) : Type 0 where
   pub count : after.count ≡ before.count
   pub adds : (n : ℕ) (bytes : List ℕ) → new n bytes → old n bytes ⊎ IsBehind before orders n bytes
 
--- The same behind a call, by the PDU that is ready, if one is.
+-- The same where a PDU may be ready: by the commands of that one, or with none changed.
 abbrev pub CrashesReady : Connection → Disk → Disk → (ℕ → List ℕ → Type 0) → (ℕ → List ℕ → Type 0)
     → Type 0
 CrashesReady old before after kept_before kept_after =
@@ -84,8 +84,8 @@ pub record IsNext (old : Connection) (piece : List ℕ) (m : Message) : Type 0 w
   pub count : ℕ
   pub taken : Moves old.framing framing (take count piece) (m ∷ [])
 
--- A crash behind a call with these bytes leaves what it would have left before it, or of each block
--- that, or the one behind a command that may be executed for the next PDU.
+-- The same of a call with these bytes: by the commands that may be executed for the PDU that they
+-- complete, or with none changed.
 abbrev pub CrashesNext : Connection → List ℕ → Disk → Disk → (ℕ → List ℕ → Type 0)
     → (ℕ → List ℕ → Type 0) → Type 0
 CrashesNext old piece before after kept_before kept_after =

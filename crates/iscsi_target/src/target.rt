@@ -110,7 +110,7 @@ impl Target {
             (store_of (S.disk store.new) (S.failures store.new)) out.new.items }
         // A crash leaves the blocks that the answered commands led to, and no others.
         ensures lasts { S.failures store.new ≡ 0 → Settled (S.disk store.new) (S.kept store.new) }
-        // Whatever comes of it, a crash leaves each block as before, or as a command of the PDU does.
+        // Come what may, a crash leaves each block as before, or as a command of the PDU does.
         ensures crash { CrashesNext self.old piece.now (S.disk store.old) (S.disk store.new)
             (S.kept store.old) (S.kept store.new) }
     {

@@ -1,5 +1,5 @@
 -- From what a store answered to what a command answers.
-use Rattle.std.proofs.Common.{◌≡◌, ◌<◌, ◌≤◌, ℕ, List, Bool, true, false, Result, Ok, Err, OnOk, IfOk, IsErr, IsErrOf, IsTrue, inl, inr, refl, sym, ap, ◌∙◌, subst, arith}
+use Rattle.std.proofs.Common.{◌≡◌, ◌<◌, ℕ, List, Bool, true, false, Result, Ok, Err, OnOk, IfOk, IsErr, IsErrOf, IsTrue, inl, inr, refl, sym, ap, ◌∙◌, subst, arith}
 use Rattle.std.proofs.lemmas.Bool.{false≢true}
 use Rattle.std.specs.declared.alloc.AllocError.{AllocError}
 use Rattle.scsi_cdb.specs.declared.sense.Sense.TheVariants.{ReadError, WriteError}
@@ -10,9 +10,9 @@ use Rattle.scsi_disk.specs.declared.order.Plan.TheVariants.{Give, Take}
 use Rattle.scsi_disk.specs.declared.store.StoreFault.{StoreFault}
 use Rattle.scsi_disk.specs.declared.store.StoreFault.TheVariants.{Device, NoMemory}
 use Rattle.scsi_disk.specs.Disk.{Disk, IsOldOrNew, Tells, written}
-use Rattle.scsi_disk.specs.Lasting.{Settled, Within, Adds}
+use Rattle.scsi_disk.specs.Lasting.{Settled, Within}
 use Rattle.scsi_disk.specs.Plan.{is_read, plan_of, transfer}
-use Rattle.scsi_disk.specs.Effect.{Effect, Executes, FailsBy, HasOtherData, effect, check, good, disk_by, outcome_by}
+use Rattle.scsi_disk.specs.Effect.{Effect, Executes, FailsBy, HasOtherData, effect, check, disk_by, outcome_by}
 
 -- a failure was counted and not told, so that the store does not tell each
 does_not_tell : {T : Type 0} (tells : Bool) (before after ub ua : ℕ) (result : Result T StoreFault) → Tells tells before after ub ua result → before < after

@@ -146,3 +146,15 @@ returns-clause-serves g c =
     let r0 = g.R.Read.remaining c.args.r.now in
     let w0 = g.W.Write.contents c.args.w.now in
     reads_stop c.args.config first c.loop.target store r0 (g.R.Read.remaining c.loop.r) w0 (g.W.Write.contents c.loop.w) c.loop.invariant.1 c.loop.invariant.0
+
+pub returns-in-Err-clause-lasts : goal.returns-in-Err-clause-lasts
+returns-in-Err-clause-lasts g c = g.met.S.BlockStore.lasts c.loop.store
+
+pub returns-in-Err-finish-clause-lasts : goal.returns-in-Err-finish-clause-lasts
+returns-in-Err-finish-clause-lasts g c = g.met.S.BlockStore.lasts c.loop.store
+
+pub returns-in_err-serve_piece-clause-lasts : goal.returns-in_err-serve_piece-clause-lasts
+returns-in_err-serve_piece-clause-lasts g c = g.met.S.BlockStore.lasts c.serve_piece.new.store
+
+pub returns-then-branch-clause-lasts : goal.returns-then-branch-clause-lasts
+returns-then-branch-clause-lasts g c = g.met.S.BlockStore.lasts c.serve_piece.new.store

@@ -1,5 +1,4 @@
 use Rattle.std.proofs.Common.{rules, ◌≡◌}
-use Rattle.scsi_disk.specs.declared.order.Plan.{Plan}
 use Rattle.scsi_disk.specs.declared.order.Plan.TheVariants.{Give, Take}
 use Rattle.scsi_disk.specs.Plan.{plan_of}
 use Rattle.scsi_disk.proofs.AnsweredLemmas.{gave, took, took_settled}
