@@ -93,6 +93,7 @@ FIRST, SECOND = (
 )
 
 SERVE = ["serve", "--port", "0", "--blocks", "1", "--sessions", "0"]
+IMAGE = ["serve", "--port", "0", "--sessions", "0", "--file"]
 LOOP = ["loop", "--blocks", "2048", "--piece", "48"]
 ANSWER = ["answer", "--blocks", "8"]
 ROWS = [
@@ -108,6 +109,19 @@ ROWS = [
     Row("a script", LOOP, SCRIPT, REPORT),
     Row("no connection is served", ["serve", "--port", "0", "--blocks", "1", "--sessions", "0"], b"", b"listening\n"),
     Row("no connection is served at a time", [*SERVE, "--at-once", "64", "--idle", "1"], b"", b"listening\n"),
+    # Images.
+    Row("an image of two blocks", [*IMAGE, "a"], b"", b"listening\n", files={"a": bytes(1024)}),
+    Row("an image of two blocks, as is said", [*IMAGE, "a", "--blocks", "2", "--at-once", "1"], b"", b"listening\n", files={"a": bytes(1024)}),
+    Row("an image that is made", [*IMAGE, "a", "--create", "--blocks", "2"], b"", b"listening\n"),
+    Row("an image of another size", [*IMAGE, "a", "--blocks", "3"], b"", b"", b"a: has 2 blocks, not 3\n", 4, files={"a": bytes(1024)}),
+    Row("an image that is there already", [*IMAGE, "a", "--create", "--blocks", "2"], b"", b"", b"a: is there already\n", 4, files={"a": bytes(1024)}),
+    Row("no image", [*IMAGE, "a"], b"", b"", b"a: cannot be opened\n", 4),
+    Row("no folder for an image", [*IMAGE, "a/b", "--create", "--blocks", "2"], b"", b"", b"a/b: cannot be opened\n", 4),
+    Row("an empty image", [*IMAGE, "a"], b"", b"", b"a: is empty\n", 4, files={"a": b""}),
+    Row("an image of half a block", [*IMAGE, "a"], b"", b"", b"a: is not whole blocks\n", 4, files={"a": bytes(256)}),
+    Row("an image of a block and a byte", [*IMAGE, "a"], b"", b"", b"a: is not whole blocks\n", 4, files={"a": bytes(513)}),
+    Row("a folder for an image", [*IMAGE, "."], b"", b"", b".: is no disk image\n", 4),
+    Row("a device that is no disk", [*IMAGE, "/dev/null"], b"", b"", b"/dev/null: is no disk image\n", 4),
     # Input that is refused.
     Row("an unknown opcode", ["normalise"], PING + UNKNOWN, CANONICAL, b"stream: unknown opcode at 52\n", 1),
     Row("an additional header", ["normalise"], PING + ADDITIONAL, CANONICAL, b"stream: additional header at 52\n", 1),
@@ -154,6 +168,11 @@ ROWS = [
     Row("too much time", [*SERVE, "--at-once", "1", "--login-within", "65536"], says=b"'--login-within <S>' is a number", status=2),
     Row("a time limit without --at-once", [*SERVE, "--idle", "1"], says=b"--at-once", status=2),
     Row("a port to print without --at-once", [*SERVE, "--print-port"], says=b"--at-once", status=2),
+    Row("neither blocks nor an image", IMAGE[:-1], says=b"--blocks <N>", status=2),
+    Row("an image without a name", IMAGE, says=b"a value is required for '--file <F>'", status=2),
+    Row("an image to be made without its size", [*IMAGE, "a", "--create"], says=b"--blocks <N>", status=2),
+    Row("a size without an image to be made", [*SERVE, "--create"], says=b"--file <F>", status=2),
+    Row("too few blocks of an image", [*IMAGE, "a", "--blocks", "0"], says=b"is a number from 1 to 1099511627776", status=2),
     Row("a piece of no bytes", ["loop", "--blocks", "1", "--piece", "0"], says=b"--piece", status=2),
     Row("words that are not UTF-8", [b"\xff"], says=b"UTF-8", status=2),
 ]

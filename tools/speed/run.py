@@ -105,20 +105,24 @@ class Tgt:
 
     def __init__(self, room, sessions):
         port, control = free_port(), str(os.getpid() % 30000)
-        self.disk = tempfile.NamedTemporaryFile(dir="/dev/shm")
-        self.disk.truncate(DISK)
         portal = f"portal=127.0.0.1:{port}"
         self.process = subprocess.Popen(["/usr/sbin/tgtd", "-f", "-C", control, "--iscsi", portal], stderr=subprocess.DEVNULL)
         self.pid = self.process.pid
         time.sleep(1)
         steps = [
             ["--mode", "target", "--op", "new", "--tid", "1", "-T", NAME],
-            ["--mode", "logicalunit", "--op", "new", "--tid", "1", "--lun", "1", "-b", self.disk.name],
+            ["--mode", "logicalunit", "--op", "new", "--tid", "1", "--lun", "1", *self.backing()],
             ["--mode", "target", "--op", "bind", "--tid", "1", "-I", "ALL"],
         ]
         for step in steps:
             subprocess.run(["/usr/sbin/tgtadm", "-C", control, "--lld", "iscsi", *step], check=True)
         self.url = f"iscsi://127.0.0.1:{port}/{NAME}/1"
+
+    def backing(self):
+        """The words for its disk."""
+        self.disk = tempfile.NamedTemporaryFile(dir="/dev/shm")
+        self.disk.truncate(DISK)
+        return ["-b", self.disk.name]
 
     def end(self):
         self.process.kill()

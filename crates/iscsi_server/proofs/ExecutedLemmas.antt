@@ -1,10 +1,9 @@
 -- The blocks of a service are those that commands left.
-use Rattle.std.proofs.Common.{◌≡◌, ℕ, List, [], ◌∷◌, ◌++◌, refl, Result}
+use Rattle.std.proofs.Common.{◌≡◌, ℕ, List, [], ◌∷◌, refl, Result}
 use Rattle.scsi_disk.specs.Disk.{Disk}
 use Rattle.iscsi_target.specs.declared.fault.TargetFault.{TargetFault}
 use Rattle.iscsi_target.specs.Feed.{Store}
 use Rattle.iscsi_target.specs.Laws.{Leads}
-use Rattle.iscsi_target.proofs.FailingDiskLemmas.{leads_append}
 use Rattle.iscsi_service.specs.Session.{HasExecuted}
 use Rattle.iscsi_hall.specs.Seats.{Hall}
 use Rattle.iscsi_hall.specs.Turns.{Event, Takes, TakesTurn, Runs, machines, executed_in}
@@ -17,10 +16,6 @@ nothing_executed disk = refl
 -- no command
 pub none_executed : (disk : Disk) → HasExecuted disk disk
 none_executed disk = ([], nothing_executed disk)
-
--- commands behind commands
-pub executed_then : (first now last : Disk) → HasExecuted first now → HasExecuted now last → HasExecuted first last
-executed_then first now last a b = (a.0 ++ b.0, leads_append first now last a.0 b.0 a.1 b.1)
 
 -- a turn of a seat
 pub turn_executed : (seat : ℕ) (old new : Hall) (before after : Store) (result : Result ℕ TargetFault)

@@ -1,14 +1,10 @@
 -- What a service of several sessions at a time is asked for.
 use Rattle.std.specs.Prelude.{◌<◌, ◌≤◌}
-use Rattle.scsi_disk.specs.Disk.{most_blocks}
 use Rattle.iscsi_login.specs.Name.{IsName}
 use Rattle.iscsi_server.specs.declared.options.Options.{Options}
 
--- A disk of 1 to 2^40 blocks, 1 to 64 sessions at a time, and a target's name (RFC 7143, section
--- 4.2.7; the numbers are own rule).
+-- 1 to 64 sessions at a time (own rule), and a target's name (RFC 7143, section 4.2.7).
 pub record IsService (options : Options) : Type 0 where
-  pub some_blocks : 0 < options.blocks
-  pub few_blocks : options.blocks ≤ most_blocks
   pub some_seats : 0 < options.at_once
   pub few_seats : options.at_once ≤ 64
   pub name : IsName options.name.now

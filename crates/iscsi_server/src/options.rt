@@ -13,8 +13,6 @@ pub struct Options<'a> {
     pub listen: IpAddr,
     /// The port; 0 is one that the system picks.
     pub port: u16,
-    /// How many blocks of 512 bytes the disk has, 1 to 2^40.
-    pub blocks: u64,
     /// How many connections are served in all.
     pub sessions: u16,
     /// How many of them at a time, 1 to 64.

@@ -9,10 +9,10 @@ ghost use Rattle.iscsi_server.specs.Service.{IsService};
 use crate::options::Options;
 use crate::server::Server;
 use iscsi_service::ServeFault;
-use scsi_disk::{BlockStore, SparseStore};
+use scsi_disk::BlockStore;
 
 /// Listens, prints `listening` and, if that is asked, the port on a line of its own, and serves so
-/// many connections, some at a time, over one store of so many blocks of 00.
+/// many connections, some at a time, over one store.
 ///
 /// A session that ends with a fault has the fault's line on standard error, and the others go on.
 /// Only being out of memory outside of sessions and a fault of the network end the service; `Write`
@@ -20,14 +20,20 @@ use scsi_disk::{BlockStore, SparseStore};
 ///
 /// Each session is one of RFC 7143, sections 6 and 11; that they take turns in one thread, a PDU at a
 /// time, is own rule.
-pub fn serve_at_once(rt: &HostRuntime, options: Options<'_>) -> Result<(), ServeFault>
+#[tactic(auto, using(crate::proofs::ExecutedLemmas::none_executed))]
+pub fn serve_at_once<S: BlockStore>(
+    rt: &HostRuntime,
+    options: Options<'_>,
+    store: &mut S,
+) -> Result<(), ServeFault>
     requires service { IsService options }
+    // Whatever comes of it, the blocks are those that commands left.
+    ensures blocks { HasExecuted (S.disk store.old) (S.disk store.new) }
     ensures ends { IfErr result (λ fault. EndsService fault ⊎ (fault ≡ serve.Write)) }
 {
-    let mut store = SparseStore::new(rt.alloc(), options.blocks);
     let mut server = Server::open(rt, options)?;
     announce(rt, &server, options.print_port)?;
-    serve_all(rt, &mut server, &mut store)
+    serve_all(rt, &mut server, store)
 }
 
 // Tells that connections are accepted, and at which port.

@@ -79,7 +79,6 @@ fn options(sessions: u16, at_once: u16, idle: u16) -> Options<'static> {
     Options {
         listen: IpAddr::V4(Ipv4Addr::LOCALHOST),
         port: 0,
-        blocks: BLOCKS,
         sessions,
         at_once,
         name: b"iqn.2026-01.example:disk",

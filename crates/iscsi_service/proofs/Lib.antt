@@ -1,3 +1,4 @@
+pub mod ExecutedLemmas
 pub mod SessionEndLemmas
 pub mod SessionReadInvariant
 pub mod ScriptLemmas

@@ -1,14 +1,13 @@
 //! A target's service on a socket: one connection after another, over one store.
 
-ghost use Rattle.std.specs.Prelude.{◌≡◌, ◌<◌, ◌≤◌, ◌⊎◌, ℕ, List, IfErr};
-ghost use Rattle.scsi_disk.specs.Disk.{most_blocks};
+ghost use Rattle.std.specs.Prelude.{◌≡◌, ◌⊎◌, ℕ, List, IfErr};
 ghost use Rattle.iscsi_service.specs.Session.{HasExecuted};
 ghost use Rattle.iscsi_service.specs.Serving.{ServesOne, EndsService};
 
 use crate::serve_fault::ServeFault;
 use crate::session::{configuration, serve_stream};
 use iscsi_target::Config;
-use scsi_disk::{BlockStore, SparseStore};
+use scsi_disk::BlockStore;
 use std::alloc::Global;
 use std::net::{Ipv4Addr, TcpListener};
 
@@ -47,18 +46,24 @@ pub fn serve_one<S: BlockStore>(
 }
 
 /// Listens on 127.0.0.1, prints `listening`, and serves so many connections, one after another,
-/// over one store of so many blocks of 00. Port 0 is one that the system picks.
+/// over one store. Port 0 is one that the system picks.
 ///
 /// A session that ends with a fault has the fault's line on standard error, and the next one is
 /// served. Only being out of memory and a fault of the network end the service; `Write` is answered
 /// where `listening` cannot be printed.
-pub fn serve(rt: &HostRuntime, port: u16, blocks: u64, sessions: u16) -> Result<(), ServeFault>
-    requires some { 0 < blocks }
-    requires few { blocks ≤ most_blocks }
+#[tactic(auto, using(crate::proofs::SessionReadInvariant::none_executed))]
+pub fn serve<S: BlockStore>(
+    rt: &HostRuntime,
+    port: u16,
+    store: &mut S,
+    sessions: u16,
+) -> Result<(), ServeFault>
+    // Whatever comes of it, the blocks are those that commands left.
+    ensures blocks { HasExecuted (S.disk store.old) (S.disk store.new) }
     ensures ends { IfErr result (λ fault. EndsService fault ⊎ (fault ≡ ServeFault.Write)) }
 {
     let listener = listen(rt, port)?;
-    serve_all(rt, &listener, blocks, sessions)
+    serve_all(rt, &listener, store, sessions)
 }
 
 // A listener, which is announced. It alone answers Write.
@@ -76,20 +81,19 @@ fn listen(rt: &HostRuntime, port: u16) -> Result<TcpListener, ServeFault>
 }
 
 // So many sessions, over one store.
-fn serve_all(
+#[tactic(auto, using(crate::proofs::SessionReadInvariant::none_executed))]
+fn serve_all<S: BlockStore>(
     rt: &HostRuntime,
     listener: &TcpListener,
-    blocks: u64,
+    store: &mut S,
     sessions: u16,
 ) -> Result<(), ServeFault>
-    requires some { 0 < blocks }
-    requires few { blocks ≤ most_blocks }
+    ensures blocks { HasExecuted (S.disk store.old) (S.disk store.new) }
     ensures ends { IfErr result EndsService }
 {
     let alloc = rt.alloc();
-    let mut store = SparseStore::new(alloc, blocks);
     for _ in 0..sessions {
-        match serve_one(alloc, listener, &mut store, configuration(alloc)?) {
+        match serve_one(alloc, listener, store, configuration(alloc)?) {
             Ok(()) => {}
             Err(fault @ (ServeFault::NoMemory | ServeFault::Network)) => return Err(fault),
             Err(fault) => {

@@ -18,6 +18,7 @@ use Rattle.iscsi_tool.specs.declared.filter.Work.TheVariants.{Show, Normalise, T
 use Rattle.iscsi_tool.specs.declared.words.Job.{Job}
 use Rattle.iscsi_tool.specs.declared.words.Job.TheVariants as job
 use Rattle.iscsi_tool.specs.Answering.{AnswersBytes, AnswersHex}
+use Rattle.iscsi_tool.specs.Storage.{IsStorage}
 use Rattle.iscsi_tool.specs.HexText.{BytesOf, IsNotHex, hex_line}
 
 -- How a filter ends: done, or why not.
@@ -99,11 +100,12 @@ abbrev pub HasDisk : Work → Type 0
 HasDisk (Answer blocks) = (0 < blocks) × (blocks ≤ most_blocks)
 HasDisk _ = Unit {0}
 
--- The disk of a job's target has 1 to 2^40 blocks, and a piece 1 to 4096 bytes.
+-- The disk of a job's target has 1 to 2^40 blocks, but for that of an image that is there, and a piece
+-- 1 to 4096 bytes.
 abbrev pub IsJob : Job → Type 0
 IsJob (job.Filter filter) = HasDisk filter.work
-IsJob (job.Serve port blocks sessions) = (0 < blocks) × (blocks ≤ most_blocks)
-IsJob (job.ServeAtOnce options) = IsService options
+IsJob (job.Serve port storage sessions) = IsStorage storage
+IsJob (job.ServeAtOnce options storage) = IsService options × IsStorage storage
 IsJob (job.Loop blocks piece) =
     (0 < blocks) × (blocks ≤ most_blocks) × (0 < piece) × (piece ≤ 4096)
 IsJob (job.Compare comparison) = Unit {0}

@@ -1,5 +1,6 @@
 pub mod HexText
 pub mod Answering
 pub mod Spelling
+pub mod Storage
 pub mod Filtering
 pub mod Comparisons

@@ -7,8 +7,10 @@ mod filter;
 mod hex_text;
 mod hex_writer;
 mod serve_words;
+mod storage;
 mod words;
 
 pub use comparing::{ComparisonFault, Sameness, compare_bytes, compare_hex};
 pub use filter::{Filter, Work, run_filter, status};
+pub use storage::{Image, ImageFault, Origin, Storage};
 pub use words::{Comparison, Job, LineFault, read_words};

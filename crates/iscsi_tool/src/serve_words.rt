@@ -2,14 +2,20 @@
 //! time.
 
 ghost use Rattle.std.specs.Prelude.{◌≡◌, ◌<◌, ◌≤◌, IfOk, IfSome};
+ghost use Rattle.scsi_disk.specs.Disk.{most_blocks};
 ghost use Rattle.iscsi_login.specs.Name.{IsName};
 ghost use Rattle.iscsi_tool.specs.Filtering.{IsJob};
+ghost use Rattle.iscsi_tool.specs.Storage.{IsStorage};
 
-use crate::words::{BAD_BLOCKS, Job, LineFault, bad_number, blocks, blocks_of, flag, number};
-use clap::{Arg, ArgAction, ArgMatches, Command};
+use crate::storage::{Image, Origin, Storage};
+use crate::words::{
+    BAD_BLOCKS, Job, LineFault, bad_number, blocks, blocks_of, flag, number, valued,
+};
+use clap::{Arg, ArgMatches, Command};
 use iscsi_login::is_name;
 use iscsi_server::{Limits, MOST_AT_ONCE, Options};
 use std::alloc::{AllocError, Global};
+use std::convert::AsStr;
 use std::net::{IpAddr, Ipv4Addr};
 
 /// The target's name, if none is asked for.
@@ -29,8 +35,19 @@ const BAD_IDLE: &str = "'--idle <S>' is a number from 1 to 65535";
 
 const BAD_LOGIN: &str = "'--login-within <S>' is a number from 1 to 65535";
 
-/// The words of `serve`, with their help.
-pub(crate) fn serve_program<'a>(alloc: Global) -> Result<Command<'a>, AllocError> {
+/// Whether words name an image.
+pub(crate) fn names_image<S: AsStr>(words: &[S]) -> bool {
+    for word in words {
+        let word = word.as_str();
+        if word == "--file" || word.starts_with("--file=") {
+            return true;
+        }
+    }
+    false
+}
+
+/// The words of `serve`, with their help. The number of blocks has to be given, or an image.
+pub(crate) fn serve_program<'a>(alloc: Global, has_image: bool) -> Result<Command<'a>, AllocError> {
     let program = Command::new(alloc, "serve")
         .about(
             "Serves a target's disk on 127.0.0.1, one connection after another, or several at a \
@@ -44,26 +61,50 @@ pub(crate) fn serve_program<'a>(alloc: Global) -> Result<Command<'a>, AllocError
             "P",
             "the port, 0 to 65535; 0 is one that the system picks",
         ))?
-        .arg(blocks(alloc))?
+        .arg(blocks(alloc).required(!has_image))?
         .arg(number(
             alloc,
             "sessions",
             "n",
             "how many connections are served, 0 to 65535",
-        ))?
-        .arg(
-            Arg::new(alloc, "at-once")
-                .long("at-once")
-                .value_name("k")
-                .action(ArgAction::Set)
-                .help("how many sessions at a time, 1 to 64; the words below want this one"),
-        )?;
-    with_options(alloc, program)
+        ))?;
+    with_options(alloc, with_image(alloc, program, has_image)?)
 }
 
-// With the words that want `--at-once`.
+// With the words of an image.
+fn with_image<'a>(
+    alloc: Global,
+    program: Command<'a>,
+    has_image: bool,
+) -> Result<Command<'a>, AllocError> {
+    program
+        .arg(valued(
+            alloc,
+            "file",
+            "F",
+            "keeps the disk in F, a file or a block device; then --blocks may be left out",
+        )
+        .required(has_image))?
+        .arg(
+            flag(
+                alloc,
+                "create",
+                "makes the file F, of N blocks of 00; there must be none",
+            )
+            .requires_arg("blocks")?
+            .requires_arg("file")?,
+        )
+}
+
+// With `--at-once`, and the words that want it.
 fn with_options<'a>(alloc: Global, program: Command<'a>) -> Result<Command<'a>, AllocError> {
     program
+        .arg(valued(
+            alloc,
+            "at-once",
+            "k",
+            "how many sessions at a time, 1 to 64; the words below want this one",
+        ))?
         .arg(option(
             alloc,
             "listen",
@@ -103,12 +144,7 @@ fn option<'a>(
     value: &'a str,
     help: &'a str,
 ) -> Result<Arg<'a>, AllocError> {
-    Arg::new(alloc, name)
-        .long(name)
-        .value_name(value)
-        .action(ArgAction::Set)
-        .help(help)
-        .requires_arg("at-once")
+    valued(alloc, name, value, help).requires_arg("at-once")
 }
 
 /// The service that the words of `serve` ask for.
@@ -116,39 +152,69 @@ pub(crate) fn service_of<'a>(alloc: Global, asked: &ArgMatches<'a>) -> Result<Jo
     ensures disk { IfOk result IsJob }
 {
     let Some(port) = asked.get_str("port").and_then(number_of) else {
-        return Err(refusal(alloc, BAD_PORT));
+        return Err(refusal(alloc, asked, BAD_PORT));
     };
-    let Some(blocks) = asked.get_str("blocks").and_then(blocks_of) else {
-        return Err(refusal(alloc, BAD_BLOCKS));
-    };
+    let storage = storage_of(alloc, asked)?;
     let Some(sessions) = asked.get_str("sessions").and_then(number_of) else {
-        return Err(refusal(alloc, BAD_SESSIONS));
+        return Err(refusal(alloc, asked, BAD_SESSIONS));
     };
     let Some(at_once) = asked.get_str("at-once") else {
         return Ok(Job::Serve {
             port,
-            blocks,
+            storage,
             sessions,
         });
     };
     let Some(at_once) = at_once_of(at_once) else {
-        return Err(refusal(alloc, BAD_AT_ONCE));
+        return Err(refusal(alloc, asked, BAD_AT_ONCE));
     };
     let (listen, name) = place_of(alloc, asked)?;
     let limits = Limits {
-        idle: seconds_of(alloc, asked.get_str("idle"), BAD_IDLE)?,
-        login_within: seconds_of(alloc, asked.get_str("login-within"), BAD_LOGIN)?,
+        idle: seconds_of(alloc, asked, "idle", BAD_IDLE)?,
+        login_within: seconds_of(alloc, asked, "login-within", BAD_LOGIN)?,
     };
-    Ok(Job::ServeAtOnce(Options {
+    let options = Options {
         listen,
         port,
-        blocks,
         sessions,
         at_once,
         name,
         limits,
         print_port: asked.get_flag("print-port"),
-    }))
+    };
+    Ok(Job::ServeAtOnce { options, storage })
+}
+
+// What the disk is kept in: the image that is named, or memory.
+fn storage_of<'a>(alloc: Global, asked: &ArgMatches<'a>) -> Result<Storage<'a>, LineFault>
+    ensures disk { IfOk result IsStorage }
+{
+    let said = said_blocks(alloc, asked)?;
+    match (asked.get_str("file"), asked.get_flag("create"), said) {
+        (None, _, Some(blocks)) => Ok(Storage::Memory { blocks }),
+        (Some(path), true, Some(blocks)) => Ok(Storage::Image(Image {
+            path,
+            origin: Origin::New { blocks },
+        })),
+        (Some(path), false, blocks) => Ok(Storage::Image(Image {
+            path,
+            origin: Origin::Found { blocks },
+        })),
+        (_, _, None) => Err(refusal(alloc, asked, BAD_BLOCKS)),
+    }
+}
+
+// The number of blocks, if it is said.
+fn said_blocks(alloc: Global, asked: &ArgMatches<'_>) -> Result<Option<u64>, LineFault>
+    ensures range { IfOk result (λ said. IfSome said (λ n. (0 < n) × (n ≤ most_blocks))) }
+{
+    let Some(digits) = asked.get_str("blocks") else {
+        return Ok(None);
+    };
+    match blocks_of(digits) {
+        Some(blocks) => Ok(Some(blocks)),
+        None => Err(refusal(alloc, asked, BAD_BLOCKS)),
+    }
 }
 
 // The address to listen at, and the target's name.
@@ -158,13 +224,13 @@ fn place_of<'a>(alloc: Global, asked: &ArgMatches<'a>) -> Result<(IpAddr, &'a [u
     let listen = match asked.get_str("listen") {
         Some(text) => match text.parse::<IpAddr>() {
             Ok(address) => address,
-            Err(_) => return Err(refusal(alloc, BAD_LISTEN)),
+            Err(_) => return Err(refusal(alloc, asked, BAD_LISTEN)),
         },
         None => IpAddr::V4(Ipv4Addr::LOCALHOST),
     };
     let name = asked.get_str("name").unwrap_or(NAME).as_bytes();
     if !is_name(name) {
-        return Err(refusal(alloc, BAD_NAME));
+        return Err(refusal(alloc, asked, BAD_NAME));
     }
     Ok((listen, name))
 }
@@ -172,15 +238,16 @@ fn place_of<'a>(alloc: Global, asked: &ArgMatches<'a>) -> Result<(IpAddr, &'a [u
 // The number of seconds, 1 to 65535, that a word has, if it stands there.
 fn seconds_of(
     alloc: Global,
-    digits: Option<&str>,
+    asked: &ArgMatches<'_>,
+    name: &str,
     refused: &str,
 ) -> Result<Option<u16>, LineFault> {
-    let Some(digits) = digits else {
+    let Some(digits) = asked.get_str(name) else {
         return Ok(None);
     };
     match number_of(digits) {
         Some(seconds) if 0 < seconds => Ok(Some(seconds)),
-        _ => Err(refusal(alloc, refused)),
+        _ => Err(refusal(alloc, asked, refused)),
     }
 }
 
@@ -203,6 +270,7 @@ fn number_of(digits: &str) -> Option<u16> {
 }
 
 // The usage error for a word of `serve`.
-fn refusal(alloc: Global, text: &str) -> LineFault {
-    bad_number(alloc, serve_program(alloc), text)
+fn refusal(alloc: Global, asked: &ArgMatches<'_>, text: &str) -> LineFault {
+    let has_image = asked.get_str("file").is_some();
+    bad_number(alloc, serve_program(alloc, has_image), text)
 }

@@ -9,7 +9,8 @@ ghost use Rattle.iscsi_tool.specs.declared.words.Job.TheVariants as job;
 
 use crate::comparing::Sameness;
 use crate::filter::{Filter, Work};
-use crate::serve_words::{serve_program, service_of};
+use crate::serve_words::{names_image, serve_program, service_of};
+use crate::storage::Storage;
 use clap::error::ErrorKind;
 use clap::{Arg, ArgAction, ArgMatches, Command, Error};
 use iscsi_server::Options;
@@ -41,13 +42,18 @@ pub enum Job<'a> {
     Serve {
         /// The port; 0 is one that the system picks.
         port: u16,
-        /// How many blocks of 512 bytes the disk has, 1 to 2^40.
-        blocks: u64,
+        /// What the disk is kept in.
+        storage: Storage<'a>,
         /// How many connections are served, one after another.
         sessions: u16,
     },
     /// Such a service of several sessions at a time.
-    ServeAtOnce(Options<'a>),
+    ServeAtOnce {
+        /// What is asked for.
+        options: Options<'a>,
+        /// What the disk is kept in.
+        storage: Storage<'a>,
+    },
     /// Both ends of a session over a socket, as a script on the standard input says.
     Loop {
         /// How many blocks of 512 bytes the target's disk has, 1 to 2^40.
@@ -128,14 +134,18 @@ fn normalise_program<'a>(alloc: Global) -> Result<Command<'a>, AllocError> {
     .arg(flag(alloc, "text", "the input is one text, not a stream"))
 }
 
-// A number that has to be given.
-pub(crate) fn number<'a>(alloc: Global, name: &'a str, value: &'a str, help: &'a str) -> Arg<'a> {
+// A word with a value.
+pub(crate) fn valued<'a>(alloc: Global, name: &'a str, value: &'a str, help: &'a str) -> Arg<'a> {
     Arg::new(alloc, name)
         .long(name)
         .value_name(value)
-        .required(true)
         .action(ArgAction::Set)
         .help(help)
+}
+
+// A number that has to be given.
+pub(crate) fn number<'a>(alloc: Global, name: &'a str, value: &'a str, help: &'a str) -> Arg<'a> {
+    valued(alloc, name, value, help).required(true)
 }
 
 // The name of a file.
@@ -195,7 +205,8 @@ fn compare_program<'a>(alloc: Global) -> Result<Command<'a>, AllocError> {
     ))
 }
 
-fn command<'a>(alloc: Global) -> Result<Command<'a>, AllocError> {
+// The words of each job; those of a service over an image, where one is named.
+fn command<'a>(alloc: Global, has_image: bool) -> Result<Command<'a>, AllocError> {
     Command::new(alloc, "lanthovur")
         .about(
             "Shows, normalises, compares and answers iSCSI byte streams, serves a disk, and runs \
@@ -214,7 +225,7 @@ fn command<'a>(alloc: Global) -> Result<Command<'a>, AllocError> {
         .subcommand(normalise_program(alloc)?)?
         .subcommand(compare_program(alloc)?)?
         .subcommand(answer_program(alloc)?)?
-        .subcommand(serve_program(alloc)?)?
+        .subcommand(serve_program(alloc, has_image)?)?
         .subcommand(loop_program(alloc)?)
 }
 
@@ -229,7 +240,7 @@ pub fn read_words<'a, S: AsStr>(alloc: Global, words: &'a [S]) -> Result<Job<'a>
     if words.is_empty() {
         return Ok(UNASKED);
     }
-    let matches = match command(alloc)?.try_get_matches_from(words) {
+    let matches = match command(alloc, names_image(words))?.try_get_matches_from(words) {
         Ok(matches) => matches,
         Err(error) => return Err(usage(alloc, error)),
     };

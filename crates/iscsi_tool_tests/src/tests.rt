@@ -3,6 +3,7 @@
 
 mod answers;
 mod digits;
+mod images;
 mod session;
 mod words;
 

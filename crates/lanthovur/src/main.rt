@@ -2,16 +2,18 @@
 //! disk, and runs both ends of a session.
 #![tactic(auto)]
 
-ghost use Rattle.iscsi_tool.specs.Filtering.{HasDisk};
+ghost use Rattle.iscsi_tool.specs.Filtering.{HasDisk, IsJob};
+ghost use Rattle.iscsi_tool.specs.Storage.{IsStorage};
 
 use iscsi_compare::{Verdict, Which};
 use iscsi_server::serve_at_once;
 use iscsi_service::{ServeFault, run_loop, serve};
 use iscsi_stream::ToolFault;
 use iscsi_tool::{
-    Comparison, ComparisonFault, Filter, Job, LineFault, compare_bytes, compare_hex, read_words,
-    run_filter, status,
+    Comparison, ComparisonFault, Filter, Image, ImageFault, Job, LineFault, Storage, compare_bytes,
+    compare_hex, read_words, run_filter, status,
 };
+use scsi_disk::{BlockStore, SparseStore};
 use std::alloc::Global;
 use std::io::{ErrorKind, Read};
 use std::process::ExitCode;
@@ -71,6 +73,49 @@ fn ended(rt: &HostRuntime, outcome: Result<(), ServeFault>) -> ExitCode {
             ExitCode::from(fault.status())
         }
     }
+}
+
+/// Serves a disk as a job asks, over what the disk is kept in.
+fn serve_storage(rt: &HostRuntime, job: Job<'_>, storage: Storage<'_>) -> ExitCode
+    requires job { IsJob job }
+    requires storage { IsStorage storage }
+{
+    match storage {
+        Storage::Memory { blocks } => {
+            let mut store = SparseStore::new(rt.alloc(), blocks);
+            let result = serve_store(rt, job, &mut store);
+            ended(rt, result)
+        }
+        Storage::Image(image) => match image.open(rt) {
+            Ok(mut store) => {
+                let result = serve_store(rt, job, &mut store);
+                ended(rt, result)
+            }
+            Err(fault) => not_served(rt, image, fault),
+        },
+    }
+}
+
+/// Serves a store as a job asks; jobs without a service serve nothing.
+fn serve_store<S: BlockStore>(
+    rt: &HostRuntime,
+    job: Job<'_>,
+    store: &mut S,
+) -> Result<(), ServeFault>
+    requires job { IsJob job }
+{
+    match job {
+        Job::Serve { port, sessions, .. } => serve(rt, port, store, sessions),
+        Job::ServeAtOnce { options, .. } => serve_at_once(rt, options, store),
+        Job::Filter(_) | Job::Loop { .. } | Job::Compare(_) => Ok(()),
+    }
+}
+
+/// The exit status where an image is not served; its line names the image.
+fn not_served(rt: &HostRuntime, image: Image<'_>, fault: ImageFault) -> ExitCode {
+    let name = image.path;
+    let _ = eprintln!(rt; "{name}: {fault}");
+    ExitCode::from(fault.status())
 }
 
 /// Compares two inputs. The lines of a difference go to the standard output.
@@ -146,19 +191,8 @@ fn main(rt: HostRuntime) -> ExitCode {
     };
     match read_words(rt.alloc(), words.as_slice()) {
         Ok(Job::Filter(filter)) => run(&rt, filter),
-        Ok(
-            Job::Serve {
-                port,
-                blocks,
-                sessions,
-            },
-        ) => {
-            let result = serve(&rt, port, blocks, sessions);
-            ended(&rt, result)
-        }
-        Ok(Job::ServeAtOnce(options)) => {
-            let result = serve_at_once(&rt, options);
-            ended(&rt, result)
+        Ok(job @ (Job::Serve { storage, .. } | Job::ServeAtOnce { storage, .. })) => {
+            serve_storage(&rt, job, storage)
         }
         Ok(Job::Loop { blocks, piece }) => {
             let mut input = rt.stdin();

@@ -7,11 +7,10 @@
 
 ghost use Rattle.std.specs.Prelude.{◌≡◌, true, ◌<◌, ◌≤◌, ◌*◌, ◌^◌, IfErr, IfOk, OnErr, OnOk};
 ghost use Rattle.scsi_disk.specs.Disk.{most_blocks};
-ghost use Rattle.scsi_file.specs.HostFile.{unknown};
 
 use crate::medium::Medium;
 use scsi_disk::{MOST_BLOCKS, StoreFault};
-use std::fs::{File, OpenOptions};
+use std::fs::{self, File, OpenOptions, TryLockError};
 use std::io::{self, ErrorKind, Seek, SeekFrom};
 use std::os::fd::AsRawFd;
 use std::os::unix::fs::{FileExt, FileTypeExt};
@@ -21,7 +20,7 @@ use thiserror::Error;
 /// Why an image is not served.
 #[derive(Clone, Copy, Debug, PartialEq, Eq, Error)]
 pub enum OpenFault {
-    /// It cannot be opened, measured or read.
+    /// It cannot be opened, locked or measured.
     #[error("cannot be opened")]
     NotOpened,
     /// It may be read alone.
@@ -64,6 +63,8 @@ pub struct HostFile {
 }
 
 impl HostFile {
+    ghost use Rattle.scsi_file.specs.HostFile.{blocks_of};
+
     /// Opens an image that is there, cuts nothing, and takes it for this process alone. What an
     /// earlier process left is synced, and the system's copies are dropped, since after a sync
     /// that failed they may differ from the disk.
@@ -83,6 +84,7 @@ impl HostFile {
     pub fn create(rt: &HostRuntime, path: &str, blocks: u64) -> Result<HostFile, OpenFault>
         requires some { 0 < blocks }
         requires few { blocks ≤ most_blocks }
+        ensures size { IfOk result (λ file. blocks_of file ≡ blocks) }
     {
         let mut how = File::options();
         let file = match how.read(true).write(true).create_new(true).open(rt, path) {
@@ -91,6 +93,8 @@ impl HostFile {
             Err(error) => return Err(not_opened(error)),
         };
         if file.set_len(512 * blocks).is_err() {
+            // An empty file would be in the way of the next try.
+            let _ = fs::remove_file(rt, path);
             return Err(OpenFault::NotMade);
         }
         settle(&file)?;
@@ -101,7 +105,9 @@ impl HostFile {
     }
 
     // An image of so many bytes.
-    fn of(file: File, bytes: u64) -> Result<HostFile, OpenFault> {
+    fn of(file: File, bytes: u64) -> Result<HostFile, OpenFault>
+        ensures size { IfOk result (λ file. 512 * blocks_of file ≡ bytes) }
+    {
         if bytes == 0 {
             return Err(OpenFault::Empty);
         }
@@ -137,10 +143,11 @@ impl HostFile {
 
 // Takes a file for this process alone.
 fn own(file: File) -> Result<File, OpenFault> {
-    if file.try_lock().is_err() {
-        return Err(OpenFault::InUse);
+    match file.try_lock() {
+        Ok(()) => Ok(file),
+        Err(TryLockError::WouldBlock) => Err(OpenFault::InUse),
+        Err(TryLockError::Error(_)) => Err(OpenFault::NotOpened),
     }
-    Ok(file)
 }
 
 // How many bytes an image has. The length that the system tells of a block device is 0, so there
@@ -200,6 +207,8 @@ fn told(answer: io::Result<()>) -> Result<(), StoreFault>
 }
 
 impl Medium for HostFile {
+    ghost use Rattle.scsi_file.specs.HostFile.{unknown};
+
     ghost seen = { λ s. unknown s.blocks };
 
     ghost kept = { λ s n c. Unit {0} };

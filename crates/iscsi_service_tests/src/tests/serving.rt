@@ -114,7 +114,9 @@ fn a_session_reads_what_an_earlier_one_wrote(rt: HostRuntime) -> Result<(), Fail
 /// A port that the system picks is announced, and with no connection to serve the service ends.
 #[test]
 fn no_connection_is_served(rt: HostRuntime) {
-    same(&rt, &serve(&rt, 0, 1, 0).is_ok(), &true, &"no connection");
+    let mut store = SparseStore::new(rt.alloc(), 1);
+    let served = serve(&rt, 0, &mut store, 0);
+    same(&rt, &served.is_ok(), &true, &"no connection");
 }
 
 /// Faults, with their lines and statuses.

@@ -1,4 +1,4 @@
-use Rattle.iscsi_server.proofs.ExecutedLemmas.{executed_then}
+use Rattle.iscsi_service.proofs.ExecutedLemmas.{executed_then}
 use Rattle.iscsi_server.proofs.service.serve_all.Goals as goal
 
 pub returns-in_err-turn-clause-blocks : goal.returns-in_err-turn-clause-blocks

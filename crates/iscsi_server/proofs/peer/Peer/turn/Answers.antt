@@ -1,5 +1,5 @@
 use Rattle.std.proofs.Common.{◌∙◌}
-use Rattle.iscsi_server.proofs.ExecutedLemmas.{executed_then}
+use Rattle.iscsi_service.proofs.ExecutedLemmas.{executed_then}
 use Rattle.iscsi_server.proofs.peer.Peer.turn.Goals as goal
 
 pub returns-in-Rests-clause-blocks : goal.returns-in-Rests-clause-blocks

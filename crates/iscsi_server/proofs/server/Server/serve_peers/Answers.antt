@@ -1,5 +1,5 @@
 use Rattle.std.proofs.Common.{◌∙◌}
-use Rattle.iscsi_server.proofs.ExecutedLemmas.{executed_then}
+use Rattle.iscsi_service.proofs.ExecutedLemmas.{executed_then}
 use Rattle.iscsi_server.proofs.server.Server.serve_peers.Goals as goal
 
 pub loop-seat-preserved : goal.loop-seat-preserved

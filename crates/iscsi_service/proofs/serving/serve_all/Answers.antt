@@ -1,0 +1,10 @@
+use Rattle.iscsi_service.proofs.ExecutedLemmas.{executed_then}
+use Rattle.iscsi_service.proofs.serving.serve_all.Goals as goal
+
+pub returns-in-Err-NoMemory-clause-blocks : goal.returns-in-Err-NoMemory-clause-blocks
+returns-in-Err-NoMemory-clause-blocks g c = executed_then (g.S.BlockStore.disk c.args.store.now) (g.S.BlockStore.disk c.loop.store)
+    (g.S.BlockStore.disk c.serve_one.new.store) c.loop.invariant c.serve_one.ensures.blocks
+
+pub loop-preserved : goal.loop-preserved
+loop-preserved g c = executed_then (g.S.BlockStore.disk c.args.store.now) (g.S.BlockStore.disk c.loop.store)
+    (g.S.BlockStore.disk c.serve_one.new.store) c.loop.invariant c.serve_one.ensures.blocks

@@ -1,0 +1,31 @@
+-- What a served disk is kept in, and what an image has that was opened.
+use Rattle.std.specs.Prelude.{◌≡◌, ◌≢◌, ◌≤◌, ◌<◌, ℕ, Option, Some, None}
+use Rattle.scsi_disk.specs.Disk.{most_blocks}
+use Rattle.iscsi_tool.specs.declared.storage.Origin.{Origin}
+use Rattle.iscsi_tool.specs.declared.storage.Origin.TheVariants as origin
+use Rattle.iscsi_tool.specs.declared.storage.Storage.{Storage}
+use Rattle.iscsi_tool.specs.declared.storage.Storage.TheVariants as storage
+use Rattle.iscsi_tool.specs.declared.storage.ImageFault.{ImageFault}
+use Rattle.iscsi_tool.specs.declared.storage.ImageFault.TheVariants as image
+
+-- An image that is made has 1 to 2^40 blocks.
+abbrev pub IsOrigin : Origin → Type 0
+IsOrigin (origin.Found blocks) = Unit {0}
+IsOrigin (origin.New blocks) = (0 < blocks) × (blocks ≤ most_blocks)
+
+-- A disk in memory and an image that is made have 1 to 2^40 blocks.
+abbrev pub IsStorage : Storage → Type 0
+IsStorage (storage.Memory blocks) = (0 < blocks) × (blocks ≤ most_blocks)
+IsStorage (storage.Image image) = IsOrigin image.origin
+
+-- An image has as many blocks as were asked for, if a number was.
+abbrev pub HasAsked : Origin → ℕ → Type 0
+HasAsked (origin.Found None) count = Unit {0}
+HasAsked (origin.Found (Some asked)) count = count ≡ asked
+HasAsked (origin.New asked) count = count ≡ asked
+
+-- A number of blocks is blamed only where the image that is there has another one.
+abbrev pub IsOther : Origin → ImageFault → Type 0
+IsOther (origin.Found (Some blocks)) (image.Size has asked) = (asked ≡ blocks) × (has ≢ asked)
+IsOther _ (image.Size has asked) = ⊥
+IsOther _ (image.Open fault) = Unit {0}

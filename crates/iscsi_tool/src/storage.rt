@@ -1,0 +1,106 @@
+//! What a served disk is kept in: memory, or an image.
+
+ghost use Rattle.std.specs.Prelude.{◌≡◌, IfOk, IfErr};
+ghost use Rattle.scsi_file.specs.FileStore.{medium_of};
+ghost use Rattle.scsi_file.specs.HostFile.{blocks_of};
+ghost use Rattle.iscsi_tool.specs.Storage.{HasAsked, IsOrigin, IsOther};
+
+use scsi_disk::BlockStore;
+use scsi_file::{FileStore, HostFile, OpenFault};
+use std::rt::Files;
+use thiserror::Error;
+
+/// Where the image of a disk comes from.
+#[derive(Clone, Copy, Debug, PartialEq, Eq)]
+pub enum Origin {
+    /// It is there, and has so many blocks, if that is said.
+    Found { blocks: Option<u64> },
+    /// It is made, of so many blocks of 00, 1 to 2^40.
+    New { blocks: u64 },
+}
+
+/// An image of a disk: a regular file or a block device.
+#[derive(Clone, Copy, Debug, PartialEq, Eq)]
+pub struct Image<'a> {
+    /// Its name.
+    pub path: &'a str,
+    /// Where it comes from.
+    pub origin: Origin,
+}
+
+/// What the disk of a service is kept in.
+#[derive(Clone, Copy, Debug, PartialEq, Eq)]
+pub enum Storage<'a> {
+    /// Memory, with so many blocks of 00, 1 to 2^40.
+    Memory { blocks: u64 },
+    /// An image. What was written lasts.
+    Image(Image<'a>),
+}
+
+/// Why an image is not served.
+#[derive(Clone, Copy, Debug, PartialEq, Eq, Error)]
+pub enum ImageFault {
+    /// It is not opened, or not made.
+    #[error("{0}")]
+    Open(OpenFault),
+    /// It has another number of blocks than was asked for.
+    #[error("has {has} blocks, not {asked}")]
+    Size { has: u64, asked: u64 },
+}
+
+impl ImageFault {
+    /// The exit status of the fault: 4, as where a file cannot be read.
+    pub fn status(&self) -> u8
+        ensures { result ≡ 4 }
+    {
+        4
+    }
+}
+
+impl From<OpenFault> for ImageFault {
+    ghost use Rattle.std.specs.Prelude.{◌≡◌};
+    ghost use Rattle.iscsi_tool.specs.declared.storage.ImageFault.TheVariants as image;
+
+    ghost from_gives = { λ fault e. e ≡ image.Open fault };
+
+    fn from(fault: OpenFault) -> ImageFault {
+        ImageFault::Open(fault)
+    }
+}
+
+impl Image<'_> {
+    /// The image as a store, for this process alone. All that was written to it lasts then. It has
+    /// as many blocks as were asked for.
+    pub fn open(&self, rt: &HostRuntime) -> Result<FileStore<HostFile>, ImageFault>
+        requires origin { IsOrigin self.now.origin }
+        ensures blocks { IfOk result (λ store.
+            HasAsked self.now.origin (blocks_of (medium_of store))) }
+        ensures other { IfErr result (IsOther self.now.origin) }
+    {
+        match self.origin {
+            Origin::New { blocks } => settled(HostFile::create(rt, self.path, blocks)?),
+            Origin::Found { blocks: None } => settled(HostFile::open(rt, self.path)?),
+            Origin::Found {
+                blocks: Some(asked),
+            } => {
+                let store = settled(HostFile::open(rt, self.path)?)?;
+                let has = store.blocks();
+                if has != asked {
+                    return Err(ImageFault::Size { has, asked });
+                }
+                Ok(store)
+            }
+        }
+    }
+}
+
+// A store on a file, all of which lasts.
+fn settled(file: HostFile) -> Result<FileStore<HostFile>, ImageFault>
+    ensures blocks { IfOk result (λ store. blocks_of (medium_of store) ≡ blocks_of file) }
+    ensures fault { IfErr result (λ fault. fault ≡ ImageFault.Open OpenFault.NotSynced) }
+{
+    match FileStore::new(file) {
+        Ok(store) => Ok(store),
+        Err(_) => Err(ImageFault::Open(OpenFault::NotSynced)),
+    }
+}

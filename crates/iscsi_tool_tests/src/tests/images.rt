@@ -1,0 +1,79 @@
+//! Images: how many blocks those that are opened or made have, and why others are not served.
+
+use super::same;
+use iscsi_tool::{Image, ImageFault, Origin};
+use scsi_disk::BlockStore;
+use scsi_file::OpenFault;
+use std::fs;
+use std::test::Fail;
+
+/// The image of these rows.
+const PATH: &str = "image.img";
+
+/// Numbers of blocks that are asked for of an image of eight, and what comes of it.
+const ASKED: &[(Option<u64>, Result<u64, ImageFault>)] = &[
+    (None, Ok(8)),
+    (Some(8), Ok(8)),
+    (Some(7), Err(ImageFault::Size { has: 8, asked: 7 })),
+    (Some(9), Err(ImageFault::Size { has: 8, asked: 9 })),
+];
+
+#[test]
+fn images_have_what_is_asked_for(rt: HostRuntime) -> Result<(), Fail> {
+    let _ = fs::remove_file(&rt, PATH);
+    same(&rt, &made(&rt), &Ok(8), &"made");
+    same(
+        &rt,
+        &made(&rt),
+        &Err(ImageFault::Open(OpenFault::Exists)),
+        &"made twice",
+    );
+    for (blocks, due) in ASKED {
+        same(&rt, &found(&rt, *blocks), due, blocks);
+    }
+    let _ = fs::remove_file(&rt, PATH);
+    Ok(())
+}
+
+// How many blocks an image of eight has that is made, or why it isn't.
+fn made(rt: &HostRuntime) -> Result<u64, ImageFault> {
+    let image = Image {
+        path: PATH,
+        origin: Origin::New { blocks: 8 },
+    };
+    Ok(image.open(rt)?.blocks())
+}
+
+// How many blocks the image has, if it is served as one of so many.
+fn found(rt: &HostRuntime, blocks: Option<u64>) -> Result<u64, ImageFault> {
+    let image = Image {
+        path: PATH,
+        origin: Origin::Found { blocks },
+    };
+    Ok(image.open(rt)?.blocks())
+}
+
+/// Faults, with their lines.
+const LINES: &[(ImageFault, &str)] = &[
+    (ImageFault::Open(OpenFault::NotOpened), "cannot be opened"),
+    (ImageFault::Open(OpenFault::ReadOnly), "may not be written"),
+    (ImageFault::Open(OpenFault::NoImage), "is no disk image"),
+    (ImageFault::Open(OpenFault::InUse), "is in use"),
+    (ImageFault::Open(OpenFault::Empty), "is empty"),
+    (ImageFault::Open(OpenFault::NotWhole), "is not whole blocks"),
+    (ImageFault::Open(OpenFault::TooLarge), "is too large"),
+    (ImageFault::Open(OpenFault::Exists), "is there already"),
+    (ImageFault::Open(OpenFault::NotMade), "cannot be made"),
+    (ImageFault::Open(OpenFault::NotSynced), "cannot be synced"),
+    (ImageFault::Size { has: 8, asked: 9 }, "has 8 blocks, not 9"),
+];
+
+#[test]
+fn lines_and_statuses_of_images(rt: HostRuntime) -> Result<(), Fail> {
+    for (fault, line) in LINES {
+        let said = format!(in rt.alloc(); "{fault}")?;
+        same(&rt, &said.as_str(), line, fault);
+        same(&rt, &fault.status(), &4, fault);
+    }
+    Ok(())
+}
