@@ -36,7 +36,7 @@ BLOCK = 512
 # How many blocks the images have: 16 MiB.
 BLOCKS = 32768
 MIB = 1 << 20
-# Writes zeros too in pieces of 2 MiB: else QEMU writes up to 16 MiB of them in a command, and the disk takes 4.
+# Writes holes too in pieces of 2 MiB: else QEMU writes up to 16 MiB of zeros in a command, and the disk takes 4.
 CONVERT = ("qemu-img", "convert", "-n", "-S", "0", "-f", "raw", "-O", "raw")
 # How many bytes a write has that may be killed.
 SIZES = [BLOCK, 4096, 4096, 65536, 65536, 262144, MIB]

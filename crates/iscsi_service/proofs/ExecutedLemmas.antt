@@ -1,7 +1,6 @@
 -- The blocks of a service are those that commands left.
-use Rattle.std.proofs.Common.{◌≡◌, [], ◌++◌, refl}
+use Rattle.std.proofs.Common.{◌++◌}
 use Rattle.scsi_disk.specs.Disk.{Disk}
-use Rattle.iscsi_target.specs.Laws.{Leads}
 use Rattle.iscsi_target.proofs.FailingDiskLemmas.{leads_append}
 use Rattle.iscsi_service.specs.Session.{HasExecuted}
 
