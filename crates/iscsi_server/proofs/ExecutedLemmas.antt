@@ -1,5 +1,5 @@
 -- The blocks of a service are those that commands left.
-use Rattle.std.proofs.Common.{◌≡◌, ℕ, List, [], ◌∷◌, refl, Result}
+use Rattle.std.proofs.Common.{ℕ, List, [], ◌∷◌, refl, Result}
 use Rattle.scsi_disk.specs.Disk.{Disk}
 use Rattle.iscsi_target.specs.declared.fault.TargetFault.{TargetFault}
 use Rattle.iscsi_target.specs.Feed.{Store}

@@ -1,5 +1,5 @@
 -- How long a peer may keep its seat (own rule).
-use Rattle.std.specs.Prelude.{ℕ, Bool, true, false, ◌*◌, ◌-◌, Option, Some, None, min, nat_le, ◌||◌, if◌then◌else◌}
+use Rattle.std.specs.Prelude.{ℕ, Bool, false, ◌*◌, ◌-◌, Option, Some, None, min, nat_le, ◌||◌, if◌then◌else◌}
 use Rattle.iscsi_login.specs.declared.phase.Phase.{Phase}
 use Rattle.iscsi_login.specs.declared.phase.Phase.TheVariants as phase
 use Rattle.iscsi_server.specs.declared.limits.Limits.{Limits}

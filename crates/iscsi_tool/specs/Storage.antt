@@ -1,5 +1,5 @@
 -- What a served disk is kept in, and what an image has that was opened.
-use Rattle.std.specs.Prelude.{◌≡◌, ◌≢◌, ◌≤◌, ◌<◌, ℕ, Option, Some, None}
+use Rattle.std.specs.Prelude.{◌≡◌, ◌≢◌, ◌≤◌, ◌<◌, ℕ, Some, None}
 use Rattle.scsi_disk.specs.Disk.{most_blocks}
 use Rattle.iscsi_tool.specs.declared.storage.Origin.{Origin}
 use Rattle.iscsi_tool.specs.declared.storage.Origin.TheVariants as origin
