@@ -17,6 +17,8 @@ use Rattle.iscsi_tool.specs.declared.filter.Work.{Work}
 use Rattle.iscsi_tool.specs.declared.filter.Work.TheVariants.{Show, Normalise, Text, Answer}
 use Rattle.iscsi_tool.specs.declared.words.Job.{Job}
 use Rattle.iscsi_tool.specs.declared.words.Job.TheVariants as job
+use Rattle.iscsi_tool.specs.declared.words.Service.{Service}
+use Rattle.iscsi_tool.specs.declared.words.Service.TheVariants as service
 use Rattle.iscsi_tool.specs.Answering.{AnswersBytes, AnswersHex}
 use Rattle.iscsi_tool.specs.Storage.{IsStorage}
 use Rattle.iscsi_tool.specs.HexText.{BytesOf, IsNotHex, hex_line}
@@ -100,12 +102,16 @@ abbrev pub HasDisk : Work → Type 0
 HasDisk (Answer blocks) = (0 < blocks) × (blocks ≤ most_blocks)
 HasDisk _ = Unit {0}
 
+-- A service of several sessions at a time has from 1 to 64 of them, and a target's name.
+abbrev pub CanServe : Service → Type 0
+CanServe (service.InTurn port sessions) = Unit {0}
+CanServe (service.AtOnce options) = IsService options
+
 -- The disk of a job's target has 1 to 2^40 blocks, but for that of an image that is there, and a piece
 -- 1 to 4096 bytes.
 abbrev pub IsJob : Job → Type 0
 IsJob (job.Filter filter) = HasDisk filter.work
-IsJob (job.Serve port storage sessions) = IsStorage storage
-IsJob (job.ServeAtOnce options storage) = IsService options × IsStorage storage
+IsJob (job.Serve storage service) = IsStorage storage × CanServe service
 IsJob (job.Loop blocks piece) =
     (0 < blocks) × (blocks ≤ most_blocks) × (0 < piece) × (piece ≤ 4096)
 IsJob (job.Compare comparison) = Unit {0}

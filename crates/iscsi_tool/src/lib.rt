@@ -13,4 +13,4 @@ mod words;
 pub use comparing::{ComparisonFault, Sameness, compare_bytes, compare_hex};
 pub use filter::{Filter, Work, run_filter, status};
 pub use storage::{Image, ImageFault, Origin, Storage};
-pub use words::{Comparison, Job, LineFault, read_words};
+pub use words::{Comparison, Job, LineFault, Service, read_words};

@@ -9,7 +9,7 @@ ghost use Rattle.iscsi_tool.specs.Storage.{IsStorage};
 
 use crate::storage::{Image, Origin, Storage};
 use crate::words::{
-    BAD_BLOCKS, Job, LineFault, bad_number, blocks, blocks_of, flag, number, valued,
+    BAD_BLOCKS, Job, LineFault, Service, bad_number, blocks, blocks_of, flag, number, valued,
 };
 use clap::{Arg, ArgMatches, Command};
 use iscsi_login::is_name;
@@ -160,9 +160,8 @@ pub(crate) fn service_of<'a>(alloc: Global, asked: &ArgMatches<'a>) -> Result<Jo
     };
     let Some(at_once) = asked.get_str("at-once") else {
         return Ok(Job::Serve {
-            port,
             storage,
-            sessions,
+            service: Service::InTurn { port, sessions },
         });
     };
     let Some(at_once) = at_once_of(at_once) else {
@@ -182,7 +181,10 @@ pub(crate) fn service_of<'a>(alloc: Global, asked: &ArgMatches<'a>) -> Result<Jo
         limits,
         print_port: asked.get_flag("print-port"),
     };
-    Ok(Job::ServeAtOnce { options, storage })
+    Ok(Job::Serve {
+        storage,
+        service: Service::AtOnce(options),
+    })
 }
 
 // What the disk is kept in: the image that is named, or memory.

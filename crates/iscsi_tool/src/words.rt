@@ -33,26 +33,31 @@ pub struct Comparison<'a> {
     pub hex: bool,
 }
 
+/// How a disk is served.
+#[derive(Clone, Copy, Debug, PartialEq, Eq)]
+pub enum Service<'a> {
+    /// On 127.0.0.1, to one connection after another.
+    InTurn {
+        /// The port; 0 is one that the system picks.
+        port: u16,
+        /// How many connections are served.
+        sessions: u16,
+    },
+    /// In several sessions at a time.
+    AtOnce(Options<'a>),
+}
+
 /// What the words ask for.
 #[derive(Clone, Copy, Debug, PartialEq, Eq)]
 pub enum Job<'a> {
     /// A filter from the standard input to the standard output.
     Filter(Filter),
-    /// A target's service on 127.0.0.1.
+    /// A target's service of a disk.
     Serve {
-        /// The port; 0 is one that the system picks.
-        port: u16,
         /// What the disk is kept in.
         storage: Storage<'a>,
-        /// How many connections are served, one after another.
-        sessions: u16,
-    },
-    /// Such a service of several sessions at a time.
-    ServeAtOnce {
-        /// What is asked for.
-        options: Options<'a>,
-        /// What the disk is kept in.
-        storage: Storage<'a>,
+        /// How it is served.
+        service: Service<'a>,
     },
     /// Both ends of a session over a socket, as a script on the standard input says.
     Loop {

@@ -2,7 +2,7 @@
 //! disk, and runs both ends of a session.
 #![tactic(auto)]
 
-ghost use Rattle.iscsi_tool.specs.Filtering.{HasDisk, IsJob};
+ghost use Rattle.iscsi_tool.specs.Filtering.{CanServe, HasDisk};
 ghost use Rattle.iscsi_tool.specs.Storage.{IsStorage};
 
 use iscsi_compare::{Verdict, Which};
@@ -10,8 +10,8 @@ use iscsi_server::serve_at_once;
 use iscsi_service::{ServeFault, run_loop, serve};
 use iscsi_stream::ToolFault;
 use iscsi_tool::{
-    Comparison, ComparisonFault, Filter, Image, ImageFault, Job, LineFault, Storage, compare_bytes,
-    compare_hex, read_words, run_filter, status,
+    Comparison, ComparisonFault, Filter, Image, ImageFault, Job, LineFault, Service, Storage,
+    compare_bytes, compare_hex, read_words, run_filter, status,
 };
 use scsi_disk::{BlockStore, SparseStore};
 use std::alloc::Global;
@@ -75,20 +75,20 @@ fn ended(rt: &HostRuntime, outcome: Result<(), ServeFault>) -> ExitCode {
     }
 }
 
-/// Serves a disk as a job asks, over what the disk is kept in.
-fn serve_storage(rt: &HostRuntime, job: Job<'_>, storage: Storage<'_>) -> ExitCode
-    requires job { IsJob job }
+/// Serves a disk, over what it is kept in.
+fn serve_storage(rt: &HostRuntime, storage: Storage<'_>, service: Service<'_>) -> ExitCode
     requires storage { IsStorage storage }
+    requires service { CanServe service }
 {
     match storage {
         Storage::Memory { blocks } => {
             let mut store = SparseStore::new(rt.alloc(), blocks);
-            let result = serve_store(rt, job, &mut store);
+            let result = serve_store(rt, service, &mut store);
             ended(rt, result)
         }
         Storage::Image(image) => match image.open(rt) {
             Ok(mut store) => {
-                let result = serve_store(rt, job, &mut store);
+                let result = serve_store(rt, service, &mut store);
                 ended(rt, result)
             }
             Err(fault) => not_served(rt, image, fault),
@@ -96,18 +96,17 @@ fn serve_storage(rt: &HostRuntime, job: Job<'_>, storage: Storage<'_>) -> ExitCo
     }
 }
 
-/// Serves a store as a job asks; jobs without a service serve nothing.
+/// Serves a store.
 fn serve_store<S: BlockStore>(
     rt: &HostRuntime,
-    job: Job<'_>,
+    service: Service<'_>,
     store: &mut S,
 ) -> Result<(), ServeFault>
-    requires job { IsJob job }
+    requires service { CanServe service }
 {
-    match job {
-        Job::Serve { port, sessions, .. } => serve(rt, port, store, sessions),
-        Job::ServeAtOnce { options, .. } => serve_at_once(rt, options, store),
-        Job::Filter(_) | Job::Loop { .. } | Job::Compare(_) => Ok(()),
+    match service {
+        Service::InTurn { port, sessions } => serve(rt, port, store, sessions),
+        Service::AtOnce(options) => serve_at_once(rt, options, store),
     }
 }
 
@@ -191,9 +190,7 @@ fn main(rt: HostRuntime) -> ExitCode {
     };
     match read_words(rt.alloc(), words.as_slice()) {
         Ok(Job::Filter(filter)) => run(&rt, filter),
-        Ok(job @ (Job::Serve { storage, .. } | Job::ServeAtOnce { storage, .. })) => {
-            serve_storage(&rt, job, storage)
-        }
+        Ok(Job::Serve { storage, service }) => serve_storage(&rt, storage, service),
         Ok(Job::Loop { blocks, piece }) => {
             let mut input = rt.stdin();
             let mut output = rt.stdout();

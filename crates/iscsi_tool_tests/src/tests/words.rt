@@ -44,31 +44,31 @@ const JOBS: &[(&str, &str)] = &[
     ),
     (
         "serve --port 3260 --blocks 2048 --sessions 5",
-        "Serve { port: 3260, storage: Memory { blocks: 2048 }, sessions: 5 }",
+        "Serve { storage: Memory { blocks: 2048 }, service: InTurn { port: 3260, sessions: 5 } }",
     ),
     (
         "serve --sessions=0 --blocks=1 --port=0",
-        "Serve { port: 0, storage: Memory { blocks: 1 }, sessions: 0 }",
+        "Serve { storage: Memory { blocks: 1 }, service: InTurn { port: 0, sessions: 0 } }",
     ),
     (
         "serve --port 65535 --sessions 065535 --blocks 1099511627776",
-        "Serve { port: 65535, storage: Memory { blocks: 1099511627776 }, sessions: 65535 }",
+        "Serve { storage: Memory { blocks: 1099511627776 }, service: InTurn { port: 65535, sessions: 65535 } }",
     ),
     (
         "serve --port 0 --sessions 1 --file disk.img",
-        "Serve { port: 0, storage: Image(Image { path: \"disk.img\", origin: Found { blocks: None } }), sessions: 1 }",
+        "Serve { storage: Image(Image { path: \"disk.img\", origin: Found { blocks: None } }), service: InTurn { port: 0, sessions: 1 } }",
     ),
     (
         "serve --file=/a/b --port 0 --sessions 1 --blocks 1099511627776",
-        "Serve { port: 0, storage: Image(Image { path: \"/a/b\", origin: Found { blocks: Some(1099511627776) } }), sessions: 1 }",
+        "Serve { storage: Image(Image { path: \"/a/b\", origin: Found { blocks: Some(1099511627776) } }), service: InTurn { port: 0, sessions: 1 } }",
     ),
     (
         "serve --create --blocks 8 --file - --port 0 --sessions 1",
-        "Serve { port: 0, storage: Image(Image { path: \"-\", origin: New { blocks: 8 } }), sessions: 1 }",
+        "Serve { storage: Image(Image { path: \"-\", origin: New { blocks: 8 } }), service: InTurn { port: 0, sessions: 1 } }",
     ),
     (
         "serve --port 1 --sessions 2 --file d --at-once 3",
-        "ServeAtOnce { options: Options { listen: 127.0.0.1, port: 1, sessions: 2, at_once: 3, name: [105, 113, 110, 46, 50, 48, 50, 54, 45, 48, 49, 46, 101, 120, 97, 109, 112, 108, 101, 58, 100, 105, 115, 107], limits: Limits { idle: None, login_within: None }, print_port: false }, storage: Image(Image { path: \"d\", origin: Found { blocks: None } }) }",
+        "Serve { storage: Image(Image { path: \"d\", origin: Found { blocks: None } }), service: AtOnce(Options { listen: 127.0.0.1, port: 1, sessions: 2, at_once: 3, name: [105, 113, 110, 46, 50, 48, 50, 54, 45, 48, 49, 46, 101, 120, 97, 109, 112, 108, 101, 58, 100, 105, 115, 107], limits: Limits { idle: None, login_within: None }, print_port: false }) }",
     ),
     (
         "loop --blocks 2048 --piece 48",
