@@ -25,6 +25,8 @@ import time
 TOP = os.path.dirname(os.path.dirname(os.path.dirname(os.path.abspath(__file__))))
 # A process that takes longer hangs.
 SECONDS = 60
+# How often each way to serve is measured, in turn.
+ROUNDS = 9
 NAME = "iqn.2026-01.example:disk"
 BLOCKS = 8192
 # The longest transfer, and the longest segment that the target takes, in bytes.
@@ -417,29 +419,40 @@ def memory_figures(program):
     print(f"resident MB: {empty:.1f} with no session, {', '.join(said)}")
 
 
-def rates(speed, services, size, depth, seconds=2):
+def rates(speed, services, size, depth):
     """Reads and writes a second of clients at once, one for each service named, added up."""
-    clients = [start(speed, service.url, str(size), str(seconds), str(depth)) for service in services]
+    clients = [start(speed, service.url, str(size), "0.5", str(depth)) for service in services]
     said = [client.communicate(timeout=SECONDS)[0].decode() for client in clients]
-    numbers = [[float(n) for n in re.findall(r"([0-9.]+)(?= (?:reads|writes)| a second|/s)", text)] for text in said]
-    return said, numbers
+    both = [[float(n) for n in re.findall(r"([0-9]+) IOPS", text)] for text in said]
+    return [sum(kind) for kind in zip(*both)]
+
+
+def middle(numbers):
+    """The median, with the least and the most."""
+    return f"{statistics.median(numbers):,.2f} ({min(numbers):,.2f} to {max(numbers):,.2f})"
 
 
 def speed_figures(program, room):
-    """Commands a second of one client with and without --at-once, and of two at once."""
+    """Reads and writes a second of one client with and without --at-once, and of two at once: the ratios of runs that follow
+    each other, and the medians."""
     speed = f"{room}/speed"
     built = subprocess.run(["cc", "-O2", "-o", speed, f"{TOP}/tools/speed/speed.c", "-liscsi"], stderr=subprocess.DEVNULL)
     if built.returncode:
         print("speed: skipped, cc or libiscsi-dev is not installed")
         return
+    ways = (("alone", [], 1), ("at once", ["--at-once", "4"], 1), ("two", ["--at-once", "4"], 2))
+    print("| | Alone | At once, of that | Two, of one at once |\n|---|---|---|---|")
     for size, depth in ((4096, 1), (4096, 8), (65536, 1), (65536, 8)):
-        table = {}
-        for _ in range(3):
-            for name, words, clients in (("alone", [], 1), ("at once", ["--at-once", "4"], 1), ("two", ["--at-once", "4"], 2)):
+        seen = {name: [] for name, _, _ in ways}
+        for _ in range(ROUNDS):
+            for name, words, clients in ways:
                 with Service(program, 100, *words) as service:
-                    said, _ = rates(speed, [service] * clients, size, depth)
-                table.setdefault(name, []).append([re.findall(r"[0-9.]+", text) for text in said])
-        print(size, depth, table)
+                    seen[name].append(rates(speed, [service] * clients, size, depth))
+        for kind, what in enumerate(("reads", "writes")):
+            alone, one, two = ([rate[kind] for rate in seen[name]] for name, _, _ in ways)
+            cells = [f"{statistics.median(alone):,.0f}"]
+            cells += [middle([b / a for a, b in zip(x, y)]) for x, y in ((alone, one), (one, two))]
+            print(f"| {what} of {size // 1024} KiB, {depth} outstanding | {' | '.join(cells)} |", flush=True)
 
 
 def main(words):

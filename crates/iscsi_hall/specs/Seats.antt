@@ -54,6 +54,10 @@ gathering s = record s { offered = false }
 abbrev pub may_take : Seat → Bool
 may_take s = has_room s && not (is_closed s.connection.machine) && not (length s.unfed == 0)
 
+-- The most bytes that are read at a time (own rule).
+abbrev pub most_read : ℕ
+most_read = 65_536
+
 -- The seat with what was read.
 abbrev pub received : List ℕ → Seat → Seat
 received piece s = record s { unfed = piece }

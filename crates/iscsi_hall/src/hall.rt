@@ -5,7 +5,7 @@ ghost use Rattle.std.specs.List.{position};
 ghost use Rattle.scsi_disk.specs.Lasting.{Settled};
 ghost use Rattle.iscsi_target.specs.Crash.{CrashesNext};
 ghost use Rattle.iscsi_target.specs.Inside.{store_of};
-ghost use Rattle.iscsi_hall.specs.Seats.{opening_seat, phase_of, may_read_at, may_take_at, received, with_sent, waiting_at, seat_at, with_seat, Changes, Takes, FinishesAt};
+ghost use Rattle.iscsi_hall.specs.Seats.{opening_seat, phase_of, may_read_at, may_take_at, most_read, received, with_sent, waiting_at, seat_at, with_seat, Changes, Takes, FinishesAt};
 ghost use Rattle.iscsi_hall.specs.Reinstatement.{takes_place_of};
 ghost use Rattle.iscsi_hall.specs.Turns.{Comes, Ends, Goes, HappensIn, SameMachines, TakesTurn};
 
@@ -158,10 +158,10 @@ impl Hall {
         }
     }
 
-    /// Keeps what was read for a seat: at most 8,192 bytes. Where memory runs out nothing is kept.
+    /// Keeps what was read for a seat: at most 65,536 bytes. Where memory runs out nothing is kept.
     pub fn receive(&mut self, seat: usize, piece: &[u8]) -> Result<(), AllocError>
         requires may { may_read_at (seat_at self.old seat) ≡ true }
-        requires short { length piece.now ≤ 8192 }
+        requires short { length piece.now ≤ most_read }
         ensures ok { OnOk result
             (Changes seat self.old self.new (λ before after. after ≡ received piece.now before)) }
         ensures err { OnErr result (self.new ≡ self.old) }

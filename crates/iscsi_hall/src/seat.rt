@@ -5,7 +5,7 @@ ghost use Rattle.iscsi_target.specs.Machine.{is_closed};
 ghost use Rattle.iscsi_target.specs.Crash.{CrashesNext};
 ghost use Rattle.iscsi_target.specs.Inside.{store_of};
 ghost use Rattle.iscsi_hall.specs.Reinstatement.{is_served, session_of, takes_over};
-ghost use Rattle.iscsi_hall.specs.Seats.{opening_seat, phase_of, is_idle, has_room, gathering, may_read, may_take, received, with_sent, TakesAt, FinishesAt};
+ghost use Rattle.iscsi_hall.specs.Seats.{opening_seat, phase_of, is_idle, has_room, gathering, may_read, may_take, most_read, received, with_sent, TakesAt, FinishesAt};
 
 use iscsi_login::{Phase, Session};
 use iscsi_target::{Config, Target, TargetFault};
@@ -16,7 +16,7 @@ use std::marker::Model;
 /// The StatSN of a session's first answer.
 const FIRST_STAT_SN: u32 = 1;
 /// The most bytes that are read at a time.
-pub const MOST_READ: usize = 8192;
+pub const MOST_READ: usize = 65_536;
 /// Of answers that wait, so many bytes are written before more are gathered.
 const GATHERED: usize = 65_536;
 
@@ -33,7 +33,7 @@ pub struct Seat {
 
 impl Model for Seat {
     ghost use Rattle.std.specs.Prelude.{◌≡◌, ◌≤◌, drop, false, length};
-    ghost use Rattle.iscsi_hall.specs.Seats.{Seat};
+    ghost use Rattle.iscsi_hall.specs.Seats.{Seat, most_read};
 
     ghost Value = { Seat };
 
@@ -45,7 +45,7 @@ impl Model for Seat {
     } };
 
     ghost invariant = { λ s. (s.sent ≤ length s.output.items) × (s.fed ≤ length s.unfed.items)
-        × (length s.unfed.items ≤ 8192) × (s.offered ≡ false → s.sent ≡ 0) };
+        × (length s.unfed.items ≤ most_read) × (s.offered ≡ false → s.sent ≡ 0) };
 }
 
 impl Seat {
@@ -132,7 +132,7 @@ impl Seat {
     /// Keeps what was read.
     pub fn receive(&mut self, piece: &[u8]) -> Result<(), AllocError>
         requires may { may_read self.old ≡ true }
-        requires short { length piece.now ≤ 8192 }
+        requires short { length piece.now ≤ most_read }
         ensures ok { OnOk result (self.new ≡ received piece.now self.old) }
         ensures err { OnErr result (self.new ≡ self.old) }
     {

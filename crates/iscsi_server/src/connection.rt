@@ -30,9 +30,6 @@ pub struct Connection {
     stream: TcpStream,
     is_readable: bool,
     is_writable: bool,
-    // a read gave something that was not answered yet: more is likely to be on its way, so that one
-    // more read is tried before the system is asked to tell
-    is_unanswered: bool,
     // the system was asked to tell when a write may take something: asked for all the time, it would
     // tell with each read
     is_asked: bool,
@@ -49,7 +46,6 @@ impl Connection {
             stream,
             is_readable: true,
             is_writable: true,
-            is_unanswered: false,
             is_asked: false,
             is_half_closed: false,
             accepted: now,
@@ -81,12 +77,6 @@ impl Connection {
         self.is_readable
     }
 
-    /// Whether a read is worth a try: it may give something, or what the last one gave was not
-    /// answered, as where a PDU's header and its data segment come apart.
-    pub fn is_worth_a_read(&self) -> bool {
-        self.is_readable || self.is_unanswered
-    }
-
     /// Whether a write may take something.
     pub fn is_writable(&self) -> bool {
         self.is_writable
@@ -102,13 +92,11 @@ impl Connection {
                 // A short read has emptied the socket; only the peer's end may follow without an
                 // event of its own.
                 self.is_readable = self.is_half_closed || count == buffer.len();
-                self.is_unanswered = true;
                 self.moved = now;
                 Moved::Bytes(count)
             }
             Err(error) => {
                 self.is_readable = error.kind() != ErrorKind::WouldBlock;
-                self.is_unanswered = false;
                 unmoved(&error)
             }
         }
@@ -121,7 +109,6 @@ impl Connection {
         match self.stream.write(bytes) {
             Ok(0) => Moved::End,
             Ok(count) => {
-                self.is_unanswered = false;
                 self.moved = now;
                 Moved::Bytes(count)
             }

@@ -63,8 +63,8 @@ impl Peer {
     }
 
     /// A turn of its session: at most 64 reads, PDUs and writes, and no more behind a write of 65,536
-    /// bytes. Says whether the session is over;
-    /// where that is for a fault, it is kept as its end.
+    /// bytes. What is read goes through `buffer`. Says whether the session is over; where that is
+    /// for a fault, it is kept as its end.
     #[tactic(auto, using(crate::proofs::ExecutedLemmas::none_executed))]
     pub fn turn<S: BlockStore>(
         &mut self,
@@ -72,12 +72,13 @@ impl Peer {
         store: &mut S,
         seat: usize,
         now: Instant,
+        buffer: &mut [u8; MOST_READ],
     ) -> bool
         ensures blocks { HasExecuted (S.disk store.old) (S.disk store.new) }
         ensures seats { length hall.new.seats ≡ length hall.old.seats }
     {
         for _ in 0..STEPS {
-            match self.step(hall, store, seat, now) {
+            match self.step(hall, store, seat, now, buffer) {
                 Step::Went => {}
                 Step::Rests => return false,
                 Step::Over => return true,
@@ -124,6 +125,7 @@ impl Peer {
         store: &mut S,
         seat: usize,
         now: Instant,
+        buffer: &mut [u8; MOST_READ],
     ) -> Step
         ensures blocks { HasExecuted (S.disk store.old) (S.disk store.new) }
         ensures seats { length hall.new.seats ≡ length hall.old.seats }
@@ -133,7 +135,7 @@ impl Peer {
         } else if !hall.waiting(seat).is_empty() {
             self.write(hall, seat, now)
         } else if hall.may_read(seat) {
-            self.read(hall, seat, now)
+            self.read(hall, seat, now, buffer)
         } else {
             Step::Over
         }
@@ -194,15 +196,20 @@ impl Peer {
     }
 
     // Reads what came.
-    fn read(&mut self, hall: &mut Hall, seat: usize, now: Instant) -> Step
+    fn read(
+        &mut self,
+        hall: &mut Hall,
+        seat: usize,
+        now: Instant,
+        buffer: &mut [u8; MOST_READ],
+    ) -> Step
         requires may { may_read_at (seat_at hall.old seat) ≡ true }
         ensures seats { length hall.new.seats ≡ length hall.old.seats }
     {
-        if !self.connection.is_worth_a_read() {
+        if !self.connection.is_readable() {
             return Step::Rests;
         }
-        let mut buffer = [0u8; MOST_READ];
-        match self.connection.read(&mut buffer, now) {
+        match self.connection.read(buffer, now) {
             Moved::Bytes(count) => match hall.receive(seat, &buffer[..count]) {
                 Ok(()) => Step::Went,
                 Err(_) => self.over(SessionEnd::Target(TargetFault::NoMemory)),

@@ -14,7 +14,7 @@ use crate::options::Options;
 use crate::peer::{Peer, no_peers};
 use crate::session_end::SessionEnd;
 use crate::system::{LISTENER, listen, now, watch};
-use iscsi_hall::Hall;
+use iscsi_hall::{Hall, MOST_READ};
 use iscsi_login::Phase;
 use iscsi_service::ServeFault;
 use mio::net::{TcpListener, TcpStream};
@@ -39,6 +39,8 @@ pub struct Server<'a> {
     accepted: u16,
     hall: Hall,
     peers: Vec<Option<Peer>>,
+    // what a read of a peer goes through
+    buffer: Box<[u8; MOST_READ]>,
 }
 
 impl<'a> Model for Server<'a> {
@@ -70,6 +72,9 @@ impl<'a> Server<'a> {
         let peers = no_peers(alloc, count)?;
         let events = Events::with_capacity(alloc, count + 1)?;
         let hall = Hall::new(alloc, count)?;
+        let Ok(buffer) = Box::new(alloc, [0u8; MOST_READ]) else {
+            return Err(ServeFault::NoMemory);
+        };
         let (poll, listener) = listen(rt, SocketAddr::new(options.listen, options.port))?;
         Ok(Server {
             options,
@@ -80,6 +85,7 @@ impl<'a> Server<'a> {
             accepted: 0,
             hall,
             peers,
+            buffer,
         })
     }
 
@@ -266,7 +272,7 @@ impl<'a> Server<'a> {
             return;
         };
         let was = self.hall.phase(seat);
-        let is_over = peer.turn(&mut self.hall, store, seat, now)
+        let is_over = peer.turn(&mut self.hall, store, seat, now, &mut self.buffer)
             || peer.is_late(&self.options.limits, self.hall.phase(seat), now)
             || !peer.is_followed(&self.poll, seat);
         if is_over {

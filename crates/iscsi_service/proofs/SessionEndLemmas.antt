@@ -41,6 +41,17 @@ use Rattle.iscsi_target.proofs.StreamingLemmas.{goes_on}
 use Rattle.iscsi_service.specs.Session.{Receives, ServesFirst, IsOver, GoesOnBehind, RestFails, EndsBy}
 use Rattle.iscsi_service.specs.declared.session.SessionFault.TheVariants as session
 
+-- memory ran out before anything was read
+pub none_served : (settings : Settings) (disk : Disk) → ServesFirst settings disk [] disk []
+unfolding answers ReadsAs
+none_served settings disk = record {
+  receives = record { messages = []; given = []; rest = []; whole = refl; reads = refl };
+  front = unchanged (opening settings 1) disk;
+  stops = inl refl;
+  disk_is = refl;
+  output_is = refl;
+}
+
 -- ---- a session that goes on
 
 -- the target has answered all PDUs of the stream, and none is ready

@@ -9,7 +9,11 @@ use crate::session::{configuration, serve_stream};
 use iscsi_target::Config;
 use scsi_disk::BlockStore;
 use std::alloc::Global;
+use std::io::BufReader;
 use std::net::{Ipv4Addr, TcpListener};
+
+/// The most bytes that are read from a socket at a time.
+const READ_AHEAD: usize = 65_536;
 
 /// Accepts one connection and runs a target's session over it, with first StatSN 1. The session's
 /// memory goes with it; the store stays.
@@ -39,7 +43,10 @@ pub fn serve_one<S: BlockStore>(
     let Ok((stream, _)) = listener.accept() else {
         return Err(ServeFault::Network);
     };
-    match serve_stream(alloc, config, store, &mut &stream, &mut &stream) {
+    let Ok(mut reader) = BufReader::with_capacity(alloc, READ_AHEAD, &stream) else {
+        return Err(ServeFault::NoMemory);
+    };
+    match serve_stream(alloc, config, store, &mut reader, &mut &stream) {
         Ok(()) => Ok(()),
         Err(fault) => Err(ServeFault::from(fault)),
     }

@@ -13,7 +13,7 @@ use scsi_disk::SparseStore;
 use std::alloc::Global;
 use std::test::Fail;
 
-/// The lengths of pieces: a byte, less than a header, a header, and as much as is read at a time.
+/// The lengths of pieces: a byte, less than a header, a header, and many PDUs.
 const LENGTHS: &[usize] = &[1, 47, 48, 8192];
 
 // A READ of block 3, which is of 00, as the first command of a session, and its answer.

@@ -1,6 +1,7 @@
-use Rattle.std.proofs.Common.{subst}
+use Rattle.std.proofs.Common.{[], subst}
 use Rattle.iscsi_login.specs.Negotiation.{IsInRange}
 use Rattle.iscsi_target_session.specs.Configured.{Settings}
+use Rattle.iscsi_service.proofs.SessionEndLemmas.{none_served}
 use Rattle.iscsi_service.proofs.SessionReadInvariant.{fault_served}
 use Rattle.iscsi_service.proofs.serving.serve_one.Goals as goal
 
@@ -19,3 +20,7 @@ returns-in-Ok-serve_stream-clause-serves g c =
     let s = c.in-Ok-serve_stream.ensures.serves in
     let range : IsInRange c.args.config.preferences = subst (λ (x : Settings). IsInRange x.preferences) c.config.view_is c.config.invariant.2 in
     (s.0, s.1, λ h. s.5 range h)
+
+pub returns-in_default-with_capacity-clause-serves : goal.returns-in_default-with_capacity-clause-serves
+returns-in_default-with_capacity-clause-serves g c =
+    ([], [], λ h. none_served c.args.config (g.S.BlockStore.disk c.args.store.now))
