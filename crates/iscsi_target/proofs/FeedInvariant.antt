@@ -110,7 +110,7 @@ fed_bytes old before output piece rest after_rest now after written n framing g 
 
 -- ---- a PDU
 
-same_step : (d : Device) (a b : Machine) (disk : Disk) (m : Message) → joined a ≡ joined b → joined_stepped (step_on d a disk m)
+pub same_step : (d : Device) (a b : Machine) (disk : Disk) (m : Message) → joined a ≡ joined b → joined_stepped (step_on d a disk m)
     ≡ joined_stepped (step_on d b disk m)
 same_step d a b disk m e = sym (step_joined d a disk m) ∙ ap (λ (s : Machine). joined_stepped (step_on d s disk m)) e ∙ step_joined d b disk m
 
@@ -321,7 +321,7 @@ ends_refused old before output piece rest now after written faults.Closed new g 
 -- memory ran out at a PDU
 
 -- what comes of a PDU is the same with the pieces of each write joined
-same_next : (a b : Machine) (count : ℕ) (m : Message) → joined a ≡ joined b → SameNext (full_met a count m).next (full_met b count m).next
+pub same_next : (a b : Machine) (count : ℕ) (m : Message) → joined a ≡ joined b → SameNext (full_met a count m).next (full_met b count m).next
 same_next a b count m e =
     next_then (full_met a count m).next (full_met (joined a) count m).next (full_met b count m).next
     (next_back (full_met (joined a) count m).next (full_met a count m).next (met_same a count m).next)

@@ -36,3 +36,4 @@ pub mod StreamingLemmas
 pub mod OneOutcomeLaw
 pub mod OutOfMemoryLemmas
 pub mod CrashLemmas
+pub mod PassedLemmas

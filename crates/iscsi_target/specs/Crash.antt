@@ -1,6 +1,6 @@
 -- What a crash leaves of the blocks, by the commands whose data a target has (RFC 7143, sections
 -- 11.3 and 11.7).
-use Rattle.std.specs.Prelude.{◌≡◌, ◌⊎◌, ℕ, List, [], ◌∷◌, take}
+use Rattle.std.specs.Prelude.{◌≡◌, ◌≤◌, ◌⊎◌, ℕ, List, [], ◌∷◌, ◌++◌, take}
 use Rattle.std.specs.List.{flat_map}
 use Rattle.scsi_disk.specs.Disk.{Disk}
 use Rattle.scsi_disk.specs.Effect.{effect, IsSupplied}
@@ -16,10 +16,10 @@ use Rattle.iscsi_login.specs.declared.phase.Phase.{Phase}
 use Rattle.iscsi_login.specs.declared.phase.Phase.TheVariants as phases
 use Rattle.iscsi_target.specs.declared.tasks.Task.{Task}
 use Rattle.iscsi_target.specs.declared.tasks.Task.TheVariants.{Request, Data}
-use Rattle.iscsi_target.specs.State.{Machine}
+use Rattle.iscsi_target.specs.State.{Machine, Stepped}
 use Rattle.iscsi_target.specs.Command.{order_of}
-use Rattle.iscsi_target.specs.Machine.{Next, Dropped, Answered, Queued, full_met}
-use Rattle.iscsi_target.specs.Feed.{Connection}
+use Rattle.iscsi_target.specs.Machine.{Next, Dropped, Answered, Queued, full_met, MayAnswer}
+use Rattle.iscsi_target.specs.Feed.{Connection, Store}
 
 -- ---- commands and their data
 
@@ -92,3 +92,29 @@ CrashesNext old piece before after kept_before kept_after =
     Crashes [] before after kept_before kept_after
     ⊎ ((m : Message) × IsNext old piece m
     × Crashes (commands_at old.machine before.count m) before after kept_before kept_after)
+
+-- ---- a crash, for any bytes
+
+-- The first of these bytes complete some PDUs and one more. Behind the others, with at most so many
+-- failures counted, the block has these contents as a command of that one leaves it.
+pub record IsPassed (old : Connection) (before : Store) (piece : List ℕ) (most n : ℕ)
+    (bytes : List ℕ) : Type 0 where
+  pub messages : List Message
+  pub message : Message
+  pub framing : Framing
+  pub count : ℕ
+  pub taken : Moves old.framing framing (take count piece) (messages ++ message ∷ [])
+  -- what the others lead to, and the failures that were counted behind them
+  pub led : Stepped
+  pub failures : ℕ
+  pub may : MayAnswer old.machine before.disk before.failures messages led failures
+  pub few : failures ≤ most
+  pub behind : IsBehind led.disk (commands_at led.machine led.disk.count message) n bytes
+
+-- A crash behind a call with these bytes leaves of each block what it would have left before, or
+-- the block as a command of a PDU that they complete leaves it; there are as many blocks.
+pub record CrashesFed (old : Connection) (before : Store) (piece : List ℕ) (after : Store)
+    (kept_before kept_after : ℕ → List ℕ → Type 0) : Type 0 where
+  pub count : after.disk.count ≡ before.disk.count
+  pub adds : (n : ℕ) (bytes : List ℕ) → kept_after n bytes
+      → kept_before n bytes ⊎ IsPassed old before piece after.failures n bytes

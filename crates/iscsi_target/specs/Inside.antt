@@ -14,7 +14,7 @@ use Rattle.iscsi_target.specs.Execution.{Device, reliable}
 use Rattle.iscsi_pdu.specs.Rules.{kind_not_due, data_out_of_order}
 use Rattle.iscsi_stream.specs.Segment.{segment_bytes}
 use Rattle.iscsi_target.specs.Command.{breaks_rules}
-use Rattle.iscsi_target.specs.Machine.{is_tag_of, tag_of, RunsIn, Next, Queued, write_of, with_write, done_first, done_in_turn, followed, full_met, step_on}
+use Rattle.iscsi_target.specs.Machine.{is_tag_of, tag_of, RunsIn, Next, Queued, write_of, with_write, done_first, done_in_turn, followed, full_met, step_on, MayAnswer}
 use Rattle.iscsi_target.specs.Feed.{Connection, Store}
 use Rattle.iscsi_pdu.specs.declared.head.Head.{Head}
 use Rattle.iscsi_stream.specs.Stream.{Message}
@@ -22,7 +22,7 @@ use Rattle.iscsi_login.specs.declared.phase.Phase.TheVariants as phases
 use Rattle.iscsi_pdu.specs.Meaning.{Means}
 use Rattle.iscsi_stream.specs.declared.fault.StreamFault.{StreamFault}
 use Rattle.iscsi_stream.specs.declared.fault.StreamFault.TheVariants as stream
-use Rattle.iscsi_stream.specs.Framing.{Framing, Takes, FeedFails, is_ready, given_up, message_of}
+use Rattle.iscsi_stream.specs.Framing.{Framing, Takes, Moves, FeedFails, is_ready, given_up, message_of}
 use Rattle.iscsi_target.specs.declared.fault.TargetFault.{TargetFault}
 use Rattle.iscsi_target.specs.declared.fault.TargetFault.TheVariants as faults
 use Rattle.iscsi_target.specs.declared.due.Due.{Due}
@@ -280,3 +280,16 @@ target_fault (stream.Head fault place) = faults.Stream (stream.Head fault place)
 target_fault (stream.OverLimit place) = faults.Stream (stream.OverLimit place)
 target_fault (stream.Truncated place) = faults.Stream (stream.Truncated place)
 target_fault stream.Failed = faults.Stream stream.Failed
+
+-- ---- PDU after PDU
+
+-- These bytes led a target and its store from here to there: it took them and answered the PDUs
+-- that they complete, and may keep the bytes of each write as one piece.
+pub record Advances (old : Connection) (before : Store) (bytes : List ℕ) (new : Connection)
+    (after : Store) : Type 0 where
+  pub messages : List Message
+  pub taken : Moves old.framing new.framing bytes messages
+  pub led : Stepped
+  pub may : MayAnswer old.machine before.disk before.failures messages led after.failures
+  pub machine : joined new.machine ≡ joined led.machine
+  pub disk_is : after.disk ≡ led.disk

@@ -10,7 +10,7 @@ ghost use Rattle.iscsi_target.specs.Feed.{opening_connection, Feeds, FeedsNext, 
 ghost use Rattle.iscsi_target_session.specs.Configured.{Settings};
 ghost use Rattle.scsi_disk.specs.Disk.{Disk};
 ghost use Rattle.scsi_disk.specs.Lasting.{Settled};
-ghost use Rattle.iscsi_target.specs.Crash.{CrashesNext, CrashesReady};
+ghost use Rattle.iscsi_target.specs.Crash.{CrashesFed, CrashesNext, CrashesReady};
 ghost use Rattle.iscsi_target.specs.Inside.{connection, store_of, target_fault, AnswersReady, ShutsReady, RestFails, TakesOne, FailsOne};
 
 use crate::fault::TargetFault;
@@ -88,6 +88,10 @@ impl Target {
             out.new.items }
         // A crash leaves the blocks that the answered commands led to, and no others.
         ensures lasts { S.failures store.new ≡ 0 → Settled (S.disk store.new) (S.kept store.new) }
+        // Come what may, a crash leaves each block as before, or as a command of a PDU leaves it.
+        ensures crash { CrashesFed self.old (store_of (S.disk store.old) (S.failures store.old))
+            piece.now (store_of (S.disk store.new) (S.failures store.new))
+            (S.kept store.old) (S.kept store.new) }
     {
         if self.machine.is_closed() {
             return Err(TargetFault::Closed);
@@ -201,6 +205,9 @@ fn feed_all<S: BlockStore>(
         (store_of (S.disk store.new) (S.failures store.new)) out.new.items }
     ensures limit { framer.new.limit ≡ limit machine.new.session.settings }
     ensures unready { is_ready framer.new ≡ false }
+    ensures crash { CrashesFed (connection machine.old framer.old)
+        (store_of (S.disk store.old) (S.failures store.old)) piece.now
+        (store_of (S.disk store.new) (S.failures store.new)) (S.kept store.old) (S.kept store.new) }
 {
     let mut rest = piece;
     while !rest.is_empty() {
