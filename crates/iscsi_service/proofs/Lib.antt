@@ -1,6 +1,7 @@
 pub mod ExecutedLemmas
 pub mod SessionEndLemmas
 pub mod SessionReadInvariant
+pub mod SessionCrashLemmas
 pub mod ScriptLemmas
 pub mod ReportLemmas
 pub mod HistoryLemmas

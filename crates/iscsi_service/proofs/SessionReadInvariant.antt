@@ -2,7 +2,7 @@
 use Rattle.std.proofs.Common.{◌≡◌, ◌⊎◌, inl, inr, drop, take-append-drop, ℕ, Bool, true, false, List, [], ◌∷◌, ◌++◌, length, ◌≤◌, ◌<◌, take, Option, Result, Ok}
 use Rattle.std.proofs.Common.{Err, refl, sym, ap, subst, ◌∙◌, arith, append-nil, append_assoc}
 use Rattle.std.specs.Io.KnownBytes.{Appends, Consumes, Keeps}
-use Rattle.std.proofs.KnownBytes.{Appends-trans, Appends-nil, Consumes-trans, Consumes-kept, Consumes-nil}
+use Rattle.std.proofs.KnownBytes.{Appends-trans, Appends-nil, Consumes-trans, Consumes-kept}
 use Rattle.scsi_disk.specs.Disk.{Disk}
 use Rattle.iscsi_pdu.specs.Meaning.{AreBytes}
 use Rattle.iscsi_stream.proofs.HeadLemmas.{AreBytes-take}
@@ -36,8 +36,8 @@ use Rattle.iscsi_service.specs.Serving.{session_fault, ServesOne}
 use Rattle.iscsi_service.proofs.SessionEndLemmas.{Stands, stands_first, stands_answered, read_told, end_told, finish_told, fault_told, first_told, over_told}
 
 -- what a call has read and written
-abbrev pub Leaves : Option (List ℕ) → Option (List ℕ) → Option (List ℕ) → Option (List ℕ) → (List ℕ → List ℕ → Type 0) → Type 0
-Leaves r0 r1 w0 w1 P = (read : List ℕ) × (written : List ℕ) × Consumes r0 r1 read × Appends w0 w1 written × AreBytes written × P read written
+abbrev pub Leaves : Option (List ℕ) → Option (List ℕ) → Option (List ℕ) → Option (List ℕ) → (List ℕ → List ℕ → Type 0) → (List ℕ → Type 0) → Type 0
+Leaves r0 r1 w0 w1 P C = (read : List ℕ) × (written : List ℕ) × Consumes r0 r1 read × Appends w0 w1 written × AreBytes written × P read written × C read
 
 -- what is said of it where the preferences are in range and no failure was counted
 abbrev pub Given : Store → Store → Settings → (List ℕ → List ℕ → Type 0) → List ℕ → List ℕ → Type 0
@@ -187,7 +187,7 @@ left_rises (Err (faults.Protocol rule)) out framing rest r counted new after wri
 left_rises (Err faults.Closed) out framing rest r counted new after written h = omega (arith, h.failures)
 
 -- by a call
-fed_rises : (b : Bool) (old new : Connection) (before after : Store) (out piece written : List ℕ) (result : Result Phase TargetFault) →
+pub fed_rises : (b : Bool) (old new : Connection) (before after : Store) (out piece written : List ℕ) (result : Result Phase TargetFault) →
     FedIf b old before out piece result new after written → before.failures ≤ after.failures
 fed_rises true old new before after out piece written result f = omega (arith, ap (λ (x : Store). x.failures) f.store)
 fed_rises false old new before after out piece written result f =
@@ -285,7 +285,7 @@ either : (b : Bool) → (b ≡ true) ⊎ (b ≡ false)
 either true = inl refl
 either false = inr refl
 
-next_is : (b : Bool) (old new : Connection) (before after : Store) (out piece written : List ℕ) (done : ℕ × Phase)
+pub next_is : (b : Bool) (old new : Connection) (before after : Store) (out piece written : List ℕ) (done : ℕ × Phase)
     → FedNextIf b old before out piece (Ok done) new after written → FedIf b old before out (take done.0 piece) (Ok done.1) new after written
 next_is true old new before after out piece written done f = absurd cc
 next_is false old new before after out piece written done f = f.fed
@@ -299,7 +299,7 @@ abbrev as_phase : Result (ℕ × Phase) TargetFault → Result Phase TargetFault
 as_phase (Ok done) = Ok done.1
 as_phase (Err fault) = Err fault
 
-next_fails : (b : Bool) (old new : Connection) (before after : Store) (out piece written : List ℕ) (fault : TargetFault)
+pub next_fails : (b : Bool) (old new : Connection) (before after : Store) (out piece written : List ℕ) (fault : TargetFault)
     → FedNextIf b old before out piece (Err fault) new after written → FedIf b old before out piece (Err fault) new after written
 next_fails true old new before after out piece written fault f = record { result_is = ap as_phase f.0; connection = f.1; store = f.2; output_is = f.3 }
 next_fails false old new before after out piece written fault f = f
@@ -519,9 +519,6 @@ pub record ReadUpTo (settings : Settings) (first : Store) (target : Connection) 
   pub consumed : Consumes remaining_old remaining_new stream
   pub served : ServedUpTo settings first stream target store contents_old contents_new []
 
-pub read_start : (settings : Settings) (first : Store) (a b : Option (List ℕ)) → ReadUpTo settings first (opening_connection settings 1) first a a b b
-read_start settings first a b = record { stream = []; consumed = Consumes-nil a; served = at_start settings first b }
-
 pub read_more : (settings : Settings) (first : Store) (now new : Connection) (store after : Store) (r0 r1 r2 w0 w1 w2 : Option (List ℕ)) (piece : List ℕ)
     → ReadUpTo settings first now store r0 r1 w0 w1 → Consumes r1 r2 piece → Goes (service now store w1 []) piece (service new after w2 []) →
     ReadUpTo settings first new after r0 r2 w0 w2
@@ -546,18 +543,19 @@ abbrev pub Ended : Settings → Store → Store → Result (Unit {0}) SessionFau
 Ended settings first store result = Given first store settings (λ read written. Serves settings first.disk result read store.disk written
     × EndsBy settings first.disk result read)
 
-stops : (settings : Settings) (result : Result (Unit {0}) SessionFault) (first : Store) (now : Connection) (store : Store) (r0 r1 w0 w1 : Option (List ℕ)) →
-    (up : ReadUpTo settings first now store r0 r1 w0 w1)
+stops : (settings : Settings) (result : Result (Unit {0}) SessionFault) (first : Store) (now : Connection) (store : Store) (r0 r1 w0 w1 : Option (List ℕ))
+    (C : List ℕ → Type 0) → (up : ReadUpTo settings first now store r0 r1 w0 w1) → C up.stream
     → ((read written : List ℕ) → ServesAll settings first.disk read store.disk written → Serves settings first.disk result read store.disk written) →
     (store.failures ≡ first.failures → EndsBy settings first.disk result up.stream)
-    → Leaves r0 r1 w0 w1 (Ended settings first store result)
-stops settings result first now store r0 r1 w0 w1 up due why = (
+    → Leaves r0 r1 w0 w1 (Ended settings first store result) C
+stops settings result first now store r0 r1 w0 w1 C up left due why = (
   up.stream,
   up.served.sent,
   up.consumed,
   up.served.appended,
   up.served.bytes,
   λ range h. (due up.stream up.served.sent (all_served settings first up.stream now store w0 w1 up.served range h), why h),
+  left,
 )
 
 -- a target that stands behind what was read
@@ -567,37 +565,37 @@ read_stands : (settings : Settings) (first : Store) (now : Connection) (store : 
 read_stands settings first now store r0 r1 w0 w1 up h live = stands_up settings first up.stream now store w0 w1 [] up.served h live
 
 -- a read failed
-pub read_stops : (settings : Settings) (first : Store) (now : Connection) (store : Store) (r0 r1 r2 w0 w1 : Option (List ℕ)) →
-    ReadUpTo settings first now store r0 r1 w0 w1 → is_closed now.machine ≡ false → Keeps r1 r2
-    → Leaves r0 r2 w0 w1 (Ended settings first store (Err session.Read))
-read_stops settings first now store r0 r1 r2 w0 w1 up live kept =
-    stops settings (Err session.Read) first now store r0 r2 w0 w1 (record {
+pub read_stops : (settings : Settings) (first : Store) (now : Connection) (store : Store) (r0 r1 r2 w0 w1 : Option (List ℕ)) (C : List ℕ → Type 0) →
+    (up : ReadUpTo settings first now store r0 r1 w0 w1) → C up.stream → is_closed now.machine ≡ false → Keeps r1 r2
+    → Leaves r0 r2 w0 w1 (Ended settings first store (Err session.Read)) C
+read_stops settings first now store r0 r1 r2 w0 w1 C up left live kept =
+    stops settings (Err session.Read) first now store r0 r2 w0 w1 C (record {
       stream = up.stream;
       consumed = Consumes-kept r0 r1 r2 up.stream up.consumed kept;
       served = up.served;
-    }) (λ read written a. a)
+    }) left (λ read written a. a)
     (λ h. read_told settings first.disk up.stream now store.disk (up.served.sent ++ []) (read_stands settings first now store r0 r1 w0 w1 up h live) live)
 
 -- there were too many reads
-pub reads_stop : (settings : Settings) (first : Store) (now : Connection) (store : Store) (r0 r1 w0 w1 : Option (List ℕ)) →
-    ReadUpTo settings first now store r0 r1 w0 w1 → is_closed now.machine ≡ false
-    → Leaves r0 r1 w0 w1 (Ended settings first store (Err session.Read))
-reads_stop settings first now store r0 r1 w0 w1 up live =
-    stops settings (Err session.Read) first now store r0 r1 w0 w1 up (λ read written a. a)
+pub reads_stop : (settings : Settings) (first : Store) (now : Connection) (store : Store) (r0 r1 w0 w1 : Option (List ℕ)) (C : List ℕ → Type 0) →
+    (up : ReadUpTo settings first now store r0 r1 w0 w1) → C up.stream → is_closed now.machine ≡ false
+    → Leaves r0 r1 w0 w1 (Ended settings first store (Err session.Read)) C
+reads_stop settings first now store r0 r1 w0 w1 C up left live =
+    stops settings (Err session.Read) first now store r0 r1 w0 w1 C up left (λ read written a. a)
     (λ h. read_told settings first.disk up.stream now store.disk (up.served.sent ++ []) (read_stands settings first now store r0 r1 w0 w1 up h live) live)
 
 -- a session that was closed
 pub over_stops : (settings : Settings) (first : Store) (now new : Connection) (store after : Store) (r0 r1 r2 w0 w1 w2 : Option (List ℕ)) (piece : List ℕ)
-    → ReadUpTo settings first now store r0 r1 w0 w1 → Consumes r1 r2 piece → Goes (service now store w1 []) piece (service new after w2 []) →
-    ClosesBy (service now store w1 []) piece after
-    → Leaves r0 r2 w0 w2 (Ended settings first after (Ok tt))
-over_stops settings first now new store after r0 r1 r2 w0 w1 w2 piece up read goes closes =
-    stops settings (Ok tt) first new after r0 r2 w0 w2
+    (C : List ℕ → Type 0) → (up : ReadUpTo settings first now store r0 r1 w0 w1) → C (up.stream ++ piece) → Consumes r1 r2 piece
+    → Goes (service now store w1 []) piece (service new after w2 []) → ClosesBy (service now store w1 []) piece after
+    → Leaves r0 r2 w0 w2 (Ended settings first after (Ok tt)) C
+over_stops settings first now new store after r0 r1 r2 w0 w1 w2 piece C up left read goes closes =
+    stops settings (Ok tt) first new after r0 r2 w0 w2 C
     (record {
       stream = up.stream ++ piece;
       consumed = Consumes-trans r0 r1 r2 up.stream piece up.consumed read;
       served = goes settings first up.stream w0 up.served;
-    }) (λ read written a. a)
+    }) left (λ read written a. a)
     (λ h. inl (closes settings first up.stream w0 up.served h))
 
 -- nothing more came
@@ -607,15 +605,15 @@ ended_up settings first now store r0 r1 r2 w0 w1 up read = subst (λ (x : List �
     (Consumes-trans r0 r1 r2 up.stream [] up.consumed read)
 
 -- the stream ended behind a PDU
-pub end_stops : (settings : Settings) (first : Store) (now new : Connection) (store : Store) (r0 r1 r2 w0 w1 : Option (List ℕ)) →
-    ReadUpTo settings first now store r0 r1 w0 w1 → is_closed now.machine ≡ false
-    → Finishes now (Ok tt) new → Consumes r1 r2 [] → Leaves r0 r2 w0 w1 (Ended settings first store (Ok tt))
-end_stops settings first now new store r0 r1 r2 w0 w1 up live done read =
-    stops settings (Ok tt) first now store r0 r2 w0 w1 (record {
+pub end_stops : (settings : Settings) (first : Store) (now new : Connection) (store : Store) (r0 r1 r2 w0 w1 : Option (List ℕ)) (C : List ℕ → Type 0) →
+    (up : ReadUpTo settings first now store r0 r1 w0 w1) → C up.stream → is_closed now.machine ≡ false
+    → Finishes now (Ok tt) new → Consumes r1 r2 [] → Leaves r0 r2 w0 w1 (Ended settings first store (Ok tt)) C
+end_stops settings first now new store r0 r1 r2 w0 w1 C up left live done read =
+    stops settings (Ok tt) first now store r0 r2 w0 w1 C (record {
       stream = up.stream;
       consumed = ended_up settings first now store r0 r1 r2 w0 w1 up read;
       served = up.served;
-    }) (λ read written a. a)
+    }) left (λ read written a. a)
     (λ h. inr (end_told settings first.disk up.stream now new store.disk (up.served.sent ++ [])
     (read_stands settings first now store r0 r1 w0 w1 up h live) live done))
 
@@ -628,40 +626,40 @@ any_fault settings disk (faults.Protocol rule) new now read disk_now written liv
 any_fault settings disk faults.Closed new now read disk_now written live f a = absurd (apart f.0 live)
 
 -- the stream ended within a PDU
-pub finish_stops : (settings : Settings) (fault : TargetFault) (first : Store) (now new : Connection) (store : Store) (r0 r1 r2 w0 w1 : Option (List ℕ)) →
-    ReadUpTo settings first now store r0 r1 w0 w1
+pub finish_stops : (settings : Settings) (fault : TargetFault) (first : Store) (now new : Connection) (store : Store) (r0 r1 r2 w0 w1 : Option (List ℕ))
+    (C : List ℕ → Type 0) → (up : ReadUpTo settings first now store r0 r1 w0 w1) → C up.stream
     → is_closed now.machine ≡ false → Finishes now (Err fault) new → Consumes r1 r2 [] →
-    Leaves r0 r2 w0 w1 (Ended settings first store (Err (session.Target fault)))
-finish_stops settings fault first now new store r0 r1 r2 w0 w1 up live fails read =
-    stops settings (Err (session.Target fault)) first now store r0 r2 w0 w1 (record {
+    Leaves r0 r2 w0 w1 (Ended settings first store (Err (session.Target fault))) C
+finish_stops settings fault first now new store r0 r1 r2 w0 w1 C up left live fails read =
+    stops settings (Err (session.Target fault)) first now store r0 r2 w0 w1 C (record {
       stream = up.stream;
       consumed = ended_up settings first now store r0 r1 r2 w0 w1 up read;
       served = up.served;
-    })
+    }) left
     (λ read written a. any_fault settings first.disk fault new now read store.disk written live fails a)
     (λ h. finish_told fault settings first.disk up.stream now new store.disk (up.served.sent ++ [])
     (read_stands settings first now store r0 r1 w0 w1 up h live) live fails)
 
 -- a session that ends by a fault of the target
 fault_ends : (settings : Settings) (fault : SessionFault) (first : Store) (now new : Connection) (store after : Store) (r0 r1 r2 w0 w1 w2 : Option (List ℕ))
-    (piece : List ℕ) → ReadUpTo settings first now store r0 r1 w0 w1
+    (piece : List ℕ) (C : List ℕ → Type 0) → (up : ReadUpTo settings first now store r0 r1 w0 w1) → C (up.stream ++ piece)
     → Consumes r1 r2 piece → ((read written : List ℕ) → ServesAll settings first.disk read after.disk written →
     Serves settings first.disk (Err fault) read after.disk written)
     → Goes (service now store w1 []) piece (service new after w2 []) → Tells (service now store w1 []) piece fault after →
-    Leaves r0 r2 w0 w2 (Ended settings first after (Err fault))
-fault_ends settings fault first now new store after r0 r1 r2 w0 w1 w2 piece up read due goes tells =
-    stops settings (Err fault) first new after r0 r2 w0 w2
+    Leaves r0 r2 w0 w2 (Ended settings first after (Err fault)) C
+fault_ends settings fault first now new store after r0 r1 r2 w0 w1 w2 piece C up left read due goes tells =
+    stops settings (Err fault) first new after r0 r2 w0 w2 C
     (record {
       stream = up.stream ++ piece;
       consumed = Consumes-trans r0 r1 r2 up.stream piece up.consumed read;
       served = goes settings first up.stream w0 up.served;
-    }) due (λ h. tells settings first up.stream w0 up.served h)
+    }) left due (λ h. tells settings first up.stream w0 up.served h)
 
 pub fault_stops : (settings : Settings) (fault : SessionFault) (first : Store) (now new : Connection) (store after : Store)
-    (r0 r1 r2 w0 w1 w2 : Option (List ℕ)) (piece : List ℕ)
-    → ReadUpTo settings first now store r0 r1 w0 w1 → Consumes r1 r2 piece → Breaks (service now store w1 []) piece fault (service new after w2 [])
-    → Leaves r0 r2 w0 w2 (Ended settings first after (Err fault))
-fault_stops settings (session.Target faults.NoMemory) first now new store after r0 r1 r2 w0 w1 w2 piece up read lost =
+    (r0 r1 r2 w0 w1 w2 : Option (List ℕ)) (piece : List ℕ) (C : List ℕ → Type 0)
+    → (up : ReadUpTo settings first now store r0 r1 w0 w1) → C (up.stream ++ piece) → Consumes r1 r2 piece
+    → Breaks (service now store w1 []) piece fault (service new after w2 []) → Leaves r0 r2 w0 w2 (Ended settings first after (Err fault)) C
+fault_stops settings (session.Target faults.NoMemory) first now new store after r0 r1 r2 w0 w1 w2 piece C up left read lost =
     let l = lost settings first up.stream w0 up.served in (
       up.stream ++ piece,
       l.0,
@@ -669,15 +667,17 @@ fault_stops settings (session.Target faults.NoMemory) first now new store after 
       l.1,
       l.2,
       λ range h. (l.4 h, tt),
+      left,
     )
-fault_stops settings (session.Target (faults.Stream fault)) first now new store after r0 r1 r2 w0 w1 w2 piece up read broken =
-    fault_ends settings (session.Target (faults.Stream fault)) first now new store after r0 r1 r2 w0 w1 w2 piece up read (λ read written a. a) broken.0 broken.1
-fault_stops settings (session.Target (faults.Protocol rule)) first now new store after r0 r1 r2 w0 w1 w2 piece up read broken =
-    fault_ends settings (session.Target (faults.Protocol rule)) first now new store after r0 r1 r2 w0 w1 w2 piece up read (λ read written a. a) broken.0
-    broken.1
-fault_stops settings (session.Target faults.Closed) first now new store after r0 r1 r2 w0 w1 w2 piece up read broken = absurd broken
-fault_stops settings session.Read first now new store after r0 r1 r2 w0 w1 w2 piece up read broken = absurd broken
-fault_stops settings session.Write first now new store after r0 r1 r2 w0 w1 w2 piece up read lost =
+fault_stops settings (session.Target (faults.Stream fault)) first now new store after r0 r1 r2 w0 w1 w2 piece C up left read broken =
+    fault_ends settings (session.Target (faults.Stream fault)) first now new store after r0 r1 r2 w0 w1 w2 piece C up left read (λ read written a. a)
+    broken.0 broken.1
+fault_stops settings (session.Target (faults.Protocol rule)) first now new store after r0 r1 r2 w0 w1 w2 piece C up left read broken =
+    fault_ends settings (session.Target (faults.Protocol rule)) first now new store after r0 r1 r2 w0 w1 w2 piece C up left read (λ read written a. a)
+    broken.0 broken.1
+fault_stops settings (session.Target faults.Closed) first now new store after r0 r1 r2 w0 w1 w2 piece C up left read broken = absurd broken
+fault_stops settings session.Read first now new store after r0 r1 r2 w0 w1 w2 piece C up left read broken = absurd broken
+fault_stops settings session.Write first now new store after r0 r1 r2 w0 w1 w2 piece C up left read lost =
     let l = lost settings first up.stream w0 up.served in (
       up.stream ++ piece,
       l.0,
@@ -685,6 +685,7 @@ fault_stops settings session.Write first now new store after r0 r1 r2 w0 w1 w2 p
       l.1,
       l.2,
       λ range h. (tt, tt),
+      left,
     )
 
 -- the blocks are those that commands left

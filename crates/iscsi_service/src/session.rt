@@ -8,7 +8,9 @@ ghost use Rattle.iscsi_login.specs.Negotiation.{IsInRange};
 ghost use Rattle.iscsi_login.specs.Stage.{is_closed_phase};
 ghost use Rattle.iscsi_stream.specs.Normalising.{WroteFront};
 ghost use Rattle.iscsi_target.specs.Machine.{is_closed};
-ghost use Rattle.iscsi_target.specs.Inside.{store_of};
+ghost use Rattle.iscsi_target.specs.Feed.{opening_connection};
+ghost use Rattle.iscsi_target.specs.Crash.{CrashesFed};
+ghost use Rattle.iscsi_target.specs.Inside.{store_of, Advances};
 ghost use Rattle.iscsi_service.specs.Session.{target_settings, EndsBy, EndsWell, HasExecuted, Serves};
 ghost use Rattle.iscsi_service.specs.SessionSteps.{Goes, ClosesBy, Breaks, service};
 
@@ -76,13 +78,17 @@ pub fn serve_stream<S: BlockStore, R: Read, W: Write>(
     r: &mut R,
     w: &mut W,
 ) -> Result<(), SessionFault>
-    // The preferences of each configuration are in range.
+    // The preferences of each configuration are in range. Come what may, a crash leaves each block as
+    // before, or as a command of a PDU of what was read leaves it.
     ensures serves { (read : List ℕ) × (written : List ℕ)
         × Consumes (R.remaining r.old) (R.remaining r.new) read
         × Appends (W.contents w.old) (W.contents w.new) written × AreBytes written
         × (IsInRange config.preferences → S.failures store.new ≡ S.failures store.old
         → Serves config (S.disk store.old) result read (S.disk store.new) written
-        × EndsBy config (S.disk store.old) result read) }
+        × EndsBy config (S.disk store.old) result read)
+        × CrashesFed (opening_connection config 1)
+        (store_of (S.disk store.old) (S.failures store.old)) read
+        (store_of (S.disk store.new) (S.failures store.new)) (S.kept store.old) (S.kept store.new) }
     // Whatever comes of it, the blocks are those that commands left.
     ensures blocks { HasExecuted (S.disk store.old) (S.disk store.new) }
     // A crash leaves these blocks, and no others.
@@ -132,6 +138,12 @@ fn serve_piece<S: BlockStore, W: Write>(
         (service target.old (store_of (S.disk store.old) (S.failures store.old)) (W.contents w.old) [])
         piece.now fault
         (service target.new (store_of (S.disk store.new) (S.failures store.new)) (W.contents w.new) [])) }
+    ensures advances { result ≡ Ok false → Advances target.old
+        (store_of (S.disk store.old) (S.failures store.old)) piece.now target.new
+        (store_of (S.disk store.new) (S.failures store.new)) }
+    ensures crash { (S.failures store.old ≤ S.failures store.new) × CrashesFed target.old
+        (store_of (S.disk store.old) (S.failures store.old)) piece.now
+        (store_of (S.disk store.new) (S.failures store.new)) (S.kept store.old) (S.kept store.new) }
 {
     out.clear();
     let mut rest = piece;
@@ -173,6 +185,12 @@ fn serve_next<S: BlockStore, W: Write>(
         (service target.old (store_of (S.disk store.old) (S.failures store.old)) (W.contents w.old) out.old.items)
         piece.now fault
         (service target.new (store_of (S.disk store.new) (S.failures store.new)) (W.contents w.new) [])) }
+    ensures advances { IfOk result (λ done. is_closed_phase done.1 ≡ false → Advances target.old
+        (store_of (S.disk store.old) (S.failures store.old)) (take done.0 piece.now) target.new
+        (store_of (S.disk store.new) (S.failures store.new))) }
+    ensures crash { (S.failures store.old ≤ S.failures store.new) × CrashesFed target.old
+        (store_of (S.disk store.old) (S.failures store.old)) piece.now
+        (store_of (S.disk store.new) (S.failures store.new)) (S.kept store.old) (S.kept store.new) }
 {
     match target.feed_next(piece, store, out) {
         Ok(done) => {

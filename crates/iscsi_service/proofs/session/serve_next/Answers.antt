@@ -6,6 +6,7 @@ use Rattle.iscsi_target.specs.Inside.{store_of}
 use Rattle.iscsi_service.specs.SessionSteps.{service}
 use Rattle.iscsi_service.proofs.SessionReadInvariant.{next_goes, next_closes, next_is_closed, next_is_open, goes_written, write_loses, breaks_write}
 use Rattle.iscsi_service.proofs.SessionReadInvariant.{fault_breaks}
+use Rattle.iscsi_service.proofs.SessionCrashLemmas.{next_crashes, next_advances}
 use Rattle.iscsi_service.proofs.session.serve_next.Goals as goal
 
 pub returns-in_err-write_out-in-Ok-clause-err : goal.returns-in_err-write_out-in-Ok-clause-err
@@ -98,4 +99,53 @@ returns-else-len-gt-MOST_WAITING-clause-open g c =
     let before : Store = store_of (g.S.BlockStore.disk c.args.store.now) (g.S.BlockStore.failures c.args.store.now) in
     let after : Store = store_of (g.S.BlockStore.disk c.feed_next.new.store) (g.S.BlockStore.failures c.feed_next.new.store) in
     λ open_. next_is_open (is_closed c.args.target.now.machine) c.args.target.now c.feed_next.new.self before after c.args.out.now.items c.args.piece.now
+    c.feed_next.new.out.items c.in-Ok.done c.in-Ok.ensures.fed open_
+
+pub returns-in_err-write_out-in-Ok-clause-crash : goal.returns-in_err-write_out-in-Ok-clause-crash
+returns-in_err-write_out-in-Ok-clause-crash g c =
+    let before : Store = store_of (g.S.BlockStore.disk c.args.store.now) (g.S.BlockStore.failures c.args.store.now) in
+    let after : Store = store_of (g.S.BlockStore.disk c.feed_next.new.store) (g.S.BlockStore.failures c.feed_next.new.store) in
+    next_crashes c.args.target.now c.feed_next.new.self before after c.args.out.now.items c.args.piece.now c.feed_next.new.out.items c.feed_next.result
+    (g.S.BlockStore.kept c.args.store.now) (g.S.BlockStore.kept c.feed_next.new.store) c.feed_next.ensures.fed c.feed_next.ensures.crash
+
+pub returns-in_err-write_out-in-Err-clause-crash : goal.returns-in_err-write_out-in-Err-clause-crash
+returns-in_err-write_out-in-Err-clause-crash g c =
+    let before : Store = store_of (g.S.BlockStore.disk c.args.store.now) (g.S.BlockStore.failures c.args.store.now) in
+    let after : Store = store_of (g.S.BlockStore.disk c.feed_next.new.store) (g.S.BlockStore.failures c.feed_next.new.store) in
+    next_crashes c.args.target.now c.feed_next.new.self before after c.args.out.now.items c.args.piece.now c.feed_next.new.out.items c.feed_next.result
+    (g.S.BlockStore.kept c.args.store.now) (g.S.BlockStore.kept c.feed_next.new.store) c.feed_next.ensures.fed c.feed_next.ensures.crash
+
+pub returns-in_ok-write_out-in-Ok-clause-crash : goal.returns-in_ok-write_out-in-Ok-clause-crash
+returns-in_ok-write_out-in-Ok-clause-crash g c =
+    let before : Store = store_of (g.S.BlockStore.disk c.args.store.now) (g.S.BlockStore.failures c.args.store.now) in
+    let after : Store = store_of (g.S.BlockStore.disk c.feed_next.new.store) (g.S.BlockStore.failures c.feed_next.new.store) in
+    next_crashes c.args.target.now c.feed_next.new.self before after c.args.out.now.items c.args.piece.now c.feed_next.new.out.items c.feed_next.result
+    (g.S.BlockStore.kept c.args.store.now) (g.S.BlockStore.kept c.feed_next.new.store) c.feed_next.ensures.fed c.feed_next.ensures.crash
+
+pub returns-else-len-gt-MOST_WAITING-clause-crash : goal.returns-else-len-gt-MOST_WAITING-clause-crash
+returns-else-len-gt-MOST_WAITING-clause-crash g c =
+    let before : Store = store_of (g.S.BlockStore.disk c.args.store.now) (g.S.BlockStore.failures c.args.store.now) in
+    let after : Store = store_of (g.S.BlockStore.disk c.feed_next.new.store) (g.S.BlockStore.failures c.feed_next.new.store) in
+    next_crashes c.args.target.now c.feed_next.new.self before after c.args.out.now.items c.args.piece.now c.feed_next.new.out.items c.feed_next.result
+    (g.S.BlockStore.kept c.args.store.now) (g.S.BlockStore.kept c.feed_next.new.store) c.feed_next.ensures.fed c.feed_next.ensures.crash
+
+pub returns-in_ok-write_out-in-Err-clause-crash : goal.returns-in_ok-write_out-in-Err-clause-crash
+returns-in_ok-write_out-in-Err-clause-crash g c =
+    let before : Store = store_of (g.S.BlockStore.disk c.args.store.now) (g.S.BlockStore.failures c.args.store.now) in
+    let after : Store = store_of (g.S.BlockStore.disk c.feed_next.new.store) (g.S.BlockStore.failures c.feed_next.new.store) in
+    next_crashes c.args.target.now c.feed_next.new.self before after c.args.out.now.items c.args.piece.now c.feed_next.new.out.items c.feed_next.result
+    (g.S.BlockStore.kept c.args.store.now) (g.S.BlockStore.kept c.feed_next.new.store) c.feed_next.ensures.fed c.feed_next.ensures.crash
+
+pub returns-in_ok-write_out-in-Ok-clause-advances : goal.returns-in_ok-write_out-in-Ok-clause-advances
+returns-in_ok-write_out-in-Ok-clause-advances g c =
+    let before : Store = store_of (g.S.BlockStore.disk c.args.store.now) (g.S.BlockStore.failures c.args.store.now) in
+    let after : Store = store_of (g.S.BlockStore.disk c.feed_next.new.store) (g.S.BlockStore.failures c.feed_next.new.store) in
+    λ open_. next_advances (is_closed c.args.target.now.machine) c.args.target.now c.feed_next.new.self before after c.args.out.now.items c.args.piece.now
+    c.feed_next.new.out.items c.in-Ok.done c.in-Ok.ensures.fed open_
+
+pub returns-else-len-gt-MOST_WAITING-clause-advances : goal.returns-else-len-gt-MOST_WAITING-clause-advances
+returns-else-len-gt-MOST_WAITING-clause-advances g c =
+    let before : Store = store_of (g.S.BlockStore.disk c.args.store.now) (g.S.BlockStore.failures c.args.store.now) in
+    let after : Store = store_of (g.S.BlockStore.disk c.feed_next.new.store) (g.S.BlockStore.failures c.feed_next.new.store) in
+    λ open_. next_advances (is_closed c.args.target.now.machine) c.args.target.now c.feed_next.new.self before after c.args.out.now.items c.args.piece.now
     c.feed_next.new.out.items c.in-Ok.done c.in-Ok.ensures.fed open_

@@ -1,4 +1,4 @@
-use Rattle.std.proofs.Common.{List, ℕ, [], length, drop, sym, subst, ◌∙◌}
+use Rattle.std.proofs.Common.{List, ℕ, [], length, drop, sym, subst, ◌∙◌, arith}
 use Rattle.std.proofs.lemmas.Bool.{eqb-true}
 use Rattle.std.proofs.lemmas.List.{take_rest}
 use Rattle.std.proofs.lemmas.Result.{err_from_is_err_and}
@@ -6,7 +6,21 @@ use Rattle.iscsi_target.specs.Feed.{Store}
 use Rattle.iscsi_target.specs.Inside.{store_of}
 use Rattle.iscsi_service.specs.SessionSteps.{Service, service}
 use Rattle.iscsi_service.proofs.SessionReadInvariant.{PieceUpTo, piece_next, piece_breaks, piece_lost, piece_done, piece_over, piece_closes}
+use Rattle.iscsi_service.proofs.SessionReadInvariant.{piece_start}
+use Rattle.iscsi_service.proofs.SessionCrashLemmas.{AdvancesUpTo, piece_begins, piece_advances, piece_advanced, piece_crashes}
+use Rattle.iscsi_target.proofs.PassedLemmas.{crashes_none}
 use Rattle.iscsi_service.proofs.session.serve_piece.Goals as goal
+
+pub loop-rest-init : goal.loop-rest-init
+loop-rest-init g c =
+    let before : Store = store_of (g.S.BlockStore.disk c.args.store.now) (g.S.BlockStore.failures c.args.store.now) in (
+      c.requires.live,
+      subst (λ (waiting : List ℕ). PieceUpTo (service c.args.target.now before (g.W.Write.contents c.args.w.now) []) c.args.piece.now c.args.piece.now
+          (service c.args.target.now before (g.W.Write.contents c.args.w.now) waiting)) (sym c.clear.ensures.items)
+          (piece_start (service c.args.target.now before (g.W.Write.contents c.args.w.now) []) c.args.piece.now),
+      piece_begins c.args.target.now before c.args.piece.now,
+      (omega arith, crashes_none c.args.target.now before c.args.piece.now (g.S.BlockStore.kept c.args.store.now)),
+    )
 
 pub returns-in_err-taken-clause-err : goal.returns-in_err-taken-clause-err
 returns-in_err-taken-clause-err g c =
@@ -76,6 +90,13 @@ loop-rest-preserved g c =
       c.in_ok-taken.ensures.open (sym c.is_over.ensures ∙ c.if-is_over.false),
       subst (λ (x : List ℕ). PieceUpTo old c.args.piece.now x new)
           (sym (take_rest c.loop-rest.rest.now c.in_ok-taken.taken)) up,
+      subst (λ (x : List ℕ). AdvancesUpTo c.args.target.now old.store c.args.piece.now x c.serve_next.new.target after)
+          (sym (take_rest c.loop-rest.rest.now c.in_ok-taken.taken))
+          (piece_advances c.args.target.now c.loop-rest.target c.serve_next.new.target old.store mid.store after c.args.piece.now c.loop-rest.rest.now
+          c.in_ok-taken.taken c.loop-rest.invariant.2 (c.in_ok-taken.ensures.advances (sym c.is_over.ensures ∙ c.if-is_over.false))),
+      piece_crashes c.args.target.now c.loop-rest.target old.store mid.store after c.args.piece.now c.loop-rest.rest.now (g.S.BlockStore.kept c.args.store.now)
+          (g.S.BlockStore.kept c.loop-rest.store) (g.S.BlockStore.kept c.serve_next.new.store) c.loop-rest.invariant.2 c.loop-rest.invariant.3
+          c.serve_next.ensures.crash,
     )
 
 pub returns-in_err-write_out-2-clause-err : goal.returns-in_err-write_out-2-clause-err
@@ -100,3 +121,43 @@ returns-clause-goes g c =
     piece_done old c.args.piece.now c.loop-rest.rest.now c.loop-rest.target store (g.W.Write.contents c.loop-rest.w)
     (g.W.Write.contents c.write_out-2.new.w) c.loop-rest.out.items c.loop-rest.invariant.1
     (eqb-true (length c.loop-rest.rest.now) 0 (sym c.loop-rest-test.ensures)) c.in_ok-write_out-2.ensures.bytes c.in_ok-write_out-2.ensures.ok
+
+pub returns-in_err-taken-clause-crash : goal.returns-in_err-taken-clause-crash
+returns-in_err-taken-clause-crash g c =
+    let before : Store = store_of (g.S.BlockStore.disk c.args.store.now) (g.S.BlockStore.failures c.args.store.now) in
+    let mid : Store = store_of (g.S.BlockStore.disk c.loop-rest.store) (g.S.BlockStore.failures c.loop-rest.store) in
+    let after : Store = store_of (g.S.BlockStore.disk c.serve_next.new.store) (g.S.BlockStore.failures c.serve_next.new.store) in
+    piece_crashes c.args.target.now c.loop-rest.target before mid after c.args.piece.now c.loop-rest.rest.now (g.S.BlockStore.kept c.args.store.now)
+    (g.S.BlockStore.kept c.loop-rest.store) (g.S.BlockStore.kept c.serve_next.new.store) c.loop-rest.invariant.2 c.loop-rest.invariant.3
+    c.serve_next.ensures.crash
+
+pub returns-in_err-write_out-clause-crash : goal.returns-in_err-write_out-clause-crash
+returns-in_err-write_out-clause-crash g c =
+    let before : Store = store_of (g.S.BlockStore.disk c.args.store.now) (g.S.BlockStore.failures c.args.store.now) in
+    let mid : Store = store_of (g.S.BlockStore.disk c.loop-rest.store) (g.S.BlockStore.failures c.loop-rest.store) in
+    let after : Store = store_of (g.S.BlockStore.disk c.serve_next.new.store) (g.S.BlockStore.failures c.serve_next.new.store) in
+    piece_crashes c.args.target.now c.loop-rest.target before mid after c.args.piece.now c.loop-rest.rest.now (g.S.BlockStore.kept c.args.store.now)
+    (g.S.BlockStore.kept c.loop-rest.store) (g.S.BlockStore.kept c.serve_next.new.store) c.loop-rest.invariant.2 c.loop-rest.invariant.3
+    c.serve_next.ensures.crash
+
+pub returns-then-is_over-clause-crash : goal.returns-then-is_over-clause-crash
+returns-then-is_over-clause-crash g c =
+    let before : Store = store_of (g.S.BlockStore.disk c.args.store.now) (g.S.BlockStore.failures c.args.store.now) in
+    let mid : Store = store_of (g.S.BlockStore.disk c.loop-rest.store) (g.S.BlockStore.failures c.loop-rest.store) in
+    let after : Store = store_of (g.S.BlockStore.disk c.serve_next.new.store) (g.S.BlockStore.failures c.serve_next.new.store) in
+    piece_crashes c.args.target.now c.loop-rest.target before mid after c.args.piece.now c.loop-rest.rest.now (g.S.BlockStore.kept c.args.store.now)
+    (g.S.BlockStore.kept c.loop-rest.store) (g.S.BlockStore.kept c.serve_next.new.store) c.loop-rest.invariant.2 c.loop-rest.invariant.3
+    c.serve_next.ensures.crash
+
+pub returns-in_err-write_out-2-clause-crash : goal.returns-in_err-write_out-2-clause-crash
+returns-in_err-write_out-2-clause-crash g c = c.loop-rest.invariant.3
+
+pub returns-clause-crash : goal.returns-clause-crash
+returns-clause-crash g c = c.loop-rest.invariant.3
+
+pub returns-clause-advances : goal.returns-clause-advances
+returns-clause-advances g c = λ _.
+    let before : Store = store_of (g.S.BlockStore.disk c.args.store.now) (g.S.BlockStore.failures c.args.store.now) in
+    let store : Store = store_of (g.S.BlockStore.disk c.loop-rest.store) (g.S.BlockStore.failures c.loop-rest.store) in
+    piece_advanced c.args.target.now c.loop-rest.target before store c.args.piece.now c.loop-rest.rest.now c.loop-rest.invariant.2
+    (eqb-true (length c.loop-rest.rest.now) 0 (sym c.loop-rest-test.ensures))

@@ -3,6 +3,7 @@ use Rattle.iscsi_target.specs.Machine.{is_closed}
 use Rattle.iscsi_target.specs.Inside.{store_of}
 use Rattle.iscsi_service.specs.SessionSteps.{service}
 use Rattle.iscsi_service.proofs.SessionReadInvariant.{PieceUpTo}
+use Rattle.iscsi_service.proofs.SessionCrashLemmas.{AdvancesUpTo, Crashed}
 use Rattle.iscsi_service.proofs.session.serve_piece.Given as goal
 
 abbrev pub invariant-loop-rest : goal.invariant-loop-rest
@@ -10,6 +11,10 @@ invariant-loop-rest g l =
     (is_closed l.target.machine ≡ false) × PieceUpTo
     (service l.fn.target (store_of (g.S.BlockStore.disk l.fn.store) (g.S.BlockStore.failures l.fn.store)) (g.W.Write.contents l.fn.w) []) l.fn.piece l.rest
     (service l.target (store_of (g.S.BlockStore.disk l.store) (g.S.BlockStore.failures l.store)) (g.W.Write.contents l.w) l.out.items)
+    × AdvancesUpTo l.fn.target (store_of (g.S.BlockStore.disk l.fn.store) (g.S.BlockStore.failures l.fn.store)) l.fn.piece l.rest l.target
+    (store_of (g.S.BlockStore.disk l.store) (g.S.BlockStore.failures l.store))
+    × Crashed l.fn.target (store_of (g.S.BlockStore.disk l.fn.store) (g.S.BlockStore.failures l.fn.store)) l.fn.piece
+    (store_of (g.S.BlockStore.disk l.store) (g.S.BlockStore.failures l.store)) (g.S.BlockStore.kept l.fn.store) (g.S.BlockStore.kept l.store)
 
 abbrev pub decreases-loop-rest : goal.decreases-loop-rest
 decreases-loop-rest g l = length l.rest

@@ -1,17 +1,19 @@
-use Rattle.std.proofs.Common.{List, ℕ, take, refl, ◌∙◌}
+use Rattle.std.proofs.Common.{List, ℕ, ◌++◌, take, refl, ◌∙◌}
 use Rattle.std.proofs.lemmas.Result.{err_from_is_err_and}
-use Rattle.iscsi_target.specs.Feed.{Store}
+use Rattle.iscsi_target.specs.Feed.{Store, opening_connection}
+use Rattle.iscsi_target.specs.Crash.{CrashesFed}
 use Rattle.iscsi_target.specs.Inside.{store_of}
-use Rattle.iscsi_service.proofs.SessionReadInvariant.{read_start, read_stops, reads_stop, end_stops, over_stops, finish_stops, read_more, fault_stops}
+use Rattle.iscsi_service.proofs.SessionReadInvariant.{read_stops, reads_stop, end_stops, over_stops, finish_stops, read_more, fault_stops}
 use Rattle.iscsi_service.proofs.SessionReadInvariant.{fault_executed, over_ends, ok_is, ok_open, ReadUpTo}
+use Rattle.iscsi_service.proofs.SessionCrashLemmas.{session_start, session_crashes, session_more}
 use Rattle.iscsi_service.proofs.session.serve_stream.Goals as goal
 
 pub loop-init : goal.loop-init
 loop-init g c =
     rw c.new-target.ensures.opening (
       refl,
-      read_start c.args.config (store_of (g.S.BlockStore.disk c.args.store.now) (g.S.BlockStore.failures c.args.store.now))
-          (g.R.Read.remaining c.args.r.now) (g.W.Write.contents c.args.w.now),
+      session_start c.args.config (store_of (g.S.BlockStore.disk c.args.store.now) (g.S.BlockStore.failures c.args.store.now))
+          (g.R.Read.remaining c.args.r.now) (g.W.Write.contents c.args.w.now) (g.S.BlockStore.kept c.args.store.now),
     )
 
 pub returns-in-Err-clause-serves : goal.returns-in-Err-clause-serves
@@ -20,8 +22,11 @@ returns-in-Err-clause-serves g c =
     let store : Store = store_of (g.S.BlockStore.disk c.loop.store) (g.S.BlockStore.failures c.loop.store) in
     let r0 = g.R.Read.remaining c.args.r.now in
     let w0 = g.W.Write.contents c.args.w.now in
+    let due : List ℕ → Type 0 = λ read. CrashesFed (opening_connection c.args.config 1) first read store (g.S.BlockStore.kept c.args.store.now)
+    (g.S.BlockStore.kept c.loop.store) in
     read_stops c.args.config first c.loop.target store r0 (g.R.Read.remaining c.loop.r)
-    (g.R.Read.remaining c.read.new.self) w0 (g.W.Write.contents c.loop.w) c.loop.invariant.1 c.loop.invariant.0 c.in-Err.ensures.bytes
+    (g.R.Read.remaining c.read.new.self) w0 (g.W.Write.contents c.loop.w) due c.loop.invariant.1.read c.loop.invariant.1.crash c.loop.invariant.0
+    c.in-Err.ensures.bytes
 
 pub returns-in-Err-finish-clause-serves : goal.returns-in-Err-finish-clause-serves
 returns-in-Err-finish-clause-serves g c =
@@ -29,8 +34,11 @@ returns-in-Err-finish-clause-serves g c =
     let store : Store = store_of (g.S.BlockStore.disk c.loop.store) (g.S.BlockStore.failures c.loop.store) in
     let r0 = g.R.Read.remaining c.args.r.now in
     let w0 = g.W.Write.contents c.args.w.now in
+    let due : List ℕ → Type 0 = λ read. CrashesFed (opening_connection c.args.config 1) first read store (g.S.BlockStore.kept c.args.store.now)
+    (g.S.BlockStore.kept c.loop.store) in
     finish_stops c.args.config c.in-Err-finish.fault first c.loop.target c.finish.new.self store r0 (g.R.Read.remaining c.loop.r)
-    (g.R.Read.remaining c.read.new.self) w0 (g.W.Write.contents c.loop.w) c.loop.invariant.1 c.loop.invariant.0 c.in-Err-finish.ensures.finishes
+    (g.R.Read.remaining c.read.new.self) w0 (g.W.Write.contents c.loop.w) due c.loop.invariant.1.read c.loop.invariant.1.crash c.loop.invariant.0
+    c.in-Err-finish.ensures.finishes
     (rw c.if-n-eq0.true at c.in-Ok.ensures.bytes.0)
 
 pub returns-then-n-eq0-clause-serves : goal.returns-then-n-eq0-clause-serves
@@ -39,8 +47,11 @@ returns-then-n-eq0-clause-serves g c =
     let store : Store = store_of (g.S.BlockStore.disk c.loop.store) (g.S.BlockStore.failures c.loop.store) in
     let r0 = g.R.Read.remaining c.args.r.now in
     let w0 = g.W.Write.contents c.args.w.now in
+    let due : List ℕ → Type 0 = λ read. CrashesFed (opening_connection c.args.config 1) first read store (g.S.BlockStore.kept c.args.store.now)
+    (g.S.BlockStore.kept c.loop.store) in
     end_stops c.args.config first c.loop.target c.finish.new.self store r0 (g.R.Read.remaining c.loop.r)
-    (g.R.Read.remaining c.read.new.self) w0 (g.W.Write.contents c.loop.w) c.loop.invariant.1 c.loop.invariant.0 c.in_default.ensures.finishes
+    (g.R.Read.remaining c.read.new.self) w0 (g.W.Write.contents c.loop.w) due c.loop.invariant.1.read c.loop.invariant.1.crash c.loop.invariant.0
+    c.in_default.ensures.finishes
     (rw c.if-n-eq0.true at c.in-Ok.ensures.bytes.0)
 
 pub returns-in_err-serve_piece-clause-serves : goal.returns-in_err-serve_piece-clause-serves
@@ -55,9 +66,14 @@ returns-in_err-serve_piece-clause-serves g c =
     let w1 = g.W.Write.contents c.loop.w in
     let w2 = g.W.Write.contents c.serve_piece.new.w in
     let piece : List ℕ = take c.in-Ok.n c.read.new.buf in
+    let due : List ℕ → Type 0 = λ read. CrashesFed (opening_connection c.args.config 1) first read after (g.S.BlockStore.kept c.args.store.now)
+    (g.S.BlockStore.kept c.serve_piece.new.store) in
+    let crash : due (c.loop.invariant.1.read.stream ++ piece) =
+    session_crashes c.args.config first c.loop.target store after r0 r1 w0 w1 (g.S.BlockStore.kept c.args.store.now) (g.S.BlockStore.kept c.loop.store)
+    (g.S.BlockStore.kept c.serve_piece.new.store) piece c.loop.invariant.1 c.serve_piece.ensures.crash in
     let p = err_from_is_err_and c.from_residual.result c.from_residual.ensures.1 in
     rw (p.1, p.2) (fault_stops c.args.config c.in_err-serve_piece.field-0.0 first c.loop.target c.serve_piece.new.target store after r0 r1 r2 w0 w1 w2 piece
-    c.loop.invariant.1 c.in-Ok.ensures.bytes.0 c.in_err-serve_piece.ensures.err)
+    due c.loop.invariant.1.read crash c.in-Ok.ensures.bytes.0 c.in_err-serve_piece.ensures.err)
 
 pub returns-in_err-serve_piece-clause-blocks : goal.returns-in_err-serve_piece-clause-blocks
 returns-in_err-serve_piece-clause-blocks g c =
@@ -71,8 +87,8 @@ returns-in_err-serve_piece-clause-blocks g c =
     let w1 = g.W.Write.contents c.loop.w in
     let w2 = g.W.Write.contents c.serve_piece.new.w in
     let piece : List ℕ = take c.in-Ok.n c.read.new.buf in
-    fault_executed c.args.config c.in_err-serve_piece.field-0.0 first c.loop.target c.serve_piece.new.target store after r0 r1 w0 w1 w2 piece c.loop.invariant.1
-    c.in_err-serve_piece.ensures.err
+    fault_executed c.args.config c.in_err-serve_piece.field-0.0 first c.loop.target c.serve_piece.new.target store after r0 r1 w0 w1 w2 piece
+    c.loop.invariant.1.read c.in_err-serve_piece.ensures.err
 
 pub returns-then-branch-clause-serves : goal.returns-then-branch-clause-serves
 returns-then-branch-clause-serves g c =
@@ -86,8 +102,13 @@ returns-then-branch-clause-serves g c =
     let w1 = g.W.Write.contents c.loop.w in
     let w2 = g.W.Write.contents c.serve_piece.new.w in
     let piece : List ℕ = take c.in-Ok.n c.read.new.buf in
-    over_stops c.args.config first c.loop.target c.serve_piece.new.target store after r0 r1 r2 w0 w1 w2 piece c.loop.invariant.1 c.in-Ok.ensures.bytes.0
-    c.in_ok-serve_piece.ensures.goes
+    let due : List ℕ → Type 0 = λ read. CrashesFed (opening_connection c.args.config 1) first read after (g.S.BlockStore.kept c.args.store.now)
+    (g.S.BlockStore.kept c.serve_piece.new.store) in
+    let crash : due (c.loop.invariant.1.read.stream ++ piece) =
+    session_crashes c.args.config first c.loop.target store after r0 r1 w0 w1 (g.S.BlockStore.kept c.args.store.now) (g.S.BlockStore.kept c.loop.store)
+    (g.S.BlockStore.kept c.serve_piece.new.store) piece c.loop.invariant.1 c.serve_piece.ensures.crash in
+    over_stops c.args.config first c.loop.target c.serve_piece.new.target store after r0 r1 r2 w0 w1 w2 piece due c.loop.invariant.1.read crash
+    c.in-Ok.ensures.bytes.0 c.in_ok-serve_piece.ensures.goes
     (c.serve_piece.ensures.closes (c.in_ok-serve_piece.was ∙ ok_is c.in_ok-serve_piece.field-0 c.if-branch.true))
 
 pub returns-then-branch-clause-blocks : goal.returns-then-branch-clause-blocks
@@ -103,7 +124,7 @@ returns-then-branch-clause-blocks g c =
     let w2 = g.W.Write.contents c.serve_piece.new.w in
     let piece : List ℕ = take c.in-Ok.n c.read.new.buf in
     let more : ReadUpTo c.args.config first c.serve_piece.new.target after r0 r2 w0 w2 =
-    read_more c.args.config first c.loop.target c.serve_piece.new.target store after r0 r1 r2 w0 w1 w2 piece c.loop.invariant.1 c.in-Ok.ensures.bytes.0
+    read_more c.args.config first c.loop.target c.serve_piece.new.target store after r0 r1 r2 w0 w1 w2 piece c.loop.invariant.1.read c.in-Ok.ensures.bytes.0
     c.in_ok-serve_piece.ensures.goes in
     more.served.executed
 
@@ -119,7 +140,7 @@ returns-then-branch-clause-end g c = λ h.
     let w1 = g.W.Write.contents c.loop.w in
     let w2 = g.W.Write.contents c.serve_piece.new.w in
     let piece : List ℕ = take c.in-Ok.n c.read.new.buf in
-    over_ends c.args.config first c.loop.target store after r0 r1 r2 w0 w1 piece c.loop.invariant.1 c.in-Ok.ensures.bytes.0
+    over_ends c.args.config first c.loop.target store after r0 r1 r2 w0 w1 piece c.loop.invariant.1.read c.in-Ok.ensures.bytes.0
     (c.serve_piece.ensures.closes (c.in_ok-serve_piece.was ∙ ok_is c.in_ok-serve_piece.field-0 c.if-branch.true)) h
 
 pub loop-preserved : goal.loop-preserved
@@ -134,10 +155,12 @@ loop-preserved g c =
     let w1 = g.W.Write.contents c.loop.w in
     let w2 = g.W.Write.contents c.serve_piece.new.w in
     let piece : List ℕ = take c.in-Ok.n c.read.new.buf in
-    let more : ReadUpTo c.args.config first c.serve_piece.new.target after r0 r2 w0 w2 =
-    read_more c.args.config first c.loop.target c.serve_piece.new.target store after r0 r1 r2 w0 w1 w2 piece c.loop.invariant.1 c.in-Ok.ensures.bytes.0
-    c.in_ok-serve_piece.ensures.goes in
-    (c.serve_piece.ensures.open (c.in_ok-serve_piece.was ∙ ok_open c.in_ok-serve_piece.field-0 c.if-branch.false), more)
+    let open_ = c.in_ok-serve_piece.was ∙ ok_open c.in_ok-serve_piece.field-0 c.if-branch.false in (
+      c.serve_piece.ensures.open open_,
+      session_more c.args.config first c.loop.target c.serve_piece.new.target store after r0 r1 r2 w0 w1 w2 (g.S.BlockStore.kept c.args.store.now)
+          (g.S.BlockStore.kept c.loop.store) (g.S.BlockStore.kept c.serve_piece.new.store) piece c.loop.invariant.1 c.in-Ok.ensures.bytes.0
+          c.in_ok-serve_piece.ensures.goes (c.serve_piece.ensures.advances open_) c.serve_piece.ensures.crash,
+    )
 
 pub returns-clause-serves : goal.returns-clause-serves
 returns-clause-serves g c =
@@ -145,7 +168,10 @@ returns-clause-serves g c =
     let store : Store = store_of (g.S.BlockStore.disk c.loop.store) (g.S.BlockStore.failures c.loop.store) in
     let r0 = g.R.Read.remaining c.args.r.now in
     let w0 = g.W.Write.contents c.args.w.now in
-    reads_stop c.args.config first c.loop.target store r0 (g.R.Read.remaining c.loop.r) w0 (g.W.Write.contents c.loop.w) c.loop.invariant.1 c.loop.invariant.0
+    let due : List ℕ → Type 0 = λ read. CrashesFed (opening_connection c.args.config 1) first read store (g.S.BlockStore.kept c.args.store.now)
+    (g.S.BlockStore.kept c.loop.store) in
+    reads_stop c.args.config first c.loop.target store r0 (g.R.Read.remaining c.loop.r) w0 (g.W.Write.contents c.loop.w) due c.loop.invariant.1.read
+    c.loop.invariant.1.crash c.loop.invariant.0
 
 pub returns-in-Err-clause-lasts : goal.returns-in-Err-clause-lasts
 returns-in-Err-clause-lasts g c = g.met.S.BlockStore.lasts c.loop.store
