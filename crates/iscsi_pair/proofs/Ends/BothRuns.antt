@@ -28,7 +28,7 @@ use Rattle.iscsi_initiator.specs.Laws as inputs
 use Rattle.iscsi_pair.specs.Traffic.{Traffic, first_traffic, behind, traffic_after, Traces}
 use Rattle.iscsi_pair.proofs.Ends.TargetRun.{TargetSide, target_heard, opening_side as target_opening, front_drops as target_drops}
 use Rattle.iscsi_pair.proofs.Ends.TargetRun.{failed_drops as target_failed}
-use Rattle.iscsi_pair.proofs.Ends.InitiatorRun.{InitiatorSide, initiator_heard, initiator_asked, initiator_took_outcome, failed_drops, fault_drops}
+use Rattle.iscsi_pair.proofs.Ends.InitiatorRun.{InitiatorSide, streams, initiator_heard, initiator_asked, initiator_took_outcome, failed_drops, fault_drops}
 use Rattle.iscsi_pair.proofs.Ends.InitiatorRun.{opening_side as initiator_opening, front_drops as initiator_drops}
 
 -- what holds of a world and of what went between its ends, where the initiator met these inputs first
@@ -36,7 +36,7 @@ pub record SidesFrom (past : List inputs.Input) (c : Opening) (t : Traffic) (w :
   pub to_target : t.moved_to_target ++ w.to_target ≡ t.queued_for_target
   pub to_initiator : t.moved_to_initiator ++ w.to_initiator ≡ t.queued_for_initiator
   pub target : TargetSide c t.moved_to_target t.queued_for_initiator w.target w.blocks w.target_fault
-  pub initiator : InitiatorSide past c t.demands t.moved_to_initiator t.queued_for_target w.initiator w.initiator_fault
+  pub initiator : InitiatorSide past c t.demands (streams t.moved_to_initiator t.queued_for_target) w.initiator w.initiator_fault
 
 abbrev pub Sides : Opening → Traffic → World → Type 0
 Sides c t w = SidesFrom [] c t w
@@ -179,8 +179,10 @@ target_hears past c t old new k moved m none s h =
       target = subst (λ (x : Option TargetFault). TargetSide c (t.moved_to_target ++ moved) (t.queued_for_initiator ++ behind old.to_initiator new.to_initiator)
           new.target new.blocks x) (sym h.fault)
           (subst (λ (x : List ℕ). TargetSide c (t.moved_to_target ++ moved) x new.target new.blocks (result_err h.result)) q side);
-      initiator = subst (λ (x : Option EndFault). InitiatorSide past c t.demands t.moved_to_initiator t.queued_for_target new.initiator x) (sym h.other_fault)
-          (subst (λ (x : initiator.Connection). InitiatorSide past c t.demands t.moved_to_initiator t.queued_for_target x old.initiator_fault) (sym h.initiator)
+      initiator = subst (λ (x : Option EndFault). InitiatorSide past c t.demands (streams t.moved_to_initiator t.queued_for_target) new.initiator x)
+          (sym h.other_fault)
+          (subst (λ (x : initiator.Connection). InitiatorSide past c t.demands (streams t.moved_to_initiator t.queued_for_target) x old.initiator_fault)
+          (sym h.initiator)
           s.initiator);
     }
 
@@ -218,20 +220,21 @@ initiator_hears past c t old new k moved m none s h =
     let g : Grows old.to_target new.to_target = initiator_grows h.result old.initiator moved new.initiator old.to_target new.to_target h.fed in
     let q : t.moved_to_target ++ new.to_target ≡ t.queued_for_target ++ behind old.to_target new.to_target =
     queued_more t.moved_to_target old.to_target new.to_target t.queued_for_target g s.to_target in
-    let side : InitiatorSide past c t.demands (t.moved_to_initiator ++ moved) (t.moved_to_target ++ new.to_target) new.initiator
+    let side : InitiatorSide past c t.demands (streams (t.moved_to_initiator ++ moved) (t.moved_to_target ++ new.to_target)) new.initiator
     (feed_fault (result_err h.result)) =
     initiator_heard h.result past c t.demands t.moved_to_initiator t.moved_to_target old.to_target moved new.to_target old.initiator new.initiator
-    (subst (λ (x : Option EndFault). InitiatorSide past c t.demands t.moved_to_initiator (t.moved_to_target ++ old.to_target) old.initiator x) none
-    (subst (λ (x : List ℕ). InitiatorSide past c t.demands t.moved_to_initiator x old.initiator old.initiator_fault) (sym s.to_target) s.initiator))
+    (subst (λ (x : Option EndFault). InitiatorSide past c t.demands (streams t.moved_to_initiator (t.moved_to_target ++ old.to_target)) old.initiator x) none
+    (subst (λ (x : List ℕ). InitiatorSide past c t.demands (streams t.moved_to_initiator x) old.initiator old.initiator_fault) (sym s.to_target) s.initiator))
     h.fed in
     record {
       to_initiator = ap (λ (x : List ℕ). (t.moved_to_initiator ++ moved) ++ x) h.dropped
           ∙ ap (λ (x : List ℕ). (t.moved_to_initiator ++ x) ++ drop (length x) old.to_initiator) m
           ∙ moved_front t.moved_to_initiator old.to_initiator t.queued_for_initiator k s.to_initiator;
       to_target = q;
-      initiator = subst (λ (x : Option EndFault). InitiatorSide past c t.demands (t.moved_to_initiator ++ moved) (t.queued_for_target
-          ++ behind old.to_target new.to_target) new.initiator x) (sym h.fault)
-          (subst (λ (x : List ℕ). InitiatorSide past c t.demands (t.moved_to_initiator ++ moved) x new.initiator (feed_fault (result_err h.result))) q side);
+      initiator = subst (λ (x : Option EndFault). InitiatorSide past c t.demands
+          (streams (t.moved_to_initiator ++ moved) (t.queued_for_target ++ behind old.to_target new.to_target)) new.initiator x) (sym h.fault)
+          (subst (λ (x : List ℕ). InitiatorSide past c t.demands (streams (t.moved_to_initiator ++ moved) x) new.initiator (feed_fault (result_err h.result))) q
+          side);
       target = subst (λ (x : Option TargetFault). TargetSide c t.moved_to_target t.queued_for_initiator new.target new.blocks x) (sym h.other_fault)
           (subst (λ (x : List ℕ). TargetSide c t.moved_to_target t.queued_for_initiator new.target x old.target_fault) (sym h.blocks)
           (subst (λ (x : target.Connection). TargetSide c t.moved_to_target t.queued_for_initiator x old.blocks old.target_fault) (sym h.target) s.target));
@@ -248,7 +251,7 @@ moves_to_initiator (Some fault) (byte ∷ bytes) past c t old new k f m s e =
     let moved : List ℕ = byte ∷ bytes in
     let w : World = record old { to_initiator = drop (length moved) old.to_initiator } in
     let q : t.queued_for_target ++ behind old.to_target old.to_target ≡ t.queued_for_target = nothing_behind t.queued_for_target old.to_target in
-    let side : InitiatorSide past c t.demands (t.moved_to_initiator ++ moved) t.queued_for_target old.initiator old.initiator_fault = record {
+    let side : InitiatorSide past c t.demands (streams (t.moved_to_initiator ++ moved) t.queued_for_target) old.initiator old.initiator_fault = record {
       front = initiator_drops c t.moved_to_initiator moved t.queued_for_target old.initiator s.initiator.front;
       failed = fault_drops old.initiator_fault c t.moved_to_initiator moved t.queued_for_target old.initiator s.initiator.failed;
       over = λ none over. absurd (let bad : Some fault ≡ None = sym f ∙ none in cc);
@@ -258,7 +261,8 @@ moves_to_initiator (Some fault) (byte ∷ bytes) past c t old new k f m s e =
       to_initiator = ap (λ (x : List ℕ). (t.moved_to_initiator ++ x) ++ drop (length x) old.to_initiator) m ∙ moved_front t.moved_to_initiator old.to_initiator
           t.queued_for_initiator k s.to_initiator;
       to_target = s.to_target ∙ sym q;
-      initiator = subst (λ (x : List ℕ). InitiatorSide past c t.demands (t.moved_to_initiator ++ moved) x old.initiator old.initiator_fault) (sym q) side;
+      initiator = subst (λ (x : List ℕ). InitiatorSide past c t.demands (streams (t.moved_to_initiator ++ moved) x) old.initiator old.initiator_fault) (sym q)
+          side;
       target = s.target;
     } in
     subst (λ (x : World). SidesFrom past c (to_initiator_adds t old moved x) x) (sym e) there
@@ -278,7 +282,8 @@ asks (Some fault) past c t old new request f s e =
       to_target = s.to_target ∙ sym q;
       to_initiator = s.to_initiator;
       target = s.target;
-      initiator = subst (λ (x : List ℕ). InitiatorSide past c (t.demands ++ inputs.Asks request ∷ []) t.moved_to_initiator x old.initiator old.initiator_fault)
+      initiator = subst (λ (x : List ℕ). InitiatorSide past c (t.demands ++ inputs.Asks request ∷ []) (streams t.moved_to_initiator x) old.initiator
+          old.initiator_fault)
           (sym q)
           (failed_drops past c t.demands (inputs.Asks request ∷ []) t.moved_to_initiator t.queued_for_target old.initiator old.initiator_fault fault f
           s.initiator);
@@ -288,18 +293,18 @@ asks None past c t old new request f s h =
     let g : Grows old.to_target new.to_target = asked_grows h.result old.initiator request new.initiator old.to_target new.to_target h.submitted in
     let q : t.moved_to_target ++ new.to_target ≡ t.queued_for_target ++ behind old.to_target new.to_target =
     queued_more t.moved_to_target old.to_target new.to_target t.queued_for_target g s.to_target in
-    let side : InitiatorSide past c (t.demands ++ inputs.Asks request ∷ []) t.moved_to_initiator (t.moved_to_target ++ new.to_target) new.initiator
+    let side : InitiatorSide past c (t.demands ++ inputs.Asks request ∷ []) (streams t.moved_to_initiator (t.moved_to_target ++ new.to_target)) new.initiator
     (submit_fault (result_err h.result)) =
     initiator_asked h.result past c t.demands t.moved_to_initiator t.moved_to_target old.to_target new.to_target old.initiator new.initiator request
-    (subst (λ (x : Option EndFault). InitiatorSide past c t.demands t.moved_to_initiator (t.moved_to_target ++ old.to_target) old.initiator x) f
-    (subst (λ (x : List ℕ). InitiatorSide past c t.demands t.moved_to_initiator x old.initiator old.initiator_fault) (sym s.to_target) s.initiator))
+    (subst (λ (x : Option EndFault). InitiatorSide past c t.demands (streams t.moved_to_initiator (t.moved_to_target ++ old.to_target)) old.initiator x) f
+    (subst (λ (x : List ℕ). InitiatorSide past c t.demands (streams t.moved_to_initiator x) old.initiator old.initiator_fault) (sym s.to_target) s.initiator))
     h.submitted in
     record {
       to_target = q;
       to_initiator = ap (λ (x : List ℕ). t.moved_to_initiator ++ x) h.queue ∙ s.to_initiator;
-      initiator = subst (λ (x : Option EndFault). InitiatorSide past c (t.demands ++ inputs.Asks request ∷ []) t.moved_to_initiator (t.queued_for_target
-          ++ behind old.to_target new.to_target) new.initiator x) (sym h.fault)
-          (subst (λ (x : List ℕ). InitiatorSide past c (t.demands ++ inputs.Asks request ∷ []) t.moved_to_initiator x new.initiator
+      initiator = subst (λ (x : Option EndFault). InitiatorSide past c (t.demands ++ inputs.Asks request ∷ [])
+          (streams t.moved_to_initiator (t.queued_for_target ++ behind old.to_target new.to_target)) new.initiator x) (sym h.fault)
+          (subst (λ (x : List ℕ). InitiatorSide past c (t.demands ++ inputs.Asks request ∷ []) (streams t.moved_to_initiator x) new.initiator
           (submit_fault (result_err h.result))) q side);
       target = subst (λ (x : Option TargetFault). TargetSide c t.moved_to_target t.queued_for_initiator new.target new.blocks x) (sym h.other_fault)
           (subst (λ (x : List ℕ). TargetSide c t.moved_to_target t.queued_for_initiator new.target x old.target_fault) (sym h.blocks)

@@ -12,7 +12,7 @@ use Rattle.iscsi_initiator.specs.Laws.{Input}
 use Rattle.iscsi_pair.specs.World.{World, Opening, Event, new_pair}
 use Rattle.iscsi_pair.specs.Traffic.{Traffic, Traces, TargetStands, InitiatorStands, coming, first_traffic, sent}
 use Rattle.iscsi_pair.proofs.Ends.TargetRun.{TargetSide, TargetLives, TargetOver}
-use Rattle.iscsi_pair.proofs.Ends.InitiatorRun.{InitiatorSide, InitiatorLives, InitiatorOver, Follows, all_sent, begun}
+use Rattle.iscsi_pair.proofs.Ends.InitiatorRun.{InitiatorSide, streams, InitiatorLives, InitiatorOver, Follows, all_sent, begun}
 use Rattle.iscsi_pair.proofs.Ends.BothRuns.{Sides, SidesFrom, reached_sides, traced_sides}
 use Rattle.iscsi_stream.proofs.WritingLemmas.{canon_append}
 
@@ -58,7 +58,7 @@ pub record StandsOn (past : List Input) (c : Opening) (t : Traffic) (w : World) 
   pub stands : InitiatorStands c inputs t w
 
 initiator_by : (b : Bool) (past : List Input) (c : Opening) (t : Traffic) (w : World) → is_closed w.initiator.machine ≡ b → w.initiator_fault ≡ None
-    → InitiatorSide past c t.demands t.moved_to_initiator t.queued_for_target w.initiator w.initiator_fault → StandsOn past c t w
+    → InitiatorSide past c t.demands (streams t.moved_to_initiator t.queued_for_target) w.initiator w.initiator_fault → StandsOn past c t w
 initiator_by true past c t w is none s =
     let o : InitiatorOver past c t.demands t.moved_to_initiator t.queued_for_target w.initiator = s.over none is in
     record {

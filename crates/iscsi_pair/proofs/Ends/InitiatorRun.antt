@@ -191,11 +191,19 @@ InitiatorFailed (Some (ends.Feed (faults.Refused class detail))) c moved out i =
 InitiatorFailed (Some (ends.Feed (faults.BadAnswer key))) c moved out i = InitiatorEnded c moved out i
 InitiatorFailed (Some (ends.Feed faults.Closed)) c moved out i = InitiatorEnded c moved out i
 
-pub record InitiatorSide (past : List Input) (c : Opening) (acts : List Input) (moved out : List ℕ) (i : Connection) (fault : Option EndFault) : Type 0 where
-  pub front : InitiatorFront c moved out i
-  pub over : fault ≡ None → is_closed i.machine ≡ true → InitiatorOver past c acts moved out i
-  pub lives : fault ≡ None → is_closed i.machine ≡ false → InitiatorLives past c acts moved out i
-  pub failed : InitiatorFailed fault c moved out i
+-- the bytes that moved to the initiator, and those that it has sent
+pub record Streams : Type 0 where
+  pub moved : List ℕ
+  pub out : List ℕ
+
+abbrev pub streams : List ℕ → List ℕ → Streams
+streams moved out = record { moved = moved; out = out }
+
+pub record InitiatorSide (past : List Input) (c : Opening) (acts : List Input) (s : Streams) (i : Connection) (fault : Option EndFault) : Type 0 where
+  pub front : InitiatorFront c s.moved s.out i
+  pub over : fault ≡ None → is_closed i.machine ≡ true → InitiatorOver past c acts s.moved s.out i
+  pub lives : fault ≡ None → is_closed i.machine ≡ false → InitiatorLives past c acts s.moved s.out i
+  pub failed : InitiatorFailed fault c s.moved s.out i
 
 front_taken : (c : Opening) (moved more out lost : List ℕ) (inputs : List Input) (v : Framing) (i : Connection) → HasTaken moved (coming inputs) v
     → out ++ lost ≡ canon (all_sent c inputs)
@@ -327,7 +335,7 @@ begun_open c =
 full_stage : (c : Opening) (inputs : List Input) → IsFullStage (after_all (begun c) inputs)
 full_stage c inputs = inputs_full (begun c) inputs (text_goes (record (opening c.initiator) { started = true }) refl).full
 
-pub opening_side : (c : Opening) → InitiatorSide [] c [] [] (new_pair c).to_target (started c) None
+pub opening_side : (c : Opening) → InitiatorSide [] c [] (streams [] (new_pair c).to_target) (started c) None
 opening_side c =
     let l : InitiatorLives [] c [] [] (new_pair c).to_target (started c) = record {
       inputs = [];
@@ -349,20 +357,19 @@ opening_side c =
 
 -- ---- a piece
 
--- messages that come behind what it has taken
-record Comes_on (past : List Input) (c : Opening) (acts : List Input) (moved out more : List ℕ) (m : Machine) (ms : List Message) (v : Framing)
-    (inputs : List Input) : Type 0 where
+-- all that it has taken, where these bytes came last, and what it has sent, where its messages led so
+record ComesOn (past : List Input) (c : Opening) (acts : List Input) (s : Streams) (r : Stepped) (v : Framing) : Type 0 where
   is : List Input
-  taken : HasTaken (moved ++ more) (coming is) v
+  taken : HasTaken s.moved (coming is) v
   order : demanded is ≡ acts
   follows : Follows past is
-  machine : (steps m ms).machine ≡ after_all (begun c) is
-  output : out ++ canon (steps m ms).output ≡ canon (all_sent c is)
+  machine : r.machine ≡ after_all (begun c) is
+  output : s.out ++ canon r.output ≡ canon (all_sent c is)
 
 come_on : (past : List Input) (c : Opening) (acts : List Input) (moved out more : List ℕ) (i : Connection) (l : InitiatorLives past c acts moved out i)
     (ms : List Message) (v : Framing)
     → ((stream : List ℕ) (xs : List Message) → HasTaken stream xs i.framing → HasTaken (stream ++ more) (xs ++ ms) v)
-    → Comes_on past c acts moved out more i.machine ms v l.inputs
+    → ComesOn past c acts (streams (moved ++ more) out) (steps i.machine ms) v
 come_on past c acts moved out more i l ms v moves =
     let a : AreSteps i.machine ms = are_steps i.machine ms in
     let first : List Message = (start_step (opening c.initiator)).output in
@@ -465,7 +472,7 @@ closes_side : (past : List Input) (c : Opening) (acts : List Input) (moved prior
     (fault : Option InitiatorFault) (kept : Option EndFault) → InitiatorLives past c acts moved (prior ++ before) old → (h : Received old bytes)
     → (kept ≡ None → InitiatorOver past c acts (moved ++ bytes) (prior ++ after) new) → (InitiatorEnded c (moved ++ bytes) (prior ++ after) new
     → InitiatorFailed kept c (moved ++ bytes) (prior ++ after) new)
-    → ClosesAt old bytes h new before after fault → InitiatorSide past c acts (moved ++ bytes) (prior ++ after) new kept
+    → ClosesAt old bytes h new before after fault → InitiatorSide past c acts (streams (moved ++ bytes) (prior ++ after)) new kept
 closes_side past c acts moved prior before bytes after old new fault kept l h full why e = record {
   failed = why (closes_ended past c acts moved prior before bytes after old new fault l h e);
   over = λ none over. full none;
@@ -499,7 +506,7 @@ stream_broken past c acts moved prior before bytes after old new fault l h some 
 stream_side : (past : List Input) (c : Opening) (acts : List Input) (moved prior before bytes after : List ℕ) (old new : Connection) (fault : StreamFault)
     (kept : EndFault) → InitiatorLives past c acts moved (prior ++ before) old → (h : Received old bytes) → fault ≢ stream.NoMemory
     → (InitiatorBroken fault c (moved ++ bytes) (prior ++ after) new → InitiatorFailed (Some kept) c (moved ++ bytes) (prior ++ after) new)
-    → StreamEnds old bytes h new before after fault → InitiatorSide past c acts (moved ++ bytes) (prior ++ after) new (Some kept)
+    → StreamEnds old bytes h new before after fault → InitiatorSide past c acts (streams (moved ++ bytes) (prior ++ after)) new (Some kept)
 stream_side past c acts moved prior before bytes after old new fault kept l h some why e = record {
   failed = why (stream_broken past c acts moved prior before bytes after old new fault l h some e);
   over = λ none over. absurd (cc none);
@@ -509,9 +516,9 @@ stream_side past c acts moved prior before bytes after old new fault kept l h so
 }
 
 stays_side : (past : List Input) (c : Opening) (acts : List Input) (moved prior before bytes after : List ℕ) (old new : Connection) (kept : EndFault)
-    → InitiatorSide past c acts moved (prior ++ before) old None
+    → InitiatorSide past c acts (streams moved (prior ++ before)) old None
     → (InitiatorEnded c (moved ++ bytes) (prior ++ after) new → InitiatorFailed (Some kept) c (moved ++ bytes) (prior ++ after) new)
-    → Stays old new before after → InitiatorSide past c acts (moved ++ bytes) (prior ++ after) new (Some kept)
+    → Stays old new before after → InitiatorSide past c acts (streams (moved ++ bytes) (prior ++ after)) new (Some kept)
 stays_side past c acts moved prior before bytes after old new kept s why e = record {
   failed = why (let l : InitiatorOver past c acts moved (prior ++ before) old = s.over refl e.closed in
       let there : InitiatorEnded c moved (prior ++ before) old = record {
@@ -548,10 +555,10 @@ failed_open true old bytes h fault is cause = absurd (no_fault old h.messages fa
 failed_open false old bytes h fault is cause = is
 
 stream_fails : (fault : StreamFault) (past : List Input) (c : Opening) (acts : List Input) (moved prior before bytes after : List ℕ) (old new : Connection)
-    → InitiatorSide past c acts moved (prior ++ before) old None
+    → InitiatorSide past c acts (streams moved (prior ++ before)) old None
     → StreamFails fault old bytes new before after → (kept : EndFault) → (InitiatorBroken fault c (moved ++ bytes) (prior ++ after) new
     → InitiatorFailed (Some kept) c (moved ++ bytes) (prior ++ after) new)
-    → InitiatorSide past c acts (moved ++ bytes) (prior ++ after) new (Some kept)
+    → InitiatorSide past c acts (streams (moved ++ bytes) (prior ++ after)) new (Some kept)
 stream_fails stream.NoMemory past c acts moved prior before bytes after old new s e kept why = absurd e
 stream_fails (stream.Head fault place) past c acts moved prior before bytes after old new s e kept why =
     stream_side past c acts moved prior before bytes after old new (stream.Head fault place) kept (s.lives refl (was_open _ old bytes e.0 refl e.1.live)) e.0
@@ -567,18 +574,18 @@ stream_fails stream.Failed past c acts moved prior before bytes after old new s 
     why e.1
 
 closes_fails : (fault : InitiatorFault) (past : List Input) (c : Opening) (acts : List Input) (moved prior before bytes after : List ℕ) (old new : Connection)
-    → InitiatorSide past c acts moved (prior ++ before) old None
+    → InitiatorSide past c acts (streams moved (prior ++ before)) old None
     → (e : (h : Received old bytes) × ClosesAt old bytes h new before after (Some fault)) → (kept : EndFault)
     → (InitiatorEnded c (moved ++ bytes) (prior ++ after) new → InitiatorFailed (Some kept) c (moved ++ bytes) (prior ++ after) new)
-    → InitiatorSide past c acts (moved ++ bytes) (prior ++ after) new (Some kept)
+    → InitiatorSide past c acts (streams (moved ++ bytes) (prior ++ after)) new (Some kept)
 closes_fails fault past c acts moved prior before bytes after old new s e kept why =
     closes_side past c acts moved prior before bytes after old new (Some fault) (Some kept) (s.lives refl (failed_open _ old bytes e.0 fault refl e.1.cause))
     e.0 (λ none. absurd (cc none)) why e.1
 
 -- the initiator received these bytes
 pub initiator_heard : (result : Result Phase InitiatorFault) (past : List Input) (c : Opening) (acts : List Input) (moved prior before bytes after : List ℕ)
-    (old new : Connection) → InitiatorSide past c acts moved (prior ++ before) old None
-    → Feeds result old bytes new before after → InitiatorSide past c acts (moved ++ bytes) (prior ++ after) new (feed_fault (result_err result))
+    (old new : Connection) → InitiatorSide past c acts (streams moved (prior ++ before)) old None
+    → Feeds result old bytes new before after → InitiatorSide past c acts (streams (moved ++ bytes) (prior ++ after)) new (feed_fault (result_err result))
 initiator_heard (Ok phase) past c acts moved prior before bytes after old new s e =
     elim e.1.1 [
       | inl all ↦ (let l : InitiatorLives past c acts (moved ++ bytes) (prior ++ after) new = hears_all past c acts moved prior before bytes after old new phase
@@ -618,8 +625,8 @@ initiator_heard (Err faults.Closed) past c acts moved prior before bytes after o
 
 -- the outcome is taken
 pub initiator_took_outcome : (past : List Input) (c : Opening) (acts : List Input) (moved out : List ℕ) (i : Connection) (fault : Option EndFault)
-    → InitiatorSide past c acts moved out i fault
-    → InitiatorSide past c (acts ++ Takes ∷ []) moved out (after_taking i) fault
+    → InitiatorSide past c acts (streams moved out) i fault
+    → InitiatorSide past c (acts ++ Takes ∷ []) (streams moved out) (after_taking i) fault
 initiator_took_outcome past c acts moved out i fault s =
     let f : InitiatorFront c moved out i = s.front in
     let coming_same : (inputs : List Input) → coming inputs ≡ coming (inputs ++ Takes ∷ []) = λ inputs. sym (append-nil (coming inputs))
@@ -684,8 +691,8 @@ not_closed true m request c n = absurd (refused_closed m.phase m request refl c 
 not_closed false m request c n = c
 
 accepts_side : (past : List Input) (c : Opening) (acts : List Input) (moved prior before after : List ℕ) (old new : Connection) (request : Request)
-    → InitiatorSide past c acts moved (prior ++ before) old None
-    → Accepts old request new before after → InitiatorSide past c (acts ++ Asks request ∷ []) moved (prior ++ after) new None
+    → InitiatorSide past c acts (streams moved (prior ++ before)) old None
+    → Accepts old request new before after → InitiatorSide past c (acts ++ Asks request ∷ []) (streams moved (prior ++ after)) new None
 accepts_side past c acts moved prior before after old new request s e =
     let l : InitiatorLives past c acts moved (prior ++ before) old = s.lives refl (not_closed _ old.machine request refl e.none) in
     let first : List Message = (start_step (opening c.initiator)).output in
@@ -721,8 +728,8 @@ accepts_side past c acts moved prior before after old new request s e =
 
 -- a request was handed in
 pub initiator_asked : (result : Result (Unit {0}) Refused) (past : List Input) (c : Opening) (acts : List Input) (moved prior before after : List ℕ)
-    (old new : Connection) (request : Request) → InitiatorSide past c acts moved (prior ++ before) old None
-    → Submits result old request new before after → InitiatorSide past c (acts ++ Asks request ∷ []) moved (prior ++ after) new
+    (old new : Connection) (request : Request) → InitiatorSide past c acts (streams moved (prior ++ before)) old None
+    → Submits result old request new before after → InitiatorSide past c (acts ++ Asks request ∷ []) (streams moved (prior ++ after)) new
     (submit_fault (result_err result))
 initiator_asked (Ok done) past c acts moved prior before after old new request s e = accepts_side past c acts moved prior before after old new request s e
 initiator_asked (Err refused) past c acts moved prior before after old new request s e = record {
@@ -735,8 +742,8 @@ initiator_asked (Err refused) past c acts moved prior before after old new reque
 
 -- an end that has failed drops what is demanded
 pub failed_drops : (past : List Input) (c : Opening) (acts more : List Input) (moved out : List ℕ) (i : Connection) (fault : Option EndFault) (kept : EndFault)
-    → fault ≡ Some kept → InitiatorSide past c acts moved out i fault
-    → InitiatorSide past c (acts ++ more) moved out i fault
+    → fault ≡ Some kept → InitiatorSide past c acts (streams moved out) i fault
+    → InitiatorSide past c (acts ++ more) (streams moved out) i fault
 failed_drops past c acts more moved out i fault kept is s = record {
   front = s.front;
   failed = s.failed;

@@ -22,7 +22,7 @@ use Rattle.iscsi_pair.specs.World.{Opening}
 use Rattle.iscsi_pair.specs.LocalDisk.{AreAtRest, AreInStep, Local, Exchange, local, local_disk, local_outcomes}
 use Rattle.iscsi_pair.specs.Served.{IsAlwaysTaken, IsNormal, IsServed, SomeRunServes, disk_after, disk_outcomes}
 use Rattle.iscsi_pair.proofs.Request.AnswersInOrder.{Begins}
-use Rattle.iscsi_pair.proofs.Request.Invariant.{History}
+use Rattle.iscsi_pair.proofs.Request.Invariant.{History, between, so_far}
 use Rattle.iscsi_pair.proofs.Request.OneRequestLaw.{accepts, begins, disk_more, outcomes_more}
 use Rattle.iscsi_pair.proofs.Lists.LoginIsServed.{HasLoggedIn, logs_in}
 use Rattle.iscsi_pair.proofs.Run.DiskInvariant.{HaveAgreed, hears_well, is_logout, most_out, pinged, written_within}
@@ -36,7 +36,7 @@ record Rests (c : Opening) (asked_ : List Request) : Type 0 where
   target : target.Machine
   there : Logins
   here : Logins
-  stays : Stays c (record { requests = asked_; outcomes = disk_outcomes c asked_ }) initiator target (disk_after c asked_) [] [] there here
+  stays : Stays c (between initiator target (disk_after c asked_) []) [] (so_far there here (record { requests = asked_; outcomes = disk_outcomes c asked_ }))
   agreed : HaveAgreed c held
   in_step : AreInStep initiator target
   same : initiator.held ≡ held
@@ -96,7 +96,7 @@ record HasOutcome (c : Opening) (past : List Request) (request : Request) : Type
   there : Logins
   here : Logins
   stays : (let all = past ++ request ∷ [] in
-      Stays c (record { requests = all; outcomes = disk_outcomes c all }) initiator target (disk_after c all) [] [] there here)
+      Stays c (between initiator target (disk_after c all) []) [] (so_far there here (record { requests = all; outcomes = disk_outcomes c all })))
   agreed : HaveAgreed c held
   at_rest : AreAtRest held (local (pinged c) (disk_after c past) request).outcome initiator target
 
@@ -113,23 +113,25 @@ one_done c past request r served short =
     let none : (submitted i request).refusal ≡ None = accepts i t request r.in_step short in
     let most : i.held.initiator_max_recv ≡ pinged c = ap (λ (x : Held). x.initiator_max_recv) r.same ∙ r.agreed.most in
     let now : HaveAgreed c i.held = subst (HaveAgreed c) (sym r.same) r.agreed in
-    let b : Begins i.held i t disk request here.outcome here.disk =
-    subst (λ (n : ℕ). Begins i.held i t disk request (local n disk request).outcome (local n disk request).disk) most
+    let b : Begins i.held i t disk request here =
+    subst (λ (n : ℕ). Begins i.held i t disk request (local n disk request)) most
     (begins i t disk request served r.in_step none) in
     let out : List Message = (submitted i request).output in
     let s : target.Stepped = answers t disk out in
-    let sent : Stays c g (submitted i request).machine t disk out [] r.there r.here = hands_in c h i t disk r.there r.here request r.stays served none in
-    let heard : Stays c g (submitted i request).machine s.machine s.disk [] s.answers (after_all r.there out) r.here =
+    let sent : Stays c (between (submitted i request).machine t disk []) out (so_far r.there r.here g) = hands_in c h i t disk r.there r.here request r.stays
+    served none in
+    let heard : Stays c (between (submitted i request).machine s.machine s.disk s.answers) [] (so_far (after_all r.there out) r.here g) =
     heard_all out c g (submitted i request).machine t disk [] r.there r.here sent
     (written_within i.held.target_max_recv (most_out c) r.there out now.out (b.heard.written r.there))
     (hears_well c i.held t disk r.here out now b.heard) in
     let last : Exchange = b.ends.last in
     let come : Arrives c g last = arrives b.ends.leads.0 c g i.held (submitted i request).machine s.machine s.disk s.answers
     (after_all r.there out) r.here last now heard b.ends.leads.1 in
-    let quiet : Stays c g last.initiator last.target last.disk [] [] come.there come.here =
-    subst (λ (ms : List Message). Stays c g last.initiator last.target last.disk [] ms come.there come.here) b.ends.ended.silent come.stays in
-    let given : Stays c (record g { outcomes = disk_outcomes c past ++ here.outcome ∷ [] })
-    (taken last.initiator) last.target last.disk [] [] come.there come.here =
+    let quiet : Stays c (between last.initiator last.target last.disk []) [] (so_far come.there come.here g) =
+    subst (λ (ms : List Message). Stays c (between last.initiator last.target last.disk ms) [] (so_far come.there come.here g)) b.ends.ended.silent come.stays
+    in
+    let given : Stays c (between (taken last.initiator) last.target last.disk []) []
+    (so_far come.there come.here (record g { outcomes = disk_outcomes c past ++ here.outcome ∷ [] })) =
     gives_out c g last.initiator last.target last.disk come.there come.here here.outcome quiet b.ends.ended.done_is in
     record {
       held = i.held;
@@ -138,11 +140,11 @@ one_done c past request r served short =
       there = come.there;
       here = come.here;
       stays = subst
-          (λ (d : Disk). Stays c (record { requests = past ++ request ∷ []; outcomes = disk_outcomes c (past ++ request ∷ []) })
-          (taken last.initiator) last.target d [] [] come.there come.here)
+          (λ (d : Disk). Stays c (between (taken last.initiator) last.target d []) []
+          (so_far come.there come.here (record { requests = past ++ request ∷ []; outcomes = disk_outcomes c (past ++ request ∷ []) })))
           (b.ends.ended.disk_is ∙ sym (disk_more (pinged c) (disk_of c.blocks) past request))
-          (subst (λ (x : List Done). Stays c (record { requests = past ++ request ∷ []; outcomes = x })
-          (taken last.initiator) last.target last.disk [] [] come.there come.here)
+          (subst (λ (x : List Done). Stays c (between (taken last.initiator) last.target last.disk []) []
+          (so_far come.there come.here (record { requests = past ++ request ∷ []; outcomes = x })))
           (sym (outcomes_more (pinged c) (disk_of c.blocks) past request)) given);
       agreed = now;
       at_rest = b.ends.ended.at_rest;
@@ -176,7 +178,7 @@ all_rest c all o a = all_more c [] all (first_rests c (logs_in c o)) a
 
 -- such a run, where nothing is on its way
 some_run : (c : Opening) (h : History) (i : initiator.Machine) (t : target.Machine) (disk : Disk) (there here : Logins)
-    → Stays c h i t disk [] [] there here → SomeRunServes c h.requests h.outcomes
+    → Stays c (between i t disk []) [] (so_far there here h) → SomeRunServes c h.requests h.outcomes
 some_run c h i t disk there here s = record {
   events = s.events;
   world = level c i t s.blocks s.place s.place_back there here [] [];

@@ -28,13 +28,13 @@ use Rattle.iscsi_pair.proofs.Login.RoundProgress.{PartTurn, Suited, TextKeeps, W
 use Rattle.iscsi_pair.proofs.Login.LoginEndsInStep.{HasMet, Meets, Numbered, first_numbered, meets}
 use Rattle.iscsi_pair.proofs.Login.InitiatorStep.{with_answer}
 use Rattle.iscsi_pair.proofs.Ends.InitiatorRun.{begun}
-use Rattle.iscsi_pair.proofs.Request.Invariant.{Sends}
-use Rattle.iscsi_pair.proofs.Run.DiskInvariant.{Serves, login_sends, most_back, most_out, none_asked}
+use Rattle.iscsi_pair.proofs.Request.Invariant.{Sends, between, so_far, limits_of}
+use Rattle.iscsi_pair.proofs.Run.DiskInvariant.{Serves, login_sends, none_asked}
 use Rattle.iscsi_pair.proofs.Lists.RoundLemmas.{Stays, heard_all, heard_one}
 
 -- a login request is on its way
 record Waits (c : Opening) (i : initiator.Machine) (t : target.Machine) (there here : Logins) (r : Message) : Type 0 where
-  stays : Stays c none_asked i t (disk_of c.blocks) (r ∷ []) [] there here
+  stays : Stays c (between i t (disk_of c.blocks) []) (r ∷ []) (so_far there here none_asked)
   asking : Asking c i t there r
   suited : Suited c i t
   numbered : Numbered c i t
@@ -46,7 +46,7 @@ pub record HasLoggedIn (c : Opening) : Type 0 where
   pub target : target.Machine
   pub there : Logins
   pub here : Logins
-  pub stays : Stays c none_asked initiator target (disk_of c.blocks) [] [] there here
+  pub stays : Stays c (between initiator target (disk_of c.blocks) []) [] (so_far there here none_asked)
   pub met : HasMet c initiator target
 
 -- the login has gone on: with less of the text left, or with the text of the second stage
@@ -113,16 +113,17 @@ one_round c i t there here r o p =
     let s : Stepped = step i turn.answer in
     let w : Well c i now s next = goes_well c i t there next r disk o.opening o.suits p.asking p.suited turn in
     let meet : Meets c i now s disk next = meets c i t there next r disk o.opening o.suits o.session p.asking p.suited p.numbered turn in
-    let sends : Sends (most_out c) (most_back c) (Serves c) i (r ∷ []) t disk [] there here none_asked =
+    let sends : Sends (limits_of c) (Serves c) (between i t disk []) (r ∷ []) (so_far there here none_asked) =
     login_sends c i (r ∷ []) t there here r o refl p.asking p.suited p.numbered p.whole in
-    let heard : Stays c none_asked i (answers t disk (r ∷ [])).machine (answers t disk (r ∷ [])).disk [] (answers t disk (r ∷ [])).answers next here =
+    let heard : Stays c (between i (answers t disk (r ∷ [])).machine (answers t disk (r ∷ [])).disk (answers t disk (r ∷ [])).answers) []
+    (so_far next here none_asked) =
     heard_all (r ∷ []) c none_asked i t disk [] there here p.stays sends.written sends.heard in
     let all : answers t disk (r ∷ []) ≡ now = one_step t disk r in
-    let answered : Stays c none_asked i now.machine disk [] (turn.answer ∷ []) next here =
-    subst (λ (d : Disk). Stays c none_asked i now.machine d [] (turn.answer ∷ []) next here) meet.disk_is
-    (subst (λ (ms : List Message). Stays c none_asked i now.machine now.disk [] ms next here) turn.is
-    (subst (λ (x : target.Stepped). Stays c none_asked i x.machine x.disk [] x.answers next here) all heard)) in
-    let on : Stays c none_asked s.machine now.machine disk s.output [] next (after here turn.answer.head) =
+    let answered : Stays c (between i now.machine disk (turn.answer ∷ [])) [] (so_far next here none_asked) =
+    subst (λ (d : Disk). Stays c (between i now.machine d (turn.answer ∷ [])) [] (so_far next here none_asked)) meet.disk_is
+    (subst (λ (ms : List Message). Stays c (between i now.machine now.disk ms) [] (so_far next here none_asked)) turn.is
+    (subst (λ (x : target.Stepped). Stays c (between i x.machine x.disk x.answers) [] (so_far next here none_asked)) all heard)) in
+    let on : Stays c (between s.machine now.machine disk []) s.output (so_far next (after here turn.answer.head) none_asked) =
     heard_one c none_asked i now.machine disk turn.answer [] next here answered (ap is_closed_phase p.asking.phase) w.fault in
     elim w.on [
       | inl agreed ↦ inl (record {
@@ -130,7 +131,8 @@ one_round c i t there here r o p =
         target = now.machine;
         there = next;
         here = after here turn.answer.head;
-        stays = subst (λ (ms : List Message). Stays c none_asked s.machine now.machine disk ms [] next (after here turn.answer.head)) agreed.silent on;
+        stays = subst (λ (ms : List Message). Stays c (between s.machine now.machine disk []) ms (so_far next (after here turn.answer.head) none_asked))
+            agreed.silent on;
         met = meet.met agreed;
       })
       | inr asks ↦ inr (record {
@@ -140,7 +142,8 @@ one_round c i t there here r o p =
         here = after here turn.answer.head;
         request = asks.0.request;
         waits = record {
-          stays = subst (λ (ms : List Message). Stays c none_asked s.machine now.machine disk ms [] next (after here turn.answer.head)) asks.0.is on;
+          stays = subst (λ (ms : List Message). Stays c (between s.machine now.machine disk []) ms (so_far next (after here turn.answer.head) none_asked))
+              asks.0.is on;
           asking = asks.0.asking;
           suited = asks.1;
           numbered = meet.goes_on asks.0;
@@ -196,8 +199,8 @@ from_stage stages.Full c i t there here r o p is = absurd (subst IsStart is p.as
 
 -- a new pair
 first_stays : (c : Opening)
-    → Stays c none_asked (begun c) (target.opening c.target c.first_stat_sn) (disk_of c.blocks)
-    (start_step (initiator.opening c.initiator)).output [] no_login no_login
+    → Stays c (between (begun c) (target.opening c.target c.first_stat_sn) (disk_of c.blocks) []) (start_step (initiator.opening c.initiator)).output
+    (so_far no_login no_login none_asked)
 unfolding RunsServed
 first_stays c = record {
   events = [];
@@ -218,7 +221,8 @@ logs_in c o =
     from_stage (begun c).stage c (begun c) (target.opening c.target c.first_stat_sn) no_login no_login a.request o
     (record {
       stays = subst
-          (λ (ms : List Message). Stays c none_asked (begun c) (target.opening c.target c.first_stat_sn) (disk_of c.blocks) ms [] no_login no_login) a.is
+          (λ (ms : List Message). Stays c (between (begun c) (target.opening c.target c.first_stat_sn) (disk_of c.blocks) []) ms
+          (so_far no_login no_login none_asked)) a.is
           (first_stays c);
       asking = a.asking;
       suited = first_suited c o.opening;

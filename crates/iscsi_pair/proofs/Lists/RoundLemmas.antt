@@ -24,23 +24,23 @@ use Rattle.iscsi_pair.specs.Served.{IsServed, RunsServed, requests_of}
 use Rattle.iscsi_pair.specs.LocalDisk.{Exchange}
 use Rattle.iscsi_pair.proofs.Lists.BlockLemmas.{HasBlocks, answers_blocks}
 use Rattle.iscsi_pair.proofs.Request.AnswersInOrder.{Leads}
-use Rattle.iscsi_pair.proofs.Request.Invariant.{AreWritten, HearsWell, History, written_append}
+use Rattle.iscsi_pair.proofs.Request.Invariant.{AreWritten, HearsWell, History, written_append, between, so_far, SoFar}
 use Rattle.iscsi_pair.proofs.Run.DiskInvariant.{HaveAgreed, hears_well, most_back, most_out, written_within}
 use Rattle.iscsi_pair.proofs.Lists.StepLemmas.{requests_append, initiator_asked, initiator_hears, level, served_more, Spot, spot_after, target_hears}
 
 -- A run that was served has come to a world with these ends, in which no PDU is begun, and with these messages on their way to
 -- the target and to the initiator.
-pub record Stays (c : Opening) (h : History) (i : initiator.Machine) (t : target.Machine) (disk : Disk) (out back : List Message)
-    (there here : Logins) : Type 0 where
+pub record Stays (c : Opening) (x : Exchange) (out : List Message) (s : SoFar) : Type 0 where
   pub events : List Event
   pub blocks : List ℕ
   pub place : Spot
   pub place_back : Spot
-  pub requests_are : requests_of events ≡ h.requests
-  pub runs : RunsServed (new_pair c) events (level c i t blocks place place_back there here (canon out) (canon back)) h.outcomes
-  pub disk_is : disk_of blocks ≡ disk
-  pub sound : IsSound disk.count t.tasks
-  pub written : AreWritten (most_back c) here back
+  pub requests_are : requests_of events ≡ s.history.requests
+  pub runs : RunsServed (new_pair c) events
+      (level c x.initiator x.target blocks place place_back s.there s.here (canon out) (canon x.answers)) s.history.outcomes
+  pub disk_is : disk_of blocks ≡ x.disk
+  pub sound : IsSound x.disk.count x.target.tasks
+  pub written : AreWritten (most_back c) s.here x.answers
 
 -- ---- the target hears what was sent
 
@@ -49,7 +49,7 @@ some_heard : (c : Opening) (h : History) (i : initiator.Machine) (t : target.Mac
     → requests_of events ≡ h.requests → RunsServed (new_pair c) events (level c i t blocks place place_back there here (canon (m ∷ ms)) (canon back)) h.outcomes
     → IsSound (disk_of blocks).count t.tasks → AreWritten (most_back c) here back
     → AreWritten (most_out c) there (m ∷ ms) → HearsWell (most_back c) t (disk_of blocks) (after_all here back) (m ∷ ms)
-    → (let r = answers t (disk_of blocks) (m ∷ ms) in Stays c h i r.machine r.disk [] (back ++ r.answers) (after_all there (m ∷ ms)) here)
+    → (let r = answers t (disk_of blocks) (m ∷ ms) in Stays c (between i r.machine r.disk (back ++ r.answers)) [] (so_far (after_all there (m ∷ ms)) here h))
 some_heard c h i t m ms back there here events blocks place place_back requests_are runs sound written sent heard =
     let out : List Message = m ∷ ms in
     let d : Disk = disk_of blocks in
@@ -78,14 +78,15 @@ some_heard c h i t m ms back there here events blocks place place_back requests_
     }
 
 pub heard_all : (out : List Message) (c : Opening) (h : History) (i : initiator.Machine) (t : target.Machine) (disk : Disk) (back : List Message)
-    (there here : Logins) → Stays c h i t disk out back there here
+    (there here : Logins) → Stays c (between i t disk back) out (so_far there here h)
     → AreWritten (most_out c) there out → HearsWell (most_back c) t disk (after_all here back) out
-    → (let r = answers t disk out in Stays c h i r.machine r.disk [] (back ++ r.answers) (after_all there out) here)
+    → (let r = answers t disk out in Stays c (between i r.machine r.disk (back ++ r.answers)) [] (so_far (after_all there out) here h))
 unfolding answers
 heard_all [] c h i t disk back there here s sent heard =
-    subst (λ (x : List Message). Stays c h i t disk [] x there here) (sym (append-nil back)) s
+    subst (λ (x : List Message). Stays c (between i t disk x) [] (so_far there here h)) (sym (append-nil back)) s
 heard_all (m ∷ ms) c h i t disk back there here s sent heard =
-    subst (λ (d : Disk). (let r = answers t d (m ∷ ms) in Stays c h i r.machine r.disk [] (back ++ r.answers) (after_all there (m ∷ ms)) here)) s.disk_is
+    subst (λ (d : Disk). (let r = answers t d (m ∷ ms) in Stays c (between i r.machine r.disk (back ++ r.answers)) []
+    (so_far (after_all there (m ∷ ms)) here h))) s.disk_is
     (some_heard c h i t m ms back there here s.events s.blocks s.place s.place_back s.requests_are s.runs
     (subst (λ (d : Disk). IsSound d.count t.tasks) (sym s.disk_is) s.sound) s.written sent
     (subst (λ (d : Disk). HearsWell (most_back c) t d (after_all here back) (m ∷ ms)) (sym s.disk_is) heard))
@@ -93,8 +94,8 @@ heard_all (m ∷ ms) c h i t disk back there here s sent heard =
 -- ---- the initiator hears an answer
 
 pub heard_one : (c : Opening) (h : History) (i : initiator.Machine) (t : target.Machine) (disk : Disk) (m : Message) (more : List Message)
-    (there here : Logins) → Stays c h i t disk [] (m ∷ more) there here
-    → is_closed i ≡ false → (step i m).fault ≡ None → Stays c h (step i m).machine t disk (step i m).output more there (after here m.head)
+    (there here : Logins) → Stays c (between i t disk (m ∷ more)) [] (so_far there here h)
+    → is_closed i ≡ false → (step i m).fault ≡ None → Stays c (between (step i m).machine t disk more) (step i m).output (so_far there (after here m.head) h)
 heard_one c h i t disk m more there here s live well =
     let event : Event = ToInitiator (length (canon (m ∷ []))) in
     let old : World = level c i t s.blocks s.place s.place_back there here [] (canon (m ∷ more)) in
@@ -118,9 +119,10 @@ heard_one c h i t disk m more there here s live well =
 -- ---- a request, and its outcome
 
 pub hands_in : (c : Opening) (h : History) (i : initiator.Machine) (t : target.Machine) (disk : Disk) (there here : Logins) (request : Request)
-    → Stays c h i t disk [] [] there here → IsServed request
+    → Stays c (between i t disk []) [] (so_far there here h) → IsServed request
     → (submitted i request).refusal ≡ None
-    → Stays c (record h { requests = h.requests ++ request ∷ [] }) (submitted i request).machine t disk (submitted i request).output [] there here
+    → Stays c (between (submitted i request).machine t disk []) (submitted i request).output
+    (so_far there here (record h { requests = h.requests ++ request ∷ [] }))
 hands_in c h i t disk there here request s served none =
     let event : Event = Submits request in
     let old : World = level c i t s.blocks s.place s.place_back there here [] [] in
@@ -141,8 +143,8 @@ hands_in c h i t disk there here request s served none =
     }
 
 pub gives_out : (c : Opening) (h : History) (i : initiator.Machine) (t : target.Machine) (disk : Disk) (there here : Logins) (d : Done)
-    → Stays c h i t disk [] [] there here → i.done ≡ Some d
-    → Stays c (record h { outcomes = h.outcomes ++ d ∷ [] }) (taken i) t disk [] [] there here
+    → Stays c (between i t disk []) [] (so_far there here h) → i.done ≡ Some d
+    → Stays c (between (taken i) t disk []) [] (so_far there here (record h { outcomes = h.outcomes ++ d ∷ [] }))
 gives_out c h i t disk there here d s is =
     let old : World = level c i t s.blocks s.place s.place_back there here [] [] in
     let new : World = level c (taken i) t s.blocks s.place s.place_back there here [] [] in
@@ -166,19 +168,19 @@ gives_out c h i t disk there here d s is =
 pub record Arrives (c : Opening) (h : History) (x : Exchange) : Type 0 where
   pub there : Logins
   pub here : Logins
-  pub stays : Stays c h x.initiator x.target x.disk [] x.answers there here
+  pub stays : Stays c x [] (so_far there here h)
 
 pub arrives : (n : ℕ) (c : Opening) (h : History) (held : Held) (i : initiator.Machine) (t : target.Machine) (disk : Disk) (back : List Message)
     (there here : Logins) (x : Exchange) → HaveAgreed c held
-    → Stays c h i t disk [] back there here → Leads held n i t disk back x → Arrives c h x
+    → Stays c (between i t disk back) [] (so_far there here h) → Leads held n (between i t disk back) x → Arrives c h x
 arrives zero c h held i t disk back there here x a s l = subst (Arrives c h) l (record { there = there; here = here; stays = s })
 arrives (suc n) c h held i t disk [] there here x a s l = absurd l
 arrives (suc n) c h held i t disk (m ∷ more) there here x a s l =
     let out : List Message = (step i m).output in
     let r : target.Stepped = answers t disk out in
-    let one : Stays c h (step i m).machine t disk out more there (after here m.head) =
+    let one : Stays c (between (step i m).machine t disk more) out (so_far there (after here m.head) h) =
     heard_one c h i t disk m more there here s (ap is_closed_phase l.0.full) l.0.fault in
-    let on : Stays c h (step i m).machine r.machine r.disk [] (more ++ r.answers) (after_all there out) (after here m.head) =
+    let on : Stays c (between (step i m).machine r.machine r.disk (more ++ r.answers)) [] (so_far (after_all there out) (after here m.head) h) =
     heard_all out c h (step i m).machine t disk more there (after here m.head) one
     (written_within held.target_max_recv (most_out c) there out a.out (l.0.sends_.written there))
     (hears_well c held t disk (after_all (after here m.head) more) out a l.0.sends_) in

@@ -205,22 +205,22 @@ exchange_ends (Comes m ∷ inputs) w MayClose P i t disk [] o turns p x =
 exchange_ends (Comes m ∷ inputs) w MayClose P i t disk (n ∷ ms) o turns p x =
     let c : Opening = w.opening in
     let r : Message = x.request in
-    let one : IsFirst w.target_limit x.there w.left_there (canon (sent i (Comes m ∷ inputs))) n r ms =
+    let one : (n ≡ r) × IsFirst w.target_limit x.there w.left_there (canon (sent i (Comes m ∷ inputs))) r ms =
     first_is w.target_limit x.there x.given w.left_there (canon (sent i (Comes m ∷ inputs))) n r ms
     (asking_readable c i t x.there r o x.asking) x.reads x.sends in
     let turn : Round c i (target_machine.step t disk r) (logins_after x.there r.head) = round c i t x.there r disk o x.asking in
     let now : target.Stepped = target_machine.step t disk r in
     let later : target.Stepped = answers now.machine now.disk ms in
     let said : canon ((answers t disk (n ∷ ms)).answers ++ w.extra) ≡ canonical_bytes turn.answer ++ canon (later.answers ++ w.extra) =
-    ap (λ (v : Message). canon ((answers t disk (v ∷ ms)).answers ++ w.extra)) one.same
+    ap (λ (v : Message). canon ((answers t disk (v ∷ ms)).answers ++ w.extra)) one.0
     ∙ ap (λ (xs : List Message). canon ((xs ++ later.answers) ++ w.extra)) turn.is in
-    let two : IsFirst w.initiator_limit x.here w.left_here (canon (later.answers ++ w.extra)) m turn.answer (coming inputs) =
+    let two : (m ≡ turn.answer) × IsFirst w.initiator_limit x.here w.left_here (canon (later.answers ++ w.extra)) turn.answer (coming inputs) =
     first_is w.initiator_limit x.here x.heard w.left_here (canon (later.answers ++ w.extra)) m turn.answer (coming inputs)
     (turn.readable x.here x.first) x.hears (x.answered ∙ said) in
-    let only : OnlyLater w.extra later = subst (λ (v : Message). OnlyLater w.extra (answers t disk (v ∷ ms))) one.same x.only in
+    let only : OnlyLater w.extra later = subst (λ (v : Message). OnlyLater w.extra (answers t disk (v ∷ ms))) one.0 x.only in
     let s : Stepped = step i turn.answer in
-    let sent_is : one.given ++ w.left_there ≡ canon (s.output ++ sent s.machine inputs) =
-    one.rest ∙ ap (λ (v : Message). canon (sent i (Comes v ∷ inputs))) two.same in
+    let sent_is : one.1.given ++ w.left_there ≡ canon (s.output ++ sent s.machine inputs) =
+    one.1.rest ∙ ap (λ (v : Message). canon (sent i (Comes v ∷ inputs))) two.0 in
     let reach_ : IsReached c s.machine = reached_more c i turn.answer x.reached in
     let core : Ended w MayClose P later.machine (after_all s.machine inputs) = elim (turns i t x.there r disk x.asking p turn) [
       | inl shut ↦ (let stays = closed_stays s.machine inputs shut.1.phase in
@@ -236,18 +236,18 @@ exchange_ends (Comes m ∷ inputs) w MayClose P i t disk (n ∷ ms) o turns p x 
           asking = next.0.asking;
           first = turn.last x.here x.first;
           reached = reach_;
-          given = one.given;
-          reads = one.reads;
+          given = one.1.given;
+          reads = one.1.reads;
           sends = sent_is ∙ ap (λ (xs : List Message). canon (xs ++ sent s.machine inputs)) next.0.is;
-          heard = two.given;
-          hears = two.reads;
-          answered = two.rest;
+          heard = two.1.given;
+          hears = two.1.reads;
+          answered = two.1.rest;
           only = only;
         })
       ]
     ] in
-    subst (λ (v : Message). Ended w MayClose P (answers t disk (v ∷ ms)).machine (after_all i (Comes m ∷ inputs))) (sym one.same)
-    (subst (λ (v : Message). Ended w MayClose P (answers t disk (r ∷ ms)).machine (after_all i (Comes v ∷ inputs))) (sym two.same) core)
+    subst (λ (v : Message). Ended w MayClose P (answers t disk (v ∷ ms)).machine (after_all i (Comes m ∷ inputs))) (sym one.0)
+    (subst (λ (v : Message). Ended w MayClose P (answers t disk (r ∷ ms)).machine (after_all i (Comes v ∷ inputs))) (sym two.0) core)
 
 -- ---- nothing is kept
 

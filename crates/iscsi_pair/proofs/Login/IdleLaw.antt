@@ -51,13 +51,13 @@ none_waits [] w i t disk o x (inr over) there = apart over (ap is_closed_phase x
 none_waits (n ∷ ms) w i t disk o x here there =
     let c : Opening = w.opening in
     let r : Message = x.request in
-    let one : IsFirst w.target_limit x.there w.left_there (canon (sent i [])) n r ms =
+    let one : (n ≡ r) × IsFirst w.target_limit x.there w.left_there (canon (sent i [])) r ms =
     first_is w.target_limit x.there x.given w.left_there (canon (sent i [])) n r ms (asking_readable c i t x.there r o x.asking) x.reads x.sends in
     let turn : Round c i (target_machine.step t disk r) (logins_after x.there r.head) = round c i t x.there r disk o x.asking in
     let now : target.Stepped = target_machine.step t disk r in
     let later : target.Stepped = answers now.machine now.disk ms in
     let said_ : canon ((answers t disk (n ∷ ms)).answers ++ w.extra) ≡ canonical_bytes turn.answer ++ canon (later.answers ++ w.extra) =
-    ap (λ (v : Message). canon ((answers t disk (v ∷ ms)).answers ++ w.extra)) one.same
+    ap (λ (v : Message). canon ((answers t disk (v ∷ ms)).answers ++ w.extra)) one.0
     ∙ ap (λ (xs : List Message). canon ((xs ++ later.answers) ++ w.extra)) turn.is in
     not_waiting w.initiator_limit x.here w.left_here (canon (later.answers ++ w.extra)) turn.answer there (turn.readable x.here x.first) turn.short
     (ap (λ (z : List ℕ). z ++ w.left_here) (sym (nothing_read w.initiator_limit x.here x.heard x.hears)) ∙ x.answered ∙ said_)

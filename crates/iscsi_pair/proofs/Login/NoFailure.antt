@@ -70,14 +70,14 @@ last_heard [] c i t out back r disk l given x y o suits a s b p e f = record {
   initiator = inr (ap is_closed_phase a.phase, inl f);
 }
 last_heard (n ∷ ms) c i t out back r disk l given x y o suits a s b p e f =
-    let one : IsFirst l out x [] n r ms = first_is l out given x [] n r ms (asking_readable c i t out r o a) p e in
-    let none = both_none one.given x one.rest in
-    let last : ms ≡ [] = none_read l (logins_after out r.head) one.given ms one.reads none.0 in
+    let one : (n ≡ r) × IsFirst l out x [] r ms = first_is l out given x [] n r ms (asking_readable c i t out r o a) p e in
+    let none = both_none one.1.given x one.1.rest in
+    let last : ms ≡ [] = none_read l (logins_after out r.head) one.1.given ms one.1.reads none.0 in
     let turn : Round c i (target_machine.step t disk r) (logins_after out r.head) = round c i t out r disk o a in
     let w : Well c i (target_machine.step t disk r) (step i turn.answer) (logins_after out r.head) =
     goes_well c i t out (logins_after out r.head) r disk o suits a s turn in
     let now : target.Stepped = target_machine.step t disk r in
-    let all : answers t disk (n ∷ ms) ≡ answers t disk (r ∷ []) = ap (λ (m : Message). answers t disk (m ∷ ms)) one.same
+    let all : answers t disk (n ∷ ms) ≡ answers t disk (r ∷ []) = ap (λ (m : Message). answers t disk (m ∷ ms)) one.0
     ∙ ap (λ (xs : List Message). answers t disk (r ∷ xs)) last in
     let there : AreWell i (answers t disk (r ∷ [])) x y = record {
       target = elim w.on [

@@ -15,15 +15,14 @@ use Rattle.iscsi_target.specs.State as target
 use Rattle.iscsi_target.specs.Machine as target_machine
 use Rattle.iscsi_target.specs.Machine.{answers}
 use Rattle.iscsi_target.proofs.NumberLaws.{closed_answers}
-use Rattle.iscsi_initiator.specs.declared.request.Done.{Done}
 use Rattle.iscsi_initiator.specs.declared.request.Request.{Request}
 use Rattle.iscsi_initiator.specs.State as initiator
 use Rattle.iscsi_initiator.specs.Steps.{Stepped, quiet, sends}
 use Rattle.iscsi_initiator.specs.Machine.{step}
 use Rattle.iscsi_initiator.specs.Submitted.{submitted}
-use Rattle.iscsi_pair.specs.LocalDisk.{HasEnded, Exchange, after_answers}
+use Rattle.iscsi_pair.specs.LocalDisk.{HasEnded, Exchange, after_answers, Local}
 use Rattle.iscsi_pair.proofs.Wire.PrefixLemmas.{Readable}
-use Rattle.iscsi_pair.proofs.Request.Invariant.{AreWritten, IsOpenFor}
+use Rattle.iscsi_pair.proofs.Request.Invariant.{AreWritten, IsOpenFor, between}
 
 -- ---- messages that are read as they were written, whatever the login PDUs before them said
 
@@ -92,21 +91,24 @@ pub record HearsOne (held : Held) (i : initiator.Machine) (t : target.Machine) (
   pub sends_ : AreHeard held t disk (step i m).output
 
 -- so many answers are received, and then both ends stand so
-abbrev pub Leads : Held → ℕ → initiator.Machine → target.Machine → Disk → List Message → Exchange → Type 0
-Leads held zero i t disk back x = record { initiator = i; target = t; disk = disk; answers = back } ≡ x
-Leads held (suc n) i t disk [] x = ⊥
-Leads held (suc n) i t disk (m ∷ more) x =
-    HearsOne held i t disk m
-    × (let s = step i m in let r = answers t disk s.output in Leads held n s.machine r.machine r.disk (more ++ r.answers) x)
+abbrev pub Leads : Held → ℕ → Exchange → Exchange → Type 0
+Leads held zero from x = from ≡ x
+Leads held (suc n) from x = elim from.answers [
+  | [] ↦ ⊥
+  | m ∷ more ↦ HearsOne held from.initiator from.target from.disk m
+      × (let s = step from.initiator m in
+      let r = answers from.target from.disk s.output in
+      Leads held n (between s.machine r.machine r.disk (more ++ r.answers)) x)
+]
 
 -- some answers are received, and then both ends stand so
-abbrev pub LeadsTo : Held → initiator.Machine → target.Machine → Disk → List Message → Exchange → Type 0
-LeadsTo held i t disk back x = (n : ℕ) × Leads held n i t disk back x
+abbrev pub LeadsTo : Held → Exchange → Exchange → Type 0
+LeadsTo held from x = (n : ℕ) × Leads held n from x
 
 -- an answer that is received, and to which nothing is said
 pub hears_quiet : (held : Held) (i n : initiator.Machine) (t : target.Machine) (disk : Disk) (m : Message) (more : List Message) (x : Exchange)
     → step i m ≡ quiet n → i.phase ≡ phases.Full → is_some i.outstanding ≡ true → i.done ≡ None
-    → LeadsTo held n t disk more x → LeadsTo held i t disk (m ∷ more) x
+    → LeadsTo held (between n t disk more) x → LeadsTo held (between i t disk (m ∷ more)) x
 unfolding answers
 hears_quiet held i n t disk m more x e full busy none l = (
   suc l.0,
@@ -118,8 +120,8 @@ hears_quiet held i n t disk m more x e full busy none l = (
       fault = ap (λ (s : Stepped). s.fault) e;
       sends_ = subst (λ (s : Stepped). AreHeard held t disk s.output) (sym e) (none_heard held t disk);
     },
-    subst (λ (s : Stepped). let r = answers t disk s.output in Leads held l.0 s.machine r.machine r.disk (more ++ r.answers) x) (sym e)
-        (subst (λ (ms : List Message). Leads held l.0 n t disk ms x) (sym (append-nil more)) l.1),
+    subst (λ (s : Stepped). let r = answers t disk s.output in Leads held l.0 (between s.machine r.machine r.disk (more ++ r.answers)) x) (sym e)
+        (subst (λ (ms : List Message). Leads held l.0 (between n t disk ms) x) (sym (append-nil more)) l.1),
   ),
 )
 
@@ -127,7 +129,8 @@ hears_quiet held i n t disk m more x e full busy none l = (
 pub hears_sends : (held : Held) (i n : initiator.Machine) (t : target.Machine) (disk : Disk) (m : Message) (out : List Message) (r : target.Stepped)
     (x : Exchange)
     → step i m ≡ sends n out → i.phase ≡ phases.Full → is_some i.outstanding ≡ true
-    → i.done ≡ None → AreHeard held t disk out → answers t disk out ≡ r → LeadsTo held n r.machine r.disk r.answers x → LeadsTo held i t disk (m ∷ []) x
+    → i.done ≡ None → AreHeard held t disk out → answers t disk out ≡ r → LeadsTo held (between n r.machine r.disk r.answers) x
+    → LeadsTo held (between i t disk (m ∷ [])) x
 hears_sends held i n t disk m out r x e full busy none heard is l = (
   suc l.0,
   (
@@ -138,27 +141,27 @@ hears_sends held i n t disk m out r x e full busy none heard is l = (
       fault = ap (λ (s : Stepped). s.fault) e;
       sends_ = subst (λ (s : Stepped). AreHeard held t disk s.output) (sym e) heard;
     },
-    subst (λ (s : Stepped). let r' = answers t disk s.output in Leads held l.0 s.machine r'.machine r'.disk ([] ++ r'.answers) x) (sym e)
-        (subst (λ (r' : target.Stepped). Leads held l.0 n r'.machine r'.disk ([] ++ r'.answers) x) (sym is) l.1),
+    subst (λ (s : Stepped). let r' = answers t disk s.output in Leads held l.0 (between s.machine r'.machine r'.disk ([] ++ r'.answers)) x) (sym e)
+        (subst (λ (r' : target.Stepped). Leads held l.0 (between n r'.machine r'.disk ([] ++ r'.answers)) x) (sym is) l.1),
   ),
 )
 
 -- ---- a request
 
 -- from here, with these answers on their way, it comes to that
-pub record Ends (held : Held) (i : initiator.Machine) (r : target.Stepped) (outcome : Done) (disk_now : Disk) : Type 0 where
+pub record Ends (held : Held) (i : initiator.Machine) (r : target.Stepped) (here : Local) : Type 0 where
   pub last : Exchange
-  pub leads : LeadsTo held i r.machine r.disk r.answers last
-  pub ended : HasEnded held outcome disk_now last
+  pub leads : LeadsTo held (between i r.machine r.disk r.answers) last
+  pub ended : HasEnded held here.outcome here.disk last
 
 -- What a request that is handed in sends is received, and it comes to this outcome.
-pub record Begins (held : Held) (m : initiator.Machine) (t : target.Machine) (disk : Disk) (request : Request) (outcome : Done) (disk_now : Disk) : Type 0 where
+pub record Begins (held : Held) (m : initiator.Machine) (t : target.Machine) (disk : Disk) (request : Request) (here : Local) : Type 0 where
   pub heard : AreHeard held t disk (submitted m request).output
-  pub ends : Ends held (submitted m request).machine (answers t disk (submitted m request).output) outcome disk_now
+  pub ends : Ends held (submitted m request).machine (answers t disk (submitted m request).output) here
 
 -- where answers lead is where they lead one by one
 pub leads_after : (n : ℕ) (held : Held) (i : initiator.Machine) (t : target.Machine) (disk : Disk) (back : List Message) (x : Exchange)
-    → Leads held n i t disk back x
+    → Leads held n (between i t disk back) x
     → after_answers n (record { initiator = i; target = t; disk = disk; answers = back }) ≡ x
 leads_after zero held i t disk back x l = l
 leads_after (suc n) held i t disk [] x l = absurd l

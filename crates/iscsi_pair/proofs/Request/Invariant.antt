@@ -4,6 +4,7 @@ use Rattle.scsi_disk.specs.Disk.{Disk}
 use Rattle.iscsi_stream.specs.declared.logins.Logins.{Logins}
 use Rattle.iscsi_stream.specs.Segment.{after, segment_bytes}
 use Rattle.iscsi_stream.specs.Stream.{Message, after_all}
+use Rattle.iscsi_target_session.specs.Session as target_session
 use Rattle.iscsi_target.specs.State as target
 use Rattle.iscsi_target.specs.Machine as target_machine
 use Rattle.iscsi_target.specs.Machine.{answers}
@@ -13,6 +14,9 @@ use Rattle.iscsi_initiator.specs.State as initiator
 use Rattle.iscsi_initiator.specs.State.{is_closed}
 use Rattle.iscsi_initiator.specs.Machine.{step, taken}
 use Rattle.iscsi_initiator.specs.Submitted.{submitted}
+use Rattle.iscsi_initiator.specs.Calls as calls
+use Rattle.iscsi_pair.specs.World.{Opening}
+use Rattle.iscsi_pair.specs.LocalDisk.{Exchange}
 use Rattle.iscsi_pair.specs.Served.{IsServed}
 use Rattle.iscsi_pair.proofs.Wire.PrefixLemmas.{Readable}
 
@@ -54,36 +58,59 @@ pub record History : Type 0 where
   pub requests : List Request
   pub outcomes : List Done
 
+-- two ends with the disk between them, where these answers are on their way to the initiator
+abbrev pub between : initiator.Machine → target.Machine → Disk → List Message → Exchange
+between i t disk back = record { initiator = i; target = t; disk = disk; answers = back }
+
+-- what login PDUs said on the way out and back, those included that are on their way, and what was asked and taken
+pub record SoFar : Type 0 where
+  pub there : Logins
+  pub here : Logins
+  pub history : History
+
+abbrev pub so_far : Logins → Logins → History → SoFar
+so_far there here h = record { there = there; here = here; history = h }
+
+-- how many bytes of a segment are read by the target, and by the initiator
+pub record Limits : Type 0 where
+  pub out : ℕ
+  pub back : ℕ
+
+abbrev pub limits : ℕ → ℕ → Limits
+limits out back = record { out = out; back = back }
+
+abbrev pub limits_of : Opening → Limits
+limits_of c = limits (target_session.limit c.target) (calls.limit c.initiator)
+
 -- What holds of both ends and the disk once the target has received all that was sent: of the answers that the initiator has
--- not yet received, of what the login PDUs said on the way out and back, and of the history.
+-- not yet received, and of what was said, asked and taken.
 abbrev pub Relation : Type 1
-Relation = initiator.Machine → target.Machine → Disk → List Message → Logins → Logins → History → Type 0
+Relation = Exchange → SoFar → Type 0
 
 -- The initiator sends these: they are read as they were written, the target receives them well, and the relation holds then.
-pub record Sends (most_out most_back : ℕ) (P : Relation) (i : initiator.Machine) (out : List Message) (t : target.Machine)
-    (disk : Disk) (back : List Message) (there here : Logins) (h : History) : Type 0 where
-  pub written : AreWritten most_out there out
-  pub heard : HearsWell most_back t disk here out
-  pub kept : P i (answers t disk out).machine (answers t disk out).disk (back ++ (answers t disk out).answers)
-      (after_all there out) (after_all here (answers t disk out).answers) h
+pub record Sends (most : Limits) (P : Relation) (x : Exchange) (out : List Message) (s : SoFar) : Type 0 where
+  pub written : AreWritten most.out s.there out
+  pub heard : HearsWell most.back x.target x.disk s.here out
+  pub kept : (let r = answers x.target x.disk out in
+      P (between x.initiator r.machine r.disk (x.answers ++ r.answers)) (so_far (after_all s.there out) (after_all s.here r.answers) s.history))
 
--- the initiator receives an answer well
-pub record Goes (most_out most_back : ℕ) (P : Relation) (i : initiator.Machine) (t : target.Machine) (disk : Disk) (m : Message)
-    (back : List Message) (there here : Logins) (h : History) : Type 0 where
-  pub live : is_closed i ≡ false
-  pub fault : (step i m).fault ≡ None
-  pub sends : Sends most_out most_back P (step i m).machine (step i m).output t disk back there here h
+-- the initiator receives an answer well, with those of the exchange behind it
+pub record Goes (most : Limits) (P : Relation) (x : Exchange) (m : Message) (s : SoFar) : Type 0 where
+  pub live : is_closed x.initiator ≡ false
+  pub fault : (step x.initiator m).fault ≡ None
+  pub sends : Sends most P (record x { initiator = (step x.initiator m).machine }) (step x.initiator m).output s
 
 -- The relation is kept by all that can happen.
-pub record IsKept (most_out most_back : ℕ) (P : Relation) : Type 1 where
+pub record IsKept (most : Limits) (P : Relation) : Type 1 where
   -- the next answer comes
   pub hears : (i : initiator.Machine) (t : target.Machine) (disk : Disk) (m : Message) (back : List Message) (there here : Logins) (h : History)
-      → P i t disk (m ∷ back) there here h → Goes most_out most_back P i t disk m back there here h
+      → P (between i t disk (m ∷ back)) (so_far there here h) → Goes most P (between i t disk back) m (so_far there here h)
   -- a request is accepted
   pub asks : (i : initiator.Machine) (t : target.Machine) (disk : Disk) (back : List Message) (there here : Logins) (h : History) (request : Request)
-      → P i t disk back there here h → IsServed request → (submitted i request).refusal ≡ None
-      → Sends most_out most_back P (submitted i request).machine (submitted i request).output t disk back there here
-      (record h { requests = h.requests ++ request ∷ [] })
+      → P (between i t disk back) (so_far there here h) → IsServed request → (submitted i request).refusal ≡ None
+      → Sends most P (between (submitted i request).machine t disk back) (submitted i request).output
+      (so_far there here (record h { requests = h.requests ++ request ∷ [] }))
   -- an outcome is taken
   pub takes : (i : initiator.Machine) (t : target.Machine) (disk : Disk) (back : List Message) (there here : Logins) (h : History) (d : Done)
-      → P i t disk back there here h → i.done ≡ Some d → P (taken i) t disk back there here (record h { outcomes = h.outcomes ++ d ∷ [] })
+      → P (between i t disk back) (so_far there here h) → i.done ≡ Some d
+      → P (between (taken i) t disk back) (so_far there here (record h { outcomes = h.outcomes ++ d ∷ [] }))

@@ -57,7 +57,7 @@ accepts m t request a short =
 -- a request that is accepted in step comes to its outcome on the disk
 pub begins : (m : initiator.Machine) (t : target.Machine) (disk : Disk) (request : Request) → IsServed request → AreInStep m t
     → (submitted m request).refusal ≡ None
-    → Begins m.held m t disk request (local m.held.initiator_max_recv disk request).outcome (local m.held.initiator_max_recv disk request).disk
+    → Begins m.held m t disk request (local m.held.initiator_max_recv disk request)
 begins m t disk (requests.In lun cdb expected) served a e = local_read m t disk lun cdb expected served.0 served.1 served.2 a e
 begins m t disk (requests.Out lun cdb bytes) served a e = local_write m t disk lun cdb bytes served.0 served.1 served.2 a e
 begins m t disk (requests.Ping bytes) served a e = local_ping m t disk bytes a e
@@ -69,7 +69,7 @@ pub comes_to : (m : initiator.Machine) (t : target.Machine) (disk : Disk) (reque
     → (let here = local m.held.initiator_max_recv disk request in ComesTo m.held here.outcome here.disk (handed_in m t disk request))
 comes_to m t disk request served a e =
     let here : Local = local m.held.initiator_max_recv disk request in
-    let b : Begins m.held m t disk request here.outcome here.disk = begins m t disk request served a e in
+    let b : Begins m.held m t disk request here = begins m t disk request served a e in
     let r : Stepped = answers t disk (submitted m request).output in (
       b.ends.leads.0,
       subst (HasEnded m.held here.outcome here.disk) (sym (leads_after b.ends.leads.0 m.held (submitted m request).machine r.machine r.disk

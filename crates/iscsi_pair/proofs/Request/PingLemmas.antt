@@ -108,7 +108,7 @@ short_ping m bytes full e =
 
 pub local_ping : (m : initiator.Machine) (t : target.Machine) (disk : Disk) (bytes : List ℕ) → AreInStep m t
     → (submitted m (requests.Ping bytes)).refusal ≡ None
-    → Begins m.held m t disk (requests.Ping bytes) (done.Ping (take m.held.initiator_max_recv bytes)) disk
+    → Begins m.held m t disk (requests.Ping bytes) (record { outcome = done.Ping (take m.held.initiator_max_recv bytes); disk = disk })
 unfolding answers
 local_ping m t disk bytes a e =
     let request : Request = requests.Ping bytes in
@@ -145,7 +145,7 @@ local_ping m t disk bytes a e =
     let one : step (pinging begun_ m.window) answer ≡ quiet (pinged begun_ t' m.window given) = pong_heard begun_ m t' m.window given a.stat_sn refl tag few in
     let told_ : told_window m.window t' ≡ window_of_eight n = tells_eight n m.window fits (near_next n m.cmd_sn m.window a.cmd_sn_fits refl a.window) in
     let last : Exchange = record { initiator = pinged begun_ t' m.window given; target = counted_on t'; disk = disk; answers = [] } in
-    let ends_ : Ends m.held (pinging begun_ m.window) executed (done.Ping given) disk = record {
+    let ends_ : Ends m.held (pinging begun_ m.window) executed (record { outcome = done.Ping given; disk = disk }) = record {
       last = last;
       leads = hears_quiet m.held (pinging begun_ m.window) (pinged begun_ t' m.window given) (counted_on t') disk answer [] last one refl refl a.none_done (
         0,
@@ -168,9 +168,11 @@ local_ping m t disk bytes a e =
           (plain_one m.held.initiator_max_recv answer
           (λ logins. pong_readable logins t' (ping m) given (omega (arith, tag)) a.stat_sn_fits fits (omega (arith, few, a.is_held.initiator_max_recv.1)))
           (short_message answer.head given m.held.initiator_max_recv few));
-      ends = subst (λ (s : Submitted). Ends m.held s.machine (answers t disk (submitted m request).output) (done.Ping given) disk) (sym sent)
-          (subst (λ (x : initiator.Machine). Ends m.held x (answers t disk (submitted m request).output) (done.Ping given) disk) (sym is_m)
-          (subst (λ (x : target.Stepped). Ends m.held (pinging begun_ m.window) x (done.Ping given) disk) (sym r) ends_));
+      ends = subst (λ (s : Submitted). Ends m.held s.machine (answers t disk (submitted m request).output) (record { outcome = done.Ping given; disk = disk }))
+          (sym sent)
+          (subst (λ (x : initiator.Machine). Ends m.held x (answers t disk (submitted m request).output) (record { outcome = done.Ping given; disk = disk }))
+          (sym is_m)
+          (subst (λ (x : target.Stepped). Ends m.held (pinging begun_ m.window) x (record { outcome = done.Ping given; disk = disk })) (sym r) ends_));
     }
 
 -- ---- a logout
@@ -217,7 +219,7 @@ logout_heard m before t window e same =
     ) refl
 
 pub local_logout : (m : initiator.Machine) (t : target.Machine) (disk : Disk) → AreInStep m t → (submitted m requests.Logout).refusal ≡ None
-    → Begins m.held m t disk requests.Logout done.Closed disk
+    → Begins m.held m t disk requests.Logout (record { outcome = done.Closed; disk = disk })
 unfolding answers
 local_logout m t disk a e =
     let request : Request = requests.Logout in
@@ -245,7 +247,7 @@ local_logout m t disk a e =
     ∙ ap (λ (x : target.Machine). step_on reliable x disk (logout_message m)) is_t
     ∙ logout_taken m t disk a.cmd_sn_fits in
     let last : Exchange = record { initiator = left begun_ t' m.window; target = executed.machine; disk = disk; answers = [] } in
-    let ends_ : Ends m.held (leaving begun_ m.window) executed done.Closed disk = record {
+    let ends_ : Ends m.held (leaving begun_ m.window) executed (record { outcome = done.Closed; disk = disk }) = record {
       last = last;
       leads = hears_quiet m.held (leaving begun_ m.window) (left begun_ t' m.window) executed.machine disk answer [] last
           (logout_heard begun_ m t' m.window a.stat_sn refl) refl refl a.none_done (0, refl);
@@ -273,7 +275,9 @@ local_logout m t disk a e =
             (plain_one m.held.initiator_max_recv answer (λ logins. left_readable logins t' (logout_request m) (omega (arith, tag)) a.stat_sn_fits fits)
             (short_message answer.head [] m.held.initiator_max_recv (omega arith)));
       };
-      ends = subst (λ (s : Submitted). Ends m.held s.machine (answers t disk (submitted m request).output) done.Closed disk) (sym sent)
-          (subst (λ (x : initiator.Machine). Ends m.held x (answers t disk (submitted m request).output) done.Closed disk) (sym is_m)
-          (subst (λ (x : target.Stepped). Ends m.held (leaving begun_ m.window) x done.Closed disk) (sym r) ends_));
+      ends = subst (λ (s : Submitted). Ends m.held s.machine (answers t disk (submitted m request).output) (record { outcome = done.Closed; disk = disk }))
+          (sym sent)
+          (subst (λ (x : initiator.Machine). Ends m.held x (answers t disk (submitted m request).output) (record { outcome = done.Closed; disk = disk }))
+          (sym is_m)
+          (subst (λ (x : target.Stepped). Ends m.held (leaving begun_ m.window) x (record { outcome = done.Closed; disk = disk })) (sym r) ends_));
     }

@@ -57,11 +57,12 @@ use Rattle.iscsi_initiator.specs.Submitted.{Submitted, accepted, command, or_acc
 use Rattle.iscsi_initiator.specs.Progress.{Reading}
 use Rattle.iscsi_initiator.specs.Steps.{quiet}
 use Rattle.iscsi_initiator.specs.Machine.{step}
-use Rattle.iscsi_pair.specs.LocalDisk.{AreInStep, Exchange, reading_order, reported, reported_sense, window_of_eight}
+use Rattle.iscsi_pair.specs.LocalDisk.{AreInStep, Exchange, reading_order, reported_sense, window_of_eight, local_command}
 use Rattle.iscsi_pair.proofs.Wire.WindowLemmas.{IsNear, near_next, near_now, tag_after, tells_eight}
 use Rattle.iscsi_pair.proofs.Wire.WrittenPdus.{command_readable, data_in_readable, outcome_readable}
 use Rattle.iscsi_pair.proofs.Wire.OutcomeRanges.{HasRoom, outcome_fits}
 use Rattle.iscsi_pair.proofs.Request.AnswersInOrder.{ArePlain, Begins, Ends, LeadsTo, heard_by, hears_quiet, plain_more, plain_one, short_message}
+use Rattle.iscsi_pair.proofs.Request.Invariant.{between}
 
 -- ---- the initiator hears the data
 
@@ -99,9 +100,10 @@ record PartsHeard (m : initiator.Machine) (t : target.Machine) (r : Reading) (wi
   -- what each told window keeps is kept
   kept : (n : ℕ) → ((w : Window) → IsNear n w → IsNear n (told_window w t)) → IsNear n window → IsNear n told
   leads : (held : Held) (s : target.Machine) (disk : Disk) (x : Exchange)
-      → LeadsTo held (reading m (record r { received = r.received ++ bytes_of given; next_data_sn = r.next_data_sn + length given }) told) s disk more x
-      → LeadsTo held (reading m r window) s disk (data_ins t.session (target.waiting t.tasks) m.initiator_task_tag r.next_data_sn (length r.received) given
-      ++ more) x
+      → LeadsTo held (between (reading m (record r { received = r.received ++ bytes_of given; next_data_sn = r.next_data_sn + length given }) told) s disk more)
+      x
+      → LeadsTo held (between (reading m r window) s disk (data_ins t.session (target.waiting t.tasks) m.initiator_task_tag r.next_data_sn (length r.received)
+      given ++ more)) x
 
 -- each part is one that the initiator takes
 abbrev AreShort : ℕ → Parts → Type 0
@@ -122,7 +124,7 @@ parts_heard m t r window [] more none short room few =
     record {
       told = window;
       kept = λ n keeps near. near;
-      leads = λ held s disk x l. subst (λ (y : Reading). LeadsTo held (reading m y window) s disk more x) (sym same) l;
+      leads = λ held s disk x l. subst (λ (y : Reading). LeadsTo held (between (reading m y window) s disk more) x) (sym same) l;
     }
 parts_heard m t r window (part ∷ given) more none short room few =
     let r' : Reading = record { expected = r.expected; received = r.received ++ part.0; next_data_sn = r.next_data_sn + 1 } in
@@ -156,9 +158,9 @@ parts_heard m t r window (part ∷ given) more none short room few =
           (message (data_in_head t.session (target.waiting t.tasks) m.initiator_task_tag r.next_data_sn (length r.received) part.1) part.0)
           (data_ins t.session (target.waiting t.tasks) m.initiator_task_tag (r.next_data_sn + 1) (length r.received + length part.0) given ++ more) x one refl
           refl none
-          (subst (λ (n : ℕ). LeadsTo held (reading m r' (told_window window t)) s disk (data_ins t.session (target.waiting t.tasks) m.initiator_task_tag
-          (r.next_data_sn + 1) n given ++ more) x) (length-append r.received part.0)
-          (h.leads held s disk x (subst (λ (y : Reading). LeadsTo held (reading m y h.told) s disk more x) (sym same) l)));
+          (subst (λ (n : ℕ). LeadsTo held (between (reading m r' (told_window window t)) s disk
+          (data_ins t.session (target.waiting t.tasks) m.initiator_task_tag (r.next_data_sn + 1) n given ++ more)) x) (length-append r.received part.0)
+          (h.leads held s disk x (subst (λ (y : Reading). LeadsTo held (between (reading m y h.told) s disk more) x) (sym same) l)));
     }
 
 -- ---- the data of a command, in parts
@@ -275,9 +277,9 @@ outcome_heard m t open_ received window status (Some sense) bytes (Over n) count
 record ReadHeard (m : initiator.Machine) (t : target.Machine) (r : Reading) (window : Window) (outcome : Outcome) : Type 0 where
   told : Window
   kept : (n : ℕ) → ((w : Window) → IsNear n w → IsNear n (told_window w t)) → IsNear n window → IsNear n told
-  leads : (held : Held) (s : target.Machine) (disk : Disk) (x : Exchange) → LeadsTo held (finished m t told outcome outcome.bytes) s disk [] x
-      → LeadsTo held (reading m r window) s disk (command_answers t.session (target.waiting t.tasks) m.initiator_task_tag outcome
-      (data_in_parts t.session.held outcome.bytes)) x
+  leads : (held : Held) (s : target.Machine) (disk : Disk) (x : Exchange) → LeadsTo held (between (finished m t told outcome outcome.bytes) s disk []) x
+      → LeadsTo held (between (reading m r window) s disk (command_answers t.session (target.waiting t.tasks) m.initiator_task_tag outcome
+      (data_in_parts t.session.held outcome.bytes))) x
 
 -- the parts of what is given
 record AreGiven (held : Held) (bytes : List ℕ) : Type 0 where
@@ -313,7 +315,7 @@ read_heard m t window outcome expected held is_held stat_sn none room small =
       kept = h.kept;
       leads = λ k s disk x l. h.leads k s disk x
           (hears_quiet k (reading m r' h.told) (finished m t h.told outcome (bytes_of given)) s disk last [] x one refl refl none
-          (subst (λ (y : List ℕ). LeadsTo k (finished m t h.told outcome y) s disk [] x) (sym g.all) l));
+          (subst (λ (y : List ℕ). LeadsTo k (between (finished m t h.told outcome y) s disk []) x) (sym g.all) l));
     }
 
 -- ---- what the target answers is read as it was written
@@ -514,8 +516,7 @@ stat_sn_sent m t a = subst (λ (n : Option ℕ). unwrap_or n 0 < 2 ^ 32) (sym a.
 
 pub local_read : (m : initiator.Machine) (t : target.Machine) (disk : Disk) (lun : ℕ) (cdb : List ℕ) (expected : ℕ) → lun < 2 ^ 64 → length cdb ≡ 16
     → AreBytes cdb → AreInStep m t → (submitted m (requests.In lun cdb expected)).refusal ≡ None
-    → (let after : Effect = effect disk (reading_order lun cdb expected) [] in Begins m.held m t disk (requests.In lun cdb expected) (reported after.outcome)
-    after.disk)
+    → (let after : Effect = effect disk (reading_order lun cdb expected) [] in Begins m.held m t disk (requests.In lun cdb expected) (local_command after))
 unfolding answers
 local_read m t disk lun cdb expected on_ size are a e =
     let request : Request = requests.In lun cdb expected in
@@ -564,7 +565,7 @@ local_read m t disk lun cdb expected on_ size are a e =
     let told_ : told_window h.told t' ≡ window_of_eight n =
     tells_eight n h.told fits (h.kept n (λ w near. near_now n (told_window w t') fits (tells_eight n w fits near))
     (near_next n m.cmd_sn m.window a.cmd_sn_fits refl a.window)) in
-    let ends_ : Ends m.held (reading begun_ r0 m.window) executed (reported after.outcome) after.disk = record {
+    let ends_ : Ends m.held (reading begun_ r0 m.window) executed (local_command after) = record {
       last = last;
       leads = h.leads m.held (counted_on t') after.disk last (0, refl);
       ended = record {
@@ -585,7 +586,7 @@ local_read m t disk lun cdb expected on_ size are a e =
           (subst (λ (k : Held). ArePlain k.initiator_max_recv executed.answers) a.held
           (command_written t' (next_tag m.initiator_task_tag) after.outcome (subst IsHeld (sym a.held) a.is_held) (omega (arith, tag)) fits a.stat_sn_fits
           (omega (arith, room, few)) (outcome_fits disk order [] few)));
-      ends = subst (λ (s : Submitted). Ends m.held s.machine (answers t disk (submitted m request).output) (reported after.outcome) after.disk) (sym sent)
-          (subst (λ (x : initiator.Machine). Ends m.held x (answers t disk (submitted m request).output) (reported after.outcome) after.disk) (sym is_m)
-          (subst (λ (x : target.Stepped). Ends m.held (reading begun_ r0 m.window) x (reported after.outcome) after.disk) (sym r) ends_));
+      ends = subst (λ (s : Submitted). Ends m.held s.machine (answers t disk (submitted m request).output) (local_command after)) (sym sent)
+          (subst (λ (x : initiator.Machine). Ends m.held x (answers t disk (submitted m request).output) (local_command after)) (sym is_m)
+          (subst (λ (x : target.Stepped). Ends m.held (reading begun_ r0 m.window) x (local_command after)) (sym r) ends_));
     }

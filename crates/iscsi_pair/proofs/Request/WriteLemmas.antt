@@ -62,7 +62,7 @@ use Rattle.iscsi_initiator.specs.declared.request.Request.TheVariants as request
 use Rattle.iscsi_initiator.specs.Machine.{step, taken}
 use Rattle.iscsi_stream.proofs.ChunkLemmas.{joined, joined_chunks}
 use Rattle.iscsi_target.proofs.OpenWriteLemmas.{data_of_one}
-use Rattle.iscsi_pair.specs.LocalDisk.{AreInStep, Exchange, reported, reported_sense, writing_order}
+use Rattle.iscsi_pair.specs.LocalDisk.{AreInStep, Exchange, reported_sense, writing_order, local_command}
 use Rattle.iscsi_pair.proofs.Wire.WindowLemmas.{IsNear, last_with, near_next, tells_fewer, tells_eight, tag_after}
 use Rattle.iscsi_pair.proofs.Login.RoundAgrees.{some_then}
 use Rattle.iscsi_pair.proofs.Wire.WrittenPdus.{command_readable, data_out_readable, ready_readable}
@@ -72,6 +72,7 @@ use Rattle.iscsi_pair.proofs.Request.AnswersInOrder.{short_message}
 use Rattle.iscsi_pair.proofs.Request.ReadLemmas.{counted_on, Awaits, command_written, finished, in_step_again, next_small, not_long, outcome_heard, ready}
 use Rattle.iscsi_pair.proofs.Request.ReadLemmas.{stat_sn_sent, submitted_is, told_window, unrefused, waiting, window_now}
 use Rattle.std.proofs.Math.Bool.{and-false}
+use Rattle.iscsi_pair.proofs.Request.Invariant.{between}
 
 -- ---- a Data-Out
 
@@ -418,8 +419,7 @@ response_ends : (m : initiator.Machine) (t : target.Machine) (cmd_sn : ℕ) (ope
     (tag : ℕ) (pieces_ : Pieces)
     → Throughout m t cmd_sn bytes order disk → IsNear cmd_sn window → Awaits open_ [] → tag ≡ m.initiator_task_tag
     → effect disk order (data_of pieces_) ≡ effect disk order bytes
-    → Ends m.held (waiting m open_ window) (execute reliable (ready t cmd_sn) disk tag order pieces_) (reported (effect disk order bytes).outcome)
-    (effect disk order bytes).disk
+    → Ends m.held (waiting m open_ window) (execute reliable (ready t cmd_sn) disk tag order pieces_) (local_command (effect disk order bytes))
 response_ends m t cmd_sn open_ window bytes order disk tag pieces_ a near d same data_ =
     let after : Effect = effect disk order bytes in
     let s : target.Machine = ready t cmd_sn in
@@ -441,9 +441,10 @@ response_ends m t cmd_sn open_ window bytes order disk tag pieces_ a near d same
     (tells_eight m.cmd_sn window a.cmd_sn_fits (subst (λ (x : ℕ). IsNear x window) a.cmd_sn_is near)) in
     record {
       last = last;
-      leads = subst (λ (ms : List Message). LeadsTo m.held (waiting m open_ window) (counted_on s) (execute reliable s disk tag order pieces_).disk ms last)
+      leads = subst (λ (ms : List Message). LeadsTo m.held (between (waiting m open_ window) (counted_on s) (execute reliable s disk tag order pieces_).disk ms)
+          last)
           (sym is)
-          (subst (λ (x : Disk). LeadsTo m.held (waiting m open_ window) (counted_on s) x (response ∷ []) last) (sym disk_is)
+          (subst (λ (x : Disk). LeadsTo m.held (between (waiting m open_ window) (counted_on s) x (response ∷ [])) last) (sym disk_is)
           (hears_quiet m.held (waiting m open_ window) ended_ (counted_on s) after.disk response [] last one refl refl a.none_done (0, refl)));
       ended = record {
         done_is = ap (λ (x : List ℕ). Some (done.Command 0 after.outcome.status (reported_sense after.outcome.sense) x after.outcome.residual))
@@ -457,10 +458,22 @@ response_ends m t cmd_sn open_ window bytes order disk tag pieces_ a near d same
       };
     }
 
+-- what stays throughout a write: both ends as they were, the command's number and order, and the disk
+record Course : Type 0 where
+  initiator : initiator.Machine
+  target : target.Machine
+  cmd_sn : ℕ
+  order : Order
+  disk : Disk
+
+abbrev course : initiator.Machine → target.Machine → ℕ → Order → Disk → Course
+course m t cmd_sn order disk = record { initiator = m; target = t; cmd_sn = cmd_sn; order = order; disk = disk }
+
 -- the write goes on from where all that was due came
-abbrev GoesOn : initiator.Machine → target.Machine → ℕ → Writing → Write → Window → Order → Disk → Type 0
-GoesOn m t cmd_sn v w window order disk =
-    Ends m.held (writing m v window) (proceed reliable (ready t cmd_sn) disk w) (reported (effect disk order v.bytes).outcome) (effect disk order v.bytes).disk
+abbrev GoesOn : Course → Writing → Write → Window → Type 0
+GoesOn c v w window =
+    Ends c.initiator.held (writing c.initiator v window) (proceed reliable (ready c.target c.cmd_sn) c.disk w)
+    (local_command (effect c.disk c.order v.bytes))
 
 -- where all came the command is executed
 whole_is : (m : initiator.Machine) (t : target.Machine) (cmd_sn : ℕ) (v : Writing) (w : Write) (order : Order) (disk : Disk) → InHand m v w order
@@ -498,11 +511,11 @@ proceed_written m t cmd_sn v w order disk a i false part =
 
 all_came : (m : initiator.Machine) (t : target.Machine) (cmd_sn : ℕ) (v : Writing) (w : Write) (window : Window) (order : Order) (disk : Disk)
     → Throughout m t cmd_sn v.bytes order disk → IsNear cmd_sn window → InHand m v w order
-    → is_whole w ≡ true → GoesOn m t cmd_sn v w window order disk
+    → is_whole w ≡ true → GoesOn (course m t cmd_sn order disk) v w window
 all_came m t cmd_sn v w window order disk a near i whole =
     let all : v.sent ≡ length v.bytes = sym (received_is m v w order i) ∙ sym (eqb-true w.total (received w) whole) ∙ i.total in
     let bytes : data_of w.pieces ≡ v.bytes = i.came ∙ take_all v.sent v.bytes (omega (arith, all)) in
-    subst (λ (r : Stepped). Ends m.held (writing m v window) r (reported (effect disk order v.bytes).outcome) (effect disk order v.bytes).disk)
+    subst (λ (r : Stepped). Ends m.held (writing m v window) r (local_command (effect disk order v.bytes)))
     (sym (whole_is m t cmd_sn v w order disk i whole))
     (response_ends m t cmd_sn (opens.Out v) window v.bytes order disk w.initiator_task_tag w.pieces a near (λ h. refl) i.tag (ap (effect disk order) bytes))
 
@@ -521,21 +534,21 @@ abbrev more_came : target.Machine → Write → Pieces → Write
 more_came t w came = record (with_r2t t.session.held w) { pieces = came; due = Nothing }
 
 -- where one turn leads
-record Turned (m : initiator.Machine) (t : target.Machine) (cmd_sn : ℕ) (v : Writing) (w : Write) (window : Window) (order : Order) (disk : Disk) : Type 0 where
+record Turned (c : Course) (v : Writing) (w : Write) (window : Window) : Type 0 where
   window_now : Window
-  near : IsNear cmd_sn window → IsNear cmd_sn window_now
+  near : IsNear c.cmd_sn window → IsNear c.cmd_sn window_now
   came : Pieces
   n : ℕ
   some : 0 < n
-  hand : InHand m (more_sent v n) (more_came t w came) order
-  leads : (x : Exchange) → (let r = proceed reliable (ready t cmd_sn) disk (more_came t w came) in
-      LeadsTo m.held (writing m (more_sent v n) window_now) r.machine
-      r.disk r.answers x)
-      → (let r = proceed reliable (ready t cmd_sn) disk w in LeadsTo m.held (writing m v window) r.machine r.disk r.answers x)
+  hand : InHand c.initiator (more_sent v n) (more_came c.target w came) c.order
+  leads : (x : Exchange) → (let r = proceed reliable (ready c.target c.cmd_sn) c.disk (more_came c.target w came) in
+      LeadsTo c.initiator.held (between (writing c.initiator (more_sent v n) window_now) r.machine r.disk r.answers) x)
+      → (let r = proceed reliable (ready c.target c.cmd_sn) c.disk w in
+      LeadsTo c.initiator.held (between (writing c.initiator v window) r.machine r.disk r.answers) x)
 
 turn : (m : initiator.Machine) (t : target.Machine) (cmd_sn : ℕ) (v : Writing) (w : Write) (window : Window) (order : Order) (disk : Disk)
     → Throughout m t cmd_sn v.bytes order disk → InHand m v w order
-    → is_whole w ≡ false → Turned m t cmd_sn v w window order disk
+    → is_whole w ≡ false → Turned (course m t cmd_sn order disk) v w window
 turn m t cmd_sn v w window order disk a i part =
     let at : received w ≡ v.sent = received_is m v w order i in
     let left : v.sent < length v.bytes = (let lt = below (received w) w.total part (omega (arith, at, i.total, i.sent)) in omega (arith, lt, at, i.total)) in
@@ -595,7 +608,8 @@ turn m t cmd_sn v w window order disk a i part =
       n = n;
       some = some;
       hand = hand_;
-      leads = λ x l. subst (λ (y : Stepped). LeadsTo m.held (writing m v window) y.machine y.disk y.answers x) (sym (part_is m t cmd_sn v w order disk i part))
+      leads = λ x l. subst (λ (y : Stepped). LeadsTo m.held (between (writing m v window) y.machine y.disk y.answers) x)
+          (sym (part_is m t cmd_sn v w order disk i part))
           (hears_sends m.held (writing m v window) (writing m (more_sent v n) (told_window window s)) (writer t cmd_sn (with_r2t t.session.held w)) disk
           (message (r2t_head s.session (target.waiting s.tasks) w) []) out now x one refl refl a.none_done heard sent_ l);
     }
@@ -603,14 +617,14 @@ turn m t cmd_sn v w window order disk a i part =
 -- from turn to turn until all came
 goes_on : (fuel : ℕ) (m : initiator.Machine) (t : target.Machine) (cmd_sn : ℕ) (v : Writing) (w : Write) (window : Window) (order : Order) (disk : Disk)
     → Throughout m t cmd_sn v.bytes order disk → IsNear cmd_sn window → InHand m v w order
-    → length v.bytes ≤ v.sent + fuel → (whole : Bool) → is_whole w ≡ whole → GoesOn m t cmd_sn v w window order disk
+    → length v.bytes ≤ v.sent + fuel → (whole : Bool) → is_whole w ≡ whole → GoesOn (course m t cmd_sn order disk) v w window
 goes_on fuel m t cmd_sn v w window order disk a near i le true whole = all_came m t cmd_sn v w window order disk a near i whole
 goes_on zero m t cmd_sn v w window order disk a near i le false part =
     absurd (eqb-false w.total (received w) part (omega (arith, i.total, received_is m v w order i, i.sent, le)))
 goes_on (suc fuel) m t cmd_sn v w window order disk a near i le false part =
-    let x : Turned m t cmd_sn v w window order disk = turn m t cmd_sn v w window order disk a i part in
+    let x : Turned (course m t cmd_sn order disk) v w window = turn m t cmd_sn v w window order disk a i part in
     let w' : Write = more_came t w x.came in
-    let e : GoesOn m t cmd_sn (more_sent v x.n) w' x.window_now order disk =
+    let e : GoesOn (course m t cmd_sn order disk) (more_sent v x.n) w' x.window_now =
     goes_on fuel m t cmd_sn (more_sent v x.n) w' x.window_now order disk a (x.near near) x.hand (omega (arith, le, x.some)) (is_whole w') refl in
     record {
       last = e.last;
@@ -754,7 +768,7 @@ first_answers m t disk lun cdb bytes p =
 
 -- The target answers well, and it comes to the outcome of this order.
 abbrev Comes : initiator.Machine → initiator.Machine → Order → List ℕ → Disk → Stepped → Type 0
-Comes m i order bytes disk r = IsAnswered m.held r × Ends m.held i r (reported (effect disk order bytes).outcome) (effect disk order bytes).disk
+Comes m i order bytes disk r = IsAnswered m.held r × Ends m.held i r (local_command (effect disk order bytes))
 
 same_effect : (p : Plan) (disk : Disk) (order : Order) (bytes : List ℕ) → ((n : ℕ) → p ≡ Take n → ⊥) → disk_by p disk order [] ≡ disk_by p disk order bytes
 same_effect (Take n) disk order bytes none = absurd (none n refl)
@@ -794,7 +808,7 @@ executed_alone m t disk lun cdb bytes window a near none =
           after.outcome;
     } in
     let well : IsAnswered m.held r = executed_written (begun_write m) t n bytes order disk (next_tag m.initiator_task_tag) [] a refl in
-    let ends_ : Ends m.held i r (reported after.outcome) after.disk =
+    let ends_ : Ends m.held i r (local_command after) =
     response_ends (begun_write m) t n (opens.Out (first_sent m bytes)) window bytes order disk (next_tag m.initiator_task_tag) [] a near (λ h_. refl) refl
     same in
     subst (λ (x : Stepped). Comes m i order bytes disk (then_stepped r x)) (sym gone)
@@ -967,8 +981,7 @@ first_few m bytes =
 -- A write between two ends that are in step is received, and comes to the outcome and the disk of its order.
 pub local_write : (m : initiator.Machine) (t : target.Machine) (disk : Disk) (lun : ℕ) (cdb bytes : List ℕ) → lun < 2 ^ 64 → length cdb ≡ 16 → AreBytes cdb
     → AreInStep m t → (submitted m (requests.Out lun cdb bytes)).refusal ≡ None
-    → (let after : Effect = effect disk (writing_order lun cdb bytes) bytes in Begins m.held m t disk (requests.Out lun cdb bytes) (reported after.outcome)
-    after.disk)
+    → (let after : Effect = effect disk (writing_order lun cdb bytes) bytes in Begins m.held m t disk (requests.Out lun cdb bytes) (local_command after))
 unfolding answers
 local_write m t disk lun cdb bytes on_ size are a e =
     let request : Request = requests.Out lun cdb bytes in
@@ -1036,11 +1049,11 @@ local_write m t disk lun cdb bytes on_ size are a e =
     (sequence_written (begun_write m) None reserved_tag (length (immediate m bytes)) (initiator_writes.unsolicited m bytes) a.is_held all.tag_fits
     all.stat_sn_sends refl tt (omega arith)
     (omega (arith, first_few m bytes, few))) in
-    let ends_ : Ends m.held i r (reported after.outcome) after.disk = record { last = x.1.last; leads = x.1.leads; ended = x.1.ended } in
+    let ends_ : Ends m.held i r (local_command after) = record { last = x.1.last; leads = x.1.leads; ended = x.1.ended } in
     record {
       heard = heard_by m.held t disk (submitted m request).output r is (subst (λ (s : Submitted). ArePlain most s.output) (sym sent) written) x.0.live x.0.rule
           x.0.answered;
-      ends = subst (λ (s : Submitted). Ends m.held s.machine (answers t disk (submitted m request).output) (reported after.outcome) after.disk) (sym sent)
-          (subst (λ (k : initiator.Machine). Ends m.held k (answers t disk (submitted m request).output) (reported after.outcome) after.disk) (sym is_m)
-          (subst (λ (y : Stepped). Ends m.held i y (reported after.outcome) after.disk) (sym is) ends_));
+      ends = subst (λ (s : Submitted). Ends m.held s.machine (answers t disk (submitted m request).output) (local_command after)) (sym sent)
+          (subst (λ (k : initiator.Machine). Ends m.held k (answers t disk (submitted m request).output) (local_command after)) (sym is_m)
+          (subst (λ (y : Stepped). Ends m.held i y (local_command after)) (sym is) ends_));
     }

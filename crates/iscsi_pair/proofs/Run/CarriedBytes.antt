@@ -32,10 +32,11 @@ use Rattle.iscsi_initiator.specs.Steps as initiator_steps
 use Rattle.iscsi_initiator.specs.Machine.{step, steps}
 use Rattle.iscsi_initiator.specs.Calls as calls
 use Rattle.iscsi_pair.specs.World.{World, Opening, TargetReceives, MovesToTarget, store_of, target_ran_out}
-use Rattle.iscsi_pair.proofs.Request.Invariant.{AreWritten, IsOpenFor, HearsWell, History, Relation, Sends, Goes, IsKept, written_append}
+use Rattle.iscsi_pair.proofs.Request.Invariant.{AreWritten, IsOpenFor, HearsWell, History, Relation, Sends, Goes, IsKept, written_append, between, so_far, SoFar, limits, limits_of, Limits}
 use Rattle.iscsi_pair.proofs.Login.NoFailure.{both_none}
 use Rattle.iscsi_pair.proofs.Run.QueueReading.{after_all_append, written_parts, refuses_nothing, Unread, Way, MovesOn, moves_on, still_unread, none_more}
 use Rattle.iscsi_pair.proofs.Run.QueueReading.{way_sends}
+use Rattle.iscsi_pair.specs.LocalDisk.{Exchange}
 
 -- ---- whole messages
 
@@ -69,18 +70,17 @@ open_none t disk [] p over = refl
 open_none t disk (m ∷ ms) p over = absurd (apart over p.0)
 
 -- What both ends keep, where the target has yet to receive these messages and the initiator those.
-pub record Talks (most : ℕ) (P : Relation) (i : initiator.Machine) (t : target.Machine) (disk : Disk) (out back : List Message) (there here : Logins)
-    (h : History) : Type 0 where
-  pub heard : HearsWell most t disk here out
-  pub kept : P i (answers t disk out).machine (answers t disk out).disk (back ++ (answers t disk out).answers) there
-      (after_all here (answers t disk out).answers) h
+pub record Talks (most : ℕ) (P : Relation) (x : Exchange) (out : List Message) (s : SoFar) : Type 0 where
+  pub heard : HearsWell most x.target x.disk s.here out
+  pub kept : (let r = answers x.target x.disk out in
+      P (between x.initiator r.machine r.disk (x.answers ++ r.answers)) (record s { here = after_all s.here r.answers }))
 
 -- the initiator sends more
 pub talk_on : (most_out most : ℕ) (P : Relation) (i : initiator.Machine) (t : target.Machine) (disk : Disk) (out more back : List Message) (there here : Logins)
     (h : History) → HearsWell most t disk here out
-    → Sends most_out most P i more (answers t disk out).machine (answers t disk out).disk (back ++ (answers t disk out).answers) there
-    (after_all here (answers t disk out).answers) h
-    → Talks most P i t disk (out ++ more) back (after_all there more) here h
+    → Sends (limits most_out most) P (between i (answers t disk out).machine (answers t disk out).disk (back ++ (answers t disk out).answers)) more
+    (so_far there (after_all here (answers t disk out).answers) h)
+    → Talks most P (between i t disk back) (out ++ more) (so_far (after_all there more) here h)
 talk_on most_out most P i t disk out more back there here h heard s =
     let a : target.Stepped = answers t disk out in
     let b : target.Stepped = answers a.machine a.disk more in
@@ -92,24 +92,25 @@ talk_on most_out most P i t disk out more back there here h heard s =
         answered = subst (λ (r : target.Stepped). AreWritten most here r.answers) (sym e) (written_append most here a.answers b.answers heard.answered
             s.heard.answered);
       };
-      kept = subst (λ (r : target.Stepped). P i r.machine r.disk (back ++ r.answers) (after_all there more) (after_all here r.answers) h) (sym e)
-          (subst (λ (x : List Message). P i b.machine b.disk x (after_all there more) (after_all here (a.answers ++ b.answers)) h)
+      kept = subst (λ (r : target.Stepped). P (between i r.machine r.disk (back ++ r.answers)) (so_far (after_all there more) (after_all here r.answers) h))
+          (sym e)
+          (subst (λ (x : List Message). P (between i b.machine b.disk x) (so_far (after_all there more) (after_all here (a.answers ++ b.answers)) h))
           (append_assoc back a.answers b.answers)
-          (subst (λ (l : Logins). P i b.machine b.disk ((back ++ a.answers) ++ b.answers) (after_all there more) l h)
+          (subst (λ (l : Logins). P (between i b.machine b.disk ((back ++ a.answers) ++ b.answers)) (so_far (after_all there more) l h))
           (sym (after_all_append here a.answers b.answers)) s.kept));
     }
 
--- what holds where the target has received the first of them
-record HasHeard (most : ℕ) (P : Relation) (i : initiator.Machine) (r : target.Stepped) (out back : List Message) (there here : Logins) (h : History)
-    : Type 0 where
+-- what holds where the target has received the first of them, and answered so
+record HasHeard (most : ℕ) (P : Relation) (x : Exchange) (r : target.Stepped) (left : List Message) (s : SoFar) : Type 0 where
   rule : r.rule ≡ None
-  written : AreWritten most here r.answers
-  talks : Talks most P i r.machine r.disk out (back ++ r.answers) there (after_all here r.answers) h
+  written : AreWritten most s.here r.answers
+  talks : Talks most P (between x.initiator r.machine r.disk (x.answers ++ r.answers)) left (record s { here = after_all s.here r.answers })
 
 -- the target receives the first of them
 target_heard : (most : ℕ) (P : Relation) (i : initiator.Machine) (t : target.Machine) (disk : Disk) (new left back : List Message) (there here : Logins)
     (h : History)
-    → Talks most P i t disk (new ++ left) back there here h → HasHeard most P i (answers t disk new) left back there here h
+    → Talks most P (between i t disk back) (new ++ left) (so_far there here h)
+    → HasHeard most P (between i t disk back) (answers t disk new) left (so_far there here h)
 target_heard most P i t disk new left back there here h s =
     let a : target.Stepped = answers t disk new in
     let b : target.Stepped = answers a.machine a.disk left in
@@ -121,43 +122,44 @@ target_heard most P i t disk new left back there here h s =
       written = written.0;
       talks = record {
         heard = record { open_ = open_later t disk new left s.heard.open_; rule = rule.1; answered = written.1 };
-        kept = subst (λ (l : Logins). P i b.machine b.disk ((back ++ a.answers) ++ b.answers) there l h) (after_all_append here a.answers b.answers)
-            (subst (λ (x : List Message). P i b.machine b.disk x there (after_all here (a.answers ++ b.answers)) h)
+        kept = subst (λ (l : Logins). P (between i b.machine b.disk ((back ++ a.answers) ++ b.answers)) (so_far there l h))
+            (after_all_append here a.answers b.answers)
+            (subst (λ (x : List Message). P (between i b.machine b.disk x) (so_far there (after_all here (a.answers ++ b.answers)) h))
             (sym (append_assoc back a.answers b.answers))
-            (subst (λ (r : target.Stepped). P i r.machine r.disk (back ++ r.answers) there (after_all here r.answers) h) e s.kept));
+            (subst (λ (r : target.Stepped). P (between i r.machine r.disk (back ++ r.answers)) (so_far there (after_all here r.answers) h)) e s.kept));
       };
     }
 
 -- to an initiator whose session is over nothing comes
-none_comes : (most_out most : ℕ) (P : Relation) → IsKept most_out most P
+none_comes : (most_out most : ℕ) (P : Relation) → IsKept (limits most_out most) P
     → (i : initiator.Machine) (t : target.Machine) (disk : Disk) (back : List Message) (there here : Logins) (h : History)
-    → P i t disk back there here h → is_closed i ≡ true → back ≡ []
+    → P (between i t disk back) (so_far there here h) → is_closed i ≡ true → back ≡ []
 none_comes most_out most P k i t disk [] there here h p over = refl
 none_comes most_out most P k i t disk (m ∷ back) there here h p over = absurd (apart over (k.hears i t disk m back there here h p).live)
 
 -- nothing is on its way to an initiator whose session is over, nor will be
-pub over_none : (most_out most : ℕ) (P : Relation) → IsKept most_out most P
+pub over_none : (most_out most : ℕ) (P : Relation) → IsKept (limits most_out most) P
     → (i : initiator.Machine) (t : target.Machine) (disk : Disk) (out back : List Message) (there here : Logins) (h : History)
-    → Talks most P i t disk out back there here h → is_closed i ≡ true → back ≡ []
+    → Talks most P (between i t disk back) out (so_far there here h) → is_closed i ≡ true → back ≡ []
 over_none most_out most P k i t disk out back there here h s over =
     let a : target.Stepped = answers t disk out in
     (both_none back a.answers (none_comes most_out most P k i a.machine a.disk (back ++ a.answers) there (after_all here a.answers) h s.kept over)).0
 
--- what holds where the initiator has received some of them
-pub record HearsOn (most_out most : ℕ) (P : Relation) (r : initiator_steps.Stepped) (t : target.Machine) (disk : Disk) (out left : List Message)
-    (there here : Logins) (h : History) : Type 0 where
+-- what holds where the initiator has received some of them, and is there
+pub record HearsOn (most : Limits) (P : Relation) (x : Exchange) (r : initiator_steps.Stepped) (out : List Message) (s : SoFar) : Type 0 where
   pub fault : r.fault ≡ None
-  pub written : AreWritten most_out there r.output
-  pub talks : Talks most P r.machine t disk (out ++ r.output) left (after_all there r.output) here h
+  pub written : AreWritten most.out s.there r.output
+  pub talks : Talks most.back P (record x { initiator = r.machine }) (out ++ r.output) (record s { there = after_all s.there r.output })
 
 -- one message more in front, by whether it closes the session
-hears_if : (over : Bool) (most_out most : ℕ) (P : Relation) → IsKept most_out most P
+hears_if : (over : Bool) (most_out most : ℕ) (P : Relation) → IsKept (limits most_out most) P
     → (i : initiator.Machine) (t : target.Machine) (disk : Disk) (out : List Message) (m : Message) (new left : List Message) (there here : Logins)
     (h : History)
     → is_closed (step i m).machine ≡ over → (step i m).fault ≡ None → AreWritten most_out there (step i m).output
-    → Talks most P (step i m).machine t disk (out ++ (step i m).output) (new ++ left) (after_all there (step i m).output) here h
-    → HearsOn most_out most P (steps (step i m).machine new) t disk (out ++ (step i m).output) left (after_all there (step i m).output) here h
-    → HearsOn most_out most P (steps i (m ∷ new)) t disk out left there here h
+    → Talks most P (between (step i m).machine t disk (new ++ left)) (out ++ (step i m).output) (so_far (after_all there (step i m).output) here h)
+    → HearsOn (limits most_out most) P (between (step i m).machine t disk left) (steps (step i m).machine new) (out ++ (step i m).output)
+    (so_far (after_all there (step i m).output) here h)
+    → HearsOn (limits most_out most) P (between i t disk left) (steps i (m ∷ new)) out (so_far there here h)
 unfolding steps
 hears_if true most_out most P k i t disk out m new left there here h is fault written one r =
     let none : new ++ left ≡ [] = over_none most_out most P k (step i m).machine t disk (out ++ (step i m).output) (new ++ left)
@@ -165,7 +167,8 @@ hears_if true most_out most P k i t disk out m new left there here h is fault wr
     rw is (record {
       fault = fault;
       written = written;
-      talks = subst (λ (x : List Message). Talks most P (step i m).machine t disk (out ++ (step i m).output) x (after_all there (step i m).output) here h)
+      talks = subst (λ (x : List Message). Talks most P (between (step i m).machine t disk x) (out ++ (step i m).output)
+          (so_far (after_all there (step i m).output) here h))
           (none ∙ sym (both_none new left none).1) one;
     })
 hears_if false most_out most P k i t disk out m new left there here h is fault written one r =
@@ -174,23 +177,31 @@ hears_if false most_out most P k i t disk out m new left there here h is fault w
     rw is (record {
       fault = r.fault;
       written = written_append most_out there first s.output written r.written;
-      talks = subst (λ (x : List Message). Talks most P s.machine t disk x left (after_all there (first ++ s.output)) here h) (append_assoc out first s.output)
-          (subst (λ (l : Logins). Talks most P s.machine t disk ((out ++ first) ++ s.output) left l here h) (sym (after_all_append there first s.output))
+      talks = subst (λ (x : List Message). Talks most P (between s.machine t disk left) x (so_far (after_all there (first ++ s.output)) here h))
+          (append_assoc out first s.output)
+          (subst (λ (l : Logins). Talks most P (between s.machine t disk left) ((out ++ first) ++ s.output) (so_far l here h))
+          (sym (after_all_append there first s.output))
           r.talks);
     })
 
 -- the initiator receives the first of them
-pub initiator_heard : (most_out most : ℕ) (P : Relation) → IsKept most_out most P
+pub initiator_heard : (most_out most : ℕ) (P : Relation) → IsKept (limits most_out most) P
     → (i : initiator.Machine) (t : target.Machine) (disk : Disk) (out new left : List Message) (there here : Logins) (h : History)
-    → Talks most P i t disk out (new ++ left) there here h → HearsOn most_out most P (steps i new) t disk out left there here h
+    → Talks most P (between i t disk (new ++ left)) out (so_far there here h)
+    → HearsOn (limits most_out most) P (between i t disk left) (steps i new) out (so_far there here h)
 unfolding steps
 initiator_heard most_out most P k i t disk out [] left there here h s =
-    record { fault = refl; written = tt; talks = subst (λ (x : List Message). Talks most P i t disk x left there here h) (sym (append-nil out)) s }
+    record {
+      fault = refl;
+      written = tt;
+      talks = subst (λ (x : List Message). Talks most P (between i t disk left) x (so_far there here h))
+          (sym (append-nil out)) s;
+    }
 initiator_heard most_out most P k i t disk out (m ∷ new) left there here h s =
     let a : target.Stepped = answers t disk out in
-    let g : Goes most_out most P i a.machine a.disk m ((new ++ left) ++ a.answers) there (after_all here a.answers) h =
+    let g : Goes (limits most_out most) P (between i a.machine a.disk ((new ++ left) ++ a.answers)) m (so_far there (after_all here a.answers) h) =
     k.hears i a.machine a.disk m ((new ++ left) ++ a.answers) there (after_all here a.answers) h s.kept in
-    let one : Talks most P (step i m).machine t disk (out ++ (step i m).output) (new ++ left) (after_all there (step i m).output) here h =
+    let one : Talks most P (between (step i m).machine t disk (new ++ left)) (out ++ (step i m).output) (so_far (after_all there (step i m).output) here h) =
     talk_on most_out most P (step i m).machine t disk out (step i m).output (new ++ left) there here h s.heard g.sends in
     hears_if (is_closed (step i m).machine) most_out most P k i t disk out m new left there here h refl g.fault g.sends.written one
     (initiator_heard most_out most P k (step i m).machine t disk (out ++ (step i m).output) new left (after_all there (step i m).output) here h one)
@@ -215,16 +226,16 @@ pub record Stands (c : Opening) (P : Relation) (h : History) (w : World) : Type 
   pub to_target : Way (target_machine.is_closed session) (target_session.limit c.target) w.target.framing w.to_target out there
   pub to_initiator : Way (is_closed w.initiator.machine) (calls.limit c.initiator) w.initiator.framing w.to_initiator back here
   pub heard : HearsWell (calls.limit c.initiator) session disk here out
-  pub kept : P w.initiator.machine (answers session disk out).machine (answers session disk out).disk (back ++ (answers session disk out).answers) there
-      (after_all here (answers session disk out).answers) h
+  pub kept : P (between w.initiator.machine (answers session disk out).machine (answers session disk out).disk (back ++ (answers session disk out).answers))
+      (so_far there (after_all here (answers session disk out).answers) h)
 
 -- the relation is kept between such ends
 abbrev pub Keeps : Opening → Relation → Type 1
-Keeps c P = IsKept (target_session.limit c.target) (calls.limit c.initiator) P
+Keeps c P = IsKept (limits_of c) P
 
 -- what both ends keep in such a world
 pub talks_of : (c : Opening) (P : Relation) (h : History) (w : World) → (s : Stands c P h w)
-    → Talks (calls.limit c.initiator) P w.initiator.machine s.session s.disk s.out s.back s.there s.here h
+    → Talks (calls.limit c.initiator) P (between w.initiator.machine s.session s.disk s.back) s.out (so_far s.there s.here h)
 talks_of c P h w s = record { heard = s.heard; kept = s.kept }
 
 -- all bytes that moved were read
@@ -246,7 +257,8 @@ some_moves k queue moved e none = nil_from_length moved (let n = ap length e in 
 -- ---- bytes reach the target
 
 -- what a call of the target read, and how the rest stands
-record TargetTurn (c : Opening) (P : Relation) (h : History) (old : World) (v : Framing) (unheard more : List ℕ) (r : target.Stepped) : Type 0 where
+record TargetTurn {c : Opening} {P : Relation} {h : History} {old : World} (s : Stands c P h old) (v : Framing) (unheard more : List ℕ) (r : target.Stepped)
+    : Type 0 where
   now : target.Stepped
   same : joined_stepped r ≡ joined_stepped now
   rule : now.rule ≡ None
@@ -254,7 +266,7 @@ record TargetTurn (c : Opening) (P : Relation) (h : History) (old : World) (v : 
   back : List Message
   there : Logins
   here : Logins
-  talks : Talks (calls.limit c.initiator) P old.initiator.machine now.machine now.disk left back there here h
+  talks : Talks (calls.limit c.initiator) P (between old.initiator.machine now.machine now.disk back) left (so_far there here h)
   unread : Unread (target_session.limit c.target) v (unheard ++ more) left there
   none : left ≡ [] → unheard ++ more ≡ []
   refuses : (fault : StreamFault) → fault ≢ stream.NoMemory → FeedFails v unheard fault → ⊥
@@ -265,7 +277,7 @@ target_turn : (c : Opening) (P : Relation) (h : History) (old new : World) (k : 
     → (s : Stands c P h old)
     → Unread (target_session.limit c.target) old.target.framing old.to_target s.out s.there → moved ≡ take k old.to_target
     → (f : target_calls.Feeds old.target (store_of old.blocks) old.to_initiator moved result new.target (store_of new.blocks) new.to_initiator)
-    → TargetTurn c P h old f.framing (drop f.count moved) (drop (length moved) old.to_target) f.stepped
+    → TargetTurn s f.framing (drop f.count moved) (drop (length moved) old.to_target) f.stepped
 target_turn c P h old new k moved result kept s u m f =
     let a : target.Stepped = answers s.session s.disk f.messages in
     let piece : List ℕ = take f.count moved in
@@ -275,10 +287,10 @@ target_turn c P h old new k moved result kept s u m f =
     let bound : f.framing.limit ≡ target_session.limit c.target = f.answered.limit ∙ u.limit_is in
     let on : MovesOn (target_session.limit c.target) u.heard s.out f.messages t.rest more =
     moves_on (target_session.limit c.target) old.target.framing old.to_target s.out s.there piece more f.messages f.framing u q t bound in
-    let talks : Talks (calls.limit c.initiator) P old.initiator.machine s.session s.disk (f.messages ++ on.left) s.back s.there s.here h =
-    subst (λ (x : List Message). Talks (calls.limit c.initiator) P old.initiator.machine s.session s.disk x s.back s.there s.here h) on.whole
+    let talks : Talks (calls.limit c.initiator) P (between old.initiator.machine s.session s.disk s.back) (f.messages ++ on.left) (so_far s.there s.here h) =
+    subst (λ (x : List Message). Talks (calls.limit c.initiator) P (between old.initiator.machine s.session s.disk s.back) x (so_far s.there s.here h)) on.whole
     (talks_of c P h old s) in
-    let has : HasHeard (calls.limit c.initiator) P old.initiator.machine a on.left s.back s.there s.here h =
+    let has : HasHeard (calls.limit c.initiator) P (between old.initiator.machine s.session s.disk s.back) a on.left (so_far s.there s.here h) =
     target_heard (calls.limit c.initiator) P old.initiator.machine s.session s.disk f.messages on.left s.back s.there s.here h talks in
     record {
       now = a;
@@ -305,12 +317,12 @@ target_turn c P h old new k moved result kept s u m f =
     }
 
 -- the target's session is where its turn has led
-target_stands : (c : Opening) (P : Relation) (h : History) (old new : World) (v : Framing) (unheard more : List ℕ) (r : target.Stepped)
-    → (t : TargetTurn c P h old v unheard more r)
+target_stands : (c : Opening) (P : Relation) (h : History) (old new : World) (s : Stands c P h old) (v : Framing) (unheard more : List ℕ) (r : target.Stepped)
+    → (t : TargetTurn s v unheard more r)
     → new.target_fault ≡ None → new.initiator_fault ≡ None → new.target.machine ≡ joined r.machine → disk_of new.blocks ≡ r.disk → new.initiator ≡ old.initiator
     → new.to_initiator ≡ old.to_initiator ++ canon r.answers
     → Way (target_machine.is_closed t.now.machine) (target_session.limit c.target) new.target.framing new.to_target t.left t.there → Stands c P h new
-target_stands c P h old new v unheard more r t well other machine disk initiator_ output way = record {
+target_stands c P h old new s v unheard more r t well other machine disk initiator_ output way = record {
   target_well = well;
   initiator_well = other;
   session = t.now.machine;
@@ -326,20 +338,21 @@ target_stands c P h old new v unheard more r t well other machine disk initiator
       (subst (λ (x : List ℕ). Way (is_closed old.initiator.machine) (calls.limit c.initiator) old.initiator.framing x t.back t.here)
       (ap (λ (x : target.Stepped). old.to_initiator ++ canon x.answers) (sym t.same) ∙ sym output) t.to_initiator);
   heard = t.talks.heard;
-  kept = subst (λ (i : calls.Connection). P i.machine (answers t.now.machine t.now.disk t.left).machine (answers t.now.machine t.now.disk t.left).disk
-      (t.back ++ (answers t.now.machine t.now.disk t.left).answers) t.there (after_all t.here (answers t.now.machine t.now.disk t.left).answers) h)
+  kept = subst (λ (i : calls.Connection). P (between i.machine (answers t.now.machine t.now.disk t.left).machine (answers t.now.machine t.now.disk t.left).disk
+      (t.back ++ (answers t.now.machine t.now.disk t.left).answers)) (so_far t.there (after_all t.here (answers t.now.machine t.now.disk t.left).answers) h))
       (sym initiator_) t.talks.kept;
 }
 
 -- however the call ends
-target_ends : (result : Result Phase TargetFault) (c : Opening) (P : Relation) (h : History) (old new : World) (v : Framing) (n : ℕ) (moved more : List ℕ)
+target_ends : (result : Result Phase TargetFault) (c : Opening) (P : Relation) (h : History) (old new : World) (s : Stands c P h old) (v : Framing) (n : ℕ)
+    (moved more : List ℕ)
     (r : target.Stepped)
-    → TargetTurn c P h old v (drop n moved) more r → target_calls.Ends moved result v n r new.target
+    → TargetTurn s v (drop n moved) more r → target_calls.Ends moved result v n r new.target
     → new.target_fault ≡ result_err result → target_ran_out new.target_fault ≡ false → new.initiator_fault ≡ None → disk_of new.blocks ≡ r.disk
     → new.initiator ≡ old.initiator
     → new.to_initiator ≡ old.to_initiator ++ canon r.answers → new.to_target ≡ more → Stands c P h new
-target_ends (Ok phase) c P h old new v n moved more r t e fault memory other disk initiator_ output dropped =
-    target_stands c P h old new v (drop n moved) more r t fault other e.1 disk initiator_ output
+target_ends (Ok phase) c P h old new s v n moved more r t e fault memory other disk initiator_ output dropped =
+    target_stands c P h old new s v (drop n moved) more r t fault other e.1 disk initiator_ output
     (elim e.3 [
       | inl closes ↦
           (let over : target_machine.is_closed t.now.machine ≡ true = sym (ap (λ (x : target.Stepped). target_machine.is_closed x.machine) t.same) ∙ closes in
@@ -352,12 +365,12 @@ target_ends (Ok phase) c P h old new v n moved more r t e fault memory other dis
                 (subst (λ (x : List ℕ). Unread (target_session.limit c.target) v x t.left t.there) (no_bytes n moved more on.all ∙ sym dropped) t.unread),
           )
     ])
-target_ends (Err target_faults.NoMemory) c P h old new v n moved more r t e fault memory other disk initiator_ output dropped =
+target_ends (Err target_faults.NoMemory) c P h old new s v n moved more r t e fault memory other disk initiator_ output dropped =
     absurd (apart (ap target_ran_out fault) memory)
-target_ends (Err (target_faults.Stream f)) c P h old new v n moved more r t e fault memory other disk initiator_ output dropped = absurd (t.refuses f e.1 e.2)
-target_ends (Err (target_faults.Protocol rule)) c P h old new v n moved more r t e fault memory other disk initiator_ output dropped =
+target_ends (Err (target_faults.Stream f)) c P h old new s v n moved more r t e fault memory other disk initiator_ output dropped = absurd (t.refuses f e.1 e.2)
+target_ends (Err (target_faults.Protocol rule)) c P h old new s v n moved more r t e fault memory other disk initiator_ output dropped =
     absurd (let bad : None ≡ Some rule = sym t.rule ∙ sym (ap (λ (x : target.Stepped). x.rule) t.same) ∙ e.0 in cc)
-target_ends (Err target_faults.Closed) c P h old new v n moved more r t e fault memory other disk initiator_ output dropped = absurd e
+target_ends (Err target_faults.Closed) c P h old new s v n moved more r t e fault memory other disk initiator_ output dropped = absurd e
 
 -- bytes reached the target
 target_hears : (c : Opening) (P : Relation) (h : History) (old new : World) (k : ℕ) (byte : ℕ) (bytes : List ℕ) → Keeps c P → Stands c P h old
@@ -375,7 +388,7 @@ target_hears c P h old new k byte bytes kept s m e memory =
           stands old.to_initiator f.framing (drop f.count (byte ∷ bytes)) f.stepped f.answered.failures e.result new.target.machine (store_of new.blocks)
           new.to_initiator
           (λ short. apart (ap target_ran_out (e.fault ∙ ap result_err short)) memory) f.leaves in
-          target_ends e.result c P h old new f.framing f.count (byte ∷ bytes) (drop (length (byte ∷ bytes)) old.to_target) f.stepped
+          target_ends e.result c P h old new s f.framing f.count (byte ∷ bytes) (drop (length (byte ∷ bytes)) old.to_target) f.stepped
           (target_turn c P h old new k (byte ∷ bytes) e.result kept s on.1 m f) f.ends e.fault memory (e.other_fault ∙ s.initiator_well) stood.disk e.initiator
           stood.output_is e.dropped)
       | inr over ↦ absurd (let none : byte ∷ bytes ≡ [] = some_moves k old.to_target (byte ∷ bytes) m over.1 in cc)

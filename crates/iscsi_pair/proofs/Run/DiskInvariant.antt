@@ -20,7 +20,6 @@ use Rattle.iscsi_initiator.specs.declared.request.Done.TheVariants as done
 use Rattle.iscsi_initiator.specs.declared.request.Request.{Request}
 use Rattle.iscsi_initiator.specs.declared.request.Request.TheVariants as requests
 use Rattle.iscsi_initiator.specs.State as initiator
-use Rattle.iscsi_initiator.specs.State.{is_closed}
 use Rattle.iscsi_login.specs.Stage.{is_closed_phase}
 use Rattle.iscsi_initiator.specs.Steps.{Stepped}
 use Rattle.iscsi_initiator.specs.Calls as initiator_calls
@@ -35,7 +34,7 @@ use Rattle.iscsi_pair.proofs.Login.RoundAgrees.{Asking, Asks_on, Round, asking_r
 use Rattle.iscsi_pair.proofs.Login.RoundProgress.{Suited, Well, first_suited, goes_well}
 use Rattle.iscsi_pair.proofs.Login.LoginEndsInStep.{HasMet, Meets, Numbered, first_numbered, meets}
 use Rattle.iscsi_pair.proofs.Ends.InitiatorRun.{begun}
-use Rattle.iscsi_pair.proofs.Request.Invariant.{AreWritten, Goes, HearsWell, History, IsKept, Sends}
+use Rattle.iscsi_pair.proofs.Request.Invariant.{AreWritten, Goes, HearsWell, History, IsKept, Sends, between, so_far, SoFar, limits_of}
 use Rattle.iscsi_pair.proofs.Request.AnswersInOrder.{AreHeard, Begins, Leads, LeadsTo}
 use Rattle.iscsi_pair.proofs.Request.OneRequestLaw.{begins, disk_more, is_free, outcomes_more}
 
@@ -57,20 +56,19 @@ none_asked = record { requests = []; outcomes = [] }
 -- ---- the relation
 
 -- the answer to a login request is on its way
-pub record LogsOn (c : Opening) (i : initiator.Machine) (t : target.Machine) (disk : Disk) (back : List Message) (there here : Logins) (h : History)
-    : Type 0 where
+pub record LogsOn (c : Opening) (x : Exchange) (s : SoFar) : Type 0 where
   pub before : target.Machine
   pub said : Logins
   pub request : Message
-  pub asking : Asking c i before said request
-  pub suited : Suited c i before
-  pub numbered : Numbered c i before
-  pub turn : Round c i (target_machine.step before (disk_of c.blocks) request) there
-  pub machine : t ≡ (target_machine.step before (disk_of c.blocks) request).machine
-  pub disk_is : disk ≡ disk_of c.blocks
-  pub back_is : back ≡ turn.answer ∷ []
-  pub whole : here.response ≡ false
-  pub none : h ≡ none_asked
+  pub asking : Asking c x.initiator before said request
+  pub suited : Suited c x.initiator before
+  pub numbered : Numbered c x.initiator before
+  pub turn : Round c x.initiator (target_machine.step before (disk_of c.blocks) request) s.there
+  pub machine : x.target ≡ (target_machine.step before (disk_of c.blocks) request).machine
+  pub disk_is : x.disk ≡ disk_of c.blocks
+  pub back_is : x.answers ≡ turn.answer ∷ []
+  pub whole : s.here.response ≡ false
+  pub none : s.history ≡ none_asked
 
 -- both ends hold this
 pub record HaveAgreed (c : Opening) (held : Held) : Type 0 where
@@ -83,17 +81,17 @@ abbrev pub AreSettled : Held → History → initiator.Machine → target.Machin
 AreSettled held h i t = (AreInStep i t × (i.held ≡ held)) ⊎ (HaveParted i t × EndsInLogout h.requests)
 
 -- nothing is open, and each request has had its outcome
-pub record Rests (c : Opening) (i : initiator.Machine) (t : target.Machine) (disk : Disk) (back : List Message) (h : History) : Type 0 where
+pub record Rests (c : Opening) (x : Exchange) (h : History) : Type 0 where
   pub held : Held
   pub agreed : HaveAgreed c held
-  pub at_rest : AreSettled held h i t
-  pub none_back : back ≡ []
-  pub none_done : i.done ≡ None
-  pub disk_is : disk ≡ disk_after c h.requests
+  pub at_rest : AreSettled held h x.initiator x.target
+  pub none_back : x.answers ≡ []
+  pub none_done : x.initiator.done ≡ None
+  pub disk_is : x.disk ≡ disk_after c h.requests
   pub outcomes_are : h.outcomes ≡ disk_outcomes c h.requests
 
 -- the last request is on its way to its outcome on the disk that those before it left, or has it
-pub record IsServing (c : Opening) (i : initiator.Machine) (t : target.Machine) (disk : Disk) (back : List Message) (h : History) : Type 0 where
+pub record IsServing (c : Opening) (x : Exchange) (h : History) : Type 0 where
   pub held : Held
   pub agreed : HaveAgreed c held
   pub past : List Request
@@ -101,15 +99,14 @@ pub record IsServing (c : Opening) (i : initiator.Machine) (t : target.Machine) 
   pub requests_are : h.requests ≡ past ++ request ∷ []
   pub outcomes_are : h.outcomes ≡ disk_outcomes c past
   pub last : Exchange
-  pub leads : LeadsTo held i t disk back last
+  pub leads : LeadsTo held x last
   pub ended : (let here = local (pinged c) (disk_after c past) request in HasEnded held here.outcome here.disk last)
 
 -- what both ends keep
-pub data Serves (c : Opening) (i : initiator.Machine) (t : target.Machine) (disk : Disk) (back : List Message) (there here : Logins) (h : History)
-    : Type 0 where
-  Logs : LogsOn c i t disk back there here h → Serves c i t disk back there here h
-  Rest : Rests c i t disk back h → Serves c i t disk back there here h
-  Serve : IsServing c i t disk back h → Serves c i t disk back there here h
+pub data Serves (c : Opening) (x : Exchange) (s : SoFar) : Type 0 where
+  Logs : LogsOn c x s → Serves c x s
+  Rest : Rests c x s.history → Serves c x s
+  Serve : IsServing c x s.history → Serves c x s
 
 -- ---- what is sent
 
@@ -139,7 +136,7 @@ same_more a b x y e = cc e
 -- a login request goes out
 pub login_sends : (c : Opening) (i : initiator.Machine) (out : List Message) (t : target.Machine) (there here : Logins) (r : Message) → IsNormal c
     → out ≡ r ∷ [] → Asking c i t there r → Suited c i t → Numbered c i t
-    → here.response ≡ false → Sends (most_out c) (most_back c) (Serves c) i out t (disk_of c.blocks) [] there here none_asked
+    → here.response ≡ false → Sends (limits_of c) (Serves c) (between i t (disk_of c.blocks) []) out (so_far there here none_asked)
 unfolding answers
 login_sends c i out t there here r o is a s n whole =
     let disk : Disk = disk_of c.blocks in
@@ -150,7 +147,7 @@ login_sends c i out t there here r o is a s n whole =
     meets c i t there (after there r.head) r disk o.opening o.suits o.session a s n turn in
     let all : answers t disk (r ∷ []) ≡ target_machine.step t disk r = then_nothing (target_machine.step t disk r) in
     let said : (answers t disk (r ∷ [])).answers ≡ turn.answer ∷ [] = ap (λ (x : target.Stepped). x.answers) all ∙ turn.is in
-    subst (λ (ms : List Message). Sends (most_out c) (most_back c) (Serves c) i ms t disk [] there here none_asked) (sym is) (record {
+    subst (λ (ms : List Message). Sends (limits_of c) (Serves c) (between i t disk []) ms (so_far there here none_asked)) (sym is) (record {
       written = (
         record { readable = asking_readable c i t there r o.opening a; short = (let short = asking_short c i t there r a in omega (arith, short)) },
         tt,
@@ -184,8 +181,8 @@ login_sends c i out t there here r o is a s n whole =
     })
 
 -- the first one
-pub first_sends : (c : Opening) → IsNormal c → Sends (most_out c) (most_back c) (Serves c) (begun c) (start_step (initiator.opening c.initiator)).output
-    (target.opening c.target c.first_stat_sn) (disk_of c.blocks) [] no_login no_login none_asked
+pub first_sends : (c : Opening) → IsNormal c → Sends (limits_of c) (Serves c) (between (begun c) (target.opening c.target c.first_stat_sn) (disk_of c.blocks)
+    []) (start_step (initiator.opening c.initiator)).output (so_far no_login no_login none_asked)
 first_sends c o =
     let a : Asks_on c (start_step (initiator.opening c.initiator)) (target.opening c.target c.first_stat_sn) no_login = first_asks c o.opening in
     login_sends c (begun c) (start_step (initiator.opening c.initiator)).output (target.opening c.target c.first_stat_sn) no_login no_login a.request o a.is
@@ -193,10 +190,10 @@ first_sends c o =
 
 -- the login is completed
 full_sends : (c : Opening) (i : initiator.Machine) (out : List Message) (t : target.Machine) (there here : Logins) → IsNormal c → out ≡ [] → HasMet c i t
-    → Sends (most_out c) (most_back c) (Serves c) i out t (disk_of c.blocks) [] there here none_asked
+    → Sends (limits_of c) (Serves c) (between i t (disk_of c.blocks) []) out (so_far there here none_asked)
 unfolding answers local_disk local_outcomes
 full_sends c i out t there here o is met =
-    subst (λ (ms : List Message). Sends (most_out c) (most_back c) (Serves c) i ms t (disk_of c.blocks) [] there here none_asked) (sym is) (record {
+    subst (λ (ms : List Message). Sends (limits_of c) (Serves c) (between i t (disk_of c.blocks) []) ms (so_far there here none_asked)) (sym is) (record {
       written = tt;
       heard = record { open_ = tt; rule = refl; answered = tt };
       kept = Rest (record {
@@ -216,15 +213,15 @@ full_sends c i out t there here o is met =
 
 -- the answer to a login request comes
 login_goes : (c : Opening) (i : initiator.Machine) (t : target.Machine) (disk : Disk) (m : Message) (back : List Message) (there here : Logins) (h : History)
-    → IsNormal c → LogsOn c i t disk (m ∷ back) there here h
-    → Goes (most_out c) (most_back c) (Serves c) i t disk m back there here h
+    → IsNormal c → LogsOn c (between i t disk (m ∷ back)) (so_far there here h)
+    → Goes (limits_of c) (Serves c) (between i t disk back) m (so_far there here h)
 login_goes c i t disk m back there here h o l =
     let d : Disk = disk_of c.blocks in
     let now : target.Stepped = target_machine.step l.before d l.request in
     let s : Stepped = step i l.turn.answer in
     let w : Well c i now s there = goes_well c i l.before l.said there l.request d o.opening o.suits l.asking l.suited l.turn in
     let meet : Meets c i now s d there = meets c i l.before l.said there l.request d o.opening o.suits o.session l.asking l.suited l.numbered l.turn in
-    let goes : Goes (most_out c) (most_back c) (Serves c) i now.machine d l.turn.answer [] there here none_asked = record {
+    let goes : Goes (limits_of c) (Serves c) (between i now.machine d []) l.turn.answer (so_far there here none_asked) = record {
       live = ap is_closed_phase l.asking.phase;
       fault = w.fault;
       sends = elim w.on [
@@ -232,20 +229,20 @@ login_goes c i t disk m back there here h o l =
         | inr next ↦ login_sends c s.machine s.output now.machine there here next.0.request o next.0.is next.0.asking next.1 (meet.goes_on next.0) l.whole
       ];
     } in
-    subst (λ (x : target.Machine). Goes (most_out c) (most_back c) (Serves c) i x disk m back there here h) (sym l.machine)
-    (subst (λ (x : Disk). Goes (most_out c) (most_back c) (Serves c) i now.machine x m back there here h) (sym l.disk_is)
-    (subst (λ (x : Message). Goes (most_out c) (most_back c) (Serves c) i now.machine d x back there here h)
+    subst (λ (x : target.Machine). Goes (limits_of c) (Serves c) (between i x disk back) m (so_far there here h)) (sym l.machine)
+    (subst (λ (x : Disk). Goes (limits_of c) (Serves c) (between i now.machine x back) m (so_far there here h)) (sym l.disk_is)
+    (subst (λ (x : Message). Goes (limits_of c) (Serves c) (between i now.machine d back) x (so_far there here h))
     (sym (same_first m l.turn.answer back [] l.back_is))
-    (subst (λ (x : List Message). Goes (most_out c) (most_back c) (Serves c) i now.machine d l.turn.answer x there here h)
+    (subst (λ (x : List Message). Goes (limits_of c) (Serves c) (between i now.machine d x) l.turn.answer (so_far there here h))
     (sym (same_more m l.turn.answer back [] l.back_is))
-    (subst (λ (x : History). Goes (most_out c) (most_back c) (Serves c) i now.machine d l.turn.answer [] there here x) (sym l.none) goes))))
+    (subst (λ (x : History). Goes (limits_of c) (Serves c) (between i now.machine d []) l.turn.answer (so_far there here x)) (sym l.none) goes))))
 
 -- ---- requests
 
 -- an answer comes while a request is served
 serving_goes : (n : ℕ) (c : Opening) (i : initiator.Machine) (t : target.Machine) (disk : Disk) (m : Message) (back : List Message) (there here : Logins)
-    (h : History) (v : IsServing c i t disk (m ∷ back) h) → Leads v.held n i t disk (m ∷ back) v.last
-    → Goes (most_out c) (most_back c) (Serves c) i t disk m back there here h
+    (h : History) (v : IsServing c (between i t disk (m ∷ back)) h) → Leads v.held n (between i t disk (m ∷ back)) v.last
+    → Goes (limits_of c) (Serves c) (between i t disk back) m (so_far there here h)
 serving_goes zero c i t disk m back there here h v l = absurd (let bad : m ∷ back ≡ [] = ap (λ (x : Exchange). x.answers) l ∙ v.ended.silent in cc)
 serving_goes (suc n) c i t disk m back there here h v l =
     let s : Stepped = step i m in
@@ -273,13 +270,13 @@ serving_goes (suc n) c i t disk m back there here h v l =
 rest_sends : (c : Opening) (i : initiator.Machine) (t : target.Machine) (disk : Disk) (there here : Logins) (h : History) (request : Request) (held : Held)
     → HaveAgreed c held → AreInStep i t → i.held ≡ held
     → disk ≡ disk_after c h.requests → h.outcomes ≡ disk_outcomes c h.requests → IsServed request → (submitted i request).refusal ≡ None
-    → Sends (most_out c) (most_back c) (Serves c) (submitted i request).machine (submitted i request).output t disk [] there here
-    (record h { requests = h.requests ++ request ∷ [] })
+    → Sends (limits_of c) (Serves c) (between (submitted i request).machine t disk []) (submitted i request).output
+    (so_far there here (record h { requests = h.requests ++ request ∷ [] }))
 rest_sends c i t disk there here h request held agreed a same disk_is outcomes_are served e =
     let most : i.held.initiator_max_recv ≡ pinged c = ap (λ (x : Held). x.initiator_max_recv) same ∙ agreed.most in
     let now : HaveAgreed c i.held = subst (HaveAgreed c) (sym same) agreed in
-    let b : Begins i.held i t disk request (local (pinged c) disk request).outcome (local (pinged c) disk request).disk =
-    subst (λ (n : ℕ). Begins i.held i t disk request (local n disk request).outcome (local n disk request).disk) most (begins i t disk request served a e) in
+    let b : Begins i.held i t disk request (local (pinged c) disk request) =
+    subst (λ (n : ℕ). Begins i.held i t disk request (local n disk request)) most (begins i t disk request served a e) in
     record {
       written = written_within i.held.target_max_recv (most_out c) there (submitted i request).output now.out (b.heard.written there);
       heard = hears_well c i.held t disk here (submitted i request).output now b.heard;
@@ -302,7 +299,7 @@ parted_accepts i request shut e = (let bad : phases.Closed ≡ phases.Full = sym
 
 -- where a request is served no other is accepted
 serving_accepts : (n : ℕ) (c : Opening) (i : initiator.Machine) (t : target.Machine) (disk : Disk) (back : List Message) (h : History) (request : Request)
-    (v : IsServing c i t disk back h) → Leads v.held n i t disk back v.last → (submitted i request).refusal ≡ None → ⊥
+    (v : IsServing c (between i t disk back) h) → Leads v.held n (between i t disk back) v.last → (submitted i request).refusal ≡ None → ⊥
 serving_accepts zero c i t disk back h request v l e =
     (let bad : true ≡ false = ap (λ (o : Option Done). is_some o) (sym v.ended.done_is) ∙ ap (λ (x : Exchange). is_some x.initiator.done) (sym l)
     ∙ (is_free i request e).none_done in cc)
@@ -329,16 +326,15 @@ settles c held h past request i t all rest =
     ]
 
 -- the outcome that is there is the last request's, and no answer is on its way
-record IsDone (c : Opening) (held : Held) (i : initiator.Machine) (t : target.Machine) (disk : Disk) (back : List Message) (h : History) (d : Done)
-    : Type 0 where
-  silent : back ≡ []
-  settled : AreSettled held h (taken i) t
-  disk_is : disk ≡ disk_after c h.requests
+record IsDone (c : Opening) (held : Held) (x : Exchange) (h : History) (d : Done) : Type 0 where
+  silent : x.answers ≡ []
+  settled : AreSettled held h (taken x.initiator) x.target
+  disk_is : x.disk ≡ disk_after c h.requests
   outcomes_are : h.outcomes ++ d ∷ [] ≡ disk_outcomes c h.requests
 
 serving_done : (n : ℕ) (c : Opening) (i : initiator.Machine) (t : target.Machine) (disk : Disk) (back : List Message) (h : History) (d : Done)
-    (v : IsServing c i t disk back h) → Leads v.held n i t disk back v.last → i.done ≡ Some d
-    → IsDone c v.held i t disk back h d
+    (v : IsServing c (between i t disk back) h) → Leads v.held n (between i t disk back) v.last → i.done ≡ Some d
+    → IsDone c v.held (between i t disk back) h d
 serving_done zero c i t disk back h d v l is =
     let here : Local = local (pinged c) (disk_after c v.past) v.request in
     let one : here.outcome ≡ d = (let e : Some here.outcome ≡ Some d = sym v.ended.done_is ∙ ap (λ (x : Exchange). x.initiator.done) (sym l) ∙ is in cc) in
@@ -357,21 +353,21 @@ serving_done (suc n) c i t disk (m ∷ back) h d v l is = absurd (let bad : None
 -- ---- the relation is kept
 
 serves_hears : (c : Opening) (i : initiator.Machine) (t : target.Machine) (disk : Disk) (m : Message) (back : List Message) (there here : Logins) (h : History)
-    → IsNormal c → Serves c i t disk (m ∷ back) there here h
-    → Goes (most_out c) (most_back c) (Serves c) i t disk m back there here h
+    → IsNormal c → Serves c (between i t disk (m ∷ back)) (so_far there here h)
+    → Goes (limits_of c) (Serves c) (between i t disk back) m (so_far there here h)
 serves_hears c i t disk m back there here h o (Logs l) = login_goes c i t disk m back there here h o l
 serves_hears c i t disk m back there here h o (Rest r) = absurd (let bad : m ∷ back ≡ [] = r.none_back in cc)
 serves_hears c i t disk m back there here h o (Serve v) = serving_goes v.leads.0 c i t disk m back there here h v v.leads.1
 
 serves_asks : (c : Opening) (i : initiator.Machine) (t : target.Machine) (disk : Disk) (back : List Message) (there here : Logins) (h : History)
-    (request : Request) → Serves c i t disk back there here h → IsServed request → (submitted i request).refusal ≡ None
-    → Sends (most_out c) (most_back c) (Serves c) (submitted i request).machine (submitted i request).output t disk back there here
-    (record h { requests = h.requests ++ request ∷ [] })
+    (request : Request) → Serves c (between i t disk back) (so_far there here h) → IsServed request → (submitted i request).refusal ≡ None
+    → Sends (limits_of c) (Serves c) (between (submitted i request).machine t disk back) (submitted i request).output
+    (so_far there here (record h { requests = h.requests ++ request ∷ [] }))
 serves_asks c i t disk back there here h request (Logs l) served e =
     absurd (let bad : phases.Login ≡ phases.Full = sym l.asking.phase ∙ (is_free i request e).full in cc)
 serves_asks c i t disk back there here h request (Rest r) served e =
-    subst (λ (x : List Message). Sends (most_out c) (most_back c) (Serves c) (submitted i request).machine (submitted i request).output t disk x there here
-    (record h { requests = h.requests ++ request ∷ [] })) (sym r.none_back)
+    subst (λ (x : List Message). Sends (limits_of c) (Serves c) (between (submitted i request).machine t disk x) (submitted i request).output
+    (so_far there here (record h { requests = h.requests ++ request ∷ [] }))) (sym r.none_back)
     (elim r.at_rest [
       | inl on_ ↦ rest_sends c i t disk there here h request r.held r.agreed on_.0 on_.1 r.disk_is r.outcomes_are served e
       | inr over ↦ absurd (parted_accepts i request over.0.initiator_phase e)
@@ -379,12 +375,12 @@ serves_asks c i t disk back there here h request (Rest r) served e =
 serves_asks c i t disk back there here h request (Serve v) served e = absurd (serving_accepts v.leads.0 c i t disk back h request v v.leads.1 e)
 
 serves_takes : (c : Opening) (i : initiator.Machine) (t : target.Machine) (disk : Disk) (back : List Message) (there here : Logins) (h : History) (d : Done)
-    → Serves c i t disk back there here h → i.done ≡ Some d
-    → Serves c (taken i) t disk back there here (record h { outcomes = h.outcomes ++ d ∷ [] })
+    → Serves c (between i t disk back) (so_far there here h) → i.done ≡ Some d
+    → Serves c (between (taken i) t disk back) (so_far there here (record h { outcomes = h.outcomes ++ d ∷ [] }))
 serves_takes c i t disk back there here h d (Logs l) is = absurd (let bad : None ≡ Some d = sym l.asking.no_outcome ∙ is in cc)
 serves_takes c i t disk back there here h d (Rest r) is = absurd (let bad : None ≡ Some d = sym r.none_done ∙ is in cc)
 serves_takes c i t disk back there here h d (Serve v) is =
-    let e : IsDone c v.held i t disk back h d = serving_done v.leads.0 c i t disk back h d v v.leads.1 is in
+    let e : IsDone c v.held (between i t disk back) h d = serving_done v.leads.0 c i t disk back h d v v.leads.1 is in
     Rest (record {
       held = v.held;
       agreed = v.agreed;
@@ -395,7 +391,7 @@ serves_takes c i t disk back there here h d (Serve v) is =
       outcomes_are = e.outcomes_are;
     })
 
-pub serves_kept : (c : Opening) → IsNormal c → IsKept (most_out c) (most_back c) (Serves c)
+pub serves_kept : (c : Opening) → IsNormal c → IsKept (limits_of c) (Serves c)
 serves_kept c o = record {
   hears = λ i t disk m back there here h. serves_hears c i t disk m back there here h o;
   asks = λ i t disk back there here h request. serves_asks c i t disk back there here h request;
@@ -411,7 +407,7 @@ pub record AreFirst (c : Opening) (h : History) : Type 0 where
   pub is : h.outcomes ++ later ≡ disk_outcomes c h.requests
 
 pub first_outcomes : (c : Opening) (i : initiator.Machine) (t : target.Machine) (disk : Disk) (back : List Message) (there here : Logins) (h : History)
-    → Serves c i t disk back there here h → AreFirst c h
+    → Serves c (between i t disk back) (so_far there here h) → AreFirst c h
 unfolding local_outcomes
 first_outcomes c i t disk back there here h (Logs l) = subst (AreFirst c) (sym l.none) (record { later = []; one = omega arith; is = refl })
 first_outcomes c i t disk back there here h (Rest r) = record { later = []; one = omega arith; is = append-nil h.outcomes ∙ r.outcomes_are }
@@ -431,17 +427,17 @@ pub record IsIdle (c : Opening) (i : initiator.Machine) (t : target.Machine) (di
   pub disk_is : disk ≡ disk_after c h.requests
   pub outcomes_are : h.outcomes ++ listed i.done ≡ disk_outcomes c h.requests
 
-idle_serving : (n : ℕ) (c : Opening) (i : initiator.Machine) (t : target.Machine) (disk : Disk) (h : History) (v : IsServing c i t disk [] h)
-    → Leads v.held n i t disk [] v.last → IsIdle c i t disk h
+idle_serving : (n : ℕ) (c : Opening) (i : initiator.Machine) (t : target.Machine) (disk : Disk) (h : History) (v : IsServing c (between i t disk []) h)
+    → Leads v.held n (between i t disk []) v.last → IsIdle c i t disk h
 idle_serving zero c i t disk h v l =
     let d : Done = (local (pinged c) (disk_after c v.past) v.request).outcome in
     let is : i.done ≡ Some d = ap (λ (x : Exchange). x.initiator.done) l ∙ v.ended.done_is in
-    let e : IsDone c v.held i t disk [] h d = serving_done zero c i t disk [] h d v l is in
+    let e : IsDone c v.held (between i t disk []) h d = serving_done zero c i t disk [] h d v l is in
     record { held = v.held; at_rest = e.settled; disk_is = e.disk_is; outcomes_are = ap (λ (o : Option Done). h.outcomes ++ listed o) is ∙ e.outcomes_are }
 idle_serving (suc n) c i t disk h v l = absurd l
 
 pub idle_serves : (c : Opening) (i : initiator.Machine) (t : target.Machine) (disk : Disk) (there here : Logins) (h : History)
-    → Serves c i t disk [] there here h → IsIdle c i t disk h
+    → Serves c (between i t disk []) (so_far there here h) → IsIdle c i t disk h
 idle_serves c i t disk there here h (Logs l) = absurd (let bad : [] ≡ l.turn.answer ∷ [] = l.back_is in cc)
 idle_serves c i t disk there here h (Rest r) =
     let none : taken i ≡ i = ap (λ (d : Option Done). record i { done = d }) (sym r.none_done) in

@@ -44,7 +44,7 @@ use Rattle.iscsi_pair.specs.World.{feed_fault, submit_fault, target_ran_out, ini
 use Rattle.iscsi_pair.specs.Served.{IsServed, IsAccepted, RunsServed, requests_of, requests_in, given_in}
 use Rattle.iscsi_pair.proofs.Login.NoFailure.{both_none}
 use Rattle.iscsi_pair.proofs.Ends.InitiatorRun.{begun, begun_open}
-use Rattle.iscsi_pair.proofs.Request.Invariant.{AreWritten, History, Relation, Sends, IsKept}
+use Rattle.iscsi_pair.proofs.Request.Invariant.{AreWritten, History, Relation, Sends, IsKept, between, so_far, limits_of}
 use Rattle.iscsi_pair.proofs.Run.QueueReading.{written_reads, refuses_nothing, Unread, Way, MovesOn, moves_on, still_unread, none_more, way_sends, way_none}
 use Rattle.iscsi_pair.proofs.Run.CarriedBytes.{open_none, Talks, talk_on, HearsOn, initiator_heard, over_none, Stands, Keeps, talks_of, no_bytes, front_moves}
 use Rattle.iscsi_pair.proofs.Run.CarriedBytes.{some_moves, to_target}
@@ -52,11 +52,11 @@ use Rattle.iscsi_pair.proofs.Run.CarriedBytes.{some_moves, to_target}
 -- ---- bytes reach the initiator
 
 -- what a call of the initiator read, and how the rest stands
-record InitiatorTurn (c : Opening) (P : Relation) (h : History) (old : World) (s : Stands c P h old) (v : Framing) (unheard more : List ℕ)
+record InitiatorTurn {c : Opening} {P : Relation} {h : History} {old : World} (s : Stands c P h old) (v : Framing) (unheard more : List ℕ)
     (r : initiator_steps.Stepped) : Type 0 where
   fault : r.fault ≡ None
   left : List Message
-  talks : Talks (calls.limit c.initiator) P r.machine s.session s.disk (s.out ++ r.output) left (after_all s.there r.output) s.here h
+  talks : Talks (calls.limit c.initiator) P (between r.machine s.session s.disk left) (s.out ++ r.output) (so_far (after_all s.there r.output) s.here h)
   unread : is_ready v ≡ false → Unread (calls.limit c.initiator) v (unheard ++ more) left s.here
   none : is_closed r.machine ≡ true → (left ≡ []) × (unheard ++ more ≡ [])
   refuses : (f : StreamFault) → f ≢ stream.NoMemory → FeedFails v unheard f → ⊥
@@ -66,7 +66,7 @@ record InitiatorTurn (c : Opening) (P : Relation) (h : History) (old : World) (s
 -- what the target's side has on its way where more is sent
 target_way : (c : Opening) (P : Relation) (h : History) (old : World) (s : Stands c P h old) (most : ℕ) (i : initiator.Machine) (more back : List Message)
     (there here : Logins) (g : History)
-    → Talks most P i s.session s.disk (s.out ++ more) back there here g → AreWritten (target_session.limit c.target) s.there more
+    → Talks most P (between i s.session s.disk back) (s.out ++ more) (so_far there here g) → AreWritten (target_session.limit c.target) s.there more
     → Way (target_machine.is_closed s.session) (target_session.limit c.target) old.target.framing (old.to_target ++ canon more) (s.out ++ more)
     (after_all s.there more)
 target_way c P h old s most i more back there here g talks written =
@@ -77,7 +77,7 @@ target_way c P h old s most i more back there here g talks written =
 initiator_turn : (c : Opening) (P : Relation) (h : History) (old : World) (k : ℕ) (moved : List ℕ) → Keeps c P → (s : Stands c P h old)
     → Unread (calls.limit c.initiator) old.initiator.framing old.to_initiator s.back s.here → moved ≡ take k old.to_initiator
     → (f : calls.Received old.initiator moved)
-    → InitiatorTurn c P h old s f.framing (drop f.count moved) (drop (length moved) old.to_initiator) (received_steps old.initiator moved f)
+    → InitiatorTurn s f.framing (drop f.count moved) (drop (length moved) old.to_initiator) (received_steps old.initiator moved f)
 initiator_turn c P h old k moved kept s u m f =
     let r : initiator_steps.Stepped = steps old.initiator.machine f.messages in
     let piece : List ℕ = take f.count moved in
@@ -87,10 +87,10 @@ initiator_turn c P h old k moved kept s u m f =
     let bound : f.framing.limit ≡ calls.limit c.initiator = f.limit ∙ u.limit_is in
     let on : MovesOn (calls.limit c.initiator) u.heard s.back f.messages t.rest more =
     moves_on (calls.limit c.initiator) old.initiator.framing old.to_initiator s.back s.here piece more f.messages f.framing u q t bound in
-    let talks : Talks (calls.limit c.initiator) P old.initiator.machine s.session s.disk s.out (f.messages ++ on.left) s.there s.here h =
-    subst (λ (x : List Message). Talks (calls.limit c.initiator) P old.initiator.machine s.session s.disk s.out x s.there s.here h) on.whole
+    let talks : Talks (calls.limit c.initiator) P (between old.initiator.machine s.session s.disk (f.messages ++ on.left)) s.out (so_far s.there s.here h) =
+    subst (λ (x : List Message). Talks (calls.limit c.initiator) P (between old.initiator.machine s.session s.disk x) s.out (so_far s.there s.here h)) on.whole
     (talks_of c P h old s) in
-    let has : HearsOn (target_session.limit c.target) (calls.limit c.initiator) P r s.session s.disk s.out on.left s.there s.here h =
+    let has : HearsOn (limits_of c) P (between old.initiator.machine s.session s.disk on.left) r s.out (so_far s.there s.here h) =
     initiator_heard (target_session.limit c.target) (calls.limit c.initiator) P kept old.initiator.machine s.session s.disk s.out f.messages on.left s.there
     s.here h talks in
     record {
@@ -122,7 +122,7 @@ record Changes (old new : World) (machine : initiator.Machine) (output : List Me
 -- the initiator is where a step has led that sent more
 initiator_stands : (c : Opening) (P : Relation) (h g : History) (old new : World) (s : Stands c P h old) (i : initiator.Machine) (output left : List Message)
     → Changes old new i output
-    → Talks (calls.limit c.initiator) P i s.session s.disk (s.out ++ output) left (after_all s.there output) s.here g
+    → Talks (calls.limit c.initiator) P (between i s.session s.disk left) (s.out ++ output) (so_far (after_all s.there output) s.here g)
     → Way (target_machine.is_closed s.session) (target_session.limit c.target) old.target.framing (old.to_target ++ canon output) (s.out ++ output)
     (after_all s.there output)
     → Way (is_closed new.initiator.machine) (calls.limit c.initiator) new.initiator.framing new.to_initiator left s.here → Stands c P g new
@@ -143,15 +143,15 @@ initiator_stands c P h g old new s i output left e talks there back = record {
       (after_all s.there output)) (sym e.queue) there);
   to_initiator = back;
   heard = talks.heard;
-  kept = subst (λ (x : initiator.Machine). P x (answers s.session s.disk (s.out ++ output)).machine (answers s.session s.disk (s.out ++ output)).disk
-      (left ++ (answers s.session s.disk (s.out ++ output)).answers) (after_all s.there output)
-      (after_all s.here (answers s.session s.disk (s.out ++ output)).answers) g) (sym e.initiator) talks.kept;
+  kept = subst (λ (x : initiator.Machine). P (between x (answers s.session s.disk (s.out ++ output)).machine (answers s.session s.disk (s.out ++ output)).disk
+      (left ++ (answers s.session s.disk (s.out ++ output)).answers))
+      (so_far (after_all s.there output) (after_all s.here (answers s.session s.disk (s.out ++ output)).answers) g)) (sym e.initiator) talks.kept;
 }
 
 -- a turn that goes on
 goes_on : (c : Opening) (P : Relation) (h : History) (old new : World) (moved : List ℕ) (phase : Phase) → (s : Stands c P h old)
     → (f : calls.Received old.initiator moved)
-    → InitiatorTurn c P h old s f.framing (drop f.count moved) (drop (length moved) old.to_initiator) (received_steps old.initiator moved f)
+    → InitiatorTurn s f.framing (drop f.count moved) (drop (length moved) old.to_initiator) (received_steps old.initiator moved f)
     → calls.ReceivesAll old.initiator moved f new.initiator old.to_target new.to_target phase → new.target_fault ≡ None → new.initiator_fault ≡ None
     → new.target ≡ old.target → new.blocks ≡ old.blocks
     → new.to_initiator ≡ drop (length moved) old.to_initiator → Stands c P h new
@@ -176,7 +176,7 @@ goes_on c P h old new moved phase s f t e there well target_ blocks dropped =
 -- a turn that closes the session
 closes : (c : Opening) (P : Relation) (h : History) (old new : World) (moved : List ℕ) (fault : Option InitiatorFault) → (s : Stands c P h old)
     → (f : calls.Received old.initiator moved)
-    → InitiatorTurn c P h old s f.framing (drop f.count moved) (drop (length moved) old.to_initiator) (received_steps old.initiator moved f)
+    → InitiatorTurn s f.framing (drop f.count moved) (drop (length moved) old.to_initiator) (received_steps old.initiator moved f)
     → calls.ClosesAt old.initiator moved f new.initiator old.to_target new.to_target fault → new.target_fault ≡ None → new.initiator_fault ≡ None
     → new.target ≡ old.target → new.blocks ≡ old.blocks
     → new.to_initiator ≡ drop (length moved) old.to_initiator → Stands c P h new
@@ -190,14 +190,14 @@ closes c P h old new moved fault s f t e there well target_ blocks dropped =
 -- no message of a turn leads to a fault
 not_caused : (c : Opening) (P : Relation) (h : History) (old : World) (moved : List ℕ) (fault : InitiatorFault) (new : calls.Connection) (after : List ℕ)
     → (s : Stands c P h old) → (f : calls.Received old.initiator moved)
-    → InitiatorTurn c P h old s f.framing (drop f.count moved) (drop (length moved) old.to_initiator) (received_steps old.initiator moved f)
+    → InitiatorTurn s f.framing (drop f.count moved) (drop (length moved) old.to_initiator) (received_steps old.initiator moved f)
     → calls.ClosesAt old.initiator moved f new old.to_target after (Some fault) → ⊥
 not_caused c P h old moved fault new after s f t e = (let bad : None ≡ Some fault = sym t.fault ∙ e.cause in absurd cc)
 
 -- what the calls of an initiator read
 abbrev Turns : (c : Opening) (P : Relation) (h : History) (old : World) → Stands c P h old → List ℕ → Type 0
-Turns c P h old s moved = (f : calls.Received old.initiator moved) → InitiatorTurn c P h old s f.framing (drop f.count moved)
-    (drop (length moved) old.to_initiator) (received_steps old.initiator moved f)
+Turns c P h old s moved = (f : calls.Received old.initiator moved)
+    → InitiatorTurn s f.framing (drop f.count moved) (drop (length moved) old.to_initiator) (received_steps old.initiator moved f)
 
 -- the framer refuses nothing
 stream_fails : (fault : StreamFault) (c : Opening) (P : Relation) (h : History) (old : World) (moved : List ℕ) (new : calls.Connection) (after : List ℕ)
@@ -285,11 +285,11 @@ accepts c P h old new request kept s served e there well target_ blocks queue =
     let i : initiator.Machine = old.initiator.machine in
     let out : List Message = (submitted i request).output in
     let a : target.Stepped = answers s.session s.disk s.out in
-    let sends : Sends (target_session.limit c.target) (calls.limit c.initiator) P (submitted i request).machine out a.machine a.disk (s.back ++ a.answers)
-    s.there (after_all s.here a.answers) (requested h request) =
+    let sends : Sends (limits_of c) P (between (submitted i request).machine a.machine a.disk (s.back ++ a.answers)) out
+    (so_far s.there (after_all s.here a.answers) (requested h request)) =
     kept.asks i a.machine a.disk (s.back ++ a.answers) s.there (after_all s.here a.answers) h request s.kept served e.none in
-    let talks : Talks (calls.limit c.initiator) P (submitted i request).machine s.session s.disk (s.out ++ out) s.back (after_all s.there out) s.here
-    (requested h request) =
+    let talks : Talks (calls.limit c.initiator) P (between (submitted i request).machine s.session s.disk s.back) (s.out ++ out)
+    (so_far (after_all s.there out) s.here (requested h request)) =
     talk_on (target_session.limit c.target) (calls.limit c.initiator) P (submitted i request).machine s.session s.disk s.out out s.back s.there s.here
     (requested h request) s.heard sends in
     initiator_stands c P h (requested h request) old new s (submitted i request).machine out s.back
@@ -346,10 +346,10 @@ given_out h d = record h { outcomes = h.outcomes ++ listed d }
 -- the relation holds once the outcome is taken, if there is one
 takes_one : (d : Option Done) (c : Opening) (P : Relation) → Keeps c P
     → (i : initiator.Machine) (t : target.Machine) (disk : Disk) (back : List Message) (there here : Logins) (h : History)
-    → i.done ≡ d → P i t disk back there here h → P (taken i) t disk back there here (given_out h d)
+    → i.done ≡ d → P (between i t disk back) (so_far there here h) → P (between (taken i) t disk back) (so_far there here (given_out h d))
 takes_one None c P k i t disk back there here h is p =
-    subst (λ (m : initiator.Machine). P m t disk back there here (given_out h None)) (ap (λ (d : Option Done). record i { done = d }) is)
-    (subst (λ (o : List Done). P i t disk back there here (record h { outcomes = o })) (sym (append-nil h.outcomes)) p)
+    subst (λ (m : initiator.Machine). P (between m t disk back) (so_far there here (given_out h None))) (ap (λ (d : Option Done). record i { done = d }) is)
+    (subst (λ (o : List Done). P (between i t disk back) (so_far there here (record h { outcomes = o }))) (sym (append-nil h.outcomes)) p)
 takes_one (Some d) c P k i t disk back there here h is p = k.takes i t disk back there here h d p is
 
 -- the outcome is taken
@@ -415,7 +415,7 @@ happens c P h old Takes new k s e accepted_ memory =
 
 -- and any number of them
 pub more : (c : Opening) (P : Relation) (h : History) (old : World) (events : List Event) (new : World) (later : List Done)
-    → IsKept (target_session.limit c.target) (calls.limit c.initiator) P → Stands c P h old
+    → IsKept (limits_of c) P → Stands c P h old
     → RunsServed old events new later → Stands c P (record { requests = h.requests ++ requests_of events; outcomes = h.outcomes ++ later }) new
 unfolding RunsServed
 more c P h old [] new later k s r =
@@ -429,9 +429,8 @@ more c P h old (event ∷ events) new later k s r =
     (more c P g r.0 events new r.1 k (happens c P h old event r.0 k s r.2 r.3 r.4) r.6)
 
 -- a new pair stands so
-opening_stands : (c : Opening) (P : Relation) → Sends (target_session.limit c.target) (calls.limit c.initiator) P (begun c)
-    (start_step (initiator.opening c.initiator)).output
-    (target.opening c.target c.first_stat_sn) (disk_of c.blocks) [] no_login no_login (record { requests = []; outcomes = [] })
+opening_stands : (c : Opening) (P : Relation) → Sends (limits_of c) P (between (begun c) (target.opening c.target c.first_stat_sn) (disk_of c.blocks) [])
+    (start_step (initiator.opening c.initiator)).output (so_far no_login no_login (record { requests = []; outcomes = [] }))
     → Stands c P (record { requests = []; outcomes = [] }) (new_pair c)
 unfolding ReadsAs
 opening_stands c P s =
@@ -477,9 +476,9 @@ opening_stands c P s =
     }
 
 -- where the relation is kept, and holds once the first text is sent, it holds in every world of a served run
-pub carried : (c : Opening) (P : Relation) → IsKept (target_session.limit c.target) (calls.limit c.initiator) P
-    → Sends (target_session.limit c.target) (calls.limit c.initiator) P (begun c) (start_step (initiator.opening c.initiator)).output
-    (target.opening c.target c.first_stat_sn) (disk_of c.blocks) [] no_login no_login (record { requests = []; outcomes = [] })
+pub carried : (c : Opening) (P : Relation) → IsKept (limits_of c) P
+    → Sends (limits_of c) P (between (begun c) (target.opening c.target c.first_stat_sn) (disk_of c.blocks) [])
+    (start_step (initiator.opening c.initiator)).output (so_far no_login no_login (record { requests = []; outcomes = [] }))
     → (events : List Event) (w : World) (outcomes : List Done) → RunsServed (new_pair c) events w outcomes
     → Stands c P (record { requests = requests_of events; outcomes = outcomes }) w
 carried c P k s events w outcomes r = more c P (record { requests = []; outcomes = [] }) (new_pair c) events w outcomes k (opening_stands c P s) r

@@ -15,7 +15,7 @@ use Rattle.iscsi_initiator.specs.State as initiator
 use Rattle.iscsi_pair.specs.World.{Event, Opening, World, new_pair}
 use Rattle.iscsi_pair.specs.LocalDisk.{AreInStep}
 use Rattle.iscsi_pair.specs.Served.{AreAtEnd, IsNormal, RunsServed, requests_of, disk_after, disk_outcomes}
-use Rattle.iscsi_pair.proofs.Request.Invariant.{History}
+use Rattle.iscsi_pair.proofs.Request.Invariant.{History, between, so_far}
 use Rattle.iscsi_pair.proofs.Run.CarriedBytes.{Stands}
 use Rattle.iscsi_pair.proofs.Run.InvariantHolds.{carried, none_waits}
 use Rattle.iscsi_pair.proofs.Run.DiskInvariant.{AreFirst, AreSettled, IsIdle, Serves, first_outcomes, first_sends, idle_serves, serves_kept}
@@ -46,20 +46,20 @@ record IsStill (c : Opening) (w : World) (h : History) : Type 0 where
 
 none_said : (c : Opening) (i : initiator.Machine) (t : target.Machine) (disk : Disk) (out back : List Message) (there here : Logins) (h : History) → out ≡ []
     → back ≡ []
-    → Serves c i (answers t disk out).machine (answers t disk out).disk (back ++ (answers t disk out).answers) there
-    (after_all here (answers t disk out).answers) h → Serves c i t disk [] there here h
+    → Serves c (between i (answers t disk out).machine (answers t disk out).disk (back ++ (answers t disk out).answers))
+    (so_far there (after_all here (answers t disk out).answers) h) → Serves c (between i t disk []) (so_far there here h)
 unfolding answers
 none_said c i t disk out back there here h p q k =
-    let k' = subst (λ (x : List Message). Serves c i (answers t disk x).machine (answers t disk x).disk (back ++ (answers t disk x).answers) there
-    (after_all here (answers t disk x).answers) h) p k in
-    subst (λ (x : List Message). Serves c i t disk (x ++ []) there here h) q k'
+    let k' = subst (λ (x : List Message). Serves c (between i (answers t disk x).machine (answers t disk x).disk (back ++ (answers t disk x).answers))
+    (so_far there (after_all here (answers t disk x).answers) h)) p k in
+    subst (λ (x : List Message). Serves c (between i t disk (x ++ [])) (so_far there here h)) q k'
 
 still : (c : Opening) (events : List Event) (w : World) (outcomes : List Done) → IsNormal c → RunsServed (new_pair c) events w outcomes → w.to_target ≡ []
     → w.to_initiator ≡ [] → IsStill c w (history events outcomes)
 still c events w outcomes n r p q =
     let s : Stands c (Serves c) (history events outcomes) w = served c events w outcomes n r in
     let none = none_waits c (Serves c) (history events outcomes) w s p q in
-    let k : Serves c w.initiator.machine s.session s.disk [] s.there s.here (history events outcomes) =
+    let k : Serves c (between w.initiator.machine s.session s.disk []) (so_far s.there s.here (history events outcomes)) =
     none_said c w.initiator.machine s.session s.disk s.out s.back s.there s.here (history events outcomes) none.0 none.1 s.kept in
     record {
       session = s.session;

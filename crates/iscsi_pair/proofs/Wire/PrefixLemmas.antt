@@ -24,16 +24,15 @@ pub record Readable (logins : Logins) (m : Message) : Type 0 where
   pub means : Means (canonical_bytes m) m.head (segment_bytes m.segment)
   pub meaning : m.segment ≡ segment_of (continues logins m.head) m.head (segment_bytes m.segment)
 
--- the first message that was read is the one that stands at the front
-pub record IsFirst (limit : ℕ) (logins : Logins) (x y : List ℕ) (t r : Message) (ts : List Message) : Type 0 where
-  pub same : t ≡ r
+-- the message stands at the front of what was read: of that, these are read behind it
+pub record IsFirst (limit : ℕ) (logins : Logins) (x y : List ℕ) (r : Message) (ts : List Message) : Type 0 where
   pub given : List ℕ
   pub reads : ReadsAs limit (after logins r.head) given ts
   pub rest : given ++ x ≡ y
 
 pub first_is : (limit : ℕ) (logins : Logins) (given x y : List ℕ) (t r : Message) (ts : List Message) → Readable logins r → ReadsAs limit logins given (t ∷ ts)
     → given ++ x ≡ canonical_bytes r ++ y
-    → IsFirst limit logins x y t r ts
+    → (t ≡ r) × IsFirst limit logins x y r ts
 unfolding ReadsAs
 first_is limit logins given x y t r ts m p e =
     let b = p.3 in
@@ -41,13 +40,14 @@ first_is limit logins given x y t r ts m p e =
     let same = same_begin p.0 (p.2 ++ x) (canonical_bytes r) y t.head r.head p.1 (segment_bytes r.segment) whole b.means m.means in
     let segment : t.segment ≡ r.segment =
     b.meaning ∙ ap (λ (h : Head). segment_of (continues logins h) h p.1) same.head ∙ ap (segment_of (continues logins r.head) r.head) same.segment
-    ∙ sym m.meaning in
-    record {
-      same = same_message t r same.head segment;
-      given = p.2;
-      reads = subst (λ (h : Head). ReadsAs limit (after logins h) p.2 ts) same.head p.4;
-      rest = same.rest;
-    }
+    ∙ sym m.meaning in (
+      same_message t r same.head segment,
+      record {
+        given = p.2;
+        reads = subst (λ (h : Head). ReadsAs limit (after logins h) p.2 ts) same.head p.4;
+        rest = same.rest;
+      },
+    )
 
 -- ---- login PDUs
 
