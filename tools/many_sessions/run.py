@@ -6,7 +6,7 @@
 PROGRAM is crates/lanthovur/out/lanthovur if none is named; `./lanthovur </dev/null` builds it. All is done on 127.0.0.1. It
 wants iscsi-perf and iscsi-inq (Debian: libiscsi-bin) and qemu-img and qemu-io (qemu-utils, qemu-block-extra); what isn't
 installed is skipped, with a word. With --figures it also measures what memory 64 sessions take and how many commands a
-second are answered, by tools/speed/speed.c (cc, libiscsi-dev), which takes a minute. The last line is 'N passed, M failed,
+second are answered, by tools/speed/speed.c (cc, libiscsi-dev), which takes three minutes. The last line is 'N passed, M failed,
 K skipped'.
 """
 import importlib.util
