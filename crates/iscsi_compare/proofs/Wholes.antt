@@ -64,18 +64,20 @@ front_of : (limit : ℕ) (logins : Logins) (given rest s : List ℕ) (ms ns : Li
 unfolding ReadsAs
 front_of limit logins given rest s [] ns p q e = (ns, refl)
 front_of limit logins given rest s (m ∷ ms) [] p q e =
-    let b = p.3 in
-    absurd (omega (arith, b.means.size, ap length b.whole, length-append p.0 p.2, ap length e, length-append given rest, ap length q))
+    let b = p.0 in
+    absurd (omega (arith, b.means.size, ap length b.whole, length-append b.bytes b.rest, ap length e, length-append given rest, ap length q))
 front_of limit logins given rest s (m ∷ ms) (n ∷ ns) p q e =
-    let b = p.3 in
-    let c = q.3 in
-    let whole : p.0 ++ (p.2 ++ rest) ≡ q.0 ++ q.2 = sym (append_assoc p.0 p.2 rest) ∙ ap (λ (x : List ℕ). x ++ rest) (sym b.whole) ∙ sym e ∙ c.whole in
-    let same = same_begin p.0 (p.2 ++ rest) q.0 q.2 m.head n.head p.1 q.1 whole b.means c.means in
+    let b = p.0 in
+    let c = q.0 in
+    let whole : b.bytes ++ (b.rest ++ rest) ≡ c.bytes ++ c.rest = sym (append_assoc b.bytes b.rest rest) ∙ ap (λ (x : List ℕ). x ++ rest) (sym b.whole) ∙ sym
+    e ∙ c.whole in
+    let same = same_begin b.bytes (b.rest ++ rest) c.bytes c.rest m.head n.head b.segment c.segment whole b.means c.means in
     let segment : m.segment ≡ n.segment =
-    b.meaning ∙ ap (λ (h : Head). segment_of (continues logins h) h p.1) same.head ∙ ap (segment_of (continues logins n.head) n.head) same.segment
+    b.meaning ∙ ap (λ (h : Head). segment_of (continues logins h) h b.segment) same.head ∙ ap (segment_of (continues logins n.head) n.head) same.segment
     ∙ sym c.meaning in
     let one : m ≡ n = same_message m n same.head segment in
-    let more = front_of limit (after logins m.head) p.2 rest q.2 ms ns p.4 (subst (λ (h : Head). ReadsAs limit (after logins h) q.2 ns) (sym same.head) q.4)
+    let more = front_of limit (after logins m.head) b.rest rest c.rest ms ns p.1
+    (subst (λ (h : Head). ReadsAs limit (after logins h) c.rest ns) (sym same.head) q.1)
     (sym same.rest) in
     (more.0, ap (λ (x : Message). x ∷ ns) (sym one) ∙ ap (λ (xs : List Message). m ∷ xs) more.1)
 

@@ -8,7 +8,7 @@ use Rattle.iscsi_stream.specs.Stream.{Message}
 use Rattle.iscsi_stream.specs.Canonical.{canon}
 use Rattle.iscsi_stream.specs.Framing.{HasTaken}
 use Rattle.iscsi_stream.proofs.FrontLemmas.{Course, Sight, HearsUpTo, HearAlike, IsLeft, framer_hears, framer_leaves, framer_refuses, hear_alike, sight}
-use Rattle.iscsi_stream.proofs.OneEndingLaw.{Outcome, Ended, Over, GoesOn, Breaks, EndAlike, end_of, end_alike}
+use Rattle.iscsi_stream.proofs.OneEndingLaw.{Outcome, Ended, Over, GoesOn, Breaks, call, EndAlike, end_of, end_alike}
 use Rattle.iscsi_stream.proofs.ReadyLemmas.{apart}
 use Rattle.iscsi_login.specs.declared.phase.Phase.{Phase}
 use Rattle.iscsi_login.specs.declared.phase.Phase.TheVariants as phases
@@ -176,7 +176,7 @@ unfolding course
 run_alike stream ms old result other new now output written rewritten a b =
     let h : HearAlike (course old.machine) a.messages b.messages a.sight b.sight =
     hear_alike (course old.machine) old.framing.limit stream ms a.messages b.messages a.sight b.sight a.receives b.receives in
-    let e : EndAlike is_closed result other new.machine now.machine new.framing now.framing =
+    let e : EndAlike is_closed (call result new.machine new.framing) (call other now.machine now.framing) =
     end_alike (leaves (steps old.machine a.messages)) a.sight b.sight result other new.machine now.machine new.framing now.framing h.sight a.ended
     (subst (λ (s : Stepped). Ended (leaves s) b.sight other now.machine now.framing) h.same b.ended) in
     record {

@@ -323,9 +323,9 @@ pub canon_bytes : (limit : ℕ) (logins : Logins) (s : List ℕ) (ms : List Mess
 unfolding ReadsAs
 canon_bytes limit logins s [] are reads = λ i. omega arith
 canon_bytes limit logins s (m ∷ ms) are reads =
-    let begins = reads.3 in
+    let begins = reads.0 in
     let split = subst AreBytes begins.whole are in
-    let one = message_bytes reads.0 reads.1 (continues logins m.head) m.head (AreBytes-front reads.0 reads.2 split) begins.means in
+    let one = message_bytes begins.bytes begins.segment (continues logins m.head) m.head (AreBytes-front begins.bytes begins.rest split) begins.means in
     subst AreBytes (sym (flat_map-cons canonical_bytes m ms)) (AreBytes-append (canonical_bytes m) (canon ms)
     (subst (λ (x : Segment). AreBytes (whole m.head (segment_bytes x))) (sym begins.meaning) one)
-    (canon_bytes limit (after logins m.head) reads.2 ms (AreBytes-back reads.0 reads.2 split) reads.4))
+    (canon_bytes limit (after logins m.head) begins.rest ms (AreBytes-back begins.bytes begins.rest split) reads.1))

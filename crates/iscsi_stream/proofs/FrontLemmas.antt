@@ -36,24 +36,25 @@ one_is_front : (limit : ℕ) (logins : Logins) (given : List ℕ) (ms : List Mes
 unfolding ReadsAs
 one_is_front limit logins given [] rest given' ns rest' p q e = inl (record { more = ns; whole = refl })
 one_is_front limit logins given (m ∷ ms) rest given' [] rest' p q e =
-    let b = p.3 in
+    let b = p.0 in
     inr (record {
       front = record { more = m ∷ ms; whole = refl };
-      pdu = λ none. none p.0 p.1 (p.2 ++ rest) m.head (ap (λ (x : List ℕ). x ++ rest') (sym q) ∙ sym e ∙ ap (λ (x : List ℕ). x ++ rest) b.whole
-          ∙ append_assoc p.0 p.2 rest) b.means b.within;
+      pdu = λ none. none b.bytes b.segment (b.rest ++ rest) m.head (ap (λ (x : List ℕ). x ++ rest') (sym q) ∙ sym e ∙ ap (λ (x : List ℕ). x ++ rest) b.whole
+          ∙ append_assoc b.bytes b.rest rest) b.means b.within;
     })
 one_is_front limit logins given (m ∷ ms) rest given' (n ∷ ns) rest' p q e =
-    let b = p.3 in
-    let c = q.3 in
-    let whole : p.0 ++ (p.2 ++ rest) ≡ q.0 ++ (q.2 ++ rest') =
-    sym (append_assoc p.0 p.2 rest) ∙ ap (λ (x : List ℕ). x ++ rest) (sym b.whole) ∙ e ∙ ap (λ (x : List ℕ). x ++ rest') c.whole ∙ append_assoc q.0 q.2 rest' in
-    let same = same_begin p.0 (p.2 ++ rest) q.0 (q.2 ++ rest') m.head n.head p.1 q.1 whole b.means c.means in
+    let b = p.0 in
+    let c = q.0 in
+    let whole : b.bytes ++ (b.rest ++ rest) ≡ c.bytes ++ (c.rest ++ rest') =
+    sym (append_assoc b.bytes b.rest rest) ∙ ap (λ (x : List ℕ). x ++ rest) (sym b.whole) ∙ e ∙ ap (λ (x : List ℕ). x ++ rest') c.whole ∙ append_assoc
+    c.bytes c.rest rest' in
+    let same = same_begin b.bytes (b.rest ++ rest) c.bytes (c.rest ++ rest') m.head n.head b.segment c.segment whole b.means c.means in
     let segment : m.segment ≡ n.segment =
-    b.meaning ∙ ap (λ (h : Head). segment_of (continues logins h) h p.1) same.head ∙ ap (segment_of (continues logins n.head) n.head) same.segment
+    b.meaning ∙ ap (λ (h : Head). segment_of (continues logins h) h b.segment) same.head ∙ ap (segment_of (continues logins n.head) n.head) same.segment
     ∙ sym c.meaning in
     let one : m ≡ n = same_message m n same.head segment in
-    elim (one_is_front limit (after logins m.head) p.2 ms rest q.2 ns rest' p.4 (subst (λ (h : Head). ReadsAs limit (after logins h) q.2 ns)
-    (sym same.head) q.4) same.rest) [
+    elim (one_is_front limit (after logins m.head) b.rest ms rest c.rest ns rest' p.1 (subst (λ (h : Head). ReadsAs limit (after logins h) c.rest ns)
+    (sym same.head) q.1) same.rest) [
       | inl f ↦ inl (front_on m n ms ns one f)
       | inr f ↦ inr (record { front = front_on n m ns ms (sym one) f.front; pdu = f.pdu })
     ]

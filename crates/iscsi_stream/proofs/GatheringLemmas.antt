@@ -11,7 +11,7 @@ use Rattle.iscsi_stream.specs.declared.fault.StreamFault.{StreamFault}
 use Rattle.iscsi_stream.specs.declared.fault.StreamFault.TheVariants as faults
 use Rattle.iscsi_stream.specs.Stream.{pdu_len}
 use Rattle.iscsi_stream.specs.Framing.{length_at, content_len, settled, is_whole, begun_len, IsBegun, ReachesHeader}
-use Rattle.iscsi_stream.specs.Gathering.{IsBody, Gathers, FillsBody, HeaderFails, GatherFails}
+use Rattle.iscsi_stream.specs.Gathering.{filling, IsBody, Gathers, FillsBody, HeaderFails, GatherFails}
 use Rattle.iscsi_stream.proofs.HeadLemmas.{length_at-same, header-length}
 use Rattle.iscsi_stream.proofs.SettledBytesLemmas.{settled-short}
 
@@ -83,7 +83,8 @@ settled-body header rest h len size r =
     ∙ ap (λ (x : List ℕ). header ++ take len x) (drop_at header rest 48 size) in
     rw (at, front, more) (append_assoc header (take len rest) (replicate (length rest - len) 0))
 
-pub begun_body : (limit : ℕ) (header segment : List ℕ) (room padded len : ℕ) (h : Head) → length header ≡ 48 → IsBody limit header segment room h len padded →
+pub begun_body : (limit : ℕ) (header segment : List ℕ) (room padded len : ℕ) (h : Head) → length header ≡ 48 →
+    IsBody limit header (filling segment padded) room h len →
     IsBegun limit (header ++ (segment ++ replicate padded 0))
 begun_body limit header segment room padded len h size body long =
     let at = length_at-front header (segment ++ replicate padded 0) h len size body.says in (
@@ -157,11 +158,11 @@ zeros_of s p n d q len t r a b c le order =
 -- bytes of a piece that go to a body
 pub gathers_body : (limit : ℕ) (header segment : List ℕ) (room : ℕ) (h : Head) (len padded : ℕ) (piece : List ℕ) (n : ℕ) (segment_new : List ℕ)
     (room_new padded_new : ℕ) → length header ≡ 48
-    → IsBody limit header segment room h len padded → FillsBody len segment padded piece n segment_new padded_new → len ≤ room_new
+    → IsBody limit header (filling segment padded) room h len → FillsBody len (filling segment padded) piece n (filling segment_new padded_new) → len ≤ room_new
     → Gathers limit (header ++ (segment ++ replicate padded 0)) piece n (header ++ (segment_new ++ replicate padded_new 0))
-    × IsBody limit header segment_new room_new h len padded_new
+    × IsBody limit header (filling segment_new padded_new) room_new h len
 gathers_body limit header segment room h len padded piece n segment_new room_new padded_new size body fills fit =
-    let body_new : IsBody limit header segment_new room_new h len padded_new = record {
+    let body_new : IsBody limit header (filling segment_new padded_new) room_new h len = record {
       says = body.says;
       fits = body.fits;
       within = body.within;
@@ -249,9 +250,9 @@ pub gathers_both : (limit : ℕ) (header header_new : List ℕ) (filled : ℕ) (
     (room_new padded_new : ℕ)
     → length header ≡ 48 → length header_new ≡ 48 → filled < 48 → filled + n ≡ 48 → n ≤ length piece → take (filled + n) header_new ≡ take filled header
     ++ take n piece → rest ≡ drop n piece
-    → IsBody limit header_new [] room h len 0 → FillsBody len [] 0 rest m segment_new padded_new → len ≤ room_new
+    → IsBody limit header_new (filling [] 0) room h len → FillsBody len (filling [] 0) rest m (filling segment_new padded_new) → len ≤ room_new
     → Gathers limit (take filled header) piece (n + m) (header_new ++ (segment_new ++ replicate padded_new 0))
-    × IsBody limit header_new segment_new room_new h len padded_new
+    × IsBody limit header_new (filling segment_new padded_new) room_new h len
 gathers_both limit header header_new filled piece rest n h len room m segment_new room_new padded_new size size_new short full bound taken is body fills fit =
     let both = gathers_body limit header_new [] room h len 0 rest m segment_new room_new padded_new size_new body fills fit in
     let old = take filled header in

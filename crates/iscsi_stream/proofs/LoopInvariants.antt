@@ -6,7 +6,7 @@ use Rattle.iscsi_stream.specs.Stream.{Message, longest_segment}
 use Rattle.iscsi_pdu.specs.Meaning.{AreBytes}
 use Rattle.iscsi_stream.specs.declared.normalising.Form.{Form}
 use Rattle.iscsi_stream.specs.Framing.{Framing, HasTaken, is_ready}
-use Rattle.iscsi_stream.specs.Passing.{IsDue, PassesOn}
+use Rattle.iscsi_stream.specs.Passing.{IsDue, Progress, PassesOn}
 
 -- the bytes before the rest are written
 pub record WroteUpTo (bytes rest : List ℕ) (old new : Option (List ℕ)) : Type 0 where
@@ -15,11 +15,11 @@ pub record WroteUpTo (bytes rest : List ℕ) (old new : Option (List ℕ)) : Typ
   pub written : Appends old new before
 
 -- the bytes of the piece before the rest are passed on
-pub record PassedUpTo (form : Form) (piece rest : List ℕ) (old new : Framing) (out_old out_new : List ℕ) (counts_old counts_new : Counts) : Type 0 where
+pub record PassedUpTo (form : Form) (piece rest : List ℕ) (old new : Progress) : Type 0 where
   pub before : List ℕ
   pub more : List Message
   pub parts : piece ≡ before ++ rest
-  pub passes : PassesOn form old new before more out_old out_new counts_old counts_new
+  pub passes : PassesOn form old new before more
 
 -- what is due for what was read is written
 pub record WrittenUpTo (form : Form) (v : Framing) (counts : Counts) (turn : ℕ) (remaining_old remaining_new contents_old contents_new : Option (List ℕ)) : Type

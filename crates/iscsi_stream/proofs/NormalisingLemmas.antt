@@ -18,7 +18,7 @@ use Rattle.iscsi_pdu.specs.Meaning.{AreBytes}
 use Rattle.iscsi_stream.specs.declared.normalising.Form.{Form}
 use Rattle.iscsi_stream.specs.Framing.{Framing, opening, is_ready, IsBegun, HasTaken, FinishFails}
 use Rattle.iscsi_stream.specs.Normalising.{RestFails, AreCounts, WritesUntil, AtEnd, WroteFront}
-use Rattle.iscsi_stream.specs.Passing.{IsDue, PassesOn, Appended, StopsAt, PassFails}
+use Rattle.iscsi_stream.specs.Passing.{IsDue, progress, PassesOn, Appended, StopsAt, PassFails}
 use Rattle.iscsi_stream.proofs.SettledBytesLemmas.{length-settled}
 use Rattle.iscsi_stream.proofs.ReadyLemmas.{apart, unready_of, not_whole-nil}
 use Rattle.iscsi_stream.proofs.GatheringLemmas.{take-add}
@@ -234,7 +234,8 @@ write_stops e form v k i r0 r1 r2 w0 w1 w2 piece out bytes up read part is front
 
 pub read_more : (form : Form) (v w : Framing) (k n : Counts) (i sum : ℕ) (r0 r1 r2 w0 w1 w2 : Option (List ℕ)) (piece out : List ℕ) (more : List Message) → i
     < 16777216 → length piece ≤ 4096 → AreBytes piece → WrittenUpTo form v k i r0 r1 w0 w1 → Consumes r1 r2 piece
-    → sum ≡ min (k.bytes_in + length piece) (2 ^ 64 - 1) → (let m : Counts = record k { bytes_in = sum } in PassesOn form v w piece more [] out m n) →
+    → sum ≡ min (k.bytes_in + length piece) (2 ^ 64 - 1)
+    → (let m : Counts = record k { bytes_in = sum } in PassesOn form (progress v [] m) (progress w out n) piece more) →
     Appends w1 w2 out → WrittenUpTo form w n (i + 1) r0 r2 w0 w2
 read_more form v w k n i sum r0 r1 r2 w0 w1 w2 piece out more lt le bytes up read sum-is passes wrote =
     let taken = passes.moves up.read up.ms up.taken in

@@ -35,14 +35,24 @@ end_of o x result session framing (Over over e m) = inl over
 end_of o x result session framing (GoesOn live e m left) = inr left.none
 end_of o x result session framing (Breaks fault live e m refused) = inr (refused_none x fault refused)
 
+-- what a call answered, and the session and the framing that it left
+pub record Call (M R : Type 0) : Type 0 where
+  pub result : R
+  pub session : M
+  pub framing : Framing
+
+abbrev pub call : {M R : Type 0} → R → M → Framing → Call M R
+call result session framing = record { result = result; session = session; framing = framing }
+
 -- Both calls answered the same, and left the same session, and, while it goes on, the same framing.
-pub record EndAlike {M R : Type 0} (is_over : M → Bool) (result other : R) (session same : M) (v w : Framing) : Type 0 where
-  pub answered : other ≡ result
-  pub session_is : same ≡ session
-  pub framing : is_over session ≡ false → w ≡ v
+pub record EndAlike {M R : Type 0} (is_over : M → Bool) (one other : Call M R) : Type 0 where
+  pub answered : other.result ≡ one.result
+  pub session_is : other.session ≡ one.session
+  pub framing : is_over one.session ≡ false → other.framing ≡ one.framing
 
 pub end_alike : {M R : Type 0} (o : Outcome M R) (x y : Sight) (result other : R) (session same : M) (v w : Framing)
-    → (o.is_over o.session ≡ false → y ≡ x) → Ended o x result session v → Ended o y other same w → EndAlike o.is_over result other session same v w
+    → (o.is_over o.session ≡ false → y ≡ x) → Ended o x result session v → Ended o y other same w →
+    EndAlike o.is_over (call result session v) (call other same w)
 end_alike o x y result other session same v w see (Over over e m) (Over late f n) =
     record { answered = f ∙ sym e; session_is = n ∙ sym m; framing = λ live. absurd (apart (ap o.is_over m ∙ over) live) }
 end_alike o x y result other session same v w see (GoesOn live e m left) (GoesOn live' f n left') =

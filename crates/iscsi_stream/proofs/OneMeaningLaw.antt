@@ -28,20 +28,30 @@ pub reads_one_more : (limit : ℕ) (logins : Logins) (given : List ℕ) (ms : Li
     → Means rest h d → length d ≤ limit
     → ReadsAs limit logins (given ++ rest) (ms ++ record { head = h; segment = segment_of (continues (after_all logins ms) h) h d } ∷ [])
 unfolding ReadsAs
-reads_one_more limit logins given [] rest h d reads means le =
-    (rest, d, [], record { whole = ap (λ (x : List ℕ). x ++ rest) reads ∙ sym (append-nil rest); means = means; within = le; meaning = refl }, refl)
+reads_one_more limit logins given [] rest h d reads means le = (
+  record {
+    bytes = rest;
+    segment = d;
+    rest = [];
+    whole = ap (λ (x : List ℕ). x ++ rest) reads ∙ sym (append-nil rest);
+    means = means;
+    within = le;
+    meaning = refl;
+  },
+  refl,
+)
 reads_one_more limit logins given (m ∷ ms) rest h d reads means le =
-    let begins = reads.3 in (
-      reads.0,
-      reads.1,
-      reads.2 ++ rest,
+    let begins = reads.0 in (
       record {
-        whole = ap (λ (x : List ℕ). x ++ rest) begins.whole ∙ append_assoc reads.0 reads.2 rest;
+        bytes = begins.bytes;
+        segment = begins.segment;
+        rest = begins.rest ++ rest;
+        whole = ap (λ (x : List ℕ). x ++ rest) begins.whole ∙ append_assoc begins.bytes begins.rest rest;
         means = begins.means;
         within = begins.within;
         meaning = begins.meaning;
       },
-      reads_one_more limit (after logins m.head) reads.2 ms rest h d reads.4 means le,
+      reads_one_more limit (after logins m.head) begins.rest ms rest h d reads.1 means le,
     )
 
 pub after_all-snoc : (logins : Logins) (ms : List Message) (m : Message) → after_all logins (ms ++ m ∷ []) ≡ after (after_all logins ms) m.head
@@ -82,14 +92,24 @@ no_pdu_none limit b d more h e m le =
 
 -- ---- one meaning
 
-pub record SameBegin (b more b' more' : List ℕ) (h h' : Head) (d d' : List ℕ) : Type 0 where
-  pub head : h ≡ h'
-  pub bytes : b ≡ b'
-  pub segment : d ≡ d'
-  pub rest : more ≡ more'
+-- the bytes of a PDU at the front of a stream, those of its segment, and the rest of the stream
+pub record Front : Type 0 where
+  pub bytes : List ℕ
+  pub segment : List ℕ
+  pub rest : List ℕ
+
+abbrev pub front : List ℕ → List ℕ → List ℕ → Front
+front bytes segment rest = record { bytes = bytes; segment = segment; rest = rest }
+
+-- these PDUs, with these heads, are one, and so are their rests
+pub record SameBegin (one other : Head) (x y : Front) : Type 0 where
+  pub head : one ≡ other
+  pub bytes : x.bytes ≡ y.bytes
+  pub segment : x.segment ≡ y.segment
+  pub rest : x.rest ≡ y.rest
 
 pub same_begin : (b more b' more' : List ℕ) (h h' : Head) (d d' : List ℕ) → b ++ more ≡ b' ++ more' → Means b h d → Means b' h' d' →
-    SameBegin b more b' more' h h' d d'
+    SameBegin h h' (front b d more) (front b' d' more')
 same_begin b more b' more' h h' d d' e m m' =
     let s = starts (b ++ more) b more h d refl m in
     let s' = starts (b ++ more) b' more' h' d' e m' in
@@ -115,28 +135,33 @@ pub same_split : (limit : ℕ) (logins : Logins) (given : List ℕ) (ms : List M
 unfolding ReadsAs
 same_split limit logins given [] rest given' [] rest' p ends p' ends' e = (refl, p ∙ sym p')
 same_split limit logins given [] rest given' (n ∷ ns) rest' p ends p' ends' e =
-    let begins = p'.3 in
-    absurd (ends p'.0 p'.1 (p'.2 ++ rest') n.head (ap (λ (x : List ℕ). x ++ rest) (sym p) ∙ e ∙ ap (λ (x : List ℕ). x ++ rest') begins.whole
-    ∙ append_assoc p'.0 p'.2 rest') begins.means begins.within)
+    let begins = p'.0 in
+    absurd (ends begins.bytes begins.segment (begins.rest ++ rest') n.head (ap (λ (x : List ℕ). x ++ rest) (sym p) ∙ e
+    ∙ ap (λ (x : List ℕ). x ++ rest') begins.whole
+    ∙ append_assoc begins.bytes begins.rest rest') begins.means begins.within)
 same_split limit logins given (m ∷ ms) rest given' [] rest' p ends p' ends' e =
-    let begins = p.3 in
-    absurd (ends' p.0 p.1 (p.2 ++ rest) m.head (ap (λ (x : List ℕ). x ++ rest') (sym p') ∙ sym e ∙ ap (λ (x : List ℕ). x ++ rest) begins.whole
-    ∙ append_assoc p.0 p.2 rest) begins.means begins.within)
+    let begins = p.0 in
+    absurd (ends' begins.bytes begins.segment (begins.rest ++ rest) m.head (ap (λ (x : List ℕ). x ++ rest') (sym p') ∙ sym e
+    ∙ ap (λ (x : List ℕ). x ++ rest) begins.whole
+    ∙ append_assoc begins.bytes begins.rest rest) begins.means begins.within)
 same_split limit logins given (m ∷ ms) rest given' (n ∷ ns) rest' p ends p' ends' e =
-    let begins = p.3 in
-    let begins' = p'.3 in
-    let whole : p.0 ++ (p.2 ++ rest) ≡ p'.0 ++ (p'.2 ++ rest') =
-    sym (append_assoc p.0 p.2 rest) ∙ ap (λ (x : List ℕ). x ++ rest) (sym begins.whole) ∙ e ∙ ap (λ (x : List ℕ). x ++ rest') begins'.whole
-    ∙ append_assoc p'.0 p'.2 rest' in
-    let same = same_begin p.0 (p.2 ++ rest) p'.0 (p'.2 ++ rest') m.head n.head p.1 p'.1 whole begins.means begins'.means in
-    let more = same_split limit (after logins m.head) p.2 ms rest p'.2 ns rest' p.4 ends (subst (λ (h : Head). ReadsAs limit (after logins h) p'.2 ns)
-    (sym same.head) p'.4) ends' same.rest in
+    let begins = p.0 in
+    let begins' = p'.0 in
+    let whole : begins.bytes ++ (begins.rest ++ rest) ≡ begins'.bytes ++ (begins'.rest ++ rest') =
+    sym (append_assoc begins.bytes begins.rest rest) ∙ ap (λ (x : List ℕ). x ++ rest) (sym begins.whole) ∙ e ∙ ap (λ (x : List ℕ). x ++ rest') begins'.whole
+    ∙ append_assoc begins'.bytes begins'.rest rest' in
+    let same = same_begin begins.bytes (begins.rest ++ rest) begins'.bytes (begins'.rest ++ rest') m.head n.head begins.segment begins'.segment whole
+    begins.means begins'.means in
+    let more = same_split limit (after logins m.head) begins.rest ms rest begins'.rest ns rest' p.1 ends
+    (subst (λ (h : Head). ReadsAs limit (after logins h) begins'.rest ns)
+    (sym same.head) p'.1) ends' same.rest in
     let segment : m.segment ≡ n.segment =
-    begins.meaning ∙ ap (λ (h : Head). segment_of (continues logins h) h p.1) same.head ∙ ap (segment_of (continues logins n.head) n.head) same.segment
+    begins.meaning ∙ ap (λ (h : Head). segment_of (continues logins h) h begins.segment) same.head ∙ ap (segment_of (continues logins n.head) n.head)
+    same.segment
     ∙ sym begins'.meaning in
     let first = same_message m n same.head segment in (
       ap (λ (x : Message). x ∷ ms) first ∙ ap (λ (xs : List Message). n ∷ xs) more.0,
-      begins.whole ∙ ap (λ (x : List ℕ). x ++ p.2) same.bytes ∙ ap (λ (x : List ℕ). p'.0 ++ x) more.1 ∙ sym begins'.whole,
+      begins.whole ∙ ap (λ (x : List ℕ). x ++ begins.rest) same.bytes ∙ ap (λ (x : List ℕ). begins'.bytes ++ x) more.1 ∙ sym begins'.whole,
     )
 
 pub one_meaning : (limit : ℕ) (logins : Logins) (s : List ℕ) (ms ns : List Message) → ReadsAs limit logins s ms → ReadsAs limit logins s ns → ms ≡ ns
@@ -148,19 +173,29 @@ unfolding ReadsAs
 longest limit logins given [] rest p [] q g ends r e = omega (arith, ap length r)
 longest limit logins given (m ∷ ms) rest p [] q g ends r e = omega (arith, ap length r)
 longest limit logins given [] rest p (n ∷ ns) q g ends r e =
-    let begins = r.3 in
-    absurd (ends r.0 r.1 (r.2 ++ q) n.head (ap (λ (x : List ℕ). x ++ rest) (sym g) ∙ e ∙ ap (λ (x : List ℕ). x ++ q) begins.whole
-    ∙ append_assoc r.0 r.2 q) begins.means begins.within)
+    let begins = r.0 in
+    absurd (ends begins.bytes begins.segment (begins.rest ++ q) n.head (ap (λ (x : List ℕ). x ++ rest) (sym g) ∙ e ∙ ap (λ (x : List ℕ). x ++ q) begins.whole
+    ∙ append_assoc begins.bytes begins.rest q) begins.means begins.within)
 longest limit logins given (m ∷ ms) rest p (n ∷ ns) q g ends r e =
-    let begins = g.3 in
-    let begins' = r.3 in
-    let whole : g.0 ++ (g.2 ++ rest) ≡ r.0 ++ (r.2 ++ q) =
-    sym (append_assoc g.0 g.2 rest) ∙ ap (λ (x : List ℕ). x ++ rest) (sym begins.whole) ∙ e ∙ ap (λ (x : List ℕ). x ++ q) begins'.whole
-    ∙ append_assoc r.0 r.2 q in
-    let same = same_begin g.0 (g.2 ++ rest) r.0 (r.2 ++ q) m.head n.head g.1 r.1 whole begins.means begins'.means in
-    let more = longest limit (after logins m.head) g.2 ms rest r.2 ns q g.4 ends (subst (λ (h : Head). ReadsAs limit (after logins h) r.2 ns)
-    (sym same.head) r.4) same.rest in
-    omega (arith, more, ap length begins.whole, length-append g.0 g.2, ap length begins'.whole, length-append r.0 r.2, ap length same.bytes)
+    let begins = g.0 in
+    let begins' = r.0 in
+    let whole : begins.bytes ++ (begins.rest ++ rest) ≡ begins'.bytes ++ (begins'.rest ++ q) =
+    sym (append_assoc begins.bytes begins.rest rest) ∙ ap (λ (x : List ℕ). x ++ rest) (sym begins.whole) ∙ e ∙ ap (λ (x : List ℕ). x ++ q) begins'.whole
+    ∙ append_assoc begins'.bytes begins'.rest q in
+    let same = same_begin begins.bytes (begins.rest ++ rest) begins'.bytes (begins'.rest ++ q) m.head n.head begins.segment begins'.segment whole
+    begins.means begins'.means in
+    let more = longest limit (after logins m.head) begins.rest ms rest begins'.rest ns q g.1 ends
+    (subst (λ (h : Head). ReadsAs limit (after logins h) begins'.rest ns)
+    (sym same.head) r.1) same.rest in
+    omega (
+      arith,
+      more,
+      ap length begins.whole,
+      length-append begins.bytes begins.rest,
+      ap length begins'.whole,
+      length-append begins'.bytes begins'.rest,
+      ap length same.bytes,
+    )
 
 -- A header that is refused stays so, whatever follows.
 pub splits_more : (limit : ℕ) (stream more : List ℕ) (ms : List Message) (given rest : List ℕ) (f : HeadFault) → Splits limit stream ms given rest → 48
@@ -220,35 +255,35 @@ pub AreBytes-back : (a b : List ℕ) → AreBytes (a ++ b) → AreBytes b
 AreBytes-back a b bytes i = subst (λ (x : ℕ). x < 256) (get_or-append-add a b i 0) (bytes (length a + i))
 
 -- a message's canonical form means it
-again : (logins : Logins) (limit : ℕ) (stream : List ℕ) (m : Message) (bytes segment rest : List ℕ) → AreBytes bytes →
-    (b : Begins limit logins stream m bytes segment rest) → (length (segment_bytes m.segment) ≤ length segment)
-    × Means (canonical_bytes m) m.head (segment_bytes m.segment)
-again logins limit stream m bytes segment rest are b =
-    let shorter : length (segment_bytes m.segment) ≤ length segment = omega (
+again : (logins : Logins) (limit : ℕ) (stream : List ℕ) (m : Message) (b : Begins limit logins stream m) → AreBytes b.bytes
+    → (length (segment_bytes m.segment) ≤ length b.segment) × Means (canonical_bytes m) m.head (segment_bytes m.segment)
+again logins limit stream m b are =
+    let shorter : length (segment_bytes m.segment) ≤ length b.segment = omega (
       arith,
       ap (λ (x : Segment). length (segment_bytes x)) b.meaning,
-      segment-shorter (continues logins m.head) m.head segment,
+      segment-shorter (continues logins m.head) m.head b.segment,
     ) in
-    (shorter, whole-again bytes m.head segment (segment_bytes m.segment) are b.means shorter)
+    (shorter, whole-again b.bytes m.head b.segment (segment_bytes m.segment) are b.means shorter)
 
 pub canon_again : (limit : ℕ) (logins : Logins) (s : List ℕ) (ms : List Message) → AreBytes s → ReadsAs limit logins s ms → ReadsAs limit logins (canon ms) ms
 unfolding ReadsAs
 canon_again limit logins s [] bytes reads = refl
 canon_again limit logins s (m ∷ ms) bytes reads =
-    let begins = reads.3 in
+    let begins = reads.0 in
     let both = subst AreBytes begins.whole bytes in
-    let one = again logins limit s m reads.0 reads.1 reads.2 (AreBytes-front reads.0 reads.2 both) begins in
+    let one = again logins limit s m begins (AreBytes-front begins.bytes begins.rest both) in
     let c = continues logins m.head in (
-      canonical_bytes m,
-      segment_bytes m.segment,
-      canon ms,
       record {
+        bytes = canonical_bytes m;
+        segment = segment_bytes m.segment;
+        rest = canon ms;
         whole = flat_map-cons canonical_bytes m ms;
         means = one.1;
         within = omega (arith, begins.within, one.0);
-        meaning = begins.meaning ∙ sym (segment_again c m.head reads.1) ∙ ap (λ (x : Segment). segment_of c m.head (segment_bytes x)) (sym begins.meaning);
+        meaning = begins.meaning ∙ sym (segment_again c m.head begins.segment) ∙ ap (λ (x : Segment). segment_of c m.head (segment_bytes x))
+            (sym begins.meaning);
       },
-      canon_again limit (after logins m.head) reads.2 ms (AreBytes-back reads.0 reads.2 both) reads.4,
+      canon_again limit (after logins m.head) begins.rest ms (AreBytes-back begins.bytes begins.rest both) reads.1,
     )
 
 pdu_len-le : (m n : ℕ) → m ≤ n → pdu_len m ≤ pdu_len n
@@ -258,10 +293,10 @@ pub canon-shorter : (limit : ℕ) (logins : Logins) (s : List ℕ) (ms : List Me
 unfolding ReadsAs
 canon-shorter limit logins s [] bytes reads = omega arith
 canon-shorter limit logins s (m ∷ ms) bytes reads =
-    let begins = reads.3 in
+    let begins = reads.0 in
     let both = subst AreBytes begins.whole bytes in
-    let one = again logins limit s m reads.0 reads.1 reads.2 (AreBytes-front reads.0 reads.2 both) begins in
-    let more = canon-shorter limit (after logins m.head) reads.2 ms (AreBytes-back reads.0 reads.2 both) reads.4 in
+    let one = again logins limit s m begins (AreBytes-front begins.bytes begins.rest both) in
+    let more = canon-shorter limit (after logins m.head) begins.rest ms (AreBytes-back begins.bytes begins.rest both) reads.1 in
     omega (
       arith,
       ap length (flat_map-cons canonical_bytes m ms),
@@ -270,7 +305,7 @@ canon-shorter limit logins s (m ∷ ms) bytes reads =
       pdu_len-le _ _ one.0,
       begins.means.size,
       ap length begins.whole,
-      length-append reads.0 reads.2,
+      length-append begins.bytes begins.rest,
       more,
     )
 
@@ -286,4 +321,10 @@ pub count-shorter : (limit : ℕ) (logins : Logins) (s : List ℕ) (ms : List Me
 unfolding ReadsAs
 count-shorter limit logins s [] reads = omega arith
 count-shorter limit logins s (m ∷ ms) reads =
-    omega (arith, reads.3.means.size, ap length reads.3.whole, length-append reads.0 reads.2, count-shorter limit (after logins m.head) reads.2 ms reads.4)
+    omega (
+      arith,
+      reads.0.means.size,
+      ap length reads.0.whole,
+      length-append reads.0.bytes reads.0.rest,
+      count-shorter limit (after logins m.head) reads.0.rest ms reads.1,
+    )

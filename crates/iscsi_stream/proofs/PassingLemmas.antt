@@ -16,7 +16,7 @@ use Rattle.iscsi_stream.specs.Segment.{no_login}
 use Rattle.iscsi_stream.specs.Stream.{Message, longest_segment, Splits, ReadsAs}
 use Rattle.iscsi_stream.specs.declared.normalising.Form.{Form}
 use Rattle.iscsi_stream.specs.Framing.{Framing, is_whole, is_ready, settled, Takes, FeedFails, HasTaken, Moves, given_up, message_of, last_place}
-use Rattle.iscsi_stream.specs.Passing.{IsDue, PassesOn, Counted, Appended, PassFails}
+use Rattle.iscsi_stream.specs.Passing.{IsDue, progress, PassesOn, Counted, Appended, PassFails}
 use Rattle.iscsi_stream.proofs.HeadLemmas.{AreBytes-take}
 use Rattle.iscsi_stream.proofs.SettledBytesLemmas.{settled-short, length-settled, is_whole-settled}
 use Rattle.iscsi_stream.proofs.ReadyLemmas.{apart, not_whole-nil}
@@ -30,7 +30,7 @@ unready_after v h = elim v.failed as (λ b. (not b && is_whole []) ≡ false) [ 
 
 -- ---- one PDU
 
-pub pass_none : (form : Form) (v : Framing) (out : List ℕ) (k : Counts) → is_ready v ≡ false → PassesOn form v v [] [] out out k k
+pub pass_none : (form : Form) (v : Framing) (out : List ℕ) (k : Counts) → is_ready v ≡ false → PassesOn form (progress v out k) (progress v out k) [] []
 pass_none form v out k unready = record {
   moves = moves_none v;
   limit = refl;
@@ -44,7 +44,7 @@ pass_none form v out k unready = record {
 pub pass_one : (form : Form) (v w : Framing) (h : Head) (d before after bytes : List ℕ) (k n : Counts) → Means v.held h d → w ≡ given_up v h → after ≡ before
     ++ bytes → IsDue form (message_of v h d ∷ []) bytes
     → n.pdus ≡ min (k.pdus + 1) (2 ^ 64 - 1) → n.bytes_in ≡ k.bytes_in → n.bytes_out ≡ min (k.bytes_out + length bytes) (2 ^ 64 - 1) →
-    PassesOn form v w [] (message_of v h d ∷ []) before after k n
+    PassesOn form (progress v before k) (progress w after n) [] (message_of v h d ∷ [])
 pass_one form v w h d before after bytes k n means is appended due pdus bytes_in bytes_out =
     let m = message_of v h d in
     record {
@@ -69,8 +69,9 @@ counted_then k m n xs ys a b p q =
       bytes_out = λ lt. (let one = p.bytes_out (omega arith) in let two = q.bytes_out (omega arith) in omega arith);
     }
 
-passes_then : (form : Form) (u v w : Framing) (x y : List ℕ) (ms ns : List Message) (a b c : List ℕ) (k m n : Counts) → PassesOn form u v x ms a b k m →
-    PassesOn form v w y ns b c m n → PassesOn form u w (x ++ y) (ms ++ ns) a c k n
+passes_then : (form : Form) (u v w : Framing) (x y : List ℕ) (ms ns : List Message) (a b c : List ℕ) (k m n : Counts) →
+    PassesOn form (progress u a k) (progress v b m) x ms →
+    PassesOn form (progress v b m) (progress w c n) y ns → PassesOn form (progress u a k) (progress w c n) (x ++ y) (ms ++ ns)
 passes_then form u v w x y ms ns a b c k m n p q = record {
   moves = moves_then u v w x y ms ns p.moves q.moves;
   limit = q.limit ∙ p.limit;
@@ -83,8 +84,8 @@ passes_then form u v w x y ms ns a b c k m n p q = record {
 
 -- feed and then the ready PDU
 pub passed_more : (form : Form) (piece rest : List ℕ) (old v u w : Framing) (a b c : List ℕ) (k m n : Counts) (taken : ℕ) (more : List Message) →
-    PassedUpTo form piece rest old v a b k m → Takes v rest taken u → PassesOn form u w [] more b c m n
-    → PassedUpTo form piece (take (length rest - taken) (drop taken rest)) old w a c k n
+    PassedUpTo form piece rest (progress old a k) (progress v b m) → Takes v rest taken u → PassesOn form (progress u b m) (progress w c n) [] more
+    → PassedUpTo form piece (take (length rest - taken) (drop taken rest)) (progress old a k) (progress w c n)
 passed_more form piece rest old v u w a b c k m n taken more upto takes one = record {
   before = upto.before ++ take taken rest;
   more = upto.more ++ more;
@@ -116,18 +117,20 @@ takes_some v rest n u unready takes some =
           absurd (apart (ap (λ (b : Bool). not b && is_whole v.held) takes.live ∙ whole) unready)
     ]
 
-pub passed_none : (form : Form) (piece : List ℕ) (v : Framing) (out : List ℕ) (k : Counts) → is_ready v ≡ false → PassedUpTo form piece piece v v out out k k
+pub passed_none : (form : Form) (piece : List ℕ) (v : Framing) (out : List ℕ) (k : Counts) → is_ready v ≡ false →
+    PassedUpTo form piece piece (progress v out k) (progress v out k)
 passed_none form piece v out k unready = record { before = []; more = []; parts = refl; passes = pass_none form v out k unready }
 
 pub passed_all : (form : Form) (piece rest : List ℕ) (old v : Framing) (a b : List ℕ) (k m : Counts) → length rest ≡ 0 →
-    PassedUpTo form piece rest old v a b k m → (more : List Message) × PassesOn form old v piece more a b k m
+    PassedUpTo form piece rest (progress old a k) (progress v b m) → (more : List Message) × PassesOn form (progress old a k) (progress v b m) piece more
 passed_all form piece rest old v a b k m none upto =
     let same : piece ≡ upto.before = upto.parts ∙ ap (λ (x : List ℕ). upto.before ++ x) (nil_from_length rest none) ∙ append-nil upto.before in
-    (upto.more, subst (λ (x : List ℕ). PassesOn form old v x upto.more a b k m) (sym same) upto.passes)
+    (upto.more, subst (λ (x : List ℕ). PassesOn form (progress old a k) (progress v b m) x upto.more) (sym same) upto.passes)
 
 -- ---- where it stops
 
-whole_is : (form : Form) (piece rest : List ℕ) (old v : Framing) (a b : List ℕ) (k m : Counts) (upto : PassedUpTo form piece rest old v a b k m) (s : List ℕ)
+whole_is : (form : Form) (piece rest : List ℕ) (old v : Framing) (a b : List ℕ) (k m : Counts)
+    (upto : PassedUpTo form piece rest (progress old a k) (progress v b m)) (s : List ℕ)
     (ms : List Message) (now : HasTaken (s ++ upto.before) ms v) → s ++ piece ≡ now.given ++ (now.rest ++ rest)
 whole_is form piece rest old v a b k m upto s ms now =
     ap (λ (x : List ℕ). s ++ x) upto.parts ∙ sym (append_assoc s upto.before rest) ∙ ap (λ (x : List ℕ). x ++ rest) now.whole
@@ -137,7 +140,8 @@ now_reads : (s : List ℕ) (ms : List Message) (v : Framing) (now : HasTaken s m
 now_reads s ms v now limit = subst (λ (n : ℕ). ReadsAs n no_login now.given ms) limit now.reads
 
 -- what is passed on so far begins the whole
-pub passed_part : (form : Form) (piece rest : List ℕ) (old v : Framing) (a b c : List ℕ) (k m : Counts) → PassedUpTo form piece rest old v a b k m → old.limit
+pub passed_part : (form : Form) (piece rest : List ℕ) (old v : Framing) (a b c : List ℕ) (k m : Counts) →
+    PassedUpTo form piece rest (progress old a k) (progress v b m) → old.limit
     ≡ longest_segment → c ≡ b → Appended form old piece a c
 passed_part form piece rest old v a b c k m upto limit same = record {
   more = upto.more;
@@ -206,7 +210,8 @@ limit_splits s p ms place v t fails =
     )
 
 -- no segment is longer than a header can say
-never_over : (form : Form) (piece rest : List ℕ) (old v : Framing) (a b : List ℕ) (k m : Counts) (upto : PassedUpTo form piece rest old v a b k m) (s : List ℕ)
+never_over : (form : Form) (piece rest : List ℕ) (old v : Framing) (a b : List ℕ) (k m : Counts)
+    (upto : PassedUpTo form piece rest (progress old a k) (progress v b m)) (s : List ℕ)
     (ms : List Message) (now : HasTaken (s ++ upto.before) ms v) (h : Head) (n : ℕ)
     → AreBytes (s ++ piece) → IsHeader (take 48 (now.rest ++ rest)) h n → longest_segment < n → ⊥
 never_over form piece rest old v a b k m upto s ms now h n bytes r lt =
@@ -214,7 +219,7 @@ never_over form piece rest old v a b k m upto s ms now h n bytes r lt =
     omega (arith, lt, IsHeader-short (take 48 (now.rest ++ rest)) h n (AreBytes-take 48 (now.rest ++ rest) behind) r)
 
 pub feed_stops : (e : StreamFault) (form : Form) (piece rest : List ℕ) (old v : Framing) (a b : List ℕ) (k m : Counts) →
-    PassedUpTo form piece rest old v a b k m → old.limit ≡ longest_segment → FeedFails v rest e
+    PassedUpTo form piece rest (progress old a k) (progress v b m) → old.limit ≡ longest_segment → FeedFails v rest e
     → PassFails form old piece a b (tool_fault e)
 feed_stops stream.NoMemory form piece rest old v a b k m upto limit fails = tt
 feed_stops (stream.Head f p) form piece rest old v a b k m upto limit fails = record {

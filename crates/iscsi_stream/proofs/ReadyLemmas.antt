@@ -9,7 +9,7 @@ use Rattle.iscsi_stream.specs.declared.logins.Logins.{Logins}
 use Rattle.iscsi_stream.specs.Segment.{after}
 use Rattle.iscsi_stream.specs.Stream.{pdu_len}
 use Rattle.iscsi_stream.specs.Framing.{Framing, length_at, is_whole, is_ready, given_up, last_place}
-use Rattle.iscsi_stream.specs.Gathering.{IsBody}
+use Rattle.iscsi_stream.specs.Gathering.{filling, IsBody}
 use Rattle.iscsi_stream.proofs.HeadLemmas.{means_of}
 use Rattle.iscsi_stream.proofs.GatheringLemmas.{is_full, length-body, length_at-front}
 
@@ -40,7 +40,8 @@ not_whole-nil = refl
 -- ---- a body
 
 -- a body that lacks some of its segment or its padding
-pub body_not : (limit : ℕ) (header segment : List ℕ) (room : ℕ) (h : Head) (len padded : ℕ) → length header ≡ 48 → IsBody limit header segment room h len padded
+pub body_not : (limit : ℕ) (header segment : List ℕ) (room : ℕ) (h : Head) (len padded : ℕ) → length header ≡ 48 →
+    IsBody limit header (filling segment padded) room h len
     → length segment + padded < len + padding len
     → is_whole (header ++ (segment ++ replicate padded 0)) ≡ true → ⊥
 body_not limit header segment room h len padded size body lt e =
@@ -52,7 +53,7 @@ body_not limit header segment room h len padded size body lt e =
     )
 
 pub body_whole : (limit : ℕ) (header segment : List ℕ) (room : ℕ) (h : Head) (len padded : ℕ) → length header ≡ 48 →
-    IsBody limit header segment room h len padded → len ≤ length segment → padding len ≤ padded
+    IsBody limit header (filling segment padded) room h len → len ≤ length segment → padding len ≤ padded
     → is_whole (header ++ (segment ++ replicate padded 0)) ≡ true
 body_whole limit header segment room h len padded size body full all =
     let at = length_at-front header (segment ++ replicate padded 0) h len size body.says in
@@ -60,7 +61,7 @@ body_whole limit header segment room h len padded size body full all =
     (omega (arith, length-body header segment padded size, ap pdu_len at, body.no_more, body.no_more_padding))
 
 pub body_means : (limit : ℕ) (header segment : List ℕ) (room : ℕ) (h : Head) (len padded : ℕ) → length header ≡ 48 →
-    IsBody limit header segment room h len padded → len ≤ length segment → padding len ≤ padded
+    IsBody limit header (filling segment padded) room h len → len ≤ length segment → padding len ≤ padded
     → Means (header ++ (segment ++ replicate padded 0)) h segment
 body_means limit header segment room h len padded size body full all =
     let behind = segment ++ replicate padded 0 in

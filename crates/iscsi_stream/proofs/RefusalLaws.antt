@@ -25,14 +25,15 @@ same_given : (limit : ℕ) (logins : Logins) (given : List ℕ) (ms : List Messa
 unfolding ReadsAs
 same_given limit logins given [] rest given' rest' p p' e = p ∙ sym p'
 same_given limit logins given (m ∷ ms) rest given' rest' p p' e =
-    let begins = p.3 in
-    let begins' = p'.3 in
-    let whole : p.0 ++ (p.2 ++ rest) ≡ p'.0 ++ (p'.2 ++ rest') =
-    sym (append_assoc p.0 p.2 rest) ∙ ap (λ (x : List ℕ). x ++ rest) (sym begins.whole) ∙ e ∙ ap (λ (x : List ℕ). x ++ rest') begins'.whole
-    ∙ append_assoc p'.0 p'.2 rest' in
-    let same = same_begin p.0 (p.2 ++ rest) p'.0 (p'.2 ++ rest') m.head m.head p.1 p'.1 whole begins.means begins'.means in
-    let more = same_given limit (after logins m.head) p.2 ms rest p'.2 rest' p.4 p'.4 same.rest in
-    begins.whole ∙ ap (λ (x : List ℕ). x ++ p.2) same.bytes ∙ ap (λ (x : List ℕ). p'.0 ++ x) more ∙ sym begins'.whole
+    let begins = p.0 in
+    let begins' = p'.0 in
+    let whole : begins.bytes ++ (begins.rest ++ rest) ≡ begins'.bytes ++ (begins'.rest ++ rest') =
+    sym (append_assoc begins.bytes begins.rest rest) ∙ ap (λ (x : List ℕ). x ++ rest) (sym begins.whole) ∙ e ∙ ap (λ (x : List ℕ). x ++ rest') begins'.whole
+    ∙ append_assoc begins'.bytes begins'.rest rest' in
+    let same = same_begin begins.bytes (begins.rest ++ rest) begins'.bytes (begins'.rest ++ rest') m.head m.head begins.segment begins'.segment whole
+    begins.means begins'.means in
+    let more = same_given limit (after logins m.head) begins.rest ms rest begins'.rest rest' p.1 p'.1 same.rest in
+    begins.whole ∙ ap (λ (x : List ℕ). x ++ begins.rest) same.bytes ∙ ap (λ (x : List ℕ). begins'.bytes ++ x) more ∙ sym begins'.whole
 
 -- no header within the limit begins the bytes
 abbrev NoHeader : ℕ → List ℕ → Type 0

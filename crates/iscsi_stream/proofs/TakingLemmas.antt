@@ -56,21 +56,21 @@ longest-snoc limit logins given [] rest m reads =
     let same : length_at (given ++ rest) ≡ length_at rest = ap (λ (x : List ℕ). length_at (x ++ rest)) reads in
     omega (arith, same)
 longest-snoc limit logins given (k ∷ ms) rest m reads =
-    let b = reads.3 in
-    let bytes = reads.0 in
+    let b = reads.0 in
+    let bytes = b.bytes in
     let long : 48 ≤ length bytes = omega (arith, b.means.size) in
-    let n : length_at bytes ≡ length reads.1 = sym (means-length bytes k.head reads.1 b.means) in
+    let n : length_at bytes ≡ length b.segment = sym (means-length bytes k.head b.segment b.means) in
     let size : pdu_len (length_at bytes) ≡ length bytes = ap pdu_len n ∙ sym b.means.size in
-    let first : length_at given ≡ length_at bytes = ap length_at b.whole ∙ length_at-front bytes reads.2 long in
-    let whole : given ++ rest ≡ bytes ++ (reads.2 ++ rest) = ap (λ (x : List ℕ). x ++ rest) b.whole ∙ append_assoc bytes reads.2 rest in
-    let first' : length_at (given ++ rest) ≡ length_at bytes = ap length_at whole ∙ length_at-front bytes (reads.2 ++ rest) long in
-    let behind : drop (pdu_len (length_at given)) given ≡ reads.2 =
+    let first : length_at given ≡ length_at bytes = ap length_at b.whole ∙ length_at-front bytes b.rest long in
+    let whole : given ++ rest ≡ bytes ++ (b.rest ++ rest) = ap (λ (x : List ℕ). x ++ rest) b.whole ∙ append_assoc bytes b.rest rest in
+    let first' : length_at (given ++ rest) ≡ length_at bytes = ap length_at whole ∙ length_at-front bytes (b.rest ++ rest) long in
+    let behind : drop (pdu_len (length_at given)) given ≡ b.rest =
     ap (λ (j : ℕ). drop (pdu_len j) given) first ∙ ap (λ (j : ℕ). drop j given) size ∙ ap (drop (length bytes)) b.whole
-    ∙ drop_at bytes reads.2 (length bytes) refl in
-    let behind' : drop (pdu_len (length_at (given ++ rest))) (given ++ rest) ≡ reads.2 ++ rest =
+    ∙ drop_at bytes b.rest (length bytes) refl in
+    let behind' : drop (pdu_len (length_at (given ++ rest))) (given ++ rest) ≡ b.rest ++ rest =
     ap (λ (j : ℕ). drop (pdu_len j) (given ++ rest)) first' ∙ ap (λ (j : ℕ). drop j (given ++ rest)) size ∙ ap (drop (length bytes)) whole
-    ∙ drop_at bytes (reads.2 ++ rest) (length bytes) refl in
-    let more = longest-snoc limit (after logins k.head) reads.2 ms rest m reads.4 in
+    ∙ drop_at bytes (b.rest ++ rest) (length bytes) refl in
+    let more = longest-snoc limit (after logins k.head) b.rest ms rest m reads.1 in
     omega (arith, first, first', ap (longest_of ms) behind, ap (longest_of (ms ++ m ∷ [])) behind', more)
 
 -- ---- what it takes and gives up

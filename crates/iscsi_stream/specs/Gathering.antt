@@ -13,16 +13,25 @@ abbrev pub gathered : List ℕ → List ℕ → Stage → List ℕ
 gathered header segment (Header filled) = take filled header
 gathered header segment (Body head len padded) = header ++ (segment ++ replicate padded 0)
 
--- What is kept of a PDU whose header is whole, in a buffer with room for so many bytes.
-pub record IsBody (limit : ℕ) (header segment : List ℕ) (room : ℕ) (head : Head)
-    (len padded : ℕ) : Type 0 where
+-- what there is of a PDU's body: bytes of the segment, and how many of its padding
+pub record Filling : Type 0 where
+  pub segment : List ℕ
+  pub padded : ℕ
+
+-- these two together
+abbrev pub filling : List ℕ → ℕ → Filling
+filling segment padded = record { segment = segment; padded = padded }
+
+-- What is kept of a PDU whose header is whole and says so, in a buffer with room for so many bytes.
+pub record IsBody (limit : ℕ) (header : List ℕ) (body : Filling) (room : ℕ) (head : Head)
+    (len : ℕ) : Type 0 where
   pub says : IsHeader header head len
   pub fits : Fits head
   pub within : len ≤ limit
   pub has_room : len ≤ room
-  pub no_more : length segment ≤ len
-  pub no_more_padding : padded ≤ padding len
-  pub order : 0 < padded → length segment ≡ len
+  pub no_more : length body.segment ≤ len
+  pub no_more_padding : body.padded ≤ padding len
+  pub order : 0 < body.padded → length body.segment ≡ len
 
 -- a buffer of this capacity has room for a segment within the limit
 abbrev pub HasRoom : ℕ → ℕ → ℕ → Type 0
@@ -33,7 +42,7 @@ abbrev pub IsKept : ℕ → List ℕ → List ℕ → ℕ → Stage → Type 0
 IsKept limit header segment room (Header filled) = (length header ≡ 48) × (filled < 48)
     × (segment ≡ [])
 IsKept limit header segment room (Body head len padded) = (length header ≡ 48)
-    × IsBody limit header segment room head len padded
+    × IsBody limit header (filling segment padded) room head len
 
 -- The first n bytes of the piece are gathered: all of the piece, or as many as make a whole PDU.
 pub record Gathers (limit : ℕ) (old piece : List ℕ) (n : ℕ) (new : List ℕ) : Type 0 where
@@ -44,17 +53,17 @@ pub record Gathers (limit : ℕ) (old piece : List ℕ) (n : ℕ) (new : List �
 
 -- The first n bytes of the piece go to the segment and then to its padding: all of the piece, or as
 -- many as are missing.
-pub record FillsBody (len : ℕ) (segment : List ℕ) (padded : ℕ) (piece : List ℕ) (n : ℕ)
-    (segment_new : List ℕ) (padded_new : ℕ) : Type 0 where
+pub record FillsBody (len : ℕ) (old : Filling) (piece : List ℕ) (n : ℕ)
+    (new : Filling) : Type 0 where
   pub count : ℕ
   pub bound : n ≤ length piece
-  pub parts : n + padded ≡ count + padded_new
+  pub parts : n + old.padded ≡ count + new.padded
   pub count_bound : count ≤ n
-  pub appended : segment_new ≡ segment ++ take count piece
-  pub no_more : length segment_new ≤ len
-  pub no_more_padding : padded_new ≤ padding len
-  pub order : 0 < padded_new → length segment_new ≡ len
-  pub stops : n < length piece → (length segment_new ≡ len) × (padded_new ≡ padding len)
+  pub appended : new.segment ≡ old.segment ++ take count piece
+  pub no_more : length new.segment ≤ len
+  pub no_more_padding : new.padded ≤ padding len
+  pub order : 0 < new.padded → length new.segment ≡ len
+  pub stops : n < length piece → (length new.segment ≡ len) × (new.padded ≡ padding len)
 
 -- when a whole header is refused
 abbrev pub HeaderFails : List ℕ → ℕ → ℕ → ℕ → StreamFault → Type 0

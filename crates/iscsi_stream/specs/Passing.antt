@@ -24,17 +24,28 @@ pub record Counted (old new : Counts) (ms : List Message) (bytes : List ℕ) : T
   pub bytes_out : old.bytes_out + length bytes < 2 ^ 64 →
       new.bytes_out ≡ old.bytes_out + length bytes
 
+-- how far a stream is passed on: the framer, the bytes appended, and what is counted
+pub record Progress : Type 0 where
+  pub framing : Framing
+  pub appended : List ℕ
+  pub counts : Counts
+
+-- these three together
+abbrev pub progress : Framing → List ℕ → Counts → Progress
+progress framing appended counts =
+    record { framing = framing; appended = appended; counts = counts }
+
 -- The framer took the bytes, and what is due for the PDUs that it gave up was appended. No PDU is
 -- ready.
-pub record PassesOn (form : Form) (old new : Framing) (bytes : List ℕ) (more : List Message)
-    (before after : List ℕ) (counts_old counts_new : Counts) : Type 0 where
-  pub moves : Moves old new bytes more
-  pub limit : new.limit ≡ old.limit
-  pub unready : is_ready new ≡ false
+pub record PassesOn (form : Form) (old new : Progress) (bytes : List ℕ)
+    (more : List Message) : Type 0 where
+  pub moves : Moves old.framing new.framing bytes more
+  pub limit : new.framing.limit ≡ old.framing.limit
+  pub unready : is_ready new.framing ≡ false
   pub out : List ℕ
   pub due : IsDue form more out
-  pub appended : after ≡ before ++ out
-  pub counted : Counted counts_old counts_new more out
+  pub appended : new.appended ≡ old.appended ++ out
+  pub counted : Counted old.counts new.counts more out
 
 -- What is due for more was appended; these PDUs are in what the framer took and the piece.
 pub record Appended (form : Form) (old : Framing) (piece before after : List ℕ) : Type 0 where

@@ -21,8 +21,10 @@ message continued head bytes = record { head = head; segment = segment_of contin
 
 -- The stream begins with a PDU of this meaning, whose segment is within the limit; the rest follows
 -- it.
-pub record Begins (limit : ℕ) (logins : Logins) (stream : List ℕ) (m : Message)
-    (bytes segment rest : List ℕ) : Type 0 where
+pub record Begins (limit : ℕ) (logins : Logins) (stream : List ℕ) (m : Message) : Type 0 where
+  pub bytes : List ℕ
+  pub segment : List ℕ
+  pub rest : List ℕ
   pub whole : stream ≡ bytes ++ rest
   pub means : Means bytes m.head segment
   pub within : length segment ≤ limit
@@ -31,8 +33,8 @@ pub record Begins (limit : ℕ) (logins : Logins) (stream : List ℕ) (m : Messa
 -- The stream is PDUs of these meanings, one after another, each with a segment within the limit.
 unfoldable pub ReadsAs : ℕ → Logins → List ℕ → List Message → Type 0
 ReadsAs limit logins stream [] = stream ≡ []
-ReadsAs limit logins stream (m ∷ ms) = (bytes : List ℕ) × (segment : List ℕ) × (rest : List ℕ)
-    × Begins limit logins stream m bytes segment rest × ReadsAs limit (after logins m.head) rest ms
+ReadsAs limit logins stream (m ∷ ms) = (first : Begins limit logins stream m)
+    × ReadsAs limit (after logins m.head) first.rest ms
 
 -- No segment is longer: its length has three bytes.
 abbrev pub longest_segment : ℕ

@@ -5,7 +5,7 @@ ghost use Rattle.std.specs.Vec.{vec_capacity};
 ghost use Rattle.iscsi_pdu.specs.Meaning.{IsHeader, Fits, padding};
 ghost use Rattle.iscsi_stream.specs.Stream.{pdu_len};
 ghost use Rattle.iscsi_stream.specs.Framing.{begun_len};
-ghost use Rattle.iscsi_stream.specs.Gathering.{gathered, HasRoom, IsBody, IsKept, Gathers, FillsBody, HeaderFails, GatherFails};
+ghost use Rattle.iscsi_stream.specs.Gathering.{gathered, HasRoom, filling, IsBody, IsKept, Gathers, FillsBody, HeaderFails, GatherFails};
 
 use crate::fault::StreamFault;
 use iscsi_pdu::{Head, pad, read_head};
@@ -55,8 +55,8 @@ fn begin(
 ) -> Result<(Head, u32), StreamFault>
     requires empty { buffer.old.segment.items ≡ [] }
     requires room { HasRoom limit (vec_capacity buffer.old.segment) buffer.old.room }
-    ensures ok { IfOk result (λ x. IsBody limit header.now buffer.new.segment.items
-        buffer.new.room x.0 x.1 0) }
+    ensures ok { IfOk result (λ x. IsBody limit header.now (filling buffer.new.segment.items 0)
+        buffer.new.room x.0 x.1) }
     ensures room { IfOk result (λ x. buffer.new.room ≡ max buffer.old.room x.1) }
     ensures exact { IfOk result (λ x. vec_capacity buffer.new.segment
         ≡ max (vec_capacity buffer.old.segment) x.1) }
@@ -84,8 +84,8 @@ fn fill_body(segment: &mut Vec<u8>, len: u32, padded: u32, piece: &[u8]) -> (usi
     requires segment { length segment.old.items ≤ len }
     requires padding { padded ≤ padding len }
     requires order { 0 < padded → length segment.old.items ≡ len }
-    ensures fills { FillsBody len segment.old.items padded piece.now
-        result.0 segment.new.items result.1 }
+    ensures fills { FillsBody len (filling segment.old.items padded) piece.now
+        result.0 (filling segment.new.items result.1) }
     ensures grows { vec_capacity segment.old ≤ vec_capacity segment.new }
 {
     let data = piece.len().min(len as usize - segment.len());

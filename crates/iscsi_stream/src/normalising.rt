@@ -7,7 +7,7 @@ ghost use Rattle.iscsi_pdu.specs.Meaning.{AreBytes, Fits};
 ghost use Rattle.iscsi_stream.specs.Stream.{Message, message, longest_segment};
 ghost use Rattle.iscsi_stream.specs.Framing.{is_ready};
 ghost use Rattle.iscsi_stream.specs.Normalising.{Normalises, Shows, Writes, AtEnd};
-ghost use Rattle.iscsi_stream.specs.Passing.{IsDue, PassesOn, Appended, PassFails};
+ghost use Rattle.iscsi_stream.specs.Passing.{IsDue, progress, PassesOn, Appended, PassFails};
 
 use crate::canonical_form::canonical;
 use crate::counts::Counts;
@@ -114,8 +114,8 @@ fn pass_on(
     ensures bytes { AreBytes piece.now }
     ensures appended { Appended form framer.old piece.now out.old.items out.new.items }
     ensures ok { OnOk result ((more : List Message)
-        × PassesOn form framer.old framer.new piece.now more out.old.items out.new.items
-        counts.old counts.new) }
+        × PassesOn form (progress framer.old out.old.items counts.old)
+        (progress framer.new out.new.items counts.new) piece.now more) }
     ensures err { IfErr result (PassFails form framer.old piece.now out.old.items out.new.items) }
 {
     let mut rest = piece;
@@ -135,8 +135,8 @@ fn append_ready(
     counts: &mut Counts,
 ) -> Result<(), AllocError>
     ensures ok { OnOk result ((more : List Message)
-        × PassesOn form framer.old framer.new [] more out.old.items out.new.items counts.old
-        counts.new) }
+        × PassesOn form (progress framer.old out.old.items counts.old)
+        (progress framer.new out.new.items counts.new) [] more) }
     ensures err { OnErr result (out.new.items ≡ out.old.items) }
 {
     let Some(pdu) = framer.pdu() else {

@@ -8,7 +8,7 @@ use Rattle.iscsi_stream.specs.Stream.{Message}
 use Rattle.iscsi_stream.specs.Canonical.{canon}
 use Rattle.iscsi_stream.specs.Framing.{HasTaken}
 use Rattle.iscsi_stream.proofs.FrontLemmas.{Course, Sight, HearsUpTo, HearAlike, IsLeft, framer_hears, framer_leaves, framer_refuses, hear_alike, sight}
-use Rattle.iscsi_stream.proofs.OneEndingLaw.{Outcome, Ended, Over, GoesOn, Breaks, EndAlike, end_of, end_alike}
+use Rattle.iscsi_stream.proofs.OneEndingLaw.{Outcome, Ended, Over, GoesOn, Breaks, call, EndAlike, end_of, end_alike}
 use Rattle.iscsi_stream.proofs.ReadyLemmas.{apart}
 use Rattle.iscsi_login.specs.declared.phase.Phase.{Phase}
 use Rattle.iscsi_target.specs.declared.fault.TargetFault.{TargetFault}
@@ -130,7 +130,7 @@ unfolding course
 run_alike stream ms old disk output result other new now first second written rewritten a b =
     let h : HearAlike (course old.machine disk) a.messages b.messages a.sight b.sight =
     hear_alike (course old.machine disk) old.framing.limit stream ms a.messages b.messages a.sight b.sight a.hears b.hears in
-    let e : EndAlike is_closed result other new.machine now.machine new.framing now.framing =
+    let e : EndAlike is_closed (call result new.machine new.framing) (call other now.machine now.framing) =
     end_alike (leaves (answers old.machine disk a.messages)) a.sight b.sight result other new.machine now.machine new.framing now.framing h.sight a.ended
     (subst (λ (r : Stepped). Ended (leaves r) b.sight other now.machine now.framing) h.same b.ended) in
     record {

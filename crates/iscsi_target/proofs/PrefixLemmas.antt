@@ -32,21 +32,23 @@ unfolding ReadsAs
 prefix_of limit logins given [] rest ms p q =
     record { more = ms; whole = refl; reads = subst (λ (x : List ℕ). ReadsAs longest_segment logins x ms) (ap (λ (x : List ℕ). x ++ rest) p) q }
 prefix_of limit logins given (m ∷ first) rest [] p q =
-    let b = p.3 in
-    absurd (no_pdu_none limit p.0 p.1 (p.2 ++ rest) m.head (sym q ∙ ap (λ (x : List ℕ). x ++ rest) b.whole ∙ append_assoc p.0 p.2 rest) b.means b.within)
+    let b = p.0 in
+    absurd (no_pdu_none limit b.bytes b.segment (b.rest ++ rest) m.head (sym q ∙ ap (λ (x : List ℕ). x ++ rest) b.whole
+    ∙ append_assoc b.bytes b.rest rest) b.means b.within)
 prefix_of limit logins given (m ∷ first) rest (n ∷ ms) p q =
-    let b = p.3 in
-    let c = q.3 in
-    let whole : p.0 ++ (p.2 ++ rest) ≡ q.0 ++ q.2 = sym (append_assoc p.0 p.2 rest) ∙ ap (λ (x : List ℕ). x ++ rest) (sym b.whole) ∙ c.whole in
-    let same = same_begin p.0 (p.2 ++ rest) q.0 q.2 m.head n.head p.1 q.1 whole b.means c.means in
+    let b = p.0 in
+    let c = q.0 in
+    let whole : b.bytes ++ (b.rest ++ rest) ≡ c.bytes ++ c.rest = sym (append_assoc b.bytes b.rest rest) ∙ ap (λ (x : List ℕ). x ++ rest) (sym b.whole) ∙
+    c.whole in
+    let same = same_begin b.bytes (b.rest ++ rest) c.bytes c.rest m.head n.head b.segment c.segment whole b.means c.means in
     let segment : m.segment ≡ n.segment =
-    b.meaning ∙ ap (λ (h : Head). segment_of (continues logins h) h p.1) same.head ∙ ap (segment_of (continues logins n.head) n.head) same.segment
+    b.meaning ∙ ap (λ (h : Head). segment_of (continues logins h) h b.segment) same.head ∙ ap (segment_of (continues logins n.head) n.head) same.segment
     ∙ sym c.meaning in
     let one : m ≡ n = same_message m n same.head segment in
-    let q' : ReadsAs longest_segment (after logins m.head) (p.2 ++ rest) ms =
+    let q' : ReadsAs longest_segment (after logins m.head) (b.rest ++ rest) ms =
     subst (λ (x : List ℕ). ReadsAs longest_segment (after logins m.head) x ms) (sym same.rest)
-    (subst (λ (h : Head). ReadsAs longest_segment (after logins h) q.2 ms) (sym same.head) q.4) in
-    let r : Rests (after logins m.head) first ms rest = prefix_of limit (after logins m.head) p.2 first rest ms p.4 q' in
+    (subst (λ (h : Head). ReadsAs longest_segment (after logins h) c.rest ms) (sym same.head) q.1) in
+    let r : Rests (after logins m.head) first ms rest = prefix_of limit (after logins m.head) b.rest first rest ms p.1 q' in
     rests_on logins m n first ms rest one r
 
 -- a stream that begins with a header has a PDU with that header
@@ -63,14 +65,14 @@ pub begins_with : (logins : Logins) (rest more : List ℕ) (ms : List Message) �
 unfolding ReadsAs
 begins_with logins rest more [] le q = absurd (omega (arith, le, ap (λ (x : List ℕ). length x) q, length-append rest more))
 begins_with logins rest more (n ∷ ms) le q =
-    let c = q.3 in
+    let c = q.0 in
     record {
       m = n;
       more = ms;
       is = refl;
-      segment = q.1;
-      says = subst (λ (x : List ℕ). IsHeader x n.head (length q.1)) (take-append-le 48 rest more le)
-          (starts (rest ++ more) q.0 q.2 n.head q.1 c.whole c.means).0;
+      segment = c.segment;
+      says = subst (λ (x : List ℕ). IsHeader x n.head (length c.segment)) (take-append-le 48 rest more le)
+          (starts (rest ++ more) c.bytes c.rest n.head c.segment c.whole c.means).0;
       meaning = c.meaning;
     }
 
@@ -87,11 +89,11 @@ pub none_whole : (limit : ℕ) (logins : Logins) (rest : List ℕ) (ms : List Me
 unfolding ReadsAs
 none_whole limit logins rest [] begun part q = refl
 none_whole limit logins rest (n ∷ ms) begun part q =
-    let c = q.3 in
-    let s = starts rest q.0 q.2 n.head q.1 c.whole c.means in
+    let c = q.0 in
+    let s = starts rest c.bytes c.rest n.head c.segment c.whole c.means in
     let long : 48 ≤ length rest = omega (arith, s.1) in
     let good = (begun long).1 in
-    let k = front-length rest n.head (length q.1) s.0 in
+    let k = front-length rest n.head (length c.segment) s.0 in
     let e : true ≡ false = sym (is_full rest long (omega (arith, good.no_more, s.1, ap pdu_len k))) ∙ part in
     absurd cc
 
@@ -132,23 +134,25 @@ unfolding ReadsAs
 prefix_split limit logins front [] bytes given ms rest le p q none e =
     record { more = ms; whole = refl; given = given; reads = q; bytes_are = ap (λ (x : List ℕ). x ++ bytes) (sym p) ∙ e }
 prefix_split limit logins front (m ∷ first) bytes given [] rest le p q none e =
-    let b = p.3 in
-    let start : front ++ bytes ≡ p.0 ++ (p.2 ++ bytes) = ap (λ (x : List ℕ). x ++ bytes) b.whole ∙ append_assoc p.0 p.2 bytes in
+    let b = p.0 in
+    let start : front ++ bytes ≡ b.bytes ++ (b.rest ++ bytes) = ap (λ (x : List ℕ). x ++ bytes) b.whole ∙ append_assoc b.bytes b.rest bytes in
     let all : front ++ bytes ≡ rest = e ∙ ap (λ (x : List ℕ). x ++ rest) q in
-    absurd (none p.0 p.1 (p.2 ++ bytes) m.head (sym all ∙ start) b.means (omega (arith, b.within, le)))
+    absurd (none b.bytes b.segment (b.rest ++ bytes) m.head (sym all ∙ start) b.means (omega (arith, b.within, le)))
 prefix_split limit logins front (m ∷ first) bytes given (n ∷ ms) rest le p q none e =
-    let b = p.3 in
-    let c = q.3 in
-    let start : front ++ bytes ≡ p.0 ++ (p.2 ++ bytes) = ap (λ (x : List ℕ). x ++ bytes) b.whole ∙ append_assoc p.0 p.2 bytes in
-    let end : given ++ rest ≡ q.0 ++ (q.2 ++ rest) = ap (λ (x : List ℕ). x ++ rest) c.whole ∙ append_assoc q.0 q.2 rest in
-    let whole : p.0 ++ (p.2 ++ bytes) ≡ q.0 ++ (q.2 ++ rest) = sym start ∙ e ∙ end in
-    let same = same_begin p.0 (p.2 ++ bytes) q.0 (q.2 ++ rest) m.head n.head p.1 q.1 whole b.means c.means in
+    let b = p.0 in
+    let c = q.0 in
+    let start : front ++ bytes ≡ b.bytes ++ (b.rest ++ bytes) = ap (λ (x : List ℕ). x ++ bytes) b.whole ∙ append_assoc b.bytes b.rest bytes in
+    let end : given ++ rest ≡ c.bytes ++ (c.rest ++ rest) = ap (λ (x : List ℕ). x ++ rest) c.whole ∙ append_assoc c.bytes c.rest rest in
+    let whole : b.bytes ++ (b.rest ++ bytes) ≡ c.bytes ++ (c.rest ++ rest) = sym start ∙ e ∙ end in
+    let same = same_begin b.bytes (b.rest ++ bytes) c.bytes (c.rest ++ rest) m.head n.head b.segment c.segment whole b.means c.means in
     let segment : m.segment ≡ n.segment =
-    b.meaning ∙ ap (λ (h : Head). segment_of (continues logins h) h p.1) same.head ∙ ap (segment_of (continues logins n.head) n.head) same.segment
+    b.meaning ∙ ap (λ (h : Head). segment_of (continues logins h) h b.segment) same.head ∙ ap (segment_of (continues logins n.head) n.head) same.segment
     ∙ sym c.meaning in
     let one : m ≡ n = same_message m n same.head segment in
-    let q' : ReadsAs longest_segment (after logins m.head) q.2 ms = subst (λ (h : Head). ReadsAs longest_segment (after logins h) q.2 ms) (sym same.head) q.4 in
-    let r : Leaves (after logins m.head) first ms bytes rest = prefix_split limit (after logins m.head) p.2 first bytes q.2 ms rest le p.4 q' none same.rest in
+    let q' : ReadsAs longest_segment (after logins m.head) c.rest ms = subst (λ (h : Head). ReadsAs longest_segment (after logins h) c.rest ms)
+    (sym same.head) q.1 in
+    let r : Leaves (after logins m.head) first ms bytes rest = prefix_split limit (after logins m.head) b.rest first bytes c.rest ms rest le p.1 q' none
+    same.rest in
     leaves_on logins m n first ms bytes rest one r
 
 -- bytes that begin with a header begin with no whole PDU, or with one of that header
@@ -158,15 +162,15 @@ pub header_or_none : (logins : Logins) (front more given rest : List ℕ) (ms : 
 unfolding ReadsAs
 header_or_none logins front more given rest [] le q e = inl refl
 header_or_none logins front more given rest (n ∷ ms) le q e =
-    let c = q.3 in
-    let whole : front ++ more ≡ q.0 ++ (q.2 ++ rest) = e ∙ ap (λ (x : List ℕ). x ++ rest) c.whole ∙ append_assoc q.0 q.2 rest in
+    let c = q.0 in
+    let whole : front ++ more ≡ c.bytes ++ (c.rest ++ rest) = e ∙ ap (λ (x : List ℕ). x ++ rest) c.whole ∙ append_assoc c.bytes c.rest rest in
     inr (record {
       m = n;
       more = ms;
       is = refl;
-      segment = q.1;
-      says = subst (λ (x : List ℕ). IsHeader x n.head (length q.1)) (take-append-le 48 front more le)
-          (starts (front ++ more) q.0 (q.2 ++ rest) n.head q.1 whole c.means).0;
+      segment = c.segment;
+      says = subst (λ (x : List ℕ). IsHeader x n.head (length c.segment)) (take-append-le 48 front more le)
+          (starts (front ++ more) c.bytes (c.rest ++ rest) n.head c.segment whole c.means).0;
       meaning = c.meaning;
     })
 
@@ -177,11 +181,11 @@ pub none_begun : (limit : ℕ) (logins : Logins) (bytes given rest : List ℕ) (
 unfolding ReadsAs
 none_begun limit logins bytes given rest [] begun part q e = refl
 none_begun limit logins bytes given rest (n ∷ ms) begun part q e =
-    let c = q.3 in
-    let whole : bytes ≡ q.0 ++ (q.2 ++ rest) = e ∙ ap (λ (x : List ℕ). x ++ rest) c.whole ∙ append_assoc q.0 q.2 rest in
-    let s = starts bytes q.0 (q.2 ++ rest) n.head q.1 whole c.means in
+    let c = q.0 in
+    let whole : bytes ≡ c.bytes ++ (c.rest ++ rest) = e ∙ ap (λ (x : List ℕ). x ++ rest) c.whole ∙ append_assoc c.bytes c.rest rest in
+    let s = starts bytes c.bytes (c.rest ++ rest) n.head c.segment whole c.means in
     let long : 48 ≤ length bytes = omega (arith, s.1) in
     let good = (begun long).1 in
-    let k = front-length bytes n.head (length q.1) s.0 in
+    let k = front-length bytes n.head (length c.segment) s.0 in
     let f : true ≡ false = sym (is_full bytes long (omega (arith, good.no_more, s.1, ap pdu_len k))) ∙ part in
     absurd cc

@@ -34,9 +34,10 @@ pub stream_numbers : (limit : ℕ) (logins : Logins) (stream : List ℕ) (ms : L
 unfolding ReadsAs
 stream_numbers limit logins stream [] bytes p = tt
 stream_numbers limit logins stream (m ∷ ms) bytes p =
-    let b = p.3 in
+    let b = p.0 in
     let both = subst AreBytes b.whole bytes in
-    let room : HaveRoom (rows m.head) = IsHeader-room (take 48 p.0) m.head _ (AreBytes-take 48 p.0 (AreBytes-front p.0 p.2 both)) b.means.header in (
+    let room : HaveRoom (rows m.head) = IsHeader-room (take 48 b.bytes) m.head _ (AreBytes-take 48 b.bytes (AreBytes-front b.bytes b.rest both))
+    b.means.header in (
       record { request = request_fits m.head room; login = login_fits m.head room },
-      stream_numbers limit (after logins m.head) p.2 ms (AreBytes-back p.0 p.2 both) p.4,
+      stream_numbers limit (after logins m.head) b.rest ms (AreBytes-back b.bytes b.rest both) p.1,
     )

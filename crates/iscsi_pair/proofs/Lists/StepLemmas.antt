@@ -79,21 +79,21 @@ longest_more limit logins given [] bytes more reads =
     let same : longest_of more (given ++ bytes) ≡ longest_of more bytes = ap (λ (x : List ℕ). longest_of more (x ++ bytes)) reads in
     omega (arith, same)
 longest_more limit logins given (k ∷ ms) bytes more reads =
-    let b = reads.3 in
-    let pdu = reads.0 in
+    let b = reads.0 in
+    let pdu = b.bytes in
     let long : 48 ≤ length pdu = omega (arith, b.means.size) in
-    let n : length_at pdu ≡ length reads.1 = sym (means-length pdu k.head reads.1 b.means) in
+    let n : length_at pdu ≡ length b.segment = sym (means-length pdu k.head b.segment b.means) in
     let size : pdu_len (length_at pdu) ≡ length pdu = ap pdu_len n ∙ sym b.means.size in
-    let first : length_at given ≡ length_at pdu = ap length_at b.whole ∙ length_at-front pdu reads.2 long in
-    let whole : given ++ bytes ≡ pdu ++ (reads.2 ++ bytes) = ap (λ (x : List ℕ). x ++ bytes) b.whole ∙ append_assoc pdu reads.2 bytes in
-    let first' : length_at (given ++ bytes) ≡ length_at pdu = ap length_at whole ∙ length_at-front pdu (reads.2 ++ bytes) long in
-    let behind : drop (pdu_len (length_at given)) given ≡ reads.2 =
+    let first : length_at given ≡ length_at pdu = ap length_at b.whole ∙ length_at-front pdu b.rest long in
+    let whole : given ++ bytes ≡ pdu ++ (b.rest ++ bytes) = ap (λ (x : List ℕ). x ++ bytes) b.whole ∙ append_assoc pdu b.rest bytes in
+    let first' : length_at (given ++ bytes) ≡ length_at pdu = ap length_at whole ∙ length_at-front pdu (b.rest ++ bytes) long in
+    let behind : drop (pdu_len (length_at given)) given ≡ b.rest =
     ap (λ (j : ℕ). drop (pdu_len j) given) first ∙ ap (λ (j : ℕ). drop j given) size
-    ∙ ap (drop (length pdu)) b.whole ∙ drop_at pdu reads.2 (length pdu) refl in
-    let behind' : drop (pdu_len (length_at (given ++ bytes))) (given ++ bytes) ≡ reads.2 ++ bytes =
+    ∙ ap (drop (length pdu)) b.whole ∙ drop_at pdu b.rest (length pdu) refl in
+    let behind' : drop (pdu_len (length_at (given ++ bytes))) (given ++ bytes) ≡ b.rest ++ bytes =
     ap (λ (j : ℕ). drop (pdu_len j) (given ++ bytes)) first' ∙ ap (λ (j : ℕ). drop j (given ++ bytes)) size
-    ∙ ap (drop (length pdu)) whole ∙ drop_at pdu (reads.2 ++ bytes) (length pdu) refl in
-    let later = longest_more limit (after logins k.head) reads.2 ms bytes more reads.4 in
+    ∙ ap (drop (length pdu)) whole ∙ drop_at pdu (b.rest ++ bytes) (length pdu) refl in
+    let later = longest_more limit (after logins k.head) b.rest ms bytes more reads.1 in
     omega (arith, first, first', ap (longest_of ms) behind, ap (longest_of (ms ++ more)) behind', later)
 
 none_rests : (rest : List ℕ) → [] ≡ settled rest → rest ≡ []

@@ -102,8 +102,8 @@ nothing_read limit logins given e = e
 pub not_empty : (limit : ℕ) (back : Logins) (given y : List ℕ) (a : Message) (ms : List Message) → ReadsAs limit back given (a ∷ ms) → given ++ y ≡ [] → ⊥
 unfolding ReadsAs
 not_empty limit back given y a ms p e =
-    let b = p.3 in
-    no_pdu_none limit p.0 p.1 (p.2 ++ y) a.head (sym e ∙ ap (λ (x : List ℕ). x ++ y) b.whole ∙ append_assoc p.0 p.2 y) b.means b.within
+    let b = p.0 in
+    no_pdu_none limit b.bytes b.segment (b.rest ++ y) a.head (sym e ∙ ap (λ (x : List ℕ). x ++ y) b.whole ∙ append_assoc b.bytes b.rest y) b.means b.within
 
 -- more is said than the answers to these messages only behind the login
 abbrev pub OnlyLater : List Message → target.Stepped → Type 0

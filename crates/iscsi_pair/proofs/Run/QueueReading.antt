@@ -47,17 +47,18 @@ unfolding ReadsAs
 reads_behind limit logins given [] rest whole ns p q e =
     record { more = ns; whole = refl; reads = subst (λ (x : List ℕ). ReadsAs limit logins x ns) (e ∙ ap (λ (x : List ℕ). x ++ rest) p) q }
 reads_behind limit logins given (m ∷ ms) rest whole [] p q e =
-    absurd (omega (arith, p.3.means.size, ap length p.3.whole, length-append p.0 p.2, ap length e, length-append given rest, ap length q))
+    absurd (omega (arith, p.0.means.size, ap length p.0.whole, length-append p.0.bytes p.0.rest, ap length e, length-append given rest, ap length q))
 reads_behind limit logins given (m ∷ ms) rest whole (n ∷ ns) p q e =
-    let b = p.3 in
-    let c = q.3 in
-    let both : p.0 ++ (p.2 ++ rest) ≡ q.0 ++ q.2 = sym (append_assoc p.0 p.2 rest) ∙ ap (λ (x : List ℕ). x ++ rest) (sym b.whole) ∙ sym e ∙ c.whole in
-    let same = same_begin p.0 (p.2 ++ rest) q.0 q.2 m.head n.head p.1 q.1 both b.means c.means in
+    let b = p.0 in
+    let c = q.0 in
+    let both : b.bytes ++ (b.rest ++ rest) ≡ c.bytes ++ c.rest = sym (append_assoc b.bytes b.rest rest) ∙ ap (λ (x : List ℕ). x ++ rest) (sym b.whole) ∙ sym
+    e ∙ c.whole in
+    let same = same_begin b.bytes (b.rest ++ rest) c.bytes c.rest m.head n.head b.segment c.segment both b.means c.means in
     let segment : m.segment ≡ n.segment =
-    b.meaning ∙ ap (λ (h : Head). segment_of (continues logins h) h p.1) same.head ∙ ap (segment_of (continues logins n.head) n.head) same.segment
+    b.meaning ∙ ap (λ (h : Head). segment_of (continues logins h) h b.segment) same.head ∙ ap (segment_of (continues logins n.head) n.head) same.segment
     ∙ sym c.meaning in
     behind_on limit logins m n ms ns rest (same_message m n same.head segment)
-    (reads_behind limit (after logins m.head) p.2 ms rest q.2 ns p.4 (subst (λ (h : Head). ReadsAs limit (after logins h) q.2 ns) (sym same.head) q.4)
+    (reads_behind limit (after logins m.head) b.rest ms rest c.rest ns p.1 (subst (λ (h : Head). ReadsAs limit (after logins h) c.rest ns) (sym same.head) q.1)
     (sym same.rest))
 
 -- two streams, one behind the other
@@ -66,17 +67,17 @@ pub reads_joined : (limit : ℕ) (logins : Logins) (a : List ℕ) (ms : List Mes
 unfolding ReadsAs
 reads_joined limit logins a [] b ns p q = subst (λ (x : List ℕ). ReadsAs limit logins (x ++ b) ns) (sym p) q
 reads_joined limit logins a (m ∷ ms) b ns p q =
-    let begins = p.3 in (
-      p.0,
-      p.1,
-      p.2 ++ b,
+    let begins = p.0 in (
       record {
-        whole = ap (λ (x : List ℕ). x ++ b) begins.whole ∙ append_assoc p.0 p.2 b;
+        bytes = begins.bytes;
+        segment = begins.segment;
+        rest = begins.rest ++ b;
+        whole = ap (λ (x : List ℕ). x ++ b) begins.whole ∙ append_assoc begins.bytes begins.rest b;
         means = begins.means;
         within = begins.within;
         meaning = begins.meaning;
       },
-      reads_joined limit (after logins m.head) p.2 ms b ns p.4 q,
+      reads_joined limit (after logins m.head) begins.rest ms b ns p.1 q,
     )
 
 -- what was written so is read
@@ -84,10 +85,15 @@ pub written_reads : (limit : ℕ) (logins : Logins) (ms : List Message) → AreW
 unfolding ReadsAs
 written_reads limit logins [] w = refl
 written_reads limit logins (m ∷ ms) w = (
-  canonical_bytes m,
-  segment_bytes m.segment,
-  canon ms,
-  record { whole = flat_map-cons canonical_bytes m ms; means = w.0.readable.means; within = w.0.short; meaning = w.0.readable.meaning },
+  record {
+    bytes = canonical_bytes m;
+    segment = segment_bytes m.segment;
+    rest = canon ms;
+    whole = flat_map-cons canonical_bytes m ms;
+    means = w.0.readable.means;
+    within = w.0.short;
+    meaning = w.0.readable.meaning;
+  },
   written_reads limit (after logins m.head) ms w.1,
 )
 
@@ -109,7 +115,7 @@ has_header : (limit : ℕ) (logins : Logins) (bytes : List ℕ) (ms : List Messa
 unfolding ReadsAs
 has_header limit logins bytes [] p long = absurd (omega (arith, long, ap length p))
 has_header limit logins bytes (m ∷ ms) p long =
-    record { head = m.head; len = length p.1; header = (starts bytes p.0 p.2 m.head p.1 p.3.whole p.3.means).0; within = p.3.within }
+    record { head = m.head; len = length p.0.segment; header = (starts bytes p.0.bytes p.0.rest m.head p.0.segment p.0.whole p.0.means).0; within = p.0.within }
 
 -- a framer refuses nothing of what reads as messages
 pub refuses_nothing : (fault : StreamFault) (v : Framing) (front : List ℕ) (heard : List Message) (piece bytes behind : List ℕ) (logins : Logins)
@@ -231,7 +237,7 @@ nothing_behind : (limit : ℕ) (rest more : List ℕ) (logins : Logins) (waits :
 unfolding ReadsAs
 nothing_behind limit rest more logins [] none nil p = refl
 nothing_behind limit rest more logins (m ∷ ms) none nil p =
-    absurd (none p.0 p.1 p.2 m.head (sym (append-nil rest) ∙ ap (λ (x : List ℕ). rest ++ x) (sym nil) ∙ p.3.whole) p.3.means p.3.within)
+    absurd (none p.0.bytes p.0.segment p.0.rest m.head (sym (append-nil rest) ∙ ap (λ (x : List ℕ). rest ++ x) (sym nil) ∙ p.0.whole) p.0.means p.0.within)
 
 -- all that was queued was read
 unread_none : (limit : ℕ) (v : Framing) (queue : List ℕ) (waits : List Message) (logins : Logins) → Unread limit v queue waits logins → queue ≡ [] → waits ≡ []

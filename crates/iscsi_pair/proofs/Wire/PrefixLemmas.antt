@@ -35,16 +35,16 @@ pub first_is : (limit : ℕ) (logins : Logins) (given x y : List ℕ) (t r : Mes
     → (t ≡ r) × IsFirst limit logins x y r ts
 unfolding ReadsAs
 first_is limit logins given x y t r ts m p e =
-    let b = p.3 in
-    let whole : p.0 ++ (p.2 ++ x) ≡ canonical_bytes r ++ y = sym (append_assoc p.0 p.2 x) ∙ ap (λ (z : List ℕ). z ++ x) (sym b.whole) ∙ e in
-    let same = same_begin p.0 (p.2 ++ x) (canonical_bytes r) y t.head r.head p.1 (segment_bytes r.segment) whole b.means m.means in
+    let b = p.0 in
+    let whole : b.bytes ++ (b.rest ++ x) ≡ canonical_bytes r ++ y = sym (append_assoc b.bytes b.rest x) ∙ ap (λ (z : List ℕ). z ++ x) (sym b.whole) ∙ e in
+    let same = same_begin b.bytes (b.rest ++ x) (canonical_bytes r) y t.head r.head b.segment (segment_bytes r.segment) whole b.means m.means in
     let segment : t.segment ≡ r.segment =
-    b.meaning ∙ ap (λ (h : Head). segment_of (continues logins h) h p.1) same.head ∙ ap (segment_of (continues logins r.head) r.head) same.segment
+    b.meaning ∙ ap (λ (h : Head). segment_of (continues logins h) h b.segment) same.head ∙ ap (segment_of (continues logins r.head) r.head) same.segment
     ∙ sym m.meaning in (
       same_message t r same.head segment,
       record {
-        given = p.2;
-        reads = subst (λ (h : Head). ReadsAs limit (after logins h) p.2 ts) same.head p.4;
+        given = b.rest;
+        reads = subst (λ (h : Head). ReadsAs limit (after logins h) b.rest ts) same.head p.1;
         rest = same.rest;
       },
     )
