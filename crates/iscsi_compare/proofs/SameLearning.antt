@@ -1,5 +1,5 @@
 -- What the numbers of two heads say of a renumbering.
-use Rattle.std.proofs.Common.{◌≡◌, ℕ, Bool, true, false, List, refl, sym, ap, subst, ◌∙◌}
+use Rattle.std.proofs.Common.{◌≡◌, ℕ, Bool, true, false, refl, sym, ap, subst, ◌∙◌}
 use Rattle.std.specs.Prelude.{Option, Some, None, unwrap_or, option_map, ◌&&◌, if◌then◌else◌}
 use Rattle.std.specs.Ordering.{nat_cmp}
 use Rattle.std.specs.Cmp.Lexicographic.{slice_cmp}
@@ -10,7 +10,7 @@ use Rattle.iscsi_pdu.specs.Meaning.{Fits}
 use Rattle.iscsi_compare.specs.declared.same_job.numbers.Numbers.{Numbers}
 use Rattle.iscsi_compare.specs.SameJob.{Renumbering, shifted, renumbered}
 use Rattle.iscsi_compare.specs.SameJobNumbers.{numbers, with_numbers, renamed}
-use Rattle.iscsi_compare.specs.SameJobLearning.{Carries, IsSteps, IsLeft, Learns}
+use Rattle.iscsi_compare.specs.SameJobLearning.{Carries, IsSteps, Known, IsLeft, Learns}
 use Rattle.iscsi_compare.specs.declared.same_job.renaming.Renaming.{Renaming}
 use Rattle.iscsi_compare.specs.SameJobJudge.{Allows, IsSoundRenaming}
 use Rattle.iscsi_compare.proofs.SameNames.{apart}
@@ -29,34 +29,47 @@ pub and_second : (a b : Bool) → (a && b) ≡ true → b ≡ true
 and_second true b e = e
 and_second false b e = apart e refl
 
--- the nine facts, each over what the one before it left
-pub record Nine (mine other : Numbers) (t t' t'' u u' : BTreeMap ℕ ℕ) (i i' : BTreeMap (List ℕ) (List ℕ)) (s s' : BTreeMap ℕ ℕ) (c c' c'' c''' d d' : Option ℕ)
-    (a1 a2 a3 a4 a5 a6 a7 a8 a9 : Bool) : Type 0 where
-  pub task : Learns (Carries nat_cmp t) (Carries nat_cmp t') (λ f. f.to mine.task ≡ other.task) a1
-  pub referenced_task : Learns (Carries nat_cmp t') (Carries nat_cmp t'') (λ f. f.to mine.referenced_task ≡ other.referenced_task) a2
-  pub transfer : Learns (Carries nat_cmp u) (Carries nat_cmp u') (λ f. f.to mine.transfer ≡ other.transfer) a3
-  pub isid : Learns (Carries (slice_cmp nat_cmp) i) (Carries (slice_cmp nat_cmp) i') (λ f. option_map f.to mine.isid ≡ other.isid) a4
-  pub tsih : Learns (Carries nat_cmp s) (Carries nat_cmp s') (λ f. f.to mine.tsih ≡ other.tsih) a5
-  pub command : Learns (IsSteps c) (IsSteps c') (λ n. option_map (shifted n) mine.command ≡ other.command) a6
-  pub last_command : Learns (IsSteps c') (IsSteps c'') (λ n. option_map (shifted n) mine.last_command ≡ other.last_command) a7
-  pub referenced_command : Learns (IsSteps c'') (IsSteps c''') (λ n. (if is_tag mine.referenced_task then shifted n mine.referenced_command else
-      mine.referenced_command) ≡ other.referenced_command) a8
-  pub status : Learns (IsSteps d) (IsSteps d') (λ n. option_map (shifted n) mine.status ≡ other.status) a9
+-- whether each number could be learnt
+pub record Answers : Type 0 where
+  pub task : Bool
+  pub referenced_task : Bool
+  pub transfer : Bool
+  pub isid : Bool
+  pub tsih : Bool
+  pub command : Bool
+  pub last_command : Bool
+  pub referenced_command : Bool
+  pub status : Bool
 
-pub learns_nine : (mine other : Numbers) (t t' t'' u u' : BTreeMap ℕ ℕ) (i i' : BTreeMap (List ℕ) (List ℕ)) (s s' : BTreeMap ℕ ℕ)
-    (c c' c'' c''' d d' : Option ℕ) (a1 a2 a3 a4 a5 a6 a7 a8 a9 answer : Bool)
-    → (n : Nine mine other t t' t'' u u' i i' s s' c c' c'' c''' d d' a1 a2 a3 a4 a5 a6 a7 a8 a9) → answer
-    ≡ (a1 && a2 && a3 && a4 && a5 && a6 && a7 && a8 && a9)
-    → Learns (IsLeft t u i s c d) (IsLeft t'' u' i' s' c''' d') (λ r. renamed r mine ≡ other) answer
+-- the nine facts, each over what the one before it left: the names after the first task, and the steps after the first and the second command
+pub record Nine (mine other : Numbers) (old new : Known) (a : Answers) : Type 0 where
+  pub tasks : BTreeMap ℕ ℕ
+  pub steps : Option ℕ
+  pub last_steps : Option ℕ
+  pub task : Learns (Carries nat_cmp old.tasks) (Carries nat_cmp tasks) (λ f. f.to mine.task ≡ other.task) a.task
+  pub referenced_task : Learns (Carries nat_cmp tasks) (Carries nat_cmp new.tasks) (λ f. f.to mine.referenced_task ≡ other.referenced_task) a.referenced_task
+  pub transfer : Learns (Carries nat_cmp old.transfers) (Carries nat_cmp new.transfers) (λ f. f.to mine.transfer ≡ other.transfer) a.transfer
+  pub isid : Learns (Carries (slice_cmp nat_cmp) old.isids) (Carries (slice_cmp nat_cmp) new.isids) (λ f. option_map f.to mine.isid ≡ other.isid) a.isid
+  pub tsih : Learns (Carries nat_cmp old.tsihs) (Carries nat_cmp new.tsihs) (λ f. f.to mine.tsih ≡ other.tsih) a.tsih
+  pub command : Learns (IsSteps old.commands) (IsSteps steps) (λ n. option_map (shifted n) mine.command ≡ other.command) a.command
+  pub last_command : Learns (IsSteps steps) (IsSteps last_steps) (λ n. option_map (shifted n) mine.last_command ≡ other.last_command) a.last_command
+  pub referenced_command : Learns (IsSteps last_steps) (IsSteps new.commands) (λ n. (if is_tag mine.referenced_task then shifted n mine.referenced_command else
+      mine.referenced_command) ≡ other.referenced_command) a.referenced_command
+  pub status : Learns (IsSteps old.statuses) (IsSteps new.statuses) (λ n. option_map (shifted n) mine.status ≡ other.status) a.status
+
+pub learns_nine : (mine other : Numbers) (old new : Known) (a : Answers) (answer : Bool) → (n : Nine mine other old new a)
+    → answer ≡ (a.task && a.referenced_task && a.transfer && a.isid && a.tsih && a.command && a.last_command && a.referenced_command && a.status)
+    → Learns (IsLeft old) (IsLeft new) (λ r. renamed r mine ≡ other) answer
 unfolding renamed
-learns_nine mine other t t' t'' u u' i i' s s' c c' c'' c''' d d' a1 a2 a3 a4 a5 a6 a7 a8 a9 answer n is =
-    let p8 : answer ≡ true → (a1 && a2 && a3 && a4 && a5 && a6 && a7 && a8) ≡ true = λ e. and_left _ _ (sym is ∙ e) in
-    let p7 : answer ≡ true → (a1 && a2 && a3 && a4 && a5 && a6 && a7) ≡ true = λ e. and_left _ _ (p8 e) in
-    let p6 : answer ≡ true → (a1 && a2 && a3 && a4 && a5 && a6) ≡ true = λ e. and_left _ _ (p7 e) in
-    let p5 : answer ≡ true → (a1 && a2 && a3 && a4 && a5) ≡ true = λ e. and_left _ _ (p6 e) in
-    let p4 : answer ≡ true → (a1 && a2 && a3 && a4) ≡ true = λ e. and_left _ _ (p5 e) in
-    let p3 : answer ≡ true → (a1 && a2 && a3) ≡ true = λ e. and_left _ _ (p4 e) in
-    let p2 : answer ≡ true → (a1 && a2) ≡ true = λ e. and_left _ _ (p3 e) in
+learns_nine mine other old new a answer n is =
+    let p8 : answer ≡ true → (a.task && a.referenced_task && a.transfer && a.isid && a.tsih && a.command && a.last_command && a.referenced_command) ≡ true =
+    λ e. and_left _ _ (sym is ∙ e) in
+    let p7 : answer ≡ true → (a.task && a.referenced_task && a.transfer && a.isid && a.tsih && a.command && a.last_command) ≡ true = λ e. and_left _ _ (p8 e) in
+    let p6 : answer ≡ true → (a.task && a.referenced_task && a.transfer && a.isid && a.tsih && a.command) ≡ true = λ e. and_left _ _ (p7 e) in
+    let p5 : answer ≡ true → (a.task && a.referenced_task && a.transfer && a.isid && a.tsih) ≡ true = λ e. and_left _ _ (p6 e) in
+    let p4 : answer ≡ true → (a.task && a.referenced_task && a.transfer && a.isid) ≡ true = λ e. and_left _ _ (p5 e) in
+    let p3 : answer ≡ true → (a.task && a.referenced_task && a.transfer) ≡ true = λ e. and_left _ _ (p4 e) in
+    let p2 : answer ≡ true → (a.task && a.referenced_task) ≡ true = λ e. and_left _ _ (p3 e) in
     record {
       less = λ r l. record {
         tasks_left = n.task.less r.tasks (n.referenced_task.less r.tasks l.tasks_left);
@@ -91,15 +104,17 @@ learns_nine mine other t t' t'' u u' i i' s s' c c' c'' c''' d d' a1 a2 a3 a4 a5
           let one = n.task.kept r.tasks l.tasks_left (ap (λ (x : Numbers). x.task) x) in
           let six = n.command.kept r.commands l.commands_left (ap (λ (x : Numbers). x.command) x) in
           let seven = n.last_command.kept r.commands six (ap (λ (x : Numbers). x.last_command) x) in
-          let b1 : a1 ≡ true = true_of a1 (λ z. n.task.none z r.tasks l.tasks_left (ap (λ (x : Numbers). x.task) x)) in
-          let b2 : a2 ≡ true = true_of a2 (λ z. n.referenced_task.none z r.tasks one (ap (λ (x : Numbers). x.referenced_task) x)) in
-          let b3 : a3 ≡ true = true_of a3 (λ z. n.transfer.none z r.transfers l.transfers_left (ap (λ (x : Numbers). x.transfer) x)) in
-          let b4 : a4 ≡ true = true_of a4 (λ z. n.isid.none z r.isids l.isids_left (ap (λ (x : Numbers). x.isid) x)) in
-          let b5 : a5 ≡ true = true_of a5 (λ z. n.tsih.none z r.tsihs l.tsihs_left (ap (λ (x : Numbers). x.tsih) x)) in
-          let b6 : a6 ≡ true = true_of a6 (λ z. n.command.none z r.commands l.commands_left (ap (λ (x : Numbers). x.command) x)) in
-          let b7 : a7 ≡ true = true_of a7 (λ z. n.last_command.none z r.commands six (ap (λ (x : Numbers). x.last_command) x)) in
-          let b8 : a8 ≡ true = true_of a8 (λ z. n.referenced_command.none z r.commands seven (ap (λ (x : Numbers). x.referenced_command) x)) in
-          let b9 : a9 ≡ true = true_of a9 (λ z. n.status.none z r.statuses l.statuses_left (ap (λ (x : Numbers). x.status) x)) in
+          let b1 : a.task ≡ true = true_of a.task (λ z. n.task.none z r.tasks l.tasks_left (ap (λ (x : Numbers). x.task) x)) in
+          let b2 : a.referenced_task ≡ true = true_of a.referenced_task
+          (λ z. n.referenced_task.none z r.tasks one (ap (λ (x : Numbers). x.referenced_task) x)) in
+          let b3 : a.transfer ≡ true = true_of a.transfer (λ z. n.transfer.none z r.transfers l.transfers_left (ap (λ (x : Numbers). x.transfer) x)) in
+          let b4 : a.isid ≡ true = true_of a.isid (λ z. n.isid.none z r.isids l.isids_left (ap (λ (x : Numbers). x.isid) x)) in
+          let b5 : a.tsih ≡ true = true_of a.tsih (λ z. n.tsih.none z r.tsihs l.tsihs_left (ap (λ (x : Numbers). x.tsih) x)) in
+          let b6 : a.command ≡ true = true_of a.command (λ z. n.command.none z r.commands l.commands_left (ap (λ (x : Numbers). x.command) x)) in
+          let b7 : a.last_command ≡ true = true_of a.last_command (λ z. n.last_command.none z r.commands six (ap (λ (x : Numbers). x.last_command) x)) in
+          let b8 : a.referenced_command ≡ true = true_of a.referenced_command
+          (λ z. n.referenced_command.none z r.commands seven (ap (λ (x : Numbers). x.referenced_command) x)) in
+          let b9 : a.status ≡ true = true_of a.status (λ z. n.status.none z r.statuses l.statuses_left (ap (λ (x : Numbers). x.status) x)) in
           apart (is ∙ (rw (b1, b2, b3, b4, b5, b6, b7, b8, b9) refl)) e;
     }
 

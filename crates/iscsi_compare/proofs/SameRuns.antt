@@ -50,7 +50,7 @@ use Rattle.iscsi_compare.specs.SameJobLearning.{Learns}
 use Rattle.iscsi_compare.specs.SameJobJudge.{Allows, IsSoundRenaming, NextIs, LearnsNext}
 use Rattle.iscsi_compare.specs.SameJobVerdict.{AgreeOnJob, PartFromJob, FailsInJob}
 use Rattle.iscsi_compare.proofs.Sides.{read_given, begins, stands_at}
-use Rattle.iscsi_compare.proofs.Steps.{Compared, GivesUp, gave}
+use Rattle.iscsi_compare.proofs.Steps.{Compared, Streams, streams, GivesUp, gave}
 use Rattle.iscsi_compare.proofs.SameLearning.{some_left, and_second}
 use Rattle.iscsi_compare.proofs.SameJobLaws.{same_self}
 
@@ -164,13 +164,13 @@ next_exists false side x ms ready r = (None, r.1)
 -- ---- the loop
 
 -- Of both streams PDUs of one job were given up, and what they say of its renumberings is known.
-pub record JobInStep (mine_old mine_new other_old other_new : Option (List ℕ)) (first second : Side) (known : Renaming) (held now : List ℕ) : Type 0 where
+pub record JobInStep (before now : Streams) (first second : Side) (known : Renaming) : Type 0 where
   pub read : List ℕ
   pub other_read : List ℕ
   pub ms : List Message
   pub ns : List Message
-  pub consumed : Consumes mine_old mine_new read
-  pub other_consumed : Consumes other_old other_new other_read
+  pub consumed : Consumes before.mine now.mine read
+  pub other_consumed : Consumes before.other now.other other_read
   pub has_read : HasRead read ms first
   pub other_has_read : HasRead other_read ns second
   pub inside : IsOpen first
@@ -179,15 +179,16 @@ pub record JobInStep (mine_old mine_new other_old other_new : Option (List ℕ))
   pub other_which : second.which ≡ Second
   pub sound : IsSoundRenaming known
   pub knows : Knows known ms ns
-  pub same : now ≡ held
+  pub same : now.written ≡ before.written
 
-job_of : (a b c d : Option (List ℕ)) (first second : Side) (known : Renaming) (held now : List ℕ) (step : JobInStep a b c d first second known held now) →
+job_of : (a b c d : Option (List ℕ)) (first second : Side) (known : Renaming) (held now : List ℕ)
+    (step : JobInStep (streams a c held) (streams b d now) first second known) →
     SameJob step.ms step.ns
 job_of a b c d first second known held now step = same_job known step.ms step.ns step.sound step.knows
 
 pub job_at_start : (a b : Option (List ℕ)) (first second : Side) (known : Renaming) (held : List ℕ) → HasRead [] [] first → HasRead [] [] second → IsOpen first
     → IsOpen second → first.which ≡ First
-    → second.which ≡ Second → IsSoundRenaming known → ((r : Renumbering) → Allows known r) → JobInStep a a b b first second known held held
+    → second.which ≡ Second → IsSoundRenaming known → ((r : Renumbering) → Allows known r) → JobInStep (streams a b held) (streams a b held) first second known
 job_at_start a b first second known held r s i j w u sound all = record {
   read = [];
   other_read = [];
@@ -218,7 +219,7 @@ job_not_begun a b first second r s = (
 
 -- the first stream has a fault
 pub job_first_stops : (e : CompareFault) (a b c d f : Option (List ℕ)) (first second : Side) (known : Renaming) (held now : List ℕ) →
-    JobInStep a b d f first second known held now
+    JobInStep (streams a d held) (streams b f now) first second known
     → ReadsOn first b c (SideFails e first.which) → Compared (FailsInJob e) a c d f
 job_first_stops e a b c d f first second known held now step reads =
     let one = reads step.read step.ms step.has_read in
@@ -234,7 +235,7 @@ job_first_stops e a b c d f first second known held now step reads =
 
 -- the second stream has a fault
 pub job_second_stops : (e : CompareFault) (a b c d f h : Option (List ℕ)) (first second first_new : Side) (known : Renaming) (held now : List ℕ) (p : Bool) →
-    JobInStep a b d f first second known held now → is_ready first_new.framer ≡ p
+    JobInStep (streams a d held) (streams b f now) first second known → is_ready first_new.framer ≡ p
     → ReadsOn first b c (Stands p first_new) → ReadsOn second f h (SideFails e second.which) → Compared (FailsInJob e) a c d h
 job_second_stops e a b c d f h first second first_new known held now p step ready reads others =
     let one = reads step.read step.ms step.has_read in
@@ -253,7 +254,7 @@ job_second_stops e a b c d f h first second first_new known held now p step read
 -- both went on
 pub job_onwards : (Holds : Input → Input → Type 0) (a b c d f h : Option (List ℕ)) (first second first_new second_new : Side) (known : Renaming)
     (held now : List ℕ) (p q : Bool)
-    → JobInStep a b d f first second known held now → ReadsOn first b c (Stands p first_new) → ReadsOn second f h (Stands q second_new)
+    → JobInStep (streams a d held) (streams b f now) first second known → ReadsOn first b c (Stands p first_new) → ReadsOn second f h (Stands q second_new)
     → ((x y : Input) (ms ns : List Message) → SameJob ms ns → Knows known ms ns → Stands p first_new x ms → Stands q second_new y ns → Holds x y) →
     Compared Holds a c d h
 job_onwards Holds a b c d f h first second first_new second_new known held now p q step reads others so =
@@ -327,11 +328,11 @@ knows_given old new ms ns v w g h a b next other e f k l =
 -- both gave up a PDU
 pub job_one_more : (a b c d f h : Option (List ℕ)) (first second first_new second_new first_last second_last : Side) (old new : Renaming) (held now : List ℕ)
     (p q : Bool) → p ≡ true → q ≡ true
-    → JobInStep a b d f first second old held now → ReadsOn first b c (Stands p first_new) → ReadsOn second f h (Stands q second_new) →
+    → JobInStep (streams a d held) (streams b f now) first second old → ReadsOn first b c (Stands p first_new) → ReadsOn second f h (Stands q second_new) →
     is_ready first_new.framer ≡ p → is_ready second_new.framer ≡ q
     → IsSoundRenaming new → LearnsNext old new first_new.framer second_new.framer true → GivesUp first_new first_last → GivesUp second_new second_last
     → IsOpen first_last → IsOpen second_last → first_last.which ≡ first.which → second_last.which ≡ second.which →
-    JobInStep a c d h first_last second_last new held now
+    JobInStep (streams a d held) (streams c h now) first_last second_last new
 job_one_more a b c d f h first second first_new second_new first_last second_last old new held now false q i j step reads others r s sound l up down o t w u =
     absurd cc
 job_one_more a b c d f h first second first_new second_new first_last second_last old new held now true false i j step reads others r s sound l up down o t w u

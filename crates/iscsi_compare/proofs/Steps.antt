@@ -107,20 +107,29 @@ second_fails (fault.Read First) x y ms next fails begun goes = (let no : First �
 
 -- ---- the loop
 
+-- what is left of both streams, as far as that is known, and what was written
+pub record Streams : Type 0 where
+  pub mine : Option (List ℕ)
+  pub other : Option (List ℕ)
+  pub written : List ℕ
+
+abbrev pub streams : Option (List ℕ) → Option (List ℕ) → List ℕ → Streams
+streams mine other written = record { mine = mine; other = other; written = written }
+
 -- Of both streams PDUs of the same meanings were given up.
-pub record InStep (mine_old mine_new other_old other_new : Option (List ℕ)) (first second : Side) (held now : List ℕ) : Type 0 where
+pub record InStep (before now : Streams) (first second : Side) : Type 0 where
   pub read : List ℕ
   pub other_read : List ℕ
   pub ms : List Message
-  pub consumed : Consumes mine_old mine_new read
-  pub other_consumed : Consumes other_old other_new other_read
+  pub consumed : Consumes before.mine now.mine read
+  pub other_consumed : Consumes before.other now.other other_read
   pub has_read : HasRead read ms first
   pub other_has_read : HasRead other_read ms second
   pub inside : IsOpen first
   pub other_inside : IsOpen second
   pub which : first.which ≡ First
   pub other_which : second.which ≡ Second
-  pub same : now ≡ held
+  pub same : now.written ≡ before.written
 
 -- what the contract says of what was read
 abbrev pub Compared : (Input → Input → Type 0) → Option (List ℕ) → Option (List ℕ) → Option (List ℕ) → Option (List ℕ) → Type 0
@@ -129,7 +138,7 @@ Compared Holds mine_old mine_new other_old other_new = (first : Input) × (secon
 
 pub at_start : (a b : Option (List ℕ)) (first second : Side) (held : List ℕ) → HasRead [] [] first → HasRead [] [] second → IsOpen first → IsOpen second →
     first.which ≡ First → second.which ≡ Second
-    → InStep a a b b first second held held
+    → InStep (streams a b held) (streams a b held) first second
 at_start a b first second held r s i j w u = record {
   read = [];
   other_read = [];
@@ -150,7 +159,8 @@ pub gave : (old mid new : Option (List ℕ)) (read piece : List ℕ) → Consume
 gave old mid new read piece p q bytes = record { bytes = bytes; consumed = Consumes-trans old mid new read piece p q; left_is = refl }
 
 -- the first stream has a fault
-pub first_stops : (e : CompareFault) (a b c d f : Option (List ℕ)) (first second : Side) (held now : List ℕ) → InStep a b d f first second held now →
+pub first_stops : (e : CompareFault) (a b c d f : Option (List ℕ)) (first second : Side) (held now : List ℕ) →
+    InStep (streams a d held) (streams b f now) first second →
     ReadsOn first b c (SideFails e first.which) → Compared (Fails e) a c d f
 first_stops e a b c d f first second held now step reads =
     let one = reads step.read step.ms step.has_read in
@@ -166,7 +176,7 @@ first_stops e a b c d f first second held now step reads =
 
 -- both went on
 pub onwards : (Holds : Input → Input → Type 0) (a b c d f h : Option (List ℕ)) (first second first_new second_new : Side) (held now : List ℕ) (p q : Bool) →
-    InStep a b d f first second held now
+    InStep (streams a d held) (streams b f now) first second
     → ReadsOn first b c (Stands p first_new) → ReadsOn second f h (Stands q second_new)
     → ((x y : Input) (ms : List Message) → Stands p first_new x ms → Stands q second_new y ms → Holds x y) → Compared Holds a c d h
 onwards Holds a b c d f h first second first_new second_new held now p q step reads others so =
@@ -178,7 +188,7 @@ onwards Holds a b c d f h first second first_new second_new held now p q step re
 
 -- the second stream has a fault
 pub second_stops : (e : CompareFault) (a b c d f h : Option (List ℕ)) (first second first_new : Side) (held now form : List ℕ) (p : Bool) →
-    InStep a b d f first second held now → ReadsOn first b c (Stands p first_new)
+    InStep (streams a d held) (streams b f now) first second → ReadsOn first b c (Stands p first_new)
     → FormIf p first_new.framer form → ReadsOn second f h (SideFails e second.which) → Compared (Fails e) a c d h
 second_stops e a b c d f h first second first_new held now form p step reads formed others =
     let one = reads step.read step.ms step.has_read in
@@ -223,12 +233,12 @@ same_given read other ms m n first second r s e =
 
 -- both gave up a PDU of one form
 pub one_more : (a b c d f h : Option (List ℕ)) (first second first_new second_new first_last second_last : Side) (held now form other : List ℕ) (p q : Bool) → p
-    ≡ true → q ≡ true → InStep a b d f first second held now
+    ≡ true → q ≡ true → InStep (streams a d held) (streams b f now) first second
     → ReadsOn first b c (Stands p first_new) → ReadsOn second f h (Stands q second_new) → FormIf p first_new.framer form → FormIf q second_new.framer other →
     form ≡ other
     → is_ready first_new.framer ≡ p → is_ready second_new.framer ≡ q → GivesUp first_new first_last → GivesUp second_new second_last
     → IsOpen first_last → IsOpen second_last → first_last.which ≡ first.which → second_last.which ≡ second.which →
-    InStep a c d h first_last second_last held now
+    InStep (streams a d held) (streams c h now) first_last second_last
 one_more a b c d f h first second first_new second_new first_last second_last held now form other false q i j step reads others g k e r s up down o t w u =
     absurd cc
 one_more a b c d f h first second first_new second_new first_last second_last held now form other true false i j step reads others g k e r s up down o t w u =

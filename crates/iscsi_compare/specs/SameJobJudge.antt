@@ -9,13 +9,22 @@ use Rattle.iscsi_stream.specs.Stream.{Message}
 use Rattle.iscsi_stream.specs.Framing.{Framing, is_ready, message_of}
 use Rattle.iscsi_compare.specs.declared.same_job.renaming.Renaming.{Renaming}
 use Rattle.iscsi_compare.specs.SameJob.{OneToOne, Renumbering, renumbered_message}
-use Rattle.iscsi_compare.specs.SameJobLearning.{Carries, IsSound, IsLeft, Learns}
+use Rattle.iscsi_compare.specs.SameJobLearning.{Carries, IsSound, Known, IsLeft, Learns}
+
+-- what a renaming knows
+abbrev pub known_by : Renaming → Known
+known_by known = record {
+  tasks = known.tasks.there;
+  transfers = known.transfers.there;
+  isids = known.isids.there;
+  tsihs = known.tsihs.there;
+  commands = known.commands;
+  statuses = known.statuses;
+}
 
 -- The renumbering agrees with all that is known.
 abbrev pub Allows : Renaming → Renumbering → Type 0
-Allows known r =
-    IsLeft known.tasks.there known.transfers.there known.isids.there known.tsihs.there
-    known.commands known.statuses r
+Allows known r = IsLeft (known_by known) r
 
 -- every renaming of these names has this one stand for itself
 abbrev pub Fixes : ((OneToOne ℕ) → Type 0) → ℕ → Type 0

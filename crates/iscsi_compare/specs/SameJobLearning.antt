@@ -40,15 +40,23 @@ abbrev pub IsSteps : Option ℕ → ℕ → Type 0
 IsSteps None steps = Unit {0}
 IsSteps (Some known) steps = steps % 2 ^ 32 ≡ known % 2 ^ 32
 
+-- what is known of a renumbering: some names of each kind, and its steps
+pub record Known : Type 0 where
+  pub tasks : BTreeMap ℕ ℕ
+  pub transfers : BTreeMap ℕ ℕ
+  pub isids : BTreeMap (List ℕ) (List ℕ)
+  pub tsihs : BTreeMap ℕ ℕ
+  pub commands : Option ℕ
+  pub statuses : Option ℕ
+
 -- The renumbering is one of those that are left, by each of its parts.
-pub record IsLeft (tasks transfers : BTreeMap ℕ ℕ) (isids : BTreeMap (List ℕ) (List ℕ))
-    (tsihs : BTreeMap ℕ ℕ) (commands statuses : Option ℕ) (r : Renumbering) : Type 0 where
-  pub tasks_left : Carries nat_cmp tasks r.tasks
-  pub transfers_left : Carries nat_cmp transfers r.transfers
-  pub isids_left : Carries (slice_cmp nat_cmp) isids r.isids
-  pub tsihs_left : Carries nat_cmp tsihs r.tsihs
-  pub commands_left : IsSteps commands r.commands
-  pub statuses_left : IsSteps statuses r.statuses
+pub record IsLeft (known : Known) (r : Renumbering) : Type 0 where
+  pub tasks_left : Carries nat_cmp known.tasks r.tasks
+  pub transfers_left : Carries nat_cmp known.transfers r.transfers
+  pub isids_left : Carries (slice_cmp nat_cmp) known.isids r.isids
+  pub tsihs_left : Carries nat_cmp known.tsihs r.tsihs
+  pub commands_left : IsSteps known.commands r.commands
+  pub statuses_left : IsSteps known.statuses r.statuses
 
 -- The answer says truly whether it is so.
 pub record Decides (So : Type 0) (answer : Bool) : Type 0 where

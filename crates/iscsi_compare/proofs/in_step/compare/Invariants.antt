@@ -1,10 +1,11 @@
 use Rattle.iscsi_compare.specs.Inside.{fuel}
-use Rattle.iscsi_compare.proofs.Steps.{InStep}
+use Rattle.iscsi_compare.proofs.Steps.{streams, InStep}
 use Rattle.iscsi_compare.proofs.in_step.compare.Given as goal
 
 abbrev pub invariant-loop-other_form : goal.invariant-loop-other_form
-invariant-loop-other_form g l = InStep (g.R.Read.remaining l.initial.mine) (g.R.Read.remaining l.mine) (g.Q.Read.remaining l.initial.other)
-    (g.Q.Read.remaining l.other) l.first l.second l.initial.out.items l.out.items
+invariant-loop-other_form g l =
+    InStep (streams (g.R.Read.remaining l.initial.mine) (g.Q.Read.remaining l.initial.other) l.initial.out.items)
+    (streams (g.R.Read.remaining l.mine) (g.Q.Read.remaining l.other) l.out.items) l.first l.second
 
 abbrev pub decreases-loop-other_form : goal.decreases-loop-other_form
 decreases-loop-other_form g l = fuel l.first

@@ -1,11 +1,12 @@
 use Rattle.iscsi_compare.specs.Inside.{fuel}
+use Rattle.iscsi_compare.proofs.Steps.{streams}
 use Rattle.iscsi_compare.proofs.SameRuns.{JobInStep}
 use Rattle.iscsi_compare.proofs.same_job.compare_jobs.Given as goal
 
 abbrev pub invariant-loop-renaming : goal.invariant-loop-renaming
 invariant-loop-renaming g l =
-    JobInStep (g.R.Read.remaining l.initial.mine) (g.R.Read.remaining l.mine) (g.Q.Read.remaining l.initial.other)
-    (g.Q.Read.remaining l.other) l.first l.second l.renaming l.initial.out.items l.out.items
+    JobInStep (streams (g.R.Read.remaining l.initial.mine) (g.Q.Read.remaining l.initial.other) l.initial.out.items)
+    (streams (g.R.Read.remaining l.mine) (g.Q.Read.remaining l.other) l.out.items) l.first l.second l.renaming
 
 abbrev pub decreases-loop-renaming : goal.decreases-loop-renaming
 decreases-loop-renaming g l = fuel l.first

@@ -1,5 +1,6 @@
 use Rattle.std.proofs.Common.{refl}
 use Rattle.std.proofs.lemmas.Map.Lookups.{exact_bytes}
+use Rattle.iscsi_compare.specs.SameJobJudge.{known_by}
 use Rattle.iscsi_compare.proofs.SameLearning.{learns_nine}
 use Rattle.iscsi_compare.proofs.same_job.renaming.Renaming.learn.Goals as goal
 
@@ -19,15 +20,29 @@ returns-clause-sound c = record {
 
 pub returns-clause-learns : goal.returns-clause-learns
 returns-clause-learns c =
-    let self = c.args.self.now in
-    learns_nine c.args.mine.now c.args.other.now self.tasks.there c.join.new.self.there c.join-2.new.self.there self.transfers.there c.join-3.new.self.there
-    self.isids.there c.join_some.new.self.there
-    self.tsihs.there c.join-4.new.self.there self.commands c.step_some-command.new.known c.step_some-last_command.new.known
-    c.step_if-referenced_command.new.known self.statuses c.step_some-status.new.known
-    c.in_ok-task.task c.in_ok-referenced_task.referenced_task c.in_ok-transfer.transfer c.in_ok-isid.isid c.in_ok-tsih.tsih c.step_some-command.result
-    c.step_some-last_command.result
-    c.step_if-referenced_command.result c.step_some-status.result _
+    learns_nine c.args.mine.now c.args.other.now (known_by c.args.self.now) (record {
+      tasks = c.join-2.new.self.there;
+      transfers = c.join-3.new.self.there;
+      isids = c.join_some.new.self.there;
+      tsihs = c.join-4.new.self.there;
+      commands = c.step_if-referenced_command.new.known;
+      statuses = c.step_some-status.new.known;
+    })
     (record {
+      task = c.in_ok-task.task;
+      referenced_task = c.in_ok-referenced_task.referenced_task;
+      transfer = c.in_ok-transfer.transfer;
+      isid = c.in_ok-isid.isid;
+      tsih = c.in_ok-tsih.tsih;
+      command = c.step_some-command.result;
+      last_command = c.step_some-last_command.result;
+      referenced_command = c.step_if-referenced_command.result;
+      status = c.step_some-status.result;
+    }) _
+    (record {
+      tasks = c.join.new.self.there;
+      steps = c.step_some-command.new.known;
+      last_steps = c.step_some-last_command.new.known;
       task = c.in_ok-task.ensures.learns;
       referenced_task = c.in_ok-referenced_task.ensures.learns;
       transfer = c.in_ok-transfer.ensures.learns;
