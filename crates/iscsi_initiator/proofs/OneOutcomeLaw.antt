@@ -8,7 +8,7 @@ use Rattle.iscsi_stream.specs.Stream.{Message}
 use Rattle.iscsi_stream.specs.Canonical.{canon}
 use Rattle.iscsi_stream.specs.Framing.{HasTaken}
 use Rattle.iscsi_stream.proofs.FrontLemmas.{Course, Sight, HearsUpTo, HearAlike, IsLeft, framer_hears, framer_leaves, framer_refuses, hear_alike, sight}
-use Rattle.iscsi_stream.proofs.OneEndingLaw.{Outcome, Ended, Over, GoesOn, Breaks, call, EndAlike, end_of, end_alike}
+use Rattle.iscsi_stream.proofs.OneEndingLaw.{Outcome, Ended, Over, GoesOn, Breaks, Call, call, EndAlike, end_of, end_alike}
 use Rattle.iscsi_stream.proofs.ReadyLemmas.{apart}
 use Rattle.iscsi_login.specs.declared.phase.Phase.{Phase}
 use Rattle.iscsi_login.specs.declared.phase.Phase.TheVariants as phases
@@ -82,20 +82,19 @@ leaves s = record {
 }
 
 -- A call received these PDUs of the stream, and ended so.
-record Run (stream : List ℕ) (ms : List Message) (old : Connection) (result : Result Phase InitiatorFault) (new : Connection)
-    (output written : List ℕ) : Type 0 where
+record Run (stream : List ℕ) (ms : List Message) (old : Connection) (now : Call Machine (Result Phase InitiatorFault)) (output written : List ℕ) : Type 0 where
   messages : List Message
   sight : Sight
   receives : HearsUpTo (course old.machine) old.framing.limit stream ms messages sight
   output_is : written ≡ output ++ canon (steps old.machine messages).output
-  ended : Ended (leaves (steps old.machine messages)) sight result new.machine new.framing
+  ended : Ended (leaves (steps old.machine messages)) sight now.result now.session now.framing
 
 run_so : (stream : List ℕ) (ms : List Message) (old : Connection) (piece : List ℕ) (result : Result Phase InitiatorFault) (new : Connection)
     (output written : List ℕ)
     → (t : HasTaken stream ms old.framing) (h : Received old piece) → written ≡ output ++ canon (steps old.machine h.messages).output
     → Ended (leaves (steps old.machine h.messages)) (sight (stream ++ take h.count piece) (ms ++ h.messages) h.framing (h.moves stream ms t)
     (drop h.count piece)) result new.machine new.framing
-    → Run (stream ++ piece) ms old result new output written
+    → Run (stream ++ piece) ms old (call result new.machine new.framing) output written
 unfolding course
 run_so stream ms old piece result new output written t h out e =
     let s : List ℕ = stream ++ take h.count piece in
@@ -113,8 +112,8 @@ run_so stream ms old piece result new output written t h out e =
     }
 
 all_received : (stream : List ℕ) (ms : List Message) (old : Connection) (piece : List ℕ) (phase : Phase) (new : Connection) (output written : List ℕ)
-    → HasTaken stream ms old.framing → (h : Received old piece) → ReceivesAll old piece h new output written phase →
-    Run (stream ++ piece) ms old (Ok phase) new output written
+    → HasTaken stream ms old.framing → (h : Received old piece) → ReceivesAll h new output written phase →
+    Run (stream ++ piece) ms old (call (Ok phase) new.machine new.framing) output written
 all_received stream ms old piece phase new output written t h a =
     let s : List ℕ = stream ++ take h.count piece in
     let now : HasTaken s (ms ++ h.messages) h.framing = h.moves stream ms t in
@@ -126,14 +125,14 @@ all_received stream ms old piece phase new output written t h a =
 
 was_closed : (stream : List ℕ) (ms : List Message) (old : Connection) (piece : List ℕ) (result : Result Phase InitiatorFault) (fault : Option InitiatorFault)
     (new : Connection) (output written : List ℕ)
-    → HasTaken stream ms old.framing → (h : Received old piece) → ClosesAt old piece h new output written fault → result ≡ outcome fault →
-    Run (stream ++ piece) ms old result new output written
+    → HasTaken stream ms old.framing → (h : Received old piece) → ClosesAt h new output written fault → result ≡ outcome fault →
+    Run (stream ++ piece) ms old (call result new.machine new.framing) output written
 was_closed stream ms old piece result fault new output written t h a e =
     run_so stream ms old piece result new output written t h a.output (Over a.closes (e ∙ ap outcome (sym a.cause)) a.machine)
 
 was_refused : (stream : List ℕ) (ms : List Message) (old : Connection) (piece : List ℕ) (fault : StreamFault) (new : Connection) (output written : List ℕ)
-    → HasTaken stream ms old.framing → (h : Received old piece) → (fault ≡ broken.NoMemory → ⊥) → StreamEnds old piece h new output written fault →
-    Run (stream ++ piece) ms old (Err (faults.Stream fault)) new output written
+    → HasTaken stream ms old.framing → (h : Received old piece) → (fault ≡ broken.NoMemory → ⊥) → StreamEnds h new output written fault →
+    Run (stream ++ piece) ms old (call (Err (faults.Stream fault)) new.machine new.framing) output written
 was_refused stream ms old piece fault new output written t h none a =
     run_so stream ms old piece (Err (faults.Stream fault)) new output written t h a.output
     (Breaks fault a.live refl a.machine (framer_refuses (stream ++ take h.count piece)
@@ -143,7 +142,7 @@ was_refused stream ms old piece fault new output written t h none a =
 run_of : (stream : List ℕ) (ms : List Message) (old : Connection) (piece : List ℕ) (result : Result Phase InitiatorFault) (new : Connection)
     (output written : List ℕ)
     → HasTaken stream ms old.framing → is_closed old.machine ≡ false → Feeds result old piece new output written → result ≢ Err faults.NoMemory →
-    Run (stream ++ piece) ms old result new output written
+    Run (stream ++ piece) ms old (call result new.machine new.framing) output written
 run_of stream ms old piece (Ok phase) new output written t live f memory =
     elim f.1.1 [
       | inl a ↦ all_received stream ms old piece phase new output written t f.1.0 a
@@ -171,7 +170,8 @@ run_of stream ms old piece (Err faults.Closed) new output written t live f memor
 
 run_alike : (stream : List ℕ) (ms : List Message) (old : Connection) (result other : Result Phase InitiatorFault) (new now : Connection)
     (output written rewritten : List ℕ)
-    → Run stream ms old result new output written → Run stream ms old other now output rewritten → CalledAlike result other new now written rewritten
+    → Run stream ms old (call result new.machine new.framing) output written → Run stream ms old (call other now.machine now.framing) output rewritten →
+    CalledAlike result other new now written rewritten
 unfolding course
 run_alike stream ms old result other new now output written rewritten a b =
     let h : HearAlike (course old.machine) a.messages b.messages a.sight b.sight =

@@ -77,30 +77,38 @@ next_is m (y ∷ ms) x live =
 
 -- ---- the piece so far
 
+-- a session over a stream, and what is written of its output
+pub record Standing : Type 0 where
+  pub connection : Connection
+  pub written : List ℕ
+
+abbrev pub standing : Connection → List ℕ → Standing
+standing c written = record { connection = c; written = written }
+
 -- the bytes of the piece before the rest were taken, and their PDUs received
-pub record ReceivedUpTo (old : Connection) (piece rest : List ℕ) (now : Connection) (before written : List ℕ) : Type 0 where
+pub record ReceivedUpTo (old : Standing) (piece rest : List ℕ) (now : Standing) : Type 0 where
   pub front : List ℕ
   pub parts : piece ≡ front ++ rest
   pub messages : List Message
-  pub moves : Moves old.framing now.framing front messages
-  pub limit : now.framing.limit ≡ old.framing.limit
-  pub unready : is_ready now.framing ≡ false
-  pub machine_is : now.machine ≡ (steps old.machine messages).machine
-  pub output_is : written ≡ before ++ canon (steps old.machine messages).output
+  pub moves : Moves old.connection.framing now.connection.framing front messages
+  pub limit : now.connection.framing.limit ≡ old.connection.framing.limit
+  pub unready : is_ready now.connection.framing ≡ false
+  pub machine_is : now.connection.machine ≡ (steps old.connection.machine messages).machine
+  pub output_is : now.written ≡ old.written ++ canon (steps old.connection.machine messages).output
 
 -- and the session goes on
-pub record GoesUpTo (old : Connection) (piece rest : List ℕ) (now : Connection) (before written : List ℕ) : Type 0 where
-  pub received : ReceivedUpTo old piece rest now before written
-  pub live : is_closed now.machine ≡ false
+pub record GoesUpTo (old : Standing) (piece rest : List ℕ) (now : Standing) : Type 0 where
+  pub received : ReceivedUpTo old piece rest now
+  pub live : is_closed now.connection.machine ≡ false
 
 -- the last PDU led to this fault, or to none; one that closes the session is the last
-pub record ReceivedAs (old : Connection) (piece rest : List ℕ) (now : Connection) (before written : List ℕ) (fault : Option InitiatorFault) : Type 0 where
-  pub received : ReceivedUpTo old piece rest now before written
-  pub fault_is : is_closed now.machine ≡ true → (steps old.machine received.messages).fault ≡ fault
+pub record ReceivedAs (old : Standing) (piece rest : List ℕ) (now : Standing) (fault : Option InitiatorFault) : Type 0 where
+  pub received : ReceivedUpTo old piece rest now
+  pub fault_is : is_closed now.connection.machine ≡ true → (steps old.connection.machine received.messages).fault ≡ fault
   pub targets : (f : InitiatorFault) → fault ≡ Some f → IsTargets f
 
 pub received_none : (old : Connection) (piece before : List ℕ) → is_ready old.framing ≡ false → is_closed old.machine ≡ false →
-    GoesUpTo old piece piece old before before
+    GoesUpTo (standing old before) piece piece (standing old before)
 unfolding steps
 received_none old piece before unready live = record {
   received = record {
@@ -117,8 +125,8 @@ received_none old piece before unready live = record {
 }
 
 received_bytes : (old : Connection) (piece rest before : List ℕ) (now : Connection) (written : List ℕ) (n : ℕ) (framing : Framing)
-    → GoesUpTo old piece rest now before written → Takes now.framing rest n framing → is_ready framing ≡ false →
-    ReceivedUpTo old piece (drop n rest) (connection now.machine framing) before written
+    → GoesUpTo (standing old before) piece rest (standing now written) → Takes now.framing rest n framing → is_ready framing ≡ false →
+    ReceivedUpTo (standing old before) piece (drop n rest) (standing (connection now.machine framing) written)
 received_bytes old piece rest before now written n framing g t unready = let h = g.received in record {
   front = h.front ++ take n rest;
   parts = taken_more piece h.front rest n h.parts;
@@ -132,8 +140,9 @@ received_bytes old piece rest before now written n framing g t unready = let h =
 
 received_pdu : (old : Connection) (piece rest before : List ℕ) (now : Connection) (written : List ℕ) (n : ℕ) (framing : Framing) (fault : Option InitiatorFault)
     (new : Connection) (after : List ℕ)
-    → GoesUpTo old piece rest now before written → Takes now.framing rest n framing → IsReceived (connection now.machine framing) fault new written after →
-    ReceivedAs old piece (drop n rest) new before after fault
+    → GoesUpTo (standing old before) piece rest (standing now written) → Takes now.framing rest n framing →
+    IsReceived (connection now.machine framing) fault new written after →
+    ReceivedAs (standing old before) piece (drop n rest) (standing new after) fault
 received_pdu old piece rest before now written n framing fault new after g t a =
     let h = g.received in
     let x : Message = message_of framing a.head a.segment in
@@ -166,11 +175,12 @@ received_pdu old piece rest before now written n framing fault new after g t a =
 
 pub received_ready : (old : Connection) (piece rest before : List ℕ) (now : Connection) (written : List ℕ) (n : ℕ) (framing : Framing)
     (fault : Option InitiatorFault) (new : Connection) (after : List ℕ)
-    → GoesUpTo old piece rest now before written → Takes now.framing rest n framing → ReceivesPdu (connection now.machine framing) fault new written after →
-    ReceivedAs old piece (drop n rest) new before after fault
+    → GoesUpTo (standing old before) piece rest (standing now written) → Takes now.framing rest n framing →
+    ReceivesPdu (connection now.machine framing) fault new written after →
+    ReceivedAs (standing old before) piece (drop n rest) (standing new after) fault
 received_ready old piece rest before now written n framing fault new after g t (inl u) =
-    subst (λ (c : Connection). ReceivedAs old piece (drop n rest) c before after fault) (sym u.connection_is)
-    (subst (λ (w : List ℕ). ReceivedAs old piece (drop n rest) (connection now.machine framing) before w fault) (sym u.output_is)
+    subst (λ (c : Connection). ReceivedAs (standing old before) piece (drop n rest) (standing c after) fault) (sym u.connection_is)
+    (subst (λ (w : List ℕ). ReceivedAs (standing old before) piece (drop n rest) (standing (connection now.machine framing) w) fault) (sym u.output_is)
     (record {
       received = received_bytes old piece rest before now written n framing g t u.unready;
       fault_is = λ e. absurd (true≢false (sym e ∙ g.live));
@@ -181,7 +191,8 @@ received_ready old piece rest before now written n framing fault new after g t (
 
 -- ---- where a call ends
 
-abbrev pub received_of : (old : Connection) (piece rest : List ℕ) (now : Connection) (before written : List ℕ) → ReceivedUpTo old piece rest now before written
+abbrev pub received_of : (old : Connection) (piece rest : List ℕ) (now : Connection) (before written : List ℕ) →
+    ReceivedUpTo (standing old before) piece rest (standing now written)
     → Received old piece
 received_of old piece rest now before written h = record {
   count = length h.front;
@@ -194,7 +205,7 @@ received_of old piece rest now before written h = record {
 }
 
 pub ends_live : (old : Connection) (piece rest before : List ℕ) (now : Connection) (written : List ℕ) (phase : Phase)
-    → GoesUpTo old piece rest now before written → is_closed old.machine ≡ false → phase ≡ now.machine.phase → length rest ≡ 0 →
+    → GoesUpTo (standing old before) piece rest (standing now written) → is_closed old.machine ≡ false → phase ≡ now.machine.phase → length rest ≡ 0 →
     Feeds (Ok phase) old piece now before written
 ends_live old piece rest before now written phase g first is none =
     let h = g.received in (
@@ -213,8 +224,8 @@ ends_live old piece rest before now written phase g first is none =
     )
 
 closes_at : (old : Connection) (piece rest before : List ℕ) (now : Connection) (written : List ℕ) (fault : Option InitiatorFault)
-    (a : ReceivedAs old piece rest now before written fault) → is_closed now.machine ≡ true
-    → ClosesAt old piece (received_of old piece rest now before written a.received) now before written fault
+    (a : ReceivedAs (standing old before) piece rest (standing now written) fault) → is_closed now.machine ≡ true
+    → ClosesAt (received_of old piece rest now before written a.received) now before written fault
 closes_at old piece rest before now written fault a shut = let h = a.received in record {
   closes = ap is_closed (sym h.machine_is) ∙ shut;
   machine = h.machine_is;
@@ -224,7 +235,7 @@ closes_at old piece rest before now written fault a shut = let h = a.received in
 
 -- the last PDU closed the session on request
 pub ends_closed : (old : Connection) (piece rest before : List ℕ) (now : Connection) (written : List ℕ) (fault : Option InitiatorFault)
-    → ReceivedAs old piece rest now before written fault → is_closed old.machine ≡ false → fault ≡ None → is_closed now.machine ≡ true →
+    → ReceivedAs (standing old before) piece rest (standing now written) fault → is_closed old.machine ≡ false → fault ≡ None → is_closed now.machine ≡ true →
     Feeds (Ok phases.Closed) old piece now before written
 ends_closed old piece rest before now written fault a first none shut = (
   first,
@@ -232,7 +243,7 @@ ends_closed old piece rest before now written fault a first none shut = (
     received_of old piece rest now before written a.received,
     inr (
       subst
-          (λ (f : Option InitiatorFault). ClosesAt old piece (received_of old piece rest now before written a.received) now before written f) none
+          (λ (f : Option InitiatorFault). ClosesAt (received_of old piece rest now before written a.received) now before written f) none
           (closes_at old piece rest before now written fault a shut),
       refl,
     ),
@@ -241,11 +252,12 @@ ends_closed old piece rest before now written fault a first none shut = (
 
 -- the last PDU closed the session by a fault
 pub ends_fault : (old : Connection) (piece rest before : List ℕ) (now : Connection) (written : List ℕ) (fault : InitiatorFault)
-    → ReceivedAs old piece rest now before written (Some fault) → is_closed now.machine ≡ true → FedUntil (Err fault) old piece now before written
+    → ReceivedAs (standing old before) piece rest (standing now written) (Some fault) → is_closed now.machine ≡ true →
+    FedUntil (Err fault) old piece now before written
 ends_fault old piece rest before now written fault a shut = of_targets fault (a.targets fault refl)
     (received_of old piece rest now before written a.received, closes_at old piece rest before now written (Some fault) a shut)
   where
-    of_targets : (f : InitiatorFault) → IsTargets f → (received : Received old piece) × ClosesAt old piece received now before written (Some f) →
+    of_targets : (f : InitiatorFault) → IsTargets f → (received : Received old piece) × ClosesAt received now before written (Some f) →
         FedUntil (Err f) old piece now before written
     of_targets (faults.Protocol rule) is ends = ends
     of_targets (faults.Refused class detail) is ends = ends
@@ -254,13 +266,14 @@ ends_fault old piece rest before now written fault a shut = of_targets fault (a.
     of_targets (faults.Stream fault) is ends = absurd is
     of_targets faults.Closed is ends = absurd is
 
-still_there : (old : Connection) (piece rest before : List ℕ) (now : Connection) (written : List ℕ) → ReceivedUpTo old piece rest now before written →
+still_there : (old : Connection) (piece rest before : List ℕ) (now : Connection) (written : List ℕ) →
+    ReceivedUpTo (standing old before) piece rest (standing now written) →
     take (length before) written ≡ before
 still_there old piece rest before now written h = ap (take (length before)) h.output_is
     ∙ take_at before (canon (steps old.machine h.messages).output) (length before) refl
 
 ran_out : (old : Connection) (piece rest before : List ℕ) (now : Connection) (written : List ℕ) (new : Connection) →
-    (g : GoesUpTo old piece rest now before written) → new.machine ≡ closed now.machine
+    (g : GoesUpTo (standing old before) piece rest (standing now written)) → new.machine ≡ closed now.machine
     → RanOut old piece (received_of old piece rest now before written g.received) new before written
 ran_out old piece rest before now written new g is = record {
   live = ap is_closed (sym g.received.machine_is) ∙ g.live;
@@ -270,7 +283,7 @@ ran_out old piece rest before now written new g is = record {
 
 -- the framer refuses what follows
 pub ends_refused : (old : Connection) (piece rest before : List ℕ) (now : Connection) (written : List ℕ) (fault : InitiatorFault) (new : Connection)
-    → GoesUpTo old piece rest now before written → RestFails now.framing rest fault → new.machine ≡ closed now.machine →
+    → GoesUpTo (standing old before) piece rest (standing now written) → RestFails now.framing rest fault → new.machine ≡ closed now.machine →
     FedUntil (Err fault) old piece new before written
 ends_refused old piece rest before now written faults.NoMemory new g fails is = (
   received_of old piece rest now before written g.received,
@@ -278,7 +291,7 @@ ends_refused old piece rest before now written faults.NoMemory new g fails is = 
 )
 ends_refused old piece rest before now written (faults.Stream fault) new g fails is = refused fault fails.0 fails.1
   where
-    ends : (f : StreamFault) → FeedFails now.framing rest f → (received : Received old piece) × StreamEnds old piece received new before written f
+    ends : (f : StreamFault) → FeedFails now.framing rest f → (received : Received old piece) × StreamEnds received new before written f
     ends f e = (
       received_of old piece rest now before written g.received,
       record {
@@ -303,7 +316,7 @@ ends_refused old piece rest before now written faults.Closed new g fails is = ab
 
 -- memory ran out at a PDU
 pub ends_shut : (old : Connection) (piece rest before : List ℕ) (now : Connection) (written : List ℕ) (framing : Framing) (new : Connection) (after : List ℕ)
-    → GoesUpTo old piece rest now before written → ShutsReady (connection now.machine framing) new written after →
+    → GoesUpTo (standing old before) piece rest (standing now written) → ShutsReady (connection now.machine framing) new written after →
     FedUntil (Err faults.NoMemory) old piece new before after
 ends_shut old piece rest before now written framing new after g s =
     subst (λ (w : List ℕ). FedUntil (Err faults.NoMemory) old piece new before w) (sym s.output_is)

@@ -14,11 +14,19 @@ use Rattle.iscsi_initiator.specs.Full.{data_outs, is_last}
 use Rattle.iscsi_stream.specs.Pieces.{chunks}
 use Rattle.iscsi_stream.proofs.ChunkLemmas.{chunks_step}
 
--- what is written of the sequence, and what is left to write
-pub record Wrote (first : DataOut) (most : ℕ) (bytes : List ℕ) (now : DataOut) (rest before written : List ℕ) : Type 0 where
-  pub fits : Fits (heads.DataOut now)
-  pub within : now.buffer_offset + length rest < 2 ^ 32
-  pub same : written ++ canon (data_outs now (chunks most rest)) ≡ before ++ canon (data_outs first (chunks most bytes))
+-- a sequence that is to be written: the head of its next PDU, and its bytes
+pub record Due : Type 0 where
+  pub next : DataOut
+  pub bytes : List ℕ
+
+abbrev pub due : DataOut → List ℕ → Due
+due next bytes = record { next = next; bytes = bytes }
+
+-- what is written of the sequence in pieces of so many bytes, and what is left to write
+pub record Wrote (most : ℕ) (all left : Due) (before written : List ℕ) : Type 0 where
+  pub fits : Fits (heads.DataOut left.next)
+  pub within : left.next.buffer_offset + length left.bytes < 2 ^ 32
+  pub same : written ++ canon (data_outs left.next (chunks most left.bytes)) ≡ before ++ canon (data_outs all.next (chunks most all.bytes))
   pub front : take (length before) written ≡ before
 
 -- ---- pieces
@@ -61,7 +69,7 @@ first_piece h most rest some any =
 
 pub wrote_piece : (first : DataOut) (most : ℕ) (bytes : List ℕ) (now : DataOut) (rest piece more before written after : List ℕ) → 0 < most → 0 < length rest
     → piece ≡ take most rest → more ≡ drop most rest → after ≡ written ++ whole (heads.DataOut (record now { is_final = length more == 0 })) piece
-    → Wrote first most bytes now rest before written → Wrote first most bytes (behind now piece) more before after
+    → Wrote most (due first bytes) (due now rest) before written → Wrote most (due first bytes) (due (behind now piece) more) before after
 wrote_piece first most bytes now rest piece more before written after some any is back e w =
     let parts : length rest ≡ length (take most rest) + length (drop most rest) = sym (ap length (take-append-drop most rest))
     ∙ length-append (take most rest) (drop most rest) in

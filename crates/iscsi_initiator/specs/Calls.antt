@@ -88,7 +88,7 @@ abbrev pub received_steps : (old : Connection) (piece : List ℕ) → Received o
 received_steps old piece received = steps old.machine received.messages
 
 -- The whole piece is received, and the session is open.
-pub record ReceivesAll (old : Connection) (piece : List ℕ) (received : Received old piece)
+pub record ReceivesAll {old : Connection} {piece : List ℕ} (received : Received old piece)
     (new : Connection) (before after : List ℕ) (phase : Phase) : Type 0 where
   pub all : received.count ≡ length piece
   pub live : is_closed (received_steps old piece received).machine ≡ false
@@ -99,7 +99,7 @@ pub record ReceivesAll (old : Connection) (piece : List ℕ) (received : Receive
   pub answered : phase ≡ (received_steps old piece received).machine.phase
 
 -- The last PDU that is received closes the session; the rest of the piece is dropped.
-pub record ClosesAt (old : Connection) (piece : List ℕ) (received : Received old piece)
+pub record ClosesAt {old : Connection} {piece : List ℕ} (received : Received old piece)
     (new : Connection) (before after : List ℕ) (fault : Option InitiatorFault) : Type 0 where
   pub closes : is_closed (received_steps old piece received).machine ≡ true
   pub machine : new.machine ≡ (received_steps old piece received).machine
@@ -107,7 +107,7 @@ pub record ClosesAt (old : Connection) (piece : List ℕ) (received : Received o
   pub cause : (received_steps old piece received).fault ≡ fault
 
 -- What follows the PDUs that are received is refused by the framer.
-pub record StreamEnds (old : Connection) (piece : List ℕ) (received : Received old piece)
+pub record StreamEnds {old : Connection} {piece : List ℕ} (received : Received old piece)
     (new : Connection) (before after : List ℕ) (fault : StreamFault) : Type 0 where
   pub live : is_closed (received_steps old piece received).machine ≡ false
   pub refused : FeedFails received.framing (drop received.count piece) fault
@@ -115,7 +115,7 @@ pub record StreamEnds (old : Connection) (piece : List ℕ) (received : Received
   pub output : after ≡ before ++ canon (received_steps old piece received).output
 
 -- Memory ran out behind some PDUs: nothing is written, and the session is closed.
-pub record MemoryEnds (old : Connection) (piece : List ℕ) (received : Received old piece)
+pub record MemoryEnds {old : Connection} {piece : List ℕ} (received : Received old piece)
     (new : Connection) (before after : List ℕ) : Type 0 where
   pub live : is_closed (received_steps old piece received).machine ≡ false
   pub machine : new.machine ≡ closed (received_steps old piece received).machine
@@ -125,23 +125,23 @@ pub record MemoryEnds (old : Connection) (piece : List ℕ) (received : Received
 abbrev pub StreamFails : StreamFault → (old : Connection) (piece : List ℕ) → Connection → List ℕ → List ℕ → Type 0
 StreamFails stream.NoMemory old piece new before after = ⊥
 StreamFails fault old piece new before after =
-    (received : Received old piece) × StreamEnds old piece received new before after fault
+    (received : Received old piece) × StreamEnds received new before after fault
 
 -- What a call of feed leaves that failed.
 abbrev pub FeedEnds : InitiatorFault → (old : Connection) (piece : List ℕ) → Connection → List ℕ → List ℕ → Type 0
 FeedEnds faults.NoMemory old piece new before after =
-    (received : Received old piece) × MemoryEnds old piece received new before after
+    (received : Received old piece) × MemoryEnds received new before after
 FeedEnds (faults.Stream fault) old piece new before after =
     StreamFails fault old piece new before after
 FeedEnds faults.Closed old piece new before after = Stays old new before after
 FeedEnds fault old piece new before after =
-    (received : Received old piece) × ClosesAt old piece received new before after (Some fault)
+    (received : Received old piece) × ClosesAt received new before after (Some fault)
 
 -- What a call of feed does with a piece of the stream.
 abbrev pub Feeds : Result Phase InitiatorFault → (old : Connection) (piece : List ℕ) → Connection → List ℕ → List ℕ → Type 0
 Feeds (Ok phase) old piece new before after = (is_closed old.machine ≡ false)
-    × ((received : Received old piece) × (ReceivesAll old piece received new before after phase
-    ⊎ (ClosesAt old piece received new before after None × (phase ≡ phases.Closed))))
+    × ((received : Received old piece) × (ReceivesAll received new before after phase
+    ⊎ (ClosesAt received new before after None × (phase ≡ phases.Closed))))
 Feeds (Err fault) old piece new before after = FeedEnds fault old piece new before after
 
 -- ---- a call of submit

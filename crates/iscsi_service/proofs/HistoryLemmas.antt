@@ -99,7 +99,7 @@ pub fed : (phase : Phase) (old new : Connection) (piece before output : List ℕ
     Continues old.machine [] [] new.machine
 fed phase old new piece before output f = go f.1.1
   where
-    go : ReceivesAll old piece f.1.0 new before output phase ⊎ (ClosesAt old piece f.1.0 new before output None × (phase ≡ phases.Closed)) →
+    go : ReceivesAll f.1.0 new before output phase ⊎ (ClosesAt f.1.0 new before output None × (phase ≡ phases.Closed)) →
         Continues old.machine [] [] new.machine
     go (inl all) = subst (λ (c : Connection). Continues old.machine [] [] c.machine) (sym all.connection) (heard old.machine f.1.0.messages)
     go (inr ends) = subst (λ (m : Machine). Continues old.machine [] [] m) (sym ends.0.machine) (heard old.machine f.1.0.messages)

@@ -409,7 +409,7 @@ heard_front past c acts moved prior before bytes after lost old new l h out stag
 
 hears_all : (past : List Input) (c : Opening) (acts : List Input) (moved prior before bytes after : List ℕ) (old new : Connection) (phase : Phase)
     → InitiatorLives past c acts moved (prior ++ before) old → (h : Received old bytes)
-    → ReceivesAll old bytes h new before after phase → InitiatorLives past c acts (moved ++ bytes) (prior ++ after) new
+    → ReceivesAll h new before after phase → InitiatorLives past c acts (moved ++ bytes) (prior ++ after) new
 hears_all past c acts moved prior before bytes after old new phase l h e =
     let o = come_on past c acts moved (prior ++ before) (take h.count bytes) old l h.messages h.framing h.moves in
     let whole : take h.count bytes ≡ bytes = take_all h.count bytes (omega (arith, e.all)) in
@@ -428,7 +428,7 @@ hears_all past c acts moved prior before bytes after old new phase l h e =
 -- where the session ends without a fault, it has reached its last stage
 ends_full : (past : List Input) (c : Opening) (acts : List Input) (moved prior before bytes after : List ℕ) (old new : Connection)
     → InitiatorLives past c acts moved (prior ++ before) old → is_closed old.machine ≡ false → (h : Received old bytes)
-    → ClosesAt old bytes h new before after None → InitiatorOver past c acts (moved ++ bytes) (prior ++ after) new
+    → ClosesAt h new before after None → InitiatorOver past c acts (moved ++ bytes) (prior ++ after) new
 ends_full past c acts moved prior before bytes after old new l live h e =
     let o = come_on past c acts moved (prior ++ before) (take h.count bytes) old l h.messages h.framing h.moves in
     record {
@@ -449,7 +449,7 @@ ends_full past c acts moved prior before bytes after old new l live h e =
 -- a session that a message closed
 closes_ended : (past : List Input) (c : Opening) (acts : List Input) (moved prior before bytes after : List ℕ) (old new : Connection)
     (fault : Option InitiatorFault) → InitiatorLives past c acts moved (prior ++ before) old → (h : Received old bytes)
-    → ClosesAt old bytes h new before after fault → InitiatorEnded c (moved ++ bytes) (prior ++ after) new
+    → ClosesAt h new before after fault → InitiatorEnded c (moved ++ bytes) (prior ++ after) new
 closes_ended past c acts moved prior before bytes after old new fault l h e =
     let o = come_on past c acts moved (prior ++ before) (take h.count bytes) old l h.messages h.framing h.moves in
     record {
@@ -472,7 +472,7 @@ closes_side : (past : List Input) (c : Opening) (acts : List Input) (moved prior
     (fault : Option InitiatorFault) (kept : Option EndFault) → InitiatorLives past c acts moved (prior ++ before) old → (h : Received old bytes)
     → (kept ≡ None → InitiatorOver past c acts (moved ++ bytes) (prior ++ after) new) → (InitiatorEnded c (moved ++ bytes) (prior ++ after) new
     → InitiatorFailed kept c (moved ++ bytes) (prior ++ after) new)
-    → ClosesAt old bytes h new before after fault → InitiatorSide past c acts (streams (moved ++ bytes) (prior ++ after)) new kept
+    → ClosesAt h new before after fault → InitiatorSide past c acts (streams (moved ++ bytes) (prior ++ after)) new kept
 closes_side past c acts moved prior before bytes after old new fault kept l h full why e = record {
   failed = why (closes_ended past c acts moved prior before bytes after old new fault l h e);
   over = λ none over. full none;
@@ -484,7 +484,7 @@ closes_side past c acts moved prior before bytes after old new fault kept l h fu
 -- a stream that was refused
 stream_broken : (past : List Input) (c : Opening) (acts : List Input) (moved prior before bytes after : List ℕ) (old new : Connection) (fault : StreamFault)
     → InitiatorLives past c acts moved (prior ++ before) old → (h : Received old bytes) → fault ≢ stream.NoMemory
-    → StreamEnds old bytes h new before after fault → InitiatorBroken fault c (moved ++ bytes) (prior ++ after) new
+    → StreamEnds h new before after fault → InitiatorBroken fault c (moved ++ bytes) (prior ++ after) new
 stream_broken past c acts moved prior before bytes after old new fault l h some e =
     let o = come_on past c acts moved (prior ++ before) (take h.count bytes) old l h.messages h.framing h.moves in
     record {
@@ -506,7 +506,7 @@ stream_broken past c acts moved prior before bytes after old new fault l h some 
 stream_side : (past : List Input) (c : Opening) (acts : List Input) (moved prior before bytes after : List ℕ) (old new : Connection) (fault : StreamFault)
     (kept : EndFault) → InitiatorLives past c acts moved (prior ++ before) old → (h : Received old bytes) → fault ≢ stream.NoMemory
     → (InitiatorBroken fault c (moved ++ bytes) (prior ++ after) new → InitiatorFailed (Some kept) c (moved ++ bytes) (prior ++ after) new)
-    → StreamEnds old bytes h new before after fault → InitiatorSide past c acts (streams (moved ++ bytes) (prior ++ after)) new (Some kept)
+    → StreamEnds h new before after fault → InitiatorSide past c acts (streams (moved ++ bytes) (prior ++ after)) new (Some kept)
 stream_side past c acts moved prior before bytes after old new fault kept l h some why e = record {
   failed = why (stream_broken past c acts moved prior before bytes after old new fault l h some e);
   over = λ none over. absurd (cc none);
@@ -575,7 +575,7 @@ stream_fails stream.Failed past c acts moved prior before bytes after old new s 
 
 closes_fails : (fault : InitiatorFault) (past : List Input) (c : Opening) (acts : List Input) (moved prior before bytes after : List ℕ) (old new : Connection)
     → InitiatorSide past c acts (streams moved (prior ++ before)) old None
-    → (e : (h : Received old bytes) × ClosesAt old bytes h new before after (Some fault)) → (kept : EndFault)
+    → (e : (h : Received old bytes) × ClosesAt h new before after (Some fault)) → (kept : EndFault)
     → (InitiatorEnded c (moved ++ bytes) (prior ++ after) new → InitiatorFailed (Some kept) c (moved ++ bytes) (prior ++ after) new)
     → InitiatorSide past c acts (streams (moved ++ bytes) (prior ++ after)) new (Some kept)
 closes_fails fault past c acts moved prior before bytes after old new s e kept why =

@@ -262,8 +262,8 @@ initiator_ends : (shut : Bool) (old new : calls.Connection) (bytes : List ℕ) (
     → h.count ≡ length bytes → is_ready h.framing ≡ false → new.machine ≡ (received_steps old bytes h).machine → new.framing ≡ h.framing
     → written ≡ before ++ canon (received_steps old bytes h).output
     → (received_steps old bytes h).fault ≡ None
-    → calls.ReceivesAll old bytes h new before written (received_steps old bytes h).machine.phase
-    ⊎ (calls.ClosesAt old bytes h new before written None × ((received_steps old bytes h).machine.phase ≡ phases.Closed))
+    → calls.ReceivesAll h new before written (received_steps old bytes h).machine.phase
+    ⊎ (calls.ClosesAt h new before written None × ((received_steps old bytes h).machine.phase ≡ phases.Closed))
 initiator_ends true old new bytes h before written is count ready machine framing output fault =
     inr (record { closes = is; machine = machine; output = output; cause = fault }, closed_is (received_steps old bytes h).machine.phase is)
 initiator_ends false old new bytes h before written is count ready machine framing output fault =

@@ -152,7 +152,7 @@ initiator_stands c P h g old new s i output left e talks there back = record {
 goes_on : (c : Opening) (P : Relation) (h : History) (old new : World) (moved : List ℕ) (phase : Phase) → (s : Stands c P h old)
     → (f : calls.Received old.initiator moved)
     → InitiatorTurn s f.framing (drop f.count moved) (drop (length moved) old.to_initiator) (received_steps old.initiator moved f)
-    → calls.ReceivesAll old.initiator moved f new.initiator old.to_target new.to_target phase → new.target_fault ≡ None → new.initiator_fault ≡ None
+    → calls.ReceivesAll f new.initiator old.to_target new.to_target phase → new.target_fault ≡ None → new.initiator_fault ≡ None
     → new.target ≡ old.target → new.blocks ≡ old.blocks
     → new.to_initiator ≡ drop (length moved) old.to_initiator → Stands c P h new
 goes_on c P h old new moved phase s f t e there well target_ blocks dropped =
@@ -177,7 +177,7 @@ goes_on c P h old new moved phase s f t e there well target_ blocks dropped =
 closes : (c : Opening) (P : Relation) (h : History) (old new : World) (moved : List ℕ) (fault : Option InitiatorFault) → (s : Stands c P h old)
     → (f : calls.Received old.initiator moved)
     → InitiatorTurn s f.framing (drop f.count moved) (drop (length moved) old.to_initiator) (received_steps old.initiator moved f)
-    → calls.ClosesAt old.initiator moved f new.initiator old.to_target new.to_target fault → new.target_fault ≡ None → new.initiator_fault ≡ None
+    → calls.ClosesAt f new.initiator old.to_target new.to_target fault → new.target_fault ≡ None → new.initiator_fault ≡ None
     → new.target ≡ old.target → new.blocks ≡ old.blocks
     → new.to_initiator ≡ drop (length moved) old.to_initiator → Stands c P h new
 closes c P h old new moved fault s f t e there well target_ blocks dropped =
@@ -191,7 +191,7 @@ closes c P h old new moved fault s f t e there well target_ blocks dropped =
 not_caused : (c : Opening) (P : Relation) (h : History) (old : World) (moved : List ℕ) (fault : InitiatorFault) (new : calls.Connection) (after : List ℕ)
     → (s : Stands c P h old) → (f : calls.Received old.initiator moved)
     → InitiatorTurn s f.framing (drop f.count moved) (drop (length moved) old.to_initiator) (received_steps old.initiator moved f)
-    → calls.ClosesAt old.initiator moved f new old.to_target after (Some fault) → ⊥
+    → calls.ClosesAt f new old.to_target after (Some fault) → ⊥
 not_caused c P h old moved fault new after s f t e = (let bad : None ≡ Some fault = sym t.fault ∙ e.cause in absurd cc)
 
 -- what the calls of an initiator read

@@ -6,7 +6,7 @@ use Rattle.iscsi_stream.proofs.PassingLemmas.{takes_some}
 use Rattle.iscsi_initiator.specs.declared.fault.InitiatorFault.{InitiatorFault}
 use Rattle.iscsi_initiator.specs.State.{Machine}
 use Rattle.iscsi_initiator.specs.Inside.{connection, ReceivesPdu, ShutsReady}
-use Rattle.iscsi_initiator.proofs.ReceivingLemmas.{GoesUpTo, ReceivedAs, received_none, received_ready, ends_refused, ends_shut, ends_fault, ends_closed}
+use Rattle.iscsi_initiator.proofs.ReceivingLemmas.{standing, GoesUpTo, ReceivedAs, received_none, received_ready, ends_refused, ends_shut, ends_fault, ends_closed}
 use Rattle.iscsi_initiator.proofs.ReceivingLemmas.{ends_live}
 use Rattle.iscsi_initiator.proofs.initiator.feed_all.Goals as goal
 
@@ -40,9 +40,9 @@ returns-in-Some-clause-fed c =
     (connection c.receive_pdu.new.session c.receive_pdu.new.framer) c.receive_pdu.new.out.items c.loop-rest.invariant c.in_ok-taken.ensures.ok ready in
     ends_fault (connection c.args.session.now c.args.framer.now) c.args.piece.now (drop c.in_ok-taken.taken c.loop-rest.rest.now) c.args.out.now.items
     (connection c.receive_pdu.new.session c.receive_pdu.new.framer) c.receive_pdu.new.out.items c.in-Some.fault
-    (subst (λ (f : Option InitiatorFault). ReceivedAs (connection c.args.session.now c.args.framer.now) c.args.piece.now
-    (drop c.in_ok-taken.taken c.loop-rest.rest.now) (connection c.receive_pdu.new.session c.receive_pdu.new.framer) c.args.out.now.items
-    c.receive_pdu.new.out.items f) c.in-Some.is received)
+    (subst (λ (f : Option InitiatorFault). ReceivedAs (standing (connection c.args.session.now c.args.framer.now) c.args.out.now.items) c.args.piece.now
+    (drop c.in_ok-taken.taken c.loop-rest.rest.now)
+    (standing (connection c.receive_pdu.new.session c.receive_pdu.new.framer) c.receive_pdu.new.out.items) f) c.in-Some.is received)
     (sym c.is_closed.ensures ∙ c.if-is_closed.true)
 
 pub returns-in-Some-clause-unready : goal.returns-in-Some-clause-unready
@@ -93,8 +93,8 @@ loop-rest-preserved c =
     let received = received_ready (connection c.args.session.now c.args.framer.now) c.args.piece.now c.loop-rest.rest.now c.args.out.now.items
     (connection c.loop-rest.session c.loop-rest.framer) c.loop-rest.out.items c.in_ok-taken.taken c.take_bytes.new.framer c.in_ok-fault.fault
     (connection c.receive_pdu.new.session c.receive_pdu.new.framer) c.receive_pdu.new.out.items c.loop-rest.invariant c.in_ok-taken.ensures.ok ready in
-    subst (λ (x : List ℕ). GoesUpTo (connection c.args.session.now c.args.framer.now) c.args.piece.now x
-    (connection c.receive_pdu.new.session c.receive_pdu.new.framer) c.args.out.now.items c.receive_pdu.new.out.items)
+    subst (λ (x : List ℕ). GoesUpTo (standing (connection c.args.session.now c.args.framer.now) c.args.out.now.items) c.args.piece.now x
+    (standing (connection c.receive_pdu.new.session c.receive_pdu.new.framer) c.receive_pdu.new.out.items))
     (sym (take_rest c.loop-rest.rest.now c.in_ok-taken.taken))
     (record { received = received.received; live = sym c.is_closed.ensures ∙ c.if-is_closed.false })
 

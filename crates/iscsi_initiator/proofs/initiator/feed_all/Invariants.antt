@@ -1,10 +1,11 @@
 use Rattle.std.proofs.Common.{length}
 use Rattle.iscsi_initiator.specs.Inside.{connection}
-use Rattle.iscsi_initiator.proofs.ReceivingLemmas.{GoesUpTo}
+use Rattle.iscsi_initiator.proofs.ReceivingLemmas.{standing, GoesUpTo}
 use Rattle.iscsi_initiator.proofs.initiator.feed_all.Given as goal
 
 abbrev pub invariant-loop-rest : goal.invariant-loop-rest
-invariant-loop-rest l = GoesUpTo (connection l.initial.session l.initial.framer) l.piece l.rest (connection l.session l.framer) l.initial.out.items l.out.items
+invariant-loop-rest l = GoesUpTo (standing (connection l.initial.session l.initial.framer) l.initial.out.items) l.piece l.rest
+    (standing (connection l.session l.framer) l.out.items)
 
 abbrev pub decreases-loop-rest : goal.decreases-loop-rest
 decreases-loop-rest l = length l.rest
