@@ -19,7 +19,7 @@ use Rattle.iscsi_service.specs.Commands.{is_logout, request_of}
 use Rattle.iscsi_service.specs.Reports.{report}
 use Rattle.iscsi_service.specs.Script.{IsScript}
 use Rattle.iscsi_service.specs.Looping.{initiator_settings, reports, transcript, up_to_logout}
-use Rattle.iscsi_service.specs.LoopPairs.{AreOneDisk, Ends, LoopsOnDisk, Performs, WritesLine, WritesOnDisk, command_outcomes, loop_opening, outcome_on}
+use Rattle.iscsi_service.specs.LoopPairs.{AreOneDisk, Ends, LoopsOnDisk, Performs, WritesLine, WritesOnDisk, asked, command_outcomes, loop_opening, outcome_on}
 use Rattle.iscsi_service.specs.LoopPairs.{outcomes_on}
 use Rattle.iscsi_service.proofs.HistoryLemmas.{front_then, left_at, left_by, login_line}
 
@@ -27,7 +27,7 @@ use Rattle.iscsi_service.proofs.HistoryLemmas.{front_then, left_at, left_by, log
 
 -- nothing of its line is written
 pub no_line : (fault : ServeFault) (blocks : ℕ) (past : List Request) (request : Request) (ends : Ends) (contents : Option (List ℕ))
-    → WritesLine (Err fault) blocks past request ends contents contents
+    → WritesLine (Err fault) (asked blocks past request) ends contents contents
 no_line fault blocks past request ends contents = (0, Appends-nil contents)
 
 -- its line is written, or a front of it
@@ -35,7 +35,7 @@ pub line_written : (result : Result (Unit {0}) ServeFault) (blocks : ℕ) (past 
     (contents_old contents_new : Option (List ℕ))
     → Performs old request done new → AreOneDisk blocks past old → OnOk result (Appends contents_old contents_new (report done))
     → IfErr result (λ fault. (fault ≡ serve.Write) × WroteFront contents_old contents_new (report done))
-    → WritesLine result blocks past request new contents_old contents_new
+    → WritesLine result (asked blocks past request) new contents_old contents_new
 line_written (Ok unit) blocks past request done old new contents_old contents_new p one ok err =
     let now = p blocks past one in
     (now.1, subst (λ (d : Done). Appends contents_old contents_new (report d)) now.0 ok)
@@ -66,7 +66,7 @@ on_none blocks all ends contents one = record { front = []; one = one; runs = re
 -- a command and its line
 pub on_more : (blocks : ℕ) (all rest more : List Command) (command : Command) (old new : Ends) (contents_old contents_now contents_new : Option (List ℕ))
     → OnDiskSoFar blocks all rest old contents_old contents_now → rest ≡ command ∷ more
-    → ((past : List Request) → AreOneDisk blocks past old → WritesLine (Ok tt) blocks past (request_of command) new contents_now contents_new)
+    → ((past : List Request) → AreOneDisk blocks past old → WritesLine (Ok tt) (asked blocks past (request_of command)) new contents_now contents_new)
     → (left : List Command) → up_to_logout (command ∷ more) ≡ command ∷ up_to_logout left → OnDiskSoFar blocks all left new contents_old contents_new
 on_more blocks all rest more command old new contents_old contents_now contents_new d is does left first =
     let past : List Request = map request_of d.front in
@@ -98,7 +98,7 @@ front_more a b xs ys w =
 pub on_stops : (fault : ServeFault) (blocks : ℕ) (all rest more : List Command) (command : Command) (old new : Ends)
     (contents_old contents_now contents_new : Option (List ℕ))
     → OnDiskSoFar blocks all rest old contents_old contents_now → rest ≡ command ∷ more
-    → ((past : List Request) → AreOneDisk blocks past old → WritesLine (Err fault) blocks past (request_of command) new contents_now contents_new)
+    → ((past : List Request) → AreOneDisk blocks past old → WritesLine (Err fault) (asked blocks past (request_of command)) new contents_now contents_new)
     → WritesOnDisk blocks all (Err fault) contents_old contents_new
 unfolding local_outcomes
 on_stops fault blocks all rest more command old new contents_old contents_now contents_new d is does =

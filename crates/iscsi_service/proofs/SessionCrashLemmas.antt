@@ -14,7 +14,7 @@ use Rattle.iscsi_target.specs.Crash.{CrashesFed, CrashesNext}
 use Rattle.iscsi_target.specs.Inside.{Advances}
 use Rattle.iscsi_target.proofs.PassedLemmas.{no_advance, advances_then, feeds_advance, crashes_none, crashes_next, crashes_more, crashes_then}
 use Rattle.iscsi_service.specs.SessionSteps.{service, Goes}
-use Rattle.iscsi_service.proofs.SessionReadInvariant.{ReadUpTo, at_start, fed_rises, next_is, next_fails, next_is_open}
+use Rattle.iscsi_service.proofs.SessionReadInvariant.{Outside, outside, ReadUpTo, at_start, fed_rises, next_is, next_fails, next_is_open}
 
 -- ---- one PDU
 
@@ -78,14 +78,13 @@ piece_crashes old now before store after piece rest kept was left p q r = (
 -- ---- a session
 
 -- what was read was served, and led here; what a crash leaves behind it
-pub record SessionUpTo (settings : Settings) (first : Store) (target : Connection) (store : Store)
-    (remaining_old remaining_new contents_old contents_new : Option (List ℕ)) (kept left : ℕ → List ℕ → Type 0) : Type 0 where
-  pub read : ReadUpTo settings first target store remaining_old remaining_new contents_old contents_new
-  pub advances : Advances (opening_connection settings 1) first read.stream target store
-  pub crash : CrashesFed (opening_connection settings 1) first read.stream store kept left
+pub record SessionUpTo (settings : Settings) (first : Outside) (target : Connection) (now : Outside) (kept left : ℕ → List ℕ → Type 0) : Type 0 where
+  pub read : ReadUpTo settings first target now
+  pub advances : Advances (opening_connection settings 1) first.store read.stream target now.store
+  pub crash : CrashesFed (opening_connection settings 1) first.store read.stream now.store kept left
 
 pub session_start : (settings : Settings) (first : Store) (r w : Option (List ℕ)) (kept : ℕ → List ℕ → Type 0)
-    → SessionUpTo settings first (opening_connection settings 1) first r r w w kept kept
+    → SessionUpTo settings (outside first r w) (opening_connection settings 1) (outside first r w) kept kept
 session_start settings first r w kept = record {
   read = record { stream = []; consumed = Consumes-nil r; served = at_start settings first w };
   advances = no_advance (opening_connection settings 1) first;
@@ -95,7 +94,7 @@ session_start settings first r w kept = record {
 -- behind one piece more
 pub session_crashes : (settings : Settings) (first : Store) (now : Connection) (store after : Store) (r0 r1 w0 w1 : Option (List ℕ))
     (kept was left : ℕ → List ℕ → Type 0) (piece : List ℕ)
-    → (up : SessionUpTo settings first now store r0 r1 w0 w1 kept was) → Crashed now store piece after was left
+    → (up : SessionUpTo settings (outside first r0 w0) now (outside store r1 w1) kept was) → Crashed now store piece after was left
     → CrashesFed (opening_connection settings 1) first (up.read.stream ++ piece) after kept left
 session_crashes settings first now store after r0 r1 w0 w1 kept was left piece up crash =
     crashes_then (opening_connection settings 1) now first store after (up.read.stream ++ piece) up.read.stream piece kept was left refl up.advances crash.0
@@ -103,8 +102,10 @@ session_crashes settings first now store after r0 r1 w0 w1 kept was left piece u
 
 pub session_more : (settings : Settings) (first : Store) (now new : Connection) (store after : Store) (r0 r1 r2 w0 w1 w2 : Option (List ℕ))
     (kept was left : ℕ → List ℕ → Type 0) (piece : List ℕ)
-    → SessionUpTo settings first now store r0 r1 w0 w1 kept was → Consumes r1 r2 piece → Goes (service now store w1 []) piece (service new after w2 [])
-    → Advances now store piece new after → Crashed now store piece after was left → SessionUpTo settings first new after r0 r2 w0 w2 kept left
+    → SessionUpTo settings (outside first r0 w0) now (outside store r1 w1) kept was → Consumes r1 r2 piece →
+    Goes (service now store w1 []) piece (service new after w2 [])
+    → Advances now store piece new after → Crashed now store piece after was left →
+    SessionUpTo settings (outside first r0 w0) new (outside after r2 w2) kept left
 session_more settings first now new store after r0 r1 r2 w0 w1 w2 kept was left piece up read goes advances crash = record {
   read = record {
     stream = up.read.stream ++ piece;

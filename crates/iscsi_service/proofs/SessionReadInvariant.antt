@@ -52,7 +52,7 @@ pub none_executed : (disk : Disk) → HasExecuted disk disk
 none_executed disk = ([], nothing_executed disk)
 
 pub at_start : (settings : Settings) (first : Store) (contents : Option (List ℕ)) →
-    ServedUpTo settings first [] (opening_connection settings 1) first contents contents []
+    ServedUpTo settings first [] contents (service (opening_connection settings 1) first contents [])
 unfolding FedAll
 at_start settings first contents = record {
   pieces = [];
@@ -203,9 +203,9 @@ none_counted first before after low high none = (omega arith, omega arith)
 
 served_more : (settings : Settings) (first : Store) (stream : List ℕ) (old new : Connection) (before after : Store) (start contents : Option (List ℕ))
     (waiting piece written : List ℕ) (result : Result Phase TargetFault)
-    → ServedUpTo settings first stream old before start contents waiting → Fed old before waiting piece result new after written →
+    → ServedUpTo settings first stream start (service old before contents waiting) → Fed old before waiting piece result new after written →
     (result ≡ Err faults.NoMemory → ⊥)
-    → ServedUpTo settings first (stream ++ piece) new after start contents written
+    → ServedUpTo settings first (stream ++ piece) start (service new after contents written)
 served_more settings first stream old new before after start contents waiting piece written result up one memory = record {
   pieces = up.pieces ++ piece ∷ [];
   whole = ap (λ (x : List ℕ). x ++ piece) up.whole ∙ stream_more up.pieces piece;
@@ -224,8 +224,8 @@ served_more settings first stream old new before after start contents waiting pi
 -- the answers that waited were written
 pub written_out : (settings : Settings) (first : Store) (stream : List ℕ) (target : Connection) (store : Store) (start contents now : Option (List ℕ))
     (waiting : List ℕ)
-    → ServedUpTo settings first stream target store start contents waiting → AreBytes waiting → Appends contents now waiting →
-    ServedUpTo settings first stream target store start now []
+    → ServedUpTo settings first stream start (service target store contents waiting) → AreBytes waiting → Appends contents now waiting →
+    ServedUpTo settings first stream start (service target store now [])
 written_out settings first stream target store start contents now waiting up are more = record {
   pieces = up.pieces;
   whole = up.whole;
@@ -241,7 +241,7 @@ written_out settings first stream target store start contents now waiting up are
 -- a part of them was, or none
 pub front_out : (settings : Settings) (first : Store) (stream : List ℕ) (target : Connection) (store : Store) (start contents now : Option (List ℕ))
     (waiting : List ℕ)
-    → ServedUpTo settings first stream target store start contents waiting → AreBytes waiting → WroteFront contents now waiting → (sent : List ℕ)
+    → ServedUpTo settings first stream start (service target store contents waiting) → AreBytes waiting → WroteFront contents now waiting → (sent : List ℕ)
     × Appends start now sent × AreBytes sent × HasExecuted first.disk store.disk
 front_out settings first stream target store start contents now waiting up are front = (
   up.sent ++ take front.0 waiting,
@@ -253,8 +253,8 @@ front_out settings first stream target store start contents now waiting up are f
 -- bytes behind the end of a session are dropped
 rest_dropped : (settings : Settings) (first : Store) (stream : List ℕ) (target : Connection) (store : Store) (start contents : Option (List ℕ))
     (waiting rest : List ℕ)
-    → is_closed target.machine ≡ true → ServedUpTo settings first stream target store start contents waiting →
-    ServedUpTo settings first (stream ++ rest) target store start contents waiting
+    → is_closed target.machine ≡ true → ServedUpTo settings first stream start (service target store contents waiting) →
+    ServedUpTo settings first (stream ++ rest) start (service target store contents waiting)
 rest_dropped settings first stream target store start contents waiting rest over up =
     let stays : Stays target store waiting (Err faults.Closed) target store waiting =
     record { result_is = refl; connection = refl; store = refl; output_is = refl } in
@@ -264,7 +264,8 @@ rest_dropped settings first stream target store start contents waiting rest over
 
 -- the target stands behind what was served
 stands_up : (settings : Settings) (first : Store) (stream : List ℕ) (target : Connection) (store : Store) (start contents : Option (List ℕ)) (waiting : List ℕ)
-    → (up : ServedUpTo settings first stream target store start contents waiting) → store.failures ≡ first.failures → is_closed target.machine ≡ false →
+    → (up : ServedUpTo settings first stream start (service target store contents waiting)) → store.failures ≡ first.failures →
+    is_closed target.machine ≡ false →
     Stands settings first.disk stream target store.disk (up.sent ++ waiting)
 stands_up settings first stream target store start contents waiting up h live =
     subst (λ (x : List ℕ). Stands settings first.disk x target store.disk (up.sent ++ waiting)) (sym up.whole)
@@ -394,7 +395,7 @@ fault_breaks old new before after contents now out piece written faults.Closed l
 
 pub goes_then : (old mid new : Service) (a b : List ℕ) → Goes old a mid → Goes mid b new → Goes old (a ++ b) new
 goes_then old mid new a b p q = λ settings first stream start up.
-    subst (λ (x : List ℕ). ServedUpTo settings first x new.target new.store start new.contents new.waiting) (append_assoc stream a b)
+    subst (λ (x : List ℕ). ServedUpTo settings first x start new) (append_assoc stream a b)
     (q settings first (stream ++ a) start (p settings first stream start up))
 
 loses_then : (old mid new : Service) (a : List ℕ) → Goes old a mid → Loses mid new → Loses old new
@@ -436,7 +437,7 @@ is_over_more settings disk read more o = (
 
 -- no bytes change nothing
 goes_none : (s : Service) → Goes s [] s
-goes_none s = λ settings first stream start up. subst (λ (x : List ℕ). ServedUpTo settings first x s.target s.store start s.contents s.waiting)
+goes_none s = λ settings first stream start up. subst (λ (x : List ℕ). ServedUpTo settings first x start s)
     (sym (append-nil stream)) up
 
 -- the answers that wait are written
@@ -512,16 +513,25 @@ piece_closes old mid piece rest n after p q = λ settings first stream start up 
 
 -- ---- how a session ends
 
+-- what a session works on: its store, what is left to be read, and what was written, as far as these are known
+pub record Outside : Type 0 where
+  pub store : Store
+  pub remaining : Option (List ℕ)
+  pub contents : Option (List ℕ)
+
+abbrev pub outside : Store → Option (List ℕ) → Option (List ℕ) → Outside
+outside store remaining contents = record { store = store; remaining = remaining; contents = contents }
+
 -- bytes were read, and served
-pub record ReadUpTo (settings : Settings) (first : Store) (target : Connection) (store : Store)
-    (remaining_old remaining_new contents_old contents_new : Option (List ℕ)) : Type 0 where
+pub record ReadUpTo (settings : Settings) (first : Outside) (target : Connection) (now : Outside) : Type 0 where
   pub stream : List ℕ
-  pub consumed : Consumes remaining_old remaining_new stream
-  pub served : ServedUpTo settings first stream target store contents_old contents_new []
+  pub consumed : Consumes first.remaining now.remaining stream
+  pub served : ServedUpTo settings first.store stream first.contents (service target now.store now.contents [])
 
 pub read_more : (settings : Settings) (first : Store) (now new : Connection) (store after : Store) (r0 r1 r2 w0 w1 w2 : Option (List ℕ)) (piece : List ℕ)
-    → ReadUpTo settings first now store r0 r1 w0 w1 → Consumes r1 r2 piece → Goes (service now store w1 []) piece (service new after w2 []) →
-    ReadUpTo settings first new after r0 r2 w0 w2
+    → ReadUpTo settings (outside first r0 w0) now (outside store r1 w1) → Consumes r1 r2 piece →
+    Goes (service now store w1 []) piece (service new after w2 []) →
+    ReadUpTo settings (outside first r0 w0) new (outside after r2 w2)
 read_more settings first now new store after r0 r1 r2 w0 w1 w2 piece up read goes =
     record {
       stream = up.stream ++ piece;
@@ -531,7 +541,7 @@ read_more settings first now new store after r0 r1 r2 w0 w1 w2 piece up read goe
 
 -- all PDUs of what was read are answered
 all_served : (settings : Settings) (first : Store) (stream : List ℕ) (now : Connection) (store : Store) (w0 w1 : Option (List ℕ)) →
-    (up : ServedUpTo settings first stream now store w0 w1 [])
+    (up : ServedUpTo settings first stream w0 (service now store w1 []))
     → IsInRange settings.preferences → store.failures ≡ first.failures → ServesAll settings first.disk stream store.disk up.sent
 all_served settings first stream now store w0 w1 up range h ms given rest s =
     fed_any settings 1 first up.pieces now store up.sent ms given rest (omega (arith, range.max_recv.1))
@@ -544,7 +554,7 @@ Ended settings first store result = Given first store settings (λ read written.
     × EndsBy settings first.disk result read)
 
 stops : (settings : Settings) (result : Result (Unit {0}) SessionFault) (first : Store) (now : Connection) (store : Store) (r0 r1 w0 w1 : Option (List ℕ))
-    (C : List ℕ → Type 0) → (up : ReadUpTo settings first now store r0 r1 w0 w1) → C up.stream
+    (C : List ℕ → Type 0) → (up : ReadUpTo settings (outside first r0 w0) now (outside store r1 w1)) → C up.stream
     → ((read written : List ℕ) → ServesAll settings first.disk read store.disk written → Serves settings first.disk result read store.disk written) →
     (store.failures ≡ first.failures → EndsBy settings first.disk result up.stream)
     → Leaves r0 r1 w0 w1 (Ended settings first store result) C
@@ -560,13 +570,13 @@ stops settings result first now store r0 r1 w0 w1 C up left due why = (
 
 -- a target that stands behind what was read
 read_stands : (settings : Settings) (first : Store) (now : Connection) (store : Store) (r0 r1 w0 w1 : Option (List ℕ)) →
-    (up : ReadUpTo settings first now store r0 r1 w0 w1) → store.failures ≡ first.failures → is_closed now.machine ≡ false
+    (up : ReadUpTo settings (outside first r0 w0) now (outside store r1 w1)) → store.failures ≡ first.failures → is_closed now.machine ≡ false
     → Stands settings first.disk up.stream now store.disk (up.served.sent ++ [])
 read_stands settings first now store r0 r1 w0 w1 up h live = stands_up settings first up.stream now store w0 w1 [] up.served h live
 
 -- a read failed
 pub read_stops : (settings : Settings) (first : Store) (now : Connection) (store : Store) (r0 r1 r2 w0 w1 : Option (List ℕ)) (C : List ℕ → Type 0) →
-    (up : ReadUpTo settings first now store r0 r1 w0 w1) → C up.stream → is_closed now.machine ≡ false → Keeps r1 r2
+    (up : ReadUpTo settings (outside first r0 w0) now (outside store r1 w1)) → C up.stream → is_closed now.machine ≡ false → Keeps r1 r2
     → Leaves r0 r2 w0 w1 (Ended settings first store (Err session.Read)) C
 read_stops settings first now store r0 r1 r2 w0 w1 C up left live kept =
     stops settings (Err session.Read) first now store r0 r2 w0 w1 C (record {
@@ -578,7 +588,7 @@ read_stops settings first now store r0 r1 r2 w0 w1 C up left live kept =
 
 -- there were too many reads
 pub reads_stop : (settings : Settings) (first : Store) (now : Connection) (store : Store) (r0 r1 w0 w1 : Option (List ℕ)) (C : List ℕ → Type 0) →
-    (up : ReadUpTo settings first now store r0 r1 w0 w1) → C up.stream → is_closed now.machine ≡ false
+    (up : ReadUpTo settings (outside first r0 w0) now (outside store r1 w1)) → C up.stream → is_closed now.machine ≡ false
     → Leaves r0 r1 w0 w1 (Ended settings first store (Err session.Read)) C
 reads_stop settings first now store r0 r1 w0 w1 C up left live =
     stops settings (Err session.Read) first now store r0 r1 w0 w1 C up left (λ read written a. a)
@@ -586,7 +596,7 @@ reads_stop settings first now store r0 r1 w0 w1 C up left live =
 
 -- a session that was closed
 pub over_stops : (settings : Settings) (first : Store) (now new : Connection) (store after : Store) (r0 r1 r2 w0 w1 w2 : Option (List ℕ)) (piece : List ℕ)
-    (C : List ℕ → Type 0) → (up : ReadUpTo settings first now store r0 r1 w0 w1) → C (up.stream ++ piece) → Consumes r1 r2 piece
+    (C : List ℕ → Type 0) → (up : ReadUpTo settings (outside first r0 w0) now (outside store r1 w1)) → C (up.stream ++ piece) → Consumes r1 r2 piece
     → Goes (service now store w1 []) piece (service new after w2 []) → ClosesBy (service now store w1 []) piece after
     → Leaves r0 r2 w0 w2 (Ended settings first after (Ok tt)) C
 over_stops settings first now new store after r0 r1 r2 w0 w1 w2 piece C up left read goes closes =
@@ -600,13 +610,13 @@ over_stops settings first now new store after r0 r1 r2 w0 w1 w2 piece C up left 
 
 -- nothing more came
 ended_up : (settings : Settings) (first : Store) (now : Connection) (store : Store) (r0 r1 r2 w0 w1 : Option (List ℕ)) →
-    (up : ReadUpTo settings first now store r0 r1 w0 w1) → Consumes r1 r2 [] → Consumes r0 r2 up.stream
+    (up : ReadUpTo settings (outside first r0 w0) now (outside store r1 w1)) → Consumes r1 r2 [] → Consumes r0 r2 up.stream
 ended_up settings first now store r0 r1 r2 w0 w1 up read = subst (λ (x : List ℕ). Consumes r0 r2 x) (append-nil up.stream)
     (Consumes-trans r0 r1 r2 up.stream [] up.consumed read)
 
 -- the stream ended behind a PDU
 pub end_stops : (settings : Settings) (first : Store) (now new : Connection) (store : Store) (r0 r1 r2 w0 w1 : Option (List ℕ)) (C : List ℕ → Type 0) →
-    (up : ReadUpTo settings first now store r0 r1 w0 w1) → C up.stream → is_closed now.machine ≡ false
+    (up : ReadUpTo settings (outside first r0 w0) now (outside store r1 w1)) → C up.stream → is_closed now.machine ≡ false
     → Finishes now (Ok tt) new → Consumes r1 r2 [] → Leaves r0 r2 w0 w1 (Ended settings first store (Ok tt)) C
 end_stops settings first now new store r0 r1 r2 w0 w1 C up left live done read =
     stops settings (Ok tt) first now store r0 r2 w0 w1 C (record {
@@ -627,7 +637,7 @@ any_fault settings disk faults.Closed new now read disk_now written live f a = a
 
 -- the stream ended within a PDU
 pub finish_stops : (settings : Settings) (fault : TargetFault) (first : Store) (now new : Connection) (store : Store) (r0 r1 r2 w0 w1 : Option (List ℕ))
-    (C : List ℕ → Type 0) → (up : ReadUpTo settings first now store r0 r1 w0 w1) → C up.stream
+    (C : List ℕ → Type 0) → (up : ReadUpTo settings (outside first r0 w0) now (outside store r1 w1)) → C up.stream
     → is_closed now.machine ≡ false → Finishes now (Err fault) new → Consumes r1 r2 [] →
     Leaves r0 r2 w0 w1 (Ended settings first store (Err (session.Target fault))) C
 finish_stops settings fault first now new store r0 r1 r2 w0 w1 C up left live fails read =
@@ -642,7 +652,7 @@ finish_stops settings fault first now new store r0 r1 r2 w0 w1 C up left live fa
 
 -- a session that ends by a fault of the target
 fault_ends : (settings : Settings) (fault : SessionFault) (first : Store) (now new : Connection) (store after : Store) (r0 r1 r2 w0 w1 w2 : Option (List ℕ))
-    (piece : List ℕ) (C : List ℕ → Type 0) → (up : ReadUpTo settings first now store r0 r1 w0 w1) → C (up.stream ++ piece)
+    (piece : List ℕ) (C : List ℕ → Type 0) → (up : ReadUpTo settings (outside first r0 w0) now (outside store r1 w1)) → C (up.stream ++ piece)
     → Consumes r1 r2 piece → ((read written : List ℕ) → ServesAll settings first.disk read after.disk written →
     Serves settings first.disk (Err fault) read after.disk written)
     → Goes (service now store w1 []) piece (service new after w2 []) → Tells (service now store w1 []) piece fault after →
@@ -657,7 +667,7 @@ fault_ends settings fault first now new store after r0 r1 r2 w0 w1 w2 piece C up
 
 pub fault_stops : (settings : Settings) (fault : SessionFault) (first : Store) (now new : Connection) (store after : Store)
     (r0 r1 r2 w0 w1 w2 : Option (List ℕ)) (piece : List ℕ) (C : List ℕ → Type 0)
-    → (up : ReadUpTo settings first now store r0 r1 w0 w1) → C (up.stream ++ piece) → Consumes r1 r2 piece
+    → (up : ReadUpTo settings (outside first r0 w0) now (outside store r1 w1)) → C (up.stream ++ piece) → Consumes r1 r2 piece
     → Breaks (service now store w1 []) piece fault (service new after w2 []) → Leaves r0 r2 w0 w2 (Ended settings first after (Err fault)) C
 fault_stops settings (session.Target faults.NoMemory) first now new store after r0 r1 r2 w0 w1 w2 piece C up left read lost =
     let l = lost settings first up.stream w0 up.served in (
@@ -691,7 +701,8 @@ fault_stops settings session.Write first now new store after r0 r1 r2 w0 w1 w2 p
 -- the blocks are those that commands left
 pub fault_executed : (settings : Settings) (fault : SessionFault) (first : Store) (now new : Connection) (store after : Store)
     (r0 r1 w0 w1 w2 : Option (List ℕ)) (piece : List ℕ)
-    → ReadUpTo settings first now store r0 r1 w0 w1 → Breaks (service now store w1 []) piece fault (service new after w2 []) → HasExecuted first.disk after.disk
+    → ReadUpTo settings (outside first r0 w0) now (outside store r1 w1) → Breaks (service now store w1 []) piece fault (service new after w2 []) →
+    HasExecuted first.disk after.disk
 fault_executed settings (session.Target faults.NoMemory) first now new store after r0 r1 w0 w1 w2 piece up lost = (lost settings first up.stream w0 up.served).3
 fault_executed settings (session.Target (faults.Stream fault)) first now new store after r0 r1 w0 w1 w2 piece up broken =
     (broken.0 settings first up.stream w0 up.served).executed
@@ -737,7 +748,8 @@ next_is_open true old new before after out piece written done f open_ = absurd c
 next_is_open false old new before after out piece written done f open_ = ap is_closed f.fed.ends.1 ∙ sym (ap is_closed_phase f.fed.ends.2) ∙ open_
 
 pub over_ends : (settings : Settings) (first : Store) (now : Connection) (store after : Store) (r0 r1 r2 w0 w1 : Option (List ℕ)) (piece : List ℕ)
-    → ReadUpTo settings first now store r0 r1 w0 w1 → Consumes r1 r2 piece → ClosesBy (service now store w1 []) piece after → after.failures ≡ first.failures →
+    → ReadUpTo settings (outside first r0 w0) now (outside store r1 w1) → Consumes r1 r2 piece → ClosesBy (service now store w1 []) piece after →
+    after.failures ≡ first.failures →
     EndsWell settings first.disk r0 r2
 over_ends settings first now store after r0 r1 r2 w0 w1 piece up read closes h =
     inr (up.stream ++ piece, Consumes-trans r0 r1 r2 up.stream piece up.consumed read, closes settings first up.stream w0 up.served h)

@@ -99,15 +99,29 @@ abbrev pub Performs : Ends → Request → Done → Ends → Type 0
 Performs old request done new = (blocks : ℕ) (past : List Request) → AreOneDisk blocks past old
     → (done ≡ outcome_on blocks past request) × AreOneDisk blocks (past ++ request ∷ []) new
 
--- The line of a request's outcome on one local disk is written, and the ends have served it; before
--- a fault a front of that line is.
-abbrev pub WritesLine : Result (Unit {0}) ServeFault → ℕ → List Request → Request → Ends
-    → Option (List ℕ) → Option (List ℕ) → Type 0
-WritesLine (Ok done) blocks past request ends contents_old contents_new =
-    AreOneDisk blocks (past ++ request ∷ []) ends
-    × Appends contents_old contents_new (report (outcome_on blocks past request))
-WritesLine (Err fault) blocks past request ends contents_old contents_new =
-    WroteFront contents_old contents_new (report (outcome_on blocks past request))
+-- A request behind others, on one local disk of so many blocks.
+pub record Asked : Type 0 where
+  pub blocks : ℕ
+  pub past : List Request
+  pub request : Request
+
+-- These three together.
+abbrev pub asked : ℕ → List Request → Request → Asked
+asked blocks past request = record { blocks = blocks; past = past; request = request }
+
+-- The line of the request's outcome there.
+abbrev pub line_of : Asked → List ℕ
+line_of next = report (outcome_on next.blocks next.past next.request)
+
+-- The line of the request's outcome is written, and the ends have served it; before a fault a front
+-- of that line is.
+abbrev pub WritesLine : Result (Unit {0}) ServeFault → Asked → Ends → Option (List ℕ)
+    → Option (List ℕ) → Type 0
+WritesLine (Ok done) next ends contents_old contents_new =
+    AreOneDisk next.blocks (next.past ++ next.request ∷ []) ends
+    × Appends contents_old contents_new (line_of next)
+WritesLine (Err fault) next ends contents_old contents_new =
+    WroteFront contents_old contents_new (line_of next)
 
 -- What the commands up to the first logout lead to on one local disk of so many blocks.
 abbrev pub command_outcomes : ℕ → List Command → List Done

@@ -10,21 +10,6 @@ use Rattle.iscsi_service.specs.Session.{HasExecuted, IsOver, EndsBy, ServesFirst
 use Rattle.iscsi_service.specs.declared.session.SessionFault.{SessionFault}
 use Rattle.iscsi_service.specs.declared.session.SessionFault.TheVariants as session
 
--- This stream was fed in pieces, from the first store on; of the answers some were sent, and the
--- others wait. What is said of them holds where no failure was counted.
-pub record ServedUpTo (settings : Settings) (first : Store) (stream : List ℕ)
-    (target : Connection) (store : Store) (start contents : Option (List ℕ))
-    (waiting : List ℕ) : Type 0 where
-  pub pieces : List (List ℕ)
-  pub whole : stream ≡ stream_of pieces
-  pub sent : List ℕ
-  pub appended : Appends start contents sent
-  pub bytes : AreBytes sent
-  pub rises : first.failures ≤ store.failures
-  pub fed : store.failures ≡ first.failures →
-      FedAll (opening_connection settings 1) first [] pieces target store (sent ++ waiting)
-  pub executed : HasExecuted first.disk store.disk
-
 -- A target, its store, what a writer got, and the answers that wait.
 pub record Service : Type 0 where
   pub target : Connection
@@ -41,25 +26,40 @@ service target store contents waiting = record {
   waiting = waiting;
 }
 
+-- This stream was fed in pieces, from the first store on, and led to what is now; of the answers
+-- some were sent, behind what the writer had got at the start, and the others wait. What is said of
+-- them holds where no failure was counted.
+pub record ServedUpTo (settings : Settings) (first : Store) (stream : List ℕ)
+    (start : Option (List ℕ)) (now : Service) : Type 0 where
+  pub pieces : List (List ℕ)
+  pub whole : stream ≡ stream_of pieces
+  pub sent : List ℕ
+  pub appended : Appends start now.contents sent
+  pub bytes : AreBytes sent
+  pub rises : first.failures ≤ now.store.failures
+  pub fed : now.store.failures ≡ first.failures → FedAll (opening_connection settings 1) first []
+      pieces now.target now.store (sent ++ now.waiting)
+  pub executed : HasExecuted first.disk now.store.disk
+
 -- What was served up to here is served with these bytes more.
 abbrev pub Goes : Service → List ℕ → Service → Type 0
 Goes old bytes new =
     (settings : Settings) (first : Store) (stream : List ℕ) (start : Option (List ℕ))
-    → ServedUpTo settings first stream old.target old.store start old.contents old.waiting
-    → ServedUpTo settings first (stream ++ bytes) new.target new.store start new.contents new.waiting
+    → ServedUpTo settings first stream start old
+    → ServedUpTo settings first (stream ++ bytes) start new
 
 -- These bytes close the session, where no failure was counted up to this store.
 abbrev pub ClosesBy : Service → List ℕ → Store → Type 0
 ClosesBy old bytes after =
     (settings : Settings) (first : Store) (stream : List ℕ) (start : Option (List ℕ))
-    → ServedUpTo settings first stream old.target old.store start old.contents old.waiting
+    → ServedUpTo settings first stream start old
     → after.failures ≡ first.failures → IsOver settings first.disk (stream ++ bytes)
 
 -- Something was sent, and the blocks are those that commands left.
 abbrev pub Loses : Service → Service → Type 0
 Loses old new =
     (settings : Settings) (first : Store) (stream : List ℕ) (start : Option (List ℕ))
-    → ServedUpTo settings first stream old.target old.store start old.contents old.waiting
+    → ServedUpTo settings first stream start old
     → (sent : List ℕ) × Appends start new.contents sent × AreBytes sent
     × HasExecuted first.disk new.store.disk
 
@@ -67,14 +67,14 @@ Loses old new =
 abbrev pub Tells : Service → List ℕ → SessionFault → Store → Type 0
 Tells old bytes fault after =
     (settings : Settings) (first : Store) (stream : List ℕ) (start : Option (List ℕ))
-    → ServedUpTo settings first stream old.target old.store start old.contents old.waiting
+    → ServedUpTo settings first stream start old
     → after.failures ≡ first.failures → EndsBy settings first.disk (Err fault) (stream ++ bytes)
 
 -- The answers to some first PDUs were sent, and the blocks are those that commands left.
 abbrev pub RunsOut : Service → List ℕ → Service → Type 0
 RunsOut old bytes new =
     (settings : Settings) (first : Store) (stream : List ℕ) (start : Option (List ℕ))
-    → ServedUpTo settings first stream old.target old.store start old.contents old.waiting
+    → ServedUpTo settings first stream start old
     → (sent : List ℕ) × Appends start new.contents sent × AreBytes sent
     × HasExecuted first.disk new.store.disk
     × (new.store.failures ≡ first.failures

@@ -15,7 +15,7 @@ ghost use Rattle.iscsi_service.specs.Commands.{request_of};
 ghost use Rattle.iscsi_stream.specs.Normalising.{WroteFront};
 ghost use Rattle.iscsi_service.specs.Looping.{initiator_settings, Loops, ReadsFirst};
 ghost use Rattle.scsi_disk.specs.Sparse.{disk_in};
-ghost use Rattle.iscsi_service.specs.LoopPairs.{AreOneDisk, GoOn, IsFaithful, LoopsOnDisk, Performs, WritesLine, WritesOnDisk, ends_of, new_ends};
+ghost use Rattle.iscsi_service.specs.LoopPairs.{AreOneDisk, GoOn, IsFaithful, LoopsOnDisk, Performs, WritesLine, WritesOnDisk, asked, ends_of, new_ends};
 ghost use Rattle.iscsi_service.specs.LoopSteps.{Continues, Fails, IsOfSession, Runs, Stops, refusal_fault};
 
 use crate::carrier::Carrier;
@@ -150,7 +150,7 @@ fn run_command<C: Carrier, W: Write>(
     ensures served { IsFaithful C.carries → (blocks : ℕ) (past : List Request)
         → AreOneDisk blocks past
         (ends_of ends.old.initiator ends.old.target (disk_in ends.old.store) [] [])
-        → WritesLine result blocks past (request_of command)
+        → WritesLine result (asked blocks past (request_of command))
         (ends_of ends.new.initiator ends.new.target (disk_in ends.new.store) [] [])
         (W.contents w.old) (W.contents w.new) }
 {

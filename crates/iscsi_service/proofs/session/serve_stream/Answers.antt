@@ -4,7 +4,7 @@ use Rattle.iscsi_target.specs.Feed.{Store, opening_connection}
 use Rattle.iscsi_target.specs.Crash.{CrashesFed}
 use Rattle.iscsi_target.specs.Inside.{store_of}
 use Rattle.iscsi_service.proofs.SessionReadInvariant.{read_stops, reads_stop, end_stops, over_stops, finish_stops, read_more, fault_stops}
-use Rattle.iscsi_service.proofs.SessionReadInvariant.{fault_executed, over_ends, ok_is, ok_open, ReadUpTo}
+use Rattle.iscsi_service.proofs.SessionReadInvariant.{fault_executed, over_ends, ok_is, ok_open, outside, ReadUpTo}
 use Rattle.iscsi_service.proofs.SessionCrashLemmas.{session_start, session_crashes, session_more}
 use Rattle.iscsi_service.proofs.session.serve_stream.Goals as goal
 
@@ -123,7 +123,7 @@ returns-then-branch-clause-blocks g c =
     let w1 = g.W.Write.contents c.loop.w in
     let w2 = g.W.Write.contents c.serve_piece.new.w in
     let piece : List ℕ = take c.in-Ok.n c.read.new.buf in
-    let more : ReadUpTo c.args.config first c.serve_piece.new.target after r0 r2 w0 w2 =
+    let more : ReadUpTo c.args.config (outside first r0 w0) c.serve_piece.new.target (outside after r2 w2) =
     read_more c.args.config first c.loop.target c.serve_piece.new.target store after r0 r1 r2 w0 w1 w2 piece c.loop.invariant.1.read c.in-Ok.ensures.bytes.0
     c.in_ok-serve_piece.ensures.goes in
     more.served.executed

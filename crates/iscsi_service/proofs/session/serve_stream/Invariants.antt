@@ -1,12 +1,14 @@
 use Rattle.std.proofs.Common.{◌≡◌, false}
 use Rattle.iscsi_target.specs.Machine.{is_closed}
 use Rattle.iscsi_target.specs.Inside.{store_of}
+use Rattle.iscsi_service.proofs.SessionReadInvariant.{outside}
 use Rattle.iscsi_service.proofs.SessionCrashLemmas.{SessionUpTo}
 use Rattle.iscsi_service.proofs.session.serve_stream.Given as goal
 
 abbrev pub invariant-loop : goal.invariant-loop
 invariant-loop g l =
-    (is_closed l.target.machine ≡ false) × SessionUpTo l.fn.config (store_of (g.S.BlockStore.disk l.initial.store) (g.S.BlockStore.failures l.initial.store))
-    l.target (store_of (g.S.BlockStore.disk l.store) (g.S.BlockStore.failures l.store))
-    (g.R.Read.remaining l.initial.r) (g.R.Read.remaining l.r) (g.W.Write.contents l.initial.w) (g.W.Write.contents l.w)
+    (is_closed l.target.machine ≡ false) × SessionUpTo l.fn.config
+    (outside (store_of (g.S.BlockStore.disk l.initial.store) (g.S.BlockStore.failures l.initial.store)) (g.R.Read.remaining l.initial.r)
+    (g.W.Write.contents l.initial.w)) l.target
+    (outside (store_of (g.S.BlockStore.disk l.store) (g.S.BlockStore.failures l.store)) (g.R.Read.remaining l.r) (g.W.Write.contents l.w))
     (g.S.BlockStore.kept l.initial.store) (g.S.BlockStore.kept l.store)
