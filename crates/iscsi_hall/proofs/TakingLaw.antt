@@ -13,22 +13,31 @@ use Rattle.iscsi_hall.specs.Seats.{Seat, Hall, phase_of, seat_at, waiting_at, wi
 use Rattle.iscsi_hall.specs.Turns.{Turn, IsFront, IsOwn, IsLeft, TakesTurn, answers_of, machines, machine_in}
 use Rattle.iscsi_hall.proofs.SeatLemmas.{some_within, changed_same, others_stay}
 
--- what a call did, as a turn of a seat
-record Acts (seat : ℕ) (old : Connection) (before : Store) (most : ℕ → Type 0) (new : Connection) (after : Store) (output written : List ℕ) : Type 0 where
+-- a session, its store, and the answers that wait
+record Standing : Type 0 where
+  pub connection : Connection
+  pub store : Store
+  pub waiting : List ℕ
+
+abbrev standing : Connection → Store → List ℕ → Standing
+standing connection store waiting = record { connection = connection; store = store; waiting = waiting }
+
+-- what a call did, as a turn of a seat with so many messages
+record Acts (seat : ℕ) (old : Standing) (most : ℕ → Type 0) (new : Standing) : Type 0 where
   pub turn : Turn
   pub seat_is : turn.seat ≡ seat
-  pub met : turn.before ≡ before
-  pub last_is : after ≡ turn.after
+  pub met : turn.before ≡ old.store
+  pub last_is : new.store ≡ turn.after
   pub few : most (length turn.messages)
-  pub own : IsOwn old.machine turn
-  pub left : IsLeft turn.front.machine new.machine
-  pub answers_are : written ≡ output ++ canon (answers_of turn)
+  pub own : IsOwn old.connection.machine turn
+  pub left : IsLeft turn.front.machine new.connection.machine
+  pub answers_are : new.waiting ≡ old.waiting ++ canon (answers_of turn)
 
 -- no fault of memory
 acts_whole : (seat : ℕ) (old new : Connection) (before after : Store) (bytes output written : List ℕ) (most : ℕ → Type 0) (framing : _)
     (ms : List Message) (r : Stepped) (a : Answers old before bytes framing ms r after) → is_closed old.machine ≡ false → most (length ms) →
     Stands output r a.failures after written → IsLeft r.machine new.machine →
-    Acts seat old before most new after output written
+    Acts seat (standing old before output) most (standing new after written)
 acts_whole seat old new before after bytes output written most framing ms r a open_ few s l = record {
   turn = record { seat = seat; before = before; messages = ms; stepped = r; front = unchanged r.machine r.disk; after = after };
   seat_is = refl;
@@ -56,7 +65,7 @@ acts_short : (seat : ℕ) (old new : Connection) (before after : Store) (bytes o
     (r : Stepped)
     (a : Answers old before bytes framing ms r after) → is_closed old.machine ≡ false → most (length ms) →
     StopsShort output framing rest r a.failures new.machine after written →
-    Acts seat old before most new after output written
+    Acts seat (standing old before output) most (standing new after written)
 acts_short seat old new before after bytes output written rest most framing ms r a open_ few s = record {
   turn = record { seat = seat; before = before; messages = ms; stepped = r; front = s.front; after = after };
   seat_is = refl;
@@ -80,7 +89,7 @@ one_if result n = OnOk result (n ≤ 1)
 
 acts : (b : Bool) (seat : ℕ) (old new : Connection) (before after : Store) (output piece written : List ℕ) (phase : Phase) (result : Result ℕ TargetFault)
     → is_closed old.machine ≡ false → b ≡ false → FedNextIf b old before output piece (with_phase phase result) new after written →
-    Acts seat old before (one_if result) new after output written
+    Acts seat (standing old before output) (one_if result) (standing new after written)
 acts true seat old new before after output piece written phase result open_ live f = absurd cc
 acts false seat old new before after output piece written phase (Ok n) open_ live f =
     acts_whole seat old new before after _ output written (one_if (Ok n)) f.fed.framing f.fed.messages f.fed.stepped f.fed.answered open_ f.one f.fed.leaves
@@ -113,7 +122,7 @@ takes_turn seat old new before after result t may =
     let live : is_closed t.before.connection.machine ≡ false = takes_open (seat_at old seat) t.before t.was may in
     let within : seat < length old.seats = some_within old.seats seat t.before t.was in
     let now : seat_at new seat ≡ Some t.after = changed_same seat old new (Some t.after) within t.now in
-    let a : Acts seat t.before.connection before (one_if result) t.after.connection after t.before.waiting t.after.waiting =
+    let a : Acts seat (standing t.before.connection before t.before.waiting) (one_if result) (standing t.after.connection after t.after.waiting) =
     acts (is_closed t.before.connection.machine) seat t.before.connection t.after.connection before after t.before.waiting t.before.unfed t.after.waiting
     (phase_of t.after) result live live t.does.fed in
     record {
