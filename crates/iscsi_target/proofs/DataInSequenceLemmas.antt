@@ -19,22 +19,31 @@ use Rattle.iscsi_stream.specs.Pieces.{chunks_within, chunks}
 use Rattle.iscsi_target.specs.declared.machine.command.Sent.{Sent}
 use Rattle.iscsi_stream.proofs.ChunkLemmas.{chunks_step}
 
--- the bytes before the rest of a run went out, behind others
-pub record GaveUpTo (s : Machine) (tag : ℕ) (before : Sent) (run rest : List ℕ) (sent : Sent) (old new : List ℕ) : Type 0 where
-  pub written : new ++ canon (data_ins s.session (waiting s.tasks) tag sent.count sent.bytes (sequence_parts s.session.held rest)) ≡ old
-      ++ canon (data_ins s.session (waiting s.tasks) tag before.count before.bytes (sequence_parts s.session.held run))
-  pub count : sent.count + length (sequence_parts s.session.held rest) ≡ before.count + length (sequence_parts s.session.held run)
-  pub carried : sent.bytes + length rest ≡ before.bytes + length run
-  pub few : sent.count ≤ sent.bytes
+-- bytes that go out, behind those that were sent
+pub record Unsent : Type 0 where
+  pub sent : Sent
+  pub bytes : List ℕ
+
+-- these bytes behind those that were sent
+abbrev pub unsent : Sent → List ℕ → Unsent
+unsent sent bytes = record { sent = sent; bytes = bytes }
+
+-- of a run the bytes before those that are left went out
+pub record GaveUpTo (s : Machine) (tag : ℕ) (run left : Unsent) (old new : List ℕ) : Type 0 where
+  pub written : new ++ canon (data_ins s.session (waiting s.tasks) tag left.sent.count left.sent.bytes (sequence_parts s.session.held left.bytes)) ≡ old
+      ++ canon (data_ins s.session (waiting s.tasks) tag run.sent.count run.sent.bytes (sequence_parts s.session.held run.bytes))
+  pub count : left.sent.count + length (sequence_parts s.session.held left.bytes) ≡ run.sent.count + length (sequence_parts s.session.held run.bytes)
+  pub carried : left.sent.bytes + length left.bytes ≡ run.sent.bytes + length run.bytes
+  pub few : left.sent.count ≤ left.sent.bytes
   pub front : take (length old) new ≡ old
 
--- the bytes before the rest went out
-pub record GaveRuns (s : Machine) (tag : ℕ) (bytes rest : List ℕ) (sent : Sent) (old new : List ℕ) : Type 0 where
-  pub written : new ++ canon (data_ins s.session (waiting s.tasks) tag sent.count sent.bytes (data_in_parts s.session.held rest)) ≡ old
+-- those before the ones that are left went out
+pub record GaveRuns (s : Machine) (tag : ℕ) (bytes : List ℕ) (left : Unsent) (old new : List ℕ) : Type 0 where
+  pub written : new ++ canon (data_ins s.session (waiting s.tasks) tag left.sent.count left.sent.bytes (data_in_parts s.session.held left.bytes)) ≡ old
       ++ canon (data_ins s.session (waiting s.tasks) tag 0 0 (data_in_parts s.session.held bytes))
-  pub count : sent.count + length (data_in_parts s.session.held rest) ≡ length (data_in_parts s.session.held bytes)
-  pub carried : sent.bytes + length rest ≡ length bytes
-  pub few : sent.count ≤ sent.bytes
+  pub count : left.sent.count + length (data_in_parts s.session.held left.bytes) ≡ length (data_in_parts s.session.held bytes)
+  pub carried : left.sent.bytes + length left.bytes ≡ length bytes
+  pub few : left.sent.count ≤ left.sent.bytes
   pub front : take (length old) new ≡ old
 
 -- ---- parts
@@ -93,7 +102,8 @@ one_longer x xs = omega arith
 pub gave_more : (s : Machine) (tag : ℕ) (before : Sent) (run rest : List ℕ) (sent : Sent) (old new : List ℕ) (n : ℕ) (now after : List ℕ)
     → 0 < s.session.held.initiator_max_recv → 0 < length rest → n ≡ min s.session.held.initiator_max_recv (length rest)
     → now ≡ new ++ whole (data_in_head s.session (waiting s.tasks) tag sent.count sent.bytes (n == length rest)) (take n rest) → after ≡ drop n rest
-    → GaveUpTo s tag before run rest sent old new → GaveUpTo s tag before run after (record { count = sent.count + 1; bytes = sent.bytes + n }) old now
+    → GaveUpTo s tag (unsent before run) (unsent sent rest) old new
+    → GaveUpTo s tag (unsent before run) (unsent (record { count = sent.count + 1; bytes = sent.bytes + n }) after) old now
 gave_more s tag before run rest sent old new n now after most some is is_now is_after g =
     let step = run_step s.session.held rest n (n == length rest) some most is refl in
     let len : length (take n rest) ≡ n = omega (arith, length-take n rest, is) in
@@ -179,7 +189,7 @@ pub gave_run : (s : Machine) (tag : ℕ) (bytes rest : List ℕ) (sent next : Se
     → 0 < s.session.held.initiator_max_recv → 0 < max_burst s.session.held → 0 < length rest → n ≡ min (max_burst s.session.held) (length rest)
     → next.count ≡ sent.count + length (sequence_parts s.session.held (take n rest)) → next.bytes ≡ sent.bytes + length (take n rest) → next.count ≤ next.bytes
     → now ≡ new ++ canon (data_ins s.session (waiting s.tasks) tag sent.count sent.bytes (sequence_parts s.session.held (take n rest))) → after ≡ drop n rest
-    → GaveRuns s tag bytes rest sent old new → GaveRuns s tag bytes after next old now
+    → GaveRuns s tag bytes (unsent sent rest) old new → GaveRuns s tag bytes (unsent next after) old now
 gave_run s tag bytes rest sent next old new now after n most burst some is is_count is_bytes few is_now is_after g =
     let run : List (List ℕ × Bool) = sequence_parts s.session.held (take n rest) in
     let step = runs_step s.session.held rest n some burst is in

@@ -31,7 +31,7 @@ use Rattle.iscsi_target.specs.Laws.{joined_stepped}
 use Rattle.iscsi_target.specs.Feed.{Store}
 use Rattle.iscsi_target_session.proofs.CaseLemmas.{by_cases}
 use Rattle.iscsi_target.proofs.ServingLemmas.{serves_same, leaves_serves, accepts_by, answered_follows}
-use Rattle.iscsi_target.specs.Inside.{Leaves, refusal, Follows, Answers, store_of}
+use Rattle.iscsi_target.specs.Inside.{moment, Leaves, refusal, Follows, Answers, store_of}
 use Rattle.iscsi_target_session.specs.Rejecting.{reject}
 use Rattle.iscsi_pdu.specs.Rules.{kind_not_due, segment_too_long, command_out_of_turn, too_many_immediate}
 use Rattle.scsi_disk.specs.Plan.{plan_of}
@@ -339,7 +339,7 @@ back_closed s b e = ap (λ (x : Machine). record x { session = record x.session 
 pub turned_back : {E : Type 0} (result : Result (Option ℕ) E) (n : ℕ) (s mid new : Machine) (r : Reply) (next : Next) (disk : Disk) (before after : List ℕ) →
     next ≡ Answered r → Leaves (on disk s.tasks r) result (advanced s) mid before after
     → OnOk result (new ≡ mid) → OnErr result (new ≡ record mid { session = record mid.session { exp_cmd_sn = s.session.exp_cmd_sn } }) →
-    Follows next result s (store_of disk n) before new (store_of disk n) after
+    Follows next result (moment s (store_of disk n) before) (moment new (store_of disk n) after)
 turned_back (Ok rule) n s mid new r next disk before after is h ok err =
     answered_follows (Ok rule) n s r next disk new before after is (record {
       machine = ok ∙ h.machine;
@@ -395,7 +395,8 @@ data_session s m h bytes = for_session s m h bytes (write_of s.tasks h.initiator
 
 pub login_answers : {E : Type 0} (result : Result (Option ℕ) E) (n : ℕ) (s : Machine) (disk : Disk) (m : Message) (new : Machine) (before after : List ℕ) →
     is_closed s ≡ false → is_over_limit s m.segment ≡ false → s.session.phase ≡ Login
-    → Leaves (on disk s.tasks (login_step s.session m)) result s new before after → Answers m result s (store_of disk n) before new (store_of disk n) after
+    → Leaves (on disk s.tasks (login_step s.session m)) result s new before after
+    → Answers m result (moment s (store_of disk n) before) (moment new (store_of disk n) after)
 login_answers (Ok rule) n s disk m new before after live within is h = record {
   ok = leaves_serves n (on disk s.tasks (login_step s.session m)) (λ d. step_on d s disk m) disk rule new before after
       (λ d. live_step d s disk m Login live within is) refl refl h.machine h.output h.rule_is;
@@ -408,7 +409,8 @@ login_answers (Err e) n s disk m new before after live within is h = record {
 
 pub full_answers : {E : Type 0} (result : Result (Option ℕ) E) (s : Machine) (m : Message) (before : Store) (output : List ℕ) (new : Machine) (after : Store)
     (written : List ℕ) → is_closed s ≡ false → is_over_limit s m.segment ≡ false → s.session.phase ≡ Full
-    → Follows (full_met s before.disk.count m).next result s before output new after written → Answers m result s before output new after written
+    → Follows (full_met s before.disk.count m).next result (moment s before output) (moment new after written)
+    → Answers m result (moment s before output) (moment new after written)
 full_answers (Ok rule) s m before output new after written live within is h = record {
   ok = serves_same before.failures after.failures (λ d. step_on d s before.disk m)
       (λ d. full_step d s before.disk m) rule new after.disk output written (λ d. ap joined_stepped (sym (live_step d s before.disk m Full live within is)))

@@ -22,42 +22,43 @@ use Rattle.iscsi_target.specs.Execution.{Device, reliable}
 use Rattle.iscsi_target.specs.Machine.{Next, Dropped, Answered, Queued, full_met, done_first, step_on, answers, then_stepped, first_rule, MayAnswer, MayStop}
 use Rattle.iscsi_target.specs.Machine.{RunsIn, is_closed}
 use Rattle.iscsi_target.specs.Laws.{joined_stepped}
-use Rattle.iscsi_target.specs.Feed.{Connection, Store, Answers, StopsShort, LeavesBy, IsShut, Ends, Feeds, FeedsOne, IsLive}
-use Rattle.iscsi_target.specs.Inside.{connection, GivesUp, Stops, Halts, HaltsAt, IsAnswered, AnswersReady, ShutsReady, RestFails, TakesOne, FailsOne}
+use Rattle.iscsi_target.specs.Feed.{Scene, scene, Connection, Store, Answers, StopsShort, LeavesBy, IsShut, Ends, Feeds, FeedsOne, IsLive}
+use Rattle.iscsi_target.specs.Inside.{Moment, store_of, moment, connection, GivesUp, Stops, Halts, HaltsAt}
+use Rattle.iscsi_target.specs.Inside.{IsAnswered, AnswersReady, ShutsReady, RestFails, TakesOne, FailsOne}
 use Rattle.iscsi_target.proofs.JoiningLemmas.{ones, SameNext, next_then, next_back, met_same, first_same, step_joined}
 use Rattle.iscsi_target.proofs.AppendLemmas.{answers_append, may_append}
 use Rattle.iscsi_target.proofs.ServingLemmas.{runs_as, runs_rise}
+use Rattle.iscsi_target.proofs.TurnLemmas.{with_tasks}
 use Rattle.iscsi_target.proofs.KeepingLemmas.{step_settings}
 
 -- the bytes of the piece before the rest were taken, and their PDUs answered
-pub record FedUpTo (old : Connection) (before : Store) (output piece rest : List ℕ) (now : Connection) (after : Store) (written : List ℕ) : Type 0 where
+pub record FedUpTo (old : Scene) (piece rest : List ℕ) (new : Scene) : Type 0 where
   pub front : List ℕ
   pub parts : piece ≡ front ++ rest
   pub messages : List Message
   pub stepped : Stepped
-  pub answered : Answers old before front now.framing messages stepped after
-  pub counted : after.failures ≡ answered.failures
-  pub disk : after.disk ≡ stepped.disk
-  pub output_is : written ≡ output ++ canon stepped.answers
-  pub rises : before.failures ≤ after.failures
-  pub machine_is : joined now.machine ≡ joined stepped.machine
-  pub settings_is : now.machine.session.settings ≡ old.machine.session.settings
+  pub answered : Answers old.connection old.store front new.connection.framing messages stepped new.store
+  pub counted : new.store.failures ≡ answered.failures
+  pub disk : new.store.disk ≡ stepped.disk
+  pub output_is : new.output ≡ old.output ++ canon stepped.answers
+  pub rises : old.store.failures ≤ new.store.failures
+  pub machine_is : joined new.connection.machine ≡ joined stepped.machine
+  pub settings_is : new.connection.machine.session.settings ≡ old.connection.machine.session.settings
 
 -- and the session goes on
-pub record GoesUpTo (old : Connection) (before : Store) (output piece rest : List ℕ) (now : Connection) (after : Store) (written : List ℕ) : Type 0 where
-  pub fed : FedUpTo old before output piece rest now after written
+pub record GoesUpTo (old : Scene) (piece rest : List ℕ) (new : Scene) : Type 0 where
+  pub fed : FedUpTo old piece rest new
   pub rule : fed.stepped.rule ≡ None
-  pub live : is_closed now.machine ≡ false
+  pub live : is_closed new.connection.machine ≡ false
 
 -- the last PDU broke this rule, or none; so many were answered at most
-pub record FedAs (old : Connection) (before : Store) (output piece rest : List ℕ) (now : Connection) (after : Store) (written : List ℕ) (broken : Option ℕ)
-    (most : ℕ) : Type 0 where
-  pub fed : FedUpTo old before output piece rest now after written
+pub record FedAs (old : Scene) (piece rest : List ℕ) (new : Scene) (broken : Option ℕ) (most : ℕ) : Type 0 where
+  pub fed : FedUpTo old piece rest new
   pub rule : fed.stepped.rule ≡ broken
   pub few : length fed.messages ≤ most
 
 pub fed_none : (old : Connection) (before : Store) (output piece : List ℕ) → is_ready old.framing ≡ false → is_closed old.machine ≡ false →
-    GoesUpTo old before output piece piece old before output
+    GoesUpTo (scene old before output) piece piece (scene old before output)
 unfolding MayAnswer answers
 fed_none old before output piece unready live = record {
   fed = record {
@@ -81,8 +82,9 @@ fed_none old before output piece unready live = record {
 
 pub fed_bytes : (old : Connection) (before : Store) (output piece rest after_rest : List ℕ) (now : Connection) (after : Store) (written : List ℕ) (n : ℕ)
     (framing : Framing)
-    → (g : GoesUpTo old before output piece rest now after written) → Takes now.framing rest n framing → is_ready framing ≡ false → after_rest ≡ drop n rest
-    → FedAs old before output piece after_rest (connection now.machine framing) after written None (length g.fed.messages + 1)
+    → (g : GoesUpTo (scene old before output) piece rest (scene now after written)) → Takes now.framing rest n framing → is_ready framing ≡ false
+    → after_rest ≡ drop n rest
+    → FedAs (scene old before output) piece after_rest (scene (connection now.machine framing) after written) None (length g.fed.messages + 1)
 fed_bytes old before output piece rest after_rest now after written n framing g t unready is = let f = g.fed in record {
   rule = g.rule;
   few = omega arith;
@@ -142,9 +144,9 @@ settings_as a b e = ap (λ (s : Machine). s.session.settings) e
 
 pub fed_pdu : (old : Connection) (before : Store) (output piece rest after_rest : List ℕ) (now : Connection) (mid : Store) (written : List ℕ) (n : ℕ)
     (framing : Framing) (broken : Option ℕ) (new : Connection) (after : Store) (more : List ℕ)
-    → (g : GoesUpTo old before output piece rest now mid written) → Takes now.framing rest n framing →
-    IsAnswered (connection now.machine framing) mid written broken new after more → after_rest ≡ drop n rest
-    → FedAs old before output piece after_rest new after more broken (length g.fed.messages + 1)
+    → (g : GoesUpTo (scene old before output) piece rest (scene now mid written)) → Takes now.framing rest n framing →
+    IsAnswered (scene (connection now.machine framing) mid written) broken (scene new after more) → after_rest ≡ drop n rest
+    → FedAs (scene old before output) piece after_rest (scene new after more) broken (length g.fed.messages + 1)
 fed_pdu old before output piece rest after_rest now mid written n framing broken new after more g t a is =
     let f = g.fed in
     let m : Message = message_of framing a.head a.segment in
@@ -205,28 +207,29 @@ fed_pdu old before output piece rest after_rest now mid written n framing broken
 
 fed_ready : (old : Connection) (before : Store) (output piece rest after_rest : List ℕ) (now : Connection) (mid : Store) (written : List ℕ) (n : ℕ)
     (framing : Framing) (broken : Option ℕ) (new : Connection) (after : Store) (more : List ℕ)
-    → (g : GoesUpTo old before output piece rest now mid written) → Takes now.framing rest n framing →
-    AnswersReady (connection now.machine framing) mid written broken new after more → after_rest ≡ drop n rest
-    → FedAs old before output piece after_rest new after more broken (length g.fed.messages + 1)
+    → (g : GoesUpTo (scene old before output) piece rest (scene now mid written)) → Takes now.framing rest n framing →
+    AnswersReady (scene (connection now.machine framing) mid written) broken (scene new after more) → after_rest ≡ drop n rest
+    → FedAs (scene old before output) piece after_rest (scene new after more) broken (length g.fed.messages + 1)
 fed_ready old before output piece rest after_rest now mid written n framing broken new after more g t (inl u) is =
     let most : ℕ = length g.fed.messages + 1 in
-    subst (λ (b : Option ℕ). FedAs old before output piece after_rest new after more b most) (sym u.rule_is)
-    (subst (λ (c : Connection). FedAs old before output piece after_rest c after more None most) (sym u.connection_is)
-    (subst (λ (s : Store). FedAs old before output piece after_rest (connection now.machine framing) s more None most) (sym u.store_is)
-    (subst (λ (x : List ℕ). FedAs old before output piece after_rest (connection now.machine framing) mid x None most) (sym u.output_is)
+    subst (λ (b : Option ℕ). FedAs (scene old before output) piece after_rest (scene new after more) b most) (sym u.rule_is)
+    (subst (λ (c : Connection). FedAs (scene old before output) piece after_rest (scene c after more) None most) (sym u.connection_is)
+    (subst (λ (s : Store). FedAs (scene old before output) piece after_rest (scene (connection now.machine framing) s more) None most) (sym u.store_is)
+    (subst (λ (x : List ℕ). FedAs (scene old before output) piece after_rest (scene (connection now.machine framing) mid x) None most) (sym u.output_is)
     (fed_bytes old before output piece rest after_rest now mid written n framing g t u.unready is))))
 fed_ready old before output piece rest after_rest now mid written n framing broken new after more g t (inr a) is =
     fed_pdu old before output piece rest after_rest now mid written n framing broken new after more g t a is
 
 pub fed_one : (old : Connection) (before : Store) (output piece rest after_rest : List ℕ) (now : Connection) (mid : Store) (written : List ℕ) (n : ℕ)
     (broken : Option ℕ) (new : Connection) (after : Store) (more : List ℕ)
-    → (g : GoesUpTo old before output piece rest now mid written) → TakesOne now mid written rest n broken new after more → after_rest ≡ drop n rest
-    → FedAs old before output piece after_rest new after more broken (length g.fed.messages + 1)
+    → (g : GoesUpTo (scene old before output) piece rest (scene now mid written)) → TakesOne (scene now mid written) rest n broken (scene new after more)
+    → after_rest ≡ drop n rest
+    → FedAs (scene old before output) piece after_rest (scene new after more) broken (length g.fed.messages + 1)
 fed_one old before output piece rest after_rest now mid written n broken new after more g t is =
     fed_ready old before output piece rest after_rest now mid written n t.framing broken new after more g t.takes t.answers is
 
 pub stays_within : (old : Connection) (before : Store) (output piece rest : List ℕ) (now : Connection) (after : Store) (written : List ℕ) →
-    FedUpTo old before output piece rest now after written
+    FedUpTo (scene old before output) piece rest (scene now after written)
     → old.framing.limit ≡ limit old.machine.session.settings → now.framing.limit ≡ limit now.machine.session.settings
 stays_within old before output piece rest now after written f e = f.answered.limit ∙ e ∙ ap limit (sym f.settings_is)
 
@@ -255,7 +258,7 @@ rest_is piece front rest e =
 -- what stands of the PDUs that were answered
 leaves_to : (old : Connection) (before : Store) (output piece rest : List ℕ) (now : Connection) (after : Store) (written : List ℕ)
     (result : Result Phase TargetFault) (new : Machine)
-    → (f : FedUpTo old before output piece rest now after written) → (result ≡ Err faults.NoMemory → IsShut f.stepped.machine new)
+    → (f : FedUpTo (scene old before output) piece rest (scene now after written)) → (result ≡ Err faults.NoMemory → IsShut f.stepped.machine new)
     → LeavesBy result output now.framing (drop (count_of piece rest) piece) f.stepped f.answered.failures new after written
 leaves_to old before output piece rest now after written (Ok phase) new f shut = record { failures = f.counted; disk = f.disk; output_is = f.output_is }
 leaves_to old before output piece rest now after written (Err faults.NoMemory) new f shut = record {
@@ -274,7 +277,7 @@ leaves_to old before output piece rest now after written (Err faults.Closed) new
 
 abbrev feeds_to : (old : Connection) (before : Store) (output piece rest : List ℕ) (now : Connection) (after : Store) (written : List ℕ)
     (result : Result Phase TargetFault) (new : Connection)
-    → (f : FedUpTo old before output piece rest now after written) → (result ≡ Err faults.NoMemory → IsShut f.stepped.machine new.machine)
+    → (f : FedUpTo (scene old before output) piece rest (scene now after written)) → (result ≡ Err faults.NoMemory → IsShut f.stepped.machine new.machine)
     → Ends piece result now.framing (count_of piece rest) f.stepped new → Feeds old before output piece result new after written
 feeds_to old before output piece rest now after written result new f shut ends = record {
   framing = now.framing;
@@ -294,7 +297,7 @@ closed_as : (a b : Machine) → joined a ≡ joined b → is_closed a ≡ is_clo
 closed_as a b e = ap is_closed e
 
 live_stepped : (old : Connection) (before : Store) (output piece rest : List ℕ) (now : Connection) (after : Store) (written : List ℕ) →
-    (g : GoesUpTo old before output piece rest now after written) → IsLive g.fed.stepped
+    (g : GoesUpTo (scene old before output) piece rest (scene now after written)) → IsLive g.fed.stepped
 live_stepped old before output piece rest now after written g = record {
   rule = g.rule;
   live = sym (closed_as now.machine g.fed.stepped.machine g.fed.machine_is) ∙ g.live;
@@ -302,7 +305,7 @@ live_stepped old before output piece rest now after written g = record {
 
 ends_refused : (old : Connection) (before : Store) (output piece rest : List ℕ) (now : Connection) (after : Store) (written : List ℕ) (fault : TargetFault)
     (new : Connection)
-    → GoesUpTo old before output piece rest now after written → RestFails now.framing rest fault → new.machine ≡ closed now.machine →
+    → GoesUpTo (scene old before output) piece rest (scene now after written) → RestFails now.framing rest fault → new.machine ≡ closed now.machine →
     Feeds old before output piece (Err fault) new after written
 ends_refused old before output piece rest now after written faults.NoMemory new g fails is =
     feeds_to old before output piece rest now after written (Err faults.NoMemory) new g.fed (λ _. is
@@ -339,16 +342,16 @@ queues session tasks Dropped h = absurd h
 queues session tasks (Answered r) h = absurd h
 
 -- nothing was done, or some tasks of the PDU
-record Front (r : Stepped) (m : Message) (before : ℕ) (new : Machine) (now : Disk) (after : ℕ) (output written : List ℕ) : Type 0 where
+record Front (r : Stepped) (m : Message) (before : ℕ) (output : List ℕ) (new : Moment) : Type 0 where
   front : Stepped
-  stops : ((front ≡ unchanged r.machine r.disk) × (before ≤ after)) ⊎ MayStop r.machine r.disk before m front after
-  shut : closed new ≡ closed front.machine
-  disk : now ≡ front.disk
-  output_is : written ≡ output ++ canon front.answers
+  stops : ((front ≡ unchanged r.machine r.disk) × (before ≤ new.store.failures)) ⊎ MayStop r.machine r.disk before m front new.store.failures
+  shut : closed new.machine ≡ closed front.machine
+  disk : new.store.disk ≡ front.disk
+  output_is : new.output ≡ output ++ canon front.answers
 
 gives_front : (r : Stepped) (m : Message) (old new : Machine) (disk now : Disk) (fb fa : ℕ) (before after : List ℕ) → joined old ≡ joined r.machine → disk
-    ≡ r.disk → GivesUp fb fa old new disk now before after
-    → Front r m fb new now fa before after
+    ≡ r.disk → GivesUp (moment old (store_of disk fb) before) (moment new (store_of now fa) after)
+    → Front r m fb before (moment new (store_of now fa) after)
 gives_front r m old new disk now fb fa before after e d g = record {
   front = unchanged r.machine r.disk;
   stops = inl (refl, g.rises);
@@ -359,8 +362,9 @@ gives_front r m old new disk now fb fa before after e d g = record {
 
 stops_front : (r : Stepped) (m : Message) (old new : Machine) (disk now : Disk) (fb fa : ℕ) (before after : List ℕ) (session : Session) (tasks : List Task) →
     joined old ≡ joined r.machine → disk ≡ r.disk
-    → old.session.phase ≡ phases.Full → (full_met old disk.count m).next ≡ Queued session tasks → Stops fb fa session disk tasks new now before after →
-    Front r m fb new now fa before after
+    → old.session.phase ≡ phases.Full → (full_met old disk.count m).next ≡ Queued session tasks
+    → Stops (moment (with_tasks session tasks) (store_of disk fb) before) (moment new (store_of now fa) after) →
+    Front r m fb before (moment new (store_of now fa) after)
 stops_front r m old new disk now fb fa before after session tasks e d full queued h =
     let q : Queues (full_met r.machine r.disk.count m).next session tasks =
     queues session tasks (full_met r.machine r.disk.count m).next
@@ -420,22 +424,24 @@ stop_as s t disk now before m r after e d h =
 
 halts_by : (r : Stepped) (m : Message) (old new : Machine) (disk now : Disk) (fb fa : ℕ) (before after : List ℕ) (x : Next) → joined old ≡ joined r.machine →
     disk ≡ r.disk
-    → old.session.phase ≡ phases.Full → (full_met old disk.count m).next ≡ x → Halts fb fa old disk x new now before after →
-    Front r m fb new now fa before after
+    → old.session.phase ≡ phases.Full → (full_met old disk.count m).next ≡ x
+    → Halts x (moment old (store_of disk fb) before) (moment new (store_of now fa) after) →
+    Front r m fb before (moment new (store_of now fa) after)
 halts_by r m old new disk now fb fa before after (Queued session tasks) e d full is h =
     stops_front r m old new disk now fb fa before after session tasks e d full is h
 halts_by r m old new disk now fb fa before after Dropped e d full is h = gives_front r m old new disk now fb fa before after e d h
 halts_by r m old new disk now fb fa before after (Answered q) e d full is h = gives_front r m old new disk now fb fa before after e d h
 
 halts_front : (r : Stepped) (m : Message) (old new : Machine) (disk now : Disk) (fb fa : ℕ) (before after : List ℕ) → joined old ≡ joined r.machine → disk
-    ≡ r.disk → HaltsAt fb fa old disk m new now before after
-    → Front r m fb new now fa before after
+    ≡ r.disk → HaltsAt m (moment old (store_of disk fb) before) (moment new (store_of now fa) after)
+    → Front r m fb before (moment new (store_of now fa) after)
 halts_front r m old new disk now fb fa before after e d (inl g) = gives_front r m old new disk now fb fa before after e d g
 halts_front r m old new disk now fb fa before after e d (inr h) =
     halts_by r m old new disk now fb fa before after (full_met old disk.count m).next e d h.0 refl h.1
 
 -- the rest of the piece begins with the PDU
-pub rest_moves : (old now framing : Framing) (rest : List ℕ) (n : ℕ) (m : Message) (next : Framing) → Takes now rest n framing → Moves framing next [] (m ∷ []) →
+pub rest_moves : (old now framing : Framing) (rest : List ℕ) (n : ℕ) (m : Message) (next : Framing) → Takes now rest n framing
+    → Moves framing next [] (m ∷ []) →
     Moves now next (take n rest) (m ∷ [])
 rest_moves old now framing rest n m next t g =
     subst (λ (x : List ℕ). Moves now next x (m ∷ [])) (append-nil (take n rest))
@@ -448,12 +454,12 @@ rises_after front r m before after (inr h) = let a = h.rises in let b = runs_ris
 
 ends_shut : (old : Connection) (before : Store) (output piece rest : List ℕ) (now : Connection) (mid : Store) (written : List ℕ) (n : ℕ) (framing : Framing)
     (new : Connection) (after : Store) (more : List ℕ)
-    → GoesUpTo old before output piece rest now mid written → Takes now.framing rest n framing →
-    ShutsReady (connection now.machine framing) mid written new after more → Feeds old before output piece (Err faults.NoMemory) new after more
+    → GoesUpTo (scene old before output) piece rest (scene now mid written) → Takes now.framing rest n framing →
+    ShutsReady (scene (connection now.machine framing) mid written) (scene new after more) → Feeds old before output piece (Err faults.NoMemory) new after more
 ends_shut old before output piece rest now mid written n framing new after more g t s =
     let f = g.fed in
     let m : Message = message_of framing s.head s.segment in
-    let x : Front f.stepped m mid.failures new.machine after.disk after.failures written more =
+    let x : Front f.stepped m mid.failures written (moment new.machine after more) =
     halts_front f.stepped m now.machine new.machine mid.disk after.disk mid.failures after.failures written more f.machine_is f.disk s.halts in
     let high : mid.failures ≤ after.failures = rises_after x.front f.stepped m mid.failures after.failures x.stops in
     let counted : mid.failures ≡ f.answered.failures = f.counted in
@@ -497,13 +503,13 @@ ends_shut old before output piece rest now mid written n framing new after more 
     }
 
 pub ends_broken : (old : Connection) (before : Store) (output piece rest : List ℕ) (now : Connection) (after : Store) (written : List ℕ) (rule : ℕ)
-    → (f : FedUpTo old before output piece rest now after written) → f.stepped.rule ≡ Some rule → joined now.machine ≡ now.machine →
+    → (f : FedUpTo (scene old before output) piece rest (scene now after written)) → f.stepped.rule ≡ Some rule → joined now.machine ≡ now.machine →
     Feeds old before output piece (Err (faults.Protocol rule)) now after written
 ends_broken old before output piece rest now after written rule f broken whole =
     feeds_to old before output piece rest now after written (Err (faults.Protocol rule)) now f (λ e. absurd cc) (broken, sym whole ∙ f.machine_is)
 
 pub ends_closed : (old : Connection) (before : Store) (output piece rest : List ℕ) (now : Connection) (after : Store) (written : List ℕ) (phase : Phase)
-    → (f : FedUpTo old before output piece rest now after written) → f.stepped.rule ≡ None → joined now.machine ≡ now.machine → phase
+    → (f : FedUpTo (scene old before output) piece rest (scene now after written)) → f.stepped.rule ≡ None → joined now.machine ≡ now.machine → phase
     ≡ now.machine.session.phase → is_closed now.machine ≡ true
     → Feeds old before output piece (Ok phase) now after written
 ends_closed old before output piece rest now after written phase f rule whole is over =
@@ -515,7 +521,8 @@ ends_closed old before output piece rest now after written phase f rule whole is
     )
 
 pub ends_live : (old : Connection) (before : Store) (output piece rest : List ℕ) (now : Connection) (after : Store) (written : List ℕ) (phase : Phase)
-    → GoesUpTo old before output piece rest now after written → joined now.machine ≡ now.machine → phase ≡ now.machine.session.phase → length rest ≡ 0 →
+    → GoesUpTo (scene old before output) piece rest (scene now after written) → joined now.machine ≡ now.machine → phase ≡ now.machine.session.phase
+    → length rest ≡ 0 →
     Feeds old before output piece (Ok phase) now after written
 ends_live old before output piece rest now after written phase g whole is none =
     let f = g.fed in
@@ -545,7 +552,7 @@ short_rises output framing rest r counted new after written h = elim h.stops [
 -- no bytes could be taken, or no PDU answered
 pub ends_failed : (old : Connection) (before : Store) (output piece rest : List ℕ) (now : Connection) (mid : Store) (written : List ℕ) (fault : TargetFault)
     (new : Connection) (after : Store) (more : List ℕ)
-    → GoesUpTo old before output piece rest now mid written → FailsOne now mid written rest fault new after more →
+    → GoesUpTo (scene old before output) piece rest (scene now mid written) → FailsOne (scene now mid written) rest fault (scene new after more) →
     Feeds old before output piece (Err fault) new after more
 ends_failed old before output piece rest now mid written fault new after more g (inl r) =
     subst (λ (s : Store). Feeds old before output piece (Err fault) new s more) (sym r.store_is)
@@ -569,7 +576,8 @@ front_taken v w piece n t =
     }
 
 feeds_one : (old : Connection) (before : Store) (output piece : List ℕ) (n : ℕ) (phase : Phase) (new : Connection) (after : Store) (written : List ℕ)
-    → n ≤ length piece → (0 < length piece → 0 < n) → (f : FedUpTo old before output (take n piece) [] new after written) → f.stepped.rule ≡ None →
+    → n ≤ length piece → (0 < length piece → 0 < n) → (f : FedUpTo (scene old before output) (take n piece) [] (scene new after written))
+    → f.stepped.rule ≡ None →
     length f.messages ≤ 1
     → joined new.machine ≡ new.machine → phase ≡ new.machine.session.phase → (over : Bool) → is_closed new.machine ≡ over →
     FeedsOne old before output piece n phase new after written
@@ -597,11 +605,11 @@ feeds_one old before output piece n phase new after written bound some f rule fe
 }
 
 pub next_fed : (old : Connection) (before : Store) (output piece : List ℕ) (n : ℕ) (phase : Phase) (new : Connection) (after : Store) (written : List ℕ)
-    → is_ready old.framing ≡ false → is_closed old.machine ≡ false → TakesOne old before output piece n None new after written
+    → is_ready old.framing ≡ false → is_closed old.machine ≡ false → TakesOne (scene old before output) piece n None (scene new after written)
     → joined new.machine ≡ new.machine → phase ≡ new.machine.session.phase → FeedsOne old before output piece n phase new after written
 unfolding fed_none
 next_fed old before output piece n phase new after written unready live t whole is =
-    let front : TakesOne old before output (take n piece) n None new after written =
+    let front : TakesOne (scene old before output) (take n piece) n None (scene new after written) =
     record { framing = t.framing; takes = front_taken old.framing t.framing piece n t.takes; answers = t.answers } in
     let none : [] ≡ drop n (take n piece) = sym (drop_all n (take n piece) (omega (arith, length-take n piece))) in
     let f = fed_one old before output (take n piece) (take n piece) [] old before output n None new after written

@@ -9,7 +9,7 @@ use Rattle.iscsi_target.specs.declared.tasks.Task.{Task}
 use Rattle.iscsi_target.specs.State.{Machine, Stepped, closed}
 use Rattle.iscsi_target.specs.Execution.{Device, reliable, device_after}
 use Rattle.iscsi_target.specs.Machine.{Next, Dropped, Answered, Queued, begun, stays, done_first, full_met, followed, is_closed, is_over_limit}
-use Rattle.iscsi_target.specs.Inside.{GivesUp, Halts, HaltsAt}
+use Rattle.iscsi_target.specs.Inside.{Moment, moment, GivesUp, Halts, HaltsAt}
 use Rattle.iscsi_target_session.proofs.CaseLemmas.{by_cases}
 use Rattle.iscsi_target.proofs.TurnLemmas.{with_tasks}
 use Rattle.iscsi_target.proofs.KeepingLemmas.{begun_settings, done_settings, step_settings}
@@ -17,15 +17,17 @@ use Rattle.iscsi_target.proofs.DispatchLemmas.{live_step}
 
 -- ---- the session is closed then
 
-gives_closed : (fb fa : ℕ) (old new : Machine) (disk now : Disk) (before after : List ℕ) → GivesUp fb fa old new disk now before after →
-    GivesUp fb fa old (closed new) disk now before after
-gives_closed fb fa old new disk now before after h = record { machine = h.machine; rises = h.rises; disk_is = h.disk_is; unwritten = h.unwritten }
+-- the same with the session closed
+abbrev shut : Moment → Moment
+shut at = moment (closed at.machine) at.store at.output
 
-next_closed : (fb fa : ℕ) (old : Machine) (disk : Disk) (next : Next) (new : Machine) (now : Disk) (before after : List ℕ) →
-    Halts fb fa old disk next new now before after → Halts fb fa old disk next (closed new) now before after
-next_closed fb fa old disk Dropped new now before after h = gives_closed fb fa old new disk now before after h
-next_closed fb fa old disk (Answered r) new now before after h = gives_closed fb fa old new disk now before after h
-next_closed fb fa old disk (Queued session tasks) new now before after h = record {
+gives_closed : (old new : Moment) → GivesUp old new → GivesUp old (shut new)
+gives_closed old new h = record { machine = h.machine; rises = h.rises; disk_is = h.disk_is; unwritten = h.unwritten }
+
+next_closed : (next : Next) (old new : Moment) → Halts next old new → Halts next old (shut new)
+next_closed Dropped old new h = gives_closed old new h
+next_closed (Answered r) old new h = gives_closed old new h
+next_closed (Queued session tasks) old new h = record {
   done = h.done;
   device = h.device;
   failures = h.failures;
@@ -36,10 +38,9 @@ next_closed fb fa old disk (Queued session tasks) new now before after h = recor
   output = h.output;
 }
 
-pub halts_closed : (fb fa : ℕ) (old : Machine) (disk : Disk) (m : Message) (new : Machine) (now : Disk) (before after : List ℕ) →
-    HaltsAt fb fa old disk m new now before after → HaltsAt fb fa old disk m (closed new) now before after
-halts_closed fb fa old disk m new now before after (inl h) = inl (gives_closed fb fa old new disk now before after h)
-halts_closed fb fa old disk m new now before after (inr h) = inr (h.0, next_closed fb fa old disk (full_met old disk.count m).next new now before after h.1)
+pub halts_closed : (m : Message) (old new : Moment) → HaltsAt m old new → HaltsAt m old (shut new)
+halts_closed m old new (inl h) = inl (gives_closed old new h)
+halts_closed m old new (inr h) = inr (h.0, next_closed (full_met old.machine old.store.disk.count m).next old new h.1)
 
 -- ---- and keeps its settings
 
@@ -60,18 +61,16 @@ queued_settings s disk m session tasks live within full is =
     sym (done_settings reliable session disk tasks) ∙ ap (λ (x : Next). (followed reliable s disk x).machine.session.settings) is
     ∙ ap (λ (x : Stepped). x.machine.session.settings) (sym (live_step reliable s disk m Full live within full)) ∙ step_settings reliable s disk m
 
-next_settings : (fb fa : ℕ) (s : Machine) (disk : Disk) (m : Message) (next : Next) (new : Machine) (now : Disk) (before after : List ℕ) → is_closed s ≡ false →
-    is_over_limit s m.segment ≡ false → s.session.phase ≡ Full
-    → next ≡ (full_met s disk.count m).next → Halts fb fa s disk next new now before after → new.session.settings ≡ s.session.settings
-next_settings fb fa s disk m Dropped new now before after live within full is h = ap (λ (x : Machine). x.session.settings) h.machine
-next_settings fb fa s disk m (Answered r) new now before after live within full is h = ap (λ (x : Machine). x.session.settings) h.machine
-next_settings fb fa s disk m (Queued session tasks) new now before after live within full is h =
-    ap (λ (x : Machine). x.session.settings) h.machine ∙ first_settings h.done h.device session disk tasks
-    ∙ queued_settings s disk m session tasks live within full is
+next_settings : (m : Message) (next : Next) (old new : Moment) → is_closed old.machine ≡ false → is_over_limit old.machine m.segment ≡ false →
+    old.machine.session.phase ≡ Full
+    → next ≡ (full_met old.machine old.store.disk.count m).next → Halts next old new → new.machine.session.settings ≡ old.machine.session.settings
+next_settings m Dropped old new live within full is h = ap (λ (x : Machine). x.session.settings) h.machine
+next_settings m (Answered r) old new live within full is h = ap (λ (x : Machine). x.session.settings) h.machine
+next_settings m (Queued session tasks) old new live within full is h =
+    ap (λ (x : Machine). x.session.settings) h.machine ∙ first_settings h.done h.device session old.store.disk tasks
+    ∙ queued_settings old.machine old.store.disk m session tasks live within full is
 
-pub halts_settings : (fb fa : ℕ) (s : Machine) (disk : Disk) (m : Message) (new : Machine) (now : Disk) (before after : List ℕ) → is_closed s ≡ false →
-    is_over_limit s m.segment ≡ false → HaltsAt fb fa s disk m new now before after
-    → new.session.settings ≡ s.session.settings
-halts_settings fb fa s disk m new now before after live within (inl h) = ap (λ (x : Machine). x.session.settings) h.machine
-halts_settings fb fa s disk m new now before after live within (inr h) = next_settings fb fa s disk m (full_met s disk.count m).next new now before after live
-    within h.0 refl h.1
+pub halts_settings : (m : Message) (old new : Moment) → is_closed old.machine ≡ false → is_over_limit old.machine m.segment ≡ false → HaltsAt m old new →
+    new.machine.session.settings ≡ old.machine.session.settings
+halts_settings m old new live within (inl h) = ap (λ (x : Machine). x.session.settings) h.machine
+halts_settings m old new live within (inr h) = next_settings m (full_met old.machine old.store.disk.count m).next old new live within h.0 refl h.1

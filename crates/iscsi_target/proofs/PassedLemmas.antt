@@ -17,8 +17,8 @@ use Rattle.iscsi_target.specs.State.{Machine, Stepped, unchanged, joined}
 use Rattle.iscsi_target.specs.Execution.{Device}
 use Rattle.iscsi_target.specs.Machine.{Next, Dropped, Answered, Queued, full_met, step_on, done_first, then_stepped, MayAnswer, is_closed}
 use Rattle.iscsi_target.specs.Laws.{joined_stepped}
-use Rattle.iscsi_target.specs.Feed.{Connection, Store, Feeds}
-use Rattle.iscsi_target.specs.Inside.{connection, Advances, AnswersReady, Halts, HaltsAt, TakesOne, FailsOne}
+use Rattle.iscsi_target.specs.Feed.{scene, Connection, Store, Feeds}
+use Rattle.iscsi_target.specs.Inside.{Moment, moment, connection, Advances, AnswersReady, Halts, HaltsAt, TakesOne, FailsOne}
 use Rattle.iscsi_target.specs.Crash.{IsBehind, CrashesNext, CrashesFed, IsPassed, commands_by, commands_in, commands_at}
 use Rattle.iscsi_target.proofs.AppendLemmas.{may_append}
 use Rattle.iscsi_target.proofs.ServingLemmas.{runs_as, runs_rise}
@@ -248,7 +248,7 @@ crashes_then old mid before store after piece front rest kept now new parts a ri
 -- ---- a call
 
 fed_advances : (old : Connection) (before : Store) (output piece rest : List ℕ) (now : Connection) (after : Store) (written : List ℕ) →
-    (f : FedUpTo old before output piece rest now after written) → Advances old before f.front now after
+    (f : FedUpTo (scene old before output) piece rest (scene now after written)) → Advances old before f.front now after
 fed_advances old before output piece rest now after written f = record {
   messages = f.messages;
   taken = f.answered.taken;
@@ -259,28 +259,26 @@ fed_advances old before output piece rest now after written f = record {
 }
 
 ready_rises : (old : Connection) (before : Store) (output : List ℕ) (broken : Option ℕ) (new : Connection) (after : Store) (written : List ℕ) →
-    AnswersReady old before output broken new after written → before.failures ≤ after.failures
+    AnswersReady (scene old before output) broken (scene new after written) → before.failures ≤ after.failures
 ready_rises old before output broken new after written (inl u) = omega (arith, ap (λ (s : Store). s.failures) u.store_is)
 ready_rises old before output broken new after written (inr a) = a.serves.rises
 
-halt_rises : (fb fa : ℕ) (old : Machine) (disk : Disk) (x : Next) (new : Machine) (now : Disk) (before after : List ℕ) →
-    Halts fb fa old disk x new now before after → fb ≤ fa
-halt_rises fb fa old disk Dropped new now before after h = h.rises
-halt_rises fb fa old disk (Answered r) new now before after h = h.rises
-halt_rises fb fa old disk (Queued session tasks) new now before after h =
-    let low = runs_rise h.device fb (done_first h.done h.device session disk tasks).executed h.failures h.runs in
+halt_rises : (x : Next) (old new : Moment) → Halts x old new → old.store.failures ≤ new.store.failures
+halt_rises Dropped old new h = h.rises
+halt_rises (Answered r) old new h = h.rises
+halt_rises (Queued session tasks) old new h =
+    let low = runs_rise h.device old.store.failures (done_first h.done h.device session old.store.disk tasks).executed h.failures h.runs in
     let high = h.rises in
     omega (arith, low, high)
 
-halts_rise : (fb fa : ℕ) (old : Machine) (disk : Disk) (m : Message) (new : Machine) (now : Disk) (before after : List ℕ) →
-    HaltsAt fb fa old disk m new now before after → fb ≤ fa
-halts_rise fb fa old disk m new now before after (inl h) = h.rises
-halts_rise fb fa old disk m new now before after (inr h) = halt_rises fb fa old disk (full_met old disk.count m).next new now before after h.1
+halts_rise : (m : Message) (old new : Moment) → HaltsAt m old new → old.store.failures ≤ new.store.failures
+halts_rise m old new (inl h) = h.rises
+halts_rise m old new (inr h) = halt_rises (full_met old.machine old.store.disk.count m).next old new h.1
 
 -- the PDU that the next bytes complete was answered
 pub crashes_on : (old : Connection) (before : Store) (output piece rest : List ℕ) (now : Connection) (mid : Store) (written : List ℕ) (n : ℕ)
     (broken : Option ℕ) (new : Connection) (after : Store) (more : List ℕ) (kept was left : ℕ → List ℕ → Type 0)
-    → GoesUpTo old before output piece rest now mid written → TakesOne now mid written rest n broken new after more →
+    → GoesUpTo (scene old before output) piece rest (scene now mid written) → TakesOne (scene now mid written) rest n broken (scene new after more) →
     CrashesFed old before piece mid kept was → CrashesNext now rest mid.disk after.disk was left
     → CrashesFed old before piece after kept left
 crashes_on old before output piece rest now mid written n broken new after more kept was left g t up one =
@@ -292,14 +290,13 @@ crashes_on old before output piece rest now mid written n broken new after more 
 -- it could not be taken, or not be answered
 pub crashes_failed : (old : Connection) (before : Store) (output piece rest : List ℕ) (now : Connection) (mid : Store) (written : List ℕ)
     (fault : TargetFault) (new : Connection) (after : Store) (more : List ℕ) (kept was left : ℕ → List ℕ → Type 0)
-    → GoesUpTo old before output piece rest now mid written → FailsOne now mid written rest fault new after more →
+    → GoesUpTo (scene old before output) piece rest (scene now mid written) → FailsOne (scene now mid written) rest fault (scene new after more) →
     CrashesFed old before piece mid kept was → CrashesNext now rest mid.disk after.disk was left
     → CrashesFed old before piece after kept left
 crashes_failed old before output piece rest now mid written fault new after more kept was left g fails up one =
     let rises : mid.failures ≤ after.failures = elim fails [
       | inl r ↦ omega (arith, ap (λ (s : Store). s.failures) r.store_is)
-      | inr r ↦ halts_rise mid.failures after.failures now.machine mid.disk (message_of r.framing r.shuts.head r.shuts.segment) new.machine after.disk written
-          more r.shuts.halts
+      | inr r ↦ halts_rise (message_of r.framing r.shuts.head r.shuts.segment) (moment now.machine mid written) (moment new.machine after more) r.shuts.halts
     ] in
     crashes_then old now before mid after piece g.fed.front rest kept was left g.fed.parts (fed_advances old before output piece rest now mid written g.fed)
     rises up (crashes_next now mid after rest was left rises one)

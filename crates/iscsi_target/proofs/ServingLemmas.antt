@@ -17,16 +17,17 @@ use Rattle.iscsi_target.specs.Machine.{Next, Dropped, Answered, Queued, followed
 use Rattle.iscsi_target.specs.Laws.{joined_execution, joined_stepped}
 use Rattle.iscsi_target.specs.Feed.{Store}
 use Rattle.iscsi_target.specs.declared.tasks.Task.{Task}
-use Rattle.iscsi_target.specs.Inside.{Serves, Leaves, Handles, Works, Follows, Halts, store_of}
+use Rattle.iscsi_target.specs.Inside.{moment, Serves, Leaves, Handles, Works, Follows, Halts, store_of}
 use Rattle.iscsi_target_session.specs.Replies.{Does, Attempts}
 use Rattle.iscsi_target.proofs.OpenWriteLemmas.{data_of_one}
+use Rattle.iscsi_target.proofs.TurnLemmas.{with_tasks}
 use Rattle.iscsi_target_session.proofs.CaseLemmas.{by_ok}
 
 -- ---- what leaves the disk
 
 pub leaves_serves : (n : ℕ) (r : Stepped) (f : Device → Stepped) (disk : Disk) (broken : Option ℕ) (new : Machine) (before after : List ℕ)
     → ((d : Device) → f d ≡ r) → r.executed ≡ [] → r.disk ≡ disk → new ≡ r.machine → after ≡ before ++ canon r.answers → broken ≡ r.rule →
-    Serves n n f broken new disk before after
+    Serves n before f broken (moment new (store_of disk n) after)
 leaves_serves n r f disk broken new before after is none same is_new is_after is_rule = record {
   device = reliable;
   rises = omega arith;
@@ -42,7 +43,7 @@ leaves_serves n r f disk broken new before after is none same is_new is_after is
 pub leaves_handles : {E : Type 0} (result : Result (Option ℕ) E) (n : ℕ) (r : Stepped) (f : Device → Stepped) (disk : Disk) (old new : Machine)
     (before after : List ℕ)
     → ((d : Device) → f d ≡ r) → r.executed ≡ [] → r.disk ≡ disk → Leaves r result old new before after →
-    Handles f result old (store_of disk n) before new (store_of disk n) after
+    Handles f result (moment old (store_of disk n) before) (moment new (store_of disk n) after)
 leaves_handles (Ok rule) n r f disk old new before after is none same h = record {
   ok =
       leaves_serves n r f disk rule new before after is none same h.machine h.output h.rule_is;
@@ -55,7 +56,7 @@ leaves_handles (Err e) n r f disk old new before after is none same h = record {
 
 -- a message that changes nothing, over any store
 pub unchanged_serves : (n : ℕ) (s : Machine) (f : Device → Stepped) (disk : Disk) (new : Machine) (out : List ℕ) → ((d : Device) → f d ≡ unchanged s disk) → new
-    ≡ s → Serves n n f None new disk out out
+    ≡ s → Serves n out f None (moment new (store_of disk n) out)
 unchanged_serves n s f disk new out is e = leaves_serves n (unchanged s disk) f disk None new out out is refl refl e (sym (append-nil out)) refl
 
 pub attempts : {E : Type 0} (r : Reply) (result : Result (Option ℕ) E) (old new : Session) (before after : List ℕ) → Does r result old new before after →
@@ -112,7 +113,8 @@ runs_rise d before [] after h = omega (arith, h)
 runs_rise d before (x ∷ xs) after h = let a = h.1.rises in let b = runs_rise (device_next d) h.0 xs after h.2 in omega (arith, a, b)
 
 pub serves_same : (fb fa : ℕ) (f g : Device → Stepped) (broken : Option ℕ) (new : Machine) (now : Disk) (before after : List ℕ)
-    → ((d : Device) → joined_stepped (g d) ≡ joined_stepped (f d)) → Serves fb fa g broken new now before after → Serves fb fa f broken new now before after
+    → ((d : Device) → joined_stepped (g d) ≡ joined_stepped (f d)) → Serves fb before g broken (moment new (store_of now fa) after)
+    → Serves fb before f broken (moment new (store_of now fa) after)
 serves_same fb fa f g broken new now before after is h =
     let q : joined_stepped (g h.device) ≡ joined_stepped (f h.device) = is h.device in
     record {
@@ -127,20 +129,22 @@ serves_same fb fa f g broken new now before after is h =
     }
 
 pub serves_if : {E : Type 0} (result : Result (Option ℕ) E) (fb fa : ℕ) (f g : Device → Stepped) (new : Machine) (now : Disk) (before after : List ℕ)
-    → ((d : Device) → g d ≡ f d) → IfOk result (λ b. Serves fb fa g b new now before after) → IfOk result (λ b. Serves fb fa f b new now before after)
+    → ((d : Device) → g d ≡ f d) → IfOk result (λ b. Serves fb before g b (moment new (store_of now fa) after))
+    → IfOk result (λ b. Serves fb before f b (moment new (store_of now fa) after))
 serves_if result fb fa f g new now before after is h =
-    by_ok (λ b. Serves fb fa g b new now before after) (λ b. Serves fb fa f b new now before after) result
+    by_ok (λ b. Serves fb before g b (moment new (store_of now fa) after)) (λ b. Serves fb before f b (moment new (store_of now fa) after)) result
     (λ b. serves_same fb fa f g b new now before after (λ d. ap joined_stepped (is d))) h
 
 pub same_if : {E : Type 0} (result : Result (Option ℕ) E) (fb fa : ℕ) (f g : Device → Stepped) (new : Machine) (now : Disk) (before after : List ℕ)
-    → ((d : Device) → joined_stepped (g d) ≡ joined_stepped (f d)) → IfOk result (λ b. Serves fb fa g b new now before after) →
-    IfOk result (λ b. Serves fb fa f b new now before after)
+    → ((d : Device) → joined_stepped (g d) ≡ joined_stepped (f d)) → IfOk result (λ b. Serves fb before g b (moment new (store_of now fa) after)) →
+    IfOk result (λ b. Serves fb before f b (moment new (store_of now fa) after))
 same_if result fb fa f g new now before after is h =
-    by_ok (λ b. Serves fb fa g b new now before after) (λ b. Serves fb fa f b new now before after) result
+    by_ok (λ b. Serves fb before g b (moment new (store_of now fa) after)) (λ b. Serves fb before f b (moment new (store_of now fa) after)) result
     (λ b. serves_same fb fa f g b new now before after is) h
 
 pub accepts_by : (fb fa : ℕ) (ms : List Message) (g : Device → Stepped) (broken : Option ℕ) (new : Machine) (now : Disk) (before after : List ℕ)
-    → Serves fb fa g broken new now before after → Serves fb fa (λ d. having_accepted ms (g d)) broken new now before after
+    → Serves fb before g broken (moment new (store_of now fa) after)
+    → Serves fb before (λ d. having_accepted ms (g d)) broken (moment new (store_of now fa) after)
 accepts_by fb fa ms g broken new now before after h = record {
   device = h.device;
   rises = h.rises;
@@ -158,7 +162,7 @@ pub order_serves : (fb fa tag : ℕ) (s : Machine) (disk : Disk) (order : Order)
     (before after : List ℕ)
     → Executes fb fa disk order (data_of pieces) e → new ≡ record s { session = counted s.session } → now ≡ e.disk
     → after ≡ before ++ canon (command_answers s.session (waiting s.tasks) tag e.outcome (data_in_parts s.session.held e.outcome.bytes))
-    → Serves fb fa (λ d. execute d s disk tag order pieces) None new now before after
+    → Serves fb before (λ d. execute d s disk tag order pieces) None (moment new (store_of now fa) after)
 order_serves fb fa tag s disk order pieces e new now before after x is_new is_now is_after =
     elim (cases_lt fb fa) [
       | inl lt ↦ record {
@@ -194,7 +198,7 @@ on_err (Err e) h = h
 
 pub answered_follows : {E : Type 0} (result : Result (Option ℕ) E) (n : ℕ) (s : Machine) (r : Reply) (next : Next) (disk : Disk) (new : Machine)
     (before after : List ℕ) → next ≡ Answered r → Leaves (on disk s.tasks r) result s new before after
-    → Follows next result s (store_of disk n) before new (store_of disk n) after
+    → Follows next result (moment s (store_of disk n) before) (moment new (store_of disk n) after)
 answered_follows (Ok rule) n s r next disk new before after is h = record {
   ok = leaves_serves n (on disk s.tasks r) (λ d. followed d s disk next) disk rule new before after (λ d. ap (followed d s disk) is) refl refl h.machine
       h.output h.rule_is;
@@ -202,7 +206,7 @@ answered_follows (Ok rule) n s r next disk new before after is h = record {
 }
 answered_follows (Err e) n s r next disk new before after is h = record {
   ok = tt;
-  err = subst (λ (x : Next). Halts n n s disk x new disk before after) (sym is) (record {
+  err = subst (λ (x : Next). Halts x (moment s (store_of disk n) before) (moment new (store_of disk n) after)) (sym is) (record {
     machine = h.err;
     rises = omega arith;
     disk_is = refl;
@@ -211,19 +215,20 @@ answered_follows (Err e) n s r next disk new before after is h = record {
 }
 
 pub dropped_follows : {E : Type 0} (n : ℕ) (s : Machine) (next : Next) (disk : Disk) (new : Machine) (out : List ℕ) → next ≡ Dropped → new ≡ s →
-    Follows {E = E} next (Ok None) s (store_of disk n) out new (store_of disk n) out
+    Follows {E = E} next (Ok None) (moment s (store_of disk n) out) (moment new (store_of disk n) out)
 dropped_follows n s next disk new out is e = record {
   ok = unchanged_serves n s (λ d. followed d s disk next) disk new out (λ d. ap (followed d s disk) is) e;
   err = tt;
 }
 
 pub follows_as : {E : Type 0} (result : Result (Option ℕ) E) (a b : Next) (old : Machine) (before : Store) (output : List ℕ) (new : Machine) (after : Store)
-    (written : List ℕ) → a ≡ b → Follows a result old before output new after written
-    → Follows b result old before output new after written
-follows_as result a b old before output new after written e h = subst (λ (x : Next). Follows x result old before output new after written) e h
+    (written : List ℕ) → a ≡ b → Follows a result (moment old before output) (moment new after written)
+    → Follows b result (moment old before output) (moment new after written)
+follows_as result a b old before output new after written e h = subst (λ (x : Next). Follows x result (moment old before output) (moment new after written)) e h
 
 pub works_follow : {E : Type 0} (result : Result (Option ℕ) E) (next : Next) (session : Session) (tasks : List Task) (old : Machine) (before : Store)
     (output : List ℕ) (new : Machine) (after : Store) (written : List ℕ) → next ≡ Queued session tasks
-    → Works session tasks result before output new after written → Follows next result old before output new after written
+    → Works result (moment (with_tasks session tasks) before output) (moment new after written)
+    → Follows next result (moment old before output) (moment new after written)
 works_follow result next session tasks old before output new after written is h =
-    subst (λ (x : Next). Follows x result old before output new after written) (sym is) (record { ok = h.ok; err = h.err })
+    subst (λ (x : Next). Follows x result (moment old before output) (moment new after written)) (sym is) (record { ok = h.ok; err = h.err })

@@ -30,7 +30,7 @@ use Rattle.iscsi_target.specs.Machine.{first_rule, RunsIn}
 use Rattle.iscsi_target_session.specs.Requests.{request_answered}
 use Rattle.iscsi_target.specs.State.{joined}
 use Rattle.iscsi_target.specs.Feed.{Store}
-use Rattle.iscsi_target.specs.Inside.{Serves, GivesUp, Handles, Halts, Stops, Works}
+use Rattle.iscsi_target.specs.Inside.{Moment, store_of, moment, Serves, GivesUp, Handles, Halts, Stops, Works}
 use Rattle.iscsi_stream.specs.Canonical.{canon}
 use Rattle.iscsi_stream.proofs.WritingLemmas.{canon_append}
 use Rattle.iscsi_target.specs.Laws.{task_in, joined_stepped}
@@ -199,7 +199,7 @@ joins d e s disk task =
 serves_by : (fb fa : ℕ) (f : Device → Stepped) (d : Device) (x : Stepped) (broken : Option ℕ) (new : Machine) (now : Disk) (before after : List ℕ) → f d ≡ x →
     fb ≤ fa → (fa ≡ fb → d ≡ reliable)
     → RunsIn d fb x.executed fa → joined new ≡ joined x.machine → now ≡ x.disk → after ≡ before ++ canon x.answers → broken ≡ x.rule →
-    Serves fb fa f broken new now before after
+    Serves fb before f broken (moment new (store_of now fa) after)
 serves_by fb fa f d x broken new now before after is rises works runs machine disk output rule = record {
   device = d;
   rises = rises;
@@ -237,12 +237,11 @@ first_on k d s disk task more stay live =
     ap (λ (b : Bool). if b || is_closed r.machine then r else then_stepped r (done_first k (device_after r.executed d) r.machine.session r.disk more)) stay
     ∙ ap (λ (b : Bool). if b then r else then_stepped r (done_first k (device_after r.executed d) r.machine.session r.disk more)) live
 
--- the first task was done, and left a target that goes on
-pub record Goes (fb fm : ℕ) (s : Session) (disk : Disk) (task : Task) (more : List Task) (rule : Option ℕ) (mid : Machine) (mid_disk : Disk)
-    (before out : List ℕ) : Type 0 where
-  pub serves : Serves fb fm (λ d. begun d (with_tasks s more) disk task) rule mid mid_disk before out
-  pub live : is_closed mid ≡ false
-  pub done : nat_lt (length more) (length mid.tasks) ≡ false
+-- the first task, which was taken from before the others, was done, and left a target that goes on
+pub record Goes (old : Moment) (task : Task) (rule : Option ℕ) (new : Moment) : Type 0 where
+  pub serves : Serves old.store.failures old.output (λ d. begun d old.machine old.store.disk task) rule new
+  pub live : is_closed new.machine ≡ false
+  pub done : nat_lt (length old.machine.tasks) (length new.machine.tasks) ≡ false
 
 -- the same of the definitions
 record Leads (d : Device) (s : Session) (disk : Disk) (task : Task) (more : List Task) (mid : Machine) : Type 0 where
@@ -253,7 +252,7 @@ record Leads (d : Device) (s : Session) (disk : Disk) (task : Task) (more : List
   ones_ : ones mid.tasks ≡ ones more
 
 leads : (fb fm : ℕ) (s : Session) (disk : Disk) (task : Task) (more : List Task) (rule : Option ℕ) (mid : Machine) (mid_disk : Disk) (before out : List ℕ) →
-    (g : Goes fb fm s disk task more rule mid mid_disk before out)
+    (g : Goes (moment (with_tasks s more) (store_of disk fb) before) task rule (moment mid (store_of mid_disk fm) out))
     → Leads g.serves.device s disk task more mid
 leads fb fm s disk task more rule mid mid_disk before out g =
     let h = g.serves in
@@ -266,14 +265,16 @@ leads fb fm s disk task more rule mid mid_disk before out g =
     record { live = live; stay = stay; tasks = tasks; session = session; ones_ = same ∙ ap ones tasks }
 
 -- and the others are left
-pub left_behind : (fb fm : ℕ) (s : Session) (disk : Disk) (task : Task) (more : List Task) (rule : Option ℕ) (mid : Machine) (mid_disk : Disk)
-    (before out : List ℕ) → Goes fb fm s disk task more rule mid mid_disk before out → ones mid.tasks ≡ ones more
-left_behind fb fm s disk task more rule mid mid_disk before out g = (leads fb fm s disk task more rule mid mid_disk before out g).ones_
+pub left_behind : (old : Moment) (task : Task) (rule : Option ℕ) (new : Moment) → Goes old task rule new → ones new.machine.tasks ≡ ones old.machine.tasks
+left_behind old task rule new g =
+    (leads old.store.failures new.store.failures old.machine.session old.store.disk task old.machine.tasks rule new.machine new.store.disk old.output new.output
+    g).ones_
 
 pub then_serves : (fb fm fa : ℕ) (s : Session) (disk : Disk) (task : Task) (more : List Task) (rule : Option ℕ) (mid : Machine) (mid_disk : Disk)
     (before out : List ℕ) (broken : Option ℕ) (new : Machine) (now : Disk) (after : List ℕ)
-    → Goes fb fm s disk task more rule mid mid_disk before out → Serves fm fa (λ d. done_in_turn d mid.session mid_disk mid.tasks) broken new now out after
-    → Serves fb fa (λ d. done_in_turn d s disk (task ∷ more)) broken new now before after
+    → Goes (moment (with_tasks s more) (store_of disk fb) before) task rule (moment mid (store_of mid_disk fm) out)
+    → Serves fm out (λ d. done_in_turn d mid.session mid_disk mid.tasks) broken (moment new (store_of now fa) after)
+    → Serves fb before (λ d. done_in_turn d s disk (task ∷ more)) broken (moment new (store_of now fa) after)
 then_serves fb fm fa s disk task more rule mid mid_disk before out broken new now after g e =
     let h = g.serves in
     let l = leads fb fm s disk task more rule mid mid_disk before out g in
@@ -305,8 +306,9 @@ then_serves fb fm fa s disk task more rule mid mid_disk before out broken new no
 -- the first task was done, and memory ran out behind it
 pub then_stops : (fb fm fa : ℕ) (s : Session) (disk : Disk) (task : Task) (more : List Task) (rule : Option ℕ) (mid : Machine) (mid_disk : Disk)
     (before out : List ℕ) (new : Machine) (now : Disk) (after : List ℕ)
-    → Goes fb fm s disk task more rule mid mid_disk before out → Stops fm fa mid.session mid_disk mid.tasks new now out after →
-    Stops fb fa s disk (task ∷ more) new now before after
+    → Goes (moment (with_tasks s more) (store_of disk fb) before) task rule (moment mid (store_of mid_disk fm) out)
+    → Stops (moment mid (store_of mid_disk fm) out) (moment new (store_of now fa) after) →
+    Stops (moment (with_tasks s (task ∷ more)) (store_of disk fb) before) (moment new (store_of now fa) after)
 then_stops fb fm fa s disk task more rule mid mid_disk before out new now after g e =
     let h = g.serves in
     let l = leads fb fm s disk task more rule mid mid_disk before out g in
@@ -340,8 +342,8 @@ then_stops fb fm fa s disk task more rule mid mid_disk before out new now after 
 
 -- memory ran out at the first task
 pub first_stops : (fb fa : ℕ) (s : Session) (disk : Disk) (tasks more : List Task) (new : Machine) (now : Disk) (before after : List ℕ) →
-    GivesUp fb fa (with_tasks s more) new disk now before after
-    → Stops fb fa s disk tasks new now before after
+    GivesUp (moment (with_tasks s more) (store_of disk fb) before) (moment new (store_of now fa) after)
+    → Stops (moment (with_tasks s tasks) (store_of disk fb) before) (moment new (store_of now fa) after)
 unfolding done_first
 first_stops fb fa s disk tasks more new now before after h = record {
   done = 0;
@@ -364,8 +366,9 @@ stop_at d s disk task (x ∷ more) e = rw e refl
 
 pub stop_serves : (fb fa : ℕ) (s : Session) (disk : Disk) (task : Task) (more : List Task) (rule : Option ℕ) (new : Machine) (now : Disk)
     (before after : List ℕ)
-    → Serves fb fa (λ d. begun d (with_tasks s more) disk task) rule new now before after → (nat_lt (length more) (length new.tasks) || is_closed new) ≡ true
-    → Serves fb fa (λ d. done_in_turn d s disk (task ∷ more)) rule new now before after
+    → Serves fb before (λ d. begun d (with_tasks s more) disk task) rule (moment new (store_of now fa) after)
+    → (nat_lt (length more) (length new.tasks) || is_closed new) ≡ true
+    → Serves fb before (λ d. done_in_turn d s disk (task ∷ more)) rule (moment new (store_of now fa) after)
 stop_serves fb fa s disk task more rule new now before after h e =
     let r : Stepped = begun h.device (with_tasks s more) disk task in
     let session : new.session ≡ r.machine.session = ap (λ (x : Machine). x.session) h.machine in
@@ -378,87 +381,86 @@ stop_serves fb fa s disk task more rule new now before after h e =
 
 -- there is no task
 pub none_serves : (n : ℕ) (s : Session) (disk : Disk) (new : Machine) (out : List ℕ) → new ≡ with_tasks s [] →
-    Serves n n (λ d. done_in_turn d s disk []) None new disk out out
+    Serves n out (λ d. done_in_turn d s disk []) None (moment new (store_of disk n) out)
 unfolding done_in_turn
 none_serves n s disk new out e = unchanged_serves n (with_tasks s []) (λ d. done_in_turn d s disk []) disk new out (λ d. refl) e
 
 -- ---- all of them
 
 -- what is left to do is what was to be done
-pub record GoesOn (E : Type 0) (old : Machine) (before : Store) (output : List ℕ) (now : Machine) (mid : Store) (written : List ℕ) : Type 0 where
-  pub works : (result : Result (Option ℕ) E) (new : Machine) (after : Store) (more : List ℕ) → Works now.session now.tasks result mid written new after more →
-      Works old.session old.tasks result before output new after more
+pub record GoesOn (E : Type 0) (old now : Moment) : Type 0 where
+  pub works : (result : Result (Option ℕ) E) (new : Moment) → Works result now new → Works result old new
 
-pub goes_start : {E : Type 0} (old : Machine) (before : Store) (output : List ℕ) → GoesOn E old before output old before output
-goes_start old before output = record { works = λ result new after more h. h }
+pub goes_start : {E : Type 0} (old : Moment) → GoesOn E old old
+goes_start old = record { works = λ result new h. h }
 
-works_then : {E : Type 0} (result : Result (Option ℕ) E) (s : Session) (task : Task) (behind : List Task) (rule : Option ℕ) (before mid after : Store)
-    (next new : Machine) (output out written : List ℕ)
-    → Goes before.failures mid.failures s before.disk task behind rule next mid.disk output out → Works next.session next.tasks result mid out new after written
-    → Works s (task ∷ behind) result before output new after written
-works_then (Ok broken) s task behind rule before mid after next new output out written g h = record {
-  ok = then_serves before.failures mid.failures after.failures s before.disk task behind rule next mid.disk output out broken new after.disk written g h.ok;
+-- with its tasks so
+abbrev pub at_tasks : Moment → Session → List Task → Moment
+at_tasks at session tasks = moment (with_tasks session tasks) at.store at.output
+
+works_then : {E : Type 0} (result : Result (Option ℕ) E) (session : Session) (task : Task) (behind : List Task) (rule : Option ℕ) (old next new : Moment)
+    → Goes (at_tasks old session behind) task rule next → Works result next new → Works result (at_tasks old session (task ∷ behind)) new
+works_then (Ok broken) session task behind rule old next new g h = record {
+  ok = then_serves old.store.failures next.store.failures new.store.failures session old.store.disk task behind rule next.machine next.store.disk old.output
+      next.output broken new.machine new.store.disk new.output g h.ok;
   err = tt;
 }
-works_then (Err e) s task behind rule before mid after next new output out written g h = record {
+works_then (Err e) session task behind rule old next new g h = record {
   ok = tt;
-  err = then_stops before.failures mid.failures after.failures s before.disk task behind rule next mid.disk output out new after.disk written g h.err;
+  err = then_stops old.store.failures next.store.failures new.store.failures session old.store.disk task behind rule next.machine next.store.disk old.output
+      next.output new.machine new.store.disk new.output g h.err;
 }
 
 pub either : (a b : Bool) → b ≡ true → (a || b) ≡ true
 either true b e = refl
 either false b e = e
 
+-- what is left to do, with the tasks written out
+goes_as : {E : Type 0} (result : Result (Option ℕ) E) (old now new : Moment) (session : Session) (tasks : List Task) → GoesOn E old now →
+    now.machine ≡ with_tasks session tasks → Works result (at_tasks now session tasks) new → Works result old new
+goes_as result old now new session tasks g is h =
+    g.works result new (subst (λ (m : Machine). Works result (moment m now.store now.output) new) (sym is) h)
+
 -- the first task was done
-pub goes_then : {E : Type 0} (old now next : Machine) (before mid after : Store) (output written more : List ℕ) (session : Session) (task : Task)
-    (behind : List Task) (rule : Option ℕ)
-    → GoesOn E old before output now mid written → now ≡ with_tasks session (task ∷ behind) →
-    Goes mid.failures after.failures session mid.disk task behind rule next after.disk written more
-    → GoesOn E old before output next after more
-goes_then old now next before mid after output written more session task behind rule g is step = record {
-  works = λ result new last w h. g.works result new last w
-      (subst (λ (m : Machine). Works m.session m.tasks result mid written new last w) (sym is)
-      (works_then result session task behind rule mid after last next new written more w step h));
-}
+pub goes_then : {E : Type 0} (old now next : Moment) (session : Session) (task : Task) (behind : List Task) (rule : Option ℕ) → GoesOn E old now →
+    now.machine ≡ with_tasks session (task ∷ behind) → Goes (at_tasks now session behind) task rule next → GoesOn E old next
+goes_then old now next session task behind rule g is step =
+    record { works = λ result new h. goes_as result old now new session (task ∷ behind) g is (works_then result session task behind rule now next new step h) }
 
 -- the first task ended the session, or stays
-pub goes_stop : (E : Type 0) (old now new : Machine) (before mid after : Store) (output written more : List ℕ) (session : Session) (task : Task)
-    (behind : List Task) (rule : Option ℕ)
-    → GoesOn E old before output now mid written → now ≡ with_tasks session (task ∷ behind) →
-    Serves mid.failures after.failures (λ d. begun d (with_tasks session behind) mid.disk task) rule new after.disk written more
-    → (nat_lt (length behind) (length new.tasks) || is_closed new) ≡ true → Works {E = E} old.session old.tasks (Ok rule) before output new after more
-goes_stop E old now new before mid after output written more session task behind rule g is h stop =
-    g.works (Ok rule) new after more
-    (subst (λ (m : Machine). Works {E = E} m.session m.tasks (Ok rule) mid written new after more) (sym is)
-    (record { ok = stop_serves mid.failures after.failures session mid.disk task behind rule new after.disk written more h stop; err = tt }))
+pub goes_stop : (E : Type 0) (old now new : Moment) (session : Session) (task : Task) (behind : List Task) (rule : Option ℕ) → GoesOn E old now →
+    now.machine ≡ with_tasks session (task ∷ behind)
+    → Serves now.store.failures now.output (λ d. begun d (with_tasks session behind) now.store.disk task) rule new
+    → (nat_lt (length behind) (length new.machine.tasks) || is_closed new.machine) ≡ true → Works {E = E} (Ok rule) old new
+goes_stop E old now new session task behind rule g is h stop =
+    goes_as (Ok rule) old now new session (task ∷ behind) g is (record {
+      ok = stop_serves now.store.failures new.store.failures session now.store.disk task behind rule new.machine new.store.disk now.output new.output h stop;
+      err = tt;
+    })
 
 -- memory ran out at the first task
-pub goes_short : {E : Type 0} (e : E) (old now new : Machine) (before mid after : Store) (output written more : List ℕ) (session : Session) (task : Task)
-    (behind : List Task)
-    → GoesOn E old before output now mid written → now ≡ with_tasks session (task ∷ behind) →
-    GivesUp mid.failures after.failures (with_tasks session behind) new mid.disk after.disk written more
-    → Works old.session old.tasks (Err e) before output new after more
-goes_short e old now new before mid after output written more session task behind g is h =
-    g.works (Err e) new after more
-    (subst (λ (m : Machine). Works m.session m.tasks (Err e) mid written new after more) (sym is)
-    (record { ok = tt; err = first_stops mid.failures after.failures session mid.disk (task ∷ behind) behind new after.disk written more h }))
+pub goes_short : {E : Type 0} (e : E) (old now new : Moment) (session : Session) (task : Task) (behind : List Task) → GoesOn E old now →
+    now.machine ≡ with_tasks session (task ∷ behind) → GivesUp (at_tasks now session behind) new → Works (Err e) old new
+goes_short e old now new session task behind g is h =
+    goes_as (Err e) old now new session (task ∷ behind) g is (record {
+      ok = tt;
+      err = first_stops now.store.failures new.store.failures session now.store.disk (task ∷ behind) behind new.machine new.store.disk now.output new.output h;
+    })
 
 -- no task is left
-pub goes_end : (E : Type 0) (old now new : Machine) (before mid : Store) (output written : List ℕ) (session : Session) →
-    GoesOn E old before output now mid written → now ≡ with_tasks session [] → new ≡ with_tasks session []
-    → Works {E = E} old.session old.tasks (Ok None) before output new mid written
-goes_end E old now new before mid output written session g none is =
-    g.works (Ok None) new mid written
-    (subst (λ (m : Machine). Works {E = E} m.session m.tasks (Ok None) mid written new mid written) (sym none)
-    (record { ok = none_serves mid.failures session mid.disk new written is; err = tt }))
+pub goes_end : (E : Type 0) (old now : Moment) (session : Session) → GoesOn E old now → now.machine ≡ with_tasks session [] →
+    Works {E = E} (Ok None) old (at_tasks now session [])
+goes_end E old now session g none =
+    goes_as (Ok None) old now (at_tasks now session []) session [] g none
+    (record { ok = none_serves now.store.failures session now.store.disk (with_tasks session []) now.output refl; err = tt })
 
 -- ---- a request that is the only task
 
 alone_handles : {E : Type 0} (result : Result (Option ℕ) E) (session : Session) (m : Message) (before : Store) (output : List ℕ) (new : Machine) (after : Store)
     (written : List ℕ)
     → breaks_rules session.held (length (segment_bytes m.segment)) m.head ≡ false →
-    Handles (λ d. handled d (with_tasks session []) before.disk m m.head) result (with_tasks session []) before output new after written
-    → Works session (task_of before.disk.count m ∷ []) result before output new after written
+    Handles (λ d. handled d (with_tasks session []) before.disk m m.head) result (moment (with_tasks session []) before output) (moment new after written)
+    → Works result (moment (with_tasks session (task_of before.disk.count m ∷ [])) before output) (moment new after written)
 alone_handles (Ok rule) session m before output new after written keeps h = record {
   ok = serves_same before.failures after.failures (λ d. done_in_turn d session before.disk (task_of before.disk.count m ∷ []))
       (λ d. handled d (with_tasks session []) before.disk m m.head) rule new after.disk output written
@@ -474,17 +476,18 @@ alone_handles (Err e) session m before output new after written keeps h = record
 pub alone_works : {E : Type 0} (result : Result (Option ℕ) E) (s : Machine) (m : Message) (before : Store) (output : List ℕ) (new : Machine) (after : Store)
     (written : List ℕ)
     → s.tasks ≡ [] → breaks_rules s.session.held (length (segment_bytes m.segment)) m.head ≡ false →
-    Handles (λ d. handled d s before.disk m m.head) result s before output new after written
-    → Works s.session (s.tasks ++ task_of before.disk.count m ∷ []) result before output new after written
+    Handles (λ d. handled d s before.disk m m.head) result (moment s before output) (moment new after written)
+    → Works result (moment (with_tasks s.session (s.tasks ++ task_of before.disk.count m ∷ [])) before output) (moment new after written)
 alone_works result s m before output new after written none keeps h =
     let is : s ≡ with_tasks s.session [] = ap (with_tasks s.session) none in
-    subst (λ (ts : List Task). Works s.session (ts ++ task_of before.disk.count m ∷ []) result before output new after written) (sym none)
+    subst (λ (ts : List Task). Works result (moment (with_tasks s.session (ts ++ task_of before.disk.count m ∷ [])) before output)
+    (moment new after written)) (sym none)
     (alone_handles result s.session m before output new after written keeps (subst
-    (λ (x : Machine). Handles (λ d. handled d x before.disk m m.head) result x before output new after written) is h))
+    (λ (x : Machine). Handles (λ d. handled d x before.disk m m.head) result (moment x before output) (moment new after written)) is h))
 
 -- memory ran out before a request was kept as a task
 pub short_works : {E : Type 0} (e : E) (s : Machine) (tasks : List Task) (before : Store) (output : List ℕ) →
-    Works s.session tasks (Err e) before output s before output
+    Works (Err e) (moment (with_tasks s.session tasks) before output) (moment s before output)
 short_works e s tasks before output = record {
   ok = tt;
   err = first_stops before.failures before.failures s.session before.disk tasks s.tasks s before.disk output output
@@ -493,7 +496,7 @@ short_works e s tasks before output = record {
 
 -- memory ran out, whatever comes of the PDU
 pub short_halts : (n : ℕ) (s new : Machine) (disk : Disk) (out : List ℕ) (next : Next) → session_of s next ≡ s.session → closed new ≡ closed s →
-    Halts n n s disk next new disk out out
+    Halts next (moment s (store_of disk n) out) (moment new (store_of disk n) out)
 short_halts n s new disk out Dropped same e = record { machine = e; rises = omega arith; disk_is = refl; unwritten = refl }
 short_halts n s new disk out (Answered r) same e = record { machine = e; rises = omega arith; disk_is = refl; unwritten = refl }
 short_halts n s new disk out (Queued session tasks) same e =
@@ -506,8 +509,8 @@ short_halts n s new disk out (Queued session tasks) same e =
 
 -- where a piece of a write ended makes no difference
 pub works_same : {E : Type 0} (result : Result (Option ℕ) E) (session : Session) (ts us : List Task) (before : Store) (output : List ℕ) (new : Machine)
-    (after : Store) (written : List ℕ) → ones ts ≡ ones us → Works session ts result before output new after written
-    → Works session us result before output new after written
+    (after : Store) (written : List ℕ) → ones ts ≡ ones us → Works result (moment (with_tasks session ts) before output) (moment new after written)
+    → Works result (moment (with_tasks session us) before output) (moment new after written)
 works_same (Ok rule) session ts us before output new after written e h = record {
   ok = serves_same before.failures after.failures (λ d. done_in_turn d session before.disk us)
       (λ d. done_in_turn d session before.disk ts) rule new after.disk output written (λ d. (done_same d session before.disk ts us e).is) h.ok;

@@ -36,6 +36,20 @@ pub record Store : Type 0 where
   pub disk : Disk
   pub failures : ℕ
 
+-- A target at work: its parts, its store, and what was written so far.
+pub record Scene : Type 0 where
+  pub connection : Connection
+  pub store : Store
+  pub output : List ℕ
+
+-- The parts of a target at work.
+abbrev pub scene : Connection → Store → List ℕ → Scene
+scene connection store output = record {
+  connection = connection;
+  store = store;
+  output = output;
+}
+
 -- ---- a call of feed
 
 -- A call took bytes that complete these PDUs, and answered them one after another. Each execution did

@@ -3,7 +3,6 @@ use Rattle.std.specs.Prelude.{◌≡◌, ◌≢◌, ◌⊎◌, ℕ, ◌<◌, ◌
 use Rattle.std.specs.List.{AllByRecursion}
 use Rattle.iscsi_stream.specs.Canonical.{canon}
 use Rattle.scsi_disk.specs.Disk.{Disk}
-use Rattle.iscsi_target_session.specs.Session.{Session}
 use Rattle.iscsi_target.specs.Write.{Write}
 use Rattle.iscsi_target.specs.declared.tasks.Task.{Task}
 use Rattle.iscsi_target.specs.declared.tasks.Task.TheVariants.{Request, Data}
@@ -15,7 +14,7 @@ use Rattle.iscsi_pdu.specs.Rules.{kind_not_due, data_out_of_order}
 use Rattle.iscsi_stream.specs.Segment.{segment_bytes}
 use Rattle.iscsi_target.specs.Command.{breaks_rules}
 use Rattle.iscsi_target.specs.Machine.{is_tag_of, tag_of, RunsIn, Next, Queued, write_of, with_write, done_first, done_in_turn, followed, full_met, step_on, MayAnswer}
-use Rattle.iscsi_target.specs.Feed.{Connection, Store}
+use Rattle.iscsi_target.specs.Feed.{Connection, Store, Scene, scene}
 use Rattle.iscsi_pdu.specs.declared.head.Head.{Head}
 use Rattle.iscsi_stream.specs.Stream.{Message}
 use Rattle.iscsi_login.specs.declared.phase.Phase.TheVariants as phases
@@ -97,92 +96,92 @@ pub record Leaves {E : Type 0} (r : Stepped) (result : Result (Option ℕ) E) (o
   pub err : OnErr result (closed new ≡ closed old)
   pub unwritten : OnErr result (after ≡ before)
 
--- What any message leads to, over a store whose failures were counted before and after, execution
--- by execution.
-pub record Serves (failures_before failures_after : ℕ) (step : Device → Stepped) (broken : Option ℕ)
-    (new : Machine) (now : Disk) (before after : List ℕ) : Type 0 where
+-- A machine at work: it, its store, and what was written so far.
+pub record Moment : Type 0 where
+  pub machine : Machine
+  pub store : Store
+  pub output : List ℕ
+
+-- The parts of a machine at work.
+abbrev pub moment : Machine → Store → List ℕ → Moment
+moment machine store output = record { machine = machine; store = store; output = output }
+
+-- What any message leads to, behind this output and over a store whose failures were counted before
+-- and after, execution by execution.
+pub record Serves (failures : ℕ) (before : List ℕ) (step : Device → Stepped) (broken : Option ℕ)
+    (new : Moment) : Type 0 where
   pub device : Device
-  pub rises : failures_before ≤ failures_after
-  pub works : failures_after ≡ failures_before → device ≡ reliable
-  pub runs : RunsIn device failures_before (step device).executed failures_after
-  pub machine : joined new ≡ joined (step device).machine
-  pub disk_is : now ≡ (step device).disk
-  pub output : after ≡ before ++ canon (step device).answers
+  pub rises : failures ≤ new.store.failures
+  pub works : new.store.failures ≡ failures → device ≡ reliable
+  pub runs : RunsIn device failures (step device).executed new.store.failures
+  pub machine : joined new.machine ≡ joined (step device).machine
+  pub disk_is : new.store.disk ≡ (step device).disk
+  pub output : new.output ≡ before ++ canon (step device).answers
   pub rule_is : broken ≡ (step device).rule
 
 -- A message was not answered: nothing was written, no block changed, and but for what a closed
 -- session drops the session is as it was.
-pub record GivesUp (failures_before failures_after : ℕ) (old new : Machine) (disk now : Disk)
-    (before after : List ℕ) : Type 0 where
-  pub machine : closed new ≡ closed old
-  pub rises : failures_before ≤ failures_after
-  pub disk_is : now ≡ disk
-  pub unwritten : after ≡ before
+pub record GivesUp (old new : Moment) : Type 0 where
+  pub machine : closed new.machine ≡ closed old.machine
+  pub rises : old.store.failures ≤ new.store.failures
+  pub disk_is : new.store.disk ≡ old.store.disk
+  pub unwritten : new.output ≡ old.output
 
 -- What was done with a task, over a store: it was handled so, or memory ran out.
 pub record Handles {E : Type 0} (step : Device → Stepped) (result : Result (Option ℕ) E)
-    (old : Machine) (before : Store) (output : List ℕ)
-    (new : Machine) (after : Store) (written : List ℕ) : Type 0 where
-  pub ok : IfOk result (λ rule. Serves before.failures after.failures step rule
-      new after.disk output written)
-  pub err : OnErr result (GivesUp before.failures after.failures
-      old new before.disk after.disk output written)
+    (old new : Moment) : Type 0 where
+  pub ok : IfOk result (λ rule. Serves old.store.failures old.output step rule new)
+  pub err : OnErr result (GivesUp old new)
 
--- Memory ran out at one of these tasks: those before it were done, and it changed nothing.
-pub record Stops (failures_before failures_after : ℕ) (session : Session) (disk : Disk)
-    (tasks : List Task) (new : Machine) (now : Disk) (before after : List ℕ) : Type 0 where
+-- What the first tasks of a machine at work lead to, so many of them.
+abbrev pub first_done : ℕ → Device → Moment → Stepped
+first_done done device old =
+    done_first done device old.machine.session old.store.disk old.machine.tasks
+
+-- Memory ran out at one of its tasks: those before it were done, and it changed nothing.
+pub record Stops (old new : Moment) : Type 0 where
   pub done : ℕ
   pub device : Device
   -- the failures that were counted behind the last of them
   pub failures : ℕ
-  pub runs : RunsIn device failures_before (done_first done device session disk tasks).executed failures
-  pub rises : failures ≤ failures_after
-  pub machine : closed new ≡ closed (done_first done device session disk tasks).machine
-  pub disk_is : now ≡ (done_first done device session disk tasks).disk
-  pub output : after ≡ before ++ canon (done_first done device session disk tasks).answers
+  pub runs : RunsIn device old.store.failures (first_done done device old).executed failures
+  pub rises : failures ≤ new.store.failures
+  pub machine : closed new.machine ≡ closed (first_done done device old).machine
+  pub disk_is : new.store.disk ≡ (first_done done device old).disk
+  pub output : new.output ≡ old.output ++ canon (first_done done device old).answers
 
--- What was done with tasks in their turn, over a store.
-pub record Works {E : Type 0} (session : Session) (tasks : List Task) (result : Result (Option ℕ) E)
-    (before : Store) (output : List ℕ)
-    (new : Machine) (after : Store) (written : List ℕ) : Type 0 where
-  pub ok : IfOk result (λ rule. Serves before.failures after.failures
-      (λ device. done_in_turn device session before.disk tasks) rule
-      new after.disk output written)
-  pub err : OnErr result (Stops before.failures after.failures session before.disk tasks
-      new after.disk output written)
+-- What was done with its tasks in their turn, over a store.
+pub record Works {E : Type 0} (result : Result (Option ℕ) E) (old new : Moment) : Type 0 where
+  pub ok : IfOk result (λ rule. Serves old.store.failures old.output
+      (λ device. done_in_turn device old.machine.session old.store.disk old.machine.tasks) rule new)
+  pub err : OnErr result (Stops old new)
 
 -- Memory ran out at what comes of a PDU: at one of the tasks, or before anything was done.
-abbrev pub Halts : ℕ → ℕ → Machine → Disk → Next → Machine → Disk → List ℕ → List ℕ → Type 0
-Halts fb fa old disk (Queued session tasks) new now before after =
-    Stops fb fa session disk tasks new now before after
-Halts fb fa old disk _ new now before after = GivesUp fb fa old new disk now before after
+abbrev pub Halts : Next → Moment → Moment → Type 0
+Halts (Queued session tasks) old new =
+    Stops (moment (record { session = session; tasks = tasks }) old.store old.output) new
+Halts _ old new = GivesUp old new
 
 -- What was done with a PDU of which this comes, over a store.
-pub record Follows {E : Type 0} (next : Next) (result : Result (Option ℕ) E)
-    (old : Machine) (before : Store) (output : List ℕ)
-    (new : Machine) (after : Store) (written : List ℕ) : Type 0 where
-  pub ok : IfOk result (λ rule. Serves before.failures after.failures
-      (λ device. followed device old before.disk next) rule
-      new after.disk output written)
-  pub err : OnErr result (Halts before.failures after.failures old before.disk next
-      new after.disk output written)
+pub record Follows {E : Type 0} (next : Next) (result : Result (Option ℕ) E) (old new : Moment)
+    : Type 0 where
+  pub ok : IfOk result (λ rule. Serves old.store.failures old.output
+      (λ device. followed device old.machine old.store.disk next) rule new)
+  pub err : OnErr result (Halts next old new)
 
 -- Memory ran out at a message: at one of the tasks that it leads to, or before anything was done.
-abbrev pub HaltsAt : ℕ → ℕ → Machine → Disk → Message → Machine → Disk → List ℕ → List ℕ → Type 0
-HaltsAt fb fa old disk m new now before after =
-    GivesUp fb fa old new disk now before after
-    ⊎ ((old.session.phase ≡ phases.Full)
-    × Halts fb fa old disk (full_met old disk.count m).next new now before after)
+abbrev pub HaltsAt : Message → Moment → Moment → Type 0
+HaltsAt m old new =
+    GivesUp old new
+    ⊎ ((old.machine.session.phase ≡ phases.Full)
+    × Halts (full_met old.machine old.store.disk.count m).next old new)
 
 -- What was done with a message, over a store.
-pub record Answers {E : Type 0} (m : Message) (result : Result (Option ℕ) E)
-    (old : Machine) (before : Store) (output : List ℕ)
-    (new : Machine) (after : Store) (written : List ℕ) : Type 0 where
-  pub ok : IfOk result (λ rule. Serves before.failures after.failures
-      (λ device. step_on device old before.disk m) rule
-      new after.disk output written)
-  pub err : OnErr result (HaltsAt before.failures after.failures old before.disk m
-      new after.disk output written)
+pub record Answers {E : Type 0} (m : Message) (result : Result (Option ℕ) E) (old new : Moment)
+    : Type 0 where
+  pub ok : IfOk result (λ rule. Serves old.store.failures old.output
+      (λ device. step_on device old.machine old.store.disk m) rule new)
+  pub err : OnErr result (HaltsAt m old new)
 
 -- ---- the next PDU
 
@@ -194,45 +193,44 @@ connection machine framing = record { machine = machine; framing = framing }
 abbrev pub store_of : Disk → ℕ → Store
 store_of disk failures = record { disk = disk; failures = failures }
 
+-- The machine of a target at work.
+abbrev pub moment_of : Scene → Moment
+moment_of at = moment at.connection.machine at.store at.output
+
 -- No PDU is ready, and nothing was done.
-pub record IsUnready (old : Connection) (before : Store) (output : List ℕ)
-    (broken : Option ℕ) (new : Connection) (after : Store) (written : List ℕ) : Type 0 where
-  pub unready : is_ready old.framing ≡ false
-  pub connection_is : new ≡ old
-  pub store_is : after ≡ before
-  pub output_is : written ≡ output
+pub record IsUnready (old : Scene) (broken : Option ℕ) (new : Scene) : Type 0 where
+  pub unready : is_ready old.connection.framing ≡ false
+  pub connection_is : new.connection ≡ old.connection
+  pub store_is : new.store ≡ old.store
+  pub output_is : new.output ≡ old.output
   pub rule_is : broken ≡ None
 
 -- The PDU that is ready was answered, and the framer is free for the next one.
-pub record IsAnswered (old : Connection) (before : Store) (output : List ℕ)
-    (broken : Option ℕ) (new : Connection) (after : Store) (written : List ℕ) : Type 0 where
+pub record IsAnswered (old : Scene) (broken : Option ℕ) (new : Scene) : Type 0 where
   pub head : Head
   pub segment : List ℕ
-  pub means : Means old.framing.held head segment
-  pub framing_is : new.framing ≡ given_up old.framing head
-  pub serves : Serves before.failures after.failures
-      (λ device. step_on device old.machine before.disk (message_of old.framing head segment))
-      broken new.machine after.disk output written
+  pub means : Means old.connection.framing.held head segment
+  pub framing_is : new.connection.framing ≡ given_up old.connection.framing head
+  pub serves : Serves old.store.failures old.output
+      (λ device. step_on device old.connection.machine old.store.disk
+      (message_of old.connection.framing head segment)) broken (moment_of new)
 
 -- The PDU that is ready was answered, if one is.
-abbrev pub AnswersReady : Connection → Store → List ℕ → Option ℕ → Connection → Store → List ℕ
-    → Type 0
-AnswersReady old before output broken new after written =
-    IsUnready old before output broken new after written
-    ⊎ IsAnswered old before output broken new after written
+abbrev pub AnswersReady : Scene → Option ℕ → Scene → Type 0
+AnswersReady old broken new = IsUnready old broken new ⊎ IsAnswered old broken new
 
 -- Memory ran out at the PDU that is ready: the session is closed, and the PDU is dropped.
-pub record ShutsReady (old : Connection) (before : Store) (output : List ℕ)
-    (new : Connection) (after : Store) (written : List ℕ) : Type 0 where
+pub record ShutsReady (old new : Scene) : Type 0 where
   pub head : Head
   pub segment : List ℕ
-  pub means : Means old.framing.held head segment
-  pub unready : is_ready new.framing ≡ false
-  pub limit : new.framing.limit ≡ old.framing.limit
-  pub settings : new.machine.session.settings ≡ old.machine.session.settings
-  pub closed_ : new.machine ≡ closed new.machine
-  pub halts : HaltsAt before.failures after.failures old.machine before.disk
-      (message_of old.framing head segment) new.machine after.disk output written
+  pub means : Means old.connection.framing.held head segment
+  pub unready : is_ready new.connection.framing ≡ false
+  pub limit : new.connection.framing.limit ≡ old.connection.framing.limit
+  pub settings :
+      new.connection.machine.session.settings ≡ old.connection.machine.session.settings
+  pub closed_ : new.connection.machine ≡ closed new.connection.machine
+  pub halts : HaltsAt (message_of old.connection.framing head segment) (moment_of old)
+      (moment_of new)
 
 -- The rest of a stream is refused so.
 abbrev pub RestFails : Framing → List ℕ → TargetFault → Type 0
@@ -243,35 +241,34 @@ RestFails framing rest (faults.Protocol rule) = ⊥
 RestFails framing rest faults.Closed = ⊥
 
 -- Bytes were taken up to the end of a PDU or of the piece, and the PDU was answered if it is whole.
-pub record TakesOne (old : Connection) (before : Store) (output piece : List ℕ) (n : ℕ)
-    (broken : Option ℕ) (new : Connection) (after : Store) (written : List ℕ) : Type 0 where
+pub record TakesOne (old : Scene) (piece : List ℕ) (n : ℕ) (broken : Option ℕ) (new : Scene)
+    : Type 0 where
   pub framing : Framing
-  pub takes : Takes old.framing piece n framing
-  pub answers : AnswersReady (connection old.machine framing) before output broken new after written
+  pub takes : Takes old.connection.framing piece n framing
+  pub answers : AnswersReady
+      (scene (connection old.connection.machine framing) old.store old.output) broken new
 
 -- The bytes are refused: the session is closed.
-pub record AreRefused (old : Connection) (before : Store) (output piece : List ℕ)
-    (fault : TargetFault) (new : Connection) (after : Store) (written : List ℕ) : Type 0 where
-  pub fails : RestFails old.framing piece fault
-  pub machine : new.machine ≡ closed old.machine
-  pub store_is : after ≡ before
-  pub output_is : written ≡ output
+pub record AreRefused (old : Scene) (piece : List ℕ) (fault : TargetFault) (new : Scene)
+    : Type 0 where
+  pub fails : RestFails old.connection.framing piece fault
+  pub machine : new.connection.machine ≡ closed old.connection.machine
+  pub store_is : new.store ≡ old.store
+  pub output_is : new.output ≡ old.output
 
 -- Memory ran out at the PDU that they complete.
-pub record RunsOut (old : Connection) (before : Store) (output piece : List ℕ)
-    (fault : TargetFault) (new : Connection) (after : Store) (written : List ℕ) : Type 0 where
+pub record RunsOut (old : Scene) (piece : List ℕ) (fault : TargetFault) (new : Scene)
+    : Type 0 where
   pub memory : fault ≡ faults.NoMemory
   pub framing : Framing
   pub count : ℕ
-  pub takes : Takes old.framing piece count framing
-  pub shuts : ShutsReady (connection old.machine framing) before output new after written
+  pub takes : Takes old.connection.framing piece count framing
+  pub shuts : ShutsReady
+      (scene (connection old.connection.machine framing) old.store old.output) new
 
 -- Why no bytes could be taken, or no PDU answered.
-abbrev pub FailsOne : Connection → Store → List ℕ → List ℕ → TargetFault
-    → Connection → Store → List ℕ → Type 0
-FailsOne old before output piece fault new after written =
-    AreRefused old before output piece fault new after written
-    ⊎ RunsOut old before output piece fault new after written
+abbrev pub FailsOne : Scene → List ℕ → TargetFault → Scene → Type 0
+FailsOne old piece fault new = AreRefused old piece fault new ⊎ RunsOut old piece fault new
 
 -- A stream's `NoMemory` is the target's own.
 abbrev pub target_fault : StreamFault → TargetFault

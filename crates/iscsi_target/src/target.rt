@@ -6,7 +6,7 @@ ghost use Rattle.iscsi_stream.specs.Framing.{Takes, is_ready, stopped};
 ghost use Rattle.iscsi_target_session.specs.Session.{limit};
 ghost use Rattle.iscsi_target.specs.State.{closed};
 ghost use Rattle.iscsi_target.specs.Machine.{is_closed};
-ghost use Rattle.iscsi_target.specs.Feed.{opening_connection, Feeds, FeedsNext, Fed, FedNext, Finishes, HasAnswered};
+ghost use Rattle.iscsi_target.specs.Feed.{scene, opening_connection, Feeds, FeedsNext, Fed, FedNext, Finishes, HasAnswered};
 ghost use Rattle.iscsi_target_session.specs.Configured.{Settings};
 ghost use Rattle.scsi_disk.specs.Disk.{Disk};
 ghost use Rattle.scsi_disk.specs.Lasting.{Settled};
@@ -264,14 +264,14 @@ fn feed_one<S: BlockStore>(
     requires limit { framer.old.limit ≡ limit machine.old.session.settings }
     requires unready { is_ready framer.old ≡ false }
     requires live { is_closed machine.old ≡ false }
-    ensures ok { IfOk result (λ done. TakesOne (connection machine.old framer.old)
-        (store_of (S.disk store.old) (S.failures store.old)) out.old.items piece.now done.0 done.1
-        (connection machine.new framer.new)
-        (store_of (S.disk store.new) (S.failures store.new)) out.new.items) }
-    ensures err { IfErr result (λ fault. FailsOne (connection machine.old framer.old)
-        (store_of (S.disk store.old) (S.failures store.old)) out.old.items piece.now fault
-        (connection machine.new framer.new)
-        (store_of (S.disk store.new) (S.failures store.new)) out.new.items) }
+    ensures ok { IfOk result (λ done. TakesOne (scene (connection machine.old framer.old)
+        (store_of (S.disk store.old) (S.failures store.old)) out.old.items) piece.now done.0 done.1
+        (scene (connection machine.new framer.new)
+        (store_of (S.disk store.new) (S.failures store.new)) out.new.items)) }
+    ensures err { IfErr result (λ fault. FailsOne (scene (connection machine.old framer.old)
+        (store_of (S.disk store.old) (S.failures store.old)) out.old.items) piece.now fault
+        (scene (connection machine.new framer.new)
+        (store_of (S.disk store.new) (S.failures store.new)) out.new.items)) }
     ensures limit { framer.new.limit ≡ limit machine.new.session.settings }
     ensures unready { is_ready framer.new ≡ false }
     ensures crash { CrashesNext (connection machine.old framer.old) piece.now (S.disk store.old)
@@ -323,14 +323,14 @@ fn answer_ready<S: BlockStore>(
 ) -> Result<Option<u8>, AllocError>
     requires limit { framer.old.limit ≡ limit machine.old.session.settings }
     requires live { is_closed machine.old ≡ false }
-    ensures ok { IfOk result (λ rule. AnswersReady (connection machine.old framer.old)
-        (store_of (S.disk store.old) (S.failures store.old)) out.old.items rule
-        (connection machine.new framer.new)
-        (store_of (S.disk store.new) (S.failures store.new)) out.new.items) }
-    ensures err { OnErr result (ShutsReady (connection machine.old framer.old)
-        (store_of (S.disk store.old) (S.failures store.old)) out.old.items
-        (connection machine.new framer.new)
-        (store_of (S.disk store.new) (S.failures store.new)) out.new.items) }
+    ensures ok { IfOk result (λ rule. AnswersReady (scene (connection machine.old framer.old)
+        (store_of (S.disk store.old) (S.failures store.old)) out.old.items) rule
+        (scene (connection machine.new framer.new)
+        (store_of (S.disk store.new) (S.failures store.new)) out.new.items)) }
+    ensures err { OnErr result (ShutsReady (scene (connection machine.old framer.old)
+        (store_of (S.disk store.old) (S.failures store.old)) out.old.items)
+        (scene (connection machine.new framer.new)
+        (store_of (S.disk store.new) (S.failures store.new)) out.new.items)) }
     ensures crash { CrashesReady (connection machine.old framer.old) (S.disk store.old)
         (S.disk store.new) (S.kept store.old) (S.kept store.new) }
 {

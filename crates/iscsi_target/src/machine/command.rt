@@ -9,7 +9,7 @@ ghost use Rattle.iscsi_target.specs.State.{waiting};
 ghost use Rattle.iscsi_target.specs.Execution.{data_in_parts, sequence_parts, data_in_head, data_ins, command_answers, execute};
 ghost use Rattle.iscsi_target.specs.Command.{order_of, breaks_burst_rules, scsi_command};
 ghost use Rattle.iscsi_target.specs.Crash.{Crashes};
-ghost use Rattle.iscsi_target.specs.Inside.{Handles, TakePlaces, store_of};
+ghost use Rattle.iscsi_target.specs.Inside.{Handles, TakePlaces, moment, store_of};
 
 use super::Machine;
 use crate::response::response_head;
@@ -35,9 +35,9 @@ impl Machine {
         requires places { TakePlaces self.old.tasks }
         requires room { length self.old.tasks < 9 }
         ensures handles { Handles (λ device. scsi_command device self.old (S.disk store.old)
-            received.now command.now bytes.now)
-            result self.old (store_of (S.disk store.old) (S.failures store.old)) out.old.items
-            self.new (store_of (S.disk store.new) (S.failures store.new)) out.new.items }
+            received.now command.now bytes.now) result
+            (moment self.old (store_of (S.disk store.old) (S.failures store.old)) out.old.items)
+            (moment self.new (store_of (S.disk store.new) (S.failures store.new)) out.new.items) }
         ensures crash { Crashes ((order_of command.now, bytes.now) ∷ [])
             (S.disk store.old) (S.disk store.new) (S.kept store.old) (S.kept store.new) }
     {
@@ -114,9 +114,10 @@ impl Machine {
     ) -> Result<Option<u8>, AllocError>
         requires planned { planned ≡ plan_of order (S.disk store.old).count }
         requires gives { (n : ℕ) → plan_of order (S.disk store.old).count ≢ Plan.Take n }
-        ensures handles { Handles (λ device. execute device self.old (S.disk store.old) tag order [])
-            result self.old (store_of (S.disk store.old) (S.failures store.old)) out.old.items
-            self.new (store_of (S.disk store.new) (S.failures store.new)) out.new.items }
+        ensures handles { Handles
+            (λ device. execute device self.old (S.disk store.old) tag order []) result
+            (moment self.old (store_of (S.disk store.old) (S.failures store.old)) out.old.items)
+            (moment self.new (store_of (S.disk store.new) (S.failures store.new)) out.new.items) }
         ensures crash { Crashes []
             (S.disk store.old) (S.disk store.new) (S.kept store.old) (S.kept store.new) }
     {

@@ -12,7 +12,7 @@ ghost use Rattle.iscsi_target.specs.Machine.{is_due_kind, is_tag_of, tag_of, adv
 ghost use Rattle.iscsi_target_session.specs.Requests.{request_answered};
 ghost use Rattle.iscsi_target.specs.Laws.{cmd_sn_of};
 ghost use Rattle.iscsi_target.specs.Crash.{Crashes, command_in, command_of, commands_at, commands_by, commands_of};
-ghost use Rattle.iscsi_target.specs.Inside.{Leaves, Handles, Works, Follows, Answers, TakePlaces, refusal, store_of};
+ghost use Rattle.iscsi_target.specs.Inside.{Leaves, Handles, Works, Follows, Answers, TakePlaces, moment, refusal, store_of};
 
 use super::Machine;
 use crate::tasks::{Task, tag_of};
@@ -37,9 +37,9 @@ impl Machine {
     ) -> Result<Option<u8>, AllocError>
         requires within { is_over_limit self.old received.now.segment ≡ false }
         requires live { is_closed self.old ≡ false }
-        ensures answers { Answers received.now
-            result self.old (store_of (S.disk store.old) (S.failures store.old)) out.old.items
-            self.new (store_of (S.disk store.new) (S.failures store.new)) out.new.items }
+        ensures answers { Answers received.now result
+            (moment self.old (store_of (S.disk store.old) (S.failures store.old)) out.old.items)
+            (moment self.new (store_of (S.disk store.new) (S.failures store.new)) out.new.items) }
         ensures crash { Crashes (commands_at self.old (S.disk store.old).count received.now)
             (S.disk store.old) (S.disk store.new) (S.kept store.old) (S.kept store.new) }
     {
@@ -72,9 +72,10 @@ impl Machine {
         store: &mut S,
         out: &mut Vec<u8>,
     ) -> Result<Option<u8>, AllocError>
-        ensures follows { Follows (full_met self.old (S.disk store.old).count received.now).next
-            result self.old (store_of (S.disk store.old) (S.failures store.old)) out.old.items
-            self.new (store_of (S.disk store.new) (S.failures store.new)) out.new.items }
+        ensures follows { Follows
+            (full_met self.old (S.disk store.old).count received.now).next result
+            (moment self.old (store_of (S.disk store.old) (S.failures store.old)) out.old.items)
+            (moment self.new (store_of (S.disk store.new) (S.failures store.new)) out.new.items) }
         ensures crash { Crashes
             (commands_by (full_met self.old (S.disk store.old).count received.now).next)
             (S.disk store.old) (S.disk store.new) (S.kept store.old) (S.kept store.new) }
@@ -118,9 +119,10 @@ impl Machine {
         store: &mut S,
         out: &mut Vec<u8>,
     ) -> Result<Option<u8>, AllocError>
-        ensures follows { Follows (due_met self.old (S.disk store.old).count received.now received.now.head).next
-            result self.old (store_of (S.disk store.old) (S.failures store.old)) out.old.items
-            self.new (store_of (S.disk store.new) (S.failures store.new)) out.new.items }
+        ensures follows { Follows
+            (due_met self.old (S.disk store.old).count received.now received.now.head).next result
+            (moment self.old (store_of (S.disk store.old) (S.failures store.old)) out.old.items)
+            (moment self.new (store_of (S.disk store.new) (S.failures store.new)) out.new.items) }
         ensures crash { Crashes
             (commands_by (due_met self.old (S.disk store.old).count received.now
             received.now.head).next)
@@ -165,9 +167,10 @@ impl Machine {
         store: &mut S,
         out: &mut Vec<u8>,
     ) -> Result<Option<u8>, AllocError>
-        ensures follows { Follows (immediate self.old (S.disk store.old).count received.now).next
-            result self.old (store_of (S.disk store.old) (S.failures store.old)) out.old.items
-            self.new (store_of (S.disk store.new) (S.failures store.new)) out.new.items }
+        ensures follows { Follows
+            (immediate self.old (S.disk store.old).count received.now).next result
+            (moment self.old (store_of (S.disk store.old) (S.failures store.old)) out.old.items)
+            (moment self.new (store_of (S.disk store.new) (S.failures store.new)) out.new.items) }
         ensures crash { Crashes
             (commands_by (immediate self.old (S.disk store.old).count received.now).next)
             (S.disk store.old) (S.disk store.new) (S.kept store.old) (S.kept store.new) }
@@ -190,9 +193,10 @@ impl Machine {
         out: &mut Vec<u8>,
     ) -> Result<Option<u8>, AllocError>
         requires number { cmd_sn_of received.now.head ≡ Some cmd_sn }
-        ensures follows { Follows (in_turn self.old (S.disk store.old).count received.now cmd_sn).next
-            result self.old (store_of (S.disk store.old) (S.failures store.old)) out.old.items
-            self.new (store_of (S.disk store.new) (S.failures store.new)) out.new.items }
+        ensures follows { Follows
+            (in_turn self.old (S.disk store.old).count received.now cmd_sn).next result
+            (moment self.old (store_of (S.disk store.old) (S.failures store.old)) out.old.items)
+            (moment self.new (store_of (S.disk store.new) (S.failures store.new)) out.new.items) }
         ensures crash { Crashes
             (commands_by (in_turn self.old (S.disk store.old).count received.now cmd_sn).next)
             (S.disk store.old) (S.disk store.new) (S.kept store.old) (S.kept store.new) }
@@ -264,10 +268,11 @@ impl Machine {
         requires room { waiting self.old.tasks ≤ 7 }
         requires turn { self.old.tasks ≡ [] ⊎ (cmd_sn_of received.now.head ≢ None) }
         requires kept { refusal self.old received.now ≡ None }
-        ensures works { Works self.old.session
-            (self.old.tasks ++ task_of (S.disk store.old).count received.now ∷ [])
-            result (store_of (S.disk store.old) (S.failures store.old)) out.old.items
-            self.new (store_of (S.disk store.new) (S.failures store.new)) out.new.items }
+        ensures works { Works result (moment (record self.old {
+          tasks = self.old.tasks ++ task_of (S.disk store.old).count received.now ∷ [];
+        })
+            (store_of (S.disk store.old) (S.failures store.old)) out.old.items)
+            (moment self.new (store_of (S.disk store.new) (S.failures store.new)) out.new.items) }
         ensures crash { Crashes
             (commands_of (self.old.tasks ++ task_of (S.disk store.old).count received.now ∷ []))
             (S.disk store.old) (S.disk store.new) (S.kept store.old) (S.kept store.new) }
@@ -321,9 +326,9 @@ impl Machine {
         store: &mut S,
         out: &mut Vec<u8>,
     ) -> Result<Option<u8>, AllocError>
-        ensures works { Works self.old.session self.old.tasks
-            result (store_of (S.disk store.old) (S.failures store.old)) out.old.items
-            self.new (store_of (S.disk store.new) (S.failures store.new)) out.new.items }
+        ensures works { Works result
+            (moment self.old (store_of (S.disk store.old) (S.failures store.old)) out.old.items)
+            (moment self.new (store_of (S.disk store.new) (S.failures store.new)) out.new.items) }
         ensures crash { Crashes (commands_of self.old.tasks)
             (S.disk store.old) (S.disk store.new) (S.kept store.old) (S.kept store.new) }
     {
@@ -346,9 +351,9 @@ impl Machine {
     ) -> Result<Option<u8>, AllocError>
         requires places { TakePlaces self.old.tasks }
         requires room { length self.old.tasks < 9 }
-        ensures handles { Handles (λ device. begun device self.old (S.disk store.old) task)
-            result self.old (store_of (S.disk store.old) (S.failures store.old)) out.old.items
-            self.new (store_of (S.disk store.new) (S.failures store.new)) out.new.items }
+        ensures handles { Handles (λ device. begun device self.old (S.disk store.old) task) result
+            (moment self.old (store_of (S.disk store.old) (S.failures store.old)) out.old.items)
+            (moment self.new (store_of (S.disk store.new) (S.failures store.new)) out.new.items) }
         ensures crash { Crashes (command_of task)
             (S.disk store.old) (S.disk store.new) (S.kept store.old) (S.kept store.new) }
     {
@@ -368,9 +373,9 @@ impl Machine {
         requires places { TakePlaces self.old.tasks }
         requires room { length self.old.tasks < 9 }
         ensures handles { Handles (λ device. handled device self.old (S.disk store.old)
-            received.now received.now.head)
-            result self.old (store_of (S.disk store.old) (S.failures store.old)) out.old.items
-            self.new (store_of (S.disk store.new) (S.failures store.new)) out.new.items }
+            received.now received.now.head) result
+            (moment self.old (store_of (S.disk store.old) (S.failures store.old)) out.old.items)
+            (moment self.new (store_of (S.disk store.new) (S.failures store.new)) out.new.items) }
         ensures crash { Crashes (command_in received.now.head (segment_bytes received.now.segment))
             (S.disk store.old) (S.disk store.new) (S.kept store.old) (S.kept store.new) }
     {

@@ -12,7 +12,7 @@ ghost use Rattle.iscsi_target.specs.Transfer.{is_whole, is_idle, desired};
 ghost use Rattle.iscsi_target.specs.Command.{order_of, r2t_head, led_by, send_r2t, proceed, opened, breaks_rules, task_of};
 ghost use Rattle.iscsi_target.specs.Machine.{data_out};
 ghost use Rattle.iscsi_target.specs.Crash.{Crashes, commands_by};
-ghost use Rattle.iscsi_target.specs.Inside.{Leaves, Handles, Follows, TakePlaces, store_of};
+ghost use Rattle.iscsi_target.specs.Inside.{Leaves, Handles, Follows, TakePlaces, moment, store_of};
 
 use super::Machine;
 use super::command::order_of;
@@ -47,9 +47,9 @@ impl Machine {
         requires places { TakePlaces self.old.tasks }
         requires room { length self.old.tasks < 9 }
         ensures handles { Handles (λ device. proceed device self.old (S.disk store.old)
-            (opened command.now total bytes.now))
-            result self.old (store_of (S.disk store.old) (S.failures store.old)) out.old.items
-            self.new (store_of (S.disk store.new) (S.failures store.new)) out.new.items }
+            (opened command.now total bytes.now)) result
+            (moment self.old (store_of (S.disk store.old) (S.failures store.old)) out.old.items)
+            (moment self.new (store_of (S.disk store.new) (S.failures store.new)) out.new.items) }
         ensures crash { Crashes ((order_of command.now, bytes.now) ∷ [])
             (S.disk store.old) (S.disk store.new) (S.kept store.old) (S.kept store.new) }
     {
@@ -67,9 +67,10 @@ impl Machine {
     ) -> Result<Option<u8>, AllocError>
         requires places { TakePlaces self.old.tasks }
         requires room { length self.old.tasks < 9 }
-        ensures handles { Handles (λ device. proceed device self.old (S.disk store.old) write)
-            result self.old (store_of (S.disk store.old) (S.failures store.old)) out.old.items
-            self.new (store_of (S.disk store.new) (S.failures store.new)) out.new.items }
+        ensures handles { Handles
+            (λ device. proceed device self.old (S.disk store.old) write) result
+            (moment self.old (store_of (S.disk store.old) (S.failures store.old)) out.old.items)
+            (moment self.new (store_of (S.disk store.new) (S.failures store.new)) out.new.items) }
         ensures crash { Crashes ((write.order, data_of write.pieces) ∷ [])
             (S.disk store.old) (S.disk store.new) (S.kept store.old) (S.kept store.new) }
     {
@@ -93,9 +94,9 @@ impl Machine {
     ) -> Result<Option<u8>, AllocError>
         requires { is_whole write.now ≡ true }
         ensures handles { Handles (λ device. execute device self.old (S.disk store.old)
-            write.now.initiator_task_tag write.now.order write.now.pieces)
-            result self.old (store_of (S.disk store.old) (S.failures store.old)) out.old.items
-            self.new (store_of (S.disk store.new) (S.failures store.new)) out.new.items }
+            write.now.initiator_task_tag write.now.order write.now.pieces) result
+            (moment self.old (store_of (S.disk store.old) (S.failures store.old)) out.old.items)
+            (moment self.new (store_of (S.disk store.new) (S.failures store.new)) out.new.items) }
         ensures crash { Crashes ((write.now.order, data_of write.now.pieces) ∷ [])
             (S.disk store.old) (S.disk store.new) (S.kept store.old) (S.kept store.new) }
     {
@@ -162,9 +163,9 @@ impl Machine {
         out: &mut Vec<u8>,
     ) -> Result<Option<u8>, AllocError>
         requires { length bytes.now < 2 ^ 24 }
-        ensures follows { Follows (data_out self.old received.now head.now bytes.now)
-            result self.old (store_of (S.disk store.old) (S.failures store.old)) out.old.items
-            self.new (store_of (S.disk store.new) (S.failures store.new)) out.new.items }
+        ensures follows { Follows (data_out self.old received.now head.now bytes.now) result
+            (moment self.old (store_of (S.disk store.old) (S.failures store.old)) out.old.items)
+            (moment self.new (store_of (S.disk store.new) (S.failures store.new)) out.new.items) }
         ensures crash { Crashes (commands_by (data_out self.old received.now head.now bytes.now))
             (S.disk store.old) (S.disk store.new) (S.kept store.old) (S.kept store.new) }
     {

@@ -4,7 +4,8 @@ use Rattle.iscsi_stream.specs.Framing.{Framing, is_ready, message_of}
 use Rattle.iscsi_stream.specs.Stream.{Message, message}
 use Rattle.iscsi_stream.proofs.PassingLemmas.{unready_after}
 use Rattle.iscsi_target.specs.State.{Machine, closed}
-use Rattle.iscsi_target.specs.Inside.{HaltsAt}
+use Rattle.iscsi_target.specs.Feed.{Store}
+use Rattle.iscsi_target.specs.Inside.{Moment, store_of, moment, HaltsAt}
 use Rattle.iscsi_target.proofs.DispatchLemmas.{over_none}
 use Rattle.iscsi_target.proofs.OutOfMemoryLemmas.{halts_closed, halts_settings}
 use Rattle.iscsi_target.specs.Crash.{Crashes, commands_at}
@@ -22,9 +23,11 @@ returns-in-Err-clause-err g c =
     let continued : c.continued.result ≡ continues c.args.framer.now.logins c.in-Some.pdu.head = search rules in
     let same : m ≡ message_of c.args.framer.now c.in-Some.pdu.head c.in-Some.pdu.bytes.now =
     ap (λ (b : Bool). message b c.in-Some.pdu.head c.in-Some.pdu.bytes.now) continued in
-    let halts : HaltsAt (g.S.BlockStore.failures c.args.store.now) (g.S.BlockStore.failures c.answer_pdu.new.store) c.args.machine.now
-    (g.S.BlockStore.disk c.args.store.now) m c.answer_pdu.new.self (g.S.BlockStore.disk c.answer_pdu.new.store) c.args.out.now.items
-    c.answer_pdu.new.out.items = c.in-Err.ensures.answers.err in
+    let old : Moment = moment c.args.machine.now
+    (store_of (g.S.BlockStore.disk c.args.store.now) (g.S.BlockStore.failures c.args.store.now)) c.args.out.now.items in
+    let after : Store = store_of (g.S.BlockStore.disk c.answer_pdu.new.store) (g.S.BlockStore.failures c.answer_pdu.new.store) in
+    let new : Moment = moment c.answer_pdu.new.self after c.answer_pdu.new.out.items in
+    let halts : HaltsAt m old new = c.in-Err.ensures.answers.err in
     let within = over_none c.args.machine.now c.continued.result c.in-Some.pdu.head c.in-Some.pdu.bytes.now
     (subst (λ (n : ℕ). length c.in-Some.pdu.bytes.now ≤ n) c.requires.limit c.in-Some.ensures.within) in
     record {
@@ -33,20 +36,11 @@ returns-in-Err-clause-err g c =
       means = c.in-Some.ensures.means;
       unready = ap is_ready gone ∙ unready_after c.args.framer.now c.in-Some.pdu.head;
       limit = ap (λ (v : Framing). v.limit) gone;
-      settings = ap (λ (x : Machine). x.session.settings) c.close.ensures ∙ halts_settings (g.S.BlockStore.failures c.args.store.now)
-          (g.S.BlockStore.failures c.answer_pdu.new.store) c.args.machine.now (g.S.BlockStore.disk c.args.store.now) m c.answer_pdu.new.self
-          (g.S.BlockStore.disk c.answer_pdu.new.store) c.args.out.now.items c.answer_pdu.new.out.items c.requires.live within halts;
+      settings = ap (λ (x : Machine). x.session.settings) c.close.ensures ∙ halts_settings m old new c.requires.live within halts;
       closed_ = c.close.ensures ∙ ap closed (sym c.close.ensures);
-      halts = subst (λ (x : Machine). HaltsAt (g.S.BlockStore.failures c.args.store.now)
-          (g.S.BlockStore.failures c.answer_pdu.new.store) c.args.machine.now (g.S.BlockStore.disk c.args.store.now)
-          (message_of c.args.framer.now c.in-Some.pdu.head c.in-Some.pdu.bytes.now) x (g.S.BlockStore.disk c.answer_pdu.new.store) c.args.out.now.items
-          c.answer_pdu.new.out.items) (sym c.close.ensures)
-          (subst (λ (x : Message). HaltsAt (g.S.BlockStore.failures c.args.store.now)
-          (g.S.BlockStore.failures c.answer_pdu.new.store) c.args.machine.now (g.S.BlockStore.disk c.args.store.now) x (closed c.answer_pdu.new.self)
-          (g.S.BlockStore.disk c.answer_pdu.new.store) c.args.out.now.items c.answer_pdu.new.out.items) same
-          (halts_closed (g.S.BlockStore.failures c.args.store.now) (g.S.BlockStore.failures c.answer_pdu.new.store) c.args.machine.now
-          (g.S.BlockStore.disk c.args.store.now) m c.answer_pdu.new.self (g.S.BlockStore.disk c.answer_pdu.new.store) c.args.out.now.items
-          c.answer_pdu.new.out.items halts));
+      halts = subst (λ (x : Machine). HaltsAt (message_of c.args.framer.now c.in-Some.pdu.head c.in-Some.pdu.bytes.now) old
+          (moment x after c.answer_pdu.new.out.items)) (sym c.close.ensures)
+          (subst (λ (x : Message). HaltsAt x old (moment (closed c.answer_pdu.new.self) after c.answer_pdu.new.out.items)) same (halts_closed m old new halts));
     }
 
 pub returns-in-Ok-clause-crash : goal.returns-in-Ok-clause-crash

@@ -4,7 +4,7 @@ use Rattle.std.proofs.lemmas.Bool.{eqb-true, eqb-false}
 use Rattle.std.proofs.lemmas.List.{length-drop, take_rest}
 use Rattle.std.proofs.lemmas.Result.{err_from_is_err_and}
 use Rattle.iscsi_stream.proofs.PassingLemmas.{takes_some}
-use Rattle.iscsi_target.specs.Feed.{Connection, Store}
+use Rattle.iscsi_target.specs.Feed.{scene, Connection, Store}
 use Rattle.iscsi_target.specs.Inside.{connection, store_of}
 use Rattle.iscsi_target.proofs.PassedLemmas.{crashes_none, crashes_on, crashes_failed}
 use Rattle.iscsi_target.proofs.FeedInvariant.{GoesUpTo, fed_none, fed_one, ends_failed, ends_broken, ends_closed, ends_live}
@@ -86,7 +86,8 @@ loop-rest-preserved g c =
     let fed = fed_one old before out piece c.loop-rest.rest.now left now mid c.loop-rest.out.items c.in_ok-taken.taken c.in_ok-taken.broken new after
     c.feed_one.new.out.items c.loop-rest.invariant.0 c.in_ok-taken.ensures.ok refl in
     let none : c.in_ok-taken.broken ≡ None = search rules in (
-      subst (λ (x : List ℕ). GoesUpTo old before out piece x new after c.feed_one.new.out.items) (sym (take_rest c.loop-rest.rest.now c.in_ok-taken.taken))
+      subst (λ (x : List ℕ). GoesUpTo (scene old before out) piece x (scene new after c.feed_one.new.out.items))
+          (sym (take_rest c.loop-rest.rest.now c.in_ok-taken.taken))
           (record { fed = fed.fed; rule = fed.rule ∙ none; live = sym c.is_closed.ensures ∙ c.if-is_closed.false }),
       crashes_on old before out piece c.loop-rest.rest.now now mid c.loop-rest.out.items c.in_ok-taken.taken c.in_ok-taken.broken new after
           c.feed_one.new.out.items (g.S.BlockStore.kept c.args.store.now) (g.S.BlockStore.kept c.loop-rest.store) (g.S.BlockStore.kept c.feed_one.new.store)

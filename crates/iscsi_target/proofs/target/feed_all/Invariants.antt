@@ -2,13 +2,14 @@ use Rattle.std.proofs.Common.{length}
 use Rattle.iscsi_target.specs.Inside.{connection, store_of}
 use Rattle.iscsi_target.specs.Crash.{CrashesFed}
 use Rattle.iscsi_target.proofs.FeedInvariant.{GoesUpTo}
+use Rattle.iscsi_target.specs.Feed.{scene}
 use Rattle.iscsi_target.proofs.target.feed_all.Given as goal
 
 abbrev pub invariant-loop-rest : goal.invariant-loop-rest
 invariant-loop-rest g l =
-    GoesUpTo (connection l.initial.machine l.initial.framer)
-    (store_of (g.S.BlockStore.disk l.initial.store) (g.S.BlockStore.failures l.initial.store)) l.initial.out.items l.piece l.rest
-    (connection l.machine l.framer) (store_of (g.S.BlockStore.disk l.store) (g.S.BlockStore.failures l.store)) l.out.items
+    GoesUpTo (scene (connection l.initial.machine l.initial.framer)
+    (store_of (g.S.BlockStore.disk l.initial.store) (g.S.BlockStore.failures l.initial.store)) l.initial.out.items) l.piece l.rest
+    (scene (connection l.machine l.framer) (store_of (g.S.BlockStore.disk l.store) (g.S.BlockStore.failures l.store)) l.out.items)
     × CrashesFed (connection l.initial.machine l.initial.framer)
     (store_of (g.S.BlockStore.disk l.initial.store) (g.S.BlockStore.failures l.initial.store)) l.piece
     (store_of (g.S.BlockStore.disk l.store) (g.S.BlockStore.failures l.store)) (g.S.BlockStore.kept l.initial.store) (g.S.BlockStore.kept l.store)

@@ -2,7 +2,7 @@ use Rattle.std.proofs.Common.{List, ℕ, drop, refl, sym, ap, ◌∙◌, subst}
 use Rattle.iscsi_stream.specs.Framing.{Framing}
 use Rattle.iscsi_target_session.specs.Session.{limit}
 use Rattle.iscsi_target.specs.State.{Machine}
-use Rattle.iscsi_target.specs.Feed.{Connection, Store}
+use Rattle.iscsi_target.specs.Feed.{scene, Connection, Store}
 use Rattle.iscsi_target.specs.Inside.{connection, store_of, AnswersReady}
 use Rattle.iscsi_target.proofs.FeedInvariant.{fed_none, fed_one, stays_within}
 use Rattle.iscsi_target.specs.Crash.{CrashesNext}
@@ -17,8 +17,8 @@ returns-clause-ok g c =
     record {
       framing = c.take_bytes.new.framer;
       takes = c.in_ok-taken.ensures.ok;
-      answers = subst (λ (m : Machine). AnswersReady (connection m c.take_bytes.new.framer) before c.args.out.now.items c.in_ok-broken.broken new after
-          c.answer_ready.new.out.items)
+      answers = subst (λ (m : Machine). AnswersReady (scene (connection m c.take_bytes.new.framer) before c.args.out.now.items)
+          c.in_ok-broken.broken (scene new after c.answer_ready.new.out.items))
           c.in_ok-taken.ensures.kept c.in_ok-broken.ensures.ok;
     }
 

@@ -2,7 +2,7 @@ use Rattle.std.proofs.Common.{◌≡◌, inl, inr, ℕ, [], ◌∷◌, ◌++◌,
 use Rattle.iscsi_target.specs.declared.tasks.Task.{Task}
 use Rattle.iscsi_target.specs.State.{Machine, waiting, takes_place}
 use Rattle.iscsi_target.specs.Command.{task_of}
-use Rattle.iscsi_target.specs.Inside.{Works, store_of}
+use Rattle.iscsi_target.specs.Inside.{moment, Works, store_of}
 use Rattle.iscsi_target.proofs.TurnLemmas.{with_tasks}
 use Rattle.iscsi_target.proofs.WindowLemmas.{few_more, no_length}
 use Rattle.iscsi_target.proofs.ServingLemmas.{on_err}
@@ -52,9 +52,9 @@ returns-clause-works g c =
     ap (with_tasks c.self.inside.session) (c.push.ensures ∙ ap (λ (t : Task). c.self.inside.tasks ++ t ∷ []) task)
     ∙ ap (λ (x : Machine). with_tasks x.session (x.tasks ++ task_of (g.S.BlockStore.disk c.args.store.now).count c.args.received.now ∷ [])) c.self.view_is
     in
-    subst (λ (x : Machine). Works x.session x.tasks c.work_off.result (store_of (g.S.BlockStore.disk c.args.store.now)
-    (g.S.BlockStore.failures c.args.store.now)) c.args.out.now.items c.work_off.new.self (store_of (g.S.BlockStore.disk c.work_off.new.store)
-    (g.S.BlockStore.failures c.work_off.new.store)) c.work_off.new.out.items) pushed c.work_off.ensures.works
+    subst (λ (x : Machine). Works c.work_off.result (moment x (store_of (g.S.BlockStore.disk c.args.store.now)
+    (g.S.BlockStore.failures c.args.store.now)) c.args.out.now.items) (moment c.work_off.new.self (store_of (g.S.BlockStore.disk c.work_off.new.store)
+    (g.S.BlockStore.failures c.work_off.new.store)) c.work_off.new.out.items)) pushed c.work_off.ensures.works
 
 pub returns-then-len-eq0-clause-crash : goal.returns-then-len-eq0-clause-crash
 returns-then-len-eq0-clause-crash g c =

@@ -9,7 +9,7 @@ use Rattle.iscsi_target.specs.State.{breaks}
 use Rattle.iscsi_target_session.specs.Rejecting.{breach}
 use Rattle.iscsi_target.specs.Transfer.{received, is_in_sequence, with_data, joined_write}
 use Rattle.iscsi_target.specs.Machine.{data_out, write_of, with_write}
-use Rattle.iscsi_target.specs.Inside.{Leaves, Works, store_of}
+use Rattle.iscsi_target.specs.Inside.{moment, Leaves, Works, store_of}
 use Rattle.iscsi_target.proofs.TurnLemmas.{with_tasks}
 use Rattle.iscsi_target.proofs.TaskPlaceLemmas.{tag_found, with_same}
 use Rattle.iscsi_target.proofs.ServingLemmas.{answered_follows, dropped_follows, works_follow, on_err}
@@ -97,9 +97,9 @@ returns-clause-follows g c =
     (store_of (g.S.BlockStore.disk c.args.store.now) (g.S.BlockStore.failures c.args.store.now)) c.args.out.now.items c.work_off.new.self
     (store_of (g.S.BlockStore.disk c.work_off.new.store) (g.S.BlockStore.failures c.work_off.new.store)) c.work_off.new.out.items
     (ones_written (with_data c.in-Some.write c.args.head.now c.args.bytes.now) c.args.self.now.tasks)
-    (subst (λ (x : Machine). Works x.session x.tasks c.work_off.result (store_of (g.S.BlockStore.disk c.args.store.now)
-    (g.S.BlockStore.failures c.args.store.now)) c.args.out.now.items c.work_off.new.self (store_of (g.S.BlockStore.disk c.work_off.new.store)
-    (g.S.BlockStore.failures c.work_off.new.store)) c.work_off.new.out.items) whole c.work_off.ensures.works))
+    (subst (λ (x : Machine). Works c.work_off.result (moment x (store_of (g.S.BlockStore.disk c.args.store.now)
+    (g.S.BlockStore.failures c.args.store.now)) c.args.out.now.items) (moment c.work_off.new.self (store_of (g.S.BlockStore.disk c.work_off.new.store)
+    (g.S.BlockStore.failures c.work_off.new.store)) c.work_off.new.out.items)) whole c.work_off.ensures.works))
 
 pub returns-clause-crash : goal.returns-clause-crash
 returns-clause-crash g c =

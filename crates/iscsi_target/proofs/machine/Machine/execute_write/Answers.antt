@@ -5,7 +5,7 @@ use Rattle.iscsi_target.specs.Write.{Write}
 use Rattle.iscsi_target.specs.State.{waiting}
 use Rattle.iscsi_target.specs.Execution.{Device, execute}
 use Rattle.iscsi_target.specs.Transfer.{with_piece}
-use Rattle.iscsi_target.specs.Inside.{Serves}
+use Rattle.iscsi_target.specs.Inside.{store_of, moment, Serves}
 use Rattle.iscsi_target.proofs.OpenWriteLemmas.{data_of_one}
 use Rattle.iscsi_target.proofs.OrderLemmas.{write_gives_none}
 use Rattle.iscsi_target.proofs.ServingLemmas.{order_serves}
@@ -23,9 +23,9 @@ returns-clause-handles g c = record {
       let w = c.write.inside in
       let none : e.outcome.bytes ≡ [] = write_gives_none (g.S.BlockStore.failures c.args.store.now) fa (g.S.BlockStore.disk c.args.store.now) w.order
       c.deref.result.now e c.in_ok-outcome.ensures.ok c.write.invariant.is_write in
-      subst (λ (v : Write). Serves (g.S.BlockStore.failures c.args.store.now) fa
-      (λ (d : Device). execute d c.args.self.now (g.S.BlockStore.disk c.args.store.now) v.initiator_task_tag v.order v.pieces) None c.count.new.self now
-      c.args.out.now.items c.append_response.new.out.items) c.write.view_is
+      subst (λ (v : Write). Serves (g.S.BlockStore.failures c.args.store.now) c.args.out.now.items
+      (λ (d : Device). execute d c.args.self.now (g.S.BlockStore.disk c.args.store.now) v.initiator_task_tag v.order v.pieces) None
+      (moment c.count.new.self (store_of now fa) c.append_response.new.out.items)) c.write.view_is
       (order_serves (g.S.BlockStore.failures c.args.store.now) fa w.initiator_task_tag c.args.self.now (g.S.BlockStore.disk c.args.store.now) w.order
       (with_piece [] 0 w.data.items) e c.count.new.self now c.args.out.now.items c.append_response.new.out.items
       (subst (λ (bytes : List ℕ). Executes (g.S.BlockStore.failures c.args.store.now) fa (g.S.BlockStore.disk c.args.store.now) w.order bytes e)

@@ -8,7 +8,7 @@ use Rattle.iscsi_target.specs.State.{breaks}
 use Rattle.iscsi_target_session.specs.Rejecting.{breach}
 use Rattle.iscsi_target.specs.Command.{task_of}
 use Rattle.iscsi_target.specs.Machine.{advanced, in_turn}
-use Rattle.iscsi_target.specs.Inside.{Leaves, Works, refusal, store_of}
+use Rattle.iscsi_target.specs.Inside.{moment, Leaves, Works, refusal, store_of}
 use Rattle.iscsi_target.proofs.WindowLemmas.{room_within}
 use Rattle.iscsi_target.proofs.ServingLemmas.{answered_follows, dropped_follows, works_follow, on_err}
 use Rattle.iscsi_target.proofs.DispatchLemmas.{outside, out_of_turn, inside, admitted_some, admitted_none, turned_back, any_ok}
@@ -51,10 +51,11 @@ returns-in_default-clause-follows g c =
     (store_of (g.S.BlockStore.disk c.admit.new.store) (g.S.BlockStore.failures c.admit.new.store)) c.admit.new.out.items
     (sym (inside c.args.self.now (g.S.BlockStore.disk c.args.store.now).count c.args.received.now c.args.cmd_sn c.is_within.result c.is_within.ensures
     c.if-not-is_within.false same) ∙ admitted_none (advanced c.args.self.now) (g.S.BlockStore.disk c.args.store.now).count c.args.received.now kept)
-    (subst (λ (x : Machine). Works x.session (x.tasks ++ task_of (g.S.BlockStore.disk c.args.store.now).count c.args.received.now ∷ []) c.admit.result
-    (store_of (g.S.BlockStore.disk c.args.store.now) (g.S.BlockStore.failures c.args.store.now)) c.args.out.now.items c.admit.new.self
-    (store_of (g.S.BlockStore.disk c.admit.new.store)
-    (g.S.BlockStore.failures c.admit.new.store)) c.admit.new.out.items) c.advance.ensures c.admit.ensures.works)
+    (subst (λ (x : Machine). Works c.admit.result
+    (moment (with_tasks x.session (x.tasks ++ task_of (g.S.BlockStore.disk c.args.store.now).count c.args.received.now ∷ []))
+    (store_of (g.S.BlockStore.disk c.args.store.now) (g.S.BlockStore.failures c.args.store.now)) c.args.out.now.items)
+    (moment c.admit.new.self (store_of (g.S.BlockStore.disk c.admit.new.store)
+    (g.S.BlockStore.failures c.admit.new.store)) c.admit.new.out.items)) c.advance.ensures c.admit.ensures.works)
 
 pub returns-then-is_err-clause-follows : goal.returns-then-is_err-clause-follows
 returns-then-is_err-clause-follows g c =

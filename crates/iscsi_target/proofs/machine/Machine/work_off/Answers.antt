@@ -1,29 +1,34 @@
-use Rattle.std.proofs.Common.{◌≡◌, ◌∷◌, true, length, sym, ap, ◌∙◌, rules}
-use Rattle.std.specs.Prelude.{◌||◌, nat_lt}
+use Rattle.std.proofs.Common.{◌≡◌, ◌∷◌, List, true, length, sym, ap, ◌∙◌, subst, rules}
+use Rattle.std.specs.Prelude.{◌||◌, nat_lt, None, Ok}
 use Rattle.std.specs.declared.alloc.AllocError.{AllocError}
 use Rattle.iscsi_target.specs.Machine.{is_closed}
-use Rattle.iscsi_target.specs.Inside.{store_of}
+use Rattle.iscsi_target.specs.declared.tasks.Task.{Task}
+use Rattle.iscsi_target.specs.Inside.{Moment, Works, moment, store_of}
 use Rattle.iscsi_target.specs.Crash.{commands_of}
 use Rattle.iscsi_target.proofs.CrashLemmas.{goes_first, task_done, tasks_left}
 use Rattle.iscsi_target.proofs.ServingLemmas.{on_err}
 use Rattle.iscsi_target.proofs.TurnLemmas.{with_tasks}
-use Rattle.iscsi_target.proofs.TaskRunLemmas.{Goes, left_behind, goes_start, goes_then, goes_stop, goes_short, goes_end, either}
+use Rattle.iscsi_target.proofs.TaskRunLemmas.{Goes, at_tasks, left_behind, goes_start, goes_then, goes_stop, goes_short, goes_end, either}
 use Rattle.iscsi_target.proofs.machine.Machine.work_off.Goals as goal
 use Rattle.iscsi_target.proofs.machine.Machine.work_off.Goals.{then-is_closed-via-then-is_closed, then-is_closed-via-else-is_closed+then-len-behind}
 
 pub loop-task-init : goal.loop-task-init
 loop-task-init g c = record {
-  works = goes_start c.args.self.now (store_of (g.S.BlockStore.disk c.args.store.now) (g.S.BlockStore.failures c.args.store.now)) c.args.out.now.items;
+  works = goes_start (moment c.args.self.now (store_of (g.S.BlockStore.disk c.args.store.now) (g.S.BlockStore.failures c.args.store.now))
+      c.args.out.now.items);
   crash = goes_first (commands_of c.args.self.now.tasks) (g.S.BlockStore.disk c.args.store.now) (g.S.BlockStore.kept c.args.store.now);
 }
 
 pub returns-in_err-broken-clause-works : goal.returns-in_err-broken-clause-works
 returns-in_err-broken-clause-works g c =
-    let h = goes_short c.in_err-broken.field-0.0 c.args.self.now c.loop-task.self c.begin.new.self (store_of (g.S.BlockStore.disk c.args.store.now)
-    (g.S.BlockStore.failures c.args.store.now)) (store_of (g.S.BlockStore.disk c.loop-task.store) (g.S.BlockStore.failures c.loop-task.store))
-    (store_of (g.S.BlockStore.disk c.begin.new.store) (g.S.BlockStore.failures c.begin.new.store)) c.args.out.now.items c.loop-task.out.items
-    c.begin.new.out.items
-    c.self.inside.session c.in-Some.task c.take_first.new.self c.loop-task.invariant.works (sym c.self.view_is
+    let old : Moment = moment c.args.self.now (store_of (g.S.BlockStore.disk c.args.store.now) (g.S.BlockStore.failures c.args.store.now)) c.args.out.now.items
+    in
+    let now : Moment = moment c.loop-task.self (store_of (g.S.BlockStore.disk c.loop-task.store) (g.S.BlockStore.failures c.loop-task.store))
+    c.loop-task.out.items in
+    let new : Moment = moment c.begin.new.self (store_of (g.S.BlockStore.disk c.begin.new.store) (g.S.BlockStore.failures c.begin.new.store))
+    c.begin.new.out.items in
+    let h = goes_short c.in_err-broken.field-0.0 old now new c.self.inside.session c.in-Some.task c.take_first.new.self c.loop-task.invariant.works
+    (sym c.self.view_is
     ∙ ap (with_tasks c.self.inside.session) c.in-Some.ensures.some) c.in_err-broken.ensures.handles.err in
     record { ok = search rules; err = on_err c.from_residual.result h.err }
 
@@ -34,33 +39,34 @@ returns-then-is_closed-clause-works g c =
           (sym c.is_closed.ensures ∙ w.if-is_closed.true)
       | then-is_closed-via-else-is_closed+then-len-behind w ↦ search rules
     ] in
-    goes_stop AllocError c.args.self.now c.loop-task.self c.begin.new.self (store_of (g.S.BlockStore.disk c.args.store.now)
-    (g.S.BlockStore.failures c.args.store.now)) (store_of (g.S.BlockStore.disk c.loop-task.store) (g.S.BlockStore.failures c.loop-task.store))
-    (store_of (g.S.BlockStore.disk c.begin.new.store) (g.S.BlockStore.failures c.begin.new.store)) c.args.out.now.items c.loop-task.out.items
-    c.begin.new.out.items
-    c.self.inside.session c.in-Some.task c.take_first.new.self c.in_ok-broken.broken c.loop-task.invariant.works (sym c.self.view_is
+    let old : Moment = moment c.args.self.now (store_of (g.S.BlockStore.disk c.args.store.now) (g.S.BlockStore.failures c.args.store.now)) c.args.out.now.items
+    in
+    let now : Moment = moment c.loop-task.self (store_of (g.S.BlockStore.disk c.loop-task.store) (g.S.BlockStore.failures c.loop-task.store))
+    c.loop-task.out.items in
+    let new : Moment = moment c.begin.new.self (store_of (g.S.BlockStore.disk c.begin.new.store) (g.S.BlockStore.failures c.begin.new.store))
+    c.begin.new.out.items in
+    goes_stop AllocError old now new c.self.inside.session c.in-Some.task c.take_first.new.self c.in_ok-broken.broken c.loop-task.invariant.works
+    (sym c.self.view_is
     ∙ ap (with_tasks c.self.inside.session) c.in-Some.ensures.some) c.in_ok-broken.ensures.handles.ok stop
 
 pub loop-task-preserved : goal.loop-task-preserved
 loop-task-preserved g c =
     let is : c.loop-task.self ≡ with_tasks c.self.inside.session (c.in-Some.task ∷ c.take_first.new.self) =
     sym c.self.view_is ∙ ap (with_tasks c.self.inside.session) c.in-Some.ensures.some in
-    let step : Goes (g.S.BlockStore.failures c.loop-task.store) (g.S.BlockStore.failures c.begin.new.store) c.self.inside.session
-    (g.S.BlockStore.disk c.loop-task.store) c.in-Some.task c.take_first.new.self c.in_ok-broken.broken c.begin.new.self
-    (g.S.BlockStore.disk c.begin.new.store) c.loop-task.out.items c.begin.new.out.items =
+    let old : Moment = moment c.args.self.now (store_of (g.S.BlockStore.disk c.args.store.now) (g.S.BlockStore.failures c.args.store.now)) c.args.out.now.items
+    in
+    let now : Moment = moment c.loop-task.self (store_of (g.S.BlockStore.disk c.loop-task.store) (g.S.BlockStore.failures c.loop-task.store))
+    c.loop-task.out.items in
+    let new : Moment = moment c.begin.new.self (store_of (g.S.BlockStore.disk c.begin.new.store) (g.S.BlockStore.failures c.begin.new.store))
+    c.begin.new.out.items in
+    let taken : Moment = at_tasks now c.self.inside.session c.take_first.new.self in
+    let step : Goes taken c.in-Some.task c.in_ok-broken.broken new =
     record { serves = c.in_ok-broken.ensures.handles.ok; live = sym c.is_closed.ensures ∙ c.if-is_closed.false; done = search rules } in
     record {
-      works = goes_then c.args.self.now c.loop-task.self c.begin.new.self (store_of (g.S.BlockStore.disk c.args.store.now)
-          (g.S.BlockStore.failures c.args.store.now))
-          (store_of (g.S.BlockStore.disk c.loop-task.store) (g.S.BlockStore.failures c.loop-task.store))
-          (store_of (g.S.BlockStore.disk c.begin.new.store) (g.S.BlockStore.failures c.begin.new.store)) c.args.out.now.items c.loop-task.out.items
-          c.begin.new.out.items
-          c.self.inside.session c.in-Some.task c.take_first.new.self c.in_ok-broken.broken c.loop-task.invariant.works is step;
+      works = goes_then old now new c.self.inside.session c.in-Some.task c.take_first.new.self c.in_ok-broken.broken c.loop-task.invariant.works is step;
       crash = tasks_left (commands_of c.args.self.now.tasks) c.take_first.new.self c.begin.new.self.tasks (g.S.BlockStore.disk c.args.store.now)
           (g.S.BlockStore.disk c.begin.new.store) (g.S.BlockStore.kept c.args.store.now) (g.S.BlockStore.kept c.begin.new.store)
-          (left_behind (g.S.BlockStore.failures c.loop-task.store) (g.S.BlockStore.failures c.begin.new.store) c.self.inside.session
-          (g.S.BlockStore.disk c.loop-task.store) c.in-Some.task c.take_first.new.self c.in_ok-broken.broken c.begin.new.self
-          (g.S.BlockStore.disk c.begin.new.store) c.loop-task.out.items c.begin.new.out.items step)
+          (left_behind taken c.in-Some.task c.in_ok-broken.broken new step)
           (task_done (commands_of c.args.self.now.tasks) c.loop-task.self c.self.inside.session c.in-Some.task c.take_first.new.self
           (g.S.BlockStore.disk c.args.store.now) (g.S.BlockStore.disk c.loop-task.store) (g.S.BlockStore.disk c.begin.new.store)
           (g.S.BlockStore.kept c.args.store.now) (g.S.BlockStore.kept c.loop-task.store) (g.S.BlockStore.kept c.begin.new.store) is
@@ -69,11 +75,14 @@ loop-task-preserved g c =
 
 pub returns-clause-works : goal.returns-clause-works
 returns-clause-works g c =
-    goes_end AllocError c.args.self.now c.loop-task.self (with_tasks c.self.inside.session c.take_first.new.self)
-    (store_of (g.S.BlockStore.disk c.args.store.now) (g.S.BlockStore.failures c.args.store.now))
-    (store_of (g.S.BlockStore.disk c.loop-task.store) (g.S.BlockStore.failures c.loop-task.store)) c.args.out.now.items c.loop-task.out.items
-    c.self.inside.session c.loop-task.invariant.works (sym c.self.view_is ∙ ap (with_tasks c.self.inside.session) c.in_default.ensures.none)
-    (ap (with_tasks c.self.inside.session) (c.in_default.ensures.kept ∙ c.in_default.ensures.none))
+    let old : Moment = moment c.args.self.now (store_of (g.S.BlockStore.disk c.args.store.now) (g.S.BlockStore.failures c.args.store.now)) c.args.out.now.items
+    in
+    let now : Moment = moment c.loop-task.self (store_of (g.S.BlockStore.disk c.loop-task.store) (g.S.BlockStore.failures c.loop-task.store))
+    c.loop-task.out.items in
+    subst (λ (tasks : List Task). Works {E = AllocError} (Ok None) old (at_tasks now c.self.inside.session tasks))
+    (sym (c.in_default.ensures.kept ∙ c.in_default.ensures.none))
+    (goes_end AllocError old now c.self.inside.session c.loop-task.invariant.works (sym c.self.view_is
+    ∙ ap (with_tasks c.self.inside.session) c.in_default.ensures.none))
 
 pub returns-in_err-broken-clause-crash : goal.returns-in_err-broken-clause-crash
 returns-in_err-broken-clause-crash g c =

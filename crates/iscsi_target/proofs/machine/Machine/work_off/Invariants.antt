@@ -1,6 +1,6 @@
 use Rattle.std.proofs.Common.{length}
 use Rattle.std.specs.declared.alloc.AllocError.{AllocError}
-use Rattle.iscsi_target.specs.Inside.{store_of}
+use Rattle.iscsi_target.specs.Inside.{moment, store_of}
 use Rattle.iscsi_target.specs.Crash.{commands_of}
 use Rattle.iscsi_target.proofs.CrashLemmas.{Pends}
 use Rattle.iscsi_target.proofs.TaskRunLemmas.{GoesOn}
@@ -8,9 +8,8 @@ use Rattle.iscsi_target.proofs.machine.Machine.work_off.Given as goal
 
 abbrev pub invariant-loop-task : goal.invariant-loop-task
 invariant-loop-task g l = record {
-  works : GoesOn AllocError l.initial.self (store_of (g.S.BlockStore.disk l.initial.store) (g.S.BlockStore.failures l.initial.store))
-      l.initial.out.items
-      l.self (store_of (g.S.BlockStore.disk l.store) (g.S.BlockStore.failures l.store)) l.out.items;
+  works : GoesOn AllocError (moment l.initial.self (store_of (g.S.BlockStore.disk l.initial.store) (g.S.BlockStore.failures l.initial.store))
+      l.initial.out.items) (moment l.self (store_of (g.S.BlockStore.disk l.store) (g.S.BlockStore.failures l.store)) l.out.items);
   crash : Pends (commands_of l.initial.self.tasks) (commands_of l.self.tasks) (g.S.BlockStore.disk l.initial.store) (g.S.BlockStore.disk l.store)
       (g.S.BlockStore.kept l.initial.store) (g.S.BlockStore.kept l.store);
 }
