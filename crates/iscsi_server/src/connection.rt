@@ -3,8 +3,6 @@
 ghost use Rattle.std.specs.Prelude.{◌≤◌, length};
 ghost use Rattle.iscsi_server.specs.Moving.{MovesAtMost};
 
-use crate::system::watch_writes;
-use mio::Poll;
 use mio::event::Event;
 use mio::net::TcpStream;
 use std::io::{self, ErrorKind, Read, Write};
@@ -30,9 +28,6 @@ pub struct Connection {
     stream: TcpStream,
     is_readable: bool,
     is_writable: bool,
-    // the system was asked to tell when a write may take something: asked for all the time, it would
-    // tell with each read
-    is_asked: bool,
     // the peer sends no more: no event comes for that again
     is_half_closed: bool,
     accepted: Instant,
@@ -46,7 +41,6 @@ impl Connection {
             stream,
             is_readable: true,
             is_writable: true,
-            is_asked: false,
             is_half_closed: false,
             accepted: now,
             moved: now,
@@ -59,17 +53,6 @@ impl Connection {
         self.is_half_closed |= is_broken || event.is_read_closed();
         self.is_readable |= event.is_readable() || self.is_half_closed;
         self.is_writable |= event.is_writable() || event.is_write_closed() || is_broken;
-    }
-
-    /// Has the system tell when a write may take something again, where the last one took nothing,
-    /// and else not. Says whether it will.
-    pub fn follow(&mut self, poll: &Poll, seat: usize) -> bool {
-        let writes = !self.is_writable;
-        if writes == self.is_asked {
-            return true;
-        }
-        self.is_asked = writes;
-        watch_writes(poll, &mut self.stream, seat, writes)
     }
 
     /// Whether a read may give something.
@@ -109,6 +92,8 @@ impl Connection {
         match self.stream.write(bytes) {
             Ok(0) => Moved::End,
             Ok(count) => {
+                // A short write has filled the socket, and the system tells when it has room again.
+                self.is_writable = count == bytes.len();
                 self.moved = now;
                 Moved::Bytes(count)
             }

@@ -10,7 +10,6 @@ use crate::session_end::SessionEnd;
 use iscsi_hall::{Hall, MOST_READ};
 use iscsi_login::Phase;
 use iscsi_target::TargetFault;
-use mio::Poll;
 use scsi_disk::BlockStore;
 use std::alloc::{AllocError, Global};
 use std::time::Instant;
@@ -18,7 +17,7 @@ use std::time::Instant;
 /// How many reads, PDUs and writes a seat has in a turn, before the others have theirs.
 const STEPS: usize = 64;
 /// A write of so many bytes ends a turn, too.
-const LONG_WRITE: usize = 65_536;
+const LONG_WRITE: usize = 262_144;
 
 /// The peer of a seat.
 #[derive(Drop)]
@@ -62,7 +61,7 @@ impl Peer {
         }
     }
 
-    /// A turn of its session: at most 64 reads, PDUs and writes, and no more behind a write of 65,536
+    /// A turn of its session: at most 64 reads, PDUs and writes, and no more behind a write of 262,144
     /// bytes. What is read goes through `buffer`. Says whether the session is over; where that is
     /// for a fault, it is kept as its end.
     #[tactic(auto, using(crate::proofs::ExecutedLemmas::none_executed))]
@@ -98,16 +97,6 @@ impl Peer {
             }
             None => false,
         }
-    }
-
-    /// Has the system tell when it may write again, where that is waited for. Says whether it will;
-    /// where not, that is kept as its end.
-    pub fn is_followed(&mut self, poll: &Poll, seat: usize) -> bool {
-        let is = self.connection.follow(poll, seat);
-        if !is {
-            self.end_by(SessionEnd::Write);
-        }
-        is
     }
 
     /// Keeps why the session ends, unless there was a reason before.

@@ -273,8 +273,7 @@ impl<'a> Server<'a> {
         };
         let was = self.hall.phase(seat);
         let is_over = peer.turn(&mut self.hall, store, seat, now, &mut self.buffer)
-            || peer.is_late(&self.options.limits, self.hall.phase(seat), now)
-            || !peer.is_followed(&self.poll, seat);
+            || peer.is_late(&self.options.limits, self.hall.phase(seat), now);
         if is_over {
             let end = peer.end;
             self.dismiss(rt, seat, end);

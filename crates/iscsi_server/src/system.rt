@@ -29,24 +29,14 @@ pub fn listen(rt: &HostRuntime, address: SocketAddr) -> Result<(Poll, TcpListene
     }
 }
 
-/// Has the system tell of a connection, under the number of its seat. Says whether it will.
+/// Has the system tell when a connection may be read again, or written again, under the number of its
+/// seat. Says whether it will.
 pub fn watch(poll: &Poll, stream: &mut TcpStream, seat: usize) -> bool {
     // An answer waits for no other one; where the system refuses this, it is only slower.
     let _ = stream.set_nodelay(true);
+    let interest = Interest::READABLE | Interest::WRITABLE;
     poll.registry()
-        .register(stream, Token(seat), Interest::READABLE)
-        .is_ok()
-}
-
-/// Has the system tell of a connection's reads alone, or of its writes too. Says whether it will.
-pub fn watch_writes(poll: &Poll, stream: &mut TcpStream, seat: usize, writes: bool) -> bool {
-    let interest = if writes {
-        Interest::READABLE | Interest::WRITABLE
-    } else {
-        Interest::READABLE
-    };
-    poll.registry()
-        .reregister(stream, Token(seat), interest)
+        .register(stream, Token(seat), interest)
         .is_ok()
 }
 
