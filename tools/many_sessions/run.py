@@ -6,7 +6,7 @@
 PROGRAM is crates/lanthovur/out/lanthovur if none is named; `./lanthovur </dev/null` builds it. All is done on 127.0.0.1. It
 wants iscsi-perf and iscsi-inq (Debian: libiscsi-bin) and qemu-img and qemu-io (qemu-utils, qemu-block-extra); what isn't
 installed is skipped, with a word. With --figures it also measures what memory 64 sessions take and how many commands a
-second are answered, by tools/speed/speed.c (cc, libiscsi-dev), which takes three minutes. The last line is 'N passed, M failed,
+second are answered, by tools/speed/speed.c (cc, libiscsi-dev), which takes four minutes. The last line is 'N passed, M failed,
 K skipped'.
 """
 import importlib.util
@@ -25,8 +25,9 @@ import time
 TOP = os.path.dirname(os.path.dirname(os.path.dirname(os.path.abspath(__file__))))
 # A process that takes longer hangs.
 SECONDS = 60
-# How often each way to serve is measured, in turn.
-ROUNDS = 9
+# How often each way to serve is measured, in turn, and for how long each time.
+ROUNDS = 15
+RUN = "0.4"
 NAME = "iqn.2026-01.example:disk"
 BLOCKS = 8192
 # The longest transfer, and the longest segment that the target takes, in bytes.
@@ -419,10 +420,19 @@ def memory_figures(program):
     print(f"resident MB: {empty:.1f} with no session, {', '.join(said)}")
 
 
-def rates(speed, services, size, depth):
-    """Reads and writes a second of clients at once, one for each service named, added up."""
-    clients = [start(speed, service.url, str(size), "0.5", str(depth)) for service in services]
-    said = [client.communicate(timeout=SECONDS)[0].decode() for client in clients]
+def pin(process, number):
+    """Keeps a process on one processor, where there are three, so that runs differ less by where they run."""
+    if os.cpu_count() > 2:
+        os.sched_setaffinity(process.pid, {number})
+    return process
+
+
+def rates(speed, service, clients, size, depth):
+    """Reads and writes a second of so many clients at once, added up."""
+    pin(service.process, 0)
+    words = (speed, service.url, str(size), RUN, str(depth))
+    running = [pin(start(*words), 1 + number) for number in range(clients)]
+    said = [client.communicate(timeout=SECONDS)[0].decode() for client in running]
     both = [[float(n) for n in re.findall(r"([0-9]+) IOPS", text)] for text in said]
     return [sum(kind) for kind in zip(*both)]
 
@@ -434,7 +444,7 @@ def middle(numbers):
 
 def speed_figures(program, room):
     """Reads and writes a second of one client with and without --at-once, and of two at once: the ratios of runs that follow
-    each other, and the medians."""
+    each other, in turn in this order and the other one, and the medians."""
     speed = f"{room}/speed"
     built = subprocess.run(["cc", "-O2", "-o", speed, f"{TOP}/tools/speed/speed.c", "-liscsi"], stderr=subprocess.DEVNULL)
     if built.returncode:
@@ -444,10 +454,10 @@ def speed_figures(program, room):
     print("| | Alone | At once, of that | Two, of one at once |\n|---|---|---|---|")
     for size, depth in ((4096, 1), (4096, 8), (65536, 1), (65536, 8)):
         seen = {name: [] for name, _, _ in ways}
-        for _ in range(ROUNDS):
-            for name, words, clients in ways:
+        for number in range(ROUNDS):
+            for name, words, clients in ways if number % 2 else ways[::-1]:
                 with Service(program, 100, *words) as service:
-                    seen[name].append(rates(speed, [service] * clients, size, depth))
+                    seen[name].append(rates(speed, service, clients, size, depth))
         for kind, what in enumerate(("reads", "writes")):
             alone, one, two = ([rate[kind] for rate in seen[name]] for name, _, _ in ways)
             cells = [f"{statistics.median(alone):,.0f}"]
