@@ -280,6 +280,27 @@ def unread_answers(program, room):
     return (is_served and memory < 40 and seen == (b"listening\n", b"session: idle\n", 0)) or (is_served, memory, seen)
 
 
+def late_reader(program, room):
+    """A peer asks for much and reads nothing until its socket is full; then it reads all of it."""
+    with Service(program, 1, "--at-once", "1") as service:
+        with service.peer() as peer:
+            log_in(peer)
+            ask_much(peer)
+            time.sleep(1)
+            left, answered = 8 * MOST, 0
+            while left > 0 or answered < 8:
+                head = received(peer, 48)
+                # Data-In, or a command's response behind its data
+                if len(head) < 48 or head[0] not in (0x25, 0x21):
+                    return f"{left} bytes are lacking before {head.hex(' ', 4)}"
+                length = int.from_bytes(head[5:8], "big")
+                if received(peer, length) != bytes(length):
+                    return "other data"
+                left -= length
+                answered += head[0] == 0x21
+    return left == 0
+
+
 def sixty_four(program, room):
     """64 sessions at once, and one more, which waits until another one logs out."""
     with Service(program, 65, "--at-once", "64") as service:
@@ -362,6 +383,7 @@ CASES = [
     (byte_by_byte, ["iscsi-inq"]),
     (broken_rule, []),
     (unread_answers, ["iscsi-inq"]),
+    (late_reader, []),
     (sixty_four, []),
     (same_port, []),
     (as_before, []),
