@@ -11,7 +11,7 @@ use Rattle.iscsi_text.specs.declared.key.KeyKind.{KeyKind}
 use Rattle.iscsi_text.specs.declared.key.KeyKind.TheVariants as kinds
 use Rattle.iscsi_text.specs.Key.{kind_of, is_among, IsKey}
 use Rattle.iscsi_text.specs.Numeral.{Spells, canonical_number}
-use Rattle.iscsi_text.specs.Value.{Typed, Means, value_text, boolean_text}
+use Rattle.iscsi_text.specs.Value.{Typed, Means, boolean_text}
 use Rattle.iscsi_text.specs.Value as values
 use Rattle.iscsi_text.specs.Text.{Pairs, values_of, HasNo, IsMeaning, IsPair}
 use Rattle.iscsi_text.proofs.NumeralLemmas.{canonical_spells, spelling_no_zero}

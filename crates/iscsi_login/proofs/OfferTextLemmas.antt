@@ -4,7 +4,6 @@ use Rattle.std.specs.List.{AllByRecursion}
 use Rattle.std.proofs.lemmas.List.Elements.{All-from_recursion}
 use Rattle.iscsi_text.specs.declared.key.KeyKind.TheVariants as kinds
 use Rattle.iscsi_text.specs.Key.{kind_of, IsKey}
-use Rattle.iscsi_text.specs.Value.{Typed, Means}
 use Rattle.iscsi_text.specs.Value as values
 use Rattle.iscsi_text.specs.Text.{HasNo, IsMeaning, IsPair}
 use Rattle.iscsi_login.specs.declared.key.NegKey.{NegKey}

@@ -1,9 +1,8 @@
 //! The bytes of one PDU, gathered piece by piece.
 
-ghost use Rattle.std.specs.Prelude.{◌≡◌, ◌≤◌, ◌<◌, ◌^◌, ◌+◌, [], ◌++◌, length, take, max, IfOk, IfErr, OnOk, OnErr};
+ghost use Rattle.std.specs.Prelude.{◌≡◌, ◌≤◌, ◌<◌, ◌+◌, [], ◌++◌, length, take, max, IfOk, IfErr, OnOk, OnErr};
 ghost use Rattle.std.specs.Vec.{vec_capacity};
-ghost use Rattle.iscsi_pdu.specs.Meaning.{IsHeader, Fits, padding};
-ghost use Rattle.iscsi_stream.specs.Stream.{pdu_len};
+ghost use Rattle.iscsi_pdu.specs.Meaning.{padding};
 ghost use Rattle.iscsi_stream.specs.Framing.{begun_len};
 ghost use Rattle.iscsi_stream.specs.Gathering.{gathered, HasRoom, filling, IsBody, IsKept, Gathers, FillsBody, HeaderFails, GatherFails};
 

@@ -1,6 +1,6 @@
 -- Segments and answers of a login.
 use Rattle.std.proofs.Common.{◌≡◌, ◌<◌, ◌≤◌, inl, inr, ◌∙◌, ℕ, ◌+◌, List, [], ◌∷◌, ◌++◌, Bool, true, false, length, Option, Some, None, refl, sym, ap, subst}
-use Rattle.std.specs.Prelude.{not, nat_lt, if◌then◌else◌, Result, IfOk}
+use Rattle.std.specs.Prelude.{nat_lt, if◌then◌else◌, Result, IfOk}
 use Rattle.std.proofs.lemmas.Bool.{lt-ltb, le-ltb, cases_lt}
 use Rattle.std.proofs.lemmas.List.{append-nil}
 use Rattle.iscsi_text.specs.Text.{Pairs}

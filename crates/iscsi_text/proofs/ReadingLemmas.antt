@@ -20,12 +20,12 @@ use Rattle.iscsi_text.specs.declared.key.KeyKind.TheVariants as kinds
 use Rattle.iscsi_text.specs.Numeral.{IsHexadecimal, Spells}
 use Rattle.iscsi_text.specs.Key.{IsLetter, IsKeyByte, IsKey, kind_of, target_address}
 use Rattle.iscsi_text.specs.Value.{Typed, Means, boolean_text}
-use Rattle.iscsi_text.specs.Text.{Pairs, values_of, key_le, IsSingle, IsInOrder, Field, entry_bytes, HasNo, IsField, IsEntry, pairs_of, TextMeans}
+use Rattle.iscsi_text.specs.Text.{Pairs, values_of, IsSingle, Field, entry_bytes, HasNo, IsField, IsEntry, pairs_of, TextMeans}
 use Rattle.iscsi_text.specs.Inside.{SplitsAt}
 use Rattle.iscsi_text.specs.Reading.{is_empty, parts_at, onto_front, cut_at, number_of_digits, number_behind_zero, number_in, number_or_odd, value_in}
 use Rattle.iscsi_text.specs.Reading.{is_letter, is_key_byte, is_key, pair_of_cut, pair_in, has_key, added, pairs_in, in_order, text_in}
 use Rattle.iscsi_text.proofs.KeyLemmas.{bytes_eq_same, bytes_eq_other}
-use Rattle.iscsi_text.proofs.PairLemmas.{values_of-append, values_of-same, values_of-other, key_cases}
+use Rattle.iscsi_text.proofs.PairLemmas.{values_of-same, values_of-other, key_cases}
 use Rattle.iscsi_text.proofs.MeaningLemmas.{one_value}
 use Rattle.iscsi_text.proofs.ArrangementLemmas.{one_order}
 use Rattle.iscsi_text.proofs.ReadInvariant.{no_parts}

@@ -23,7 +23,7 @@ use Rattle.iscsi_login.specs.declared.preferences.Answered.{Answered}
 use Rattle.iscsi_login.specs.Held.{Held}
 use Rattle.iscsi_login.specs.Negotiation.{IsInRange}
 use Rattle.iscsi_login.specs.Answer as login
-use Rattle.iscsi_login.specs.Answer.{initiator_holds, target_holds, declared_max_recv}
+use Rattle.iscsi_login.specs.Answer.{initiator_holds, declared_max_recv}
 use Rattle.iscsi_login.specs.Offers.{offers_at}
 use Rattle.iscsi_login.specs.Stage.{stage_number}
 use Rattle.iscsi_login.proofs.TextAgreementLaw.{texts_agree}

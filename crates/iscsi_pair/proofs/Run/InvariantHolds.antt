@@ -18,7 +18,7 @@ use Rattle.iscsi_login.specs.declared.phase.Phase.{Phase}
 use Rattle.iscsi_target_session.specs.Session as target_session
 use Rattle.iscsi_target.specs.State as target
 use Rattle.iscsi_target.specs.Machine as target_machine
-use Rattle.iscsi_target.specs.Machine.{answers, then_stepped, first_rule}
+use Rattle.iscsi_target.specs.Machine.{answers}
 use Rattle.iscsi_target.specs.Feed as target_calls
 use Rattle.iscsi_initiator.specs.declared.fault.InitiatorFault.{InitiatorFault}
 use Rattle.iscsi_initiator.specs.declared.fault.InitiatorFault.TheVariants as faults

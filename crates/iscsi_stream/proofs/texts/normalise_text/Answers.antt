@@ -1,4 +1,4 @@
-use Rattle.std.proofs.Common.{ℕ, List, length, take, refl, ap, subst, ◌∙◌, arith}
+use Rattle.std.proofs.Common.{ℕ, List, take, refl, subst, arith}
 use Rattle.std.proofs.lemmas.Result.{err_from_is_err_and}
 use Rattle.iscsi_stream.specs.Texts.{CanonicalOf}
 use Rattle.iscsi_stream.proofs.texts.normalise_text.Goals as goal
