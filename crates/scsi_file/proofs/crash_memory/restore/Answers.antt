@@ -8,4 +8,5 @@ returns-then-n-len-clause-each c = λ m.
     let room : 512 * c.args.n + 512 ≤ length c.deref.result.now = omega arith in
     restored c.args.bytes.now c.write_blocks.new.bytes _ c.args.past.now c.args.n m c.write_blocks.ensures
     (taken_out c.deref.result.now c.args.n room)
-    (one_there c.args.past.now c.index-past-at.result c.index-past-at.result c.deref.result.now c.args.at c.args.n c.requires.there (sym c.index-past-at.is) c.deref.ensures.value)
+    (one_there c.args.past.now c.index-past-at.result c.index-past-at.result c.deref.result.now c.args.at c.args.n
+        c.requires.there (sym c.index-past-at.is) c.deref.ensures.value)

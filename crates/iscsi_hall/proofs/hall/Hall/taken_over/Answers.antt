@@ -6,7 +6,8 @@ pub loop-place-init : goal.loop-place-init
 loop-place-init c = none_first c.args.self.now c.args.seat
 
 pub loop-place-preserved : goal.loop-place-preserved
-loop-place-preserved c = none_next c.args.self.now c.args.seat c.loop-place.place c.loop-place.invariant (sym c.takes_place_of.ensures ∙ c.if-takes_place_of.false)
+loop-place-preserved c = none_next c.args.self.now c.args.seat c.loop-place.place c.loop-place.invariant
+    (sym c.takes_place_of.ensures ∙ c.if-takes_place_of.false)
 
 pub returns-clause-none : goal.returns-clause-none
 returns-clause-none c = none_at_all c.args.self.now c.args.seat c.loop-place.place c.loop-place.invariant
