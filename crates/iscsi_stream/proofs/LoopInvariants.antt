@@ -21,9 +21,17 @@ pub record PassedUpTo (form : Form) (piece rest : List ℕ) (old new : Progress)
   pub parts : piece ≡ before ++ rest
   pub passes : PassesOn form old new before more
 
+-- what is left to read, and what was written, where a contract tells them
+pub record Sides : Type 0 where
+  pub remaining : Option (List ℕ)
+  pub contents : Option (List ℕ)
+
+-- these two together
+abbrev pub sides : Option (List ℕ) → Option (List ℕ) → Sides
+sides remaining contents = record { remaining = remaining; contents = contents }
+
 -- what is due for what was read is written
-pub record WrittenUpTo (form : Form) (v : Framing) (counts : Counts) (turn : ℕ) (remaining_old remaining_new contents_old contents_new : Option (List ℕ)) : Type
-    0 where
+pub record WrittenUpTo (form : Form) (v : Framing) (counts : Counts) (turn : ℕ) (old new : Sides) : Type 0 where
   pub read : List ℕ
   pub ms : List Message
   pub out : List ℕ
@@ -32,8 +40,8 @@ pub record WrittenUpTo (form : Form) (v : Framing) (counts : Counts) (turn : ℕ
   pub limit : v.limit ≡ longest_segment
   pub unready : is_ready v ≡ false
   pub due : IsDue form ms out
-  pub consumed : Consumes remaining_old remaining_new read
-  pub written : Appends contents_old contents_new out
+  pub consumed : Consumes old.remaining new.remaining read
+  pub written : Appends old.contents new.contents out
   pub small : length read ≤ 4096 * turn
   pub pdus : counts.pdus ≡ length ms
   pub bytes_in : counts.bytes_in ≡ length read

@@ -25,7 +25,7 @@ use Rattle.iscsi_stream.proofs.GatheringLemmas.{take-add}
 use Rattle.iscsi_stream.proofs.OneMeaningLaw.{AreBytes-front, count-shorter}
 use Rattle.iscsi_stream.proofs.TakingLemmas.{at_opening, splits_taken}
 use Rattle.iscsi_stream.proofs.DueLemmas.{due_none, due_append, due_short}
-use Rattle.iscsi_stream.proofs.LoopInvariants.{WrittenUpTo}
+use Rattle.iscsi_stream.proofs.LoopInvariants.{WrittenUpTo, sides}
 
 pub AreBytes-append : (xs ys : List ℕ) → AreBytes xs → AreBytes ys → AreBytes (xs ++ ys)
 AreBytes-append xs ys p q i =
@@ -43,7 +43,7 @@ take_past xs ys n =
     ∙ ap (λ (x : List ℕ). xs ++ take n x) (drop_at xs ys (length xs) refl)
 
 pub at_start : (form : Form) (a b : Option (List ℕ)) → (let k : Counts = record { pdus = 0; bytes_in = 0; bytes_out = 0 } in
-    WrittenUpTo form (opening longest_segment) k 0 a a b b)
+    WrittenUpTo form (opening longest_segment) k 0 (sides a b) (sides a b))
 at_start form a b = record {
   read = [];
   ms = [];
@@ -69,7 +69,7 @@ splits_at : (v : Framing) (s : List ℕ) (ms : List Message) (t : HasTaken s ms 
     Splits longest_segment s ms t.given t.rest
 splits_at v s ms t limit unready = subst (λ (n : ℕ). Splits n s ms t.given t.rest) limit (splits_taken s ms v t (unready_of v.failed v.held t.live unready))
 
-pub reads_stop : (form : Form) (v : Framing) (k : Counts) (i : ℕ) (r0 r1 w0 w1 : Option (List ℕ)) → WrittenUpTo form v k i r0 r1 w0 w1 →
+pub reads_stop : (form : Form) (v : Framing) (k : Counts) (i : ℕ) (r0 r1 w0 w1 : Option (List ℕ)) → WrittenUpTo form v k i (sides r0 w0) (sides r1 w1) →
     Answered r0 r1 w0 w1 (WritesUntil (IsDue form) tool.Read)
 reads_stop form v k i r0 r1 w0 w1 up = (
   up.read,
@@ -80,7 +80,8 @@ reads_stop form v k i r0 r1 w0 w1 up = (
   (up.ms, up.taken.given, up.taken.rest, record { splits = splits_at v up.read up.ms up.taken up.limit up.unready; due = up.due }),
 )
 
-pub read_stops : (form : Form) (v : Framing) (k : Counts) (i : ℕ) (r0 r1 r2 w0 w1 : Option (List ℕ)) → WrittenUpTo form v k i r0 r1 w0 w1 → Keeps r1 r2 →
+pub read_stops : (form : Form) (v : Framing) (k : Counts) (i : ℕ) (r0 r1 r2 w0 w1 : Option (List ℕ))
+    → WrittenUpTo form v k i (sides r0 w0) (sides r1 w1) → Keeps r1 r2 →
     Answered r0 r2 w0 w1 (WritesUntil (IsDue form) tool.Read)
 read_stops form v k i r0 r1 r2 w0 w1 up kept = (
   up.read,
@@ -95,7 +96,7 @@ consumed_none : (r0 r1 r2 : Option (List ℕ)) (read : List ℕ) → Consumes r0
 consumed_none r0 r1 r2 read p q = subst (Consumes r0 r2) (append-nil read) (Consumes-trans r0 r1 r2 read [] p q)
 
 pub finish_stops : (e : StreamFault) (form : Form) (v : Framing) (k : Counts) (i : ℕ) (r0 r1 r2 w0 w1 : Option (List ℕ)) → i < 16777216 →
-    WrittenUpTo form v k i r0 r1 w0 w1 → Consumes r1 r2 [] → FinishFails v e → Answered r0 r2 w0 w1 (WritesUntil (IsDue form) (tool_fault e))
+    WrittenUpTo form v k i (sides r0 w0) (sides r1 w1) → Consumes r1 r2 [] → FinishFails v e → Answered r0 r2 w0 w1 (WritesUntil (IsDue form) (tool_fault e))
 finish_stops stream.NoMemory form v k i r0 r1 r2 w0 w1 lt up read fails = absurd fails
 finish_stops (stream.Head f p) form v k i r0 r1 r2 w0 w1 lt up read fails = absurd fails
 finish_stops (stream.OverLimit p) form v k i r0 r1 r2 w0 w1 lt up read fails = absurd fails
@@ -120,7 +121,8 @@ finish_stops (stream.Truncated p) form v k i r0 r1 r2 w0 w1 lt up read fails =
     )
 finish_stops stream.Failed form v k i r0 r1 r2 w0 w1 lt up read fails = absurd (apart fails up.taken.live)
 
-pub finish_done : (form : Form) (v : Framing) (k : Counts) (i : ℕ) (r0 r1 r2 w0 w1 : Option (List ℕ)) → WrittenUpTo form v k i r0 r1 w0 w1 → Consumes r1 r2 [] →
+pub finish_done : (form : Form) (v : Framing) (k : Counts) (i : ℕ) (r0 r1 r2 w0 w1 : Option (List ℕ))
+    → WrittenUpTo form v k i (sides r0 w0) (sides r1 w1) → Consumes r1 r2 [] →
     (v.held ≡ []) ⊎ IsTrue (is_ready v)
     → Answered r0 r2 w0 w1 (λ read written. (ms : List Message) × StreamMeans read ms × IsDue form ms written × AreCounts k ms read written)
 finish_done form v k i r0 r1 r2 w0 w1 up read (inr ready) = absurd (apart ready up.unready)
@@ -167,7 +169,7 @@ not_truncated tool.NotHex form v piece before after Ended fails = tt
 not_truncated (tool.Protocol rule) form v piece before after Ended fails = tt
 
 pub pass_stops : (e : ToolFault) (form : Form) (v : Framing) (k : Counts) (i : ℕ) (r0 r1 r2 w0 w1 w2 : Option (List ℕ)) (piece out : List ℕ) → i < 16777216 →
-    length piece ≤ 4096 → AreBytes piece → WrittenUpTo form v k i r0 r1 w0 w1 → Consumes r1 r2 piece
+    length piece ≤ 4096 → AreBytes piece → WrittenUpTo form v k i (sides r0 w0) (sides r1 w1) → Consumes r1 r2 piece
     → Appended form v piece [] out → PassFails form v piece [] out e → Appends w1 w2 out → Answered r0 r2 w0 w2 (WritesUntil (IsDue form) e)
 pass_stops tool.NoMemory form v k i r0 r1 r2 w0 w1 w2 piece out lt le bytes up read part fails wrote =
     let r = part.reaches up.read up.ms up.taken in (
@@ -208,7 +210,7 @@ pass_stops tool.NotHex form v k i r0 r1 r2 w0 w1 w2 piece out lt le bytes up rea
 pass_stops (tool.Protocol rule) form v k i r0 r1 r2 w0 w1 w2 piece out lt le bytes up read part fails wrote = absurd fails
 
 pub write_stops : (e : ToolFault) (form : Form) (v : Framing) (k : Counts) (i : ℕ) (r0 r1 r2 w0 w1 w2 : Option (List ℕ)) (piece out : List ℕ) → AreBytes piece →
-    WrittenUpTo form v k i r0 r1 w0 w1 → Consumes r1 r2 piece
+    WrittenUpTo form v k i (sides r0 w0) (sides r1 w1) → Consumes r1 r2 piece
     → Appended form v piece [] out → e ≡ tool.Write → WroteFront w1 w2 out → Answered r0 r2 w0 w2 (WritesUntil (IsDue form) e)
 write_stops e form v k i r0 r1 r2 w0 w1 w2 piece out bytes up read part is front =
     let r = part.reaches up.read up.ms up.taken in
@@ -233,10 +235,10 @@ write_stops e form v k i r0 r1 r2 w0 w1 w2 piece out bytes up read part is front
     )
 
 pub read_more : (form : Form) (v w : Framing) (k n : Counts) (i sum : ℕ) (r0 r1 r2 w0 w1 w2 : Option (List ℕ)) (piece out : List ℕ) (more : List Message) → i
-    < 16777216 → length piece ≤ 4096 → AreBytes piece → WrittenUpTo form v k i r0 r1 w0 w1 → Consumes r1 r2 piece
+    < 16777216 → length piece ≤ 4096 → AreBytes piece → WrittenUpTo form v k i (sides r0 w0) (sides r1 w1) → Consumes r1 r2 piece
     → sum ≡ min (k.bytes_in + length piece) (2 ^ 64 - 1)
     → (let m : Counts = record k { bytes_in = sum } in PassesOn form (progress v [] m) (progress w out n) piece more) →
-    Appends w1 w2 out → WrittenUpTo form w n (i + 1) r0 r2 w0 w2
+    Appends w1 w2 out → WrittenUpTo form w n (i + 1) (sides r0 w0) (sides r2 w2)
 read_more form v w k n i sum r0 r1 r2 w0 w1 w2 piece out more lt le bytes up read sum-is passes wrote =
     let taken = passes.moves up.read up.ms up.taken in
     let all = AreBytes-append up.read piece up.bytes bytes in

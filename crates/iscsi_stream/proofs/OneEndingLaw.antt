@@ -41,6 +41,7 @@ pub record Call (M R : Type 0) : Type 0 where
   pub session : M
   pub framing : Framing
 
+-- these three together
 abbrev pub call : {M R : Type 0} → R → M → Framing → Call M R
 call result session framing = record { result = result; session = session; framing = framing }
 

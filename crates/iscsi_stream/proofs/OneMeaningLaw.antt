@@ -98,6 +98,7 @@ pub record Front : Type 0 where
   pub segment : List ℕ
   pub rest : List ℕ
 
+-- these three together
 abbrev pub front : List ℕ → List ℕ → List ℕ → Front
 front bytes segment rest = record { bytes = bytes; segment = segment; rest = rest }
 
