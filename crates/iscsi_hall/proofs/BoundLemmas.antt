@@ -275,7 +275,7 @@ waiting_with : (tasks : List Task) (task : Task) → waiting (tasks ++ task ∷ 
 waiting_with tasks task =
     let sum : waiting (tasks ++ task ∷ []) ≡ waiting tasks + waiting (task ∷ []) =
     ap (λ (ts : List Task). length ts) (filter-append takes_place tasks (task ∷ []))
-        ∙ length-append (filter takes_place tasks) (filter takes_place (task ∷ [])) in
+    ∙ length-append (filter takes_place tasks) (filter takes_place (task ∷ [])) in
     let one = one_waits task (takes_place task) refl in
     omega (arith, sum, one)
 
@@ -422,7 +422,7 @@ may_most None e = omega arith
 may_most (Some s) e =
     room_most (length s.waiting) s.offered
     (and_left (has_room_at s) (not (is_closed s.connection.machine))
-        (and_left (has_room_at s && not (is_closed s.connection.machine)) (not (length s.unfed == 0)) e))
+    (and_left (has_room_at s && not (is_closed s.connection.machine)) (not (length s.unfed == 0)) e))
 
 pub turn_waits : (seat : ℕ) (old new : Hall) (before after : Store) (result : Result ℕ TargetFault) (t : TakesTurn seat old before result new after) →
     may_take_at (seat_at old seat) ≡ true → length (waiting_at (seat_at new seat)) ≤ 65535 + length (canon (answers_of t.turn))

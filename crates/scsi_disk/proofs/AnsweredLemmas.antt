@@ -98,7 +98,7 @@ module _ (before after ub ua : ℕ) (disk now : Disk) (order : Order) (bytes : L
   -- what was settled still is, where no failure was counted
   pub took_settled : (old new : ℕ → List ℕ → Type 0) (answer : Result Outcome StoreFault) → OnOk answer (after ≡ before → Settled now new)
       → (IsErrOf answer NoMemory → (now ≡ disk) × Within old new) → Tells disk.tells before after ub ua answer → after ≡ before → Settled disk old
-          → Settled now new
+      → Settled now new
   took_settled old new (Ok o) lasts none tells same settled = lasts same
   took_settled old new (Err Device) lasts none tells same settled = absurd (omega (arith, tells.only refl, same))
   took_settled old new (Err NoMemory) lasts none tells same settled = settled_on disk now old new (none refl).0 (none refl).1 settled

@@ -14,7 +14,7 @@ had_before (w ∷ past) v n c (inr x) = ⊎_elim (λ h. inl (inr h)) (λ h. inr 
 
 -- a write adds what it wrote
 pub adds : (bytes now : List ℕ) (written : ℕ → List ℕ) (past new : List (Vec ℕ Global)) (v : Vec ℕ Global) → cut 512 now ≡ written
-        → v.items ≡ bytes → new ≡ past ++ v ∷ []
+    → v.items ≡ bytes → new ≡ past ++ v ∷ []
     → (n : ℕ) (c : List ℕ) → MayBe now new n c → MayBe bytes past n c ⊎ (c ≡ written n)
 adds bytes now written past new v is old more n c (inl e) = inr (e ∙ ap (λ (f : ℕ → List ℕ). f n) is)
 adds bytes now written past new v is old more n c (inr had) =

@@ -9,4 +9,4 @@ returns-then-n-len-clause-each c = λ m.
     restored c.args.bytes.now c.write_blocks.new.bytes _ c.args.past.now c.args.n m c.write_blocks.ensures
     (taken_out c.deref.result.now c.args.n room)
     (one_there c.args.past.now c.index-past-at.result c.index-past-at.result c.deref.result.now c.args.at c.args.n
-        c.requires.there (sym c.index-past-at.is) c.deref.ensures.value)
+    c.requires.there (sym c.index-past-at.is) c.deref.ensures.value)

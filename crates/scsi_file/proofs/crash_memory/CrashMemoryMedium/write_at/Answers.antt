@@ -11,4 +11,4 @@ returns-clause-kept c =
     let now = take c.args.self.now.bytes.len (c.write_blocks.new.bytes ++ drop (length c.write_blocks.new.bytes) bytes) in
     let is : cut 512 now ≡ overlaid 512 c.args.lba c.args.bytes.now (cut 512 bytes) = grind (arith, common_steps) in
     adds bytes now (overlaid 512 c.args.lba c.args.bytes.now (cut 512 bytes)) c.args.self.now.past.items c.push.new.self.items
-        c.in-Ok.before is same c.in-Ok-push.ensures.items
+    c.in-Ok.before is same c.in-Ok-push.ensures.items
