@@ -14,26 +14,19 @@ use Rattle.iscsi_login.specs.declared.key.Rule.TheVariants as rules
 use Rattle.iscsi_login.specs.declared.preferences.Answered.{Answered}
 use Rattle.iscsi_login.specs.declared.preferences.Answered.TheVariants.{Number, Flag, NoneItem, Reject}
 use Rattle.iscsi_login.specs.declared.preferences.Preferences.{Preferences}
-use Rattle.iscsi_login.specs.Key.{rule_of, between, IsWithin}
+use Rattle.iscsi_login.specs.Key.{rule_of, default_of, between, IsWithin}
 
 -- ---- preferences
 
--- The preference for a key; what no field says is fixed (own rule of section 13).
+-- The preference for a key, its default where no field says one (own rule of section 13).
 abbrev pub preference : Preferences → NegKey → Answered
-preference p keys.MaxConnections = Number 1
 preference p keys.InitialR2T = Flag p.initial_r2t
 preference p keys.ImmediateData = Flag p.immediate_data
 preference p keys.MaxBurstLength = Number p.max_burst
 preference p keys.FirstBurstLength = Number p.first_burst
 preference p keys.DefaultTime2Wait = Number p.time2wait
 preference p keys.DefaultTime2Retain = Number p.time2retain
-preference p keys.MaxOutstandingR2T = Number 1
-preference p keys.DataPDUInOrder = Flag true
-preference p keys.DataSequenceInOrder = Flag true
-preference p keys.ErrorRecoveryLevel = Number 0
-preference p keys.HeaderDigest = NoneItem
-preference p keys.DataDigest = NoneItem
-preference p keys.AuthMethod = NoneItem
+preference p key = default_of key
 
 -- What an end prefers that was told nothing else (own rule).
 abbrev pub standard : Preferences

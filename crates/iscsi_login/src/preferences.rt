@@ -20,8 +20,8 @@ pub enum Answered {
 
 /// What an end prefers, where it may choose. Each field is the key of its name.
 ///
-/// The rest is fixed (own rule): one connection and one open request for data, both orders kept,
-/// error recovery level 0, and `None` of each list.
+/// Every other key is preferred at its default (own rule): one connection and one open request for
+/// data, both orders kept, error recovery level 0, and `None` of each list.
 #[derive(Clone, Copy, Debug, PartialEq, Eq)]
 pub struct Preferences {
     /// `InitialR2T`.
@@ -73,16 +73,13 @@ impl Preferences {
         ensures preference { result ≡ preference self.now key }
     {
         match key {
-            NegKey::MaxConnections | NegKey::MaxOutstandingR2T => Answered::Number(1),
             NegKey::InitialR2T => Answered::Flag(self.initial_r2t),
             NegKey::ImmediateData => Answered::Flag(self.immediate_data),
             NegKey::MaxBurstLength => Answered::Number(self.max_burst),
             NegKey::FirstBurstLength => Answered::Number(self.first_burst),
             NegKey::DefaultTime2Wait => Answered::Number(self.time2wait),
             NegKey::DefaultTime2Retain => Answered::Number(self.time2retain),
-            NegKey::DataPDUInOrder | NegKey::DataSequenceInOrder => Answered::Flag(true),
-            NegKey::ErrorRecoveryLevel => Answered::Number(0),
-            NegKey::HeaderDigest | NegKey::DataDigest | NegKey::AuthMethod => Answered::NoneItem,
+            fixed => fixed.default_value(),
         }
     }
 }
