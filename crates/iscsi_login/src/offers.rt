@@ -158,30 +158,19 @@ impl Offers<'_> {
     }
 
     // All pairs of a login that starts in the operational stage, and the target's name in any
-    // session.
+    // session: those of the operational stage, and who speaks to whom where the order of the keys
+    // puts it.
     pub(crate) fn single_pairs(&self) -> [Pair; 17]
         ensures { said self.now.session (all_shown result) ≡
             in_order (single_offers (proposed self.now)) }
     {
-        [
-            self.preferred(NegKey::DataDigest),
-            self.preferred(NegKey::DataPDUInOrder),
-            self.preferred(NegKey::DataSequenceInOrder),
-            self.preferred(NegKey::DefaultTime2Retain),
-            self.preferred(NegKey::DefaultTime2Wait),
-            self.preferred(NegKey::ErrorRecoveryLevel),
-            self.preferred(NegKey::FirstBurstLength),
-            self.preferred(NegKey::HeaderDigest),
-            self.preferred(NegKey::ImmediateData),
-            self.preferred(NegKey::InitialR2T),
-            self.initiator_name(),
-            self.preferred(NegKey::MaxBurstLength),
-            self.preferred(NegKey::MaxConnections),
-            self.preferred(NegKey::MaxOutstandingR2T),
-            self.max_recv(),
-            self.session_type(),
-            self.target_name(),
-        ]
+        let operational = self.operational_pairs();
+        let mut pairs = [self.target_name(); 17];
+        pairs[..10].copy_from_slice(&operational[..10]);
+        pairs[10] = self.initiator_name();
+        pairs[11..15].copy_from_slice(&operational[10..]);
+        pairs[15] = self.session_type();
+        pairs
     }
 
     // Who speaks.
