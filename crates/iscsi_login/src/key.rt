@@ -100,24 +100,43 @@ const COUNT: Range = Range {
     high: 65535,
 };
 
+// The table: of each key, in the order of the variants, its name, its values and result function,
+// and its default (RFC 7143, sections 13 and 12.1). What else lists the keys is made from it.
+macro_rules! table {
+    ($made:ident $($key:expr)?) => {
+        $made! {
+            $($key;)?
+            MaxConnections => Row::number(b"MaxConnections", Minimum(COUNT), 1),
+            InitialR2T => Row::flag(b"InitialR2T", Or),
+            ImmediateData => Row::flag(b"ImmediateData", And),
+            MaxBurstLength => Row::number(b"MaxBurstLength", Minimum(BYTES), 262144),
+            FirstBurstLength => Row::number(b"FirstBurstLength", Minimum(BYTES), 65536),
+            DefaultTime2Wait => Row::number(b"DefaultTime2Wait", Maximum(SECONDS), 2),
+            DefaultTime2Retain => Row::number(b"DefaultTime2Retain", Minimum(SECONDS), 20),
+            MaxOutstandingR2T => Row::number(b"MaxOutstandingR2T", Minimum(COUNT), 1),
+            DataPDUInOrder => Row::flag(b"DataPDUInOrder", Or),
+            DataSequenceInOrder => Row::flag(b"DataSequenceInOrder", Or),
+            ErrorRecoveryLevel => Row::number(b"ErrorRecoveryLevel", Minimum(LEVEL), 0),
+            HeaderDigest => Row::list(b"HeaderDigest"),
+            DataDigest => Row::list(b"DataDigest"),
+            AuthMethod => Row::list(b"AuthMethod"),
+        }
+    };
+}
+
+// The keys of the table.
+macro_rules! keys_of {
+    ($($name:ident => $row:expr,)*) => { [$(NegKey::$name),*] };
+}
+
+// The row of a key.
+macro_rules! row_of {
+    ($key:expr; $($name:ident => $row:expr,)*) => { match $key { $(NegKey::$name => $row,)* } };
+}
+
 impl NegKey {
     /// Every key once, in the order of the variants.
-    pub const ALL: [NegKey; 14] = [
-        NegKey::MaxConnections,
-        NegKey::InitialR2T,
-        NegKey::ImmediateData,
-        NegKey::MaxBurstLength,
-        NegKey::FirstBurstLength,
-        NegKey::DefaultTime2Wait,
-        NegKey::DefaultTime2Retain,
-        NegKey::MaxOutstandingR2T,
-        NegKey::DataPDUInOrder,
-        NegKey::DataSequenceInOrder,
-        NegKey::ErrorRecoveryLevel,
-        NegKey::HeaderDigest,
-        NegKey::DataDigest,
-        NegKey::AuthMethod,
-    ];
+    pub const ALL: [NegKey; 14] = table!(keys_of);
 
     /// The key as it stands in a text.
     pub fn name(self) -> &'static [u8]
@@ -164,30 +183,14 @@ impl NegKey {
         self as usize
     }
 
-    // The table: name, values and result function, default, and whether a discovery session
-    // answers it by `Irrelevant` (RFC 7143, sections 13 and 12.1).
+    // What the table has for the key.
     fn row(self) -> Row
         ensures name { result.name.now ≡ name_of self }
         ensures rule { result.rule ≡ rule_of self }
         ensures default { result.default ≡ default_of self }
         ensures irrelevant { result.irrelevant ≡ (row self).irrelevant }
     {
-        match self {
-            NegKey::MaxConnections => Row::number(b"MaxConnections", Minimum(COUNT), 1),
-            NegKey::InitialR2T => Row::flag(b"InitialR2T", Or),
-            NegKey::ImmediateData => Row::flag(b"ImmediateData", And),
-            NegKey::MaxBurstLength => Row::number(b"MaxBurstLength", Minimum(BYTES), 262144),
-            NegKey::FirstBurstLength => Row::number(b"FirstBurstLength", Minimum(BYTES), 65536),
-            NegKey::DefaultTime2Wait => Row::number(b"DefaultTime2Wait", Maximum(SECONDS), 2),
-            NegKey::DefaultTime2Retain => Row::number(b"DefaultTime2Retain", Minimum(SECONDS), 20),
-            NegKey::MaxOutstandingR2T => Row::number(b"MaxOutstandingR2T", Minimum(COUNT), 1),
-            NegKey::DataPDUInOrder => Row::flag(b"DataPDUInOrder", Or),
-            NegKey::DataSequenceInOrder => Row::flag(b"DataSequenceInOrder", Or),
-            NegKey::ErrorRecoveryLevel => Row::number(b"ErrorRecoveryLevel", Minimum(LEVEL), 0),
-            NegKey::HeaderDigest => Row::list(b"HeaderDigest"),
-            NegKey::DataDigest => Row::list(b"DataDigest"),
-            NegKey::AuthMethod => Row::list(b"AuthMethod"),
-        }
+        table!(row_of self)
     }
 }
 
