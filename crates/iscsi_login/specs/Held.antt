@@ -1,11 +1,13 @@
 -- What an end holds of a login: a value of each negotiated key, and what each end takes (RFC 7143,
 -- section 13).
 use Rattle.std.specs.Prelude.{ℕ, Bool, false, List, map, min, slice_index_or}
+use Rattle.std.specs.List.{position_or_len}
+use Rattle.std.specs.Str.{bytes_eq}
 use Rattle.iscsi_login.specs.declared.key.NegKey.{NegKey}
 use Rattle.iscsi_login.specs.declared.key.NegKey.TheVariants as keys
 use Rattle.iscsi_login.specs.declared.preferences.Answered.{Answered}
 use Rattle.iscsi_login.specs.declared.preferences.Answered.TheVariants.{Flag, Number, Reject}
-use Rattle.iscsi_login.specs.Key.{rule_of, default_of, all_keys, IsWithin}
+use Rattle.iscsi_login.specs.Key.{name_of, rule_of, default_of, all_keys, IsWithin}
 use Rattle.iscsi_login.specs.Negotiation.{Allows, max_recv_range}
 
 -- The held values (section 13).
@@ -24,22 +26,9 @@ defaults = record {
   target_max_recv = 8192;
 }
 
--- A key's place in `all_keys`.
+-- A key's place in `all_keys`, found by its name.
 abbrev pub place_of : NegKey → ℕ
-place_of keys.MaxConnections = 0
-place_of keys.InitialR2T = 1
-place_of keys.ImmediateData = 2
-place_of keys.MaxBurstLength = 3
-place_of keys.FirstBurstLength = 4
-place_of keys.DefaultTime2Wait = 5
-place_of keys.DefaultTime2Retain = 6
-place_of keys.MaxOutstandingR2T = 7
-place_of keys.DataPDUInOrder = 8
-place_of keys.DataSequenceInOrder = 9
-place_of keys.ErrorRecoveryLevel = 10
-place_of keys.HeaderDigest = 11
-place_of keys.DataDigest = 12
-place_of keys.AuthMethod = 13
+place_of key = position_or_len (λ other. bytes_eq (name_of other) (name_of key)) all_keys
 
 -- The value at a key's place.
 abbrev pub value_at : List Answered → NegKey → Answered
