@@ -66,7 +66,8 @@ each_value P (p ∷ ps) all key = elim (key_cases p.0 key) [
 pub each_pair : (P : List ℕ × Typed → Type 0) (ps : Pairs) → ((key : List ℕ) → AllByRecursion (λ v. P (key, v)) (values_of key ps)) → AllByRecursion P ps
 each_pair P [] each = tt
 each_pair P (p ∷ ps) each =
-    let here : AllByRecursion (λ v. P (p.0, v)) (p.1 ∷ values_of p.0 ps) = subst (AllByRecursion (λ v. P (p.0, v))) (values_of-same p.0 p ps refl) (each p.0) in (
+    let here : AllByRecursion (λ v. P (p.0, v)) (p.1 ∷ values_of p.0 ps) =
+    subst (AllByRecursion (λ v. P (p.0, v))) (values_of-same p.0 p ps refl) (each p.0) in (
       here.0,
       each_pair P ps (λ key. elim (key_cases p.0 key) [
         | inl same ↦ (rest_of key (values_of-same key p ps same) (each key))
