@@ -82,6 +82,7 @@ pub record Standing : Type 0 where
   pub connection : Connection
   pub written : List ℕ
 
+-- these two together
 abbrev pub standing : Connection → List ℕ → Standing
 standing c written = record { connection = c; written = written }
 

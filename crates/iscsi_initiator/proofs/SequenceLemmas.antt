@@ -19,6 +19,7 @@ pub record Due : Type 0 where
   pub next : DataOut
   pub bytes : List ℕ
 
+-- these two together
 abbrev pub due : DataOut → List ℕ → Due
 due next bytes = record { next = next; bytes = bytes }
 
