@@ -1,29 +1,19 @@
 -- A call of feed_next is a turn.
 use Rattle.std.proofs.Common.{◌≡◌, ◌≤◌, ◌<◌, ◌⊎◌, inl, inr, ℕ, Bool, true, false, ◌==◌, ◌&&◌, not, List, ◌++◌, length, Option, Some, refl, sym, ap, subst, ◌∙◌, arith, append-nil}
 use Rattle.std.specs.Prelude.{Result, Ok, Err, OnOk}
-use Rattle.iscsi_stream.specs.Stream.{Message}
 use Rattle.iscsi_stream.specs.Canonical.{canon}
 use Rattle.iscsi_login.specs.declared.phase.Phase.{Phase}
 use Rattle.iscsi_target.specs.declared.fault.TargetFault.{TargetFault}
 use Rattle.iscsi_target.specs.declared.fault.TargetFault.TheVariants as faults
 use Rattle.iscsi_target.specs.State.{Stepped, unchanged}
 use Rattle.iscsi_target.specs.Machine.{is_closed}
-use Rattle.iscsi_target.specs.Feed.{Answers, Connection, Store, FedNextIf, Stands, StopsShort, StopsAt}
+use Rattle.iscsi_target.specs.Feed.{Answers, Progress, Scene, Store, FedNextIf, Stands, StopsShort, StopsAt, remainder, scene}
 use Rattle.iscsi_hall.specs.Seats.{Seat, Hall, phase_of, seat_at, waiting_at, with_phase, Takes, has_room, may_take, may_take_at}
 use Rattle.iscsi_hall.specs.Turns.{Turn, IsFront, IsOwn, IsLeft, TakesTurn, answers_of, machines, machine_in}
 use Rattle.iscsi_hall.proofs.SeatLemmas.{some_within, changed_same, others_stay}
 
--- a session, its store, and the answers that wait
-record Standing : Type 0 where
-  pub connection : Connection
-  pub store : Store
-  pub waiting : List ℕ
-
-abbrev standing : Connection → Store → List ℕ → Standing
-standing connection store waiting = record { connection = connection; store = store; waiting = waiting }
-
 -- what a call did, as a turn of a seat with so many messages
-record Acts (seat : ℕ) (old : Standing) (most : ℕ → Type 0) (new : Standing) : Type 0 where
+record Acts (seat : ℕ) (old : Scene) (most : ℕ → Type 0) (new : Scene) : Type 0 where
   pub turn : Turn
   pub seat_is : turn.seat ≡ seat
   pub met : turn.before ≡ old.store
@@ -31,15 +21,21 @@ record Acts (seat : ℕ) (old : Standing) (most : ℕ → Type 0) (new : Standin
   pub few : most (length turn.messages)
   pub own : IsOwn old.connection.machine turn
   pub left : IsLeft turn.front.machine new.connection.machine
-  pub answers_are : new.waiting ≡ old.waiting ++ canon (answers_of turn)
+  pub answers_are : new.output ≡ old.output ++ canon (answers_of turn)
 
 -- no fault of memory
-acts_whole : (seat : ℕ) (old new : Connection) (before after : Store) (bytes output written : List ℕ) (most : ℕ → Type 0) (framing : _)
-    (ms : List Message) (r : Stepped) (a : Answers old before bytes framing ms r after) → is_closed old.machine ≡ false → most (length ms) →
-    Stands output r a.failures after written → IsLeft r.machine new.machine →
-    Acts seat (standing old before output) most (standing new after written)
-acts_whole seat old new before after bytes output written most framing ms r a open_ few s l = record {
-  turn = record { seat = seat; before = before; messages = ms; stepped = r; front = unchanged r.machine r.disk; after = after };
+acts_whole : (seat : ℕ) (old new : Scene) (bytes : List ℕ) (most : ℕ → Type 0) (now : Progress) (a : Answers old.connection old.store bytes now new.store)
+    → is_closed old.connection.machine ≡ false → most (length now.messages) → Stands old.output now.stepped a.failures new.store new.output
+    → IsLeft now.stepped.machine new.connection.machine → Acts seat old most new
+acts_whole seat old new bytes most now a open_ few s l = record {
+  turn = record {
+    seat = seat;
+    before = old.store;
+    messages = now.messages;
+    stepped = now.stepped;
+    front = unchanged now.stepped.machine now.stepped.disk;
+    after = new.store;
+  };
   seat_is = refl;
   met = refl;
   last_is = refl;
@@ -53,7 +49,7 @@ acts_whole seat old new before after bytes output written most framing ms r a op
     disk = s.disk;
   };
   left = l;
-  answers_are = s.output_is ∙ ap (λ ms. output ++ canon ms) (sym (append-nil r.answers));
+  answers_are = s.output_is ∙ ap (λ ms. old.output ++ canon ms) (sym (append-nil now.stepped.answers));
 }
 
 front_of : (framing : _) (rest : List ℕ) (r : Stepped) (counted : ℕ) (front : Stepped) (after : ℕ) →
@@ -61,13 +57,19 @@ front_of : (framing : _) (rest : List ℕ) (r : Stepped) (counted : ℕ) (front 
 front_of framing rest r counted front after (inl none) = inl none
 front_of framing rest r counted front after (inr at) = inr (at.message, at.stops)
 
-acts_short : (seat : ℕ) (old new : Connection) (before after : Store) (bytes output written rest : List ℕ) (most : ℕ → Type 0) (framing : _) (ms : List Message)
-    (r : Stepped)
-    (a : Answers old before bytes framing ms r after) → is_closed old.machine ≡ false → most (length ms) →
-    StopsShort output framing rest r a.failures new.machine after written →
-    Acts seat (standing old before output) most (standing new after written)
-acts_short seat old new before after bytes output written rest most framing ms r a open_ few s = record {
-  turn = record { seat = seat; before = before; messages = ms; stepped = r; front = s.front; after = after };
+-- memory ran out
+acts_short : (seat : ℕ) (old new : Scene) (bytes rest : List ℕ) (most : ℕ → Type 0) (now : Progress) (a : Answers old.connection old.store bytes now new.store)
+    → is_closed old.connection.machine ≡ false → most (length now.messages)
+    → StopsShort old.output (remainder now.framing rest now.stepped a.failures) new.connection.machine new.store new.output → Acts seat old most new
+acts_short seat old new bytes rest most now a open_ few s = record {
+  turn = record {
+    seat = seat;
+    before = old.store;
+    messages = now.messages;
+    stepped = now.stepped;
+    front = s.front;
+    after = new.store;
+  };
   seat_is = refl;
   met = refl;
   last_is = refl;
@@ -77,7 +79,7 @@ acts_short seat old new before after bytes output written rest most framing ms r
     counted = a.failures;
     may = a.may;
     works = a.works;
-    front = front_of framing rest r a.failures s.front after.failures s.stops;
+    front = front_of now.framing rest now.stepped a.failures s.front new.store.failures s.stops;
     disk = s.disk;
   };
   left = inr s.shut;
@@ -87,22 +89,18 @@ acts_short seat old new before after bytes output written rest most framing ms r
 abbrev one_if : Result ℕ TargetFault → ℕ → Type 0
 one_if result n = OnOk result (n ≤ 1)
 
-acts : (b : Bool) (seat : ℕ) (old new : Connection) (before after : Store) (output piece written : List ℕ) (phase : Phase) (result : Result ℕ TargetFault)
-    → is_closed old.machine ≡ false → b ≡ false → FedNextIf b old before output piece (with_phase phase result) new after written →
-    Acts seat (standing old before output) (one_if result) (standing new after written)
-acts true seat old new before after output piece written phase result open_ live f = absurd cc
-acts false seat old new before after output piece written phase (Ok n) open_ live f =
-    acts_whole seat old new before after _ output written (one_if (Ok n)) f.fed.framing f.fed.messages f.fed.stepped f.fed.answered open_ f.one f.fed.leaves
-    (inl f.fed.ends.1)
-acts false seat old new before after output piece written phase (Err faults.NoMemory) open_ live f =
-    acts_short seat old new before after _ output written _ (one_if (Err faults.NoMemory)) f.framing f.messages f.stepped f.answered open_ tt f.leaves
-acts false seat old new before after output piece written phase (Err (faults.Stream fault)) open_ live f =
-    acts_whole seat old new before after _ output written (one_if (Err (faults.Stream fault))) f.framing f.messages f.stepped f.answered open_ tt f.leaves
-    (inr f.ends.3)
-acts false seat old new before after output piece written phase (Err (faults.Protocol rule)) open_ live f =
-    acts_whole seat old new before after _ output written (one_if (Err (faults.Protocol rule))) f.framing f.messages f.stepped f.answered open_ tt f.leaves
-    (inl f.ends.1)
-acts false seat old new before after output piece written phase (Err faults.Closed) open_ live f = absurd f.ends
+acts : (b : Bool) (seat : ℕ) (old new : Scene) (piece : List ℕ) (phase : Phase) (result : Result ℕ TargetFault) → is_closed old.connection.machine ≡ false
+    → b ≡ false → FedNextIf b old piece (with_phase phase result) new → Acts seat old (one_if result) new
+acts true seat old new piece phase result open_ live f = absurd cc
+acts false seat old new piece phase (Ok n) open_ live f =
+    acts_whole seat old new _ (one_if (Ok n)) _ f.fed.answered open_ f.one f.fed.leaves (inl f.fed.ends.1)
+acts false seat old new piece phase (Err faults.NoMemory) open_ live f =
+    acts_short seat old new _ _ (one_if (Err faults.NoMemory)) _ f.answered open_ tt f.leaves
+acts false seat old new piece phase (Err (faults.Stream fault)) open_ live f =
+    acts_whole seat old new _ (one_if (Err (faults.Stream fault))) _ f.answered open_ tt f.leaves (inr f.ends.3)
+acts false seat old new piece phase (Err (faults.Protocol rule)) open_ live f =
+    acts_whole seat old new _ (one_if (Err (faults.Protocol rule))) _ f.answered open_ tt f.leaves (inl f.ends.1)
+acts false seat old new piece phase (Err faults.Closed) open_ live f = absurd f.ends
 
 -- a session that may take a PDU is not closed
 open_if : (written over unfed : Bool) → ((written && not over) && unfed) ≡ true → over ≡ false
@@ -122,9 +120,10 @@ takes_turn seat old new before after result t may =
     let live : is_closed t.before.connection.machine ≡ false = takes_open (seat_at old seat) t.before t.was may in
     let within : seat < length old.seats = some_within old.seats seat t.before t.was in
     let now : seat_at new seat ≡ Some t.after = changed_same seat old new (Some t.after) within t.now in
-    let a : Acts seat (standing t.before.connection before t.before.waiting) (one_if result) (standing t.after.connection after t.after.waiting) =
-    acts (is_closed t.before.connection.machine) seat t.before.connection t.after.connection before after t.before.waiting t.before.unfed t.after.waiting
-    (phase_of t.after) result live live t.does.fed in
+    let first : Scene = scene t.before.connection before t.before.waiting in
+    let last : Scene = scene t.after.connection after t.after.waiting in
+    let a : Acts seat first (one_if result) last =
+    acts (is_closed t.before.connection.machine) seat first last t.before.unfed (phase_of t.after) result live live t.does.fed in
     record {
       turn = a.turn;
       seat_is = a.seat_is;

@@ -5,7 +5,7 @@ use Rattle.iscsi_login.specs.declared.phase.Phase.{Phase}
 use Rattle.iscsi_target_session.specs.Configured.{Settings}
 use Rattle.iscsi_target.specs.declared.fault.TargetFault.{TargetFault}
 use Rattle.iscsi_target.specs.Machine.{is_closed}
-use Rattle.iscsi_target.specs.Feed.{Connection, Store, FedNext, Finishes, opening_connection}
+use Rattle.iscsi_target.specs.Feed.{Connection, Store, FedNext, Finishes, opening_connection, scene}
 
 -- ---- a seat
 
@@ -79,8 +79,8 @@ with_phase phase (Err fault) = Err fault
 -- One call of feed_next with what was not taken; its answers wait behind those that did.
 pub record TakesAt (old : Seat) (before : Store) (result : Result ℕ TargetFault) (new : Seat)
     (after : Store) : Type 0 where
-  pub fed : FedNext old.connection before old.waiting old.unfed (with_phase (phase_of new) result)
-      new.connection after new.waiting
+  pub fed : FedNext (scene old.connection before old.waiting) old.unfed
+      (with_phase (phase_of new) result) (scene new.connection after new.waiting)
   pub offered : new.offered ≡ false
   pub unfed : new.unfed ≡ left_of result old.unfed
 

@@ -9,7 +9,7 @@ use Rattle.iscsi_login.specs.Stage.{is_closed_phase}
 use Rattle.iscsi_target.specs.declared.fault.TargetFault.{TargetFault}
 use Rattle.iscsi_target_session.specs.Configured.{Settings}
 use Rattle.iscsi_target.specs.Machine.{is_closed}
-use Rattle.iscsi_target.specs.Feed.{Connection, Store, FedNext, FedNextIf, opening_connection}
+use Rattle.iscsi_target.specs.Feed.{Connection, Store, FedNext, FedNextIf, opening_connection, scene}
 use Rattle.iscsi_target.specs.Crash.{CrashesFed, CrashesNext}
 use Rattle.iscsi_target.specs.Inside.{Advances}
 use Rattle.iscsi_target.proofs.PassedLemmas.{no_advance, advances_then, feeds_advance, crashes_none, crashes_next, crashes_more, crashes_then}
@@ -19,7 +19,7 @@ use Rattle.iscsi_service.proofs.SessionReadInvariant.{Outside, outside, ReadUpTo
 -- ---- one PDU
 
 next_rises : (old new : Connection) (before after : Store) (out piece written : List ℕ) (result : Result (ℕ × Phase) TargetFault)
-    → FedNext old before out piece result new after written → before.failures ≤ after.failures
+    → FedNext (scene old before out) piece result (scene new after written) → before.failures ≤ after.failures
 next_rises old new before after out piece written (Ok done) f =
     fed_rises (is_closed old.machine) old new before after out (take done.0 piece) written (Ok done.1)
     (next_is (is_closed old.machine) old new before after out piece written done f)
@@ -28,13 +28,14 @@ next_rises old new before after out piece written (Err fault) f =
     (next_fails (is_closed old.machine) old new before after out piece written fault f)
 
 pub next_crashes : (old new : Connection) (before after : Store) (out piece written : List ℕ) (result : Result (ℕ × Phase) TargetFault)
-    (kept left : ℕ → List ℕ → Type 0) → FedNext old before out piece result new after written
+    (kept left : ℕ → List ℕ → Type 0) → FedNext (scene old before out) piece result (scene new after written)
     → CrashesNext old piece before.disk after.disk kept left → (before.failures ≤ after.failures) × CrashesFed old before piece after kept left
 next_crashes old new before after out piece written result kept left f crash =
     let rises = next_rises old new before after out piece written result f in (rises, crashes_next old before after piece kept left rises crash)
 
 pub next_advances : (b : Bool) (old new : Connection) (before after : Store) (out piece written : List ℕ) (done : ℕ × Phase)
-    → FedNextIf b old before out piece (Ok done) new after written → is_closed_phase done.1 ≡ false → Advances old before (take done.0 piece) new after
+    → FedNextIf b (scene old before out) piece (Ok done) (scene new after written) → is_closed_phase done.1 ≡ false
+    → Advances old before (take done.0 piece) new after
 next_advances true old new before after out piece written done f open_ = absurd cc
 next_advances false old new before after out piece written done f open_ =
     feeds_advance old before out (take done.0 piece) done.1 new after written f.fed (next_is_open false old new before after out piece written done f open_)

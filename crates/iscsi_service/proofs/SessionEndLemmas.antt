@@ -32,7 +32,7 @@ use Rattle.iscsi_target.specs.Machine.{MayStop}
 use Rattle.iscsi_target.proofs.FeedInvariant.{stop_as, may_rise, short_rises}
 use Rattle.iscsi_service.specs.Session.{led}
 use Rattle.iscsi_target.specs.Feed as feed
-use Rattle.iscsi_target.specs.Feed.{StopsShort, Connection, Store, Answers, Ends, Fed, FedIf, Feeds, Stays, Finishes, HasAnswered, FedAll, opening_connection}
+use Rattle.iscsi_target.specs.Feed.{StopsShort, Connection, Store, Answers, Ends, Fed, FedIf, Feeds, Stays, Finishes, HasAnswered, FedAll, opening_connection, scene, progress, remainder, beginning}
 use Rattle.iscsi_target.specs.Feed.{stream_of}
 use Rattle.iscsi_target.proofs.AppendLemmas.{answers_append}
 use Rattle.iscsi_target.proofs.JoiningLemmas.{answers_joined}
@@ -56,7 +56,7 @@ none_served settings disk = record {
 
 -- the target has answered all PDUs of the stream, and none is ready
 pub record Stands (settings : Settings) (disk : Disk) (bytes : List ℕ) (now : Connection) (disk_now : Disk) (written : List ℕ) : Type 0 where
-  pub has : HasAnswered settings 1 disk bytes now disk_now written
+  pub has : HasAnswered (beginning settings 1 disk) bytes now disk_now written
   pub ready : is_ready now.framing ≡ false
   pub bound : now.framing.limit ≡ limit settings
 
@@ -71,7 +71,7 @@ stands_first settings disk = record {
 
 -- a broken rule closes the session
 works_close : (old : Connection) (before : Store) (out bytes : List ℕ) (framing : Framing) (more : List Message) (r : Stepped) (after : Store) →
-    Answers old before bytes framing more r after
+    Answers old before bytes (progress framing more r) after
     → after.failures ≡ before.failures → (rule : ℕ) → r.rule ≡ Some rule → is_closed r.machine ≡ true
 works_close old before out bytes framing more r after a works rule e =
     let is : r ≡ answers old.machine before.disk more = a.works works in
@@ -79,7 +79,7 @@ works_close old before out bytes framing more r after a works rule e =
 
 -- where memory ran out, the session is closed
 short_closed : (result : Result Phase TargetFault) (out : List ℕ) (framing : Framing) (rest : List ℕ) (r : Stepped) (counted : ℕ) (new : Machine)
-    (after : Store) (written : List ℕ) → feed.LeavesBy result out framing rest r counted new after written
+    (after : Store) (written : List ℕ) → feed.LeavesBy result out (feed.remainder framing rest r counted) new after written
     → result ≡ Err faults.NoMemory → is_closed new ≡ true
 short_closed (Ok phase) out framing rest r counted new after written h e = absurd cc
 short_closed (Err faults.NoMemory) out framing rest r counted new after written h e = ap is_closed h.shut
@@ -103,7 +103,7 @@ framing_kept piece (Err faults.Closed) framing n r new e short closes live = abs
 
 stands_more : (settings : Settings) (disk : Disk) (bytes : List ℕ) (old : Connection) (before : Store) (out piece : List ℕ) (result : Result Phase TargetFault)
     (new : Connection) (after : Store) (written : List ℕ)
-    → Stands settings disk bytes old before.disk out → Feeds old before out piece result new after written → after.failures ≡ before.failures →
+    → Stands settings disk bytes old before.disk out → Feeds (scene old before out) piece result (scene new after written) → after.failures ≡ before.failures →
     is_closed new.machine ≡ false → Stands settings disk (bytes ++ piece) new after.disk written
 stands_more settings disk bytes old before out piece result new after written s f works live =
     let kept : new.framing ≡ f.framing =
@@ -121,13 +121,14 @@ either false = inr refl
 
 -- a closed session stays closed
 stay_closed : (old new : Connection) (before after : Store) (out piece written : List ℕ) (result : Result Phase TargetFault)
-    → is_closed old.machine ≡ true → Fed old before out piece result new after written → is_closed new.machine ≡ true
+    → is_closed old.machine ≡ true → Fed (scene old before out) piece result (scene new after written) → is_closed new.machine ≡ true
 stay_closed old new before after out piece written result c f =
-    let s : Stays old before out result new after written = subst (λ (b : Bool). FedIf b old before out piece result new after written) c f in
+    let s : Stays (scene old before out) result (scene new after written) =
+    subst (λ (b : Bool). FedIf b (scene old before out) piece result (scene new after written)) c f in
     ap (λ (x : Connection). is_closed x.machine) s.connection ∙ c
 
 all_closed : (pieces : List (List ℕ)) (old now : Connection) (before store : Store) (out written : List ℕ) → is_closed old.machine ≡ true →
-    FedAll old before out pieces now store written → is_closed now.machine ≡ true
+    FedAll (scene old before out) pieces (scene now store written) → is_closed now.machine ≡ true
 unfolding FedAll
 all_closed [] old now before store out written c f = ap (λ (x : Connection). is_closed x.machine) f.0 ∙ c
 all_closed (p ∷ pieces) old now before store out written c f = all_closed pieces f.1 now f.2 store f.3 written
@@ -136,7 +137,7 @@ all_closed (p ∷ pieces) old now before store out written c f = all_closed piec
 -- in a session that is not closed all PDUs are answered
 pub stands_answered : (settings : Settings) (disk : Disk) (bytes : List ℕ) (pieces : List (List ℕ)) (old now : Connection) (before store : Store)
     (out written : List ℕ)
-    → Stands settings disk bytes old before.disk out → FedAll old before out pieces now store written → is_closed now.machine ≡ false →
+    → Stands settings disk bytes old before.disk out → FedAll (scene old before out) pieces (scene now store written) → is_closed now.machine ≡ false →
     Stands settings disk (bytes ++ stream_of pieces) now store.disk written
 unfolding FedAll
 stands_answered settings disk bytes [] old now before store out written h f live =
@@ -150,7 +151,8 @@ stands_answered settings disk bytes (p ∷ pieces) old now before store out writ
       | inr o ↦ elim (either (is_closed f.1.machine)) [
         | inl c ↦ absurd (apart (all_closed pieces f.1 now f.2 store f.3 written c f.6) live)
         | inr l ↦
-            let one : Feeds old before out p f.0 f.1 f.2 f.3 = subst (λ (b : Bool). FedIf b old before out p f.0 f.1 f.2 f.3) o f.4 in
+            let one : Feeds (scene old before out) p f.0 (scene f.1 f.2 f.3) =
+            subst (λ (b : Bool). FedIf b (scene old before out) p f.0 (scene f.1 f.2 f.3)) o f.4 in
             subst (λ (x : List ℕ). Stands settings disk x now store.disk written) (append_assoc bytes p (stream_of pieces))
             (stands_answered settings disk (bytes ++ p) pieces f.1 now f.2 store f.3 written
             (stands_more settings disk bytes old before out p f.0 f.1 f.2 f.3 h one f.5.device l) f.6 live)
@@ -172,7 +174,8 @@ none_broken settings disk ms live =
 -- the rule that the PDUs of a call broke is that of all PDUs
 rule_of : (settings : Settings) (disk : Disk) (taken : List ℕ) (old : Connection) (before : Store) (out bytes : List ℕ) (framing : Framing)
     (more : List Message) (r : Stepped) (after : Store)
-    → (h : HasAnswered settings 1 disk taken old before.disk out) → is_closed old.machine ≡ false → Answers old before bytes framing more r after →
+    → (h : HasAnswered (beginning settings 1 disk) taken old before.disk out) → is_closed old.machine ≡ false
+    → Answers old before bytes (progress framing more r) after →
     after.failures ≡ before.failures
     → r.rule ≡ (answers (opening settings 1) disk (h.messages ++ more)).rule
 rule_of settings disk taken old before out bytes framing more r after h live a works =
@@ -294,28 +297,29 @@ finish_told faults.Closed settings disk bytes now new disk_now written s live fa
 -- what a call fed, behind what was answered
 abbrev fed_hears : (settings : Settings) (disk : Disk) (bytes piece : List ℕ) (old new : Connection) (before after : Store) (out written : List ℕ)
     (result : Result Phase TargetFault) → Stands settings disk bytes old before.disk out
-    → Feeds old before out piece result new after written → Receives settings (bytes ++ piece)
+    → Feeds (scene old before out) piece result (scene new after written) → Receives settings (bytes ++ piece)
 fed_hears settings disk bytes piece old new before after out written result s f =
     hears_of settings (bytes ++ piece) (bytes ++ take f.count piece) (drop f.count piece)
     (s.has.messages ++ f.messages) f.framing (f.answered.taken bytes s.has.messages s.has.taken) (f.answered.limit ∙ s.bound) (whole_is bytes piece f.count)
 
 fed_told : (settings : Settings) (disk : Disk) (bytes piece : List ℕ) (old new : Connection) (before after : Store) (out written : List ℕ)
     (result : Result Phase TargetFault) → (s : Stands settings disk bytes old before.disk out)
-    → (f : Feeds old before out piece result new after written) → feed.Stands out f.stepped f.answered.failures after written → after.failures ≡ before.failures
-    → Told settings 1 disk (s.has.messages ++ f.messages) f.stepped after.disk written
+    → (f : Feeds (scene old before out) piece result (scene new after written)) → feed.Stands out f.stepped f.answered.failures after written
+    → after.failures ≡ before.failures
+    → Told (beginning settings 1 disk) (s.has.messages ++ f.messages) f.stepped after.disk written
 fed_told settings disk bytes piece old new before after out written result s f left works =
     told settings 1 disk bytes old before out (take f.count piece) f.framing f.messages f.stepped f.answered.failures after written s.has f.answered left works
 
 fed_rule : (settings : Settings) (disk : Disk) (bytes piece : List ℕ) (old new : Connection) (before after : Store) (out written : List ℕ)
     (result : Result Phase TargetFault) → (s : Stands settings disk bytes old before.disk out)
-    → is_closed old.machine ≡ false → (f : Feeds old before out piece result new after written) → after.failures ≡ before.failures →
+    → is_closed old.machine ≡ false → (f : Feeds (scene old before out) piece result (scene new after written)) → after.failures ≡ before.failures →
     (answers (opening settings 1) disk (s.has.messages ++ f.messages)).rule ≡ f.stepped.rule
 fed_rule settings disk bytes piece old new before after out written result s live f works =
     sym (rule_of settings disk bytes old before out (take f.count piece) f.framing f.messages f.stepped after s.has live f.answered works)
 
 pub fault_told : (fault : TargetFault) (settings : Settings) (disk : Disk) (bytes piece : List ℕ) (old new : Connection) (before after : Store)
     (out written : List ℕ) → Stands settings disk bytes old before.disk out
-    → is_closed old.machine ≡ false → Feeds old before out piece (Err fault) new after written → after.failures ≡ before.failures →
+    → is_closed old.machine ≡ false → Feeds (scene old before out) piece (Err fault) (scene new after written) → after.failures ≡ before.failures →
     EndsBy settings disk (Err (session.Target fault)) (bytes ++ piece)
 fault_told (faults.Stream fault) settings disk bytes piece old new before after out written s live f works =
     let result : Result Phase TargetFault = Err (faults.Stream fault) in
@@ -337,8 +341,8 @@ fault_told faults.Closed settings disk bytes piece old new before after out writ
 -- where memory ran out, the PDUs before were answered, and perhaps some tasks of the next one
 first_front : (settings : Settings) (disk : Disk) (read out : List ℕ) (framing : Framing) (rest : List ℕ) (r : Stepped) (counted : ℕ) (new : Machine)
     (after : Store) (written : List ℕ) (receives : Receives settings read)
-    → Told settings 1 disk receives.messages r r.disk (out ++ canon r.answers) → after.failures ≡ counted →
-    (l : StopsShort out framing rest r counted new after written)
+    → Told (beginning settings 1 disk) receives.messages r r.disk (out ++ canon r.answers) → after.failures ≡ counted →
+    (l : StopsShort out (remainder framing rest r counted) new after written)
     → ((message : Message) (next : Framing) (n : ℕ) → Moves framing next (take n rest) (message ∷ []) → next.limit ≡ framing.limit →
     (more : Receives settings read) × (more.messages ≡ receives.messages ++ message ∷ []))
     → ServesFirst settings disk read after.disk written
@@ -373,12 +377,12 @@ first_front settings disk read out framing rest r counted new after written rece
 
 pub first_told : (settings : Settings) (disk : Disk) (bytes piece : List ℕ) (old new : Connection) (before after : Store) (out written : List ℕ) →
     Stands settings disk bytes old before.disk out
-    → Feeds old before out piece (Err faults.NoMemory) new after written → after.failures ≡ before.failures →
+    → Feeds (scene old before out) piece (Err faults.NoMemory) (scene new after written) → after.failures ≡ before.failures →
     ServesFirst settings disk (bytes ++ piece) after.disk written
 first_told settings disk bytes piece old new before after out written s f works =
     let receives : Receives settings (bytes ++ piece) = fed_hears settings disk bytes piece old new before after out written (Err faults.NoMemory) s f in
     let mid : Store = record { disk = f.stepped.disk; failures = after.failures } in
-    let a : Answers old before (take f.count piece) f.framing f.messages f.stepped mid = record {
+    let a : Answers old before (take f.count piece) (progress f.framing f.messages f.stepped) mid = record {
       taken = f.answered.taken;
       limit = f.answered.limit;
       ready = f.answered.ready;
@@ -406,7 +410,7 @@ first_told settings disk bytes piece old new before after out written s f works 
 -- the PDUs of a piece close it
 pub over_told : (phase : Phase) (settings : Settings) (disk : Disk) (bytes piece : List ℕ) (old new : Connection) (before after : Store) (out written : List ℕ)
     → Stands settings disk bytes old before.disk out → is_closed old.machine ≡ false
-    → Feeds old before out piece (Ok phase) new after written → is_closed_phase phase ≡ true → after.failures ≡ before.failures →
+    → Feeds (scene old before out) piece (Ok phase) (scene new after written) → is_closed_phase phase ≡ true → after.failures ≡ before.failures →
     IsOver settings disk (bytes ++ piece)
 over_told phase settings disk bytes piece old new before after out written s live f over works =
     let t = fed_told settings disk bytes piece old new before after out written (Ok phase) s f f.leaves works in (

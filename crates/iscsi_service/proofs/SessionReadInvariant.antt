@@ -22,7 +22,7 @@ use Rattle.iscsi_login.specs.Stage.{is_closed_phase}
 use Rattle.iscsi_stream.specs.Framing.{Framing}
 use Rattle.iscsi_target.specs.State.{Machine, Stepped}
 use Rattle.iscsi_target.specs.Feed as feed
-use Rattle.iscsi_target.specs.Feed.{LeavesBy, Connection, Store, Fed, FedIf, FedNext, FedNextIf, Feeds, Stays, FedAll, GoesWell, Finishes, opening_connection}
+use Rattle.iscsi_target.specs.Feed.{LeavesBy, Connection, Store, Fed, FedIf, FedNext, FedNextIf, Feeds, Stays, FedAll, GoesWell, Finishes, opening_connection, scene, remainder}
 use Rattle.iscsi_target.specs.Feed.{stream_of}
 use Rattle.iscsi_target.specs.Laws.{Leads}
 use Rattle.iscsi_target.proofs.FeedingLemmas.{fed_any}
@@ -75,8 +75,8 @@ stands_behind front out r counted after written h = record {
 }
 
 left_behind : (result : Result Phase TargetFault) (front out : List ℕ) (framing : Framing) (rest : List ℕ) (r : Stepped) (counted : ℕ) (new : Machine)
-    (after : Store) (written : List ℕ) → LeavesBy result out framing rest r counted new after written
-    → LeavesBy result (front ++ out) framing rest r counted new after (front ++ written)
+    (after : Store) (written : List ℕ) → LeavesBy result out (remainder framing rest r counted) new after written
+    → LeavesBy result (front ++ out) (remainder framing rest r counted) new after (front ++ written)
 left_behind (Ok phase) front out framing rest r counted new after written h = stands_behind front out r counted after written h
 left_behind (Err faults.NoMemory) front out framing rest r counted new after written h = record {
   front = h.front;
@@ -91,7 +91,8 @@ left_behind (Err faults.Closed) front out framing rest r counted new after writt
 
 -- what a call of feed appends, behind what was written
 fed_behind : (b : Bool) (old new : Connection) (before after : Store) (front piece out written : List ℕ) (result : Result Phase TargetFault)
-    → FedIf b old before out piece result new after written → FedIf b old before (front ++ out) piece result new after (front ++ written)
+    → FedIf b (scene old before out) piece result (scene new after written)
+    → FedIf b (scene old before (front ++ out)) piece result (scene new after (front ++ written))
 fed_behind true old new before after front piece out written result f = record {
   result_is = f.result_is;
   connection = f.connection;
@@ -111,17 +112,18 @@ fed_behind false old new before after front piece out written result f = record 
 
 -- one piece more
 fed_more : (pieces : List (List ℕ)) (old now new : Connection) (before store after : Store) (out written piece all : List ℕ) (result : Result Phase TargetFault)
-    → FedAll old before out pieces now store written → Fed now store written piece result new after all → GoesWell result store after
-    → FedAll old before out (pieces ++ piece ∷ []) new after all
+    → FedAll (scene old before out) pieces (scene now store written) → Fed (scene now store written) piece result (scene new after all)
+    → GoesWell result store after
+    → FedAll (scene old before out) (pieces ++ piece ∷ []) (scene new after all)
 unfolding FedAll
 fed_more [] old now new before store after out written piece all result f one well = (
   result,
   new,
   after,
   all,
-  subst (λ (x : Connection). Fed x before out piece result new after all) f.0
-      (subst (λ (x : Store). Fed now x out piece result new after all) f.1
-      (subst (λ (x : List ℕ). Fed now store x piece result new after all) f.2 one)),
+  subst (λ (x : Connection). Fed (scene x before out) piece result (scene new after all)) f.0
+      (subst (λ (x : Store). Fed (scene now x out) piece result (scene new after all)) f.1
+      (subst (λ (x : List ℕ). Fed (scene now store x) piece result (scene new after all)) f.2 one)),
   subst (λ (x : Store). GoesWell result x after) f.1 well,
   (refl, refl, refl),
 )
@@ -139,7 +141,7 @@ stands_executed first out r counted after written leads h = (r.executed, subst (
 
 left_executed : (result : Result Phase TargetFault) (first : Disk) (out : List ℕ) (framing : Framing) (rest : List ℕ) (r : Stepped) (counted : ℕ)
     (new : Machine) (after : Store) (written : List ℕ) → Leads first r.executed r.disk
-    → LeavesBy result out framing rest r counted new after written → HasExecuted first after.disk
+    → LeavesBy result out (remainder framing rest r counted) new after written → HasExecuted first after.disk
 left_executed (Ok phase) first out framing rest r counted new after written leads h = stands_executed first out r counted after written leads h
 left_executed (Err faults.NoMemory) first out framing rest r counted new after written leads h = elim h.stops [
   | inl none ↦ (r.executed, subst (λ (d : Disk). Leads first r.executed d) (sym (h.disk ∙ ap (λ (x : Stepped). x.disk) none.0)) leads)
@@ -157,7 +159,7 @@ left_executed (Err faults.Closed) first out framing rest r counted new after wri
 
 -- what a call of feed executed
 fed_executed : (b : Bool) (old new : Connection) (before after : Store) (out piece written : List ℕ) (result : Result Phase TargetFault)
-    → FedIf b old before out piece result new after written → HasExecuted before.disk after.disk
+    → FedIf b (scene old before out) piece result (scene new after written) → HasExecuted before.disk after.disk
 fed_executed true old new before after out piece written result f = (
   [],
   subst (λ (x : Store). Leads before.disk [] x.disk) (sym f.store)
@@ -169,7 +171,7 @@ fed_executed false old new before after out piece written result f =
 
 -- so the blocks are those that commands left, one call more
 pub executed_more : (first : Disk) (old new : Connection) (before after : Store) (out piece written : List ℕ) (result : Result Phase TargetFault)
-    → HasExecuted first before.disk → Fed old before out piece result new after written → HasExecuted first after.disk
+    → HasExecuted first before.disk → Fed (scene old before out) piece result (scene new after written) → HasExecuted first after.disk
 executed_more first old new before after out piece written result e f =
     let more : HasExecuted before.disk after.disk = fed_executed (is_closed old.machine) old new before after out piece written result f in
     (e.0 ++ more.0, leads_append first before.disk after.disk e.0 more.0 e.1 more.1)
@@ -178,7 +180,7 @@ executed_more first old new before after out piece written result e f =
 
 -- behind what was answered
 left_rises : (result : Result Phase TargetFault) (out : List ℕ) (framing : Framing) (rest : List ℕ) (r : Stepped) (counted : ℕ) (new : Machine) (after : Store)
-    (written : List ℕ) → LeavesBy result out framing rest r counted new after written
+    (written : List ℕ) → LeavesBy result out (remainder framing rest r counted) new after written
     → counted ≤ after.failures
 left_rises (Ok phase) out framing rest r counted new after written h = omega (arith, h.failures)
 left_rises (Err faults.NoMemory) out framing rest r counted new after written h = short_rises out framing rest r counted new after written h
@@ -188,7 +190,7 @@ left_rises (Err faults.Closed) out framing rest r counted new after written h = 
 
 -- by a call
 pub fed_rises : (b : Bool) (old new : Connection) (before after : Store) (out piece written : List ℕ) (result : Result Phase TargetFault) →
-    FedIf b old before out piece result new after written → before.failures ≤ after.failures
+    FedIf b (scene old before out) piece result (scene new after written) → before.failures ≤ after.failures
 fed_rises true old new before after out piece written result f = omega (arith, ap (λ (x : Store). x.failures) f.store)
 fed_rises false old new before after out piece written result f =
     let low : before.failures ≤ f.answered.failures = may_rise old.machine before.disk before.failures f.messages f.stepped f.answered.failures f.answered.may
@@ -203,7 +205,7 @@ none_counted first before after low high none = (omega arith, omega arith)
 
 served_more : (settings : Settings) (first : Store) (stream : List ℕ) (old new : Connection) (before after : Store) (start contents : Option (List ℕ))
     (waiting piece written : List ℕ) (result : Result Phase TargetFault)
-    → ServedUpTo settings first stream start (service old before contents waiting) → Fed old before waiting piece result new after written →
+    → ServedUpTo settings first stream start (service old before contents waiting) → Fed (scene old before waiting) piece result (scene new after written) →
     (result ≡ Err faults.NoMemory → ⊥)
     → ServedUpTo settings first (stream ++ piece) start (service new after contents written)
 served_more settings first stream old new before after start contents waiting piece written result up one memory = record {
@@ -233,7 +235,8 @@ written_out settings first stream target store start contents now waiting up are
   appended = Appends-trans start contents now up.sent waiting up.appended more;
   bytes = AreBytes-append up.sent waiting up.bytes are;
   rises = up.rises;
-  fed = λ h. subst (λ (x : List ℕ). FedAll (opening_connection settings 1) first [] up.pieces target store x) (sym (append-nil (up.sent ++ waiting)))
+  fed = λ h. subst (λ (x : List ℕ). FedAll (scene (opening_connection settings 1) first []) up.pieces (scene target store x))
+      (sym (append-nil (up.sent ++ waiting)))
       (up.fed h);
   executed = up.executed;
 }
@@ -256,10 +259,10 @@ rest_dropped : (settings : Settings) (first : Store) (stream : List ℕ) (target
     → is_closed target.machine ≡ true → ServedUpTo settings first stream start (service target store contents waiting) →
     ServedUpTo settings first (stream ++ rest) start (service target store contents waiting)
 rest_dropped settings first stream target store start contents waiting rest over up =
-    let stays : Stays target store waiting (Err faults.Closed) target store waiting =
+    let stays : Stays (scene target store waiting) (Err faults.Closed) (scene target store waiting) =
     record { result_is = refl; connection = refl; store = refl; output_is = refl } in
     served_more settings first stream target target store store start contents waiting rest waiting (Err faults.Closed) up
-    (subst (λ (b : Bool). FedIf b target store waiting rest (Err faults.Closed) target store waiting) (sym over) stays)
+    (subst (λ (b : Bool). FedIf b (scene target store waiting) rest (Err faults.Closed) (scene target store waiting)) (sym over) stays)
     (λ e. cc)
 
 -- the target stands behind what was served
@@ -274,10 +277,10 @@ stands_up settings first stream target store start contents waiting up h live =
 
 -- a call in a session that is not closed, behind what was written
 feeds_live : (old new : Connection) (before after : Store) (front piece out written : List ℕ) (result : Result Phase TargetFault) → is_closed old.machine
-    ≡ false → Fed old before out piece result new after written
-    → Feeds old before (front ++ out) piece result new after (front ++ written)
+    ≡ false → Fed (scene old before out) piece result (scene new after written)
+    → Feeds (scene old before (front ++ out)) piece result (scene new after (front ++ written))
 feeds_live old new before after front piece out written result live f =
-    subst (λ (b : Bool). FedIf b old before (front ++ out) piece result new after (front ++ written)) live
+    subst (λ (b : Bool). FedIf b (scene old before (front ++ out)) piece result (scene new after (front ++ written))) live
     (fed_behind (is_closed old.machine) old new before after front piece out written result f)
 
 -- ---- one PDU
@@ -287,12 +290,13 @@ either true = inl refl
 either false = inr refl
 
 pub next_is : (b : Bool) (old new : Connection) (before after : Store) (out piece written : List ℕ) (done : ℕ × Phase)
-    → FedNextIf b old before out piece (Ok done) new after written → FedIf b old before out (take done.0 piece) (Ok done.1) new after written
+    → FedNextIf b (scene old before out) piece (Ok done) (scene new after written)
+    → FedIf b (scene old before out) (take done.0 piece) (Ok done.1) (scene new after written)
 next_is true old new before after out piece written done f = absurd cc
 next_is false old new before after out piece written done f = f.fed
 
 pub next_bound : (b : Bool) (old new : Connection) (before after : Store) (out piece written : List ℕ) (done : ℕ × Phase)
-    → FedNextIf b old before out piece (Ok done) new after written → (done.0 ≤ length piece) × (0 < length piece → 0 < done.0)
+    → FedNextIf b (scene old before out) piece (Ok done) (scene new after written) → (done.0 ≤ length piece) × (0 < length piece → 0 < done.0)
 next_bound true old new before after out piece written done f = absurd cc
 next_bound false old new before after out piece written done f = (f.bound, f.some)
 
@@ -301,19 +305,20 @@ as_phase (Ok done) = Ok done.1
 as_phase (Err fault) = Err fault
 
 pub next_fails : (b : Bool) (old new : Connection) (before after : Store) (out piece written : List ℕ) (fault : TargetFault)
-    → FedNextIf b old before out piece (Err fault) new after written → FedIf b old before out piece (Err fault) new after written
+    → FedNextIf b (scene old before out) piece (Err fault) (scene new after written)
+    → FedIf b (scene old before out) piece (Err fault) (scene new after written)
 next_fails true old new before after out piece written fault f = record { result_is = ap as_phase f.0; connection = f.1; store = f.2; output_is = f.3 }
 next_fails false old new before after out piece written fault f = f
 
 pub next_goes : (old new : Connection) (before after : Store) (contents : Option (List ℕ)) (out piece written : List ℕ) (done : ℕ × Phase)
-    → FedNext old before out piece (Ok done) new after written
+    → FedNext (scene old before out) piece (Ok done) (scene new after written)
     → Goes (service old before contents out) (take done.0 piece) (service new after contents written)
 next_goes old new before after contents out piece written done f = λ settings first stream start up.
     served_more settings first stream old new before after start contents out (take done.0 piece) written (Ok done.1) up
     (next_is (is_closed old.machine) old new before after out piece written done f) (λ e. cc)
 
 executed_next : (first : Disk) (old new : Connection) (before after : Store) (out piece written : List ℕ) (result : Result (ℕ × Phase) TargetFault)
-    → HasExecuted first before.disk → FedNext old before out piece result new after written → HasExecuted first after.disk
+    → HasExecuted first before.disk → FedNext (scene old before out) piece result (scene new after written) → HasExecuted first after.disk
 executed_next first old new before after out piece written (Ok done) e f =
     executed_more first old new before after out (take done.0 piece) written (Ok done.1) e
     (next_is (is_closed old.machine) old new before after out piece written done f)
@@ -323,7 +328,7 @@ executed_next first old new before after out piece written (Err fault) e f =
 -- the answers could not be written, or a part of them alone
 pub write_loses : (old new : Connection) (before after : Store) (contents now : Option (List ℕ)) (out piece written waiting : List ℕ)
     (result : Result (ℕ × Phase) TargetFault)
-    → FedNext old before out piece result new after written → AreBytes written → WroteFront contents now written →
+    → FedNext (scene old before out) piece result (scene new after written) → AreBytes written → WroteFront contents now written →
     Loses (service old before contents out) (service new after now waiting)
 write_loses old new before after contents now out piece written waiting result f are front = λ settings first stream start up. (
   up.sent ++ take front.0 written,
@@ -333,7 +338,8 @@ write_loses old new before after contents now out piece written waiting result f
 )
 
 fault_served_to : (old new : Connection) (before after : Store) (contents now : Option (List ℕ)) (out piece written : List ℕ) (fault : TargetFault)
-    → FedNext old before out piece (Err fault) new after written → ((let r : Result Phase TargetFault = Err fault in r ≡ Err faults.NoMemory) → ⊥) →
+    → FedNext (scene old before out) piece (Err fault) (scene new after written)
+    → ((let r : Result Phase TargetFault = Err fault in r ≡ Err faults.NoMemory) → ⊥) →
     AreBytes written → Appends contents now written
     → Goes (service old before contents out) piece (service new after now [])
 fault_served_to old new before after contents now out piece written fault f well are wrote = λ settings first stream start up.
@@ -344,7 +350,7 @@ fault_served_to old new before after contents now out piece written fault f well
 -- why a session ends by a fault that a call of feed_next answers
 fault_tells : (old new : Connection) (before after : Store) (contents : Option (List ℕ)) (out piece written : List ℕ) (fault : TargetFault) →
     is_closed old.machine ≡ false
-    → FedNext old before out piece (Err fault) new after written → Tells (service old before contents out) piece (session.Target fault) after
+    → FedNext (scene old before out) piece (Err fault) (scene new after written) → Tells (service old before contents out) piece (session.Target fault) after
 fault_tells old new before after contents out piece written fault live f = λ settings first stream start up none.
     let g = next_fails (is_closed old.machine) old new before after out piece written fault f in
     let h = none_counted first.failures before.failures after.failures up.rises (fed_rises (is_closed old.machine) old new before after out piece written
@@ -355,7 +361,7 @@ fault_tells old new before after contents out piece written fault live f = λ se
 
 fault_goes : (old new : Connection) (before after : Store) (contents now : Option (List ℕ)) (out piece written : List ℕ) (fault : TargetFault) →
     (fault ≡ faults.NoMemory → ⊥) → is_closed old.machine ≡ false
-    → FedNext old before out piece (Err fault) new after written → AreBytes written → Appends contents now written
+    → FedNext (scene old before out) piece (Err fault) (scene new after written) → AreBytes written → Appends contents now written
     → Goes (service old before contents out) piece (service new after now []) × Tells (service old before contents out) piece (session.Target fault) after
 fault_goes old new before after contents now out piece written fault some live f are wrote = (
   fault_served_to old new before after contents now out piece written fault f (λ e. some (err_is e)) are wrote,
@@ -368,7 +374,7 @@ fault_goes old new before after contents now out piece written fault some live f
 -- a fault that a call of feed_next answers, and then the answers were written
 pub fault_breaks : (old new : Connection) (before after : Store) (contents now : Option (List ℕ)) (out piece written : List ℕ) (fault : TargetFault) →
     is_closed old.machine ≡ false
-    → FedNext old before out piece (Err fault) new after written → AreBytes written → Appends contents now written
+    → FedNext (scene old before out) piece (Err fault) (scene new after written) → AreBytes written → Appends contents now written
     → Breaks (service old before contents out) piece (session.Target fault) (service new after now [])
 fault_breaks old new before after contents now out piece written faults.NoMemory live f are wrote = λ settings first stream start up. (
   up.sent ++ written,
@@ -388,7 +394,7 @@ fault_breaks old new before after contents now out piece written (faults.Stream 
 fault_breaks old new before after contents now out piece written (faults.Protocol rule) live f are wrote =
     fault_goes old new before after contents now out piece written (faults.Protocol rule) (λ e. cc) live f are wrote
 fault_breaks old new before after contents now out piece written faults.Closed live f are wrote =
-    (subst (λ (b : Bool). FedIf b old before out piece (Err faults.Closed) new after written) live
+    (subst (λ (b : Bool). FedIf b (scene old before out) piece (Err faults.Closed) (scene new after written)) live
     (next_fails (is_closed old.machine) old new before after out piece written faults.Closed f)).ends
 
 -- ---- bytes after bytes
@@ -519,6 +525,7 @@ pub record Outside : Type 0 where
   pub remaining : Option (List ℕ)
   pub contents : Option (List ℕ)
 
+-- these three together
 abbrev pub outside : Store → Option (List ℕ) → Option (List ℕ) → Outside
 outside store remaining contents = record { store = store; remaining = remaining; contents = contents }
 
@@ -545,7 +552,7 @@ all_served : (settings : Settings) (first : Store) (stream : List ℕ) (now : Co
     → IsInRange settings.preferences → store.failures ≡ first.failures → ServesAll settings first.disk stream store.disk up.sent
 all_served settings first stream now store w0 w1 up range h ms given rest s =
     fed_any settings 1 first up.pieces now store up.sent ms given rest (omega (arith, range.max_recv.1))
-    (subst (λ (x : List ℕ). FedAll (opening_connection settings 1) first [] up.pieces now store x) (append-nil up.sent) (up.fed h))
+    (subst (λ (x : List ℕ). FedAll (scene (opening_connection settings 1) first []) up.pieces (scene now store x)) (append-nil up.sent) (up.fed h))
     (subst (λ (x : List ℕ). Splits longest_segment x ms given rest) up.whole s)
 
 -- what is said where a session ends so
@@ -719,10 +726,10 @@ ok_is_no_fault done e = absurd cc
 
 -- where a call of feed_next answers that the session is closed
 pub next_closes : (old new : Connection) (before after : Store) (contents : Option (List ℕ)) (out piece written : List ℕ) (done : ℕ × Phase)
-    → FedNext old before out piece (Ok done) new after written → is_closed_phase done.1 ≡ true
+    → FedNext (scene old before out) piece (Ok done) (scene new after written) → is_closed_phase done.1 ≡ true
     → ClosesBy (service old before contents out) (take done.0 piece) after
 next_closes old new before after contents out piece written done f over = λ settings first stream start up none.
-    let fed : Fed old before out (take done.0 piece) (Ok done.1) new after written =
+    let fed : Fed (scene old before out) (take done.0 piece) (Ok done.1) (scene new after written) =
     next_is (is_closed old.machine) old new before after out piece written done f in
     let h = none_counted first.failures before.failures after.failures up.rises (fed_rises (is_closed old.machine) old new before after out (take done.0 piece)
     written (Ok done.1) fed) none in
@@ -734,16 +741,16 @@ next_closes old new before after contents out piece written done f over = λ set
           (feeds_live old new before after up.sent (take done.0 piece) out written (Ok done.1) live fed) over h.1
     ]
   where
-    ended_twice : is_closed old.machine ≡ true → FedNext old before out piece (Ok done) new after written → ⊥
-    ended_twice c g = ok_is_no_fault done (subst (λ (b : Bool). FedNextIf b old before out piece (Ok done) new after written) c g).0
+    ended_twice : is_closed old.machine ≡ true → FedNext (scene old before out) piece (Ok done) (scene new after written) → ⊥
+    ended_twice c g = ok_is_no_fault done (subst (λ (b : Bool). FedNextIf b (scene old before out) piece (Ok done) (scene new after written)) c g).0
 
 pub next_is_closed : (b : Bool) (old new : Connection) (before after : Store) (out piece written : List ℕ) (done : ℕ × Phase)
-    → FedNextIf b old before out piece (Ok done) new after written → is_closed_phase done.1 ≡ true → is_closed new.machine ≡ true
+    → FedNextIf b (scene old before out) piece (Ok done) (scene new after written) → is_closed_phase done.1 ≡ true → is_closed new.machine ≡ true
 next_is_closed true old new before after out piece written done f over = absurd cc
 next_is_closed false old new before after out piece written done f over = ap is_closed f.fed.ends.1 ∙ sym (ap is_closed_phase f.fed.ends.2) ∙ over
 
 pub next_is_open : (b : Bool) (old new : Connection) (before after : Store) (out piece written : List ℕ) (done : ℕ × Phase)
-    → FedNextIf b old before out piece (Ok done) new after written → is_closed_phase done.1 ≡ false → is_closed new.machine ≡ false
+    → FedNextIf b (scene old before out) piece (Ok done) (scene new after written) → is_closed_phase done.1 ≡ false → is_closed new.machine ≡ false
 next_is_open true old new before after out piece written done f open_ = absurd cc
 next_is_open false old new before after out piece written done f open_ = ap is_closed f.fed.ends.1 ∙ sym (ap is_closed_phase f.fed.ends.2) ∙ open_
 

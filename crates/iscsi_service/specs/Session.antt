@@ -17,7 +17,7 @@ use Rattle.iscsi_target_session.specs.Session.{limit}
 use Rattle.iscsi_stream.specs.Canonical.{canon}
 use Rattle.iscsi_target.specs.State.{Execution, Stepped, opening, unchanged}
 use Rattle.iscsi_target.specs.Machine.{answers, is_closed, MayStop}
-use Rattle.iscsi_target.specs.Feed.{Writes}
+use Rattle.iscsi_target.specs.Feed.{Writes, beginning}
 use Rattle.iscsi_target.specs.Laws.{Leads}
 use Rattle.iscsi_service.specs.declared.session.SessionFault.{SessionFault}
 use Rattle.iscsi_service.specs.declared.session.SessionFault.TheVariants as session
@@ -40,7 +40,7 @@ HasExecuted before after = (executed : List Execution) × Leads before executed 
 abbrev pub ServesAll : Settings → Disk → List ℕ → Disk → List ℕ → Type 0
 ServesAll settings disk read disk_now written =
     (ms : List Message) (given rest : List ℕ) → Splits longest_segment read ms given rest
-    → Writes settings 1 disk ms disk_now written
+    → Writes (beginning settings 1 disk) ms disk_now written
 
 -- The first PDUs of what was read, within the limit of the target's framer, and what follows them.
 pub record Receives (settings : Settings) (read : List ℕ) : Type 0 where

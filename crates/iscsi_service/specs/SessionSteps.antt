@@ -5,7 +5,7 @@ use Rattle.std.specs.Io.KnownBytes.{Appends}
 use Rattle.iscsi_pdu.specs.Meaning.{AreBytes}
 use Rattle.iscsi_target.specs.declared.fault.TargetFault.TheVariants as faults
 use Rattle.iscsi_target_session.specs.Configured.{Settings}
-use Rattle.iscsi_target.specs.Feed.{Connection, Store, FedAll, opening_connection, stream_of}
+use Rattle.iscsi_target.specs.Feed.{Connection, Store, FedAll, opening_connection, stream_of, scene}
 use Rattle.iscsi_service.specs.Session.{HasExecuted, IsOver, EndsBy, ServesFirst}
 use Rattle.iscsi_service.specs.declared.session.SessionFault.{SessionFault}
 use Rattle.iscsi_service.specs.declared.session.SessionFault.TheVariants as session
@@ -37,8 +37,9 @@ pub record ServedUpTo (settings : Settings) (first : Store) (stream : List ℕ)
   pub appended : Appends start now.contents sent
   pub bytes : AreBytes sent
   pub rises : first.failures ≤ now.store.failures
-  pub fed : now.store.failures ≡ first.failures → FedAll (opening_connection settings 1) first []
-      pieces now.target now.store (sent ++ now.waiting)
+  pub fed : now.store.failures ≡ first.failures
+      → FedAll (scene (opening_connection settings 1) first []) pieces
+      (scene now.target now.store (sent ++ now.waiting))
   pub executed : HasExecuted first.disk now.store.disk
 
 -- What was served up to here is served with these bytes more.

@@ -22,7 +22,7 @@ use Rattle.iscsi_target.specs.Execution.{Device, reliable}
 use Rattle.iscsi_target.specs.Machine.{Next, Dropped, Answered, Queued, full_met, done_first, step_on, answers, then_stepped, first_rule, MayAnswer, MayStop}
 use Rattle.iscsi_target.specs.Machine.{RunsIn, is_closed}
 use Rattle.iscsi_target.specs.Laws.{joined_stepped}
-use Rattle.iscsi_target.specs.Feed.{Scene, scene, Connection, Store, Answers, StopsShort, LeavesBy, IsShut, Ends, Feeds, FeedsOne, IsLive}
+use Rattle.iscsi_target.specs.Feed.{Scene, scene, progress, remainder, Connection, Store, Answers, StopsShort, LeavesBy, IsShut, Ends, Feeds, FeedsOne, IsLive}
 use Rattle.iscsi_target.specs.Inside.{Moment, store_of, moment, connection, GivesUp, Stops, Halts, HaltsAt}
 use Rattle.iscsi_target.specs.Inside.{IsAnswered, AnswersReady, ShutsReady, RestFails, TakesOne, FailsOne}
 use Rattle.iscsi_target.proofs.JoiningLemmas.{ones, SameNext, next_then, next_back, met_same, first_same, step_joined}
@@ -37,7 +37,7 @@ pub record FedUpTo (old : Scene) (piece rest : List ℕ) (new : Scene) : Type 0 
   pub parts : piece ≡ front ++ rest
   pub messages : List Message
   pub stepped : Stepped
-  pub answered : Answers old.connection old.store front new.connection.framing messages stepped new.store
+  pub answered : Answers old.connection old.store front (progress new.connection.framing messages stepped) new.store
   pub counted : new.store.failures ≡ answered.failures
   pub disk : new.store.disk ≡ stepped.disk
   pub output_is : new.output ≡ old.output ++ canon stepped.answers
@@ -259,7 +259,7 @@ rest_is piece front rest e =
 leaves_to : (old : Connection) (before : Store) (output piece rest : List ℕ) (now : Connection) (after : Store) (written : List ℕ)
     (result : Result Phase TargetFault) (new : Machine)
     → (f : FedUpTo (scene old before output) piece rest (scene now after written)) → (result ≡ Err faults.NoMemory → IsShut f.stepped.machine new)
-    → LeavesBy result output now.framing (drop (count_of piece rest) piece) f.stepped f.answered.failures new after written
+    → LeavesBy result output (remainder now.framing (drop (count_of piece rest) piece) f.stepped f.answered.failures) new after written
 leaves_to old before output piece rest now after written (Ok phase) new f shut = record { failures = f.counted; disk = f.disk; output_is = f.output_is }
 leaves_to old before output piece rest now after written (Err faults.NoMemory) new f shut = record {
   front = unchanged f.stepped.machine f.stepped.disk;
@@ -278,14 +278,15 @@ leaves_to old before output piece rest now after written (Err faults.Closed) new
 abbrev feeds_to : (old : Connection) (before : Store) (output piece rest : List ℕ) (now : Connection) (after : Store) (written : List ℕ)
     (result : Result Phase TargetFault) (new : Connection)
     → (f : FedUpTo (scene old before output) piece rest (scene now after written)) → (result ≡ Err faults.NoMemory → IsShut f.stepped.machine new.machine)
-    → Ends piece result now.framing (count_of piece rest) f.stepped new → Feeds old before output piece result new after written
+    → Ends piece result now.framing (count_of piece rest) f.stepped new → Feeds (scene old before output) piece result (scene new after written)
 feeds_to old before output piece rest now after written result new f shut ends = record {
   framing = now.framing;
   count = count_of piece rest;
   some = omega arith;
   messages = f.messages;
   stepped = f.stepped;
-  answered = subst (λ (x : List ℕ). Answers old before x now.framing f.messages f.stepped after) (sym (front_is piece f.front rest f.parts)) f.answered;
+  answered = subst (λ (x : List ℕ). Answers old before x (progress now.framing f.messages f.stepped) after)
+      (sym (front_is piece f.front rest f.parts)) f.answered;
   leaves = leaves_to old before output piece rest now after written result new.machine f shut;
   ends = ends;
 }
@@ -306,7 +307,7 @@ live_stepped old before output piece rest now after written g = record {
 ends_refused : (old : Connection) (before : Store) (output piece rest : List ℕ) (now : Connection) (after : Store) (written : List ℕ) (fault : TargetFault)
     (new : Connection)
     → GoesUpTo (scene old before output) piece rest (scene now after written) → RestFails now.framing rest fault → new.machine ≡ closed now.machine →
-    Feeds old before output piece (Err fault) new after written
+    Feeds (scene old before output) piece (Err fault) (scene new after written)
 ends_refused old before output piece rest now after written faults.NoMemory new g fails is =
     feeds_to old before output piece rest now after written (Err faults.NoMemory) new g.fed (λ _. is
     ∙ shut_as now.machine g.fed.stepped.machine g.fed.machine_is)
@@ -455,7 +456,8 @@ rises_after front r m before after (inr h) = let a = h.rises in let b = runs_ris
 ends_shut : (old : Connection) (before : Store) (output piece rest : List ℕ) (now : Connection) (mid : Store) (written : List ℕ) (n : ℕ) (framing : Framing)
     (new : Connection) (after : Store) (more : List ℕ)
     → GoesUpTo (scene old before output) piece rest (scene now mid written) → Takes now.framing rest n framing →
-    ShutsReady (scene (connection now.machine framing) mid written) (scene new after more) → Feeds old before output piece (Err faults.NoMemory) new after more
+    ShutsReady (scene (connection now.machine framing) mid written) (scene new after more)
+    → Feeds (scene old before output) piece (Err faults.NoMemory) (scene new after more)
 ends_shut old before output piece rest now mid written n framing new after more g t s =
     let f = g.fed in
     let m : Message = message_of framing s.head s.segment in
@@ -465,7 +467,7 @@ ends_shut old before output piece rest now mid written n framing new after more 
     let counted : mid.failures ≡ f.answered.failures = f.counted in
     let moves : Moves now.framing (given_up framing s.head) (take n rest) (m ∷ []) =
     rest_moves old.framing now.framing framing rest n m (given_up framing s.head) t (moves_gave framing s.head s.segment s.means) in
-    let last : Answers old before f.front now.framing f.messages f.stepped after = record {
+    let last : Answers old before f.front (progress now.framing f.messages f.stepped) after = record {
       taken = f.answered.taken;
       ready = f.answered.ready;
       failures = f.answered.failures;
@@ -479,7 +481,8 @@ ends_shut old before output piece rest now mid written n framing new after more 
       some = omega arith;
       messages = f.messages;
       stepped = f.stepped;
-      answered = subst (λ (y : List ℕ). Answers old before y now.framing f.messages f.stepped after) (sym (front_is piece f.front rest f.parts)) last;
+      answered =
+          subst (λ (y : List ℕ). Answers old before y (progress now.framing f.messages f.stepped) after) (sym (front_is piece f.front rest f.parts)) last;
       leaves = record {
         front = x.front;
         stops = elim x.stops [
@@ -504,14 +507,14 @@ ends_shut old before output piece rest now mid written n framing new after more 
 
 pub ends_broken : (old : Connection) (before : Store) (output piece rest : List ℕ) (now : Connection) (after : Store) (written : List ℕ) (rule : ℕ)
     → (f : FedUpTo (scene old before output) piece rest (scene now after written)) → f.stepped.rule ≡ Some rule → joined now.machine ≡ now.machine →
-    Feeds old before output piece (Err (faults.Protocol rule)) now after written
+    Feeds (scene old before output) piece (Err (faults.Protocol rule)) (scene now after written)
 ends_broken old before output piece rest now after written rule f broken whole =
     feeds_to old before output piece rest now after written (Err (faults.Protocol rule)) now f (λ e. absurd cc) (broken, sym whole ∙ f.machine_is)
 
 pub ends_closed : (old : Connection) (before : Store) (output piece rest : List ℕ) (now : Connection) (after : Store) (written : List ℕ) (phase : Phase)
     → (f : FedUpTo (scene old before output) piece rest (scene now after written)) → f.stepped.rule ≡ None → joined now.machine ≡ now.machine → phase
     ≡ now.machine.session.phase → is_closed now.machine ≡ true
-    → Feeds old before output piece (Ok phase) now after written
+    → Feeds (scene old before output) piece (Ok phase) (scene now after written)
 ends_closed old before output piece rest now after written phase f rule whole is over =
     feeds_to old before output piece rest now after written (Ok phase) now f (λ e. absurd cc) (
       rule,
@@ -523,7 +526,7 @@ ends_closed old before output piece rest now after written phase f rule whole is
 pub ends_live : (old : Connection) (before : Store) (output piece rest : List ℕ) (now : Connection) (after : Store) (written : List ℕ) (phase : Phase)
     → GoesUpTo (scene old before output) piece rest (scene now after written) → joined now.machine ≡ now.machine → phase ≡ now.machine.session.phase
     → length rest ≡ 0 →
-    Feeds old before output piece (Ok phase) now after written
+    Feeds (scene old before output) piece (Ok phase) (scene now after written)
 ends_live old before output piece rest now after written phase g whole is none =
     let f = g.fed in
     feeds_to old before output piece rest now after written (Ok phase) now f (λ e. absurd cc) (
@@ -543,7 +546,7 @@ may_rise s disk before (m ∷ ms) r after e =
     omega (arith, a, b)
 
 pub short_rises : (output : List ℕ) (framing : Framing) (rest : List ℕ) (r : Stepped) (counted : ℕ) (new : Machine) (after : Store) (written : List ℕ) →
-    StopsShort output framing rest r counted new after written → counted ≤ after.failures
+    StopsShort output (remainder framing rest r counted) new after written → counted ≤ after.failures
 short_rises output framing rest r counted new after written h = elim h.stops [
   | inl none ↦ none.1
   | inr at ↦ rises_after h.front r at.message counted after.failures (inr at.stops)
@@ -553,13 +556,13 @@ short_rises output framing rest r counted new after written h = elim h.stops [
 pub ends_failed : (old : Connection) (before : Store) (output piece rest : List ℕ) (now : Connection) (mid : Store) (written : List ℕ) (fault : TargetFault)
     (new : Connection) (after : Store) (more : List ℕ)
     → GoesUpTo (scene old before output) piece rest (scene now mid written) → FailsOne (scene now mid written) rest fault (scene new after more) →
-    Feeds old before output piece (Err fault) new after more
+    Feeds (scene old before output) piece (Err fault) (scene new after more)
 ends_failed old before output piece rest now mid written fault new after more g (inl r) =
-    subst (λ (s : Store). Feeds old before output piece (Err fault) new s more) (sym r.store_is)
-    (subst (λ (x : List ℕ). Feeds old before output piece (Err fault) new mid x) (sym r.output_is)
+    subst (λ (s : Store). Feeds (scene old before output) piece (Err fault) (scene new s more)) (sym r.store_is)
+    (subst (λ (x : List ℕ). Feeds (scene old before output) piece (Err fault) (scene new mid x)) (sym r.output_is)
     (ends_refused old before output piece rest now mid written fault new g r.fails r.machine))
 ends_failed old before output piece rest now mid written fault new after more g (inr r) =
-    subst (λ (x : TargetFault). Feeds old before output piece (Err x) new after more) (sym r.memory)
+    subst (λ (x : TargetFault). Feeds (scene old before output) piece (Err x) (scene new after more)) (sym r.memory)
     (ends_shut old before output piece rest now mid written r.count r.framing new after more g r.takes r.shuts)
 
 -- ---- one PDU
@@ -580,7 +583,7 @@ feeds_one : (old : Connection) (before : Store) (output piece : List ℕ) (n : �
     → f.stepped.rule ≡ None →
     length f.messages ≤ 1
     → joined new.machine ≡ new.machine → phase ≡ new.machine.session.phase → (over : Bool) → is_closed new.machine ≡ over →
-    FeedsOne old before output piece n phase new after written
+    FeedsOne (scene old before output) piece n phase (scene new after written)
 feeds_one old before output piece n phase new after written bound some f rule few whole is true over = record {
   bound = bound;
   some = some;
@@ -606,7 +609,7 @@ feeds_one old before output piece n phase new after written bound some f rule fe
 
 pub next_fed : (old : Connection) (before : Store) (output piece : List ℕ) (n : ℕ) (phase : Phase) (new : Connection) (after : Store) (written : List ℕ)
     → is_ready old.framing ≡ false → is_closed old.machine ≡ false → TakesOne (scene old before output) piece n None (scene new after written)
-    → joined new.machine ≡ new.machine → phase ≡ new.machine.session.phase → FeedsOne old before output piece n phase new after written
+    → joined new.machine ≡ new.machine → phase ≡ new.machine.session.phase → FeedsOne (scene old before output) piece n phase (scene new after written)
 unfolding fed_none
 next_fed old before output piece n phase new after written unready live t whole is =
     let front : TakesOne (scene old before output) (take n piece) n None (scene new after written) =

@@ -34,7 +34,7 @@ use Rattle.iscsi_pdu.specs.Rules.{data_out_of_order}
 use Rattle.iscsi_target.specs.Machine.{is_closed, is_over_limit, step, answers, begun, done_in_turn, then_stepped, first_rule}
 use Rattle.iscsi_target.specs.Laws.{joined_stepped}
 use Rattle.iscsi_target.specs.Feed.{Connection, Store, Answers, Stands, LeavesBy, Ends, Feeds, Fed, HasAnswered, GoesWell, FedAll, FedIf, Stays, Meets}
-use Rattle.iscsi_target.specs.Feed.{opening_connection, Writes, Holds, Refuses, SameSession}
+use Rattle.iscsi_target.specs.Feed.{Beginning, answers_from, beginning, opening_connection, progress, remainder, scene, Writes, Holds, Refuses, SameSession}
 use Rattle.iscsi_target_session.proofs.CaseLemmas.{by_cases}
 use Rattle.iscsi_target.proofs.TurnLemmas.{Begins, begins, Turns, turns, with_tasks}
 use Rattle.iscsi_target.proofs.StepPartLemmas.{Parts, step_parts}
@@ -121,19 +121,19 @@ answers_close s disk (m ∷ ms) k e =
 -- ---- what was taken so far
 
 -- the session is open, and has answered what it took
-record Live (settings : Settings) (n : ℕ) (disk : Disk) (taken : List ℕ) (now : Connection) (disk_now : Disk) (written : List ℕ) : Type 0 where
-  has : HasAnswered settings n disk taken now disk_now written
+record Live (start : Beginning) (taken : List ℕ) (now : Connection) (disk_now : Disk) (written : List ℕ) : Type 0 where
+  has : HasAnswered start taken now disk_now written
   ready : is_ready now.framing ≡ false
-  bound : now.framing.limit ≡ limit settings
+  bound : now.framing.limit ≡ limit start.settings
 
 -- it is closed, whatever follows in the stream
-record Over (settings : Settings) (n : ℕ) (disk : Disk) (taken : List ℕ) (now : Connection) (disk_now : Disk) (written : List ℕ) : Type 0 where
-  over : (more : List ℕ) (ms : List Message) → StreamMeans (taken ++ more) ms → Meets settings n disk ms now disk_now written
+record Over (start : Beginning) (taken : List ℕ) (now : Connection) (disk_now : Disk) (written : List ℕ) : Type 0 where
+  over : (more : List ℕ) (ms : List Message) → StreamMeans (taken ++ more) ms → Meets start ms now disk_now written
 
 -- what stands where memory was there
 pub stands : (output : List ℕ) (framing : Framing) (rest : List ℕ) (r : Stepped) (counted : ℕ) (result : Result Phase TargetFault) (new : Machine)
     (after : Store) (written : List ℕ) → (result ≡ Err faults.NoMemory → ⊥)
-    → LeavesBy result output framing rest r counted new after written → Stands output r counted after written
+    → LeavesBy result output (remainder framing rest r counted) new after written → Stands output r counted after written
 stands output framing rest r counted (Ok phase) new after written memory h = h
 stands output framing rest r counted (Err faults.NoMemory) new after written memory h = absurd (memory refl)
 stands output framing rest r counted (Err (faults.Stream fault)) new after written memory h = h
@@ -141,16 +141,17 @@ stands output framing rest r counted (Err (faults.Protocol rule)) new after writ
 stands output framing rest r counted (Err faults.Closed) new after written memory h = h
 
 -- what a call answered, told from the opening state
-pub record Told (settings : Settings) (n : ℕ) (disk : Disk) (ms : List Message) (r : Stepped) (disk_now : Disk) (written : List ℕ) : Type 0 where
-  pub machine : joined r.machine ≡ joined (answers (opening settings n) disk ms).machine
-  pub disk_is : disk_now ≡ (answers (opening settings n) disk ms).disk
-  pub output_is : written ≡ canon (answers (opening settings n) disk ms).answers
+pub record Told (start : Beginning) (ms : List Message) (r : Stepped) (disk_now : Disk) (written : List ℕ) : Type 0 where
+  pub machine : joined r.machine ≡ joined (answers_from start ms).machine
+  pub disk_is : disk_now ≡ (answers_from start ms).disk
+  pub output_is : written ≡ canon (answers_from start ms).answers
 
 pub told : (settings : Settings) (n : ℕ) (disk : Disk) (taken : List ℕ) (old : Connection) (before : Store) (out : List ℕ) (bytes : List ℕ) (framing : Framing)
     (more : List Message) (r : Stepped) (counted : ℕ) (after : Store) (written : List ℕ)
-    → (h : HasAnswered settings n disk taken old before.disk out) → Answers old before bytes framing more r after → Stands out r counted after written →
+    → (h : HasAnswered (beginning settings n disk) taken old before.disk out) → Answers old before bytes (progress framing more r) after
+    → Stands out r counted after written →
     after.failures ≡ before.failures
-    → Told settings n disk (h.messages ++ more) r after.disk written
+    → Told (beginning settings n disk) (h.messages ++ more) r after.disk written
 told settings n disk taken old before out bytes framing more r counted after written h a b works =
     let first : Stepped = answers (opening settings n) disk h.messages in
     let later : Stepped = answers first.machine first.disk more in
@@ -170,8 +171,8 @@ told settings n disk taken old before out bytes framing more r counted after wri
 
 -- a closed session, whatever comes behind these messages
 pub closed_meets : (settings : Settings) (n : ℕ) (disk : Disk) (first more : List Message) (now : Connection) (disk_now : Disk) (written : List ℕ)
-    → is_closed (answers (opening settings n) disk first).machine ≡ true → Meets settings n disk first now disk_now written →
-    Meets settings n disk (first ++ more) now disk_now written
+    → is_closed (answers (opening settings n) disk first).machine ≡ true → Meets (beginning settings n disk) first now disk_now written →
+    Meets (beginning settings n disk) (first ++ more) now disk_now written
 closed_meets settings n disk first more now disk_now written c m =
     let a : Stepped = answers (opening settings n) disk first in
     let e : answers (opening settings n) disk (first ++ more) ≡ then_stepped a (unchanged a.machine a.disk) =
@@ -187,7 +188,7 @@ over_meets : (settings : Settings) (n : ℕ) (disk : Disk) (first : List Message
     (written : List ℕ)
     → is_closed (answers (opening settings n) disk first).machine ≡ false → is_over_limit (answers (opening settings n) disk first).machine m.segment ≡ true
     → now.machine ≡ closed (answers (opening settings n) disk first).machine → disk_now ≡ (answers (opening settings n) disk first).disk
-    → written ≡ canon (answers (opening settings n) disk first).answers → Meets settings n disk (first ++ m ∷ more) now disk_now written
+    → written ≡ canon (answers (opening settings n) disk first).answers → Meets (beginning settings n disk) (first ++ m ∷ more) now disk_now written
 unfolding answers
 over_meets settings n disk first m more now disk_now written live long is_now is_disk is_written =
     let a : Stepped = answers (opening settings n) disk first in
@@ -228,7 +229,7 @@ fault_meets : (settings : Settings) (n : ℕ) (disk : Disk) (taken piece : List 
     → is_closed (answers (opening settings n) disk first).machine ≡ false
     → now.machine ≡ closed (answers (opening settings n) disk first).machine → disk_now ≡ (answers (opening settings n) disk first).disk
     → written ≡ canon (answers (opening settings n) disk first).answers → (more : List ℕ) (ms : List Message) → StreamMeans ((taken ++ piece) ++ more) ms →
-    Meets settings n disk ms now disk_now written
+    Meets (beginning settings n disk) ms now disk_now written
 fault_meets settings n disk taken piece count first v now disk_now written stream.NoMemory t bound none f live is_now is_disk is_written more ms p =
     absurd (none refl)
 fault_meets settings n disk taken piece count first v now disk_now written (stream.Head fault place) t bound none f live is_now is_disk is_written more ms p =
@@ -255,7 +256,7 @@ fault_meets settings n disk taken piece count first v now disk_now written (stre
     let over : is_over_limit a.machine h.m.segment ≡ true =
     ap (λ (x : Segment). is_over_limit a.machine x) bytes ∙ ap (λ (x : Settings). nat_lt (limit x) (length h.segment)) same
     ∙ lt-ltb (limit settings) (length h.segment) past in
-    subst (λ (x : List Message). Meets settings n disk x now disk_now written) (sym (r.whole ∙ ap (λ (x : List Message). first ++ x) h.is))
+    subst (λ (x : List Message). Meets (beginning settings n disk) x now disk_now written) (sym (r.whole ∙ ap (λ (x : List Message). first ++ x) h.is))
     (over_meets settings n disk first h.m h.more now disk_now written live over is_now is_disk is_written)
 fault_meets settings n disk taken piece count first v now disk_now written (stream.Truncated place) t bound none f live is_now is_disk is_written more ms p =
     absurd f
@@ -264,19 +265,21 @@ fault_meets settings n disk taken piece count first v now disk_now written strea
 
 -- ---- one call
 
-abbrev Either : Settings → ℕ → Disk → List ℕ → Connection → Disk → List ℕ → Type 0
-Either settings n disk taken now disk_now written =
-    ((is_closed now.machine ≡ false) × Live settings n disk taken now disk_now written)
-    ⊎ ((is_closed now.machine ≡ true) × Over settings n disk taken now disk_now written)
+-- the session is open or closed
+abbrev Either : Beginning → List ℕ → Connection → Disk → List ℕ → Type 0
+Either start taken now disk_now written =
+    ((is_closed now.machine ≡ false) × Live start taken now disk_now written)
+    ⊎ ((is_closed now.machine ≡ true) × Over start taken now disk_now written)
 
 -- a call that closed the session after these messages
 closing : (settings : Settings) (n : ℕ) (disk : Disk) (taken piece : List ℕ) (count : ℕ) (first : List Message) (v : Framing) (r : Stepped) (new : Connection)
     (disk_now : Disk) (written : List ℕ)
-    → HasTaken (taken ++ take count piece) first v → Told settings n disk first r disk_now written → new.machine ≡ joined r.machine → is_closed r.machine ≡ true
-    → Either settings n disk (taken ++ piece) new disk_now written
+    → HasTaken (taken ++ take count piece) first v → Told (beginning settings n disk) first r disk_now written → new.machine ≡ joined r.machine
+    → is_closed r.machine ≡ true
+    → Either (beginning settings n disk) (taken ++ piece) new disk_now written
 closing settings n disk taken piece count first v r new disk_now written t told_ e c =
     let there : is_closed (answers (opening settings n) disk first).machine ≡ true = sym (ap is_closed told_.machine) ∙ c in
-    let meets : Meets settings n disk first new disk_now written = record {
+    let meets : Meets (beginning settings n disk) first new disk_now written = record {
       machine = e ∙ told_.machine;
       disk_is = told_.disk_is;
       output_is = told_.output_is;
@@ -286,16 +289,16 @@ closing settings n disk taken piece count first v r new disk_now written t told_
       record {
         over = λ more ms p.
             let x = rests taken piece more count first ms v t p in
-            subst (λ (xs : List Message). Meets settings n disk xs new disk_now written) (sym x.whole)
+            subst (λ (xs : List Message). Meets (beginning settings n disk) xs new disk_now written) (sym x.whole)
             (closed_meets settings n disk first x.more new disk_now written there meets);
       },
     )
 
 ends_go : (settings : Settings) (n : ℕ) (disk : Disk) (taken piece : List ℕ) (count : ℕ) (first : List Message) (v : Framing) (r : Stepped) (new : Connection)
     (disk_now : Disk) (written : List ℕ) (result : Result Phase TargetFault)
-    → HasTaken (taken ++ take count piece) first v → Told settings n disk first r disk_now written → v.limit ≡ limit settings → is_ready v ≡ false
+    → HasTaken (taken ++ take count piece) first v → Told (beginning settings n disk) first r disk_now written → v.limit ≡ limit settings → is_ready v ≡ false
     → ((k : ℕ) → r.rule ≡ Some k → is_closed r.machine ≡ true) → (result ≡ Err faults.NoMemory → ⊥) → Ends piece result v count r new
-    → Either settings n disk (taken ++ piece) new disk_now written
+    → Either (beginning settings n disk) (taken ++ piece) new disk_now written
 ends_go settings n disk taken piece count first v r new disk_now written (Ok phase) t told_ bound ready closes memory e =
     elim e.3 [
       | inl c ↦ closing settings n disk taken piece count first v r new disk_now written t told_ e.1 c
@@ -334,10 +337,11 @@ ends_go settings n disk taken piece count first v r new disk_now written (Err fa
 
 feed_goes : (settings : Settings) (n : ℕ) (disk : Disk) (taken : List ℕ) (old : Connection) (before : Store) (out piece : List ℕ)
     (result : Result Phase TargetFault) (new : Connection) (after : Store) (written : List ℕ)
-    → Live settings n disk taken old before.disk out → Feeds old before out piece result new after written → GoesWell result before after
-    → Either settings n disk (taken ++ piece) new after.disk written
+    → Live (beginning settings n disk) taken old before.disk out → Feeds (scene old before out) piece result (scene new after written)
+    → GoesWell result before after
+    → Either (beginning settings n disk) (taken ++ piece) new after.disk written
 feed_goes settings n disk taken old before out piece result new after written live f well =
-    let h : HasAnswered settings n disk taken old before.disk out = live.has in
+    let h : HasAnswered (beginning settings n disk) taken old before.disk out = live.has in
     let t : HasTaken (taken ++ take f.count piece) (h.messages ++ f.messages) f.framing = f.answered.taken taken h.messages h.taken in
     ends_go settings n disk taken piece f.count (h.messages ++ f.messages) f.framing f.stepped new after.disk written result t
     (told settings n disk taken old before out (take f.count piece) f.framing f.messages f.stepped f.answered.failures after written h f.answered
@@ -350,9 +354,9 @@ feed_goes settings n disk taken old before out piece result new after written li
 -- ---- all calls
 
 live_meets : (settings : Settings) (n : ℕ) (disk : Disk) (taken : List ℕ) (now : Connection) (disk_now : Disk) (written : List ℕ) (ms : List Message)
-    → Live settings n disk taken now disk_now written → StreamMeans taken ms → Meets settings n disk ms now disk_now written
+    → Live (beginning settings n disk) taken now disk_now written → StreamMeans taken ms → Meets (beginning settings n disk) ms now disk_now written
 live_meets settings n disk taken now disk_now written ms live p =
-    let h : HasAnswered settings n disk taken now disk_now written = live.has in
+    let h : HasAnswered (beginning settings n disk) taken now disk_now written = live.has in
     let t : HasTaken taken h.messages now.framing = h.taken in
     let r : Rests no_login h.messages ms t.rest =
     prefix_of now.framing.limit no_login t.given h.messages t.rest ms t.reads (subst (λ (x : List ℕ). ReadsAs longest_segment no_login x ms) t.whole p) in
@@ -360,53 +364,56 @@ live_meets settings n disk taken now disk_now written ms live p =
     ∙ unready_of now.framing.failed now.framing.held t.live live.ready in
     let none : r.more ≡ [] = none_whole now.framing.limit (after_all no_login h.messages) t.rest r.more t.begun part r.reads in
     let same : h.messages ≡ ms = sym (r.whole ∙ ap (λ (x : List Message). h.messages ++ x) none ∙ append-nil h.messages) in
-    subst (λ (x : List Message). Meets settings n disk x now disk_now written) same
+    subst (λ (x : List Message). Meets (beginning settings n disk) x now disk_now written) same
     (record { machine = h.machine; disk_is = h.disk_is; output_is = h.output_is })
 
 either_meets : (settings : Settings) (n : ℕ) (disk : Disk) (taken : List ℕ) (now : Connection) (disk_now : Disk) (written : List ℕ) (ms : List Message)
-    → Either settings n disk taken now disk_now written → StreamMeans taken ms → Meets settings n disk ms now disk_now written
+    → Either (beginning settings n disk) taken now disk_now written → StreamMeans taken ms → Meets (beginning settings n disk) ms now disk_now written
 either_meets settings n disk taken now disk_now written ms (inl l) p = live_meets settings n disk taken now disk_now written ms l.1 p
 either_meets settings n disk taken now disk_now written ms (inr o) p =
     o.1.over [] ms (subst (λ (x : List ℕ). StreamMeans x ms) (sym (append-nil taken)) p)
 
 stays_over : (settings : Settings) (n : ℕ) (disk : Disk) (taken piece : List ℕ) (now : Connection) (disk_now : Disk) (written : List ℕ)
-    → Over settings n disk taken now disk_now written → Over settings n disk (taken ++ piece) now disk_now written
+    → Over (beginning settings n disk) taken now disk_now written → Over (beginning settings n disk) (taken ++ piece) now disk_now written
 stays_over settings n disk taken piece now disk_now written o =
     record { over = λ more ms p. o.over (piece ++ more) ms (subst (λ (x : List ℕ). StreamMeans x ms) (append_assoc taken piece more) p) }
 
 next_either : (settings : Settings) (n : ℕ) (disk : Disk) (taken : List ℕ) (old : Connection) (before : Store) (out piece : List ℕ)
     (result : Result Phase TargetFault) (new : Connection) (after : Store) (written : List ℕ)
-    → Either settings n disk taken old before.disk out → Fed old before out piece result new after written → GoesWell result before after
-    → Either settings n disk (taken ++ piece) new after.disk written
+    → Either (beginning settings n disk) taken old before.disk out → Fed (scene old before out) piece result (scene new after written)
+    → GoesWell result before after
+    → Either (beginning settings n disk) (taken ++ piece) new after.disk written
 next_either settings n disk taken old before out piece result new after written (inl l) f well =
     feed_goes settings n disk taken old before out piece result new after written l.1
-    (subst (λ (b : Bool). FedIf b old before out piece result new after written) l.0 f) well
+    (subst (λ (b : Bool). FedIf b (scene old before out) piece result (scene new after written)) l.0 f) well
 next_either settings n disk taken old before out piece result new after written (inr o) f well =
-    let s : Stays old before out result new after written = subst (λ (b : Bool). FedIf b old before out piece result new after written) o.0 f in
-    let over : Over settings n disk (taken ++ piece) old before.disk out = stays_over settings n disk taken piece old before.disk out o.1 in
+    let s : Stays (scene old before out) result (scene new after written) =
+    subst (λ (b : Bool). FedIf b (scene old before out) piece result (scene new after written)) o.0 f in
+    let over : Over (beginning settings n disk) (taken ++ piece) old before.disk out = stays_over settings n disk taken piece old before.disk out o.1 in
     inr (
       ap (λ (x : Connection). is_closed x.machine) s.connection ∙ o.0,
-      subst (λ (x : Connection). Over settings n disk (taken ++ piece) x after.disk written) (sym s.connection)
-          (subst (λ (x : Store). Over settings n disk (taken ++ piece) old x.disk written) (sym s.store)
-          (subst (λ (x : List ℕ). Over settings n disk (taken ++ piece) old before.disk x) (sym s.output_is) over)),
+      subst (λ (x : Connection). Over (beginning settings n disk) (taken ++ piece) x after.disk written) (sym s.connection)
+          (subst (λ (x : Store). Over (beginning settings n disk) (taken ++ piece) old x.disk written) (sym s.store)
+          (subst (λ (x : List ℕ). Over (beginning settings n disk) (taken ++ piece) old before.disk x) (sym s.output_is) over)),
     )
 
 fed_from : (settings : Settings) (n : ℕ) (disk : Disk) (taken : List ℕ) (pieces : List (List ℕ)) (old : Connection) (before : Store) (out : List ℕ)
     (new : Connection) (after : Store) (written : List ℕ) (ms : List Message)
-    → Either settings n disk taken old before.disk out → FedAll old before out pieces new after written → StreamMeans (taken ++ flat_map (λ x. x) pieces) ms
-    → Meets settings n disk ms new after.disk written
+    → Either (beginning settings n disk) taken old before.disk out → FedAll (scene old before out) pieces (scene new after written)
+    → StreamMeans (taken ++ flat_map (λ x. x) pieces) ms
+    → Meets (beginning settings n disk) ms new after.disk written
 unfolding FedAll
 fed_from settings n disk taken [] old before out new after written ms e f p =
-    subst (λ (x : Connection). Meets settings n disk ms x after.disk written) (sym f.0)
-    (subst (λ (x : Store). Meets settings n disk ms old x.disk written) (sym f.1)
-    (subst (λ (x : List ℕ). Meets settings n disk ms old before.disk x) (sym f.2)
+    subst (λ (x : Connection). Meets (beginning settings n disk) ms x after.disk written) (sym f.0)
+    (subst (λ (x : Store). Meets (beginning settings n disk) ms old x.disk written) (sym f.1)
+    (subst (λ (x : List ℕ). Meets (beginning settings n disk) ms old before.disk x) (sym f.2)
     (either_meets settings n disk taken old before.disk out ms e (subst (λ (x : List ℕ). StreamMeans x ms) (append-nil taken) p))))
 fed_from settings n disk taken (piece ∷ pieces) old before out new after written ms e f p =
     fed_from settings n disk (taken ++ piece) pieces f.1 f.2 f.3 new after written ms
     (next_either settings n disk taken old before out piece f.0 f.1 f.2 f.3 e f.4 f.5) f.6
     (subst (λ (x : List ℕ). StreamMeans x ms) (sym (append_assoc taken piece (flat_map (λ x. x) pieces))) p)
 
-opening_live : (settings : Settings) (n : ℕ) (disk : Disk) → Live settings n disk [] (opening_connection settings n) disk []
+opening_live : (settings : Settings) (n : ℕ) (disk : Disk) → Live (beginning settings n disk) [] (opening_connection settings n) disk []
 unfolding answers
 opening_live settings n disk = record {
   has = record { messages = []; taken = at_opening (limit settings); machine = refl; disk_is = refl; output_is = refl };
@@ -417,28 +424,28 @@ opening_live settings n disk = record {
 -- a stream that was fed in pieces
 pub fed_stream : (settings : Settings) (n : ℕ) (store : Store) (pieces : List (List ℕ)) (new : Connection) (after : Store) (written : List ℕ)
     (ms : List Message)
-    → FedAll (opening_connection settings n) store [] pieces new after written → StreamMeans (flat_map (λ x. x) pieces) ms →
-    Meets settings n store.disk ms new after.disk written
+    → FedAll (scene (opening_connection settings n) store []) pieces (scene new after written) → StreamMeans (flat_map (λ x. x) pieces) ms →
+    Meets (beginning settings n store.disk) ms new after.disk written
 fed_stream settings n store pieces new after written ms f p =
     fed_from settings n store.disk [] pieces (opening_connection settings n) store [] new after written ms (inl (refl, opening_live settings n store.disk)) f p
 
 -- ---- a stream that isn't all PDUs
 
 -- what is written, the blocks and the session
-record Leads (settings : Settings) (n : ℕ) (disk : Disk) (ms : List Message) (rest : List ℕ) (now : Connection) (disk_now : Disk)
-    (written : List ℕ) : Type 0 where
-  writes : Writes settings n disk ms disk_now written
-  holds : Holds settings n disk ms rest now.machine
+record Leads (start : Beginning) (ms : List Message) (rest : List ℕ) (now : Connection) (disk_now : Disk) (written : List ℕ) : Type 0 where
+  writes : Writes start ms disk_now written
+  holds : Holds start ms rest now.machine
 
 -- the session is closed, and nothing is written any more
-record Stopped (settings : Settings) (n : ℕ) (disk : Disk) (taken : List ℕ) (now : Connection) (disk_now : Disk) (written : List ℕ) : Type 0 where
+record Stopped (start : Beginning) (taken : List ℕ) (now : Connection) (disk_now : Disk) (written : List ℕ) : Type 0 where
   over : (more : List ℕ) (ms : List Message) (given rest : List ℕ) → Splits longest_segment (taken ++ more) ms given rest →
-      Leads settings n disk ms rest now disk_now written
+      Leads start ms rest now disk_now written
 
-abbrev Fate : Settings → ℕ → Disk → List ℕ → Connection → Disk → List ℕ → Type 0
-Fate settings n disk taken now disk_now written =
-    ((is_closed now.machine ≡ false) × Live settings n disk taken now disk_now written)
-    ⊎ ((is_closed now.machine ≡ true) × Stopped settings n disk taken now disk_now written)
+-- the session is open, or closed and stays so
+abbrev Fate : Beginning → List ℕ → Connection → Disk → List ℕ → Type 0
+Fate start taken now disk_now written =
+    ((is_closed now.machine ≡ false) × Live start taken now disk_now written)
+    ⊎ ((is_closed now.machine ≡ true) × Stopped start taken now disk_now written)
 
 abbrev Fits : Settings → Type 0
 Fits settings = limit settings ≤ longest_segment
@@ -451,8 +458,8 @@ left taken piece more count first ms given rest v le t s =
     (sym (whole_stream taken piece more t.given t.rest count t.whole) ∙ s.whole)
 
 writes_of : (settings : Settings) (n : ℕ) (disk : Disk) (ms : List Message) (rest : List ℕ) (now : Connection) (disk_now : Disk) (written : List ℕ) →
-    Meets settings n disk ms now disk_now written
-    → is_closed now.machine ≡ true → Leads settings n disk ms rest now disk_now written
+    Meets (beginning settings n disk) ms now disk_now written
+    → is_closed now.machine ≡ true → Leads (beginning settings n disk) ms rest now disk_now written
 writes_of settings n disk ms rest now disk_now written m over = record {
   writes = record { disk_is = m.disk_is; output_is = m.output_is };
   holds = record {
@@ -466,9 +473,10 @@ writes_of settings n disk ms rest now disk_now written m over = record {
 -- no PDU is left
 leads_all : (settings : Settings) (n : ℕ) (disk : Disk) (first ms more : List Message) (rest : List ℕ) (now : Connection) (disk_now : Disk) (written : List ℕ) →
     ms ≡ first ++ more → more ≡ []
-    → Leads settings n disk first rest now disk_now written → Leads settings n disk ms rest now disk_now written
+    → Leads (beginning settings n disk) first rest now disk_now written → Leads (beginning settings n disk) ms rest now disk_now written
 leads_all settings n disk first ms more rest now disk_now written e none w =
-    subst (λ (x : List Message). Leads settings n disk x rest now disk_now written) (sym (e ∙ ap (λ (x : List Message). first ++ x) none ∙ append-nil first)) w
+    subst (λ (x : List Message). Leads (beginning settings n disk) x rest now disk_now written)
+    (sym (e ∙ ap (λ (x : List Message). first ++ x) none ∙ append-nil first)) w
 
 -- then the rest is what is left of the bytes
 rest_left : (logins : Logins) (bytes given rest : List ℕ) (ms : List Message) → ReadsAs longest_segment logins given ms → bytes ≡ given ++ rest → ms ≡ [] →
@@ -487,7 +495,8 @@ front_left front more rest long e = (
 -- closed at a header that is refused
 shut_leads : (settings : Settings) (n : ℕ) (disk : Disk) (first : List Message) (rest : List ℕ) (now : Connection) (disk_now : Disk) (written : List ℕ)
     → now.machine ≡ closed (answers (opening settings n) disk first).machine → disk_now ≡ (answers (opening settings n) disk first).disk
-    → written ≡ canon (answers (opening settings n) disk first).answers → Refuses (limit settings) rest → Leads settings n disk first rest now disk_now written
+    → written ≡ canon (answers (opening settings n) disk first).answers → Refuses (limit settings) rest
+    → Leads (beginning settings n disk) first rest now disk_now written
 shut_leads settings n disk first rest now disk_now written is_now is_disk is_written refused =
     let over : is_closed now.machine ≡ true = ap is_closed is_now in
     record {
@@ -502,12 +511,13 @@ shut_leads settings n disk first rest now disk_now written is_now is_disk is_wri
 
 stopping : (settings : Settings) (n : ℕ) (disk : Disk) (taken piece : List ℕ) (count : ℕ) (first : List Message) (v : Framing) (r : Stepped) (new : Connection)
     (disk_now : Disk) (written : List ℕ)
-    → v.limit ≤ longest_segment → HasTaken (taken ++ take count piece) first v → Told settings n disk first r disk_now written → new.machine ≡ joined r.machine
+    → v.limit ≤ longest_segment → HasTaken (taken ++ take count piece) first v → Told (beginning settings n disk) first r disk_now written
+    → new.machine ≡ joined r.machine
     → is_closed r.machine ≡ true
-    → Fate settings n disk (taken ++ piece) new disk_now written
+    → Fate (beginning settings n disk) (taken ++ piece) new disk_now written
 stopping settings n disk taken piece count first v r new disk_now written le t told_ e c =
     let there : is_closed (answers (opening settings n) disk first).machine ≡ true = sym (ap is_closed told_.machine) ∙ c in
-    let meets : Meets settings n disk first new disk_now written = record {
+    let meets : Meets (beginning settings n disk) first new disk_now written = record {
       machine = e ∙ told_.machine;
       disk_is = told_.disk_is;
       output_is = told_.output_is;
@@ -517,7 +527,7 @@ stopping settings n disk taken piece count first v r new disk_now written le t t
       record {
         over = λ more ms given rest s.
             let x = left taken piece more count first ms given rest v le t s in
-            subst (λ (xs : List Message). Leads settings n disk xs rest new disk_now written) (sym x.whole)
+            subst (λ (xs : List Message). Leads (beginning settings n disk) xs rest new disk_now written) (sym x.whole)
             (writes_of settings n disk (first ++ x.more) rest new disk_now written (closed_meets settings n disk first x.more new disk_now written there meets)
             (ap is_closed e ∙ c));
       },
@@ -531,7 +541,7 @@ fault_writes : (settings : Settings) (n : ℕ) (disk : Disk) (taken piece : List
     → now.machine ≡ closed (answers (opening settings n) disk first).machine → disk_now ≡ (answers (opening settings n) disk first).disk
     → written ≡ canon (answers (opening settings n) disk first).answers → (more : List ℕ) (ms : List Message) (given rest : List ℕ) →
     Splits longest_segment ((taken ++ piece) ++ more) ms given rest
-    → Leads settings n disk ms rest now disk_now written
+    → Leads (beginning settings n disk) ms rest now disk_now written
 fault_writes settings n disk taken piece count first v now disk_now written stream.NoMemory t bound le none f live is_now is_disk is_written more ms given rest
     s = absurd (none refl)
 fault_writes settings n disk taken piece count first v now disk_now written (stream.Head fault place) t bound le none f live is_now is_disk is_written more ms
@@ -580,7 +590,8 @@ fault_writes settings n disk taken piece count first v now disk_now written (str
           let over : is_over_limit a.machine h.m.segment ≡ true =
           ap (λ (y : Segment). is_over_limit a.machine y) bytes ∙ ap (λ (y : Settings). nat_lt (limit y) (length h.segment)) same
           ∙ lt-ltb (limit settings) (length h.segment) past in
-          subst (λ (y : List Message). Leads settings n disk y rest now disk_now written) (sym (x.whole ∙ ap (λ (y : List Message). first ++ y) h.is))
+          subst (λ (y : List Message). Leads (beginning settings n disk) y rest now disk_now written)
+          (sym (x.whole ∙ ap (λ (y : List Message). first ++ y) h.is))
           (writes_of settings n disk (first ++ h.m ∷ h.more) rest now disk_now written
           (over_meets settings n disk first h.m h.more now disk_now written live over is_now is_disk is_written) (ap is_closed is_now))
     ]
@@ -592,10 +603,11 @@ fault_writes settings n disk taken piece count first v now disk_now written stre
 -- what a call ends in, for such a stream
 ends_fate : (settings : Settings) (n : ℕ) (disk : Disk) (taken piece : List ℕ) (count : ℕ) (first : List Message) (v : Framing) (r : Stepped) (new : Connection)
     (disk_now : Disk) (written : List ℕ) (result : Result Phase TargetFault)
-    → Fits settings → HasTaken (taken ++ take count piece) first v → Told settings n disk first r disk_now written → v.limit ≡ limit settings → is_ready v
+    → Fits settings → HasTaken (taken ++ take count piece) first v → Told (beginning settings n disk) first r disk_now written → v.limit ≡ limit settings
+    → is_ready v
     ≡ false
     → ((k : ℕ) → r.rule ≡ Some k → is_closed r.machine ≡ true) → (result ≡ Err faults.NoMemory → ⊥) → Ends piece result v count r new
-    → Fate settings n disk (taken ++ piece) new disk_now written
+    → Fate (beginning settings n disk) (taken ++ piece) new disk_now written
 ends_fate settings n disk taken piece count first v r new disk_now written (Ok phase) le t told_ bound ready closes memory e =
     elim (ends_go settings n disk taken piece count first v r new disk_now written (Ok phase) t told_ bound ready closes memory e) [
       | inl l ↦ inl l
@@ -619,11 +631,13 @@ ends_fate settings n disk taken piece count first v r new disk_now written (Err 
 
 next_fate : (settings : Settings) (n : ℕ) (disk : Disk) (taken : List ℕ) (old : Connection) (before : Store) (out piece : List ℕ)
     (result : Result Phase TargetFault) (new : Connection) (after : Store) (written : List ℕ)
-    → Fits settings → Fate settings n disk taken old before.disk out → Fed old before out piece result new after written → GoesWell result before after
-    → Fate settings n disk (taken ++ piece) new after.disk written
+    → Fits settings → Fate (beginning settings n disk) taken old before.disk out → Fed (scene old before out) piece result (scene new after written)
+    → GoesWell result before after
+    → Fate (beginning settings n disk) (taken ++ piece) new after.disk written
 next_fate settings n disk taken old before out piece result new after written le (inl l) fed well =
-    let f : Feeds old before out piece result new after written = subst (λ (b : Bool). FedIf b old before out piece result new after written) l.0 fed in
-    let h : HasAnswered settings n disk taken old before.disk out = l.1.has in
+    let f : Feeds (scene old before out) piece result (scene new after written) =
+    subst (λ (b : Bool). FedIf b (scene old before out) piece result (scene new after written)) l.0 fed in
+    let h : HasAnswered (beginning settings n disk) taken old before.disk out = l.1.has in
     let t : HasTaken (taken ++ take f.count piece) (h.messages ++ f.messages) f.framing = f.answered.taken taken h.messages h.taken in
     ends_fate settings n disk taken piece f.count (h.messages ++ f.messages) f.framing f.stepped new after.disk written result le t
     (told settings n disk taken old before out (take f.count piece) f.framing f.messages f.stepped f.answered.failures after written h f.answered
@@ -633,16 +647,17 @@ next_fate settings n disk taken old before out piece result new after written le
     ap (λ (x : Stepped). is_closed x.machine) w ∙ answers_close old.machine before.disk f.messages k (sym (ap (λ (x : Stepped). x.rule) w) ∙ e))
     well.memory f.ends
 next_fate settings n disk taken old before out piece result new after written le (inr o) fed well =
-    let s : Stays old before out result new after written = subst (λ (b : Bool). FedIf b old before out piece result new after written) o.0 fed in
-    let stopped : Stopped settings n disk (taken ++ piece) old before.disk out = record {
+    let s : Stays (scene old before out) result (scene new after written) =
+    subst (λ (b : Bool). FedIf b (scene old before out) piece result (scene new after written)) o.0 fed in
+    let stopped : Stopped (beginning settings n disk) (taken ++ piece) old before.disk out = record {
       over = λ more ms given rest q.
           o.1.over (piece ++ more) ms given rest (subst (λ (x : List ℕ). Splits longest_segment x ms given rest) (append_assoc taken piece more) q);
     } in
     inr (
       ap (λ (x : Connection). is_closed x.machine) s.connection ∙ o.0,
-      subst (λ (x : Connection). Stopped settings n disk (taken ++ piece) x after.disk written) (sym s.connection)
-          (subst (λ (x : Store). Stopped settings n disk (taken ++ piece) old x.disk written) (sym s.store)
-          (subst (λ (x : List ℕ). Stopped settings n disk (taken ++ piece) old before.disk x) (sym s.output_is) stopped)),
+      subst (λ (x : Connection). Stopped (beginning settings n disk) (taken ++ piece) x after.disk written) (sym s.connection)
+          (subst (λ (x : Store). Stopped (beginning settings n disk) (taken ++ piece) old x.disk written) (sym s.store)
+          (subst (λ (x : List ℕ). Stopped (beginning settings n disk) (taken ++ piece) old before.disk x) (sym s.output_is) stopped)),
     )
 
 not_refused : (limit : ℕ) (rest : List ℕ) → IsBegun limit rest → Refuses limit rest → ⊥
@@ -654,10 +669,10 @@ not_refused limit rest begun r = let good = begun r.0 in elim r.1 [
 
 live_leads : (settings : Settings) (n : ℕ) (disk : Disk) (taken : List ℕ) (now : Connection) (disk_now : Disk) (written : List ℕ) (ms : List Message)
     (given rest : List ℕ)
-    → Fits settings → is_closed now.machine ≡ false → Live settings n disk taken now disk_now written → Splits longest_segment taken ms given rest →
-    Leads settings n disk ms rest now disk_now written
+    → Fits settings → is_closed now.machine ≡ false → Live (beginning settings n disk) taken now disk_now written → Splits longest_segment taken ms given rest →
+    Leads (beginning settings n disk) ms rest now disk_now written
 live_leads settings n disk taken now disk_now written ms given rest le open_ live s =
-    let h : HasAnswered settings n disk taken now disk_now written = live.has in
+    let h : HasAnswered (beginning settings n disk) taken now disk_now written = live.has in
     let t : HasTaken taken h.messages now.framing = h.taken in
     let x : Leaves no_login h.messages ms t.rest rest =
     prefix_split now.framing.limit no_login t.given h.messages t.rest given ms rest (omega (arith, le, live.bound)) t.reads s.reads s.no_more (sym t.whole
@@ -680,8 +695,8 @@ live_leads settings n disk taken now disk_now written ms given rest le open_ liv
 
 fate_leads : (settings : Settings) (n : ℕ) (disk : Disk) (taken : List ℕ) (now : Connection) (disk_now : Disk) (written : List ℕ) (ms : List Message)
     (given rest : List ℕ)
-    → Fits settings → Fate settings n disk taken now disk_now written → Splits longest_segment taken ms given rest →
-    Leads settings n disk ms rest now disk_now written
+    → Fits settings → Fate (beginning settings n disk) taken now disk_now written → Splits longest_segment taken ms given rest →
+    Leads (beginning settings n disk) ms rest now disk_now written
 fate_leads settings n disk taken now disk_now written ms given rest le (inl l) s =
     live_leads settings n disk taken now disk_now written ms given rest le l.0 l.1 s
 fate_leads settings n disk taken now disk_now written ms given rest le (inr o) s =
@@ -690,14 +705,14 @@ fate_leads settings n disk taken now disk_now written ms given rest le (inr o) s
 fed_fate : (settings : Settings) (n : ℕ) (disk : Disk) (taken : List ℕ) (pieces : List (List ℕ)) (old : Connection) (before : Store) (out : List ℕ)
     (new : Connection) (after : Store) (written : List ℕ)
     (ms : List Message) (given rest : List ℕ) → Fits settings
-    → Fate settings n disk taken old before.disk out → FedAll old before out pieces new after written →
+    → Fate (beginning settings n disk) taken old before.disk out → FedAll (scene old before out) pieces (scene new after written) →
     Splits longest_segment (taken ++ flat_map (λ x. x) pieces) ms given rest
-    → Leads settings n disk ms rest new after.disk written
+    → Leads (beginning settings n disk) ms rest new after.disk written
 unfolding FedAll
 fed_fate settings n disk taken [] old before out new after written ms given rest le e f p =
-    subst (λ (x : Connection). Leads settings n disk ms rest x after.disk written) (sym f.0)
-    (subst (λ (x : Store). Leads settings n disk ms rest old x.disk written) (sym f.1)
-    (subst (λ (x : List ℕ). Leads settings n disk ms rest old before.disk x) (sym f.2)
+    subst (λ (x : Connection). Leads (beginning settings n disk) ms rest x after.disk written) (sym f.0)
+    (subst (λ (x : Store). Leads (beginning settings n disk) ms rest old x.disk written) (sym f.1)
+    (subst (λ (x : List ℕ). Leads (beginning settings n disk) ms rest old before.disk x) (sym f.2)
     (fate_leads settings n disk taken old before.disk out ms given rest le e (subst (λ (x : List ℕ). Splits longest_segment x ms given rest)
     (append-nil taken) p))))
 fed_fate settings n disk taken (piece ∷ pieces) old before out new after written ms given rest le e f p =
@@ -707,8 +722,9 @@ fed_fate settings n disk taken (piece ∷ pieces) old before out new after writt
 
 fed_leads : (settings : Settings) (n : ℕ) (store : Store) (pieces : List (List ℕ)) (new : Connection) (after : Store) (written : List ℕ) (ms : List Message)
     (given rest : List ℕ)
-    → Fits settings → FedAll (opening_connection settings n) store [] pieces new after written → Splits longest_segment (flat_map (λ x. x) pieces) ms given rest
-    → Leads settings n store.disk ms rest new after.disk written
+    → Fits settings → FedAll (scene (opening_connection settings n) store []) pieces (scene new after written)
+    → Splits longest_segment (flat_map (λ x. x) pieces) ms given rest
+    → Leads (beginning settings n store.disk) ms rest new after.disk written
 fed_leads settings n store pieces new after written ms given rest le f s =
     fed_fate settings n store.disk [] pieces (opening_connection settings n) store [] new after written ms given rest le
     (inl (refl, opening_live settings n store.disk)) f s
@@ -716,14 +732,16 @@ fed_leads settings n store pieces new after written ms given rest le f s =
 -- any stream that was fed in pieces
 pub fed_any : (settings : Settings) (n : ℕ) (store : Store) (pieces : List (List ℕ)) (new : Connection) (after : Store) (written : List ℕ) (ms : List Message)
     (given rest : List ℕ)
-    → Fits settings → FedAll (opening_connection settings n) store [] pieces new after written → Splits longest_segment (flat_map (λ x. x) pieces) ms given rest
-    → Writes settings n store.disk ms after.disk written
+    → Fits settings → FedAll (scene (opening_connection settings n) store []) pieces (scene new after written)
+    → Splits longest_segment (flat_map (λ x. x) pieces) ms given rest
+    → Writes (beginning settings n store.disk) ms after.disk written
 fed_any settings n store pieces new after written ms given rest le f s = (fed_leads settings n store pieces new after written ms given rest le f s).writes
 
 pub fed_holds : (settings : Settings) (n : ℕ) (store : Store) (pieces : List (List ℕ)) (new : Connection) (after : Store) (written : List ℕ) (ms : List Message)
     (given rest : List ℕ)
-    → Fits settings → FedAll (opening_connection settings n) store [] pieces new after written → Splits longest_segment (flat_map (λ x. x) pieces) ms given rest
-    → Holds settings n store.disk ms rest new.machine
+    → Fits settings → FedAll (scene (opening_connection settings n) store []) pieces (scene new after written)
+    → Splits longest_segment (flat_map (λ x. x) pieces) ms given rest
+    → Holds (beginning settings n store.disk) ms rest new.machine
 fed_holds settings n store pieces new after written ms given rest le f s = (fed_leads settings n store pieces new after written ms given rest le f s).holds
 
 -- ---- in any two cuts
@@ -733,8 +751,8 @@ closed_in phases.Login e = absurd cc
 closed_in phases.Full e = absurd cc
 closed_in phases.Closed e = refl
 
-both_live : (settings : Settings) (n : ℕ) (disk : Disk) (ms : List Message) (rest : List ℕ) (a b : Machine) → Holds settings n disk ms rest a →
-    Holds settings n disk ms rest b
+both_live : (settings : Settings) (n : ℕ) (disk : Disk) (ms : List Message) (rest : List ℕ) (a b : Machine) → Holds (beginning settings n disk) ms rest a →
+    Holds (beginning settings n disk) ms rest b
     → is_closed a ≡ false → is_closed b ≡ false
 both_live settings n disk ms rest a b x y live = by_cases (is_closed b)
     (λ over. absurd (elim (y.ends over) [
@@ -743,8 +761,9 @@ both_live settings n disk ms rest a b x y live = by_cases (is_closed b)
     ]))
     (λ e. e)
 
-pub same_session : (settings : Settings) (n : ℕ) (disk : Disk) (ms : List Message) (rest : List ℕ) (a b : Machine) → Holds settings n disk ms rest a →
-    Holds settings n disk ms rest b → SameSession a b
+pub same_session : (settings : Settings) (n : ℕ) (disk : Disk) (ms : List Message) (rest : List ℕ) (a b : Machine)
+    → Holds (beginning settings n disk) ms rest a →
+    Holds (beginning settings n disk) ms rest b → SameSession a b
 same_session settings n disk ms rest a b x y =
     let same : closed b ≡ closed a = y.machine ∙ sym x.machine in
     let goes_on : is_closed a ≡ false → b ≡ a = λ live. y.goes_on (both_live settings n disk ms rest a b x y live) ∙ sym (x.goes_on live) in

@@ -16,7 +16,7 @@ use Rattle.iscsi_target.specs.declared.fault.TargetFault.TheVariants as faults
 use Rattle.iscsi_target.specs.State.{Machine, Stepped, closed}
 use Rattle.iscsi_target.specs.State.{joined}
 use Rattle.iscsi_target.specs.Machine.{answers, is_closed, then_stepped}
-use Rattle.iscsi_target.specs.Feed.{Alike, Connection, Ends, Fed, FedAlike, FedIf, Feeds, GoesWell, Store}
+use Rattle.iscsi_target.specs.Feed.{Alike, Connection, Ends, Fed, FedAlike, FedIf, Feeds, GoesWell, Store, scene}
 use Rattle.iscsi_target.proofs.NumberLaws.{closed_answers}
 use Rattle.iscsi_target.proofs.ContinuationLemmas.{then_nothing}
 use Rattle.iscsi_target.proofs.AppendLemmas.{answers_append}
@@ -63,7 +63,7 @@ leaves r = record {
 -- the end of a call, by what it answers
 ended : (s : List ℕ) (ms : List Message) (old : Connection) (before : Store) (output piece : List ℕ) (result : Result Phase TargetFault) (new : Connection)
     (after : Store) (written : List ℕ)
-    (f : Feeds old before output piece result new after written) (h : HasTaken s ms f.framing)
+    (f : Feeds (scene old before output) piece result (scene new after written)) (h : HasTaken s ms f.framing)
     → GoesWell result before after → Ends piece result f.framing f.count f.stepped new
     → Ended (leaves f.stepped) (sight s ms f.framing h (drop f.count piece)) result new.machine new.framing
 ended s ms old before output piece (Ok phase) new after written f h well e =
@@ -85,20 +85,30 @@ ended s ms old before output piece (Err faults.Closed) new after written f h wel
 
 -- ---- two calls
 
--- A call heard these PDUs of the stream, and ended so.
-record Run (stream : List ℕ) (ms : List Message) (old : Connection) (disk : Disk) (output : List ℕ) (result : Result Phase TargetFault) (new : Connection)
-    (disk_now : Disk) (written : List ℕ) : Type 0 where
+-- what a call answered, the target and the blocks behind it, and what was written
+record CallEnd : Type 0 where
+  pub result : Result Phase TargetFault
+  pub connection : Connection
+  pub disk : Disk
+  pub written : List ℕ
+
+-- the parts of the end of a call
+abbrev call_end : Result Phase TargetFault → Connection → Disk → List ℕ → CallEnd
+call_end result connection disk written = record { result = result; connection = connection; disk = disk; written = written }
+
+-- a call heard these PDUs of the stream, and ended so
+record Run (stream : List ℕ) (ms : List Message) (old : Connection) (disk : Disk) (output : List ℕ) (end_ : CallEnd) : Type 0 where
   messages : List Message
   sight : Sight
   hears : HearsUpTo (course old.machine disk) old.framing.limit stream ms messages sight
-  disk_is : disk_now ≡ (answers old.machine disk messages).disk
-  output_is : written ≡ output ++ canon (answers old.machine disk messages).answers
-  ended : Ended (leaves (answers old.machine disk messages)) sight result new.machine new.framing
+  disk_is : end_.disk ≡ (answers old.machine disk messages).disk
+  output_is : end_.written ≡ output ++ canon (answers old.machine disk messages).answers
+  ended : Ended (leaves (answers old.machine disk messages)) sight end_.result end_.connection.machine end_.connection.framing
 
 run_of : (stream : List ℕ) (ms : List Message) (old : Connection) (before : Store) (output piece : List ℕ) (result : Result Phase TargetFault)
     (new : Connection) (after : Store) (written : List ℕ)
-    → HasTaken stream ms old.framing → Feeds old before output piece result new after written → GoesWell result before after
-    → Run (stream ++ piece) ms old before.disk output result new after.disk written
+    → HasTaken stream ms old.framing → Feeds (scene old before output) piece result (scene new after written) → GoesWell result before after
+    → Run (stream ++ piece) ms old before.disk output (call_end result new after.disk written)
 unfolding course
 run_of stream ms old before output piece result new after written t f well =
     let s : List ℕ = stream ++ take f.count piece in
@@ -123,9 +133,9 @@ run_of stream ms old before output piece result new after written t f well =
     }
 
 run_alike : (stream : List ℕ) (ms : List Message) (old : Connection) (disk : Disk) (output : List ℕ) (result other : Result Phase TargetFault)
-    (new now : Connection) (first second : Disk) (written rewritten : List ℕ)
-    → Run stream ms old disk output result new first written → Run stream ms old disk output other now second rewritten →
-    FedAlike result other new now first second written rewritten
+    (new now : Connection) (first second : Store) (written rewritten : List ℕ)
+    → Run stream ms old disk output (call_end result new first.disk written) → Run stream ms old disk output (call_end other now second.disk rewritten) →
+    FedAlike result other (scene new first written) (scene now second rewritten)
 unfolding course
 run_alike stream ms old disk output result other new now first second written rewritten a b =
     let h : HearAlike (course old.machine disk) a.messages b.messages a.sight b.sight =
@@ -145,9 +155,9 @@ run_alike stream ms old disk output result other new now first second written re
 by_state : (closed_ : Bool) (stream : List ℕ) (ms : List Message) (old same : Connection) (before store : Store) (output piece : List ℕ)
     (result other : Result Phase TargetFault) (a b : Connection) (first second : Store) (written rewritten : List ℕ)
     → is_closed old.machine ≡ closed_ → (is_closed old.machine ≡ false → HasTaken stream ms old.framing) → Alike old same → store.disk ≡ before.disk
-    → FedIf closed_ old before output piece result a first written → GoesWell result before first →
-    FedIf closed_ same store output piece other b second rewritten → GoesWell other store second
-    → FedAlike result other a b first.disk second.disk written rewritten
+    → FedIf closed_ (scene old before output) piece result (scene a first written) → GoesWell result before first →
+    FedIf closed_ (scene same store output) piece other (scene b second rewritten) → GoesWell other store second
+    → FedAlike result other (scene a first written) (scene b second rewritten)
 by_state true stream ms old same before store output piece result other a b first second written rewritten c t like disk f well g well' =
     let machine : b.machine ≡ a.machine = ap (λ (x : Connection). x.machine) g.connection ∙ like.machine
     ∙ ap (λ (x : Connection). x.machine) (sym f.connection) in
@@ -160,19 +170,20 @@ by_state true stream ms old same before store output piece result other a b firs
 by_state false stream ms old same before store output piece result other a b first second written rewritten c t like disk f well g well' =
     let is : same ≡ old = λ i. record { machine = like.machine i; framing = like.framing c i } in
     let t' : HasTaken stream ms same.framing = subst (λ (x : Connection). HasTaken stream ms x.framing) (sym is) (t c) in
-    let r : Run (stream ++ piece) ms same store.disk output other b second.disk rewritten =
+    let r : Run (stream ++ piece) ms same store.disk output (call_end other b second.disk rewritten) =
     run_of stream ms same store output piece other b second rewritten t' g well' in
-    run_alike (stream ++ piece) ms old before.disk output result other a b first.disk second.disk written rewritten
+    run_alike (stream ++ piece) ms old before.disk output result other a b first second written rewritten
     (run_of stream ms old before output piece result a first written (t c) f well)
-    (subst (λ (d : Disk). Run (stream ++ piece) ms old d output other b second.disk rewritten) disk
-    (subst (λ (x : Connection). Run (stream ++ piece) ms x store.disk output other b second.disk rewritten) is r))
+    (subst (λ (d : Disk). Run (stream ++ piece) ms old d output (call_end other b second.disk rewritten)) disk
+    (subst (λ (x : Connection). Run (stream ++ piece) ms x store.disk output (call_end other b second.disk rewritten)) is r))
 
 pub one_outcome : (stream piece output written rewritten : List ℕ) (ms : List Message) (old same a b : Connection) (before store first second : Store)
     (result other : Result Phase TargetFault)
     → (is_closed old.machine ≡ false → HasTaken stream ms old.framing) → Alike old same → store.disk ≡ before.disk
-    → Fed old before output piece result a first written → GoesWell result before first → Fed same store output piece other b second rewritten →
+    → Fed (scene old before output) piece result (scene a first written) → GoesWell result before first
+    → Fed (scene same store output) piece other (scene b second rewritten) →
     GoesWell other store second
-    → FedAlike result other a b first.disk second.disk written rewritten
+    → FedAlike result other (scene a first written) (scene b second rewritten)
 one_outcome stream piece output written rewritten ms old same a b before store first second result other t like disk f well g well' =
     by_state (is_closed old.machine) stream ms old same before store output piece result other a b first second written rewritten refl t like disk f well
-    (subst (λ (x : Bool). FedIf x same store output piece other b second rewritten) (ap is_closed like.machine) g) well'
+    (subst (λ (x : Bool). FedIf x (scene same store output) piece other (scene b second rewritten)) (ap is_closed like.machine) g) well'

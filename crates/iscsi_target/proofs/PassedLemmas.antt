@@ -1,5 +1,5 @@
 -- What a crash leaves behind any PDUs, one after another.
-use Rattle.std.proofs.Common.{◌≡◌, ◌≤◌, ◌⊎◌, inl, inr, ◌∙◌, ℕ, false, List, [], ◌∷◌, ◌++◌, length, take, drop, Option, refl, sym, ap, subst}
+use Rattle.std.proofs.Common.{◌≡◌, ◌≤◌, inl, inr, ◌∙◌, ℕ, false, List, [], ◌∷◌, ◌++◌, length, take, drop, Option, refl, sym, ap, subst}
 use Rattle.std.proofs.Common.{arith, append_assoc}
 use Rattle.std.specs.Prelude.{Ok}
 use Rattle.std.proofs.lemmas.List.{take-append-drop, take_all, take_at}
@@ -308,7 +308,7 @@ joined_once s = ap (λ (ts : List Task). (let m : Machine = record { session = s
 
 -- the session goes on behind a call of feed, which took the whole piece
 pub feeds_advance : (old : Connection) (before : Store) (output piece : List ℕ) (phase : Phase) (new : Connection) (after : Store) (written : List ℕ) →
-    Feeds old before output piece (Ok phase) new after written
+    Feeds (scene old before output) piece (Ok phase) (scene new after written)
     → is_closed new.machine ≡ false → Advances old before piece new after
 feeds_advance old before output piece phase new after written f live = elim f.ends.3 [
   | inl over ↦ absurd (apart (ap is_closed f.ends.1 ∙ over) live)

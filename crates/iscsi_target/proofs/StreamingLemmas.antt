@@ -12,16 +12,17 @@ use Rattle.iscsi_target_session.specs.Configured.{Settings}
 use Rattle.iscsi_target.specs.State.{Stepped}
 use Rattle.iscsi_target.specs.State.{joined}
 use Rattle.iscsi_target.specs.Machine.{is_closed, answers}
-use Rattle.iscsi_target.specs.Feed.{Stands, Connection, Store, Feeds, Ends, HasAnswered}
+use Rattle.iscsi_target.specs.Feed.{Stands, Connection, Store, Feeds, Ends, HasAnswered, beginning, scene}
 use Rattle.iscsi_target.proofs.FeedingLemmas.{answers_close, told}
 
 -- the session goes on, and the whole piece was taken
 went_on : (settings : Settings) (n : ℕ) (disk : Disk) (stream : List ℕ) (old : Connection) (before : Store) (out piece : List ℕ)
     (result : Result Phase TargetFault) (new : Connection) (after : Store) (written : List ℕ)
-    → (f : Feeds old before out piece result new after written) → Stands out f.stepped f.answered.failures after written → after.failures ≡ before.failures →
-    HasAnswered settings n disk stream old before.disk out
+    → (f : Feeds (scene old before out) piece result (scene new after written)) → Stands out f.stepped f.answered.failures after written
+    → after.failures ≡ before.failures →
+    HasAnswered (beginning settings n disk) stream old before.disk out
     → f.count ≡ length piece → new.framing ≡ f.framing → new.machine ≡ joined f.stepped.machine →
-    HasAnswered settings n disk (stream ++ piece) new after.disk written
+    HasAnswered (beginning settings n disk) (stream ++ piece) new after.disk written
 went_on settings n disk stream old before out piece result new after written f stood works h all framing machine =
     let t = told settings n disk stream old before out (take f.count piece) f.framing f.messages f.stepped f.answered.failures after written h f.answered stood
     works in
@@ -37,9 +38,9 @@ went_on settings n disk stream old before out piece result new after written f s
 
 by_end : (settings : Settings) (n : ℕ) (disk : Disk) (stream : List ℕ) (old : Connection) (before : Store) (out piece : List ℕ)
     (result : Result Phase TargetFault) (new : Connection) (after : Store) (written : List ℕ)
-    → (f : Feeds old before out piece result new after written) → after.failures ≡ before.failures → is_closed new.machine ≡ false →
-    HasAnswered settings n disk stream old before.disk out
-    → Ends piece result f.framing f.count f.stepped new → HasAnswered settings n disk (stream ++ piece) new after.disk written
+    → (f : Feeds (scene old before out) piece result (scene new after written)) → after.failures ≡ before.failures → is_closed new.machine ≡ false →
+    HasAnswered (beginning settings n disk) stream old before.disk out
+    → Ends piece result f.framing f.count f.stepped new → HasAnswered (beginning settings n disk) (stream ++ piece) new after.disk written
 by_end settings n disk stream old before out piece (Ok phase) new after written f works live h e =
     elim e.3 [
       | inl over ↦ absurd (apart (ap is_closed e.1 ∙ over) live)
@@ -56,8 +57,8 @@ by_end settings n disk stream old before out piece (Err faults.Closed) new after
 
 pub goes_on : (settings : Settings) (n : ℕ) (disk : Disk) (stream : List ℕ) (old : Connection) (before : Store) (out piece : List ℕ)
     (result : Result Phase TargetFault) (new : Connection) (after : Store) (written : List ℕ)
-    → Feeds old before out piece result new after written → after.failures ≡ before.failures → is_closed new.machine ≡ false →
-    HasAnswered settings n disk stream old before.disk out
-    → HasAnswered settings n disk (stream ++ piece) new after.disk written
+    → Feeds (scene old before out) piece result (scene new after written) → after.failures ≡ before.failures → is_closed new.machine ≡ false →
+    HasAnswered (beginning settings n disk) stream old before.disk out
+    → HasAnswered (beginning settings n disk) (stream ++ piece) new after.disk written
 goes_on settings n disk stream old before out piece result new after written f works live h =
     by_end settings n disk stream old before out piece result new after written f works live h f.ends

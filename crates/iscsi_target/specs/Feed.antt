@@ -50,20 +50,55 @@ scene connection store output = record {
   output = output;
 }
 
+-- What a target begins with: its settings, its first StatSN, and the blocks (section 11.4.11).
+pub record Beginning : Type 0 where
+  pub settings : Settings
+  pub first_stat_sn : ℕ
+  pub disk : Disk
+
+-- The parts of what a target begins with.
+abbrev pub beginning : Settings → ℕ → Disk → Beginning
+beginning settings first_stat_sn disk = record {
+  settings = settings;
+  first_stat_sn = first_stat_sn;
+  disk = disk;
+}
+
+-- What these messages lead to from there.
+abbrev pub answers_from : Beginning → List Message → Stepped
+answers_from start messages =
+    answers (opening start.settings start.first_stat_sn) start.disk messages
+
 -- ---- a call of feed
+
+-- How far a call came: what it has of the next PDU, the PDUs that were completed, and what they led
+-- to.
+pub record Progress : Type 0 where
+  pub framing : Framing
+  pub messages : List Message
+  pub stepped : Stepped
+
+-- The parts of how far a call came.
+abbrev pub progress : Framing → List Message → Stepped → Progress
+progress framing messages stepped = record {
+  framing = framing;
+  messages = messages;
+  stepped = stepped;
+}
 
 -- A call took bytes that complete these PDUs, and answered them one after another. Each execution did
 -- what the order does where no failure was counted at it, and failed where one was; where none was
 -- counted at all the answers are those of the machine.
-pub record Answers (old : Connection) (before : Store) (bytes : List ℕ) (framing : Framing)
-    (ms : List Message) (r : Stepped) (after : Store) : Type 0 where
-  pub taken : Moves old.framing framing bytes ms
-  pub limit : framing.limit ≡ old.framing.limit
-  pub ready : is_ready framing ≡ false
+pub record Answers (old : Connection) (before : Store) (bytes : List ℕ) (now : Progress)
+    (after : Store) : Type 0 where
+  pub taken : Moves old.framing now.framing bytes now.messages
+  pub limit : now.framing.limit ≡ old.framing.limit
+  pub ready : is_ready now.framing ≡ false
   -- the failures that were counted behind the last of them
   pub failures : ℕ
-  pub may : MayAnswer old.machine before.disk before.failures ms r failures
-  pub works : after.failures ≡ before.failures → r ≡ answers old.machine before.disk ms
+  pub may : MayAnswer old.machine before.disk before.failures now.messages now.stepped failures
+  pub works : after.failures ≡ before.failures
+      → now.stepped ≡ answers old.machine before.disk now.messages
 
 -- The session is closed by a fault, with what it held and the stage that it was in.
 abbrev pub IsShut : Machine → Machine → Type 0
@@ -116,96 +151,100 @@ pub record StopsAt (framing : Framing) (rest : List ℕ) (r : Stepped) (counted 
   pub limit : next.limit ≡ framing.limit
   pub stops : MayStop r.machine r.disk counted message front after
 
+-- Where a call stands behind the PDUs that it answered: what it has of the next one, what is left
+-- of the piece, what they led to, and the failures that were counted.
+pub record Remainder : Type 0 where
+  pub framing : Framing
+  pub rest : List ℕ
+  pub stepped : Stepped
+  pub counted : ℕ
+
+-- The parts of where a call stands.
+abbrev pub remainder : Framing → List ℕ → Stepped → ℕ → Remainder
+remainder framing rest stepped counted = record {
+  framing = framing;
+  rest = rest;
+  stepped = stepped;
+  counted = counted;
+}
+
 -- Memory ran out behind the PDUs that were answered: nothing more was done, or some tasks of the
 -- next PDU. The session is closed.
-pub record StopsShort (output : List ℕ) (framing : Framing) (rest : List ℕ) (r : Stepped)
-    (counted : ℕ) (new : Machine) (after : Store) (written : List ℕ) : Type 0 where
+pub record StopsShort (output : List ℕ) (at : Remainder) (new : Machine) (after : Store)
+    (written : List ℕ) : Type 0 where
   pub front : Stepped
   pub stops :
-      ((front ≡ unchanged r.machine r.disk) × (counted ≤ after.failures))
-      ⊎ StopsAt framing rest r counted front after.failures
+      ((front ≡ unchanged at.stepped.machine at.stepped.disk) × (at.counted ≤ after.failures))
+      ⊎ StopsAt at.framing at.rest at.stepped at.counted front after.failures
   pub shut : IsShut front.machine new
   pub disk : after.disk ≡ front.disk
-  pub output_is : written ≡ output ++ canon (r.answers ++ front.answers)
+  pub output_is : written ≡ output ++ canon (at.stepped.answers ++ front.answers)
 
 -- What a call left, by what it answers.
-abbrev pub LeavesBy : Result Phase TargetFault → List ℕ → Framing → List ℕ → Stepped → ℕ
-    → Machine → Store → List ℕ → Type 0
-LeavesBy (Err faults.NoMemory) output framing rest r counted new after written =
-    StopsShort output framing rest r counted new after written
-LeavesBy _ output framing rest r counted new after written =
-    Stands output r counted after written
+abbrev pub LeavesBy : Result Phase TargetFault → List ℕ → Remainder → Machine → Store → List ℕ
+    → Type 0
+LeavesBy (Err faults.NoMemory) output at new after written =
+    StopsShort output at new after written
+LeavesBy _ output at new after written = Stands output at.stepped at.counted after written
 
 -- A call in a session that isn't closed took the first bytes of the piece, and answered the PDUs
 -- that they complete.
-pub record Feeds (old : Connection) (before : Store) (output piece : List ℕ)
-    (result : Result Phase TargetFault) (new : Connection) (after : Store)
-    (written : List ℕ) : Type 0 where
+pub record Feeds (old : Scene) (piece : List ℕ) (result : Result Phase TargetFault)
+    (new : Scene) : Type 0 where
   pub framing : Framing
   pub count : ℕ
   pub some : count ≤ length piece
   pub messages : List Message
   pub stepped : Stepped
-  pub answered : Answers old before (take count piece) framing messages stepped after
-  pub leaves : LeavesBy result output framing (drop count piece) stepped answered.failures
-      new.machine after written
-  pub ends : Ends piece result framing count stepped new
+  pub answered : Answers old.connection old.store (take count piece)
+      (progress framing messages stepped) new.store
+  pub leaves : LeavesBy result old.output
+      (remainder framing (drop count piece) stepped answered.failures)
+      new.connection.machine new.store new.output
+  pub ends : Ends piece result framing count stepped new.connection
 
 -- A closed session stays as it is.
-pub record Stays (old : Connection) (before : Store) (output : List ℕ)
-    (result : Result Phase TargetFault) (new : Connection) (after : Store)
-    (written : List ℕ) : Type 0 where
+pub record Stays (old : Scene) (result : Result Phase TargetFault) (new : Scene) : Type 0 where
   pub result_is : result ≡ Err faults.Closed
-  pub connection : new ≡ old
-  pub store : after ≡ before
-  pub output_is : written ≡ output
+  pub connection : new.connection ≡ old.connection
+  pub store : new.store ≡ old.store
+  pub output_is : new.output ≡ old.output
 
 -- What a call of feed does, by whether the session is closed.
-abbrev pub FedIf : Bool → Connection → Store → List ℕ → List ℕ → Result Phase TargetFault
-    → Connection → Store → List ℕ → Type 0
-FedIf true old before output piece result new after written =
-    Stays old before output result new after written
-FedIf false old before output piece result new after written =
-    Feeds old before output piece result new after written
+abbrev pub FedIf : Bool → Scene → List ℕ → Result Phase TargetFault → Scene → Type 0
+FedIf true old piece result new = Stays old result new
+FedIf false old piece result new = Feeds old piece result new
 
 -- What a call of feed does with a piece of the stream.
-abbrev pub Fed : Connection → Store → List ℕ → List ℕ → Result Phase TargetFault
-    → Connection → Store → List ℕ → Type 0
-Fed old before output piece result new after written =
-    FedIf (is_closed old.machine) old before output piece result new after written
+abbrev pub Fed : Scene → List ℕ → Result Phase TargetFault → Scene → Type 0
+Fed old piece result new = FedIf (is_closed old.connection.machine) old piece result new
 
 -- ---- a call of feed_next
 
 -- A call in a session that isn't closed took the first n bytes, did with them what feed does, and
 -- answered one PDU at most.
-pub record FeedsOne (old : Connection) (before : Store) (output piece : List ℕ) (n : ℕ)
-    (phase : Phase) (new : Connection) (after : Store) (written : List ℕ) : Type 0 where
+pub record FeedsOne (old : Scene) (piece : List ℕ) (n : ℕ) (phase : Phase)
+    (new : Scene) : Type 0 where
   pub bound : n ≤ length piece
   pub some : 0 < length piece → 0 < n
-  pub fed : Feeds old before output (take n piece) (Ok phase) new after written
+  pub fed : Feeds old (take n piece) (Ok phase) new
   pub one : length fed.messages ≤ 1
 
 -- A call that fails is one of feed with the piece.
-abbrev pub FeedsNext : Connection → Store → List ℕ → List ℕ → Result (ℕ × Phase) TargetFault
-    → Connection → Store → List ℕ → Type 0
-FeedsNext old before output piece (Ok done) new after written =
-    FeedsOne old before output piece done.0 done.1 new after written
-FeedsNext old before output piece (Err fault) new after written =
-    Feeds old before output piece (Err fault) new after written
+abbrev pub FeedsNext : Scene → List ℕ → Result (ℕ × Phase) TargetFault → Scene → Type 0
+FeedsNext old piece (Ok done) new = FeedsOne old piece done.0 done.1 new
+FeedsNext old piece (Err fault) new = Feeds old piece (Err fault) new
 
 -- What a call of feed_next does, by whether the session is closed.
-abbrev pub FedNextIf : Bool → Connection → Store → List ℕ → List ℕ
-    → Result (ℕ × Phase) TargetFault → Connection → Store → List ℕ → Type 0
-FedNextIf true old before output piece result new after written =
-    (result ≡ Err faults.Closed) × (new ≡ old) × (after ≡ before) × (written ≡ output)
-FedNextIf false old before output piece result new after written =
-    FeedsNext old before output piece result new after written
+abbrev pub FedNextIf : Bool → Scene → List ℕ → Result (ℕ × Phase) TargetFault → Scene → Type 0
+FedNextIf true old piece result new =
+    (result ≡ Err faults.Closed) × (new.connection ≡ old.connection) × (new.store ≡ old.store)
+    × (new.output ≡ old.output)
+FedNextIf false old piece result new = FeedsNext old piece result new
 
 -- What a call of feed_next does with a piece of the stream.
-abbrev pub FedNext : Connection → Store → List ℕ → List ℕ → Result (ℕ × Phase) TargetFault
-    → Connection → Store → List ℕ → Type 0
-FedNext old before output piece result new after written =
-    FedNextIf (is_closed old.machine) old before output piece result new after written
+abbrev pub FedNext : Scene → List ℕ → Result (ℕ × Phase) TargetFault → Scene → Type 0
+FedNext old piece result new = FedNextIf (is_closed old.connection.machine) old piece result new
 
 -- ---- a call of finish
 
@@ -221,14 +260,13 @@ Finishes old (Err (faults.Protocol rule)) new = ⊥
 -- ---- a whole stream, in whatever pieces
 
 -- From the opening state this stream was taken, and these bytes were written.
-pub record HasAnswered (settings : Settings) (first_stat_sn : ℕ) (disk : Disk) (stream : List ℕ)
-    (now : Connection) (disk_now : Disk) (written : List ℕ) : Type 0 where
+pub record HasAnswered (start : Beginning) (stream : List ℕ) (now : Connection) (disk_now : Disk)
+    (written : List ℕ) : Type 0 where
   pub messages : List Message
   pub taken : HasTaken stream messages now.framing
-  pub machine :
-      now.machine ≡ joined (answers (opening settings first_stat_sn) disk messages).machine
-  pub disk_is : disk_now ≡ (answers (opening settings first_stat_sn) disk messages).disk
-  pub output_is : written ≡ canon (answers (opening settings first_stat_sn) disk messages).answers
+  pub machine : now.machine ≡ joined (answers_from start messages).machine
+  pub disk_is : disk_now ≡ (answers_from start messages).disk
+  pub output_is : written ≡ canon (answers_from start messages).answers
 
 -- The stream that comes in these pieces.
 abbrev pub stream_of : List (List ℕ) → List ℕ
@@ -240,29 +278,27 @@ pub record GoesWell (result : Result Phase TargetFault) (before after : Store) :
   pub device : after.failures ≡ before.failures
 
 -- Calls of feed with pieces of a stream, one after another, which all go well.
-unfoldable pub FedAll : Connection → Store → List ℕ → List (List ℕ)
-    → Connection → Store → List ℕ → Type 0
-FedAll old before output [] new after written =
-    (new ≡ old) × (after ≡ before) × (written ≡ output)
-FedAll old before output (piece ∷ pieces) new after written =
+unfoldable pub FedAll : Scene → List (List ℕ) → Scene → Type 0
+FedAll old [] new =
+    (new.connection ≡ old.connection) × (new.store ≡ old.store) × (new.output ≡ old.output)
+FedAll old (piece ∷ pieces) new =
     (result : Result Phase TargetFault) × (now : Connection) × (store : Store) × (out : List ℕ)
-    × Fed old before output piece result now store out × GoesWell result before store
-    × FedAll now store out pieces new after written
+    × Fed old piece result (scene now store out) × GoesWell result old.store store
+    × FedAll (scene now store out) pieces new
 
 -- The target is where these messages lead to from the opening state, and so are the blocks and what
 -- was written; of each write the program keeps the bytes as one piece.
-pub record Meets (settings : Settings) (first_stat_sn : ℕ) (disk : Disk) (messages : List Message)
-    (now : Connection) (disk_now : Disk) (written : List ℕ) : Type 0 where
-  pub machine :
-      now.machine ≡ joined (answers (opening settings first_stat_sn) disk messages).machine
-  pub disk_is : disk_now ≡ (answers (opening settings first_stat_sn) disk messages).disk
-  pub output_is : written ≡ canon (answers (opening settings first_stat_sn) disk messages).answers
+pub record Meets (start : Beginning) (messages : List Message) (now : Connection)
+    (disk_now : Disk) (written : List ℕ) : Type 0 where
+  pub machine : now.machine ≡ joined (answers_from start messages).machine
+  pub disk_is : disk_now ≡ (answers_from start messages).disk
+  pub output_is : written ≡ canon (answers_from start messages).answers
 
 -- The blocks and what was written are those that these messages lead to from the opening state.
-pub record Writes (settings : Settings) (first_stat_sn : ℕ) (disk : Disk) (messages : List Message)
-    (disk_now : Disk) (written : List ℕ) : Type 0 where
-  pub disk_is : disk_now ≡ (answers (opening settings first_stat_sn) disk messages).disk
-  pub output_is : written ≡ canon (answers (opening settings first_stat_sn) disk messages).answers
+pub record Writes (start : Beginning) (messages : List Message) (disk_now : Disk)
+    (written : List ℕ) : Type 0 where
+  pub disk_is : disk_now ≡ (answers_from start messages).disk
+  pub output_is : written ≡ canon (answers_from start messages).answers
 
 -- Bytes begin with a header that a target refuses: no PDU has it, or its segment is longer than the
 -- framer takes (sections 11.2 and 13.12).
@@ -274,15 +310,14 @@ Refuses limit bytes =
 
 -- The session is where these messages lead to from the opening state, or was closed there. It is
 -- closed where they close it, and where the rest begins with a header that is refused.
-pub record Holds (settings : Settings) (first_stat_sn : ℕ) (disk : Disk) (messages : List Message)
-    (rest : List ℕ) (now : Machine) : Type 0 where
-  pub machine : closed now ≡ closed (answers (opening settings first_stat_sn) disk messages).machine
-  pub goes_on : is_closed now ≡ false →
-      now ≡ joined (answers (opening settings first_stat_sn) disk messages).machine
+pub record Holds (start : Beginning) (messages : List Message) (rest : List ℕ)
+    (now : Machine) : Type 0 where
+  pub machine : closed now ≡ closed (answers_from start messages).machine
+  pub goes_on : is_closed now ≡ false → now ≡ joined (answers_from start messages).machine
   pub ends : is_closed now ≡ true →
-      (is_closed (answers (opening settings first_stat_sn) disk messages).machine ≡ true)
-      ⊎ Refuses (limit settings) rest
-  pub refuses : Refuses (limit settings) rest → is_closed now ≡ true
+      (is_closed (answers_from start messages).machine ≡ true)
+      ⊎ Refuses (limit start.settings) rest
+  pub refuses : Refuses (limit start.settings) rest → is_closed now ≡ true
 
 -- Two sessions hold the same values, are in the same stage and phase, and are equal while they go
 -- on.
@@ -301,9 +336,8 @@ pub record Alike (a b : Connection) : Type 0 where
   pub framing : is_closed a.machine ≡ false → b.framing ≡ a.framing
 
 -- Two calls of feed that answered the same, and left the same.
-pub record FedAlike (result other : Result Phase TargetFault) (a b : Connection)
-    (disk_now other_disk : Disk) (written rewritten : List ℕ) : Type 0 where
+pub record FedAlike (result other : Result Phase TargetFault) (a b : Scene) : Type 0 where
   pub answered : other ≡ result
-  pub alike : Alike a b
-  pub disk : other_disk ≡ disk_now
-  pub output : rewritten ≡ written
+  pub alike : Alike a.connection b.connection
+  pub disk : b.store.disk ≡ a.store.disk
+  pub output : b.output ≡ a.output

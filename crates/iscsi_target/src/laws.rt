@@ -21,7 +21,7 @@ ghost use Rattle.iscsi_target.specs.State.{Machine, Stepped, opening, unchanged}
 ghost use Rattle.iscsi_target.specs.State.{joined};
 ghost use Rattle.iscsi_target.specs.Execution.{Device};
 ghost use Rattle.iscsi_target.specs.Machine.{is_closed, step, step_on, answers, then_stepped, MayStep, MayAnswer};
-ghost use Rattle.iscsi_target.specs.Feed.{Alike, Connection, Fed, FedAlike, FedAll, GoesWell, Holds, Meets, SameSession, Store, Writes, opening_connection, stream_of};
+ghost use Rattle.iscsi_target.specs.Feed.{Alike, Connection, Fed, FedAlike, FedAll, GoesWell, Holds, Meets, SameSession, Store, Writes, beginning, opening_connection, scene, stream_of};
 ghost use Rattle.iscsi_target.specs.Tiles.{TilesDataIn, IsTiled, IsModest, total_of, r2t_ranges, r2ts_answered};
 ghost use Rattle.iscsi_target.specs.Sessions.{LoginIsAnswered, LoginLeads, WriteIsAnswered};
 ghost use Rattle.iscsi_target.specs.Laws.{CountOn, stat_sns, cmd_sns, HasCmdSn, supplied, Leads, tasks_done, response_tags, AreInOrder, IsOutside, joined_stepped};
@@ -154,31 +154,34 @@ pub fn one_meaning_one_answer()
 pub fn any_pieces()
     ensures meets { (settings : Settings) (n : ℕ) (store after : Store) (pieces : List (List ℕ))
         (target : Connection) (written : List ℕ) (ms : List Message)
-        → FedAll (opening_connection settings n) store [] pieces target after written
+        → FedAll (scene (opening_connection settings n) store []) pieces
+        (scene target after written)
         → StreamMeans (stream_of pieces) ms
-        → Meets settings n store.disk ms target after.disk written }
+        → Meets (beginning settings n store.disk) ms target after.disk written }
     // Of any stream, what is written and the blocks are those of its longest prefix in the profile.
     ensures writes { (settings : Settings) (n : ℕ) (store after : Store)
         (pieces : List (List ℕ)) (target : Connection) (written : List ℕ) (ms : List Message)
         (given rest : List ℕ) → IsInRange settings.preferences
-        → FedAll (opening_connection settings n) store [] pieces target after written
+        → FedAll (scene (opening_connection settings n) store []) pieces
+        (scene target after written)
         → Splits longest_segment (stream_of pieces) ms given rest
-        → Writes settings n store.disk ms after.disk written }
+        → Writes (beginning settings n store.disk) ms after.disk written }
     // The session is where that prefix leads to, or was closed there by what follows it.
     ensures holds { (settings : Settings) (n : ℕ) (store after : Store)
         (pieces : List (List ℕ)) (target : Connection) (written : List ℕ) (ms : List Message)
         (given rest : List ℕ) → IsInRange settings.preferences
-        → FedAll (opening_connection settings n) store [] pieces target after written
+        → FedAll (scene (opening_connection settings n) store []) pieces
+        (scene target after written)
         → Splits longest_segment (stream_of pieces) ms given rest
-        → Holds settings n store.disk ms rest target.machine }
+        → Holds (beginning settings n store.disk) ms rest target.machine }
     // So it is the same however the stream is cut.
     ensures alike { (settings : Settings) (n : ℕ) (store first second : Store)
         (pieces others : List (List ℕ)) (a b : Connection) (written rewritten : List ℕ)
         (ms : List Message) (given rest : List ℕ) → IsInRange settings.preferences
         → Splits longest_segment (stream_of pieces) ms given rest
         → stream_of others ≡ stream_of pieces
-        → FedAll (opening_connection settings n) store [] pieces a first written
-        → FedAll (opening_connection settings n) store [] others b second rewritten
+        → FedAll (scene (opening_connection settings n) store []) pieces (scene a first written)
+        → FedAll (scene (opening_connection settings n) store []) others (scene b second rewritten)
         → (rewritten ≡ written) × (second.disk ≡ first.disk) × SameSession a.machine b.machine }
 {}
 
@@ -189,8 +192,8 @@ pub fn canonical_form()
         (pieces others : List (List ℕ)) (a b : Connection) (written rewritten : List ℕ)
         (ms : List Message) → AreBytes (stream_of pieces) → StreamMeans (stream_of pieces) ms
         → stream_of others ≡ canon ms
-        → FedAll (opening_connection settings n) store [] pieces a first written
-        → FedAll (opening_connection settings n) store [] others b second rewritten
+        → FedAll (scene (opening_connection settings n) store []) pieces (scene a first written)
+        → FedAll (scene (opening_connection settings n) store []) others (scene b second rewritten)
         → (rewritten ≡ written) × (second.disk ≡ first.disk) × (b.machine ≡ a.machine) }
 {}
 
@@ -201,7 +204,9 @@ pub fn one_outcome()
         (old same a b : Connection) (before store first second : Store)
         (result other : Result Phase TargetFault) → (is_closed old.machine ≡ false → HasTaken stream ms old.framing)
         → Alike old same → store.disk ≡ before.disk
-        → Fed old before output piece result a first written → GoesWell result before first
-        → Fed same store output piece other b second rewritten → GoesWell other store second
-        → FedAlike result other a b first.disk second.disk written rewritten }
+        → Fed (scene old before output) piece result (scene a first written)
+        → GoesWell result before first
+        → Fed (scene same store output) piece other (scene b second rewritten)
+        → GoesWell other store second
+        → FedAlike result other (scene a first written) (scene b second rewritten) }
 {}

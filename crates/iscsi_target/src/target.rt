@@ -6,7 +6,7 @@ ghost use Rattle.iscsi_stream.specs.Framing.{Takes, is_ready, stopped};
 ghost use Rattle.iscsi_target_session.specs.Session.{limit};
 ghost use Rattle.iscsi_target.specs.State.{closed};
 ghost use Rattle.iscsi_target.specs.Machine.{is_closed};
-ghost use Rattle.iscsi_target.specs.Feed.{scene, opening_connection, Feeds, FeedsNext, Fed, FedNext, Finishes, HasAnswered};
+ghost use Rattle.iscsi_target.specs.Feed.{scene, beginning, opening_connection, Feeds, FeedsNext, Fed, FedNext, Finishes, HasAnswered};
 ghost use Rattle.iscsi_target_session.specs.Configured.{Settings};
 ghost use Rattle.scsi_disk.specs.Disk.{Disk};
 ghost use Rattle.scsi_disk.specs.Lasting.{Settled};
@@ -77,15 +77,17 @@ impl Target {
         store: &mut S,
         out: &mut Vec<u8>,
     ) -> Result<Phase, TargetFault>
-        ensures fed { Fed self.old (store_of (S.disk store.old) (S.failures store.old))
-            out.old.items piece.now result self.new
-            (store_of (S.disk store.new) (S.failures store.new)) out.new.items }
+        ensures fed { Fed
+            (scene self.old (store_of (S.disk store.old) (S.failures store.old)) out.old.items)
+            piece.now result
+            (scene self.new (store_of (S.disk store.new) (S.failures store.new)) out.new.items) }
         // Whatever pieces a stream comes in, it has the answers to its PDUs.
         ensures stream { (settings : Settings) (n : ℕ) (disk : Disk) (stream : List ℕ)
             → S.failures store.new ≡ S.failures store.old → is_closed self.new.machine ≡ false
-            → HasAnswered settings n disk stream self.old (S.disk store.old) out.old.items
-            → HasAnswered settings n disk (stream ++ piece.now) self.new (S.disk store.new)
-            out.new.items }
+            → HasAnswered (beginning settings n disk) stream self.old (S.disk store.old)
+            out.old.items
+            → HasAnswered (beginning settings n disk) (stream ++ piece.now) self.new
+            (S.disk store.new) out.new.items }
         // A crash leaves the blocks that the answered commands led to, and no others.
         ensures lasts { S.failures store.new ≡ 0 → Settled (S.disk store.new) (S.kept store.new) }
         // Come what may, a crash leaves each block as before, or as a command of a PDU leaves it.
@@ -109,9 +111,10 @@ impl Target {
         store: &mut S,
         out: &mut Vec<u8>,
     ) -> Result<(usize, Phase), TargetFault>
-        ensures fed { FedNext self.old (store_of (S.disk store.old) (S.failures store.old))
-            out.old.items piece.now result self.new
-            (store_of (S.disk store.new) (S.failures store.new)) out.new.items }
+        ensures fed { FedNext
+            (scene self.old (store_of (S.disk store.old) (S.failures store.old)) out.old.items)
+            piece.now result
+            (scene self.new (store_of (S.disk store.new) (S.failures store.new)) out.new.items) }
         // A crash leaves the blocks that the answered commands led to, and no others.
         ensures lasts { S.failures store.new ≡ 0 → Settled (S.disk store.new) (S.kept store.new) }
         // Come what may, a crash leaves each block as before, or as a command of the PDU does.
@@ -199,10 +202,10 @@ fn feed_all<S: BlockStore>(
     requires limit { framer.old.limit ≡ limit machine.old.session.settings }
     requires unready { is_ready framer.old ≡ false }
     requires live { is_closed machine.old ≡ false }
-    ensures fed { Feeds (connection machine.old framer.old)
-        (store_of (S.disk store.old) (S.failures store.old)) out.old.items piece.now result
-        (connection machine.new framer.new)
-        (store_of (S.disk store.new) (S.failures store.new)) out.new.items }
+    ensures fed { Feeds (scene (connection machine.old framer.old)
+        (store_of (S.disk store.old) (S.failures store.old)) out.old.items) piece.now result
+        (scene (connection machine.new framer.new)
+        (store_of (S.disk store.new) (S.failures store.new)) out.new.items) }
     ensures limit { framer.new.limit ≡ limit machine.new.session.settings }
     ensures unready { is_ready framer.new ≡ false }
     ensures crash { CrashesFed (connection machine.old framer.old)
@@ -235,10 +238,10 @@ fn feed_once<S: BlockStore>(
     requires limit { framer.old.limit ≡ limit machine.old.session.settings }
     requires unready { is_ready framer.old ≡ false }
     requires live { is_closed machine.old ≡ false }
-    ensures fed { FeedsNext (connection machine.old framer.old)
-        (store_of (S.disk store.old) (S.failures store.old)) out.old.items piece.now result
-        (connection machine.new framer.new)
-        (store_of (S.disk store.new) (S.failures store.new)) out.new.items }
+    ensures fed { FeedsNext (scene (connection machine.old framer.old)
+        (store_of (S.disk store.old) (S.failures store.old)) out.old.items) piece.now result
+        (scene (connection machine.new framer.new)
+        (store_of (S.disk store.new) (S.failures store.new)) out.new.items) }
     ensures limit { framer.new.limit ≡ limit machine.new.session.settings }
     ensures unready { is_ready framer.new ≡ false }
     ensures crash { CrashesNext (connection machine.old framer.old) piece.now (S.disk store.old)

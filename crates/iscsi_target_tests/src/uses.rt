@@ -3,7 +3,7 @@
 ghost use Rattle.std.specs.Prelude.{◌≡◌, ◌++◌, ℕ, List, IsTrue};
 ghost use Rattle.scsi_disk.specs.Disk.{Disk};
 ghost use Rattle.iscsi_target_session.specs.Configured.{Settings};
-ghost use Rattle.iscsi_target.specs.Feed.{HasAnswered};
+ghost use Rattle.iscsi_target.specs.Feed.{HasAnswered, beginning};
 
 use iscsi_login::Phase;
 use iscsi_target::Target;
@@ -19,9 +19,10 @@ pub fn answer<S: BlockStore>(
 ) -> bool
     ensures answered { (settings : Settings) (n : ℕ) (disk : Disk) (stream : List ℕ)
         → S.failures store.new ≡ S.failures store.old → IsTrue result
-        → HasAnswered settings n disk stream target.old (S.disk store.old) answers.old.items
-        → HasAnswered settings n disk (stream ++ came.now) target.new (S.disk store.new)
-        answers.new.items }
+        → HasAnswered (beginning settings n disk) stream target.old (S.disk store.old)
+        answers.old.items
+        → HasAnswered (beginning settings n disk) (stream ++ came.now) target.new
+        (S.disk store.new) answers.new.items }
 {
     let _ = target.feed(came, store, answers);
     match target.phase() {

@@ -196,6 +196,7 @@ pub record Streams : Type 0 where
   pub moved : List ℕ
   pub out : List ℕ
 
+-- these two together
 abbrev pub streams : List ℕ → List ℕ → Streams
 streams moved out = record { moved = moved; out = out }
 

@@ -21,7 +21,7 @@ use Rattle.iscsi_target_session.specs.Session.{limit}
 use Rattle.iscsi_target.specs.State.{Machine, Stepped}
 use Rattle.iscsi_target.specs.State.{joined}
 use Rattle.iscsi_target.specs.Machine.{answers, is_closed}
-use Rattle.iscsi_target.specs.Feed.{Connection, Store, Feeds, Fed, FedIf, Ends, IsShut, LeavesBy, Stands, StopsShort, HasAnswered, opening_connection}
+use Rattle.iscsi_target.specs.Feed.{Connection, Store, Feeds, Fed, FedIf, Ends, IsShut, LeavesBy, Stands, StopsShort, HasAnswered, opening_connection, scene, remainder, beginning}
 use Rattle.iscsi_target.proofs.FeedingLemmas.{Told, told, answers_close, stands}
 use Rattle.iscsi_target.proofs.KeepingLemmas.{Stays, stop_stays}
 use Rattle.iscsi_target.proofs.StreamingLemmas.{goes_on}
@@ -60,7 +60,7 @@ front_output c moved out t fault f well =
 
 -- an end that hasn't failed has taken all bytes moved
 pub record TargetLives (c : Opening) (moved out : List ℕ) (t : Connection) (blocks : List ℕ) : Type 0 where
-  pub has : HasAnswered c.target c.first_stat_sn (disk_of c.blocks) moved t (disk_of blocks) out
+  pub has : HasAnswered (beginning c.target c.first_stat_sn (disk_of c.blocks)) moved t (disk_of blocks) out
   pub unready : is_ready t.framing ≡ false
   pub limit : t.framing.limit ≡ limit c.target
 
@@ -238,7 +238,8 @@ stands_behind prior output r counted after written s =
 
 leaves_behind : (result : Result Phase TargetFault) (prior output : List ℕ) (framing : Framing) (rest : List ℕ) (r : Stepped) (counted : ℕ) (new : Machine)
     (after : Store) (written : List ℕ)
-    → LeavesBy result output framing rest r counted new after written → LeavesBy result (prior ++ output) framing rest r counted new after (prior ++ written)
+    → LeavesBy result output (remainder framing rest r counted) new after written
+    → LeavesBy result (prior ++ output) (remainder framing rest r counted) new after (prior ++ written)
 leaves_behind (Ok phase) prior output framing rest r counted new after written l = stands_behind prior output r counted after written l
 leaves_behind (Err faults.NoMemory) prior output framing rest r counted new after written l = record {
   front = l.front;
@@ -253,7 +254,8 @@ leaves_behind (Err faults.Closed) prior output framing rest r counted new after 
 
 feeds_behind : (prior : List ℕ) (old : Connection) (before : Store) (output piece : List ℕ) (result : Result Phase TargetFault) (new : Connection)
     (after : Store) (written : List ℕ)
-    → Feeds old before output piece result new after written → Feeds old before (prior ++ output) piece result new after (prior ++ written)
+    → Feeds (scene old before output) piece result (scene new after written)
+    → Feeds (scene old before (prior ++ output)) piece result (scene new after (prior ++ written))
 feeds_behind prior old before output piece result new after written f = record {
   framing = f.framing;
   count = f.count;
@@ -278,7 +280,8 @@ kept_shut new r e = record { stage = ap (λ (m : Machine). m.session.stage) e; h
 -- where memory was there
 left_whole : (c : Opening) (ms : List Message) (out : List ℕ) (r : Stepped) (counted : ℕ) (new : Machine) (after : Store) (written : List ℕ)
     (fault : Option TargetFault)
-    → Told c.target c.first_stat_sn (disk_of c.blocks) ms r r.disk (out ++ canon r.answers) → Stands out r counted after written → Kept new r.machine
+    → Told (beginning c.target c.first_stat_sn (disk_of c.blocks)) ms r r.disk (out ++ canon r.answers) → Stands out r counted after written
+    → Kept new r.machine
     → Left c ms written new fault
 left_whole c ms out r counted new after written fault t s k = record {
   extra = [];
@@ -291,7 +294,8 @@ left_whole c ms out r counted new after written fault t s k = record {
 -- where memory ran out
 left_short : (c : Opening) (ms : List Message) (out : List ℕ) (framing : Framing) (rest : List ℕ) (r : Stepped) (counted : ℕ) (new : Machine) (after : Store)
     (written : List ℕ)
-    → Told c.target c.first_stat_sn (disk_of c.blocks) ms r r.disk (out ++ canon r.answers) → StopsShort out framing rest r counted new after written
+    → Told (beginning c.target c.first_stat_sn (disk_of c.blocks)) ms r r.disk (out ++ canon r.answers)
+    → StopsShort out (remainder framing rest r counted) new after written
     → Left c ms written new (Some faults.NoMemory)
 left_short c ms out framing rest r counted new after written t l =
     let wrote : written ≡ canon ((said c ms).answers ++ l.front.answers) =
@@ -320,8 +324,8 @@ left_short c ms out framing rest r counted new after written t l =
 
 left_by : (result : Result Phase TargetFault) (c : Opening) (ms : List Message) (out : List ℕ) (framing : Framing) (piece rest : List ℕ) (n : ℕ) (r : Stepped)
     (counted : ℕ) (new : Connection) (after : Store) (written : List ℕ)
-    → Told c.target c.first_stat_sn (disk_of c.blocks) ms r r.disk (out ++ canon r.answers)
-    → LeavesBy result out framing rest r counted new.machine after written → Ends piece result framing n r new
+    → Told (beginning c.target c.first_stat_sn (disk_of c.blocks)) ms r r.disk (out ++ canon r.answers)
+    → LeavesBy result out (remainder framing rest r counted) new.machine after written → Ends piece result framing n r new
     → Left c ms written new.machine (result_err result)
 left_by (Ok phase) c ms out framing piece rest n r counted new after written t l e = left_whole c ms out r counted new.machine after written None t l
     (kept_joined new.machine r.machine e.1)
@@ -360,8 +364,8 @@ ends_unready piece (Err fault) v n r new e u none live = absurd (cc none)
 
 feeds_failed : (result : Result Phase TargetFault) (c : Opening) (moved out bytes : List ℕ) (old : Connection) (blocks : List ℕ) (new : Connection)
     (after written : List ℕ)
-    → (l : TargetLives c moved out old blocks) → (f : Feeds old (store_of blocks) out bytes result new (store_of after) written)
-    → Told c.target c.first_stat_sn (disk_of c.blocks) (l.has.messages ++ f.messages) f.stepped f.stepped.disk (out ++ canon f.stepped.answers)
+    → (l : TargetLives c moved out old blocks) → (f : Feeds (scene old (store_of blocks) out) bytes result (scene new (store_of after) written))
+    → Told (beginning c.target c.first_stat_sn (disk_of c.blocks)) (l.has.messages ++ f.messages) f.stepped f.stepped.disk (out ++ canon f.stepped.answers)
     → HasTaken (moved ++ take f.count bytes) (l.has.messages ++ f.messages) f.framing
     → new.machine.session.stage ≡ (said c (l.has.messages ++ f.messages)).machine.session.stage → Ends bytes result f.framing f.count f.stepped new
     → TargetFailed (result_err result) c (moved ++ bytes) written new
@@ -402,10 +406,11 @@ feeds_failed (Err faults.Closed) c moved out bytes old blocks new after written 
 
 feeds_side : (c : Opening) (moved out bytes : List ℕ) (old : Connection) (blocks : List ℕ) (result : Result Phase TargetFault) (new : Connection)
     (after written : List ℕ)
-    → TargetLives c moved out old blocks → Feeds old (store_of blocks) out bytes result new (store_of after) written
+    → TargetLives c moved out old blocks → Feeds (scene old (store_of blocks) out) bytes result (scene new (store_of after) written)
     → TargetSide c (moved ++ bytes) written new after (result_err result)
 feeds_side c moved out bytes old blocks result new after written l f =
-    let t : Told c.target c.first_stat_sn (disk_of c.blocks) (l.has.messages ++ f.messages) f.stepped f.stepped.disk (out ++ canon f.stepped.answers) =
+    let t : Told (beginning c.target c.first_stat_sn (disk_of c.blocks)) (l.has.messages ++ f.messages) f.stepped f.stepped.disk
+    (out ++ canon f.stepped.answers) =
     told c.target c.first_stat_sn (disk_of c.blocks) moved old (store_of blocks) out (take f.count bytes) f.framing f.messages f.stepped 0
     (record { disk = f.stepped.disk; failures = 0 }) (out ++ canon f.stepped.answers) l.has
     (record {
@@ -450,7 +455,7 @@ feeds_side c moved out bytes old blocks result new after written l f =
 fed_if : (b : Bool) (c : Opening) (moved prior before bytes : List ℕ) (old : Connection) (blocks : List ℕ) (result : Result Phase TargetFault)
     (new : Connection) (after written : List ℕ)
     → is_closed old.machine ≡ b → TargetSide c moved (prior ++ before) old blocks None
-    → FedIf b old (store_of blocks) before bytes result new (store_of after) written
+    → FedIf b (scene old (store_of blocks) before) bytes result (scene new (store_of after) written)
     → TargetSide c (moved ++ bytes) (prior ++ written) new after (result_err result)
 fed_if true c moved prior before bytes old blocks result new after written is s f = record {
   front = subst (λ (x : List ℕ). TargetFront c (moved ++ bytes) (prior ++ x) new (result_err result)) (sym f.output_is)
@@ -482,7 +487,7 @@ fed_if false c moved prior before bytes old blocks result new after written is s
 -- the target received these bytes
 pub target_heard : (c : Opening) (moved prior before bytes : List ℕ) (old : Connection) (blocks : List ℕ) (result : Result Phase TargetFault) (new : Connection)
     (after written : List ℕ)
-    → TargetSide c moved (prior ++ before) old blocks None → Fed old (store_of blocks) before bytes result new (store_of after) written
+    → TargetSide c moved (prior ++ before) old blocks None → Fed (scene old (store_of blocks) before) bytes result (scene new (store_of after) written)
     → TargetSide c (moved ++ bytes) (prior ++ written) new after (result_err result)
 target_heard c moved prior before bytes old blocks result new after written s f =
     fed_if (is_closed old.machine) c moved prior before bytes old blocks result new after written refl s f

@@ -193,8 +193,8 @@ target_hears c i t blocks place place_back there here m ms back after_blocks ope
     let new : World = level c i a.machine after_blocks (spot_after place out) place_back (after_all there out) here [] (back ++ canon a.answers) in
     let all : take (length bytes) bytes ≡ bytes = take_all (length bytes) bytes (omega arith) in
     let v : Framing = clean limit (spot_after place out) (after_all there out) in
-    let feeds : target_calls.Feeds old.target (store_of blocks) back bytes (Ok r.machine.session.phase) new.target (store_of after_blocks)
-    (back ++ canon a.answers) = record {
+    let feeds : target_calls.Feeds (target_calls.scene old.target (store_of blocks) back) bytes (Ok r.machine.session.phase)
+    (target_calls.scene new.target (store_of after_blocks) (back ++ canon a.answers)) = record {
       framing = v;
       count = length bytes;
       some = omega arith;
@@ -225,8 +225,8 @@ target_hears c i t blocks place place_back there here m ms back after_blocks ope
     let hears : TargetReceives bytes old new = record {
       result = Ok r.machine.session.phase;
       fed = subst
-          (λ (b : Bool). target_calls.FedIf b old.target (store_of blocks) back bytes (Ok r.machine.session.phase) new.target (store_of after_blocks)
-          (back ++ canon a.answers)) (sym open_) feeds;
+          (λ (b : Bool). target_calls.FedIf b (target_calls.scene old.target (store_of blocks) back) bytes (Ok r.machine.session.phase)
+          (target_calls.scene new.target (store_of after_blocks) (back ++ canon a.answers))) (sym open_) feeds;
       dropped = sym (drop-length bytes);
       initiator = refl;
       fault = refl;

@@ -68,6 +68,7 @@ pub record SoFar : Type 0 where
   pub here : Logins
   pub history : History
 
+-- these three together
 abbrev pub so_far : Logins → Logins → History → SoFar
 so_far there here h = record { there = there; here = here; history = h }
 
@@ -76,6 +77,7 @@ pub record Limits : Type 0 where
   pub out : ℕ
   pub back : ℕ
 
+-- these two together
 abbrev pub limits : ℕ → ℕ → Limits
 limits out back = record { out = out; back = back }
 

@@ -276,7 +276,8 @@ record TargetTurn {c : Opening} {P : Relation} {h : History} {old : World} (s : 
 target_turn : (c : Opening) (P : Relation) (h : History) (old new : World) (k : ℕ) (moved : List ℕ) (result : Result Phase TargetFault) → Keeps c P
     → (s : Stands c P h old)
     → Unread (target_session.limit c.target) old.target.framing old.to_target s.out s.there → moved ≡ take k old.to_target
-    → (f : target_calls.Feeds old.target (store_of old.blocks) old.to_initiator moved result new.target (store_of new.blocks) new.to_initiator)
+    → (f : target_calls.Feeds (target_calls.scene old.target (store_of old.blocks) old.to_initiator) moved result
+    (target_calls.scene new.target (store_of new.blocks) new.to_initiator))
     → TargetTurn s f.framing (drop f.count moved) (drop (length moved) old.to_target) f.stepped
 target_turn c P h old new k moved result kept s u m f =
     let a : target.Stepped = answers s.session s.disk f.messages in
@@ -379,10 +380,10 @@ target_hears : (c : Opening) (P : Relation) (h : History) (old new : World) (k :
 target_hears c P h old new k byte bytes kept s m e memory =
     elim s.to_target [
       | inl on ↦
-          (let f : target_calls.Feeds old.target (store_of old.blocks) old.to_initiator (byte ∷ bytes) e.result new.target (store_of new.blocks)
-          new.to_initiator =
-          subst (λ (b : Bool). target_calls.FedIf b old.target (store_of old.blocks) old.to_initiator (byte ∷ bytes) e.result new.target (store_of new.blocks)
-          new.to_initiator)
+          (let f : target_calls.Feeds (target_calls.scene old.target (store_of old.blocks) old.to_initiator) (byte ∷ bytes) e.result
+          (target_calls.scene new.target (store_of new.blocks) new.to_initiator) =
+          subst (λ (b : Bool). target_calls.FedIf b (target_calls.scene old.target (store_of old.blocks) old.to_initiator) (byte ∷ bytes) e.result
+          (target_calls.scene new.target (store_of new.blocks) new.to_initiator))
           (ap target_machine.is_closed s.machine ∙ on.0) e.fed in
           let stood : target_calls.Stands old.to_initiator f.stepped f.answered.failures (store_of new.blocks) new.to_initiator =
           stands old.to_initiator f.framing (drop f.count (byte ∷ bytes)) f.stepped f.answered.failures e.result new.target.machine (store_of new.blocks)

@@ -2,7 +2,7 @@ use Rattle.std.proofs.Common.{List, ℕ, sym, subst, ◌∙◌}
 use Rattle.iscsi_stream.specs.Segment.{no_login}
 use Rattle.iscsi_stream.specs.Stream.{longest_segment, ReadsAs}
 use Rattle.iscsi_stream.proofs.OneMeaningLaw.{canon_again}
-use Rattle.iscsi_target.specs.Feed.{Meets, stream_of}
+use Rattle.iscsi_target.specs.Feed.{Meets, beginning, stream_of}
 use Rattle.iscsi_target.proofs.FeedingLemmas.{fed_stream}
 use Rattle.iscsi_target.proofs.laws.canonical_form.Goals as goal
 
@@ -11,7 +11,7 @@ returns c = record {
   same = λ settings n store first second pieces others a b written rewritten ms bytes p e f g.
       let q : ReadsAs longest_segment no_login (stream_of others) ms =
       subst (λ (x : List ℕ). ReadsAs longest_segment no_login x ms) (sym e) (canon_again longest_segment no_login (stream_of pieces) ms bytes p) in
-      let x : Meets settings n store.disk ms a first.disk written = fed_stream settings n store pieces a first written ms f p in
-      let y : Meets settings n store.disk ms b second.disk rewritten = fed_stream settings n store others b second rewritten ms g q in
+      let x : Meets (beginning settings n store.disk) ms a first.disk written = fed_stream settings n store pieces a first written ms f p in
+      let y : Meets (beginning settings n store.disk) ms b second.disk rewritten = fed_stream settings n store others b second rewritten ms g q in
       (y.output_is ∙ sym x.output_is, y.disk_is ∙ sym x.disk_is, y.machine ∙ sym x.machine);
 }

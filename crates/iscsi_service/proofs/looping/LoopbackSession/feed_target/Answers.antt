@@ -15,6 +15,7 @@ loop-rest-preserved g c =
       λ faithful. on_and_on _ _ _ (at.invariant.1 faithful)
           (asks_more at.self.initiator at.self.target c.feed.new.self (disk_in at.self.store)
           (disk_in c.feed.new.store) at.rest.now at.answers.items c.feed.new.out.items
-          c.to_target.new.read n c.in_ok-feed.field-0 c.in_ok-feed.ensures.fed c.blocks-blocks.ensures.disk refl (faithful _ _ c.in_ok-to_target.ensures.carried)
+          c.to_target.new.read n c.in_ok-feed.field-0 c.in_ok-feed.ensures.fed c.blocks-blocks.ensures.disk refl
+          (faithful _ _ c.in_ok-to_target.ensures.carried)
           (omega (arith, least)) (omega (arith, least, some, moves))),
     )
