@@ -1,13 +1,11 @@
 -- What an end holds of a login: a value of each negotiated key, and what each end takes (RFC 7143,
 -- section 13).
 use Rattle.std.specs.Prelude.{ℕ, Bool, false, List, map, min, slice_index_or}
-use Rattle.std.specs.List.{position_or_len}
-use Rattle.std.specs.Str.{bytes_eq}
 use Rattle.iscsi_login.specs.declared.key.NegKey.{NegKey}
 use Rattle.iscsi_login.specs.declared.key.NegKey.TheVariants as keys
 use Rattle.iscsi_login.specs.declared.preferences.Answered.{Answered}
 use Rattle.iscsi_login.specs.declared.preferences.Answered.TheVariants.{Flag, Number, Reject}
-use Rattle.iscsi_login.specs.Key.{name_of, rule_of, default_of, all_keys, IsWithin}
+use Rattle.iscsi_login.specs.Key.{row, rule_of, default_of, all_keys, IsWithin}
 use Rattle.iscsi_login.specs.Negotiation.{Allows, max_recv_range}
 
 -- The held values (section 13).
@@ -26,9 +24,9 @@ defaults = record {
   target_max_recv = 8192;
 }
 
--- A key's place in `all_keys`, found by its name.
+-- A key's place in `all_keys`.
 abbrev pub place_of : NegKey → ℕ
-place_of key = position_or_len (λ other. bytes_eq (name_of other) (name_of key)) all_keys
+place_of key = (row key).place
 
 -- The value at a key's place.
 abbrev pub value_at : List Answered → NegKey → Answered

@@ -13,6 +13,8 @@ use Rattle.iscsi_login.specs.declared.stage.Session.TheVariants.{Normal, Discove
 
 -- What the table has for a key (section 13).
 pub record Row : Type 0 where
+  -- its place among all keys
+  pub place : ℕ
   -- as it stands in a text
   pub name : List ℕ
   -- the values that it may have, and how an offer and a preference give one of them
@@ -23,9 +25,9 @@ pub record Row : Type 0 where
   pub irrelevant : Bool
 
 -- A row of the table (section 13).
-abbrev pub line : List ℕ → Rule → Answered → Bool → Row
-line name rule default irrelevant =
-    record { name = name; rule = rule; default = default; irrelevant = irrelevant }
+abbrev pub line : ℕ → List ℕ → Rule → Answered → Bool → Row
+line place name rule default irrelevant =
+    record { place = place; name = name; rule = rule; default = default; irrelevant = irrelevant }
 
 -- The number is in the range, ends included (section 13).
 abbrev pub IsWithin : Range → ℕ → Type 0
@@ -35,24 +37,24 @@ IsWithin range n = (range.low ≤ n) × (n ≤ range.high)
 abbrev pub between : ℕ → ℕ → Range
 between low high = record { low = low; high = high }
 
--- The table: name, rule, default, irrelevant in a discovery session (sections 13.1, 13.2, 13.10 to
--- 13.20, 12.1).
+-- The table: place, name, rule, default, irrelevant in a discovery session (sections 13.1, 13.2,
+-- 13.10 to 13.20, 12.1).
 abbrev pub row : NegKey → Row
-row keys.MaxConnections = line (codes "MaxConnections") (Minimum (between 1 65535)) (answers.Number 1) true
-row keys.InitialR2T = line (codes "InitialR2T") Or (answers.Flag true) true
-row keys.ImmediateData = line (codes "ImmediateData") And (answers.Flag true) true
-row keys.MaxBurstLength = line (codes "MaxBurstLength") (Minimum (between 512 16777215)) (answers.Number 262144) true
-row keys.FirstBurstLength = line (codes "FirstBurstLength") (Minimum (between 512 16777215)) (answers.Number 65536) true
-row keys.DefaultTime2Wait = line (codes "DefaultTime2Wait") (Maximum (between 0 3600)) (answers.Number 2) true
-row keys.DefaultTime2Retain = line (codes "DefaultTime2Retain") (Minimum (between 0 3600)) (answers.Number 20) true
-row keys.MaxOutstandingR2T = line (codes "MaxOutstandingR2T") (Minimum (between 1 65535)) (answers.Number 1) true
-row keys.DataPDUInOrder = line (codes "DataPDUInOrder") Or (answers.Flag true) true
-row keys.DataSequenceInOrder = line (codes "DataSequenceInOrder") Or (answers.Flag true) true
-row keys.ErrorRecoveryLevel = line (codes "ErrorRecoveryLevel") (Minimum (between 0 2)) (answers.Number 0) true
-row keys.HeaderDigest = line (codes "HeaderDigest") NoneItem answers.NoneItem false
-row keys.DataDigest = line (codes "DataDigest") NoneItem answers.NoneItem false
+row keys.MaxConnections = line 0 (codes "MaxConnections") (Minimum (between 1 65535)) (answers.Number 1) true
+row keys.InitialR2T = line 1 (codes "InitialR2T") Or (answers.Flag true) true
+row keys.ImmediateData = line 2 (codes "ImmediateData") And (answers.Flag true) true
+row keys.MaxBurstLength = line 3 (codes "MaxBurstLength") (Minimum (between 512 16777215)) (answers.Number 262144) true
+row keys.FirstBurstLength = line 4 (codes "FirstBurstLength") (Minimum (between 512 16777215)) (answers.Number 65536) true
+row keys.DefaultTime2Wait = line 5 (codes "DefaultTime2Wait") (Maximum (between 0 3600)) (answers.Number 2) true
+row keys.DefaultTime2Retain = line 6 (codes "DefaultTime2Retain") (Minimum (between 0 3600)) (answers.Number 20) true
+row keys.MaxOutstandingR2T = line 7 (codes "MaxOutstandingR2T") (Minimum (between 1 65535)) (answers.Number 1) true
+row keys.DataPDUInOrder = line 8 (codes "DataPDUInOrder") Or (answers.Flag true) true
+row keys.DataSequenceInOrder = line 9 (codes "DataSequenceInOrder") Or (answers.Flag true) true
+row keys.ErrorRecoveryLevel = line 10 (codes "ErrorRecoveryLevel") (Minimum (between 0 2)) (answers.Number 0) true
+row keys.HeaderDigest = line 11 (codes "HeaderDigest") NoneItem answers.NoneItem false
+row keys.DataDigest = line 12 (codes "DataDigest") NoneItem answers.NoneItem false
 -- that nothing offered means `None` is own rule
-row keys.AuthMethod = line (codes "AuthMethod") NoneItem answers.NoneItem false
+row keys.AuthMethod = line 13 (codes "AuthMethod") NoneItem answers.NoneItem false
 
 -- The keys that are offered in the operational stage (section 13).
 abbrev pub operational_keys : List NegKey
