@@ -221,7 +221,7 @@ def check_keys():
     for key, (first, kind, result, span, default) in named:
         where = f"docs/FORMATS.md, {key}"
         look(types.get(key) == kind, where, f"its type is {types.get(key)}")
-        row = re.search(rf'^row keys\.{key} = line \(codes "{key}"\) (.*)$', table, re.M)
+        row = re.search(rf'^row keys\.{key} = line \d+ \(codes "{key}"\) (.*)$', table, re.M)
         look((row is not None) == (result in results), where, "negotiated here or there alone")
         if row and result in results:
             rule = results[result]
