@@ -11,7 +11,8 @@ use Rattle.iscsi_target.specs.State.{Machine, Execution, Stepped, joined, openin
 use Rattle.iscsi_target.specs.Execution.{reliable}
 use Rattle.iscsi_target.specs.Machine.{answers, is_closed, step, then_stepped}
 use Rattle.iscsi_target.specs.Tiles.{GiveTiles, TilesDataIn, bytes_given}
-use Rattle.iscsi_target.specs.Laws.{AreInOrder, Command, CountOn, given_number, joined_stepped, response_tag, response_tags, stat_sn_of, stat_sns, task_in, task_of, tasks_done, tasks_in, tasks_open}
+use Rattle.iscsi_target.specs.Laws.{AreInOrder, Command, CountOn, given_number, joined_stepped, response_tag, response_tags, stat_sn_of, stat_sns, task_in}
+use Rattle.iscsi_target.specs.Laws.{task_of, tasks_done, tasks_in, tasks_open}
 use Rattle.iscsi_target_session.proofs.CaseLemmas.{by_cases}
 use Rattle.iscsi_target.proofs.AcceptedOrderLaw.{Queues, answers_queue}
 use Rattle.iscsi_target.proofs.JoiningLemmas.{answers_joined, joined_then}

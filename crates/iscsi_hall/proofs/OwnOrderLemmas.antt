@@ -10,7 +10,8 @@ use Rattle.iscsi_target.specs.State.{Machine, Execution, Stepped, opening}
 use Rattle.iscsi_target.specs.Machine.{answers, is_closed}
 use Rattle.iscsi_target.specs.Feed.{Store}
 use Rattle.iscsi_target.specs.Laws.{AreInOrder, Command, joined_execution, tasks_done, tasks_in}
-use Rattle.iscsi_hall.specs.Turns.{Event, Comes, Takes, Ends, Goes, IsEnded, IsLeft, Runs, Seats, Session, Stays, executed_by, executed_in, events_of, only_if, seat_of}
+use Rattle.iscsi_hall.specs.Turns.{Event, Comes, Takes, Ends, Goes, IsEnded, IsLeft, Runs, Seats, Session, Stays, executed_by, executed_in, events_of, only_if}
+use Rattle.iscsi_hall.specs.Turns.{seat_of}
 use Rattle.iscsi_hall.specs.Company.{Group, IsCalm, answers_over, groups_in}
 use Rattle.iscsi_hall.specs.OwnOrder.{Placed, placed_by, placed_in, executed_for}
 use Rattle.iscsi_hall.proofs.RunLemmas.{own_session}

@@ -7,7 +7,8 @@ use Rattle.iscsi_target.specs.State.{Machine, Stepped}
 use Rattle.iscsi_target.specs.Laws.{Leads}
 use Rattle.iscsi_target.specs.Feed.{Store}
 use Rattle.iscsi_target.proofs.FailingDiskLemmas.{leads_append, may_leads, stop_leads}
-use Rattle.iscsi_hall.specs.Turns.{Seats, Turn, IsFront, IsOwn, IsEnded, OthersStay, Event, Comes, Takes, Ends, Goes, Happens, Runs, Session, KeepsSession, Stays, executed_of, executed_by, executed_in, seat_of, only_if, events_of}
+use Rattle.iscsi_hall.specs.Turns.{Seats, Turn, IsFront, IsOwn, IsEnded, OthersStay, Event, Comes, Takes, Ends, Goes, Happens, Runs, Session, KeepsSession}
+use Rattle.iscsi_hall.specs.Turns.{Stays, executed_of, executed_by, executed_in, seat_of, only_if, events_of}
 
 -- ---- the blocks
 

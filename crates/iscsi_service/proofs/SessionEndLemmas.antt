@@ -32,7 +32,8 @@ use Rattle.iscsi_target.specs.Machine.{MayStop}
 use Rattle.iscsi_target.proofs.FeedInvariant.{stop_as, may_rise, short_rises}
 use Rattle.iscsi_service.specs.Session.{led}
 use Rattle.iscsi_target.specs.Feed as feed
-use Rattle.iscsi_target.specs.Feed.{StopsShort, Connection, Store, Answers, Ends, Fed, FedIf, Feeds, Stays, Finishes, HasAnswered, FedAll, opening_connection, scene, progress, remainder, beginning}
+use Rattle.iscsi_target.specs.Feed.{StopsShort, Connection, Store, Answers, Ends, Fed, FedIf, Feeds, Stays, Finishes, HasAnswered, FedAll, opening_connection}
+use Rattle.iscsi_target.specs.Feed.{scene, progress, remainder, beginning}
 use Rattle.iscsi_target.specs.Feed.{stream_of}
 use Rattle.iscsi_target.proofs.AppendLemmas.{answers_append}
 use Rattle.iscsi_target.proofs.JoiningLemmas.{answers_joined}

@@ -22,7 +22,8 @@ use Rattle.iscsi_login.specs.Stage.{is_closed_phase}
 use Rattle.iscsi_stream.specs.Framing.{Framing}
 use Rattle.iscsi_target.specs.State.{Machine, Stepped}
 use Rattle.iscsi_target.specs.Feed as feed
-use Rattle.iscsi_target.specs.Feed.{LeavesBy, Connection, Store, Fed, FedIf, FedNext, FedNextIf, Feeds, Stays, FedAll, GoesWell, Finishes, opening_connection, scene, remainder}
+use Rattle.iscsi_target.specs.Feed.{LeavesBy, Connection, Store, Fed, FedIf, FedNext, FedNextIf, Feeds, Stays, FedAll, GoesWell, Finishes, opening_connection}
+use Rattle.iscsi_target.specs.Feed.{scene, remainder}
 use Rattle.iscsi_target.specs.Feed.{stream_of}
 use Rattle.iscsi_target.specs.Laws.{Leads}
 use Rattle.iscsi_target.proofs.FeedingLemmas.{fed_any}

@@ -1,10 +1,12 @@
 -- What orders give and leave.
-use Rattle.std.proofs.Common.{◌≡◌, ◌≤◌, inl, inr, ◌∙◌, ℕ, ◌*◌, List, [], Bool, true, false, min, length, Option, Some, None, IsTrue, refl, sym, ap, subst, arith}
+use Rattle.std.proofs.Common.{◌≡◌, ◌≤◌, inl, inr, ◌∙◌, ℕ, ◌*◌, List, [], Bool, true, false, min, length, Option, Some, None, IsTrue, refl, sym, ap, subst}
+use Rattle.std.proofs.Common.{arith}
 use Rattle.std.specs.Prelude.{◌||◌, ◌&&◌, if◌then◌else◌}
 use Rattle.std.proofs.lemmas.Bool.{cases_lt, false≢true}
 use Rattle.std.proofs.lemmas.List.{length-take}
 use Rattle.scsi_cdb.specs.declared.cdb.Cdb.{Cdb}
-use Rattle.scsi_cdb.specs.declared.cdb.Cdb.TheVariants.{TestUnitReady, Inquiry, Capacity10, Read10, Write10, SyncCache10, Read16, Write16, Capacity16, ReportLuns, Unknown}
+use Rattle.scsi_cdb.specs.declared.cdb.Cdb.TheVariants.{TestUnitReady, Inquiry, Capacity10, Read10, Write10, SyncCache10, Read16, Write16, Capacity16}
+use Rattle.scsi_cdb.specs.declared.cdb.Cdb.TheVariants.{ReportLuns, Unknown}
 use Rattle.scsi_cdb.specs.declared.sense.Sense.{Sense}
 use Rattle.scsi_disk.specs.Disk.{Disk}
 use Rattle.scsi_disk.specs.Effect.{Effect, Executes, FailsBy, wanted_data, outcome_by, disk_by}

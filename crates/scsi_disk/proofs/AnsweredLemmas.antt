@@ -1,5 +1,6 @@
 -- From what a store answered to what a command answers.
-use Rattle.std.proofs.Common.{◌≡◌, ◌<◌, ℕ, List, Bool, true, false, Result, Ok, Err, OnOk, IfOk, IsErr, IsErrOf, IsTrue, inl, inr, refl, sym, ap, ◌∙◌, subst, arith}
+use Rattle.std.proofs.Common.{◌≡◌, ◌<◌, ℕ, List, Bool, true, false, Result, Ok, Err, OnOk, IfOk, IsErr, IsErrOf, IsTrue, inl, inr, refl, sym, ap, ◌∙◌, subst}
+use Rattle.std.proofs.Common.{arith}
 use Rattle.std.proofs.lemmas.Bool.{false≢true}
 use Rattle.std.specs.declared.alloc.AllocError.{AllocError}
 use Rattle.scsi_cdb.specs.declared.sense.Sense.TheVariants.{ReadError, WriteError}

@@ -21,7 +21,8 @@ use Rattle.iscsi_target_session.specs.Session.{limit}
 use Rattle.iscsi_target.specs.State.{Machine, Stepped}
 use Rattle.iscsi_target.specs.State.{joined}
 use Rattle.iscsi_target.specs.Machine.{answers, is_closed}
-use Rattle.iscsi_target.specs.Feed.{Connection, Store, Feeds, Fed, FedIf, Ends, IsShut, LeavesBy, Stands, StopsShort, HasAnswered, opening_connection, scene, remainder, beginning}
+use Rattle.iscsi_target.specs.Feed.{Connection, Store, Feeds, Fed, FedIf, Ends, IsShut, LeavesBy, Stands, StopsShort, HasAnswered, opening_connection, scene}
+use Rattle.iscsi_target.specs.Feed.{remainder, beginning}
 use Rattle.iscsi_target.proofs.FeedingLemmas.{Told, told, answers_close, stands}
 use Rattle.iscsi_target.proofs.KeepingLemmas.{Stays, stop_stays}
 use Rattle.iscsi_target.proofs.StreamingLemmas.{goes_on}

@@ -32,7 +32,8 @@ use Rattle.iscsi_initiator.specs.Steps as initiator_steps
 use Rattle.iscsi_initiator.specs.Machine.{step, steps}
 use Rattle.iscsi_initiator.specs.Calls as calls
 use Rattle.iscsi_pair.specs.World.{World, Opening, TargetReceives, MovesToTarget, store_of, target_ran_out}
-use Rattle.iscsi_pair.proofs.Request.Invariant.{AreWritten, IsOpenFor, HearsWell, History, Relation, Sends, Goes, IsKept, written_append, between, so_far, SoFar, limits, limits_of, Limits}
+use Rattle.iscsi_pair.proofs.Request.Invariant.{AreWritten, IsOpenFor, HearsWell, History, Relation, Sends, Goes, IsKept, written_append, between, so_far}
+use Rattle.iscsi_pair.proofs.Request.Invariant.{SoFar, limits, limits_of, Limits}
 use Rattle.iscsi_pair.proofs.Login.NoFailure.{both_none}
 use Rattle.iscsi_pair.proofs.Run.QueueReading.{after_all_append, written_parts, refuses_nothing, Unread, Way, MovesOn, moves_on, still_unread, none_more}
 use Rattle.iscsi_pair.proofs.Run.QueueReading.{way_sends}

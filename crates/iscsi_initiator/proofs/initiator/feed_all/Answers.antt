@@ -6,7 +6,8 @@ use Rattle.iscsi_stream.proofs.PassingLemmas.{takes_some}
 use Rattle.iscsi_initiator.specs.declared.fault.InitiatorFault.{InitiatorFault}
 use Rattle.iscsi_initiator.specs.State.{Machine}
 use Rattle.iscsi_initiator.specs.Inside.{connection, ReceivesPdu, ShutsReady}
-use Rattle.iscsi_initiator.proofs.ReceivingLemmas.{standing, GoesUpTo, ReceivedAs, received_none, received_ready, ends_refused, ends_shut, ends_fault, ends_closed}
+use Rattle.iscsi_initiator.proofs.ReceivingLemmas.{standing, GoesUpTo, ReceivedAs, received_none, received_ready, ends_refused, ends_shut, ends_fault}
+use Rattle.iscsi_initiator.proofs.ReceivingLemmas.{ends_closed}
 use Rattle.iscsi_initiator.proofs.ReceivingLemmas.{ends_live}
 use Rattle.iscsi_initiator.proofs.initiator.feed_all.Goals as goal
 
