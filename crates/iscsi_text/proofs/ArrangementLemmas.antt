@@ -62,7 +62,7 @@ permuted (p ∷ ps) qs same =
     (IsPermutation-middle t.before p t.after)))
 
 -- in order, the first key is at most each
-first_least : (p : List ℕ × Typed) (ps : Pairs) → IsInOrder (p ∷ ps) → (key : List ℕ) → 0 < length (values_of key (p ∷ ps)) → key_le p.0 key ≡ true
+pub first_least : (p : List ℕ × Typed) (ps : Pairs) → IsInOrder (p ∷ ps) → (key : List ℕ) → 0 < length (values_of key (p ∷ ps)) → key_le p.0 key ≡ true
 first_least p ps order key some = elim (key_cases p.0 key) [
   | inl same ↦ subst (λ k. key_le p.0 k ≡ true) same (key_le_refl p.0)
   | inr other ↦ within p.0 ps order.0 key (omega (arith, ap length (values_of-other key p ps other)))

@@ -69,7 +69,7 @@ one_key key key' rest n n' =
     (cut 61 key key' n.bytes n'.bytes n.no_equals n'.no_equals entries.0).0
 
 -- what a field of the row names
-field_names : (g : Field) (rest y : List ℕ) → IsField g → rest ≡ (g.key ++ 61 ∷ g.bytes) ++ 0 ∷ y → NamesFirst g.key rest
+pub field_names : (g : Field) (rest y : List ℕ) → IsField g → rest ≡ (g.key ++ 61 ∷ g.bytes) ++ 0 ∷ y → NamesFirst g.key rest
 field_names g rest y is same = record {
   bytes = g.bytes;
   more = y;

@@ -7,7 +7,9 @@ pub mod KeyLemmas
 pub mod MeaningLemmas
 pub mod OrderLemmas
 pub mod PairLemmas
+pub mod FirstFaultLemmas
 pub mod ReadInvariant
 pub mod RowLemmas
+pub mod SortLemmas
 pub mod NumeralLemmas
 pub mod TextLaws

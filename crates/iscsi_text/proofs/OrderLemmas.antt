@@ -48,7 +48,7 @@ values_in_order key (p ∷ ps) = values_placed key p (in_order ps) ∙ values_be
 abbrev AllFrom : List ℕ → Pairs → Type 0
 AllFrom key ps = AllByRecursion (λ q. key_le key q.0 ≡ true) ps
 
-all_from : (a b : List ℕ) (ps : Pairs) → key_le a b ≡ true → AllFrom b ps → AllFrom a ps
+pub all_from : (a b : List ℕ) (ps : Pairs) → key_le a b ≡ true → AllFrom b ps → AllFrom a ps
 all_from a b [] le all = tt
 all_from a b (p ∷ ps) le all = (key_le_trans a b p.0 le all.0, all_from a b ps le all.1)
 

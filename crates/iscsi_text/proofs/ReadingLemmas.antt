@@ -213,7 +213,7 @@ pair_found f is =
 
 -- ---- rows
 
-has_decides : (key : List ℕ) (ps : Pairs) → Decides (has_key key ps) (0 < length (values_of key ps))
+pub has_decides : (key : List ℕ) (ps : Pairs) → Decides (has_key key ps) (0 < length (values_of key ps))
 has_decides key [] = ((λ e. absurd (false≢true e)), (λ lt. absurd (omega arith)))
 has_decides key (p ∷ ps) = elim (key_cases p.0 key) [
   | inl same ↦ ((λ _. omega (arith, ap length (values_of-same key p ps same))), (λ _. ap (λ b. b || has_key key ps) (bytes_eq_same p.0 key same)))
@@ -227,7 +227,7 @@ again_decides : (p : List ℕ × Typed) (ps : Pairs) → Decides (has_key p.0 ps
 again_decides p ps = Decides-and _ _ (has_decides p.0 ps) (Decides-not _ (bytes_eq-Decides p.0 target_address))
 
 -- one pair more in front
-single_cons : (p : List ℕ × Typed) (ps : Pairs) → IsSingle ps → ((0 < length (values_of p.0 ps)) × (p.0 ≢ target_address) → ⊥) → IsSingle (p ∷ ps)
+pub single_cons : (p : List ℕ × Typed) (ps : Pairs) → IsSingle ps → ((0 < length (values_of p.0 ps)) × (p.0 ≢ target_address) → ⊥) → IsSingle (p ∷ ps)
 single_cons p ps single new key other = elim (key_cases p.0 key) [
   | inl same ↦ elim (cases_lt 0 (length (values_of p.0 ps))) [
     | inl some ↦ absurd (new (some, λ is. other (sym same ∙ is)))
@@ -239,7 +239,7 @@ single_cons p ps single new key other = elim (key_cases p.0 key) [
 single_first : (p : List ℕ × Typed) (ps : Pairs) → IsSingle (p ∷ ps) → (0 < length (values_of p.0 ps)) × (p.0 ≢ target_address) → ⊥
 single_first p ps single again = omega (arith, again.0, single p.0 again.1, ap length (values_of-same p.0 p ps refl))
 
-single_rest : (p : List ℕ × Typed) (ps : Pairs) → IsSingle (p ∷ ps) → IsSingle ps
+pub single_rest : (p : List ℕ × Typed) (ps : Pairs) → IsSingle (p ∷ ps) → IsSingle ps
 single_rest p ps single key other = elim (key_cases p.0 key) [
   | inl same ↦ omega (arith, ap length (values_of-same key p ps same), single key other)
   | inr apart ↦ omega (arith, ap length (values_of-other key p ps apart), single key other)

@@ -100,7 +100,7 @@ compared (d ∷ es) (f ∷ fs) x y a b e =
     ]
 
 -- an entry has a byte
-entry_some : (e : Option Field) → 0 < length (entry_bytes e)
+pub entry_some : (e : Option Field) → 0 < length (entry_bytes e)
 entry_some None = omega arith
 entry_some (Some f) = omega (arith, length-append (f.key ++ 61 ∷ f.bytes) (0 ∷ []))
 

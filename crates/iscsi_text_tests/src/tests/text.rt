@@ -10,6 +10,24 @@ const KEY_OF_63: &[u8] = b"aaaaaaaaaaaaaaaaaaaaaaaaaaaaaaaaaaaaaaaaaaaaaaaaaaaaa
 
 const KEY_OF_64: &[u8] = b"aaaaaaaaaaaaaaaaaaaaaaaaaaaaaaaaaaaaaaaaaaaaaaaaaaaaaaaaaaaaaaaa=1\0";
 
+// 26 keys, as they come in a text.
+const ASCENDING: &[u8] =
+    b"A=\0B=\0C=\0D=\0E=\0F=\0G=\0H=\0I=\0J=\0K=\0L=\0M=\0N=\0O=\0P=\0Q=\0R=\0S=\0T=\0U=\0V=\0\
+      W=\0X=\0Y=\0Z=\0";
+
+const DESCENDING: &[u8] =
+    b"Z=\0Y=\0X=\0W=\0V=\0U=\0T=\0S=\0R=\0Q=\0P=\0O=\0N=\0M=\0L=\0K=\0J=\0I=\0H=\0G=\0F=\0E=\0\
+      D=\0C=\0B=\0A=\0";
+
+// The same in disorder, with addresses among them, and in order.
+const MIXED: &[u8] =
+    b"M=\0N=\0L=\0TargetAddress=c\0O=\0K=\0P=\0J=\0Q=\0I=\0R=\0H=\0S=\0TargetAddress=a\0G=\0\
+      T=\0F=\0U=\0E=\0V=\0D=\0W=\0C=\0TargetAddress=b\0X=\0B=\0Y=\0A=\0Z=\0";
+
+const SORTED: &[u8] =
+    b"A=\0B=\0C=\0D=\0E=\0F=\0G=\0H=\0I=\0J=\0K=\0L=\0M=\0N=\0O=\0P=\0Q=\0R=\0S=\0T=\0\
+      TargetAddress=c\0TargetAddress=a\0TargetAddress=b\0U=\0V=\0W=\0X=\0Y=\0Z=\0";
+
 // A text, and the canonical text of its map.
 const CANONICAL: &[(&str, &[u8], &[u8])] = &[
     ("nothing", b"", b""),
@@ -72,6 +90,14 @@ const CANONICAL: &[(&str, &[u8], &[u8])] = &[
         b"A==b=\0",
     ),
     ("a key of 63 letters", KEY_OF_63, KEY_OF_63),
+    ("many keys that ascend", ASCENDING, ASCENDING),
+    ("many keys that descend", DESCENDING, ASCENDING),
+    ("many keys in disorder, and addresses", MIXED, SORTED),
+    (
+        "addresses among keys that descend",
+        b"TargetAddress=b\0C=3\0TargetAddress=a\0B=2\0TargetAddress=c\0A=1\0",
+        b"A=1\0B=2\0C=3\0TargetAddress=b\0TargetAddress=a\0TargetAddress=c\0",
+    ),
 ];
 
 // The canonical text of a row, and its length before it is written.
@@ -122,6 +148,24 @@ const FAULTS: &[(&[u8], TextFault, &str)] = &[
         b"InitialR2T=Yes\0InitialR2T=No\0",
         TextFault::Repeated(15),
         "repeated key at 15",
+    ),
+    // Keys that descend, of which one stands again far behind, before an entry without `=`.
+    (
+        b"C=1\0B=2\0A=3\0TargetAddress=b\0TargetAddress=a\0C=4\0D\0",
+        TextFault::Repeated(44),
+        "repeated key at 44",
+    ),
+    // The first that is repeated, though another is less.
+    (
+        b"B=1\0A=2\0B=3\0A=4\0",
+        TextFault::Repeated(8),
+        "repeated key at 8",
+    ),
+    // What is wrong before a key is repeated.
+    (
+        b"B=1\0A=2\0C\0B=3\0",
+        TextFault::NoEquals(8),
+        "no equals at 8",
     ),
 ];
 
