@@ -56,8 +56,8 @@ impl<'a> Text<'a> {
     /// key is repeated, a set of keys takes the list's place. Where memory runs out the answer is
     /// `NoMemory`. The bytes mean something exactly where they have no fault.
     ///
-    /// Pairs are sorted once: n of them take about n log2(n) comparisons of keys, and about 2 n
-    /// where their keys ascend or strictly descend.
+    /// Pairs are sorted once: n of them take time of the order of n log n, and of n where their keys
+    /// ascend or strictly descend. A text in which a key is repeated is read a second time.
     pub fn read(alloc: Global, bytes: &'a [u8]) -> Result<Text<'a>, TextFault>
         // The text is what the bytes mean.
         ensures found { IfOk result (λ text. TextMeans bytes.now text) }

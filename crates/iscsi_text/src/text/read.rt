@@ -23,7 +23,7 @@ pub fn read_pairs<'a>(alloc: Global, bytes: &'a [u8]) -> Result<Vec<Pair<'a>>, T
     let ended_by = gather(bytes, &mut pairs)?;
     sort(&mut pairs)?;
     if !ascends(&pairs) {
-        // A key is repeated: which pair is the first that does, the sorted list no longer tells.
+        // A key is repeated. Which pair is the first to do so, the sorted list no longer tells.
         drop(pairs);
         return Err(first_fault(alloc, bytes)?);
     }
