@@ -171,9 +171,9 @@ def in_words(condition):
 def shown_words(text, kind):
     """The fields of a kind in the code of `show`, in their order: field, name."""
     body = re.search(rf"^fn {kind}\(.*?^\}}", text, re.M | re.S).group(0)
-    for call, words in re.findall(r"^    (\w+)\(out, (.*?)\)[?]?;?$", body, re.M):
+    for call, words in re.findall(r"^    (?:let at = )?(\w+)\(line, at, (.*?)\);?$", body, re.M):
         fields = re.findall(r"h\.(\w+)", words)
-        name = re.match(r'"(\w+)"', words)
+        name = re.match(r'" (\w+)="', words)
         if call == "window":
             yield from zip(fields, ("expcmdsn", "maxcmdsn"))
         else:
@@ -197,7 +197,7 @@ def check_kinds():
     for kind, (opcode, name, rows) in kinds.items():
         where = f"docs/FORMATS.md, {name}"
         look(f"opcode ({camel(kind)} h) = 0x{opcode:02x}" in meaning, where, f"opcode {opcode:02x} is not that of specs/Meaning")
-        look(f'Head::{camel(kind)}(_) => "{name}"' in show, where, f"`show` does not print {name}")
+        look(f'Head::{camel(kind)}(_) => " {name}"' in show, where, f"`show` does not print {name}")
         # a command's block, bytes 32 to 47, has a table of its own
         due = [row[:3] for row in rows if row[0] != "cdb"]
         look(due == list(defined_rows(fields, kind)), where, "the rows are not those of specs/Fields")

@@ -5,6 +5,7 @@ pub mod OneEndingLaw
 pub mod FrontLemmas
 pub mod GatheringLemmas
 pub mod HeadLemmas
+pub mod LineLemmas
 pub mod LoopInvariants
 pub mod OneMeaningLaw
 pub mod NormalisingLemmas

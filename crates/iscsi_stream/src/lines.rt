@@ -6,7 +6,7 @@ ghost use Rattle.iscsi_stream.specs.Shown.{IsLine};
 
 mod fields;
 
-use self::fields::{fields, kind};
+use self::fields::{fields, kind, put};
 use iscsi_pdu::Pdu;
 use itoa::Buffer;
 use std::alloc::AllocError;
@@ -23,15 +23,24 @@ pub fn show_line(place: u64, pdu: &Pdu<'_>, out: &mut Vec<u8>) -> Result<(), All
         × (out.new.items ≡ out.old.items ++ line)) }
     ensures err { OnErr result (out.new.items ≡ out.old.items) }
 {
-    let mut line = Vec::with_capacity(*out.allocator(), LINE)?;
+    let start = out.len();
+    out.resize(start + LINE, 0)?;
+    let end = write_line(&mut out[start..], place, pdu);
+    out.truncate(start + end.min(LINE - 1));
+    let Ok(()) = out.push(b'\n') else {
+        unreachable!()
+    };
+    Ok(())
+}
+
+// Writes the line of a PDU into room for it, but for its end, and gives the place behind it.
+fn write_line(line: &mut [u8], place: u64, pdu: &Pdu<'_>) -> usize
+    requires { Fits pdu.now.head }
+{
     let mut decimal = Buffer::new();
-    line.extend_from_slice(decimal.format(place).as_bytes())?;
-    line.push(b' ')?;
-    line.extend_from_slice(kind(&pdu.head).as_bytes())?;
-    fields(&mut line, &pdu.head)?;
-    line.extend_from_slice(b" data=")?;
-    line.extend_from_slice(decimal.format(pdu.bytes.len()).as_bytes())?;
-    line.truncate(LINE - 1);
-    line.push(b'\n')?;
-    out.extend_from_slice(&line)
+    let at = put(line, 0, decimal.format(place).as_bytes());
+    let at = put(line, at, kind(&pdu.head).as_bytes());
+    let at = fields(line, at, &pdu.head);
+    let at = put(line, at, b" data=");
+    put(line, at, decimal.format(pdu.bytes.len()).as_bytes())
 }

@@ -10,336 +10,346 @@ use iscsi_pdu::{
     LogoutResponse, NopIn, NopOut, ReadyToTransfer, Reject, ScsiCommand, ScsiResponse, TaskRequest,
     TaskResponse, TextRequest, TextResponse,
 };
-use std::alloc::AllocError;
 
-/// The name of a head's kind.
+/// The name of a head's kind, behind a space.
 pub(crate) fn kind(head: &Head) -> &'static str {
     match head {
-        Head::NopOut(_) => "NOP-Out",
-        Head::ScsiCommand(_) => "SCSI-Command",
-        Head::TaskRequest(_) => "Task-Request",
-        Head::LoginRequest(_) => "Login-Request",
-        Head::TextRequest(_) => "Text-Request",
-        Head::DataOut(_) => "Data-Out",
-        Head::LogoutRequest(_) => "Logout-Request",
-        Head::NopIn(_) => "NOP-In",
-        Head::ScsiResponse(_) => "SCSI-Response",
-        Head::TaskResponse(_) => "Task-Response",
-        Head::LoginResponse(_) => "Login-Response",
-        Head::TextResponse(_) => "Text-Response",
-        Head::DataIn(_) => "Data-In",
-        Head::LogoutResponse(_) => "Logout-Response",
-        Head::ReadyToTransfer(_) => "R2T",
-        Head::AsyncMessage(_) => "Async",
-        Head::Reject(_) => "Reject",
+        Head::NopOut(_) => " NOP-Out",
+        Head::ScsiCommand(_) => " SCSI-Command",
+        Head::TaskRequest(_) => " Task-Request",
+        Head::LoginRequest(_) => " Login-Request",
+        Head::TextRequest(_) => " Text-Request",
+        Head::DataOut(_) => " Data-Out",
+        Head::LogoutRequest(_) => " Logout-Request",
+        Head::NopIn(_) => " NOP-In",
+        Head::ScsiResponse(_) => " SCSI-Response",
+        Head::TaskResponse(_) => " Task-Response",
+        Head::LoginResponse(_) => " Login-Response",
+        Head::TextResponse(_) => " Text-Response",
+        Head::DataIn(_) => " Data-In",
+        Head::LogoutResponse(_) => " Logout-Response",
+        Head::ReadyToTransfer(_) => " R2T",
+        Head::AsyncMessage(_) => " Async",
+        Head::Reject(_) => " Reject",
     }
 }
 
-/// Appends the fields of a head, in the order of the field table.
-pub(crate) fn fields(out: &mut Vec<u8>, head: &Head) -> Result<(), AllocError>
+/// Writes bytes into the line from `at` on, and gives the place behind them. Where there is no room
+/// for them it writes none of them, and gives `at`.
+pub(crate) fn put(line: &mut [u8], at: usize, bytes: &[u8]) -> usize {
+    if at > line.len() || bytes.len() > line.len() - at {
+        return at;
+    }
+    let end = at + bytes.len();
+    line[at..end].copy_from_slice(bytes);
+    end
+}
+
+/// Writes the fields of a head into the line from `at` on, in the order of the field table, and
+/// gives the place behind them.
+pub(crate) fn fields(line: &mut [u8], at: usize, head: &Head) -> usize
     requires { Fits head.now }
 {
     match head {
-        Head::NopOut(h) => nop_out(out, h),
-        Head::ScsiCommand(h) => scsi_command(out, h),
-        Head::TaskRequest(h) => task_request(out, h),
-        Head::LoginRequest(h) => login_request(out, h),
-        Head::TextRequest(h) => text_request(out, h),
-        Head::DataOut(h) => data_out(out, h),
-        Head::LogoutRequest(h) => logout_request(out, h),
-        Head::NopIn(h) => nop_in(out, h),
-        Head::ScsiResponse(h) => scsi_response(out, h),
-        Head::TaskResponse(h) => task_response(out, h),
-        Head::LoginResponse(h) => login_response(out, h),
-        Head::TextResponse(h) => text_response(out, h),
-        Head::DataIn(h) => data_in(out, h),
-        Head::LogoutResponse(h) => logout_response(out, h),
-        Head::ReadyToTransfer(h) => ready_to_transfer(out, h),
-        Head::AsyncMessage(h) => async_message(out, h),
-        Head::Reject(h) => reject(out, h),
+        Head::NopOut(h) => nop_out(line, at, h),
+        Head::ScsiCommand(h) => scsi_command(line, at, h),
+        Head::TaskRequest(h) => task_request(line, at, h),
+        Head::LoginRequest(h) => login_request(line, at, h),
+        Head::TextRequest(h) => text_request(line, at, h),
+        Head::DataOut(h) => data_out(line, at, h),
+        Head::LogoutRequest(h) => logout_request(line, at, h),
+        Head::NopIn(h) => nop_in(line, at, h),
+        Head::ScsiResponse(h) => scsi_response(line, at, h),
+        Head::TaskResponse(h) => task_response(line, at, h),
+        Head::LoginResponse(h) => login_response(line, at, h),
+        Head::TextResponse(h) => text_response(line, at, h),
+        Head::DataIn(h) => data_in(line, at, h),
+        Head::LogoutResponse(h) => logout_response(line, at, h),
+        Head::ReadyToTransfer(h) => ready_to_transfer(line, at, h),
+        Head::AsyncMessage(h) => async_message(line, at, h),
+        Head::Reject(h) => reject(line, at, h),
     }
 }
 
-// A field of whole bytes, at most 16.
-fn whole(out: &mut Vec<u8>, name: &str, bytes: &[u8]) -> Result<(), AllocError>
+// A field of whole bytes, at most 16. A name is given with the space before it and the sign behind
+// it, so that both are written with it.
+fn whole(line: &mut [u8], at: usize, name: &str, bytes: &[u8]) -> usize
     requires { length bytes.now ≤ 16 }
 {
-    let mut digits = [0; 32];
-    let digits = &mut digits[..2 * bytes.len()];
-    let Ok(()) = hex::encode_to_slice(bytes, digits) else {
+    let at = put(line, at, name.as_bytes());
+    let count = 2 * bytes.len();
+    if at > line.len() || count > line.len() - at {
+        return at;
+    }
+    let end = at + count;
+    let Ok(()) = hex::encode_to_slice(bytes, &mut line[at..end]) else {
         unreachable!()
     };
-    out.push(b' ')?;
-    out.extend_from_slice(name.as_bytes())?;
-    out.push(b'=')?;
-    out.extend_from_slice(digits)
+    end
 }
 
-fn byte(out: &mut Vec<u8>, name: &str, value: u8) -> Result<(), AllocError> {
-    whole(out, name, &[value])
+fn byte(line: &mut [u8], at: usize, name: &str, value: u8) -> usize {
+    whole(line, at, name, &[value])
 }
 
-fn half(out: &mut Vec<u8>, name: &str, value: u16) -> Result<(), AllocError> {
-    whole(out, name, &value.to_be_bytes())
+fn half(line: &mut [u8], at: usize, name: &str, value: u16) -> usize {
+    whole(line, at, name, &value.to_be_bytes())
 }
 
-fn word(out: &mut Vec<u8>, name: &str, value: u32) -> Result<(), AllocError> {
-    whole(out, name, &value.to_be_bytes())
+fn word(line: &mut [u8], at: usize, name: &str, value: u32) -> usize {
+    whole(line, at, name, &value.to_be_bytes())
 }
 
-fn byte_if(out: &mut Vec<u8>, name: &str, value: Option<u8>) -> Result<(), AllocError> {
+fn byte_if(line: &mut [u8], at: usize, name: &str, value: Option<u8>) -> usize {
     match value {
-        Some(value) => byte(out, name, value),
-        None => Ok(()),
+        Some(value) => byte(line, at, name, value),
+        None => at,
     }
 }
 
-fn half_if(out: &mut Vec<u8>, name: &str, value: Option<u16>) -> Result<(), AllocError> {
+fn half_if(line: &mut [u8], at: usize, name: &str, value: Option<u16>) -> usize {
     match value {
-        Some(value) => half(out, name, value),
-        None => Ok(()),
+        Some(value) => half(line, at, name, value),
+        None => at,
     }
 }
 
-fn word_if(out: &mut Vec<u8>, name: &str, value: Option<u32>) -> Result<(), AllocError> {
+fn word_if(line: &mut [u8], at: usize, name: &str, value: Option<u32>) -> usize {
     match value {
-        Some(value) => word(out, name, value),
-        None => Ok(()),
+        Some(value) => word(line, at, name, value),
+        None => at,
     }
 }
 
 // A field of fewer than seven bits, which has one digit.
-fn digit(out: &mut Vec<u8>, name: &str, value: u8) -> Result<(), AllocError> {
-    out.push(b' ')?;
-    out.extend_from_slice(name.as_bytes())?;
-    out.push(b'=')?;
-    out.push(b'0' + value % 8)?;
-    Ok(())
+fn digit(line: &mut [u8], at: usize, name: &str, value: u8) -> usize {
+    let at = put(line, at, name.as_bytes());
+    put(line, at, &[b'0' + value % 8])
 }
 
-fn flag(out: &mut Vec<u8>, name: &str, value: bool) -> Result<(), AllocError> {
-    digit(out, name, if value { 1 } else { 0 })
+fn flag(line: &mut [u8], at: usize, name: &str, value: bool) -> usize {
+    digit(line, at, name, if value { 1 } else { 0 })
 }
 
-fn flag_if(out: &mut Vec<u8>, name: &str, value: Option<bool>) -> Result<(), AllocError> {
+fn flag_if(line: &mut [u8], at: usize, name: &str, value: Option<bool>) -> usize {
     match value {
-        Some(value) => flag(out, name, value),
-        None => Ok(()),
+        Some(value) => flag(line, at, name, value),
+        None => at,
     }
 }
 
-fn digit_if(out: &mut Vec<u8>, name: &str, value: Option<u8>) -> Result<(), AllocError> {
+fn digit_if(line: &mut [u8], at: usize, name: &str, value: Option<u8>) -> usize {
     match value {
-        Some(value) => digit(out, name, value),
-        None => Ok(()),
+        Some(value) => digit(line, at, name, value),
+        None => at,
     }
 }
 
-fn unit(out: &mut Vec<u8>, lun: u64) -> Result<(), AllocError> {
-    whole(out, "lun", &lun.to_be_bytes())
+fn unit(line: &mut [u8], at: usize, lun: u64) -> usize {
+    whole(line, at, " lun=", &lun.to_be_bytes())
 }
 
-fn unit_if(out: &mut Vec<u8>, lun: Option<u64>) -> Result<(), AllocError> {
+fn unit_if(line: &mut [u8], at: usize, lun: Option<u64>) -> usize {
     match lun {
-        Some(lun) => unit(out, lun),
-        None => Ok(()),
+        Some(lun) => unit(line, at, lun),
+        None => at,
     }
 }
 
 // The window of command numbers that each answer of a target tells.
-fn window(out: &mut Vec<u8>, exp_cmd_sn: u32, max_cmd_sn: u32) -> Result<(), AllocError> {
-    word(out, "expcmdsn", exp_cmd_sn)?;
-    word(out, "maxcmdsn", max_cmd_sn)
+fn window(line: &mut [u8], at: usize, exp_cmd_sn: u32, max_cmd_sn: u32) -> usize {
+    let at = word(line, at, " expcmdsn=", exp_cmd_sn);
+    word(line, at, " maxcmdsn=", max_cmd_sn)
 }
 
-fn nop_out(out: &mut Vec<u8>, h: &NopOut) -> Result<(), AllocError> {
-    flag(out, "i", h.immediate)?;
-    unit_if(out, h.lun)?;
-    word(out, "itt", h.initiator_task_tag)?;
-    word(out, "ttt", h.target_transfer_tag)?;
-    word(out, "cmdsn", h.cmd_sn)?;
-    word(out, "expstatsn", h.exp_stat_sn)
+fn nop_out(line: &mut [u8], at: usize, h: &NopOut) -> usize {
+    let at = flag(line, at, " i=", h.immediate);
+    let at = unit_if(line, at, h.lun);
+    let at = word(line, at, " itt=", h.initiator_task_tag);
+    let at = word(line, at, " ttt=", h.target_transfer_tag);
+    let at = word(line, at, " cmdsn=", h.cmd_sn);
+    word(line, at, " expstatsn=", h.exp_stat_sn)
 }
 
-fn scsi_command(out: &mut Vec<u8>, h: &ScsiCommand) -> Result<(), AllocError>
+fn scsi_command(line: &mut [u8], at: usize, h: &ScsiCommand) -> usize
     requires { blocks.Fits h.now.cdb }
 {
-    flag(out, "i", h.immediate)?;
-    flag(out, "f", h.is_final)?;
-    flag(out, "r", h.read)?;
-    flag(out, "w", h.write)?;
-    digit(out, "attr", h.attribute)?;
-    unit(out, h.lun)?;
-    word(out, "itt", h.initiator_task_tag)?;
-    word(out, "edtl", h.expected_data_transfer_length)?;
-    word(out, "cmdsn", h.cmd_sn)?;
-    word(out, "expstatsn", h.exp_stat_sn)?;
-    whole(out, "cdb", &h.cdb.write())
+    let at = flag(line, at, " i=", h.immediate);
+    let at = flag(line, at, " f=", h.is_final);
+    let at = flag(line, at, " r=", h.read);
+    let at = flag(line, at, " w=", h.write);
+    let at = digit(line, at, " attr=", h.attribute);
+    let at = unit(line, at, h.lun);
+    let at = word(line, at, " itt=", h.initiator_task_tag);
+    let at = word(line, at, " edtl=", h.expected_data_transfer_length);
+    let at = word(line, at, " cmdsn=", h.cmd_sn);
+    let at = word(line, at, " expstatsn=", h.exp_stat_sn);
+    whole(line, at, " cdb=", &h.cdb.write())
 }
 
-fn task_request(out: &mut Vec<u8>, h: &TaskRequest) -> Result<(), AllocError> {
-    flag(out, "i", h.immediate)?;
-    byte(out, "function", h.function)?;
-    unit(out, h.lun)?;
-    word(out, "itt", h.initiator_task_tag)?;
-    word(out, "rtt", h.referenced_task_tag)?;
-    word(out, "cmdsn", h.cmd_sn)?;
-    word(out, "expstatsn", h.exp_stat_sn)?;
-    word(out, "refcmdsn", h.ref_cmd_sn)?;
-    word(out, "expdatasn", h.exp_data_sn)
+fn task_request(line: &mut [u8], at: usize, h: &TaskRequest) -> usize {
+    let at = flag(line, at, " i=", h.immediate);
+    let at = byte(line, at, " function=", h.function);
+    let at = unit(line, at, h.lun);
+    let at = word(line, at, " itt=", h.initiator_task_tag);
+    let at = word(line, at, " rtt=", h.referenced_task_tag);
+    let at = word(line, at, " cmdsn=", h.cmd_sn);
+    let at = word(line, at, " expstatsn=", h.exp_stat_sn);
+    let at = word(line, at, " refcmdsn=", h.ref_cmd_sn);
+    word(line, at, " expdatasn=", h.exp_data_sn)
 }
 
-fn login_request(out: &mut Vec<u8>, h: &LoginRequest) -> Result<(), AllocError> {
-    flag(out, "t", h.transits)?;
-    flag(out, "c", h.continues)?;
-    digit(out, "csg", h.current_stage)?;
-    digit_if(out, "nsg", h.next_stage)?;
-    byte(out, "vmax", h.version_max)?;
-    byte(out, "vmin", h.version_min)?;
-    whole(out, "isid", &h.isid)?;
-    half(out, "tsih", h.tsih)?;
-    word(out, "itt", h.initiator_task_tag)?;
-    half(out, "cid", h.connection_id)?;
-    word(out, "cmdsn", h.cmd_sn)?;
-    word(out, "expstatsn", h.exp_stat_sn)
+fn login_request(line: &mut [u8], at: usize, h: &LoginRequest) -> usize {
+    let at = flag(line, at, " t=", h.transits);
+    let at = flag(line, at, " c=", h.continues);
+    let at = digit(line, at, " csg=", h.current_stage);
+    let at = digit_if(line, at, " nsg=", h.next_stage);
+    let at = byte(line, at, " vmax=", h.version_max);
+    let at = byte(line, at, " vmin=", h.version_min);
+    let at = whole(line, at, " isid=", &h.isid);
+    let at = half(line, at, " tsih=", h.tsih);
+    let at = word(line, at, " itt=", h.initiator_task_tag);
+    let at = half(line, at, " cid=", h.connection_id);
+    let at = word(line, at, " cmdsn=", h.cmd_sn);
+    word(line, at, " expstatsn=", h.exp_stat_sn)
 }
 
-fn text_request(out: &mut Vec<u8>, h: &TextRequest) -> Result<(), AllocError> {
-    flag(out, "i", h.immediate)?;
-    flag(out, "f", h.is_final)?;
-    flag(out, "c", h.continues)?;
-    unit_if(out, h.lun)?;
-    word(out, "itt", h.initiator_task_tag)?;
-    word(out, "ttt", h.target_transfer_tag)?;
-    word(out, "cmdsn", h.cmd_sn)?;
-    word(out, "expstatsn", h.exp_stat_sn)
+fn text_request(line: &mut [u8], at: usize, h: &TextRequest) -> usize {
+    let at = flag(line, at, " i=", h.immediate);
+    let at = flag(line, at, " f=", h.is_final);
+    let at = flag(line, at, " c=", h.continues);
+    let at = unit_if(line, at, h.lun);
+    let at = word(line, at, " itt=", h.initiator_task_tag);
+    let at = word(line, at, " ttt=", h.target_transfer_tag);
+    let at = word(line, at, " cmdsn=", h.cmd_sn);
+    word(line, at, " expstatsn=", h.exp_stat_sn)
 }
 
-fn data_out(out: &mut Vec<u8>, h: &DataOut) -> Result<(), AllocError> {
-    flag(out, "f", h.is_final)?;
-    unit_if(out, h.lun)?;
-    word(out, "itt", h.initiator_task_tag)?;
-    word(out, "ttt", h.target_transfer_tag)?;
-    word(out, "expstatsn", h.exp_stat_sn)?;
-    word(out, "datasn", h.data_sn)?;
-    word(out, "offset", h.buffer_offset)
+fn data_out(line: &mut [u8], at: usize, h: &DataOut) -> usize {
+    let at = flag(line, at, " f=", h.is_final);
+    let at = unit_if(line, at, h.lun);
+    let at = word(line, at, " itt=", h.initiator_task_tag);
+    let at = word(line, at, " ttt=", h.target_transfer_tag);
+    let at = word(line, at, " expstatsn=", h.exp_stat_sn);
+    let at = word(line, at, " datasn=", h.data_sn);
+    word(line, at, " offset=", h.buffer_offset)
 }
 
-fn logout_request(out: &mut Vec<u8>, h: &LogoutRequest) -> Result<(), AllocError> {
-    flag(out, "i", h.immediate)?;
-    byte(out, "reason", h.reason)?;
-    word(out, "itt", h.initiator_task_tag)?;
-    half_if(out, "cid", h.connection_id)?;
-    word(out, "cmdsn", h.cmd_sn)?;
-    word(out, "expstatsn", h.exp_stat_sn)
+fn logout_request(line: &mut [u8], at: usize, h: &LogoutRequest) -> usize {
+    let at = flag(line, at, " i=", h.immediate);
+    let at = byte(line, at, " reason=", h.reason);
+    let at = word(line, at, " itt=", h.initiator_task_tag);
+    let at = half_if(line, at, " cid=", h.connection_id);
+    let at = word(line, at, " cmdsn=", h.cmd_sn);
+    word(line, at, " expstatsn=", h.exp_stat_sn)
 }
 
-fn nop_in(out: &mut Vec<u8>, h: &NopIn) -> Result<(), AllocError> {
-    unit_if(out, h.lun)?;
-    word(out, "itt", h.initiator_task_tag)?;
-    word(out, "ttt", h.target_transfer_tag)?;
-    word(out, "statsn", h.stat_sn)?;
-    window(out, h.exp_cmd_sn, h.max_cmd_sn)
+fn nop_in(line: &mut [u8], at: usize, h: &NopIn) -> usize {
+    let at = unit_if(line, at, h.lun);
+    let at = word(line, at, " itt=", h.initiator_task_tag);
+    let at = word(line, at, " ttt=", h.target_transfer_tag);
+    let at = word(line, at, " statsn=", h.stat_sn);
+    window(line, at, h.exp_cmd_sn, h.max_cmd_sn)
 }
 
-fn scsi_response(out: &mut Vec<u8>, h: &ScsiResponse) -> Result<(), AllocError> {
-    flag(out, "bo", h.bidirectional_overflow)?;
-    flag(out, "bu", h.bidirectional_underflow)?;
-    flag(out, "o", h.overflow)?;
-    flag(out, "u", h.underflow)?;
-    byte(out, "response", h.response)?;
-    byte_if(out, "status", h.status)?;
-    word(out, "itt", h.initiator_task_tag)?;
-    word(out, "statsn", h.stat_sn)?;
-    window(out, h.exp_cmd_sn, h.max_cmd_sn)?;
-    word_if(out, "expdatasn", h.exp_data_sn)?;
-    word_if(out, "bresidual", h.bidirectional_residual)?;
-    word_if(out, "residual", h.residual)
+fn scsi_response(line: &mut [u8], at: usize, h: &ScsiResponse) -> usize {
+    let at = flag(line, at, " bo=", h.bidirectional_overflow);
+    let at = flag(line, at, " bu=", h.bidirectional_underflow);
+    let at = flag(line, at, " o=", h.overflow);
+    let at = flag(line, at, " u=", h.underflow);
+    let at = byte(line, at, " response=", h.response);
+    let at = byte_if(line, at, " status=", h.status);
+    let at = word(line, at, " itt=", h.initiator_task_tag);
+    let at = word(line, at, " statsn=", h.stat_sn);
+    let at = window(line, at, h.exp_cmd_sn, h.max_cmd_sn);
+    let at = word_if(line, at, " expdatasn=", h.exp_data_sn);
+    let at = word_if(line, at, " bresidual=", h.bidirectional_residual);
+    word_if(line, at, " residual=", h.residual)
 }
 
-fn task_response(out: &mut Vec<u8>, h: &TaskResponse) -> Result<(), AllocError> {
-    byte(out, "response", h.response)?;
-    word(out, "itt", h.initiator_task_tag)?;
-    word(out, "statsn", h.stat_sn)?;
-    window(out, h.exp_cmd_sn, h.max_cmd_sn)
+fn task_response(line: &mut [u8], at: usize, h: &TaskResponse) -> usize {
+    let at = byte(line, at, " response=", h.response);
+    let at = word(line, at, " itt=", h.initiator_task_tag);
+    let at = word(line, at, " statsn=", h.stat_sn);
+    window(line, at, h.exp_cmd_sn, h.max_cmd_sn)
 }
 
-fn login_response(out: &mut Vec<u8>, h: &LoginResponse) -> Result<(), AllocError> {
-    flag(out, "t", h.transits)?;
-    flag(out, "c", h.continues)?;
-    digit(out, "csg", h.current_stage)?;
-    digit_if(out, "nsg", h.next_stage)?;
-    byte(out, "vmax", h.version_max)?;
-    byte(out, "vactive", h.version_active)?;
-    whole(out, "isid", &h.isid)?;
-    half(out, "tsih", h.tsih)?;
-    word(out, "itt", h.initiator_task_tag)?;
-    word_if(out, "statsn", h.stat_sn)?;
-    window(out, h.exp_cmd_sn, h.max_cmd_sn)?;
-    byte(out, "class", h.status_class)?;
-    byte(out, "detail", h.status_detail)
+fn login_response(line: &mut [u8], at: usize, h: &LoginResponse) -> usize {
+    let at = flag(line, at, " t=", h.transits);
+    let at = flag(line, at, " c=", h.continues);
+    let at = digit(line, at, " csg=", h.current_stage);
+    let at = digit_if(line, at, " nsg=", h.next_stage);
+    let at = byte(line, at, " vmax=", h.version_max);
+    let at = byte(line, at, " vactive=", h.version_active);
+    let at = whole(line, at, " isid=", &h.isid);
+    let at = half(line, at, " tsih=", h.tsih);
+    let at = word(line, at, " itt=", h.initiator_task_tag);
+    let at = word_if(line, at, " statsn=", h.stat_sn);
+    let at = window(line, at, h.exp_cmd_sn, h.max_cmd_sn);
+    let at = byte(line, at, " class=", h.status_class);
+    byte(line, at, " detail=", h.status_detail)
 }
 
-fn text_response(out: &mut Vec<u8>, h: &TextResponse) -> Result<(), AllocError> {
-    flag(out, "f", h.is_final)?;
-    flag(out, "c", h.continues)?;
-    unit_if(out, h.lun)?;
-    word(out, "itt", h.initiator_task_tag)?;
-    word(out, "ttt", h.target_transfer_tag)?;
-    word(out, "statsn", h.stat_sn)?;
-    window(out, h.exp_cmd_sn, h.max_cmd_sn)
+fn text_response(line: &mut [u8], at: usize, h: &TextResponse) -> usize {
+    let at = flag(line, at, " f=", h.is_final);
+    let at = flag(line, at, " c=", h.continues);
+    let at = unit_if(line, at, h.lun);
+    let at = word(line, at, " itt=", h.initiator_task_tag);
+    let at = word(line, at, " ttt=", h.target_transfer_tag);
+    let at = word(line, at, " statsn=", h.stat_sn);
+    window(line, at, h.exp_cmd_sn, h.max_cmd_sn)
 }
 
-fn data_in(out: &mut Vec<u8>, h: &DataIn) -> Result<(), AllocError> {
-    flag(out, "f", h.is_final)?;
-    flag(out, "a", h.acknowledge)?;
-    flag_if(out, "o", h.overflow)?;
-    flag_if(out, "u", h.underflow)?;
-    flag(out, "s", h.has_status)?;
-    byte_if(out, "status", h.status)?;
-    unit_if(out, h.lun)?;
-    word(out, "itt", h.initiator_task_tag)?;
-    word(out, "ttt", h.target_transfer_tag)?;
-    word_if(out, "statsn", h.stat_sn)?;
-    window(out, h.exp_cmd_sn, h.max_cmd_sn)?;
-    word(out, "datasn", h.data_sn)?;
-    word(out, "offset", h.buffer_offset)?;
-    word_if(out, "residual", h.residual)
+fn data_in(line: &mut [u8], at: usize, h: &DataIn) -> usize {
+    let at = flag(line, at, " f=", h.is_final);
+    let at = flag(line, at, " a=", h.acknowledge);
+    let at = flag_if(line, at, " o=", h.overflow);
+    let at = flag_if(line, at, " u=", h.underflow);
+    let at = flag(line, at, " s=", h.has_status);
+    let at = byte_if(line, at, " status=", h.status);
+    let at = unit_if(line, at, h.lun);
+    let at = word(line, at, " itt=", h.initiator_task_tag);
+    let at = word(line, at, " ttt=", h.target_transfer_tag);
+    let at = word_if(line, at, " statsn=", h.stat_sn);
+    let at = window(line, at, h.exp_cmd_sn, h.max_cmd_sn);
+    let at = word(line, at, " datasn=", h.data_sn);
+    let at = word(line, at, " offset=", h.buffer_offset);
+    word_if(line, at, " residual=", h.residual)
 }
 
-fn logout_response(out: &mut Vec<u8>, h: &LogoutResponse) -> Result<(), AllocError> {
-    byte(out, "response", h.response)?;
-    word(out, "itt", h.initiator_task_tag)?;
-    word(out, "statsn", h.stat_sn)?;
-    window(out, h.exp_cmd_sn, h.max_cmd_sn)?;
-    half(out, "time2wait", h.time2wait)?;
-    half(out, "time2retain", h.time2retain)
+fn logout_response(line: &mut [u8], at: usize, h: &LogoutResponse) -> usize {
+    let at = byte(line, at, " response=", h.response);
+    let at = word(line, at, " itt=", h.initiator_task_tag);
+    let at = word(line, at, " statsn=", h.stat_sn);
+    let at = window(line, at, h.exp_cmd_sn, h.max_cmd_sn);
+    let at = half(line, at, " time2wait=", h.time2wait);
+    half(line, at, " time2retain=", h.time2retain)
 }
 
-fn ready_to_transfer(out: &mut Vec<u8>, h: &ReadyToTransfer) -> Result<(), AllocError> {
-    unit(out, h.lun)?;
-    word(out, "itt", h.initiator_task_tag)?;
-    word(out, "ttt", h.target_transfer_tag)?;
-    word(out, "statsn", h.stat_sn)?;
-    window(out, h.exp_cmd_sn, h.max_cmd_sn)?;
-    word(out, "r2tsn", h.r2t_sn)?;
-    word(out, "offset", h.buffer_offset)?;
-    word(out, "length", h.desired_data_transfer_length)
+fn ready_to_transfer(line: &mut [u8], at: usize, h: &ReadyToTransfer) -> usize {
+    let at = unit(line, at, h.lun);
+    let at = word(line, at, " itt=", h.initiator_task_tag);
+    let at = word(line, at, " ttt=", h.target_transfer_tag);
+    let at = word(line, at, " statsn=", h.stat_sn);
+    let at = window(line, at, h.exp_cmd_sn, h.max_cmd_sn);
+    let at = word(line, at, " r2tsn=", h.r2t_sn);
+    let at = word(line, at, " offset=", h.buffer_offset);
+    word(line, at, " length=", h.desired_data_transfer_length)
 }
 
-fn async_message(out: &mut Vec<u8>, h: &AsyncMessage) -> Result<(), AllocError> {
-    unit_if(out, h.lun)?;
-    word(out, "statsn", h.stat_sn)?;
-    window(out, h.exp_cmd_sn, h.max_cmd_sn)?;
-    byte(out, "event", h.async_event)?;
-    byte(out, "vcode", h.async_vendor_code)?;
-    half(out, "p1", h.parameter1)?;
-    half(out, "p2", h.parameter2)?;
-    half(out, "p3", h.parameter3)
+fn async_message(line: &mut [u8], at: usize, h: &AsyncMessage) -> usize {
+    let at = unit_if(line, at, h.lun);
+    let at = word(line, at, " statsn=", h.stat_sn);
+    let at = window(line, at, h.exp_cmd_sn, h.max_cmd_sn);
+    let at = byte(line, at, " event=", h.async_event);
+    let at = byte(line, at, " vcode=", h.async_vendor_code);
+    let at = half(line, at, " p1=", h.parameter1);
+    let at = half(line, at, " p2=", h.parameter2);
+    half(line, at, " p3=", h.parameter3)
 }
 
-fn reject(out: &mut Vec<u8>, h: &Reject) -> Result<(), AllocError> {
-    byte(out, "reason", h.reason)?;
-    word(out, "statsn", h.stat_sn)?;
-    window(out, h.exp_cmd_sn, h.max_cmd_sn)
+fn reject(line: &mut [u8], at: usize, h: &Reject) -> usize {
+    let at = byte(line, at, " reason=", h.reason);
+    let at = word(line, at, " statsn=", h.stat_sn);
+    window(line, at, h.exp_cmd_sn, h.max_cmd_sn)
 }
