@@ -145,6 +145,10 @@ fn append_bytes(head: &Head, bytes: &[u8], out: &mut Vec<u8>) -> Result<(), Allo
     let padding = pad(len) as usize;
     out.reserve(48 + bytes.len() + padding)?;
     out.extend_from_slice(&write_head(head, len))?;
+    // Most PDUs have no segment, and none of their bytes need to be moved.
+    if bytes.is_empty() {
+        return Ok(());
+    }
     out.extend_from_slice(bytes)?;
     out.extend_from_slice(&PADDING[..padding])?;
     Ok(())

@@ -87,6 +87,10 @@ fn fill_body(segment: &mut Vec<u8>, len: u32, padded: u32, piece: &[u8]) -> (usi
         result.0 (filling segment.new.items result.1) }
     ensures grows { vec_capacity segment.old ≤ vec_capacity segment.new }
 {
+    // Most PDUs have no segment, and none of their bytes need to be moved.
+    if len == 0 {
+        return (0, 0);
+    }
     let data = piece.len().min(len as usize - segment.len());
     let Ok(()) = segment.extend_from_slice(&piece[..data]) else {
         unreachable!()
