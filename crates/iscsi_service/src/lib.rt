@@ -4,6 +4,7 @@
 
 mod carrier;
 mod command;
+mod held_answers;
 mod looping;
 mod report;
 mod script;

@@ -4,6 +4,7 @@ ghost use Rattle.std.specs.Prelude.{◌≡◌, ◌⊎◌, ℕ, List, IfErr};
 ghost use Rattle.iscsi_service.specs.Session.{HasExecuted};
 ghost use Rattle.iscsi_service.specs.Serving.{ServesOne, EndsService};
 
+use crate::held_answers::{HeldAnswers, Requests};
 use crate::serve_fault::ServeFault;
 use crate::session::{configuration, serve_stream};
 use iscsi_target::Config;
@@ -18,11 +19,14 @@ const READ_AHEAD: usize = 65_536;
 /// Accepts one connection and runs a target's session over it, with first StatSN 1. The session's
 /// memory goes with it; the store stays.
 ///
+/// Answers of fewer than 4,096 bytes wait until all that was read of the connection is taken.
+///
 /// A session that is closed, by a logout or a refused login, and a connection that ends between two
-/// PDUs are no fault. `Network` is answered where no connection is accepted, `Target` where the
-/// target refuses what its initiator sent or the connection ends within a PDU, after the answers
-/// that were due; `Read` where a read from the connection fails or 16,777,216 of them did not reach
-/// its end; `Write` where a write to it fails; and `NoMemory` where memory runs out.
+/// PDUs are no fault. `Network` is answered where no connection is accepted, or the system has no
+/// second handle for it; `Target` where the target refuses what its initiator sent or the connection
+/// ends within a PDU, after the answers that were due; `Read` where a read from the connection fails
+/// or 16,777,216 of them did not reach its end; `Write` where a write to it fails; and `NoMemory`
+/// where memory runs out.
 ///
 /// The session is that of RFC 7143, sections 6 and 11; that it has a connection of its own is own
 /// rule.
@@ -43,10 +47,22 @@ pub fn serve_one<S: BlockStore>(
     let Ok((stream, _)) = listener.accept() else {
         return Err(ServeFault::Network);
     };
-    let Ok(mut reader) = BufReader::with_capacity(alloc, READ_AHEAD, &stream) else {
+    let Ok(writer) = stream.try_clone() else {
+        return Err(ServeFault::Network);
+    };
+    let Ok(answers) = HeldAnswers::new(alloc, writer) else {
         return Err(ServeFault::NoMemory);
     };
-    match serve_stream(alloc, config, store, &mut reader, &mut &stream) {
+    let Ok(reader) = BufReader::with_capacity(alloc, READ_AHEAD, &stream) else {
+        return Err(ServeFault::NoMemory);
+    };
+    let mut requests = Requests {
+        reader,
+        answers: &answers,
+    };
+    let outcome = serve_stream(alloc, config, store, &mut requests, &mut &answers);
+    answers.flush().map_err(|_| ServeFault::Write)?;
+    match outcome {
         Ok(()) => Ok(()),
         Err(fault) => Err(ServeFault::from(fault)),
     }

@@ -12,15 +12,19 @@ returns-clause-serves g c =
       s.0,
       s.1,
       λ h. rw c.from.ensures (fault_served c.args.config (g.S.BlockStore.disk c.args.store.now) c.in-Err.fault s.0
-          (g.S.BlockStore.disk c.serve_stream.new.store) s.1 (s.5 range h)),
+          (g.S.BlockStore.disk c.serve_stream-outcome.new.store) s.1 (s.5 range h)),
     )
 
-pub returns-in-Ok-serve_stream-clause-serves : goal.returns-in-Ok-serve_stream-clause-serves
-returns-in-Ok-serve_stream-clause-serves g c =
-    let s = c.in-Ok-serve_stream.ensures.serves in
+pub returns-in-Ok-outcome-clause-serves : goal.returns-in-Ok-outcome-clause-serves
+returns-in-Ok-outcome-clause-serves g c =
+    let s = c.in-Ok-outcome.ensures.serves in
     let range : IsInRange c.args.config.preferences = subst (λ (x : Settings). IsInRange x.preferences) c.config.view_is c.config.invariant.2 in
     (s.0, s.1, λ h. s.5 range h)
 
 pub returns-in_default-with_capacity-clause-serves : goal.returns-in_default-with_capacity-clause-serves
 returns-in_default-with_capacity-clause-serves g c =
+    ([], [], λ h. none_served c.args.config (g.S.BlockStore.disk c.args.store.now))
+
+pub returns-in_default-new-clause-serves : goal.returns-in_default-new-clause-serves
+returns-in_default-new-clause-serves g c =
     ([], [], λ h. none_served c.args.config (g.S.BlockStore.disk c.args.store.now))
