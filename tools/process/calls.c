@@ -1,5 +1,5 @@
 /* Stands before the program's calls of the C library, for run.py. With INTERRUPT the first call of that name fails as
-   interrupted. With STRANGER the first connect finds that another connection came to the port before it, which has sent
+   interrupted, and with BREAK each `send` fails for good. With STRANGER the first connect finds that another connection came to the port before it, which has sent
    some bytes and stays open. */
 #define _GNU_SOURCE
 #include <dlfcn.h>
@@ -31,6 +31,10 @@ ssize_t recv(int fd, void *bytes, size_t len, int flags) {
 }
 
 ssize_t send(int fd, const void *bytes, size_t len, int flags) {
+  if (getenv("BREAK")) {
+    errno = EPIPE;
+    return -1;
+  }
   return is_interrupted("send") ? -1 : NEXT(send)(fd, bytes, len, flags);
 }
 
