@@ -11,7 +11,6 @@ use Rattle.scsi_disk.specs.declared.order.Plan.TheVariants.{Give, Take}
 use Rattle.scsi_disk.specs.declared.store.StoreFault.{StoreFault}
 use Rattle.scsi_disk.specs.declared.store.StoreFault.TheVariants.{Device, NoMemory}
 use Rattle.scsi_disk.specs.Disk.{Disk, IsOldOrNew, Tells, written}
-use Rattle.scsi_disk.specs.Lasting.{Settled, Within}
 use Rattle.scsi_disk.specs.Plan.{is_read, plan_of, transfer}
 use Rattle.scsi_disk.specs.Effect.{Effect, Executes, FailsBy, HasOtherData, effect, check, disk_by, outcome_by}
 
@@ -23,10 +22,6 @@ does_not_tell false before after ub ua result t rose not = refl
 
 not_err : {T : Type 0} (x : T) → IsErrOf (Ok x) Device → ⊥
 not_err x e = cc
-
--- what was settled still is, where no block changed
-pub settled_on : (disk now : Disk) (old new : ℕ → List ℕ → Type 0) → now ≡ disk → Within old new → Settled disk old → Settled now new
-settled_on disk now old new same within settled = λ n bytes h. settled n bytes (within n bytes h) ∙ sym (ap (λ (d : Disk). d.block n) same)
 
 module _ (before after ub ua : ℕ) (disk now : Disk) (order : Order) (bytes : List ℕ) (length : ℕ) where
   abbrev pub at : Outcome → Effect
@@ -95,11 +90,3 @@ module _ (before after ub ua : ℕ) (disk now : Disk) (order : Order) (bytes : L
     }
     took (Err NoMemory) (Ok x) works same each tells is device none = absurd (false≢true (none refl))
     took answer (Err f) works same each tells is device none = tt
-
-  -- what was settled still is, where no failure was counted
-  pub took_settled : (old new : ℕ → List ℕ → Type 0) (answer : Result Outcome StoreFault) → OnOk answer (after ≡ before → Settled now new)
-      → (IsErrOf answer NoMemory → (now ≡ disk) × Within old new) → Tells disk.tells before after ub ua answer → after ≡ before → Settled disk old
-      → Settled now new
-  took_settled old new (Ok o) lasts none tells same settled = lasts same
-  took_settled old new (Err Device) lasts none tells same settled = absurd (omega (arith, tells.only refl, same))
-  took_settled old new (Err NoMemory) lasts none tells same settled = settled_on disk now old new (none refl).0 (none refl).1 settled

@@ -1,10 +1,14 @@
 -- What a crash leaves of the blocks of a disk, each by itself.
-use Rattle.std.specs.Prelude.{◌≡◌, ◌⊎◌, ℕ, List}
+use Rattle.std.specs.Prelude.{◌≡◌, ◌⊎◌, ℕ, List, Bool, true}
 use Rattle.scsi_disk.specs.Disk.{Disk}
 
 -- a crash leaves this disk and no other
 abbrev pub Settled : Disk → (ℕ → List ℕ → Type 0) → Type 0
 Settled disk kept = (n : ℕ) (bytes : List ℕ) → kept n bytes → bytes ≡ disk.block n
+
+-- where what was written was made to last, a crash leaves this disk and no other
+abbrev pub Lasts : Bool → Disk → (ℕ → List ℕ → Type 0) → Type 0
+Lasts synced disk kept = synced ≡ true → Settled disk kept
 
 -- a crash leaves nothing that it would not have left before
 abbrev pub Within : (ℕ → List ℕ → Type 0) → (ℕ → List ℕ → Type 0) → Type 0

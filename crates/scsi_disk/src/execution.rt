@@ -2,7 +2,7 @@
 
 ghost use Rattle.std.specs.Prelude.{◌≡◌, ◌+◌, ◌*◌, ◌/◌, ◌<◌, ◌≤◌, length as size, take as front, OnOk, OnErr, IfOk, IsOk, IsErr, IsErrOf, IsTrue};
 ghost use Rattle.scsi_disk.specs.Disk.{Tells, IsOldOrNew, blocks_from, written};
-ghost use Rattle.scsi_disk.specs.Lasting.{Adds, Settled, Within};
+ghost use Rattle.scsi_disk.specs.Lasting.{Adds, Lasts, Within};
 ghost use Rattle.scsi_disk.specs.Plan.{transfer, is_read, parameter_data, wanted_length, plan_of};
 ghost use Rattle.scsi_disk.specs.Effect.{Effect, IsSupplied, IsSuppliedBy, Executes, effect, residual_of, good, check, HasOtherData, wanted_data, disk_by, outcome_by};
 
@@ -70,6 +70,9 @@ fn read_front<S: BlockStore>(
     ensures size { IfOk result (λ v. size v.items ≡ length) }
     ensures disk { S.disk store.new ≡ S.disk store.old }
     ensures kept { Within (S.kept store.old) (S.kept store.new) }
+    ensures lasts { S.failures store.new ≡ S.failures store.old
+        → Lasts (S.synced store.old) (S.disk store.old) (S.kept store.old)
+        → Lasts (S.synced store.new) (S.disk store.new) (S.kept store.new) }
     ensures tells { Tells (S.disk store.old).tells (S.failures store.old) (S.failures store.new)
         (S.untold store.old) (S.untold store.new) result }
 {
@@ -96,6 +99,9 @@ fn give<S: BlockStore>(
         × HasOtherData (S.disk store.old) order.now length outcome) }
     ensures disk { S.disk store.new ≡ S.disk store.old }
     ensures kept { Within (S.kept store.old) (S.kept store.new) }
+    ensures lasts { S.failures store.new ≡ S.failures store.old
+        → Lasts (S.synced store.old) (S.disk store.old) (S.kept store.old)
+        → Lasts (S.synced store.new) (S.disk store.new) (S.kept store.new) }
     ensures device { IsErrOf result StoreFault.Device → IsTrue (is_read order.now.cdb) }
     ensures tells { Tells (S.disk store.old).tells (S.failures store.old) (S.failures store.new)
         (S.untold store.old) (S.untold store.new) result }
@@ -127,8 +133,9 @@ fn take<S: BlockStore>(
         (λ outcome. outcome ≡ outcome_by (Plan.Take length) (S.disk store.old) order.now) }
     ensures written { OnOk result (S.failures store.new ≡ S.failures store.old
         → S.disk store.new ≡ disk_by (Plan.Take length) (S.disk store.old) order.now bytes.now) }
-    ensures lasts { OnOk result (S.failures store.new ≡ S.failures store.old
-        → Settled (S.disk store.new) (S.kept store.new)) }
+    ensures lasts { S.failures store.new ≡ S.failures store.old
+        → Lasts (S.synced store.old) (S.disk store.old) (S.kept store.old)
+        → Lasts (S.synced store.new) (S.disk store.new) (S.kept store.new) }
     ensures count { (S.disk store.new).count ≡ (S.disk store.old).count }
     ensures no_memory { IsErrOf result StoreFault.NoMemory
         → (S.disk store.new ≡ S.disk store.old) × Within (S.kept store.old) (S.kept store.new) }
@@ -173,7 +180,8 @@ fn settled(
 /// no block has changed.
 ///
 /// Where a crash would have left the blocks and nothing else, it still does, if no failure was
-/// counted. A crash meanwhile leaves each block as it was or as the order leaves it.
+/// counted, over a store that syncs no writes; over another one, once it is synced. A crash
+/// meanwhile leaves each block as it was or as the order leaves it.
 ///
 /// The data of a READ or WRITE are copied once. Status and sense are those of SPC-4, the residual
 /// is an own rule: what the command has is held against what the initiator expects.
@@ -189,10 +197,10 @@ pub fn execute<S: BlockStore>(
         (S.disk store.old) order.now bytes.now
         (record { disk = S.disk store.new; outcome = outcome })) }
     ensures count { (S.disk store.new).count ≡ (S.disk store.old).count }
-    // Where no failure was counted, what was answered lasts.
+    // Where no failure was counted, what is synced lasts.
     ensures lasts { S.failures store.new ≡ S.failures store.old
-        → Settled (S.disk store.old) (S.kept store.old)
-        → Settled (S.disk store.new) (S.kept store.new) }
+        → Lasts (S.synced store.old) (S.disk store.old) (S.kept store.old)
+        → Lasts (S.synced store.new) (S.disk store.new) (S.kept store.new) }
     // Whatever comes of it, a crash leaves each block old or new.
     ensures crash { Adds (effect (S.disk store.old) order.now bytes.now).disk
         (S.kept store.old) (S.kept store.new) }
@@ -220,8 +228,8 @@ pub fn execute_planned<S: BlockStore>(
         (record { disk = S.disk store.new; outcome = outcome })) }
     ensures count { (S.disk store.new).count ≡ (S.disk store.old).count }
     ensures lasts { S.failures store.new ≡ S.failures store.old
-        → Settled (S.disk store.old) (S.kept store.old)
-        → Settled (S.disk store.new) (S.kept store.new) }
+        → Lasts (S.synced store.old) (S.disk store.old) (S.kept store.old)
+        → Lasts (S.synced store.new) (S.disk store.new) (S.kept store.new) }
     ensures crash { Adds (effect (S.disk store.old) order.now bytes.now).disk
         (S.kept store.old) (S.kept store.new) }
     ensures err { OnErr result (S.disk store.new ≡ S.disk store.old) }

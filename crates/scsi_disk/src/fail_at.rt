@@ -69,7 +69,7 @@ impl BlockStore for FailAt {
 
     ghost stays = { λ s n. refl };
 
-    ghost lasts = { λ s never n c left. left };
+    ghost lasts = { λ s never synced n c left. left };
 
     fn blocks(&self) -> u64 {
         self.store.blocks()
@@ -120,5 +120,9 @@ impl BlockStore for FailAt {
             return Err(StoreFault::Device);
         }
         self.store.write(lba, bytes)
+    }
+
+    fn sync(&mut self) -> Result<(), StoreFault> {
+        Ok(())
     }
 }

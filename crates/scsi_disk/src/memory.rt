@@ -65,7 +65,7 @@ impl BlockStore for MemoryStore {
 
     ghost stays = { λ s n. refl };
 
-    ghost lasts = { λ s never n c left. left };
+    ghost lasts = { λ s never synced n c left. left };
 
     fn blocks(&self) -> u64 {
         (self.bytes.len() / 512) as u64
@@ -93,6 +93,10 @@ impl BlockStore for MemoryStore {
         ensures disk { disk_of self.new ≡ written lba bytes.now (disk_of self.old) }
     {
         write_blocks(&mut self.bytes, lba as usize, bytes);
+        Ok(())
+    }
+
+    fn sync(&mut self) -> Result<(), StoreFault> {
         Ok(())
     }
 }

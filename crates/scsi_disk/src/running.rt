@@ -1,7 +1,7 @@
 //! Orders one after another.
 
 ghost use Rattle.std.specs.Prelude.{◌≡◌, IfOk, OnErr};
-ghost use Rattle.scsi_disk.specs.Lasting.{Settled};
+ghost use Rattle.scsi_disk.specs.Lasting.{Lasts};
 ghost use Rattle.scsi_disk.specs.Runs.{AreSupplied, RunsIn, RunsSome};
 
 use crate::execution::execute;
@@ -15,8 +15,8 @@ use std::alloc::{AllocError, Global};
 /// Each order has the bytes that it takes. An order at which the device of the store fails has its
 /// outcome too, and those behind it are executed. Where the device does not fail, outcomes and
 /// blocks are those of the orders' effects one after another, whichever store it is (the law
-/// `run_without_failures`), and a crash leaves these blocks, if at first it would have left the blocks
-/// as they were and nothing else. An error says that memory ran out; then some first orders are done,
+/// `run_without_failures`), and once the store is synced a crash leaves these blocks, if at first it
+/// would have left the blocks as they were and nothing else. An error says that memory ran out; then some first orders are done,
 /// and no others.
 pub fn run_orders<S: BlockStore>(
     alloc: Global,
@@ -27,10 +27,10 @@ pub fn run_orders<S: BlockStore>(
     // Each was executed once, in turn.
     ensures ok { IfOk result (λ told. RunsIn (S.failures store.old) (S.disk store.old) orders.now
         (S.failures store.new) (S.disk store.new) told.items) }
-    // Where no failure was counted, what was answered lasts.
+    // Where no failure was counted, what is synced lasts.
     ensures lasts { S.failures store.new ≡ S.failures store.old
-        → Settled (S.disk store.old) (S.kept store.old)
-        → Settled (S.disk store.new) (S.kept store.new) }
+        → Lasts (S.synced store.old) (S.disk store.old) (S.kept store.old)
+        → Lasts (S.synced store.new) (S.disk store.new) (S.kept store.new) }
     // Memory ran out: so were some first orders.
     ensures err { OnErr result (RunsSome (S.failures store.old) (S.disk store.old) orders.now
         (S.failures store.new) (S.disk store.new)) }

@@ -203,7 +203,7 @@ impl BlockStore for SparseStore {
 
     ghost stays = { λ s n. refl };
 
-    ghost lasts = { λ s never n c left. left };
+    ghost lasts = { λ s never synced n c left. left };
 
     fn blocks(&self) -> u64 {
         self.blocks
@@ -241,6 +241,10 @@ impl BlockStore for SparseStore {
             self.reserve_all(lba, blocks)?;
         }
         self.write_all(lba, bytes);
+        Ok(())
+    }
+
+    fn sync(&mut self) -> Result<(), StoreFault> {
         Ok(())
     }
 }

@@ -1,8 +1,8 @@
 //! What a store of blocks does, and how it fails.
 
-ghost use Rattle.std.specs.Prelude.{◌≡◌, ℕ, List, ◌+◌, ◌*◌, ◌/◌, ◌%◌, ◌≤◌, length, OnOk, IsErrOf};
+ghost use Rattle.std.specs.Prelude.{◌≡◌, ℕ, List, Bool, true, ◌+◌, ◌*◌, ◌/◌, ◌%◌, ◌≤◌, length, OnOk, IsErrOf};
 ghost use Rattle.scsi_disk.specs.Disk.{Disk, IsDisk, blocks_from, written, IsOldOrNew, Tells};
-ghost use Rattle.scsi_disk.specs.Lasting.{Adds, Settled, Within};
+ghost use Rattle.scsi_disk.specs.Lasting.{Adds, Lasts, Within};
 
 use std::alloc::AllocError;
 use thiserror::Error;
@@ -48,6 +48,9 @@ pub trait BlockStore {
     /// What each block may be after a crash at this moment.
     ghost kept: { Self → ℕ → List ℕ → Type 0 };
 
+    /// No write has to be synced to last.
+    ghost synced: { Self → Bool } = { λ _. true };
+
     /// How many blocks there are: at least 1, and always as many.
     fn blocks(&self) -> u64
         ensures count { result ≡ (disk self.now).count }
@@ -67,6 +70,9 @@ pub trait BlockStore {
             → out.new ≡ blocks_from (disk self.old) lba (length out.old / 512)) }
         ensures disk { disk self.new ≡ disk self.old }
         ensures kept { Within (kept self.old) (kept self.new) }
+        ensures lasts { failures self.new ≡ failures self.old
+            → Lasts (synced self.old) (disk self.old) (kept self.old)
+            → Lasts (synced self.new) (disk self.new) (kept self.new) }
         ensures tells { Tells (disk self.old).tells (failures self.old) (failures self.new)
             (untold self.old) (untold self.new) result };
 
@@ -74,26 +80,38 @@ pub trait BlockStore {
     ///
     /// After `NoMemory` no block has changed. `Device` comes exactly where `failures` rose, but for
     /// a failure that no code can tell; then each block in range is old or new, and no other has
-    /// changed.
+    /// changed. What was written may have to be synced before it lasts.
     fn write(&mut self, lba: u64, bytes: &[u8]) -> Result<(), StoreFault>
         requires whole { length bytes.now % 512 ≡ 0 }
         requires inside { 512 * lba + length bytes.now ≤ 512 * (disk self.old).count }
         ensures ok { OnOk result (failures self.new ≡ failures self.old
             → disk self.new ≡ written lba bytes.now (disk self.old)) }
-        // What was answered well lasts.
-        ensures lasts { OnOk result (failures self.new ≡ failures self.old
-            → Settled (disk self.new) (kept self.new)) }
         ensures no_memory { IsErrOf result StoreFault.NoMemory
             → (disk self.new ≡ disk self.old) × Within (kept self.old) (kept self.new) }
         ensures each { IsOldOrNew (disk self.old) (written lba bytes.now (disk self.old))
             (disk self.new) }
         ensures kept { Adds (written lba bytes.now (disk self.old)) (kept self.old) (kept self.new) }
+        ensures lasts { failures self.new ≡ failures self.old
+            → Lasts (synced self.old) (disk self.old) (kept self.old)
+            → Lasts (synced self.new) (disk self.new) (kept self.new) }
+        ensures tells { Tells (disk self.old).tells (failures self.old) (failures self.new)
+            (untold self.old) (untold self.new) result };
+
+    /// Makes all that was written last. `Device` comes as it does of a read. No block changes.
+    fn sync(&mut self) -> Result<(), StoreFault>
+        ensures synced { OnOk result (synced self.new ≡ true) }
+        ensures disk { disk self.new ≡ disk self.old }
+        ensures kept { Within (kept self.old) (kept self.new) }
+        ensures lasts { failures self.new ≡ failures self.old
+            → Lasts (synced self.old) (disk self.old) (kept self.old)
+            → Lasts (synced self.new) (disk self.new) (kept self.new) }
         ensures tells { Tells (disk self.old).tells (failures self.old) (failures self.new)
             (untold self.old) (untold self.new) result };
 
     /// A process that ends leaves what its device was given, so that is one of the outcomes.
     ghost stays: { (s : Self) (n : ℕ) → kept s n ((disk s).block n) };
 
-    /// Where no failure was ever counted, a crash leaves these blocks and no others.
-    ghost lasts: { (s : Self) → failures s ≡ 0 → Settled (disk s) (kept s) };
+    /// Where no failure was ever counted and no write has to be synced, a crash leaves these blocks
+    /// and no others.
+    ghost lasts: { (s : Self) → failures s ≡ 0 → Lasts (synced s) (disk s) (kept s) };
 }

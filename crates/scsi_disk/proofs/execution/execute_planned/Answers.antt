@@ -1,7 +1,7 @@
 use Rattle.std.proofs.Common.{rules, ◌≡◌}
 use Rattle.scsi_disk.specs.declared.order.Plan.TheVariants.{Give, Take}
 use Rattle.scsi_disk.specs.Plan.{plan_of}
-use Rattle.scsi_disk.proofs.AnsweredLemmas.{gave, took, took_settled}
+use Rattle.scsi_disk.proofs.AnsweredLemmas.{gave, took}
 use Rattle.scsi_disk.proofs.execution.execute_planned.Goals as goal
 
 pub returns-in-Take-clause-ok : goal.returns-in-Take-clause-ok
@@ -11,11 +11,6 @@ returns-in-Take-clause-ok g c =
     took _ _ _ _ disk _ c.args.order.now c.args.bytes.now c.in-Take.length plan c.take-answer.result c.settled.result
     c.take-answer.ensures.ok c.take-answer.ensures.written c.take-answer.ensures.each c.take-answer.ensures.tells
     c.settled.ensures.ok c.settled.ensures.device c.settled.ensures.no_memory
-
-pub returns-in-Take-clause-lasts : goal.returns-in-Take-clause-lasts
-returns-in-Take-clause-lasts g c =
-    took_settled _ _ _ _ (g.S.BlockStore.disk c.args.store.now) _ c.args.order.now c.args.bytes.now c.in-Take.length _ _ c.take-answer.result
-    c.take-answer.ensures.lasts c.take-answer.ensures.no_memory c.take-answer.ensures.tells
 
 pub returns-in-Give-clause-ok : goal.returns-in-Give-clause-ok
 returns-in-Give-clause-ok g c =
