@@ -1,5 +1,5 @@
 -- What a store on a medium shows.
-use Rattle.std.specs.Prelude.{ℕ}
+use Rattle.std.specs.Prelude.{ℕ, Bool}
 use Rattle.scsi_file.specs.declared.file_store.FileStore.{FileStore}
 use Rattle.scsi_file.specs.declared.medium.Medium.{Ghosts}
 
@@ -10,3 +10,7 @@ medium_of s = s.medium
 -- how many of its calls failed
 abbrev pub failed_by : {M : Type 0} {g : Ghosts M} → FileStore M g → ℕ
 failed_by s = s.failed
+
+-- whether nothing was written since it was synced
+abbrev pub is_synced : {M : Type 0} {g : Ghosts M} → FileStore M g → Bool
+is_synced s = s.synced

@@ -1,28 +1,31 @@
-//! A store on a medium, each write of which is synced before it is answered.
+//! A store on a medium, whose writes last once it is synced.
 
 ghost use Rattle.std.specs.Prelude.{◌≡◌, ℕ, true, false, List, ◌+◌, ◌*◌, ◌/◌, ◌%◌, ◌<◌, ◌≤◌, length, OnOk, IfOk, IsErrOf, IsTrue};
 ghost use Rattle.scsi_disk.specs.Disk.{Disk, blocks_from, written};
-ghost use Rattle.scsi_disk.specs.Lasting.{Settled};
+ghost use Rattle.scsi_disk.specs.Lasting.{Lasts};
 
 use crate::medium::Medium;
 use scsi_disk::{BlockStore, StoreFault};
 
-/// A store on a medium: what it answered well lasts.
+/// A store on a medium: what was written lasts once it is synced.
 ///
-/// A write is synced before it is answered. After a sync that failed the medium is asked nothing
-/// more, and each call fails, since what was written may be lost with no further error.
+/// A sync asks the medium only where something was written since the last one, so one of them
+/// serves several writes. After a sync that failed the medium is asked nothing more, and each call
+/// fails, since what was written may be lost with no further error.
 #[derive(Drop)]
 pub struct FileStore<M: Medium> {
     medium: M,
     failed: u64,
     broken: bool,
+    // nothing was written since the last sync
+    synced: bool,
     ghost sound: { broken ≡ false → IsTrue (M.Medium.usable medium) },
-    ghost settled: { failed + M.Medium.untold medium ≡ 0
-        → Settled (M.Medium.seen medium) (M.Medium.kept medium) },
+    ghost lasts: { failed + M.Medium.untold medium ≡ 0
+        → Lasts synced (M.Medium.seen medium) (M.Medium.kept medium) },
 }
 
 impl<M: Medium + Drop> FileStore<M> {
-    ghost use Rattle.scsi_file.specs.FileStore.{medium_of, failed_by};
+    ghost use Rattle.scsi_file.specs.FileStore.{medium_of, failed_by, is_synced};
 
     /// A store on a medium, all that a read of it gives being made to last first. The fault is that
     /// this sync failed.
@@ -33,6 +36,7 @@ impl<M: Medium + Drop> FileStore<M> {
         ensures settled { IfOk result (λ store.
             M.Medium.untold (medium_of store) ≡ M.Medium.untold medium
             → Settled (M.Medium.seen (medium_of store)) (M.Medium.kept (medium_of store))) }
+        ensures synced { IfOk result (λ store. is_synced store ≡ true) }
         ensures failed { IfOk result (λ store. failed_by store ≡ 0) }
         ensures untold { IfOk result (λ store.
             M.Medium.untold medium ≤ M.Medium.untold (medium_of store)) }
@@ -43,6 +47,7 @@ impl<M: Medium + Drop> FileStore<M> {
             medium,
             failed: 0,
             broken: false,
+            synced: true,
         })
     }
 }
@@ -67,9 +72,11 @@ impl<M: Medium> BlockStore for FileStore<M> {
 
     ghost kept = { λ s. M.Medium.kept s.medium };
 
+    ghost synced = { λ s. s.synced };
+
     ghost stays = { λ s n. M.Medium.stays s.medium n };
 
-    ghost lasts = { λ s. s.settled };
+    ghost lasts = { λ s. s.lasts };
 
     fn blocks(&self) -> u64 {
         self.medium.blocks()
@@ -100,14 +107,33 @@ impl<M: Medium> BlockStore for FileStore<M> {
             return Err(fail(&mut self.failed));
         }
         match self.medium.write_at(lba, bytes) {
-            Ok(()) => {}
-            Err(StoreFault::NoMemory) => return Err(StoreFault::NoMemory),
-            Err(StoreFault::Device) => return Err(fail(&mut self.failed)),
+            Err(StoreFault::NoMemory) => Err(StoreFault::NoMemory),
+            Err(StoreFault::Device) => {
+                self.synced = false;
+                Err(fail(&mut self.failed))
+            }
+            Ok(()) => {
+                self.synced = false;
+                Ok(())
+            }
+        }
+    }
+
+    fn sync(&mut self) -> Result<(), StoreFault> {
+        if self.synced {
+            return Ok(());
+        }
+        if self.failed == u64::MAX {
+            return Err(StoreFault::NoMemory);
+        }
+        if self.broken {
+            return Err(fail(&mut self.failed));
         }
         if self.medium.sync().is_err() {
             self.broken = true;
             return Err(fail(&mut self.failed));
         }
+        self.synced = true;
         Ok(())
     }
 }

@@ -23,5 +23,6 @@ pub fn keep_block<M: Medium + Drop>(
 {
     let mut store = FileStore::new(medium)?;
     store.write(lba, block)?;
+    store.sync()?;
     Ok(store)
 }

@@ -1,18 +1,21 @@
 //! Writes cut off at each call of the medium, and each mixture of old and new blocks after that.
 
 use super::{letters, read, same, spelled, write};
-use scsi_disk::StoreFault;
+use scsi_disk::{BlockStore, StoreFault};
 use scsi_file::{CrashMemory, FileStore, StopsAt};
 use std::alloc::{AllocError, Global};
 use std::process::Abort;
 use std::test::Fail;
 
-/// What comes of two writes, of `XY` to blocks 2 and 3 and of `Z` to block 3, where a medium stops
-/// after so many calls: a store syncs it as it begins, and each write asks it for a write and a
-/// sync.
+/// What comes of two writes, of `XY` to blocks 2 and 3 and of `Z` to block 3, and of a sync, where a
+/// medium stops after so many calls: a store syncs it as it begins, and each write and sync asks it
+/// for one.
 struct Row {
+    /// Whether the first write is synced before the second one.
+    apart: bool,
     calls: u64,
-    answers: [Result<(), StoreFault>; 2],
+    /// Of the first write, with its sync if it has one, of the second, and of the sync behind both.
+    answers: [Result<(), StoreFault>; 3],
     /// What the medium has, if nothing crashes.
     seen: &'static [u8; 8],
     /// What a crash may leave.
@@ -23,57 +26,106 @@ const FAILED: Result<(), StoreFault> = Err(StoreFault::Device);
 
 const ROWS: &[Row] = &[
     Row {
+        apart: true,
         calls: 0,
-        answers: [FAILED, FAILED],
+        answers: [FAILED; 3],
         seen: b"abcdefgh",
         outcomes: &[b"abcdefgh"],
     },
     Row {
+        apart: true,
         calls: 1,
-        answers: [FAILED, FAILED],
+        answers: [FAILED; 3],
         seen: b"abcdefgh",
         outcomes: &[b"abcdefgh"],
     },
     Row {
+        apart: true,
         calls: 2,
-        answers: [FAILED, FAILED],
+        answers: [FAILED; 3],
         seen: b"abXYefgh",
         outcomes: &[b"abcdefgh", b"abXdefgh", b"abcYefgh", b"abXYefgh"],
     },
     Row {
+        apart: true,
         calls: 3,
-        answers: [Ok(()), FAILED],
+        answers: [Ok(()), FAILED, FAILED],
         seen: b"abXYefgh",
         outcomes: &[b"abXYefgh"],
     },
     Row {
+        apart: true,
         calls: 4,
-        answers: [Ok(()), FAILED],
+        answers: [Ok(()), Ok(()), FAILED],
         seen: b"abXZefgh",
         outcomes: &[b"abXYefgh", b"abXZefgh"],
     },
     Row {
+        apart: true,
         calls: 5,
-        answers: [Ok(()), Ok(())],
+        answers: [Ok(()); 3],
+        seen: b"abXZefgh",
+        outcomes: &[b"abXZefgh"],
+    },
+    Row {
+        apart: false,
+        calls: 1,
+        answers: [FAILED; 3],
+        seen: b"abcdefgh",
+        outcomes: &[b"abcdefgh"],
+    },
+    Row {
+        apart: false,
+        calls: 2,
+        answers: [Ok(()), FAILED, FAILED],
+        seen: b"abXYefgh",
+        outcomes: &[b"abcdefgh", b"abXdefgh", b"abcYefgh", b"abXYefgh"],
+    },
+    Row {
+        apart: false,
+        calls: 3,
+        answers: [Ok(()), Ok(()), FAILED],
+        seen: b"abXZefgh",
+        outcomes: &[
+            b"abcdefgh",
+            b"abXdefgh",
+            b"abcYefgh",
+            b"abXYefgh",
+            b"abcZefgh",
+            b"abXZefgh",
+        ],
+    },
+    Row {
+        apart: false,
+        calls: 4,
+        answers: [Ok(()); 3],
         seen: b"abXZefgh",
         outcomes: &[b"abXZefgh"],
     },
 ];
 
-/// The medium that the two writes leave, with their answers.
+/// The medium that the two writes and the sync leave, with their answers.
 fn written(
     alloc: Global,
-    calls: u64,
-) -> Result<(Option<CrashMemory>, [Result<(), StoreFault>; 2]), AllocError> {
-    let medium = StopsAt::new(letters(alloc)?, calls);
+    row: &Row,
+) -> Result<(Option<CrashMemory>, [Result<(), StoreFault>; 3]), AllocError> {
+    let medium = StopsAt::new(letters(alloc)?, row.calls);
     match FileStore::new(medium) {
-        Err(fault) => Ok((None, [Err(fault), Err(fault)])),
+        Err(fault) => Ok((None, [Err(fault); 3])),
         Ok(mut store) => {
-            let first = write(&mut store, 2, b"XY");
+            let first = write_first(&mut store, row.apart);
             let second = write(&mut store, 3, b"Z");
-            Ok((Some(store.into_medium().into_medium()), [first, second]))
+            let last = store.sync();
+            let medium = store.into_medium().into_medium();
+            Ok((Some(medium), [first, second, last]))
         }
     }
+}
+
+/// The first write, and its sync if it has one.
+fn write_first<S: BlockStore>(store: &mut S, apart: bool) -> Result<(), StoreFault> {
+    write(store, 2, b"XY")?;
+    if apart { store.sync() } else { Ok(()) }
 }
 
 /// Which outcome of the row a crash leaves, by how far each of blocks 2 and 3 goes back, and whether
@@ -84,7 +136,7 @@ fn crashed(
     second: usize,
     third: usize,
 ) -> Result<Option<(usize, bool)>, AllocError> {
-    let (Some(mut medium), _) = written(alloc, row.calls)? else {
+    let (Some(mut medium), _) = written(alloc, row)? else {
         return Ok(None);
     };
     medium.crash(&[0, 0, second, third]);
@@ -114,10 +166,10 @@ fn place_of(outcomes: &[&[u8; 8]], left: &[u8; 8]) -> usize {
 #[test]
 fn each_write_is_cut_off_at_each_call(rt: HostRuntime) -> Result<(), Fail> {
     for row in ROWS {
-        let (medium, answers) = written(rt.alloc(), row.calls)?;
-        same(&rt, &answers, &row.answers, &row.calls);
+        let (medium, answers) = written(rt.alloc(), row)?;
+        same(&rt, &answers, &row.answers, &(row.apart, row.calls));
         if let Some(medium) = medium {
-            same(&rt, &spelled(medium.bytes()), row.seen, &row.calls);
+            same(&rt, &spelled(medium.bytes()), row.seen, &(row.apart, row.calls));
         }
     }
     Ok(())
@@ -125,11 +177,11 @@ fn each_write_is_cut_off_at_each_call(rt: HostRuntime) -> Result<(), Fail> {
 
 /// Asserts that a crash leaves each outcome of the row, and no other.
 fn check_crashes(rt: &impl Abort, alloc: Global, row: &Row) -> Result<(), AllocError> {
-    let mut reached = [false; 4];
+    let mut reached = [false; 6];
     for back in 0..9 {
         if let Some((place, again)) = crashed(alloc, row, back / 3, back % 3)? {
-            same(rt, &(place < row.outcomes.len()), &true, &(row.calls, back));
-            same(rt, &again, &true, &(row.calls, back));
+            same(rt, &(place < row.outcomes.len()), &true, &(row.apart, row.calls, back));
+            same(rt, &again, &true, &(row.apart, row.calls, back));
             if let Some(is) = reached.get_mut(place) {
                 *is = true;
             }
@@ -141,7 +193,7 @@ fn check_crashes(rt: &impl Abort, alloc: Global, row: &Row) -> Result<(), AllocE
     } else {
         row.outcomes.len()
     };
-    same(rt, &count, &due, &row.calls);
+    same(rt, &count, &due, &(row.apart, row.calls));
     Ok(())
 }
 

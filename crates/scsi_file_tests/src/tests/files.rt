@@ -70,7 +70,7 @@ fn an_image_has_one_owner(rt: HostRuntime) -> Result<(), Fail> {
     Ok(())
 }
 
-/// Opens an image as a store, reads its first 8 blocks, and writes two.
+/// Opens an image as a store, reads its first 8 blocks, writes two, and syncs it.
 fn use_image(rt: &HostRuntime, path: &str) -> Option<([u8; 8], Result<(), StoreFault>, u64)> {
     let Ok(medium) = HostFile::open(rt, path) else {
         return None;
@@ -81,7 +81,7 @@ fn use_image(rt: &HostRuntime, path: &str) -> Option<([u8; 8], Result<(), StoreF
     let Ok(before) = read(&mut store) else {
         return None;
     };
-    let answer = write(&mut store, 6, b"yz");
+    let answer = write(&mut store, 6, b"yz").and(store.sync());
     Some((before, answer, store.blocks()))
 }
 

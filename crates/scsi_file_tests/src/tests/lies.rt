@@ -85,7 +85,7 @@ impl Medium for LiesOnce {
 }
 
 /// What comes of a write of `XY` to blocks 2 and 3 and of a read, where one call of the medium is
-/// not made: a store syncs it as it begins, and asks it for a write, a sync and the read. Each is
+/// not made: a store syncs it as it begins, and is asked for a write, a sync and the read. Each is
 /// answered well.
 struct Row {
     lie: u64,
@@ -134,6 +134,9 @@ fn told(alloc: Global, lie: u64) -> Result<Option<([u8; 8], u64, [u8; 8])>, Allo
         return Ok(None);
     };
     let Ok(()) = write(&mut store, 2, b"XY") else {
+        return Ok(None);
+    };
+    let Ok(()) = store.sync() else {
         return Ok(None);
     };
     let Ok(given) = read(&mut store) else {
