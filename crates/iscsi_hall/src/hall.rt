@@ -2,7 +2,7 @@
 
 ghost use Rattle.std.specs.Prelude.{◌≡◌, ◌≤◌, ℕ, false, length, option_map, is_none, is_some, replicate, true, None, Some, IfOk, IfSome, IfNone, OnOk, OnErr};
 ghost use Rattle.std.specs.List.{position};
-ghost use Rattle.scsi_disk.specs.Lasting.{Settled};
+ghost use Rattle.scsi_disk.specs.Lasting.{Lasts, Settled, Within};
 ghost use Rattle.iscsi_target.specs.Crash.{CrashesNext};
 ghost use Rattle.iscsi_target.specs.Inside.{store_of};
 ghost use Rattle.iscsi_hall.specs.Seats.{opening_seat, phase_of, may_read_at, may_take_at, most_read, received, with_sent, waiting_at, seat_at, with_seat, Changes, Takes, FinishesAt};
@@ -12,7 +12,7 @@ ghost use Rattle.iscsi_hall.specs.Turns.{Comes, Ends, Goes, HappensIn, SameMachi
 use crate::seat::Seat;
 use iscsi_login::Phase;
 use iscsi_target::{Config, TargetFault};
-use scsi_disk::BlockStore;
+use scsi_disk::{BlockStore, StoreFault};
 use std::alloc::{AllocError, Global};
 use std::marker::Model;
 
@@ -183,8 +183,10 @@ impl Hall {
             result self.new (store_of (S.disk store.new) (S.failures store.new)) }
         ensures turn { TakesTurn seat self.old (store_of (S.disk store.old) (S.failures store.old))
             result self.new (store_of (S.disk store.new) (S.failures store.new)) }
-        // A crash leaves the blocks that the answered commands led to, and no others.
-        ensures lasts { S.failures store.new ≡ 0 → Settled (S.disk store.new) (S.kept store.new) }
+        // Once the store is synced, a crash leaves the blocks that the answered commands led to, and no
+        // others.
+        ensures lasts { S.failures store.new ≡ 0
+            → Lasts (S.synced store.new) (S.disk store.new) (S.kept store.new) }
         // Come what may, a crash leaves each block as before, or as a command of the PDU does.
         ensures crash { IfSome (seat_at self.old seat) (λ taken. CrashesNext taken.connection
             taken.unfed (S.disk store.old) (S.disk store.new) (S.kept store.old) (S.kept store.new)) }
@@ -203,6 +205,23 @@ impl Hall {
             Some(taken) => taken.waiting(),
             None => &[],
         }
+    }
+
+    /// What the seat's session has still to write, once the store is synced: so no peer is told of a
+    /// write that a crash could take back. The fault is that of the sync; then nothing may be
+    /// written.
+    pub fn offered<S: BlockStore>(&self, seat: usize, store: &mut S) -> Result<&[u8], StoreFault>
+        ensures waiting { IfOk result
+            (λ bytes. bytes.now ≡ waiting_at (seat_at self.now seat)) }
+        // A crash leaves the blocks that the answered commands led to, and no others.
+        ensures lasts { OnOk result (S.failures store.new ≡ 0
+            → Settled (S.disk store.new) (S.kept store.new)) }
+        ensures synced { OnOk result (S.synced store.new ≡ true) }
+        ensures disk { S.disk store.new ≡ S.disk store.old }
+        ensures crash { Within (S.kept store.old) (S.kept store.new) }
+    {
+        store.sync()?;
+        Ok(self.waiting(seat))
     }
 
     /// What waits was offered to the peer, and so many bytes of it were written.

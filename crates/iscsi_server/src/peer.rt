@@ -122,7 +122,7 @@ impl Peer {
         if hall.may_take(seat) {
             self.take(hall, store, seat)
         } else if !hall.waiting(seat).is_empty() {
-            self.write(hall, seat, now)
+            self.write(hall, store, seat, now)
         } else if hall.may_read(seat) {
             self.read(hall, seat, now, buffer)
         } else {
@@ -130,16 +130,26 @@ impl Peer {
         }
     }
 
-    // Writes what the connection takes.
-    fn write(&mut self, hall: &mut Hall, seat: usize, now: Instant) -> Step
+    // Writes what the connection takes, once the store is synced.
+    fn write<S: BlockStore>(
+        &mut self,
+        hall: &mut Hall,
+        store: &mut S,
+        seat: usize,
+        now: Instant,
+    ) -> Step
         requires some { 0 < length (waiting_at (seat_at hall.old seat)) }
+        ensures disk { S.disk store.new ≡ S.disk store.old }
         ensures seats { length hall.new.seats ≡ length hall.old.seats }
     {
         if !self.connection.is_writable() {
             hall.sent(seat, 0);
             return Step::Rests;
         }
-        match self.connection.write(hall.waiting(seat), now) {
+        let Ok(bytes) = hall.offered(seat, store) else {
+            return self.over(SessionEnd::Sync);
+        };
+        match self.connection.write(bytes, now) {
             Moved::Bytes(count) => {
                 hall.sent(seat, count);
                 if count < LONG_WRITE {

@@ -16,6 +16,9 @@ pub enum SessionEnd {
     /// A write to the connection failed, or took no byte.
     #[error("write failed")]
     Write,
+    /// What its commands wrote cannot be made to last, so they are not answered.
+    #[error("sync failed")]
+    Sync,
     /// No byte went either way for as long as a peer may be silent.
     #[error("session: idle")]
     Idle,

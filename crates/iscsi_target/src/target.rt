@@ -9,7 +9,7 @@ ghost use Rattle.iscsi_target.specs.Machine.{is_closed};
 ghost use Rattle.iscsi_target.specs.Feed.{scene, beginning, opening_connection, Feeds, FeedsNext, Fed, FedNext, Finishes, HasAnswered};
 ghost use Rattle.iscsi_target_session.specs.Configured.{Settings};
 ghost use Rattle.scsi_disk.specs.Disk.{Disk};
-ghost use Rattle.scsi_disk.specs.Lasting.{Settled};
+ghost use Rattle.scsi_disk.specs.Lasting.{Lasts};
 ghost use Rattle.iscsi_target.specs.Crash.{CrashesFed, CrashesNext, CrashesReady};
 ghost use Rattle.iscsi_target.specs.Inside.{connection, store_of, target_fault, AnswersReady, ShutsReady, RestFails, TakesOne, FailsOne};
 
@@ -88,8 +88,10 @@ impl Target {
             out.old.items
             → HasAnswered (beginning settings n disk) (stream ++ piece.now) self.new
             (S.disk store.new) out.new.items }
-        // A crash leaves the blocks that the answered commands led to, and no others.
-        ensures lasts { S.failures store.new ≡ 0 → Settled (S.disk store.new) (S.kept store.new) }
+        // Once the store is synced, a crash leaves the blocks that the answered commands led to, and no
+        // others.
+        ensures lasts { S.failures store.new ≡ 0
+            → Lasts (S.synced store.new) (S.disk store.new) (S.kept store.new) }
         // Come what may, a crash leaves each block as before, or as a command of a PDU leaves it.
         ensures crash { CrashesFed self.old (store_of (S.disk store.old) (S.failures store.old))
             piece.now (store_of (S.disk store.new) (S.failures store.new))
@@ -115,8 +117,10 @@ impl Target {
             (scene self.old (store_of (S.disk store.old) (S.failures store.old)) out.old.items)
             piece.now result
             (scene self.new (store_of (S.disk store.new) (S.failures store.new)) out.new.items) }
-        // A crash leaves the blocks that the answered commands led to, and no others.
-        ensures lasts { S.failures store.new ≡ 0 → Settled (S.disk store.new) (S.kept store.new) }
+        // Once the store is synced, a crash leaves the blocks that the answered commands led to, and no
+        // others.
+        ensures lasts { S.failures store.new ≡ 0
+            → Lasts (S.synced store.new) (S.disk store.new) (S.kept store.new) }
         // Come what may, a crash leaves each block as before, or as a command of the PDU does.
         ensures crash { CrashesNext self.old piece.now (S.disk store.old) (S.disk store.new)
             (S.kept store.old) (S.kept store.new) }

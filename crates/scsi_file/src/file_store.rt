@@ -2,7 +2,7 @@
 
 ghost use Rattle.std.specs.Prelude.{◌≡◌, ℕ, true, false, List, ◌+◌, ◌*◌, ◌/◌, ◌%◌, ◌<◌, ◌≤◌, length, OnOk, IfOk, IsErrOf, IsTrue};
 ghost use Rattle.scsi_disk.specs.Disk.{Disk, blocks_from, written};
-ghost use Rattle.scsi_disk.specs.Lasting.{Lasts};
+ghost use Rattle.scsi_disk.specs.Lasting.{Lasts, Settled};
 
 use crate::medium::Medium;
 use scsi_disk::{BlockStore, StoreFault};

@@ -169,7 +169,12 @@ fn each_write_is_cut_off_at_each_call(rt: HostRuntime) -> Result<(), Fail> {
         let (medium, answers) = written(rt.alloc(), row)?;
         same(&rt, &answers, &row.answers, &(row.apart, row.calls));
         if let Some(medium) = medium {
-            same(&rt, &spelled(medium.bytes()), row.seen, &(row.apart, row.calls));
+            same(
+                &rt,
+                &spelled(medium.bytes()),
+                row.seen,
+                &(row.apart, row.calls),
+            );
         }
     }
     Ok(())
@@ -180,7 +185,12 @@ fn check_crashes(rt: &impl Abort, alloc: Global, row: &Row) -> Result<(), AllocE
     let mut reached = [false; 6];
     for back in 0..9 {
         if let Some((place, again)) = crashed(alloc, row, back / 3, back % 3)? {
-            same(rt, &(place < row.outcomes.len()), &true, &(row.apart, row.calls, back));
+            same(
+                rt,
+                &(place < row.outcomes.len()),
+                &true,
+                &(row.apart, row.calls, back),
+            );
             same(rt, &again, &true, &(row.apart, row.calls, back));
             if let Some(is) = reached.get_mut(place) {
                 *is = true;
