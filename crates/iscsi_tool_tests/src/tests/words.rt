@@ -1,4 +1,5 @@
-//! Words of the command line: those that are a job, and those that are none.
+//! Words of the command line: those that are a job, and those that are none. The file is long for its
+//! rows.
 
 use super::same;
 use iscsi_tool::{LineFault, read_words};
