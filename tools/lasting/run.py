@@ -432,25 +432,40 @@ def cut(program, room):
     return seen == [True, True, FAILED, FAILED, FAILED, True, True] or seen
 
 
-def synced_first(program, room):
-    """Each write is followed by a sync before its answer leaves."""
+def calls_of(program, room, commands, count):
+    """The writes (w), syncs (s) and sends (a) of `serve` while qemu-io writes so, in their order, from the first write on; and whether
+    all that qemu-io was told was well."""
     want("strace")
     log = f"{room}/log"
     before = ("strace", "-f", "-qq", "-o", log, "-e", "trace=pwrite64,fdatasync,sendto")
     with Service(program, f"{room}/image", *create(), before=before, sessions=1) as service:
         if service.told == b"":
             raise Skipped("strace may not trace")
-        seen = qemu(service.url, *[f"write -P {n + 1} {n}M 64k" for n in range(8)])
+        seen = qemu(service.url, *commands)
         service.ended()
     with open(log) as file:
         calls = "".join({"pwrite64": "w", "fdatasync": "s", "sendto": "a"}[name] for name in re.findall(r"^\d+ +(\w+)\(.*= \d", file.read(), re.M))
-    # beginning with the first write: its sync, then answers, and so on
     body = calls[calls.find("w") :]
-    return (seen == [True] * 8 and re.fullmatch(r"(ws(a+|$))+", body) is not None and body.count("w") == 8) or (seen, calls)
+    return body, seen == [True] * len(seen) and body.count("w") == count
+
+
+def synced_first(program, room):
+    """Each write is followed by a sync before its answer leaves."""
+    body, well = calls_of(program, room, [f"write -P {n + 1} {n}M 64k" for n in range(8)], 8)
+    return (well and re.fullmatch(r"(ws(a+|$))+", body) is not None) or body
+
+
+def synced_together(program, room):
+    """Of writes that are under way together no answer leaves before they are synced, and some share a sync."""
+    writes = [f"aio_write -P {n % 255 + 1} {4 * n}k 4k" for n in range(512)]
+    body, well = calls_of(program, room, [*writes, "aio_flush"], 512)
+    print(f"          {body.count('w')} writes had {body.count('s')} syncs")
+    return (well and re.search("w[^s]*a", body) is None and body.count("s") < body.count("w")) or body
 
 
 def sync_that_fails(program, room):
-    """A sync fails: its write is answered so, and so is all that comes behind it; served anew, what was answered before is there."""
+    """A sync fails: its write isn't answered, and where it is asked for again it fails, as all that comes behind it does; served anew,
+    what was answered before is there."""
     want("strace")
     image = f"{room}/image"
     # the first sync is that of opening, the second that of the first write
@@ -478,6 +493,7 @@ CASES = [
     taken_away,
     cut,
     synced_first,
+    synced_together,
     sync_that_fails,
     killed,
 ]

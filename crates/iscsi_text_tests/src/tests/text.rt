@@ -1,4 +1,4 @@
-//! Texts by example.
+//! Texts by example. The file is long for its rows.
 
 use super::same;
 use iscsi_text::{Text, TextFault, Value, read_text, split_at_byte, value_in};
