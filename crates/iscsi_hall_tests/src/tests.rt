@@ -95,7 +95,9 @@ fn full_room(alloc: Global, seats: usize) -> Result<Box<Room>, Trouble> {
 
 // Writes what waits at a seat.
 fn write_out(room: &mut Room, seat: usize, out: &mut Vec<u8>) -> Result<(), Trouble> {
-    let waiting = room.hall.waiting(seat);
+    let Ok(waiting) = room.hall.offered(seat, &mut room.store) else {
+        return Err(Trouble::Step("no sync"));
+    };
     let count = waiting.len();
     out.extend_from_slice(waiting)?;
     if room.hall.is_taken(seat) {
