@@ -2,6 +2,7 @@
 
 ghost use Rattle.std.specs.Prelude.{◌≡◌, ◌≤◌, ℕ, false, length, option_map, is_none, is_some, replicate, true, None, Some, IfOk, IfSome, IfNone, OnOk, OnErr};
 ghost use Rattle.std.specs.List.{position};
+ghost use Rattle.scsi_disk.specs.Disk.{Tells};
 ghost use Rattle.scsi_disk.specs.Lasting.{Lasts, Settled, Within};
 ghost use Rattle.iscsi_target.specs.Crash.{CrashesNext};
 ghost use Rattle.iscsi_target.specs.Inside.{store_of};
@@ -219,6 +220,8 @@ impl Hall {
         ensures synced { OnOk result (S.synced store.new ≡ true) }
         ensures disk { S.disk store.new ≡ S.disk store.old }
         ensures crash { Within (S.kept store.old) (S.kept store.new) }
+        ensures tells { Tells (S.disk store.old).tells (S.failures store.old) (S.failures store.new)
+            (S.untold store.old) (S.untold store.new) result }
     {
         store.sync()?;
         Ok(self.waiting(seat))
