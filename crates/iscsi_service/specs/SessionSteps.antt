@@ -2,12 +2,12 @@
 -- reader of its contract needs these.
 use Rattle.std.specs.Prelude.{◌≡◌, ◌≤◌, ℕ, List, [], ◌++◌, Option, Err}
 use Rattle.std.specs.Io.KnownBytes.{Appends}
-use Rattle.scsi_disk.specs.Lasting.{Within}
 use Rattle.iscsi_pdu.specs.Meaning.{AreBytes}
 use Rattle.iscsi_stream.specs.Normalising.{WroteFront}
 use Rattle.iscsi_target.specs.declared.fault.TargetFault.TheVariants as faults
 use Rattle.iscsi_target_session.specs.Configured.{Settings}
 use Rattle.iscsi_target.specs.Feed.{Connection, Store, FedAll, opening_connection, stream_of, scene}
+use Rattle.iscsi_target.specs.Inside.{store_of, Advances}
 use Rattle.iscsi_service.specs.Session.{HasExecuted, IsOver, EndsBy, ServesFirst}
 use Rattle.iscsi_service.specs.declared.session.SessionFault.{SessionFault}
 use Rattle.iscsi_service.specs.declared.session.SessionFault.TheVariants as session
@@ -44,12 +44,18 @@ pub record ServedUpTo (settings : Settings) (first : Store) (stream : List ℕ)
       (scene now.target now.store (sent ++ now.waiting))
   pub executed : HasExecuted first.disk now.store.disk
 
--- The store was synced, or the sync failed: no block has changed, and a crash leaves nothing that
--- it would not have left before.
-pub record Syncs (before after : Store) (kept left : ℕ → List ℕ → Type 0) : Type 0 where
+-- The store was synced, or the sync failed: no block has changed.
+pub record Syncs (before after : Store) : Type 0 where
   pub disk : after.disk ≡ before.disk
   pub rises : before.failures ≤ after.failures
-  pub within : Within kept left
+
+-- These bytes led a target and its store from here to there; of the failures that were counted some
+-- may be those of syncs.
+pub record Comes (old : Connection) (before : Store) (bytes : List ℕ) (new : Connection)
+    (after : Store) : Type 0 where
+  pub failures : ℕ
+  pub few : failures ≤ after.failures
+  pub advances : Advances old before bytes new (store_of after.disk failures)
 
 -- The answers that waited were not all sent: none where the sync failed, and a front of them where a
 -- write did.

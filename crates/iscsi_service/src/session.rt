@@ -2,16 +2,16 @@
 
 ghost use Rattle.std.specs.Prelude.{◌≡◌, ◌≢◌, ◌≤◌, ◌<◌, ℕ, List, [], true, false, length, take, Ok, Err, IfOk, IfErr, OnOk};
 ghost use Rattle.std.specs.Io.KnownBytes.{Appends, Consumes};
-ghost use Rattle.scsi_disk.specs.Lasting.{Lasts};
+ghost use Rattle.scsi_disk.specs.Lasting.{Lasts, Within};
 ghost use Rattle.iscsi_pdu.specs.Meaning.{AreBytes};
 ghost use Rattle.iscsi_login.specs.Negotiation.{IsInRange};
 ghost use Rattle.iscsi_login.specs.Stage.{is_closed_phase};
 ghost use Rattle.iscsi_target.specs.Machine.{is_closed};
 ghost use Rattle.iscsi_target.specs.Feed.{opening_connection};
 ghost use Rattle.iscsi_target.specs.Crash.{CrashesFed};
-ghost use Rattle.iscsi_target.specs.Inside.{store_of, Advances};
+ghost use Rattle.iscsi_target.specs.Inside.{store_of};
 ghost use Rattle.iscsi_service.specs.Session.{target_settings, EndsBy, EndsWell, HasExecuted, Serves};
-ghost use Rattle.iscsi_service.specs.SessionSteps.{Goes, ClosesBy, Breaks, HoldsBack, Syncs, service};
+ghost use Rattle.iscsi_service.specs.SessionSteps.{Goes, ClosesBy, Breaks, Comes, HoldsBack, Syncs, service};
 
 use iscsi_login::{Phase, Preferences};
 use iscsi_stream::{PIECE, READS, write_fully};
@@ -177,7 +177,7 @@ fn serve_piece<S: BlockStore, W: Write>(
         (service target.old (store_of (S.disk store.old) (S.failures store.old)) (W.contents w.old) [])
         piece.now fault
         (service target.new (store_of (S.disk store.new) (S.failures store.new)) (W.contents w.new) [])) }
-    ensures advances { result ≡ Ok false → Advances target.old
+    ensures advances { result ≡ Ok false → Comes target.old
         (store_of (S.disk store.old) (S.failures store.old)) piece.now target.new
         (store_of (S.disk store.new) (S.failures store.new)) }
     ensures crash { (S.failures store.old ≤ S.failures store.new) × CrashesFed target.old
@@ -225,7 +225,7 @@ fn serve_next<S: BlockStore, W: Write>(
         (service target.old (store_of (S.disk store.old) (S.failures store.old)) (W.contents w.old) out.old.items)
         piece.now fault
         (service target.new (store_of (S.disk store.new) (S.failures store.new)) (W.contents w.new) [])) }
-    ensures advances { IfOk result (λ done. is_closed_phase done.1 ≡ false → Advances target.old
+    ensures advances { IfOk result (λ done. is_closed_phase done.1 ≡ false → Comes target.old
         (store_of (S.disk store.old) (S.failures store.old)) (take done.0 piece.now) target.new
         (store_of (S.disk store.new) (S.failures store.new))) }
     ensures crash { (S.failures store.old ≤ S.failures store.new) × CrashesFed target.old
@@ -261,7 +261,8 @@ fn write_out<S: BlockStore, W: Write>(
         HoldsBack fault (W.contents w.old) (W.contents w.new) out.old.items) }
     ensures synced { result ≢ Err SessionFault.Sync → S.synced store.new ≡ true }
     ensures store { Syncs (store_of (S.disk store.old) (S.failures store.old))
-        (store_of (S.disk store.new) (S.failures store.new)) (S.kept store.old) (S.kept store.new) }
+        (store_of (S.disk store.new) (S.failures store.new)) }
+    ensures kept { Within (S.kept store.old) (S.kept store.new) }
 {
     if let Err(_) = store.sync() {
         return Err(SessionFault::Sync);
