@@ -1,6 +1,6 @@
 //! A target's service on a socket: one connection after another, over one store.
 
-ghost use Rattle.std.specs.Prelude.{◌≡◌, ◌⊎◌, ◌<◌, ℕ, List, length, IfOk, IfErr};
+ghost use Rattle.std.specs.Prelude.{◌≡◌, ◌≢◌, ◌⊎◌, ◌<◌, ℕ, List, true, length, Err, IfOk, IfErr};
 ghost use Rattle.iscsi_service.specs.Session.{HasExecuted};
 ghost use Rattle.iscsi_service.specs.Serving.{ServesOne, EndsService};
 
@@ -44,13 +44,23 @@ pub fn serve_one<S: BlockStore>(
         → ServesOne config (S.disk store.old) result read (S.disk store.new) written) }
     // Whatever comes of it, the blocks are those that commands left.
     ensures blocks { HasExecuted (S.disk store.old) (S.disk store.new) }
+    // The store is synced, whatever comes of it but a sync that failed.
+    ensures synced { S.synced store.old ≡ true → result ≢ Err ServeFault.Sync
+        → S.synced store.new ≡ true }
 {
     let Ok((stream, _)) = listener.accept() else {
         return Err(ServeFault::Network);
     };
     let mut buffer = read_buffer(alloc, LONGEST_READ)?;
     let mut answers = Answers { stream: &stream };
-    match serve_reads(alloc, config, store, &mut &stream, &mut answers, &mut buffer) {
+    match serve_reads(
+        alloc,
+        config,
+        store,
+        &mut &stream,
+        &mut answers,
+        &mut buffer,
+    ) {
         Ok(()) => Ok(()),
         Err(fault) => Err(ServeFault::from(fault)),
     }
