@@ -1,31 +1,160 @@
 -- What a crash leaves of a session's blocks, from read to read.
-use Rattle.std.proofs.Common.{◌≡◌, ◌≤◌, ℕ, Bool, true, false, List, [], ◌∷◌, ◌++◌, length, take, drop, Option, refl, sym, subst, ◌∙◌, arith, append-nil}
+use Rattle.std.proofs.Common.{◌≡◌, ◌≤◌, ◌+◌, ◌-◌, inl, inr, ℕ, Bool, true, false, List, [], ◌∷◌, ◌++◌, length, take, drop, Option, refl, sym, ap, subst}
+use Rattle.std.proofs.Common.{◌∙◌, arith, append-nil}
 use Rattle.std.specs.Prelude.{Result, Ok, Err}
 use Rattle.std.specs.Io.KnownBytes.{Consumes}
 use Rattle.std.proofs.KnownBytes.{Consumes-nil, Consumes-trans}
+use Rattle.scsi_disk.specs.Disk.{Disk}
+use Rattle.scsi_disk.specs.Lasting.{Within}
+use Rattle.iscsi_stream.specs.Stream.{Message}
 use Rattle.iscsi_stream.proofs.TakingLemmas.{taken_more}
 use Rattle.iscsi_login.specs.declared.phase.Phase.{Phase}
 use Rattle.iscsi_login.specs.Stage.{is_closed_phase}
 use Rattle.iscsi_target.specs.declared.fault.TargetFault.{TargetFault}
 use Rattle.iscsi_target_session.specs.Configured.{Settings}
-use Rattle.iscsi_target.specs.Machine.{is_closed}
+use Rattle.iscsi_target.specs.Execution.{Device, device_next}
+use Rattle.iscsi_target.specs.State.{Execution, Machine, Stepped}
+use Rattle.iscsi_target.specs.Machine.{MayAnswer, RunsIn, is_closed}
 use Rattle.iscsi_target.specs.Feed.{Connection, Store, FedNext, FedNextIf, opening_connection, scene}
-use Rattle.iscsi_target.specs.Crash.{CrashesFed, CrashesNext}
-use Rattle.iscsi_target.specs.Inside.{Advances}
-use Rattle.iscsi_target.proofs.PassedLemmas.{no_advance, advances_then, feeds_advance, crashes_none, crashes_next, crashes_more, crashes_then}
-use Rattle.iscsi_service.specs.SessionSteps.{service, Goes}
-use Rattle.iscsi_service.proofs.SessionReadInvariant.{Outside, outside, ReadUpTo, at_start, fed_rises, next_is, next_fails, next_is_open}
+use Rattle.iscsi_target.specs.Crash.{CrashesFed, CrashesNext, IsPassed}
+use Rattle.iscsi_target.specs.Inside.{Advances, store_of}
+use Rattle.iscsi_target.proofs.PassedLemmas.{no_advance, advances_then, feeds_advance, crashes_none, crashes_next, crashes_more, crashes_then, passed_more}
+use Rattle.iscsi_target.proofs.ServingLemmas.{runs_rise}
+use Rattle.iscsi_service.specs.SessionSteps.{service, Goes, Comes, Syncs}
+use Rattle.iscsi_service.proofs.SessionReadInvariant.{Outside, outside, ReadUpTo, at_start, next_rises, next_is, next_is_open}
+
+-- ---- failures that a sync counts
+
+-- executions, from a count that is less by so many
+runs_lower : (d : Device) (low high more : ℕ) (xs : List Execution) (after : ℕ) → high ≡ low + more → RunsIn d high xs after →
+    RunsIn d low xs (after - more)
+runs_lower d low high more [] after is h = omega (arith, is, h)
+runs_lower d low high more (x ∷ xs) after is h =
+    let rises = h.1.rises in
+    let next : h.0 ≡ (h.0 - more) + more = omega (arith, is, rises) in (
+      h.0 - more,
+      record {
+        rises = omega (arith, is, rises);
+        works = λ e. h.1.works (omega (arith, is, rises, e));
+        fails = λ e. h.1.fails (omega (arith, is, rises, e));
+      },
+      runs_lower (device_next d) (h.0 - more) h.0 more xs after next h.2,
+    )
+
+may_lower : (s : Machine) (disk : Disk) (low high more : ℕ) (ms : List Message) (r : Stepped) (after : ℕ) → high ≡ low + more →
+    MayAnswer s disk high ms r after → MayAnswer s disk low ms r (after - more)
+unfolding MayAnswer
+may_lower s disk low high more [] r after is h = (h.0, omega (arith, is, h.1))
+may_lower s disk low high more (m ∷ ms) r after is h =
+    let rises = runs_rise h.3.device high h.0.executed h.2 h.3.runs in
+    let next : h.2 ≡ (h.2 - more) + more = omega (arith, is, rises) in (
+      h.0,
+      h.1,
+      h.2 - more,
+      record { device = h.3.device; is = h.3.is; runs = runs_lower h.3.device low high more h.0.executed h.2 is h.3.runs },
+      may_lower h.0.machine h.0.disk (h.2 - more) h.2 more ms h.1 after next h.4,
+      h.5,
+    )
+
+-- what is passed from a count that is less
+passed_lower : (old : Connection) (before : Store) (low : ℕ) (piece : List ℕ) (most n : ℕ) (bytes : List ℕ) → low ≤ before.failures →
+    IsPassed old before piece most n bytes → IsPassed old (store_of before.disk low) piece most n bytes
+passed_lower old before low piece most n bytes few p =
+    let more : ℕ = before.failures - low in record {
+      messages = p.messages;
+      message = p.message;
+      framing = p.framing;
+      count = p.count;
+      taken = p.taken;
+      led = p.led;
+      failures = p.failures - more;
+      may = may_lower old.machine before.disk low before.failures more p.messages p.led p.failures (omega (arith, few)) p.may;
+      few = (let most_ = p.few in omega (arith, most_));
+      behind = p.behind;
+    }
+
+passed_later : (old : Connection) (before : Store) (piece : List ℕ) (most last n : ℕ) (bytes : List ℕ) → most ≤ last →
+    IsPassed old before piece most n bytes → IsPassed old before piece last n bytes
+passed_later old before piece most last n bytes rises p =
+    subst (λ (x : List ℕ). IsPassed old before x last n bytes) (append-nil piece) (passed_more old before piece [] most last n bytes rises p)
+
+-- nothing came
+no_bytes_come : (old : Connection) (before : Store) → Comes old before [] old before
+no_bytes_come old before = record { failures = before.failures; few = omega arith; advances = no_advance old before }
+
+pub comes_synced : (old new : Connection) (before store after : Store) (bytes : List ℕ) → Comes old before bytes new store → Syncs store after →
+    Comes old before bytes new after
+comes_synced old new before store after bytes c s = record {
+  failures = c.failures;
+  few = (let low = c.few in let high = s.rises in omega (arith, low, high));
+  advances = subst (λ (d : Disk). Advances old before bytes new (store_of d c.failures)) (sym s.disk) c.advances;
+}
+
+-- bytes behind others
+comes_then : (old mid new : Connection) (before store after : Store) (x y : List ℕ) → Comes old before x mid store → Comes mid store y new after →
+    Comes old before (x ++ y) new after
+comes_then old mid new before store after x y a b =
+    let more : ℕ = store.failures - a.failures in
+    let low = a.few in
+    let left : ℕ = b.failures - more in
+    let later : Advances mid (store_of store.disk a.failures) y new (store_of after.disk left) = record {
+      messages = b.advances.messages;
+      taken = b.advances.taken;
+      led = b.advances.led;
+      may = may_lower mid.machine store.disk a.failures store.failures more b.advances.messages b.advances.led b.failures (omega (arith, low)) b.advances.may;
+      machine = b.advances.machine;
+      disk_is = b.advances.disk_is;
+    } in
+    record {
+      failures = left;
+      few = (let few_ = b.few in omega (arith, few_));
+      advances = advances_then old mid new before (store_of store.disk a.failures) (store_of after.disk left) x y a.advances later;
+    }
+
+-- what a crash leaves behind bytes, whose failures may be counted
+abbrev pub Crashed : Connection → Store → List ℕ → Store → (ℕ → List ℕ → Type 0) → (ℕ → List ℕ → Type 0) → Type 0
+Crashed old before bytes after kept left = (before.failures ≤ after.failures) × CrashesFed old before bytes after kept left
+
+pub crashes_synced : (old : Connection) (before store after : Store) (piece : List ℕ) (kept was left : ℕ → List ℕ → Type 0) →
+    Crashed old before piece store kept was → Syncs store after → Within was left → Crashed old before piece after kept left
+crashes_synced old before store after piece kept was left c s within = (
+  (let low = c.0 in let high = s.rises in omega (arith, low, high)),
+  record {
+    count = ap (λ (d : Disk). d.count) s.disk ∙ c.1.count;
+    adds = λ n bytes k. elim (c.1.adds n bytes (within n bytes k)) [
+      | inl first ↦ inl first
+      | inr is ↦ inr (passed_later old before piece store.failures after.failures n bytes s.rises is)
+    ];
+  },
+)
+
+-- a crash behind bytes that came behind others
+crashes_behind : (old mid : Connection) (before store after : Store) (piece front rest : List ℕ) (kept was left : ℕ → List ℕ → Type 0) →
+    piece ≡ front ++ rest → Comes old before front mid store
+    → store.failures ≤ after.failures → CrashesFed old before piece store kept was → CrashesFed mid store rest after was left →
+    CrashesFed old before piece after kept left
+crashes_behind old mid before store after piece front rest kept was left parts a rises p q =
+    let low = a.few in
+    let at : Store = store_of store.disk a.failures in
+    let none : CrashesFed old before piece at was was = record { count = p.count; adds = λ n bytes h. inl h } in
+    let later : CrashesFed mid at rest after was left = record {
+      count = q.count;
+      adds = λ n bytes h. elim (q.adds n bytes h) [ inl first ↦ inl first | inr is ↦ inr (passed_lower mid store a.failures rest after.failures n bytes low is) ];
+    } in
+    let all : CrashesFed old before piece after was left =
+    crashes_then old mid before at after piece front rest was was left parts a.advances (omega (arith, low, rises)) none later in
+    record {
+      count = all.count;
+      adds = λ n bytes h. elim (all.adds n bytes h) [
+        | inl first ↦ elim (p.adds n bytes first) [
+          | inl kept_ ↦ inl kept_
+          | inr is ↦ inr (passed_later old before piece store.failures after.failures n bytes rises is)
+        ]
+        | inr is ↦ inr is
+      ];
+    }
 
 -- ---- one PDU
-
-next_rises : (old new : Connection) (before after : Store) (out piece written : List ℕ) (result : Result (ℕ × Phase) TargetFault)
-    → FedNext (scene old before out) piece result (scene new after written) → before.failures ≤ after.failures
-next_rises old new before after out piece written (Ok done) f =
-    fed_rises (is_closed old.machine) old new before after out (take done.0 piece) written (Ok done.1)
-    (next_is (is_closed old.machine) old new before after out piece written done f)
-next_rises old new before after out piece written (Err fault) f =
-    fed_rises (is_closed old.machine) old new before after out piece written (Err fault)
-    (next_fails (is_closed old.machine) old new before after out piece written fault f)
 
 pub next_crashes : (old new : Connection) (before after : Store) (out piece written : List ℕ) (result : Result (ℕ × Phase) TargetFault)
     (kept left : ℕ → List ℕ → Type 0) → FedNext (scene old before out) piece result (scene new after written)
@@ -35,10 +164,14 @@ next_crashes old new before after out piece written result kept left f crash =
 
 pub next_advances : (b : Bool) (old new : Connection) (before after : Store) (out piece written : List ℕ) (done : ℕ × Phase)
     → FedNextIf b (scene old before out) piece (Ok done) (scene new after written) → is_closed_phase done.1 ≡ false
-    → Advances old before (take done.0 piece) new after
+    → Comes old before (take done.0 piece) new after
 next_advances true old new before after out piece written done f open_ = absurd cc
-next_advances false old new before after out piece written done f open_ =
-    feeds_advance old before out (take done.0 piece) done.1 new after written f.fed (next_is_open false old new before after out piece written done f open_)
+next_advances false old new before after out piece written done f open_ = record {
+  failures = after.failures;
+  few = omega arith;
+  advances = feeds_advance old before out (take done.0 piece) done.1 new after written f.fed
+      (next_is_open false old new before after out piece written done f open_);
+}
 
 -- ---- a piece
 
@@ -46,34 +179,30 @@ next_advances false old new before after out piece written done f open_ =
 pub record AdvancesUpTo (old : Connection) (before : Store) (piece rest : List ℕ) (now : Connection) (store : Store) : Type 0 where
   pub front : List ℕ
   pub parts : piece ≡ front ++ rest
-  pub advances : Advances old before front now store
+  pub advances : Comes old before front now store
 
 pub piece_begins : (old : Connection) (before : Store) (piece : List ℕ) → AdvancesUpTo old before piece piece old before
-piece_begins old before piece = record { front = []; parts = refl; advances = no_advance old before }
+piece_begins old before piece = record { front = []; parts = refl; advances = no_bytes_come old before }
 
 pub piece_advances : (old now new : Connection) (before store after : Store) (piece rest : List ℕ) (n : ℕ) → AdvancesUpTo old before piece rest now store →
-    Advances now store (take n rest) new after → AdvancesUpTo old before piece (drop n rest) new after
+    Comes now store (take n rest) new after → AdvancesUpTo old before piece (drop n rest) new after
 piece_advances old now new before store after piece rest n p q = record {
   front = p.front ++ take n rest;
   parts = taken_more piece p.front rest n p.parts;
-  advances = advances_then old now new before store after p.front (take n rest) p.advances q;
+  advances = comes_then old now new before store after p.front (take n rest) p.advances q;
 }
 
 pub piece_advanced : (old now : Connection) (before store : Store) (piece rest : List ℕ) → AdvancesUpTo old before piece rest now store → length rest ≡ 0 →
-    Advances old before piece now store
-piece_advanced old now before store piece [] p none = subst (λ (x : List ℕ). Advances old before x now store) (sym (p.parts ∙ append-nil p.front)) p.advances
+    Comes old before piece now store
+piece_advanced old now before store piece [] p none = subst (λ (x : List ℕ). Comes old before x now store) (sym (p.parts ∙ append-nil p.front)) p.advances
 piece_advanced old now before store piece (b ∷ rest) p none = absurd (omega (arith, none))
-
--- what a crash leaves behind bytes, whose failures may be counted
-abbrev pub Crashed : Connection → Store → List ℕ → Store → (ℕ → List ℕ → Type 0) → (ℕ → List ℕ → Type 0) → Type 0
-Crashed old before bytes after kept left = (before.failures ≤ after.failures) × CrashesFed old before bytes after kept left
 
 pub piece_crashes : (old now : Connection) (before store after : Store) (piece rest : List ℕ) (kept was left : ℕ → List ℕ → Type 0)
     → AdvancesUpTo old before piece rest now store → Crashed old before piece store kept was → Crashed now store rest after was left
     → Crashed old before piece after kept left
 piece_crashes old now before store after piece rest kept was left p q r = (
   omega (arith, q.0, r.0),
-  crashes_then old now before store after piece p.front rest kept was left p.parts p.advances r.0 q.1 r.1,
+  crashes_behind old now before store after piece p.front rest kept was left p.parts p.advances r.0 q.1 r.1,
 )
 
 -- ---- a session
@@ -81,14 +210,14 @@ piece_crashes old now before store after piece rest kept was left p q r = (
 -- what was read was served, and led here; what a crash leaves behind it
 pub record SessionUpTo (settings : Settings) (first : Outside) (target : Connection) (now : Outside) (kept left : ℕ → List ℕ → Type 0) : Type 0 where
   pub read : ReadUpTo settings first target now
-  pub advances : Advances (opening_connection settings 1) first.store read.stream target now.store
+  pub advances : Comes (opening_connection settings 1) first.store read.stream target now.store
   pub crash : CrashesFed (opening_connection settings 1) first.store read.stream now.store kept left
 
 pub session_start : (settings : Settings) (first : Store) (r w : Option (List ℕ)) (kept : ℕ → List ℕ → Type 0)
     → SessionUpTo settings (outside first r w) (opening_connection settings 1) (outside first r w) kept kept
 session_start settings first r w kept = record {
   read = record { stream = []; consumed = Consumes-nil r; served = at_start settings first w };
-  advances = no_advance (opening_connection settings 1) first;
+  advances = no_bytes_come (opening_connection settings 1) first;
   crash = crashes_none (opening_connection settings 1) first [] kept;
 }
 
@@ -98,14 +227,14 @@ pub session_crashes : (settings : Settings) (first : Store) (now : Connection) (
     → (up : SessionUpTo settings (outside first r0 w0) now (outside store r1 w1) kept was) → Crashed now store piece after was left
     → CrashesFed (opening_connection settings 1) first (up.read.stream ++ piece) after kept left
 session_crashes settings first now store after r0 r1 w0 w1 kept was left piece up crash =
-    crashes_then (opening_connection settings 1) now first store after (up.read.stream ++ piece) up.read.stream piece kept was left refl up.advances crash.0
+    crashes_behind (opening_connection settings 1) now first store after (up.read.stream ++ piece) up.read.stream piece kept was left refl up.advances crash.0
     (crashes_more (opening_connection settings 1) first store up.read.stream piece kept was up.crash) crash.1
 
 pub session_more : (settings : Settings) (first : Store) (now new : Connection) (store after : Store) (r0 r1 r2 w0 w1 w2 : Option (List ℕ))
     (kept was left : ℕ → List ℕ → Type 0) (piece : List ℕ)
     → SessionUpTo settings (outside first r0 w0) now (outside store r1 w1) kept was → Consumes r1 r2 piece →
     Goes (service now store w1 []) piece (service new after w2 [])
-    → Advances now store piece new after → Crashed now store piece after was left →
+    → Comes now store piece new after → Crashed now store piece after was left →
     SessionUpTo settings (outside first r0 w0) new (outside after r2 w2) kept left
 session_more settings first now new store after r0 r1 r2 w0 w1 w2 kept was left piece up read goes advances crash = record {
   read = record {
@@ -113,6 +242,6 @@ session_more settings first now new store after r0 r1 r2 w0 w1 w2 kept was left 
     consumed = Consumes-trans r0 r1 r2 up.read.stream piece up.read.consumed read;
     served = goes settings first up.read.stream w0 up.read.served;
   };
-  advances = advances_then (opening_connection settings 1) now new first store after up.read.stream piece up.advances advances;
+  advances = comes_then (opening_connection settings 1) now new first store after up.read.stream piece up.advances advances;
   crash = session_crashes settings first now store after r0 r1 w0 w1 kept was left piece up crash;
 }

@@ -32,7 +32,7 @@ use Rattle.iscsi_target.proofs.FailingDiskLemmas.{may_leads, stop_leads, leads_a
 use Rattle.iscsi_service.specs.declared.session.SessionFault.{SessionFault}
 use Rattle.iscsi_service.specs.declared.session.SessionFault.TheVariants as session
 use Rattle.iscsi_service.specs.Session.{target_settings, HasExecuted, ServesAll, ServesFirst, Serves, IsOver, EndsBy, EndsWell}
-use Rattle.iscsi_service.specs.SessionSteps.{ServedUpTo, Service, service, Goes, ClosesBy, Tells, Loses, RunsOut, Breaks}
+use Rattle.iscsi_service.specs.SessionSteps.{ServedUpTo, Service, service, Goes, ClosesBy, Tells, Loses, RunsOut, Breaks, HoldsBack, Syncs}
 use Rattle.iscsi_service.specs.Serving.{session_fault, ServesOne}
 use Rattle.iscsi_service.proofs.SessionEndLemmas.{Stands, stands_first, stands_answered, read_told, end_told, finish_told, fault_told, first_told, over_told}
 
@@ -224,34 +224,86 @@ served_more settings first stream old new before after start contents waiting pi
   executed = executed_more first.disk old new before after waiting piece written result up.executed one;
 }
 
--- the answers that waited were written
-pub written_out : (settings : Settings) (first : Store) (stream : List ℕ) (target : Connection) (store : Store) (start contents now : Option (List ℕ))
+-- ---- a sync
+
+-- a store that was synced, where no failure was counted, is what it was
+same_store : (store after : Store) → Syncs store after → after.failures ≡ store.failures → store ≡ after
+same_store store after s e = λ i. record { disk = sym s.disk i; failures = sym e i }
+
+synced_executed : (first : Disk) (store after : Store) → Syncs store after → HasExecuted first store.disk → HasExecuted first after.disk
+synced_executed first store after s e = subst (λ (d : Disk). HasExecuted first d) (sym s.disk) e
+
+synced_up : (settings : Settings) (first : Store) (stream : List ℕ) (target : Connection) (store after : Store) (start contents : Option (List ℕ))
     (waiting : List ℕ)
-    → ServedUpTo settings first stream start (service target store contents waiting) → AreBytes waiting → Appends contents now waiting →
-    ServedUpTo settings first stream start (service target store now [])
-written_out settings first stream target store start contents now waiting up are more = record {
+    → ServedUpTo settings first stream start (service target store contents waiting) → Syncs store after →
+    ServedUpTo settings first stream start (service target after contents waiting)
+synced_up settings first stream target store after start contents waiting up s = record {
   pieces = up.pieces;
   whole = up.whole;
-  sent = up.sent ++ waiting;
-  appended = Appends-trans start contents now up.sent waiting up.appended more;
-  bytes = AreBytes-append up.sent waiting up.bytes are;
-  rises = up.rises;
-  fed = λ h. subst (λ (x : List ℕ). FedAll (scene (opening_connection settings 1) first []) up.pieces (scene target store x))
-      (sym (append-nil (up.sent ++ waiting)))
-      (up.fed h);
-  executed = up.executed;
+  sent = up.sent;
+  appended = up.appended;
+  bytes = up.bytes;
+  rises = (let low = up.rises in let high = s.rises in omega (arith, low, high));
+  fed = λ none.
+      let h = none_counted first.failures store.failures after.failures up.rises s.rises none in
+      subst (λ (x : Store). FedAll (scene (opening_connection settings 1) first []) up.pieces (scene target x (up.sent ++ waiting)))
+      (same_store store after s h.1) (up.fed h.0);
+  executed = synced_executed first.disk store after s up.executed;
 }
 
--- a part of them was, or none
-pub front_out : (settings : Settings) (first : Store) (stream : List ℕ) (target : Connection) (store : Store) (start contents now : Option (List ℕ))
+pub closes_synced : (old : Service) (bytes : List ℕ) (store after : Store) → old.store.failures ≤ store.failures → Syncs store after →
+    ClosesBy old bytes store → ClosesBy old bytes after
+closes_synced old bytes store after rises s closes = λ settings first stream start up none.
+    let low = up.rises in
+    let high = s.rises in
+    closes settings first stream start up (omega (arith, low, rises, high, none))
+
+tells_synced : (old : Service) (bytes : List ℕ) (fault : SessionFault) (store after : Store) → old.store.failures ≤ store.failures → Syncs store after →
+    Tells old bytes fault store → Tells old bytes fault after
+tells_synced old bytes fault store after rises s tells = λ settings first stream start up none.
+    let low = up.rises in
+    let high = s.rises in
+    tells settings first stream start up (omega (arith, low, rises, high, none))
+
+-- the store was synced, and the answers that waited were written
+pub written_out : (settings : Settings) (first : Store) (stream : List ℕ) (target : Connection) (store after : Store) (start contents now : Option (List ℕ))
     (waiting : List ℕ)
-    → ServedUpTo settings first stream start (service target store contents waiting) → AreBytes waiting → WroteFront contents now waiting → (sent : List ℕ)
-    × Appends start now sent × AreBytes sent × HasExecuted first.disk store.disk
-front_out settings first stream target store start contents now waiting up are front = (
+    → ServedUpTo settings first stream start (service target store contents waiting) → Syncs store after → AreBytes waiting →
+    Appends contents now waiting → ServedUpTo settings first stream start (service target after now [])
+written_out settings first stream target store after start contents now waiting before s are more =
+    let up : ServedUpTo settings first stream start (service target after contents waiting) =
+    synced_up settings first stream target store after start contents waiting before s in
+    record {
+      pieces = up.pieces;
+      whole = up.whole;
+      sent = up.sent ++ waiting;
+      appended = Appends-trans start contents now up.sent waiting up.appended more;
+      bytes = AreBytes-append up.sent waiting up.bytes are;
+      rises = up.rises;
+      fed = λ h. subst (λ (x : List ℕ). FedAll (scene (opening_connection settings 1) first []) up.pieces (scene target after x))
+          (sym (append-nil (up.sent ++ waiting)))
+          (up.fed h);
+      executed = up.executed;
+    }
+
+-- a front of the answers that waited was written, where the sync or a write failed
+held_front : (fault : SessionFault) (contents now : Option (List ℕ)) (waiting : List ℕ) → HoldsBack fault contents now waiting →
+    WroteFront contents now waiting
+held_front session.Sync contents now waiting held = (0, subst (λ (x : Option (List ℕ)). Appends contents x []) (sym held) (Appends-nil contents))
+held_front session.Write contents now waiting held = held
+held_front session.Read contents now waiting held = absurd held
+held_front (session.Target fault) contents now waiting held = absurd held
+
+-- a part of them was, or none
+front_out : (settings : Settings) (first : Store) (stream : List ℕ) (target : Connection) (store after : Store) (start contents now : Option (List ℕ))
+    (waiting : List ℕ)
+    → ServedUpTo settings first stream start (service target store contents waiting) → Syncs store after → AreBytes waiting →
+    WroteFront contents now waiting → (sent : List ℕ) × Appends start now sent × AreBytes sent × HasExecuted first.disk after.disk
+front_out settings first stream target store after start contents now waiting up s are front = (
   up.sent ++ take front.0 waiting,
   Appends-trans start contents now up.sent (take front.0 waiting) up.appended front.1,
   AreBytes-append up.sent (take front.0 waiting) up.bytes (AreBytes-take front.0 waiting are),
-  up.executed,
+  synced_executed first.disk store after s up.executed,
 )
 
 -- bytes behind the end of a session are dropped
@@ -326,27 +378,38 @@ executed_next first old new before after out piece written (Ok done) e f =
 executed_next first old new before after out piece written (Err fault) e f =
     executed_more first old new before after out piece written (Err fault) e (next_fails (is_closed old.machine) old new before after out piece written fault f)
 
--- the answers could not be written, or a part of them alone
-pub write_loses : (old new : Connection) (before after : Store) (contents now : Option (List ℕ)) (out piece written waiting : List ℕ)
-    (result : Result (ℕ × Phase) TargetFault)
-    → FedNext (scene old before out) piece result (scene new after written) → AreBytes written → WroteFront contents now written →
-    Loses (service old before contents out) (service new after now waiting)
-write_loses old new before after contents now out piece written waiting result f are front = λ settings first stream start up. (
-  up.sent ++ take front.0 written,
-  Appends-trans start contents now up.sent (take front.0 written) up.appended front.1,
-  AreBytes-append up.sent (take front.0 written) up.bytes (AreBytes-take front.0 written are),
-  executed_next first.disk old new before after out piece written result up.executed f,
-)
+-- a call of feed_next counts failures, and never fewer
+pub next_rises : (old new : Connection) (before after : Store) (out piece written : List ℕ) (result : Result (ℕ × Phase) TargetFault)
+    → FedNext (scene old before out) piece result (scene new after written) → before.failures ≤ after.failures
+next_rises old new before after out piece written (Ok done) f =
+    fed_rises (is_closed old.machine) old new before after out (take done.0 piece) written (Ok done.1)
+    (next_is (is_closed old.machine) old new before after out piece written done f)
+next_rises old new before after out piece written (Err fault) f =
+    fed_rises (is_closed old.machine) old new before after out piece written (Err fault)
+    (next_fails (is_closed old.machine) old new before after out piece written fault f)
 
-fault_served_to : (old new : Connection) (before after : Store) (contents now : Option (List ℕ)) (out piece written : List ℕ) (fault : TargetFault)
-    → FedNext (scene old before out) piece (Err fault) (scene new after written)
+-- the answers could not be written, or a part of them alone
+pub write_loses : (old new : Connection) (before store after : Store) (contents now : Option (List ℕ)) (out piece written waiting : List ℕ)
+    (fault : SessionFault) (result : Result (ℕ × Phase) TargetFault)
+    → FedNext (scene old before out) piece result (scene new store written) → Syncs store after → AreBytes written → HoldsBack fault contents now written →
+    Loses (service old before contents out) (service new after now waiting)
+write_loses old new before store after contents now out piece written waiting fault result f s are held = λ settings first stream start up.
+    let front : WroteFront contents now written = held_front fault contents now written held in (
+      up.sent ++ take front.0 written,
+      Appends-trans start contents now up.sent (take front.0 written) up.appended front.1,
+      AreBytes-append up.sent (take front.0 written) up.bytes (AreBytes-take front.0 written are),
+      synced_executed first.disk store after s (executed_next first.disk old new before store out piece written result up.executed f),
+    )
+
+fault_served_to : (old new : Connection) (before store after : Store) (contents now : Option (List ℕ)) (out piece written : List ℕ) (fault : TargetFault)
+    → FedNext (scene old before out) piece (Err fault) (scene new store written)
     → ((let r : Result Phase TargetFault = Err fault in r ≡ Err faults.NoMemory) → ⊥) →
-    AreBytes written → Appends contents now written
+    Syncs store after → AreBytes written → Appends contents now written
     → Goes (service old before contents out) piece (service new after now [])
-fault_served_to old new before after contents now out piece written fault f well are wrote = λ settings first stream start up.
-    written_out settings first (stream ++ piece) new after start contents now written
-    (served_more settings first stream old new before after start contents out piece written (Err fault) up
-    (next_fails (is_closed old.machine) old new before after out piece written fault f) well) are wrote
+fault_served_to old new before store after contents now out piece written fault f well s are wrote = λ settings first stream start up.
+    written_out settings first (stream ++ piece) new store after start contents now written
+    (served_more settings first stream old new before store start contents out piece written (Err fault) up
+    (next_fails (is_closed old.machine) old new before store out piece written fault f) well) s are wrote
 
 -- why a session ends by a fault that a call of feed_next answers
 fault_tells : (old new : Connection) (before after : Store) (contents : Option (List ℕ)) (out piece written : List ℕ) (fault : TargetFault) →
@@ -360,43 +423,48 @@ fault_tells old new before after contents out piece written fault live f = λ se
     (stands_up settings first stream old before start contents out up h.0 live) live
     (feeds_live old new before after up.sent piece out written (Err fault) live g) h.1
 
-fault_goes : (old new : Connection) (before after : Store) (contents now : Option (List ℕ)) (out piece written : List ℕ) (fault : TargetFault) →
+fault_goes : (old new : Connection) (before store after : Store) (contents now : Option (List ℕ)) (out piece written : List ℕ) (fault : TargetFault) →
     (fault ≡ faults.NoMemory → ⊥) → is_closed old.machine ≡ false
-    → FedNext (scene old before out) piece (Err fault) (scene new after written) → AreBytes written → Appends contents now written
+    → FedNext (scene old before out) piece (Err fault) (scene new store written) → Syncs store after → AreBytes written → Appends contents now written
     → Goes (service old before contents out) piece (service new after now []) × Tells (service old before contents out) piece (session.Target fault) after
-fault_goes old new before after contents now out piece written fault some live f are wrote = (
-  fault_served_to old new before after contents now out piece written fault f (λ e. some (err_is e)) are wrote,
-  fault_tells old new before after contents out piece written fault live f,
+fault_goes old new before store after contents now out piece written fault some live f s are wrote = (
+  fault_served_to old new before store after contents now out piece written fault f (λ e. some (err_is e)) s are wrote,
+  tells_synced (service old before contents out) piece (session.Target fault) store after
+      (next_rises old new before store out piece written (Err fault) f) s
+      (fault_tells old new before store contents out piece written fault live f),
 )
   where
     err_is : {T : Type 0} {a b : TargetFault} → (let x : Result T TargetFault = Err a in let y : Result T TargetFault = Err b in x ≡ y) → a ≡ b
     err_is e = cc
 
 -- a fault that a call of feed_next answers, and then the answers were written
-pub fault_breaks : (old new : Connection) (before after : Store) (contents now : Option (List ℕ)) (out piece written : List ℕ) (fault : TargetFault) →
+pub fault_breaks : (old new : Connection) (before store after : Store) (contents now : Option (List ℕ)) (out piece written : List ℕ) (fault : TargetFault) →
     is_closed old.machine ≡ false
-    → FedNext (scene old before out) piece (Err fault) (scene new after written) → AreBytes written → Appends contents now written
+    → FedNext (scene old before out) piece (Err fault) (scene new store written) → Syncs store after → AreBytes written → Appends contents now written
     → Breaks (service old before contents out) piece (session.Target fault) (service new after now [])
-fault_breaks old new before after contents now out piece written faults.NoMemory live f are wrote = λ settings first stream start up. (
+fault_breaks old new before store after contents now out piece written faults.NoMemory live f s are wrote = λ settings first stream start up. (
   up.sent ++ written,
   Appends-trans start contents now up.sent written up.appended wrote,
   AreBytes-append up.sent written up.bytes are,
-  executed_next first.disk old new before after out piece written (Err faults.NoMemory) up.executed f,
+  synced_executed first.disk store after s (executed_next first.disk old new before store out piece written (Err faults.NoMemory) up.executed f),
   λ none.
-      let g = next_fails (is_closed old.machine) old new before after out piece written faults.NoMemory f in
-      let h = none_counted first.failures before.failures after.failures up.rises
-      (fed_rises (is_closed old.machine) old new before after out piece written (Err faults.NoMemory) g) none in
-      first_told settings first.disk stream piece old new before after (up.sent ++ out) (up.sent ++ written)
+      let g = next_fails (is_closed old.machine) old new before store out piece written faults.NoMemory f in
+      let rises = next_rises old new before store out piece written (Err faults.NoMemory) f in
+      let low = up.rises in
+      let high = s.rises in
+      let h = none_counted first.failures before.failures store.failures up.rises rises (omega (arith, low, rises, high, none)) in
+      subst (λ (d : Disk). ServesFirst settings first.disk (stream ++ piece) d (up.sent ++ written)) (sym s.disk)
+      (first_told settings first.disk stream piece old new before store (up.sent ++ out) (up.sent ++ written)
       (stands_up settings first stream old before start contents out up h.0 live)
-      (feeds_live old new before after up.sent piece out written (Err faults.NoMemory) live g) h.1,
+      (feeds_live old new before store up.sent piece out written (Err faults.NoMemory) live g) h.1),
 )
-fault_breaks old new before after contents now out piece written (faults.Stream fault) live f are wrote =
-    fault_goes old new before after contents now out piece written (faults.Stream fault) (λ e. cc) live f are wrote
-fault_breaks old new before after contents now out piece written (faults.Protocol rule) live f are wrote =
-    fault_goes old new before after contents now out piece written (faults.Protocol rule) (λ e. cc) live f are wrote
-fault_breaks old new before after contents now out piece written faults.Closed live f are wrote =
-    (subst (λ (b : Bool). FedIf b (scene old before out) piece (Err faults.Closed) (scene new after written)) live
-    (next_fails (is_closed old.machine) old new before after out piece written faults.Closed f)).ends
+fault_breaks old new before store after contents now out piece written (faults.Stream fault) live f s are wrote =
+    fault_goes old new before store after contents now out piece written (faults.Stream fault) (λ e. cc) live f s are wrote
+fault_breaks old new before store after contents now out piece written (faults.Protocol rule) live f s are wrote =
+    fault_goes old new before store after contents now out piece written (faults.Protocol rule) (λ e. cc) live f s are wrote
+fault_breaks old new before store after contents now out piece written faults.Closed live f s are wrote =
+    (subst (λ (b : Bool). FedIf b (scene old before out) piece (Err faults.Closed) (scene new store written)) live
+    (next_fails (is_closed old.machine) old new before store out piece written faults.Closed f)).ends
 
 -- ---- bytes after bytes
 
@@ -427,6 +495,7 @@ breaks_then old mid new a b (session.Target (faults.Protocol rule)) p q =
     (goes_then old mid new a b p q.0, tells_then old mid a b (session.Target (faults.Protocol rule)) new.store p q.1)
 breaks_then old mid new a b (session.Target faults.Closed) p q = q
 breaks_then old mid new a b session.Read p q = q
+breaks_then old mid new a b session.Sync p q = loses_then old mid new a p q
 breaks_then old mid new a b session.Write p q = loses_then old mid new a p q
 
 is_over_more : (settings : Settings) (disk : Disk) (read more : List ℕ) → IsOver settings disk read → IsOver settings disk (read ++ more)
@@ -447,14 +516,20 @@ goes_none : (s : Service) → Goes s [] s
 goes_none s = λ settings first stream start up. subst (λ (x : List ℕ). ServedUpTo settings first x start s)
     (sym (append-nil stream)) up
 
--- the answers that wait are written
-pub goes_written : (old : Service) (bytes : List ℕ) (target : Connection) (store : Store) (contents now : Option (List ℕ)) (waiting : List ℕ)
-    → Goes old bytes (service target store contents waiting) → AreBytes waiting → Appends contents now waiting → Goes old bytes (service target store now [])
-goes_written old bytes target store contents now waiting p are wrote = λ settings first stream start up.
-    written_out settings first (stream ++ bytes) target store start contents now waiting (p settings first stream start up) are wrote
+-- the store is synced, and the answers that wait are written
+pub goes_written : (old : Service) (bytes : List ℕ) (target : Connection) (store after : Store) (contents now : Option (List ℕ)) (waiting : List ℕ)
+    → Goes old bytes (service target store contents waiting) → Syncs store after → AreBytes waiting → Appends contents now waiting
+    → Goes old bytes (service target after now [])
+goes_written old bytes target store after contents now waiting p s are wrote = λ settings first stream start up.
+    written_out settings first (stream ++ bytes) target store after start contents now waiting (p settings first stream start up) s are wrote
 
-pub breaks_write : (old new : Service) (bytes : List ℕ) (fault : SessionFault) → fault ≡ session.Write → Loses old new → Breaks old bytes fault new
-breaks_write old new bytes fault is lost = subst (λ (f : SessionFault). Breaks old bytes f new) (sym is) lost
+-- they are held back
+pub breaks_held : (old new : Service) (bytes : List ℕ) (fault : SessionFault) (contents now : Option (List ℕ)) (waiting : List ℕ)
+    → HoldsBack fault contents now waiting → Loses old new → Breaks old bytes fault new
+breaks_held old new bytes session.Sync contents now waiting held lost = lost
+breaks_held old new bytes session.Write contents now waiting held lost = lost
+breaks_held old new bytes session.Read contents now waiting held lost = absurd held
+breaks_held old new bytes (session.Target fault) contents now waiting held lost = absurd held
 
 -- ---- a piece
 
@@ -480,32 +555,33 @@ pub piece_breaks : (old mid new : Service) (piece rest : List ℕ) (fault : Sess
 piece_breaks old mid new piece rest fault p q = subst (λ (x : List ℕ). Breaks old x fault new) (sym p.parts)
     (breaks_then old mid new p.front rest fault p.goes q)
 
-pub piece_lost : (old : Service) (piece rest : List ℕ) (target : Connection) (store : Store) (contents now : Option (List ℕ)) (waiting : List ℕ)
+pub piece_lost : (old : Service) (piece rest : List ℕ) (target : Connection) (store after : Store) (contents now : Option (List ℕ)) (waiting : List ℕ)
     (fault : SessionFault)
-    → PieceUpTo old piece rest (service target store contents waiting) → fault ≡ session.Write → AreBytes waiting → WroteFront contents now waiting →
-    Breaks old piece fault (service target store now [])
-piece_lost old piece rest target store contents now waiting fault p is are front =
-    breaks_write old (service target store now []) piece fault is (λ settings first stream start up.
-    front_out settings first (stream ++ p.front) target store start contents now waiting (p.goes settings first stream start up) are front)
+    → PieceUpTo old piece rest (service target store contents waiting) → Syncs store after → AreBytes waiting → HoldsBack fault contents now waiting →
+    Breaks old piece fault (service target after now [])
+piece_lost old piece rest target store after contents now waiting fault p s are held =
+    breaks_held old (service target after now []) piece fault contents now waiting held (λ settings first stream start up.
+    front_out settings first (stream ++ p.front) target store after start contents now waiting (p.goes settings first stream start up) s are
+    (held_front fault contents now waiting held))
 
 -- the whole piece was served, and the answers that waited were written
-pub piece_done : (old : Service) (piece rest : List ℕ) (target : Connection) (store : Store) (contents now : Option (List ℕ)) (waiting : List ℕ)
-    → PieceUpTo old piece rest (service target store contents waiting) → length rest ≡ 0 → AreBytes waiting → Appends contents now waiting →
-    Goes old piece (service target store now [])
-piece_done old piece [] target store contents now waiting p none are wrote =
-    subst (λ (x : List ℕ). Goes old x (service target store now [])) (sym (p.parts ∙ append-nil p.front))
-    (goes_written old p.front target store contents now waiting p.goes are wrote)
-piece_done old piece (b ∷ rest) target store contents now waiting p none are wrote = absurd (omega (arith, none))
+pub piece_done : (old : Service) (piece rest : List ℕ) (target : Connection) (store after : Store) (contents now : Option (List ℕ)) (waiting : List ℕ)
+    → PieceUpTo old piece rest (service target store contents waiting) → length rest ≡ 0 → Syncs store after → AreBytes waiting →
+    Appends contents now waiting → Goes old piece (service target after now [])
+piece_done old piece [] target store after contents now waiting p none s are wrote =
+    subst (λ (x : List ℕ). Goes old x (service target after now [])) (sym (p.parts ∙ append-nil p.front))
+    (goes_written old p.front target store after contents now waiting p.goes s are wrote)
+piece_done old piece (b ∷ rest) target store after contents now waiting p none s are wrote = absurd (omega (arith, none))
 
 -- the session is over, and the rest of the piece is dropped
-pub piece_over : (old : Service) (piece rest : List ℕ) (target : Connection) (store : Store) (contents now : Option (List ℕ)) (waiting : List ℕ)
-    → PieceUpTo old piece rest (service target store contents waiting) → is_closed target.machine ≡ true → AreBytes waiting → Appends contents now waiting →
-    Goes old piece (service target store now [])
-piece_over old piece rest target store contents now waiting p over are wrote =
-    goes_written old piece target store contents now waiting
+pub piece_over : (old : Service) (piece rest : List ℕ) (target : Connection) (store after : Store) (contents now : Option (List ℕ)) (waiting : List ℕ)
+    → PieceUpTo old piece rest (service target store contents waiting) → is_closed target.machine ≡ true → Syncs store after → AreBytes waiting →
+    Appends contents now waiting → Goes old piece (service target after now [])
+piece_over old piece rest target store after contents now waiting p over s are wrote =
+    goes_written old piece target store after contents now waiting
     (subst (λ (x : List ℕ). Goes old x (service target store contents waiting)) (sym p.parts)
     (goes_then old (service target store contents waiting) (service target store contents waiting) p.front rest p.goes
-    (λ settings first stream start up. rest_dropped settings first stream target store start contents waiting rest over up))) are wrote
+    (λ settings first stream start up. rest_dropped settings first stream target store start contents waiting rest over up))) s are wrote
 
 pub piece_closes : (old mid : Service) (piece rest : List ℕ) (n : ℕ) (after : Store) → PieceUpTo old piece rest mid → ClosesBy mid (take n rest) after →
     ClosesBy old piece after
@@ -695,6 +771,16 @@ fault_stops settings (session.Target (faults.Protocol rule)) first now new store
     broken.0 broken.1
 fault_stops settings (session.Target faults.Closed) first now new store after r0 r1 r2 w0 w1 w2 piece C up left read broken = absurd broken
 fault_stops settings session.Read first now new store after r0 r1 r2 w0 w1 w2 piece C up left read broken = absurd broken
+fault_stops settings session.Sync first now new store after r0 r1 r2 w0 w1 w2 piece C up left read lost =
+    let l = lost settings first up.stream w0 up.served in (
+      up.stream ++ piece,
+      l.0,
+      Consumes-trans r0 r1 r2 up.stream piece up.consumed read,
+      l.1,
+      l.2,
+      λ range h. (tt, tt),
+      left,
+    )
 fault_stops settings session.Write first now new store after r0 r1 r2 w0 w1 w2 piece C up left read lost =
     let l = lost settings first up.stream w0 up.served in (
       up.stream ++ piece,
@@ -718,6 +804,7 @@ fault_executed settings (session.Target (faults.Protocol rule)) first now new st
     (broken.0 settings first up.stream w0 up.served).executed
 fault_executed settings (session.Target faults.Closed) first now new store after r0 r1 w0 w1 w2 piece up broken = absurd broken
 fault_executed settings session.Read first now new store after r0 r1 w0 w1 w2 piece up broken = absurd broken
+fault_executed settings session.Sync first now new store after r0 r1 w0 w1 w2 piece up lost = (lost settings first up.stream w0 up.served).3
 fault_executed settings session.Write first now new store after r0 r1 w0 w1 w2 piece up lost = (lost settings first up.stream w0 up.served).3
 
 -- ---- a session that is closed
@@ -778,6 +865,7 @@ fault_served settings disk (session.Target (faults.Stream fault)) read disk_now 
 fault_served settings disk (session.Target (faults.Protocol rule)) read disk_now written a = a
 fault_served settings disk (session.Target faults.Closed) read disk_now written a = absurd a.0
 fault_served settings disk session.Read read disk_now written a = a
+fault_served settings disk session.Sync read disk_now written a = tt
 fault_served settings disk session.Write read disk_now written a = tt
 
 -- ---- the target of the programs

@@ -24,6 +24,7 @@ IsOfSession (serve.Target fault) = Unit {0}
 IsOfSession (serve.Initiator fault) = Unit {0}
 IsOfSession (serve.Script n) = ⊥
 IsOfSession serve.Read = ⊥
+IsOfSession serve.Sync = ⊥
 IsOfSession serve.Write = ⊥
 
 -- A request that is refused counts as handed to a closed session, but where memory ran out.

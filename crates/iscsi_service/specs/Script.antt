@@ -201,6 +201,7 @@ LinesFail serve.Read script = ⊥
 LinesFail (serve.Target fault) script = ⊥
 LinesFail (serve.Initiator fault) script = ⊥
 LinesFail serve.Network script = ⊥
+LinesFail serve.Sync script = ⊥
 LinesFail serve.Write script = ⊥
 
 -- What was read is a script of these commands.
@@ -216,4 +217,5 @@ ScriptFails serve.Read script = Unit {0}
 ScriptFails (serve.Target fault) script = ⊥
 ScriptFails (serve.Initiator fault) script = ⊥
 ScriptFails serve.Network script = ⊥
+ScriptFails serve.Sync script = ⊥
 ScriptFails serve.Write script = ⊥

@@ -12,8 +12,8 @@ use Rattle.iscsi_service.specs.declared.serve_fault.ServeFault.{ServeFault}
 use Rattle.iscsi_service.specs.declared.serve_fault.ServeFault.TheVariants as serve
 use Rattle.iscsi_service.specs.Session.{ServesAll, ServesFirst, EndsBy}
 
--- The exit status of a fault: 1 where what came is refused, 3 for memory, 4 for reading, writing
--- and the network.
+-- The exit status of a fault: 1 where what came is refused, 3 for memory, 4 for reading, writing,
+-- a sync and the network.
 abbrev pub exit_status : ServeFault → ℕ
 exit_status serve.NoMemory = 3
 exit_status (serve.Target fault) = 1
@@ -21,6 +21,7 @@ exit_status (serve.Initiator fault) = 1
 exit_status (serve.Script line) = 1
 exit_status serve.Network = 4
 exit_status serve.Read = 4
+exit_status serve.Sync = 4
 exit_status serve.Write = 4
 
 -- A target's fault; its `NoMemory` is the session's own.
@@ -44,10 +45,11 @@ initiator_fault initiator.Closed = serve.Initiator initiator.Closed
 abbrev pub session_fault : SessionFault → ServeFault
 session_fault (session.Target fault) = target_fault fault
 session_fault session.Read = serve.Read
+session_fault session.Sync = serve.Sync
 session_fault session.Write = serve.Write
 
 -- What a session over a socket leaves where it ends, and why it ends so: nothing is done where no
--- connection was accepted; where a write failed, nothing is stated of it.
+-- connection was accepted; where a sync or a write failed, nothing is stated of it.
 abbrev pub ServesOne : Settings → Disk → Result (Unit {0}) ServeFault → List ℕ → Disk → List ℕ
     → Type 0
 ServesOne settings disk (Ok done) read disk_now written =
@@ -60,6 +62,7 @@ ServesOne settings disk (Err serve.Read) read disk_now written =
 ServesOne settings disk (Err serve.Network) read disk_now written = disk_now ≡ disk
 ServesOne settings disk (Err serve.NoMemory) read disk_now written =
     ServesFirst settings disk read disk_now written
+ServesOne settings disk (Err serve.Sync) read disk_now written = Unit {0}
 ServesOne settings disk (Err serve.Write) read disk_now written = Unit {0}
 ServesOne settings disk (Err (serve.Initiator fault)) read disk_now written = ⊥
 ServesOne settings disk (Err (serve.Script line)) read disk_now written = ⊥

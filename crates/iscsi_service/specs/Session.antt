@@ -77,7 +77,7 @@ pub record ServesFirst (settings : Settings) (disk : Disk) (read : List ℕ) (di
   pub disk_is : disk_now ≡ front.disk
   pub output_is : written ≡ canon ((led settings disk read receives).answers ++ front.answers)
 
--- What a session leaves where it ends; where a write failed, nothing is stated of it.
+-- What a session leaves where it ends; where a sync or a write failed, nothing is stated of it.
 abbrev pub Serves : Settings → Disk → Result (Unit {0}) SessionFault → List ℕ → Disk → List ℕ
     → Type 0
 Serves settings disk (Ok done) read disk_now written = ServesAll settings disk read disk_now written
@@ -90,6 +90,7 @@ Serves settings disk (Err session.Read) read disk_now written =
 Serves settings disk (Err (session.Target faults.NoMemory)) read disk_now written =
     ServesFirst settings disk read disk_now written
 Serves settings disk (Err (session.Target faults.Closed)) read disk_now written = ⊥
+Serves settings disk (Err session.Sync) read disk_now written = Unit {0}
 Serves settings disk (Err session.Write) read disk_now written = Unit {0}
 
 -- The session was closed by the first PDUs of what was read, and none of them broke a rule: by a
@@ -118,8 +119,8 @@ RestFails limit (stream.Truncated place) given rest = (0 < length rest)
 RestFails limit stream.NoMemory given rest = ⊥
 RestFails limit stream.Failed given rest = ⊥
 
--- Why a session ends, by the PDUs of what was read; where memory ran out, or a write failed,
--- nothing is stated of it.
+-- Why a session ends, by the PDUs of what was read; where memory ran out, or a sync or a write
+-- failed, nothing is stated of it.
 abbrev pub EndsBy : Settings → Disk → Result (Unit {0}) SessionFault → List ℕ → Type 0
 -- it was closed, or what was read ends behind its last PDU
 EndsBy settings disk (Ok done) read = IsOver settings disk read
@@ -137,6 +138,7 @@ EndsBy settings disk (Err session.Read) read =
     (receives : Receives settings read) × GoesOnBehind settings disk read receives
     × IsBegun (limit settings) receives.rest × NoPdu (limit settings) receives.rest
 EndsBy settings disk (Err (session.Target faults.NoMemory)) read = Unit {0}
+EndsBy settings disk (Err session.Sync) read = Unit {0}
 EndsBy settings disk (Err session.Write) read = Unit {0}
 EndsBy settings disk (Err (session.Target faults.Closed)) read = ⊥
 

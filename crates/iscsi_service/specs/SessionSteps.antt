@@ -3,9 +3,11 @@
 use Rattle.std.specs.Prelude.{◌≡◌, ◌≤◌, ℕ, List, [], ◌++◌, Option, Err}
 use Rattle.std.specs.Io.KnownBytes.{Appends}
 use Rattle.iscsi_pdu.specs.Meaning.{AreBytes}
+use Rattle.iscsi_stream.specs.Normalising.{WroteFront}
 use Rattle.iscsi_target.specs.declared.fault.TargetFault.TheVariants as faults
 use Rattle.iscsi_target_session.specs.Configured.{Settings}
 use Rattle.iscsi_target.specs.Feed.{Connection, Store, FedAll, opening_connection, stream_of, scene}
+use Rattle.iscsi_target.specs.Inside.{store_of, Advances}
 use Rattle.iscsi_service.specs.Session.{HasExecuted, IsOver, EndsBy, ServesFirst}
 use Rattle.iscsi_service.specs.declared.session.SessionFault.{SessionFault}
 use Rattle.iscsi_service.specs.declared.session.SessionFault.TheVariants as session
@@ -41,6 +43,27 @@ pub record ServedUpTo (settings : Settings) (first : Store) (stream : List ℕ)
       → FedAll (scene (opening_connection settings 1) first []) pieces
       (scene now.target now.store (sent ++ now.waiting))
   pub executed : HasExecuted first.disk now.store.disk
+
+-- The store was synced, or the sync failed: no block has changed.
+pub record Syncs (before after : Store) : Type 0 where
+  pub disk : after.disk ≡ before.disk
+  pub rises : before.failures ≤ after.failures
+
+-- These bytes led a target and its store from here to there; of the failures that were counted some
+-- may be those of syncs.
+pub record Comes (old : Connection) (before : Store) (bytes : List ℕ) (new : Connection)
+    (after : Store) : Type 0 where
+  pub failures : ℕ
+  pub few : failures ≤ after.failures
+  pub advances : Advances old before bytes new (store_of after.disk failures)
+
+-- The answers that waited were not all sent: none where the sync failed, and a front of them where a
+-- write did.
+abbrev pub HoldsBack : SessionFault → Option (List ℕ) → Option (List ℕ) → List ℕ → Type 0
+HoldsBack session.Sync contents now waiting = now ≡ contents
+HoldsBack session.Write contents now waiting = WroteFront contents now waiting
+HoldsBack session.Read contents now waiting = ⊥
+HoldsBack (session.Target fault) contents now waiting = ⊥
 
 -- What was served up to here is served with these bytes more.
 abbrev pub Goes : Service → List ℕ → Service → Type 0
@@ -90,4 +113,5 @@ Breaks old bytes (session.Target (faults.Protocol rule)) new =
     Goes old bytes new × Tells old bytes (session.Target (faults.Protocol rule)) new.store
 Breaks old bytes (session.Target faults.Closed) new = ⊥
 Breaks old bytes session.Read new = ⊥
+Breaks old bytes session.Sync new = Loses old new
 Breaks old bytes session.Write new = Loses old new

@@ -4,7 +4,6 @@
 
 mod carrier;
 mod command;
-mod held_answers;
 mod looping;
 mod report;
 mod script;

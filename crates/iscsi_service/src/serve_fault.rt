@@ -31,6 +31,9 @@ pub enum ServeFault {
     /// A read failed, or there were 16,777,216 of them.
     #[error("read failed")]
     Read,
+    /// What was written to the store could not be made to last.
+    #[error("sync failed")]
+    Sync,
     /// A write failed, or took no byte.
     #[error("write failed")]
     Write,
@@ -38,14 +41,14 @@ pub enum ServeFault {
 
 impl ServeFault {
     /// The exit status of the fault: 1 where what came is refused, 3 for memory, 4 for reading,
-    /// writing and the network.
+    /// writing, a sync and the network.
     pub fn status(&self) -> u8
         ensures status { result ≡ exit_status self.now }
     {
         match self {
             ServeFault::Target(_) | ServeFault::Initiator(_) | ServeFault::Script(_) => 1,
             ServeFault::NoMemory => 3,
-            ServeFault::Network | ServeFault::Read | ServeFault::Write => 4,
+            ServeFault::Network | ServeFault::Read | ServeFault::Sync | ServeFault::Write => 4,
         }
     }
 }
@@ -99,6 +102,7 @@ impl From<SessionFault> for ServeFault {
         match fault {
             SessionFault::Target(fault) => ServeFault::from(fault),
             SessionFault::Read => ServeFault::Read,
+            SessionFault::Sync => ServeFault::Sync,
             SessionFault::Write => ServeFault::Write,
         }
     }

@@ -1,32 +1,33 @@
 //! A target's service on a socket: one connection after another, over one store.
 
-ghost use Rattle.std.specs.Prelude.{◌≡◌, ◌⊎◌, ℕ, List, IfErr};
+ghost use Rattle.std.specs.Prelude.{◌≡◌, ◌≢◌, ◌⊎◌, ◌<◌, ℕ, List, true, length, Err, IfOk, IfErr};
 ghost use Rattle.iscsi_service.specs.Session.{HasExecuted};
 ghost use Rattle.iscsi_service.specs.Serving.{ServesOne, EndsService};
 
-use crate::held_answers::{HeldAnswers, Requests};
 use crate::serve_fault::ServeFault;
-use crate::session::{configuration, serve_stream};
+use crate::session::{configuration, serve_reads};
 use iscsi_target::Config;
 use scsi_disk::BlockStore;
-use std::alloc::Global;
-use std::io::BufReader;
-use std::net::{Ipv4Addr, TcpListener};
+use std::alloc::{AllocError, Global};
+use std::io::{self, Write};
+use std::net::{Ipv4Addr, TcpListener, TcpStream};
 
 /// The most bytes that are read from a socket at a time.
-const READ_AHEAD: usize = 65_536;
+const LONGEST_READ: usize = 1_048_576;
 
 /// Accepts one connection and runs a target's session over it, with first StatSN 1. The session's
 /// memory goes with it; the store stays.
 ///
-/// Answers of fewer than 4,096 bytes wait until all that was read of the connection is taken.
+/// What comes is read in pieces of at most 1,048,576 bytes, and the answers to a piece leave
+/// together, as soon as more than 65,536 bytes of them wait and at its end: the store is synced once
+/// for all of them, before they leave.
 ///
 /// A session that is closed, by a logout or a refused login, and a connection that ends between two
-/// PDUs are no fault. `Network` is answered where no connection is accepted, or the system has no
-/// second handle for it; `Target` where the target refuses what its initiator sent or the connection
-/// ends within a PDU, after the answers that were due; `Read` where a read from the connection fails
-/// or 16,777,216 of them did not reach its end; `Write` where a write to it fails; and `NoMemory`
-/// where memory runs out.
+/// PDUs are no fault. `Network` is answered where no connection is accepted; `Target` where the
+/// target refuses what its initiator sent or the connection ends within a PDU, after the answers that
+/// were due; `Read` where a read from the connection fails or 16,777,216 of them did not reach its
+/// end; `Sync` where a sync of the store fails, and the answers that waited for it are not sent;
+/// `Write` where a write to the connection fails; and `NoMemory` where memory runs out.
 ///
 /// The session is that of RFC 7143, sections 6 and 11; that it has a connection of its own is own
 /// rule.
@@ -43,28 +44,50 @@ pub fn serve_one<S: BlockStore>(
         → ServesOne config (S.disk store.old) result read (S.disk store.new) written) }
     // Whatever comes of it, the blocks are those that commands left.
     ensures blocks { HasExecuted (S.disk store.old) (S.disk store.new) }
+    // The store is synced, whatever comes of it but a sync that failed.
+    ensures synced { S.synced store.old ≡ true → result ≢ Err ServeFault.Sync
+        → S.synced store.new ≡ true }
 {
     let Ok((stream, _)) = listener.accept() else {
         return Err(ServeFault::Network);
     };
-    let Ok(writer) = stream.try_clone() else {
-        return Err(ServeFault::Network);
-    };
-    let Ok(answers) = HeldAnswers::new(alloc, writer) else {
-        return Err(ServeFault::NoMemory);
-    };
-    let Ok(reader) = BufReader::with_capacity(alloc, READ_AHEAD, &stream) else {
-        return Err(ServeFault::NoMemory);
-    };
-    let mut requests = Requests {
-        reader,
-        answers: &answers,
-    };
-    let outcome = serve_stream(alloc, config, store, &mut requests, &mut &answers);
-    answers.flush().map_err(|_| ServeFault::Write)?;
-    match outcome {
+    let mut buffer = read_buffer(alloc, LONGEST_READ)?;
+    let mut answers = Answers { stream: &stream };
+    match serve_reads(
+        alloc,
+        config,
+        store,
+        &mut &stream,
+        &mut answers,
+        &mut buffer,
+    ) {
         Ok(()) => Ok(()),
         Err(fault) => Err(ServeFault::from(fault)),
+    }
+}
+
+// Room for so many bytes of a read.
+fn read_buffer(alloc: Global, size: usize) -> Result<Vec<u8>, AllocError>
+    requires some { 0 < size }
+    ensures some { IfOk result (λ buffer. 0 < length buffer.items) }
+{
+    vec![in alloc; 0u8; size]
+}
+
+// Where the answers go. A send that a signal interrupted is tried again.
+#[derive(Drop)]
+struct Answers<'a> {
+    stream: &'a TcpStream,
+}
+
+impl Write for Answers<'_> {
+    fn write(&mut self, buf: &[u8]) -> io::Result<usize> {
+        self.stream.write_all(buf)?;
+        Ok(buf.len())
+    }
+
+    fn flush(&mut self) -> io::Result<()> {
+        self.stream.flush()
     }
 }
 

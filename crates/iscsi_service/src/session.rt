@@ -1,18 +1,17 @@
 //! A target's session over a stream (RFC 7143, sections 6 and 11).
 
-ghost use Rattle.std.specs.Prelude.{◌≡◌, ◌≤◌, ◌<◌, ℕ, List, [], true, false, length, take, Ok, IfOk, IfErr, OnOk};
+ghost use Rattle.std.specs.Prelude.{◌≡◌, ◌≢◌, ◌≤◌, ◌<◌, ℕ, List, [], true, false, length, take, Ok, Err, IfOk, IfErr, OnOk};
 ghost use Rattle.std.specs.Io.KnownBytes.{Appends, Consumes};
-ghost use Rattle.scsi_disk.specs.Lasting.{Settled};
+ghost use Rattle.scsi_disk.specs.Lasting.{Lasts, Within};
 ghost use Rattle.iscsi_pdu.specs.Meaning.{AreBytes};
 ghost use Rattle.iscsi_login.specs.Negotiation.{IsInRange};
 ghost use Rattle.iscsi_login.specs.Stage.{is_closed_phase};
-ghost use Rattle.iscsi_stream.specs.Normalising.{WroteFront};
 ghost use Rattle.iscsi_target.specs.Machine.{is_closed};
 ghost use Rattle.iscsi_target.specs.Feed.{opening_connection};
 ghost use Rattle.iscsi_target.specs.Crash.{CrashesFed};
-ghost use Rattle.iscsi_target.specs.Inside.{store_of, Advances};
+ghost use Rattle.iscsi_target.specs.Inside.{store_of};
 ghost use Rattle.iscsi_service.specs.Session.{target_settings, EndsBy, EndsWell, HasExecuted, Serves};
-ghost use Rattle.iscsi_service.specs.SessionSteps.{Goes, ClosesBy, Breaks, service};
+ghost use Rattle.iscsi_service.specs.SessionSteps.{Goes, ClosesBy, Breaks, Comes, HoldsBack, Syncs, service};
 
 use iscsi_login::{Phase, Preferences};
 use iscsi_stream::{PIECE, READS, write_fully};
@@ -51,6 +50,10 @@ pub enum SessionFault {
     /// A read failed, or there were 16,777,216 of them.
     #[error("read failed")]
     Read,
+    /// What was written to the store could not be made to last. The answers that waited were not
+    /// sent.
+    #[error("sync failed")]
+    Sync,
     /// A write failed, or took no byte.
     #[error("write failed")]
     Write,
@@ -58,17 +61,19 @@ pub enum SessionFault {
 
 /// Runs the session of a target with a store over a stream: takes what a reader returns, in reads
 /// of at most 4,096 bytes, and writes the answers, as soon as more than 65,536 bytes of them wait
-/// and at the end of each read. It stops where the session is closed, by a logout or a refused
-/// login, and where the stream ends.
+/// and at the end of each read. Before answers are written the store is synced, once for all of
+/// them. It stops where the session is closed, by a logout or a refused login, and where the stream
+/// ends.
 ///
 /// Where the store counted no failure, what is written are the answers to all PDUs of what was read,
-/// and the store has the blocks that they leave; when out of memory those of some first PDUs, whole, and of some first tasks of the
-/// next one. Of a failed write nothing is said. Answers `Ok` where the stream ends behind a PDU or
-/// the session was closed and no rule broken; `Target` with the rule that the last PDU broke, or
-/// with the fault and the place of what follows the PDUs where that is refused, or begun and not
-/// whole at the end of the stream, after the answers that were due; `Read` where a read fails or
-/// 16,777,216 of them did not reach the end, and none of these faults came before; `Write` where a
-/// write fails or takes no byte.
+/// and the store has the blocks that they leave; when out of memory those of some first PDUs, whole,
+/// and of some first tasks of the next one. Of a failed sync or write nothing is said, but that
+/// behind a failed sync no answer that waited for it is written. Answers `Ok` where the stream ends
+/// behind a PDU or the session was closed and no rule broken; `Target` with the rule that the last
+/// PDU broke, or with the fault and the place of what follows the PDUs where that is refused, or
+/// begun and not whole at the end of the stream, after the answers that were due; `Read` where a
+/// read fails or 16,777,216 of them did not reach the end, and none of these faults came before;
+/// `Sync` where a sync of the store fails; `Write` where a write fails or takes no byte.
 ///
 /// The session is that of RFC 7143, sections 6 and 11; how it is read and written is own rule.
 pub fn serve_stream<S: BlockStore, R: Read, W: Write>(
@@ -91,16 +96,50 @@ pub fn serve_stream<S: BlockStore, R: Read, W: Write>(
         (store_of (S.disk store.new) (S.failures store.new)) (S.kept store.old) (S.kept store.new) }
     // Whatever comes of it, the blocks are those that commands left.
     ensures blocks { HasExecuted (S.disk store.old) (S.disk store.new) }
-    // A crash leaves these blocks, and no others.
-    ensures lasts { S.failures store.new ≡ 0 → Settled (S.disk store.new) (S.kept store.new) }
+    // A crash leaves these blocks, and no others, once they are synced.
+    ensures lasts { S.failures store.new ≡ 0
+        → Lasts (S.synced store.new) (S.disk store.new) (S.kept store.new) }
+    // They are, whatever comes of it but a sync that failed.
+    ensures synced { S.synced store.old ≡ true → result ≢ Err SessionFault.Sync
+        → S.synced store.new ≡ true }
+    ensures end { S.failures store.new ≡ S.failures store.old → OnOk result
+        (EndsWell config (S.disk store.old) (R.remaining r.old) (R.remaining r.new)) }
+{
+    let mut buffer = [0u8; PIECE];
+    serve_reads(alloc, config, store, r, w, &mut buffer)
+}
+
+// Runs a session as `serve_stream` does, in reads of at most as many bytes as the buffer has.
+pub(crate) fn serve_reads<S: BlockStore, R: Read, W: Write>(
+    alloc: Global,
+    config: Config,
+    store: &mut S,
+    r: &mut R,
+    w: &mut W,
+    buffer: &mut [u8],
+) -> Result<(), SessionFault>
+    requires some { 0 < length buffer.old }
+    ensures serves { (read : List ℕ) × (written : List ℕ)
+        × Consumes (R.remaining r.old) (R.remaining r.new) read
+        × Appends (W.contents w.old) (W.contents w.new) written × AreBytes written
+        × (IsInRange config.preferences → S.failures store.new ≡ S.failures store.old
+        → Serves config (S.disk store.old) result read (S.disk store.new) written
+        × EndsBy config (S.disk store.old) result read)
+        × CrashesFed (opening_connection config 1)
+        (store_of (S.disk store.old) (S.failures store.old)) read
+        (store_of (S.disk store.new) (S.failures store.new)) (S.kept store.old) (S.kept store.new) }
+    ensures blocks { HasExecuted (S.disk store.old) (S.disk store.new) }
+    ensures lasts { S.failures store.new ≡ 0
+        → Lasts (S.synced store.new) (S.disk store.new) (S.kept store.new) }
+    ensures synced { S.synced store.old ≡ true → result ≢ Err SessionFault.Sync
+        → S.synced store.new ≡ true }
     ensures end { S.failures store.new ≡ S.failures store.old → OnOk result
         (EndsWell config (S.disk store.old) (R.remaining r.old) (R.remaining r.new)) }
 {
     let mut target = Target::new(alloc, config, FIRST_STAT_SN);
     let mut out = Vec::new(alloc);
-    let mut buffer = [0u8; PIECE];
     for _ in 0..READS {
-        let n = match r.read(&mut buffer) {
+        let n = match r.read(buffer) {
             Ok(n) => n,
             Err(_) => return Err(SessionFault::Read),
         };
@@ -138,12 +177,13 @@ fn serve_piece<S: BlockStore, W: Write>(
         (service target.old (store_of (S.disk store.old) (S.failures store.old)) (W.contents w.old) [])
         piece.now fault
         (service target.new (store_of (S.disk store.new) (S.failures store.new)) (W.contents w.new) [])) }
-    ensures advances { result ≡ Ok false → Advances target.old
+    ensures advances { result ≡ Ok false → Comes target.old
         (store_of (S.disk store.old) (S.failures store.old)) piece.now target.new
         (store_of (S.disk store.new) (S.failures store.new)) }
     ensures crash { (S.failures store.old ≤ S.failures store.new) × CrashesFed target.old
         (store_of (S.disk store.old) (S.failures store.old)) piece.now
         (store_of (S.disk store.new) (S.failures store.new)) (S.kept store.old) (S.kept store.new) }
+    ensures synced { result ≢ Err SessionFault.Sync → S.synced store.new ≡ true }
 {
     out.clear();
     let mut rest = piece;
@@ -151,11 +191,11 @@ fn serve_piece<S: BlockStore, W: Write>(
         let (taken, phase) = serve_next(target, rest, store, out, w)?;
         rest = &rest[taken..];
         if is_over(phase) {
-            write_out(out, w)?;
+            write_out(store, out, w)?;
             return Ok(true);
         }
     }
-    write_out(out, w)?;
+    write_out(store, out, w)?;
     Ok(false)
 }
 
@@ -185,35 +225,48 @@ fn serve_next<S: BlockStore, W: Write>(
         (service target.old (store_of (S.disk store.old) (S.failures store.old)) (W.contents w.old) out.old.items)
         piece.now fault
         (service target.new (store_of (S.disk store.new) (S.failures store.new)) (W.contents w.new) [])) }
-    ensures advances { IfOk result (λ done. is_closed_phase done.1 ≡ false → Advances target.old
+    ensures advances { IfOk result (λ done. is_closed_phase done.1 ≡ false → Comes target.old
         (store_of (S.disk store.old) (S.failures store.old)) (take done.0 piece.now) target.new
         (store_of (S.disk store.new) (S.failures store.new))) }
     ensures crash { (S.failures store.old ≤ S.failures store.new) × CrashesFed target.old
         (store_of (S.disk store.old) (S.failures store.old)) piece.now
         (store_of (S.disk store.new) (S.failures store.new)) (S.kept store.old) (S.kept store.new) }
+    ensures synced { IfErr result (λ fault. fault ≢ SessionFault.Sync
+        → S.synced store.new ≡ true) }
 {
     match target.feed_next(piece, store, out) {
         Ok(done) => {
             if out.len() > MOST_WAITING {
-                write_out(out, w)?;
+                write_out(store, out, w)?;
             }
             Ok(done)
         }
         Err(fault) => {
-            write_out(out, w)?;
+            write_out(store, out, w)?;
             Err(SessionFault::Target(fault))
         }
     }
 }
 
-// Writes the answers that wait.
-fn write_out<W: Write>(out: &mut Vec<u8>, w: &mut W) -> Result<(), SessionFault>
+// Syncs the store, and then writes the answers that wait: none leaves before what it says lasts.
+fn write_out<S: BlockStore, W: Write>(
+    store: &mut S,
+    out: &mut Vec<u8>,
+    w: &mut W,
+) -> Result<(), SessionFault>
     ensures bytes { AreBytes out.old.items }
     ensures ok { OnOk result (Appends (W.contents w.old) (W.contents w.new) out.old.items) }
     ensures none { OnOk result (out.new.items ≡ []) }
-    ensures err { IfErr result (λ fault. (fault ≡ SessionFault.Write)
-        × WroteFront (W.contents w.old) (W.contents w.new) out.old.items) }
+    ensures err { IfErr result (λ fault.
+        HoldsBack fault (W.contents w.old) (W.contents w.new) out.old.items) }
+    ensures synced { result ≢ Err SessionFault.Sync → S.synced store.new ≡ true }
+    ensures store { Syncs (store_of (S.disk store.old) (S.failures store.old))
+        (store_of (S.disk store.new) (S.failures store.new)) }
+    ensures kept { Within (S.kept store.old) (S.kept store.new) }
 {
+    if let Err(_) = store.sync() {
+        return Err(SessionFault::Sync);
+    }
     if let Err(_) = write_fully(w, out) {
         return Err(SessionFault::Write);
     }

@@ -5,6 +5,7 @@
 mod loops;
 mod serving;
 mod streams;
+mod syncs;
 
 use std::fmt::Debug;
 use std::process::Abort;

@@ -33,6 +33,7 @@ fault_answered (session.Target (faults.Stream fault)) blocks read disk_now writt
 fault_answered (session.Target (faults.Protocol rule)) blocks read disk_now written s = (all_answered blocks read disk_now written s.0, s.1)
 fault_answered (session.Target faults.Closed) blocks read disk_now written s = absurd s.0
 fault_answered session.Read blocks read disk_now written s = (all_answered blocks read disk_now written s.0, s.1)
+fault_answered session.Sync blocks read disk_now written s = tt
 fault_answered session.Write blocks read disk_now written s = tt
 
 pub no_bytes : IsBytes []

@@ -21,6 +21,7 @@ filter_fault (session.Target (faults.Stream fault)) = tool.Stream fault
 filter_fault (session.Target (faults.Protocol rule)) = tool.Protocol rule
 filter_fault (session.Target faults.Closed) = tool.Read
 filter_fault session.Read = tool.Read
+filter_fault session.Sync = tool.Write
 filter_fault session.Write = tool.Write
 
 -- The answers of the target to all PDUs of what was read are written, of its longest prefix in the

@@ -115,7 +115,8 @@ fn finish<W: Write>(
     outcome
 }
 
-// The fault of a filter. A closed session is not fed, and its stream is read no further.
+// The fault of a filter. A closed session is not fed, and its stream is read no further. A store in
+// memory has nothing to sync.
 fn filter_fault(fault: SessionFault) -> ToolFault
     ensures fault { result ≡ filter_fault fault }
 {
@@ -124,6 +125,6 @@ fn filter_fault(fault: SessionFault) -> ToolFault
         SessionFault::Target(TargetFault::Stream(fault)) => ToolFault::Stream(fault),
         SessionFault::Target(TargetFault::Protocol(rule)) => ToolFault::Protocol(rule),
         SessionFault::Target(TargetFault::Closed) | SessionFault::Read => ToolFault::Read,
-        SessionFault::Write => ToolFault::Write,
+        SessionFault::Sync | SessionFault::Write => ToolFault::Write,
     }
 }

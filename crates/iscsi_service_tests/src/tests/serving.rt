@@ -120,7 +120,7 @@ fn no_connection_is_served(rt: HostRuntime) {
 }
 
 /// Faults, with their lines and statuses.
-const FAULTS: [(ServeFault, &str, u8); 8] = [
+const FAULTS: [(ServeFault, &str, u8); 9] = [
     (ServeFault::NoMemory, "memory", 3),
     (
         ServeFault::Target(TargetFault::Stream(StreamFault::Truncated(48))),
@@ -140,6 +140,7 @@ const FAULTS: [(ServeFault, &str, u8); 8] = [
     (ServeFault::Script(2), "script: line 2", 1),
     (ServeFault::Network, "network failed", 4),
     (ServeFault::Read, "read failed", 4),
+    (ServeFault::Sync, "sync failed", 4),
     (ServeFault::Write, "write failed", 4),
 ];
 

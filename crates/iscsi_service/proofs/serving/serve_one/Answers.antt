@@ -1,4 +1,5 @@
 use Rattle.std.proofs.Common.{[], subst}
+use Rattle.std.proofs.lemmas.Result.{err_from_is_err_and}
 use Rattle.iscsi_login.specs.Negotiation.{IsInRange}
 use Rattle.iscsi_target_session.specs.Configured.{Settings}
 use Rattle.iscsi_service.proofs.SessionEndLemmas.{none_served}
@@ -12,19 +13,16 @@ returns-clause-serves g c =
       s.0,
       s.1,
       λ h. rw c.from.ensures (fault_served c.args.config (g.S.BlockStore.disk c.args.store.now) c.in-Err.fault s.0
-          (g.S.BlockStore.disk c.serve_stream-outcome.new.store) s.1 (s.5 range h)),
+          (g.S.BlockStore.disk c.serve_reads.new.store) s.1 (s.5 range h)),
     )
 
-pub returns-in-Ok-outcome-clause-serves : goal.returns-in-Ok-outcome-clause-serves
-returns-in-Ok-outcome-clause-serves g c =
-    let s = c.in-Ok-outcome.ensures.serves in
+pub returns-in-Ok-serve_reads-clause-serves : goal.returns-in-Ok-serve_reads-clause-serves
+returns-in-Ok-serve_reads-clause-serves g c =
+    let s = c.in-Ok-serve_reads.ensures.serves in
     let range : IsInRange c.args.config.preferences = subst (λ (x : Settings). IsInRange x.preferences) c.config.view_is c.config.invariant.2 in
     (s.0, s.1, λ h. s.5 range h)
 
-pub returns-in_default-with_capacity-clause-serves : goal.returns-in_default-with_capacity-clause-serves
-returns-in_default-with_capacity-clause-serves g c =
-    ([], [], λ h. none_served c.args.config (g.S.BlockStore.disk c.args.store.now))
-
-pub returns-in_default-new-clause-serves : goal.returns-in_default-new-clause-serves
-returns-in_default-new-clause-serves g c =
-    ([], [], λ h. none_served c.args.config (g.S.BlockStore.disk c.args.store.now))
+pub returns-in_err-buffer-clause-serves : goal.returns-in_err-buffer-clause-serves
+returns-in_err-buffer-clause-serves g c =
+    let p = err_from_is_err_and c.from_residual.result c.from_residual.ensures.1 in
+    rw (p.1, p.2) ([], [], λ h. none_served c.args.config (g.S.BlockStore.disk c.args.store.now))

@@ -6,8 +6,8 @@ use Rattle.iscsi_target.specs.Feed.{Store}
 use Rattle.iscsi_target.specs.Inside.{store_of}
 use Rattle.iscsi_service.specs.SessionSteps.{Service, service}
 use Rattle.iscsi_service.proofs.SessionReadInvariant.{PieceUpTo, piece_next, piece_breaks, piece_lost, piece_done, piece_over, piece_closes}
-use Rattle.iscsi_service.proofs.SessionReadInvariant.{piece_start}
-use Rattle.iscsi_service.proofs.SessionCrashLemmas.{AdvancesUpTo, piece_begins, piece_advances, piece_advanced, piece_crashes}
+use Rattle.iscsi_service.proofs.SessionReadInvariant.{piece_start, closes_synced}
+use Rattle.iscsi_service.proofs.SessionCrashLemmas.{AdvancesUpTo, piece_begins, piece_advances, piece_advanced, piece_crashes, comes_synced, crashes_synced}
 use Rattle.iscsi_target.proofs.PassedLemmas.{crashes_none}
 use Rattle.iscsi_service.proofs.session.serve_piece.Goals as goal
 
@@ -46,8 +46,10 @@ returns-in_err-write_out-clause-err g c =
     let up : PieceUpTo old c.args.piece.now left new = piece_next old mid new c.args.piece.now c.loop-rest.rest.now c.in_ok-taken.taken c.loop-rest.invariant.1
     c.in_ok-taken.ensures.goes in
     let p = err_from_is_err_and c.from_residual-in_err-write_out.result c.from_residual-in_err-write_out.ensures.1 in
-    rw (p.1, p.2) (piece_lost old c.args.piece.now left c.serve_next.new.target after contents (g.W.Write.contents c.write_out.new.w) c.serve_next.new.out.items
-    c.in_err-write_out.field-0.0 up c.in_err-write_out.ensures.err.0 c.in_err-write_out.ensures.bytes c.in_err-write_out.ensures.err.1)
+    let last : Store = store_of (g.S.BlockStore.disk c.write_out.new.store) (g.S.BlockStore.failures c.write_out.new.store) in
+    rw (p.1, p.2) (piece_lost old c.args.piece.now left c.serve_next.new.target after last contents (g.W.Write.contents c.write_out.new.w)
+    c.serve_next.new.out.items c.in_err-write_out.field-0.0 up c.in_err-write_out.ensures.store c.in_err-write_out.ensures.bytes
+    c.in_err-write_out.ensures.err)
 
 pub returns-then-is_over-clause-goes : goal.returns-then-is_over-clause-goes
 returns-then-is_over-clause-goes g c =
@@ -62,8 +64,9 @@ returns-then-is_over-clause-goes g c =
     let up : PieceUpTo old c.args.piece.now left new = piece_next old mid new c.args.piece.now c.loop-rest.rest.now c.in_ok-taken.taken c.loop-rest.invariant.1
     c.in_ok-taken.ensures.goes in
     let over = c.in_ok-taken.ensures.closes (sym c.is_over.ensures ∙ c.if-is_over.true) in
-    piece_over old c.args.piece.now left c.serve_next.new.target after contents (g.W.Write.contents c.write_out.new.w) c.serve_next.new.out.items up over.0
-    c.in_ok-write_out.ensures.bytes c.in_ok-write_out.ensures.ok
+    let last : Store = store_of (g.S.BlockStore.disk c.write_out.new.store) (g.S.BlockStore.failures c.write_out.new.store) in
+    piece_over old c.args.piece.now left c.serve_next.new.target after last contents (g.W.Write.contents c.write_out.new.w) c.serve_next.new.out.items up over.0
+    c.in_ok-write_out.ensures.store c.in_ok-write_out.ensures.bytes c.in_ok-write_out.ensures.ok
 
 pub returns-then-is_over-clause-closes : goal.returns-then-is_over-clause-closes
 returns-then-is_over-clause-closes g c = λ _.
@@ -73,7 +76,11 @@ returns-then-is_over-clause-closes g c = λ _.
     (g.W.Write.contents c.loop-rest.w) c.loop-rest.out.items in
     let after : Store = store_of (g.S.BlockStore.disk c.serve_next.new.store) (g.S.BlockStore.failures c.serve_next.new.store) in
     let over = c.in_ok-taken.ensures.closes (sym c.is_over.ensures ∙ c.if-is_over.true) in
-    piece_closes old mid c.args.piece.now c.loop-rest.rest.now c.in_ok-taken.taken after c.loop-rest.invariant.1 over.1
+    let last : Store = store_of (g.S.BlockStore.disk c.write_out.new.store) (g.S.BlockStore.failures c.write_out.new.store) in
+    let low = c.loop-rest.invariant.3.0 in
+    let high = c.serve_next.ensures.crash.0 in
+    closes_synced old c.args.piece.now after last (omega (arith, low, high)) c.in_ok-write_out.ensures.store
+    (piece_closes old mid c.args.piece.now c.loop-rest.rest.now c.in_ok-taken.taken after c.loop-rest.invariant.1 over.1)
 
 pub loop-rest-preserved : goal.loop-rest-preserved
 loop-rest-preserved g c =
@@ -107,9 +114,10 @@ returns-in_err-write_out-2-clause-err g c =
     (g.W.Write.contents c.loop-rest.w) c.loop-rest.out.items in
     let store : Store = store_of (g.S.BlockStore.disk c.loop-rest.store) (g.S.BlockStore.failures c.loop-rest.store) in
     let p = err_from_is_err_and c.from_residual-in_err-write_out-2.result c.from_residual-in_err-write_out-2.ensures.1 in
-    rw (p.1, p.2) (piece_lost old c.args.piece.now c.loop-rest.rest.now c.loop-rest.target store (g.W.Write.contents c.loop-rest.w)
-    (g.W.Write.contents c.write_out-2.new.w) c.loop-rest.out.items c.in_err-write_out-2.field-0.0 c.loop-rest.invariant.1 c.in_err-write_out-2.ensures.err.0
-    c.in_err-write_out-2.ensures.bytes c.in_err-write_out-2.ensures.err.1)
+    let last : Store = store_of (g.S.BlockStore.disk c.write_out-2.new.store) (g.S.BlockStore.failures c.write_out-2.new.store) in
+    rw (p.1, p.2) (piece_lost old c.args.piece.now c.loop-rest.rest.now c.loop-rest.target store last (g.W.Write.contents c.loop-rest.w)
+    (g.W.Write.contents c.write_out-2.new.w) c.loop-rest.out.items c.in_err-write_out-2.field-0.0 c.loop-rest.invariant.1 c.in_err-write_out-2.ensures.store
+    c.in_err-write_out-2.ensures.bytes c.in_err-write_out-2.ensures.err)
 
 pub returns-clause-goes : goal.returns-clause-goes
 returns-clause-goes g c =
@@ -118,9 +126,11 @@ returns-clause-goes g c =
     let mid : Service = service c.loop-rest.target (store_of (g.S.BlockStore.disk c.loop-rest.store) (g.S.BlockStore.failures c.loop-rest.store))
     (g.W.Write.contents c.loop-rest.w) c.loop-rest.out.items in
     let store : Store = store_of (g.S.BlockStore.disk c.loop-rest.store) (g.S.BlockStore.failures c.loop-rest.store) in
-    piece_done old c.args.piece.now c.loop-rest.rest.now c.loop-rest.target store (g.W.Write.contents c.loop-rest.w)
+    let last : Store = store_of (g.S.BlockStore.disk c.write_out-2.new.store) (g.S.BlockStore.failures c.write_out-2.new.store) in
+    piece_done old c.args.piece.now c.loop-rest.rest.now c.loop-rest.target store last (g.W.Write.contents c.loop-rest.w)
     (g.W.Write.contents c.write_out-2.new.w) c.loop-rest.out.items c.loop-rest.invariant.1
-    (eqb-true (length c.loop-rest.rest.now) 0 (sym c.loop-rest-test.ensures)) c.in_ok-write_out-2.ensures.bytes c.in_ok-write_out-2.ensures.ok
+    (eqb-true (length c.loop-rest.rest.now) 0 (sym c.loop-rest-test.ensures)) c.in_ok-write_out-2.ensures.store c.in_ok-write_out-2.ensures.bytes
+    c.in_ok-write_out-2.ensures.ok
 
 pub returns-in_err-taken-clause-crash : goal.returns-in_err-taken-clause-crash
 returns-in_err-taken-clause-crash g c =
@@ -136,28 +146,46 @@ returns-in_err-write_out-clause-crash g c =
     let before : Store = store_of (g.S.BlockStore.disk c.args.store.now) (g.S.BlockStore.failures c.args.store.now) in
     let mid : Store = store_of (g.S.BlockStore.disk c.loop-rest.store) (g.S.BlockStore.failures c.loop-rest.store) in
     let after : Store = store_of (g.S.BlockStore.disk c.serve_next.new.store) (g.S.BlockStore.failures c.serve_next.new.store) in
-    piece_crashes c.args.target.now c.loop-rest.target before mid after c.args.piece.now c.loop-rest.rest.now (g.S.BlockStore.kept c.args.store.now)
+    let last : Store = store_of (g.S.BlockStore.disk c.write_out.new.store) (g.S.BlockStore.failures c.write_out.new.store) in
+    crashes_synced c.args.target.now before after last c.args.piece.now (g.S.BlockStore.kept c.args.store.now) (g.S.BlockStore.kept c.serve_next.new.store)
+    (g.S.BlockStore.kept c.write_out.new.store)
+    (piece_crashes c.args.target.now c.loop-rest.target before mid after c.args.piece.now c.loop-rest.rest.now (g.S.BlockStore.kept c.args.store.now)
     (g.S.BlockStore.kept c.loop-rest.store) (g.S.BlockStore.kept c.serve_next.new.store) c.loop-rest.invariant.2 c.loop-rest.invariant.3
-    c.serve_next.ensures.crash
+    c.serve_next.ensures.crash) c.in_err-write_out.ensures.store c.in_err-write_out.ensures.kept
 
 pub returns-then-is_over-clause-crash : goal.returns-then-is_over-clause-crash
 returns-then-is_over-clause-crash g c =
     let before : Store = store_of (g.S.BlockStore.disk c.args.store.now) (g.S.BlockStore.failures c.args.store.now) in
     let mid : Store = store_of (g.S.BlockStore.disk c.loop-rest.store) (g.S.BlockStore.failures c.loop-rest.store) in
     let after : Store = store_of (g.S.BlockStore.disk c.serve_next.new.store) (g.S.BlockStore.failures c.serve_next.new.store) in
-    piece_crashes c.args.target.now c.loop-rest.target before mid after c.args.piece.now c.loop-rest.rest.now (g.S.BlockStore.kept c.args.store.now)
+    let last : Store = store_of (g.S.BlockStore.disk c.write_out.new.store) (g.S.BlockStore.failures c.write_out.new.store) in
+    crashes_synced c.args.target.now before after last c.args.piece.now (g.S.BlockStore.kept c.args.store.now) (g.S.BlockStore.kept c.serve_next.new.store)
+    (g.S.BlockStore.kept c.write_out.new.store)
+    (piece_crashes c.args.target.now c.loop-rest.target before mid after c.args.piece.now c.loop-rest.rest.now (g.S.BlockStore.kept c.args.store.now)
     (g.S.BlockStore.kept c.loop-rest.store) (g.S.BlockStore.kept c.serve_next.new.store) c.loop-rest.invariant.2 c.loop-rest.invariant.3
-    c.serve_next.ensures.crash
+    c.serve_next.ensures.crash) c.in_ok-write_out.ensures.store c.in_ok-write_out.ensures.kept
 
 pub returns-in_err-write_out-2-clause-crash : goal.returns-in_err-write_out-2-clause-crash
-returns-in_err-write_out-2-clause-crash g c = c.loop-rest.invariant.3
+returns-in_err-write_out-2-clause-crash g c =
+    let before : Store = store_of (g.S.BlockStore.disk c.args.store.now) (g.S.BlockStore.failures c.args.store.now) in
+    let store : Store = store_of (g.S.BlockStore.disk c.loop-rest.store) (g.S.BlockStore.failures c.loop-rest.store) in
+    let last : Store = store_of (g.S.BlockStore.disk c.write_out-2.new.store) (g.S.BlockStore.failures c.write_out-2.new.store) in
+    crashes_synced c.args.target.now before store last c.args.piece.now (g.S.BlockStore.kept c.args.store.now) (g.S.BlockStore.kept c.loop-rest.store)
+    (g.S.BlockStore.kept c.write_out-2.new.store) c.loop-rest.invariant.3 c.in_err-write_out-2.ensures.store c.in_err-write_out-2.ensures.kept
 
 pub returns-clause-crash : goal.returns-clause-crash
-returns-clause-crash g c = c.loop-rest.invariant.3
+returns-clause-crash g c =
+    let before : Store = store_of (g.S.BlockStore.disk c.args.store.now) (g.S.BlockStore.failures c.args.store.now) in
+    let store : Store = store_of (g.S.BlockStore.disk c.loop-rest.store) (g.S.BlockStore.failures c.loop-rest.store) in
+    let last : Store = store_of (g.S.BlockStore.disk c.write_out-2.new.store) (g.S.BlockStore.failures c.write_out-2.new.store) in
+    crashes_synced c.args.target.now before store last c.args.piece.now (g.S.BlockStore.kept c.args.store.now) (g.S.BlockStore.kept c.loop-rest.store)
+    (g.S.BlockStore.kept c.write_out-2.new.store) c.loop-rest.invariant.3 c.in_ok-write_out-2.ensures.store c.in_ok-write_out-2.ensures.kept
 
 pub returns-clause-advances : goal.returns-clause-advances
 returns-clause-advances g c = λ _.
     let before : Store = store_of (g.S.BlockStore.disk c.args.store.now) (g.S.BlockStore.failures c.args.store.now) in
     let store : Store = store_of (g.S.BlockStore.disk c.loop-rest.store) (g.S.BlockStore.failures c.loop-rest.store) in
-    piece_advanced c.args.target.now c.loop-rest.target before store c.args.piece.now c.loop-rest.rest.now c.loop-rest.invariant.2
-    (eqb-true (length c.loop-rest.rest.now) 0 (sym c.loop-rest-test.ensures))
+    let last : Store = store_of (g.S.BlockStore.disk c.write_out-2.new.store) (g.S.BlockStore.failures c.write_out-2.new.store) in
+    comes_synced c.args.target.now c.loop-rest.target before store last c.args.piece.now
+    (piece_advanced c.args.target.now c.loop-rest.target before store c.args.piece.now c.loop-rest.rest.now c.loop-rest.invariant.2
+    (eqb-true (length c.loop-rest.rest.now) 0 (sym c.loop-rest-test.ensures))) c.in_ok-write_out-2.ensures.store

@@ -1,9 +1,9 @@
-use Rattle.std.proofs.Common.{◌≡◌, false}
+use Rattle.std.proofs.Common.{◌≡◌, true, false}
 use Rattle.iscsi_target.specs.Machine.{is_closed}
 use Rattle.iscsi_target.specs.Inside.{store_of}
 use Rattle.iscsi_service.proofs.SessionReadInvariant.{outside}
 use Rattle.iscsi_service.proofs.SessionCrashLemmas.{SessionUpTo}
-use Rattle.iscsi_service.proofs.session.serve_stream.Given as goal
+use Rattle.iscsi_service.proofs.session.serve_reads.Given as goal
 
 abbrev pub invariant-loop : goal.invariant-loop
 invariant-loop g l =
@@ -12,3 +12,4 @@ invariant-loop g l =
     (g.W.Write.contents l.initial.w)) l.target
     (outside (store_of (g.S.BlockStore.disk l.store) (g.S.BlockStore.failures l.store)) (g.R.Read.remaining l.r) (g.W.Write.contents l.w))
     (g.S.BlockStore.kept l.initial.store) (g.S.BlockStore.kept l.store)
+    × (g.S.BlockStore.synced l.initial.store ≡ true → g.S.BlockStore.synced l.store ≡ true)

@@ -6,7 +6,7 @@ use Rattle.iscsi_target.specs.Inside.{store_of}
 use Rattle.iscsi_service.proofs.SessionReadInvariant.{read_stops, reads_stop, end_stops, over_stops, finish_stops, read_more, fault_stops}
 use Rattle.iscsi_service.proofs.SessionReadInvariant.{fault_executed, over_ends, ok_is, ok_open, outside, ReadUpTo}
 use Rattle.iscsi_service.proofs.SessionCrashLemmas.{session_start, session_crashes, session_more}
-use Rattle.iscsi_service.proofs.session.serve_stream.Goals as goal
+use Rattle.iscsi_service.proofs.session.serve_reads.Goals as goal
 
 pub loop-init : goal.loop-init
 loop-init g c =
@@ -14,6 +14,7 @@ loop-init g c =
       refl,
       session_start c.args.config (store_of (g.S.BlockStore.disk c.args.store.now) (g.S.BlockStore.failures c.args.store.now))
           (g.R.Read.remaining c.args.r.now) (g.W.Write.contents c.args.w.now) (g.S.BlockStore.kept c.args.store.now),
+      λ synced. synced,
     )
 
 pub returns-in-Err-clause-serves : goal.returns-in-Err-clause-serves
@@ -160,6 +161,7 @@ loop-preserved g c =
       session_more c.args.config first c.loop.target c.serve_piece.new.target store after r0 r1 r2 w0 w1 w2 (g.S.BlockStore.kept c.args.store.now)
           (g.S.BlockStore.kept c.loop.store) (g.S.BlockStore.kept c.serve_piece.new.store) piece c.loop.invariant.1 c.in-Ok.ensures.bytes.0
           c.in_ok-serve_piece.ensures.goes (c.serve_piece.ensures.advances open_) c.serve_piece.ensures.crash,
+      λ synced. c.in_ok-serve_piece.ensures.synced (λ e. cc),
     )
 
 pub returns-clause-serves : goal.returns-clause-serves
@@ -184,3 +186,14 @@ returns-in_err-serve_piece-clause-lasts g c = g.met.S.BlockStore.lasts c.serve_p
 
 pub returns-then-branch-clause-lasts : goal.returns-then-branch-clause-lasts
 returns-then-branch-clause-lasts g c = g.met.S.BlockStore.lasts c.serve_piece.new.store
+
+pub returns-then-n-eq0-clause-lasts : goal.returns-then-n-eq0-clause-lasts
+returns-then-n-eq0-clause-lasts g c = g.met.S.BlockStore.lasts c.loop.store
+
+pub returns-clause-lasts : goal.returns-clause-lasts
+returns-clause-lasts g c = g.met.S.BlockStore.lasts c.loop.store
+
+pub returns-in_err-serve_piece-clause-synced : goal.returns-in_err-serve_piece-clause-synced
+returns-in_err-serve_piece-clause-synced g c =
+    let p = err_from_is_err_and c.from_residual.result c.from_residual.ensures.1 in
+    rw (p.1, p.2) (λ synced other. c.in_err-serve_piece.ensures.synced (λ e. other cc))
