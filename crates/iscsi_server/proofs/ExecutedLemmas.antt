@@ -1,5 +1,5 @@
 -- The blocks of a service are those that commands left.
-use Rattle.std.proofs.Common.{ℕ, List, [], ◌∷◌, refl, Result}
+use Rattle.std.proofs.Common.{◌≡◌, ℕ, List, [], ◌∷◌, refl, sym, subst, Result}
 use Rattle.scsi_disk.specs.Disk.{Disk}
 use Rattle.iscsi_target.specs.declared.fault.TargetFault.{TargetFault}
 use Rattle.iscsi_target.specs.Feed.{Store}
@@ -16,6 +16,10 @@ nothing_executed disk = refl
 -- no command
 pub none_executed : (disk : Disk) → HasExecuted disk disk
 none_executed disk = ([], nothing_executed disk)
+
+-- no command, on a disk that is as it was
+pub unchanged_executed : (before after : Disk) → after ≡ before → HasExecuted before after
+unchanged_executed before after same = subst (HasExecuted before) (sym same) (none_executed before)
 
 -- a turn of a seat
 pub turn_executed : (seat : ℕ) (old new : Hall) (before after : Store) (result : Result ℕ TargetFault)

@@ -131,6 +131,7 @@ impl Peer {
     }
 
     // Writes what the connection takes, once the store is synced.
+    #[tactic(auto, using(crate::proofs::ExecutedLemmas::unchanged_executed))]
     fn write<S: BlockStore>(
         &mut self,
         hall: &mut Hall,
@@ -139,7 +140,7 @@ impl Peer {
         now: Instant,
     ) -> Step
         requires some { 0 < length (waiting_at (seat_at hall.old seat)) }
-        ensures disk { S.disk store.new ≡ S.disk store.old }
+        ensures blocks { HasExecuted (S.disk store.old) (S.disk store.new) }
         ensures seats { length hall.new.seats ≡ length hall.old.seats }
     {
         if !self.connection.is_writable() {

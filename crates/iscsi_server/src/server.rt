@@ -235,6 +235,9 @@ impl<'a> Server<'a> {
         if !watch(&self.poll, &mut stream, seat) {
             return Err(ServeFault::Network);
         }
+        // Answers are not to wait for those before them to be acknowledged; where that can't be had
+        // they do.
+        let _ = stream.set_nodelay(true);
         if let Some(place) = self.peers.get_mut(seat) {
             *place = Some(Peer::new(Connection::new(stream, now)));
         }

@@ -51,6 +51,9 @@ pub fn serve_one<S: BlockStore>(
     let Ok((stream, _)) = listener.accept() else {
         return Err(ServeFault::Network);
     };
+    // Answers are not to wait for those before them to be acknowledged. Where that can't be had they
+    // do, and all else is as it is.
+    let _ = stream.set_nodelay(true);
     let mut buffer = read_buffer(alloc, LONGEST_READ)?;
     let mut answers = Answers { stream: &stream };
     match serve_reads(
