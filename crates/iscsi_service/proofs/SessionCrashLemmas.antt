@@ -1,7 +1,7 @@
 -- What a crash leaves of a session's blocks, from read to read.
 use Rattle.std.proofs.Common.{◌≡◌, ◌≤◌, ◌+◌, ◌-◌, inl, inr, ℕ, Bool, true, false, List, [], ◌∷◌, ◌++◌, length, take, drop, Option, refl, sym, ap, subst}
 use Rattle.std.proofs.Common.{◌∙◌, arith, append-nil}
-use Rattle.std.specs.Prelude.{Result, Ok, Err}
+use Rattle.std.specs.Prelude.{Result, Ok}
 use Rattle.std.specs.Io.KnownBytes.{Consumes}
 use Rattle.std.proofs.KnownBytes.{Consumes-nil, Consumes-trans}
 use Rattle.scsi_disk.specs.Disk.{Disk}
@@ -14,14 +14,14 @@ use Rattle.iscsi_target.specs.declared.fault.TargetFault.{TargetFault}
 use Rattle.iscsi_target_session.specs.Configured.{Settings}
 use Rattle.iscsi_target.specs.Execution.{Device, device_next}
 use Rattle.iscsi_target.specs.State.{Execution, Machine, Stepped}
-use Rattle.iscsi_target.specs.Machine.{MayAnswer, RunsIn, is_closed}
+use Rattle.iscsi_target.specs.Machine.{MayAnswer, RunsIn}
 use Rattle.iscsi_target.specs.Feed.{Connection, Store, FedNext, FedNextIf, opening_connection, scene}
 use Rattle.iscsi_target.specs.Crash.{CrashesFed, CrashesNext, IsPassed}
 use Rattle.iscsi_target.specs.Inside.{Advances, store_of}
 use Rattle.iscsi_target.proofs.PassedLemmas.{no_advance, advances_then, feeds_advance, crashes_none, crashes_next, crashes_more, crashes_then, passed_more}
 use Rattle.iscsi_target.proofs.ServingLemmas.{runs_rise}
 use Rattle.iscsi_service.specs.SessionSteps.{service, Goes, Comes, Syncs}
-use Rattle.iscsi_service.proofs.SessionReadInvariant.{Outside, outside, ReadUpTo, at_start, next_rises, next_is, next_is_open}
+use Rattle.iscsi_service.proofs.SessionReadInvariant.{Outside, outside, ReadUpTo, at_start, next_rises, next_is_open}
 
 -- ---- failures that a sync counts
 
