@@ -209,8 +209,8 @@ impl Hall {
     }
 
     /// What the seat's session has still to write, once the store is synced: so no peer is told of a
-    /// write that a crash could take back. The fault is that of the sync; then nothing may be
-    /// written.
+    /// write that a crash could take back. The fault is that of the sync; then what waits at any
+    /// seat may tell of a write that is lost, so that all of them are to be left.
     pub fn offered<S: BlockStore>(&self, seat: usize, store: &mut S) -> Result<&[u8], StoreFault>
         ensures waiting { IfOk result
             (λ bytes. bytes.now ≡ waiting_at (seat_at self.now seat)) }

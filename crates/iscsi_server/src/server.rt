@@ -280,6 +280,9 @@ impl<'a> Server<'a> {
         if is_over {
             let end = peer.end;
             self.dismiss(rt, seat, end);
+            if end == Some(SessionEnd::Sync) {
+                self.dismiss_all(rt);
+            }
         } else if was != self.hall.phase(seat) {
             self.end_older(rt, seat);
         }
@@ -293,6 +296,20 @@ impl<'a> Server<'a> {
     {
         if let Some(older) = self.hall.taken_over(seat) {
             self.dismiss(rt, older, Some(SessionEnd::TakenOver));
+        }
+    }
+
+    // Ends all sessions, where a sync failed: what waits to be written at a seat may tell of a write
+    // that is lost.
+    fn dismiss_all(&mut self, rt: &HostRuntime)
+        ensures seats { length self.new.hall.seats ≡ length self.old.hall.seats }
+        ensures sessions { self.new.sessions ≡ self.old.sessions }
+        ensures accepted { self.new.accepted ≡ self.old.accepted }
+    {
+        for seat in 0..self.peers.len() {
+            if let Some(Some(_)) = self.peers.get(seat) {
+                self.dismiss(rt, seat, Some(SessionEnd::Sync));
+            }
         }
     }
 

@@ -48,7 +48,7 @@ pub trait BlockStore {
     /// What each block may be after a crash at this moment.
     ghost kept: { Self → ℕ → List ℕ → Type 0 };
 
-    /// No write has to be synced to last.
+    /// No write waits for a sync to last.
     ghost synced: { Self → Bool } = { λ _. true };
 
     /// How many blocks there are: at least 1, and always as many.
@@ -97,7 +97,8 @@ pub trait BlockStore {
         ensures tells { Tells (disk self.old).tells (failures self.old) (failures self.new)
             (untold self.old) (untold self.new) result };
 
-    /// Makes all that was written last. `Device` comes as it does of a read. No block changes.
+    /// Makes all that was written last. `Device` comes as it does of a read; then what was written
+    /// since the last sync may be lost, and nobody may be told that it was done. No block changes.
     fn sync(&mut self) -> Result<(), StoreFault>
         ensures synced { OnOk result (synced self.new ≡ true) }
         ensures disk { disk self.new ≡ disk self.old }

@@ -10,16 +10,17 @@ use scsi_disk::{BlockStore, StoreFault};
 /// A store on a medium: what was written lasts once it is synced.
 ///
 /// A sync asks the medium only where something was written since the last one, so one of them
-/// serves several writes. After a sync that failed the medium is asked nothing more, and each call
-/// fails, since what was written may be lost with no further error.
+/// serves several writes. It tells once that it failed. Behind that the medium is asked nothing
+/// more, and each read and write fails, since what was written may be lost with no further error.
 #[derive(Drop)]
 pub struct FileStore<M: Medium> {
     medium: M,
     failed: u64,
     broken: bool,
-    // nothing was written since the last sync
+    // nothing was written since the last sync, or that one failed
     synced: bool,
     ghost sound: { broken ≡ false → IsTrue (M.Medium.usable medium) },
+    ghost quiet: { broken ≡ true → synced ≡ true },
     ghost lasts: { failed + M.Medium.untold medium ≡ 0
         → Lasts synced (M.Medium.seen medium) (M.Medium.kept medium) },
 }
@@ -126,14 +127,12 @@ impl<M: Medium> BlockStore for FileStore<M> {
         if self.failed == u64::MAX {
             return Err(StoreFault::NoMemory);
         }
-        if self.broken {
-            return Err(fail(&mut self.failed));
-        }
+        // A write whose sync fails may be lost, and waits for none any more.
+        self.synced = true;
         if self.medium.sync().is_err() {
             self.broken = true;
             return Err(fail(&mut self.failed));
         }
-        self.synced = true;
         Ok(())
     }
 }
