@@ -4,3 +4,4 @@ pub mod PlanLemmas
 pub mod SparseLemmas
 pub mod RunLemmas
 pub mod AnsweredLemmas
+pub mod AppendLemmas

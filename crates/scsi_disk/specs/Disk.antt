@@ -29,6 +29,12 @@ joined block first (suc count) = block first ++ joined block (first + 1) count
 abbrev pub blocks_from : Disk → ℕ → ℕ → List ℕ
 blocks_from disk first count = joined disk.block first count
 
+-- so many bytes were appended
+pub record Appends (count : ℕ) (old new : List ℕ) : Type 0 where
+  pub bytes : List ℕ
+  pub size : length bytes ≡ count
+  pub behind : new ≡ old ++ bytes
+
 -- blocks of a size, with these bytes in those from the first on
 unfoldable pub overlaid : ℕ → ℕ → List ℕ → (ℕ → List ℕ) → ℕ → List ℕ
 overlaid size first bytes block n =

@@ -1,6 +1,6 @@
 //! A store that keeps each block in memory.
 
-ghost use Rattle.std.specs.Prelude.{◌≡◌, refl, ◌+◌, ◌*◌, ◌/◌, ◌%◌, ◌^◌, ◌<◌, ◌≤◌, length, IsOk, IfOk};
+ghost use Rattle.std.specs.Prelude.{◌≡◌, refl, ◌+◌, ◌*◌, ◌/◌, ◌%◌, ◌^◌, ◌<◌, ◌≤◌, ◌++◌, length, IsOk, IfOk, OnOk, OnErr};
 ghost use Rattle.scsi_disk.specs.Disk.{joined, overlaid, cut, zeros, disk_of, blocks_from, written};
 
 use crate::store::{BlockStore, StoreFault};
@@ -15,6 +15,22 @@ pub fn read_blocks(bytes: &[u8], lba: usize, out: &mut [u8])
 {
     let first = 512 * lba;
     out.copy_from_slice(&bytes[first..first + out.len()]);
+}
+
+/// Appends so many blocks of some bytes, from block `lba` on, or leaves `out` as it was.
+pub(crate) fn append_blocks(
+    bytes: &[u8],
+    lba: usize,
+    blocks: usize,
+    out: &mut Vec<u8>,
+) -> Result<(), AllocError>
+    requires { 512 * lba + 512 * blocks ≤ length bytes.now }
+    ensures ok { OnOk result
+        (out.new.items ≡ out.old.items ++ joined (cut 512 bytes.now) lba blocks) }
+    ensures err { OnErr result (out.new.items ≡ out.old.items) }
+{
+    let first = 512 * lba;
+    out.extend_from_slice(&bytes[first..first + 512 * blocks])
 }
 
 /// Writes whole blocks of some bytes, from block `lba` on.
@@ -83,6 +99,11 @@ impl BlockStore for MemoryStore {
         ensures disk { disk_of self.new ≡ disk_of self.old }
     {
         read_blocks(&self.bytes, lba as usize, out);
+        Ok(())
+    }
+
+    fn read_onto(&mut self, lba: u64, blocks: u32, out: &mut Vec<u8>) -> Result<(), StoreFault> {
+        append_blocks(&self.bytes, lba as usize, blocks as usize, out)?;
         Ok(())
     }
 

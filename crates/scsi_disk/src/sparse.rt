@@ -1,12 +1,12 @@
 //! A store that keeps only what was written.
 
-ghost use Rattle.std.specs.Prelude.{◌≡◌, refl, ◌+◌, ◌*◌, ◌/◌, ◌%◌, ◌^◌, ◌<◌, ◌≤◌, length, ℕ, true, IsOk, IfOk, IsSome, OnOk, IsErrOf};
+ghost use Rattle.std.specs.Prelude.{◌≡◌, refl, ◌+◌, ◌*◌, ◌/◌, ◌%◌, ◌^◌, ◌<◌, ◌≤◌, ◌++◌, length, take, ℕ, true, IsOk, IfOk, IsSome, OnOk, OnErr, IsErrOf};
 ghost use Rattle.std.specs.FinMap.{get};
 ghost use Rattle.scsi_disk.specs.Disk.{Disk, most_blocks, zeros, blocks_from, written, cut, overlaid};
 ghost use Rattle.scsi_disk.specs.Lasting.{Within};
 ghost use Rattle.scsi_disk.specs.Sparse.{disk_in, IsBlank, HasBlocks};
 
-use crate::memory::{read_blocks, write_blocks};
+use crate::memory::{append_blocks, read_blocks, write_blocks};
 use crate::store::{BlockStore, StoreFault};
 use std::alloc::{AllocError, Global};
 use std::collections::BTreeMap;
@@ -108,6 +108,42 @@ impl SparseStore {
             Some(extent) => read_blocks(&extent.bytes, (n % EXTENT_BLOCKS) as usize, out),
             None => out.fill(0),
         }
+    }
+
+    /// Appends blocks that lie in one extent, or leaves `out` as it was.
+    fn append_run(&self, n: u64, blocks: usize, out: &mut Vec<u8>) -> Result<(), AllocError>
+        requires one { n % 64 + blocks ≤ 64 }
+        requires inside { n + blocks ≤ self.now.count }
+        ensures ok { OnOk result
+            (out.new.items ≡ out.old.items ++ blocks_from (disk_in self.now) n blocks) }
+        ensures err { OnErr result (out.new.items ≡ out.old.items) }
+    {
+        match self.extents.get(&(n / EXTENT_BLOCKS)) {
+            Some(extent) => {
+                append_blocks(&extent.bytes, (n % EXTENT_BLOCKS) as usize, blocks, out)
+            }
+            None => out.resize(out.len() + 512 * blocks, 0),
+        }
+    }
+
+    /// Appends blocks, of which a front may stand where memory ran out.
+    fn append_all(&self, first: u64, count: u32, out: &mut Vec<u8>) -> Result<(), AllocError>
+        requires { first + count ≤ self.now.count }
+        ensures ok { OnOk result
+            (out.new.items ≡ out.old.items ++ blocks_from (disk_in self.now) first count) }
+        ensures front { take (length out.old.items) out.new.items ≡ out.old.items }
+    {
+        prove!(first <= self.blocks);
+        let blocks = count as usize;
+        out.reserve(512 * blocks)?;
+        let mut done = 0;
+        while done < blocks {
+            let n = first + done as u64;
+            let run = run_length(n, blocks - done);
+            self.append_run(n, run, out)?;
+            done += run;
+        }
+        Ok(())
     }
 
     /// Makes room for an extent. Nothing is seen of it.
@@ -230,6 +266,16 @@ impl BlockStore for SparseStore {
             let end = done + run_length(n, blocks - done);
             self.read_run(n, &mut out[512 * done..512 * end]);
             done = end;
+        }
+        Ok(())
+    }
+
+    fn read_onto(&mut self, lba: u64, blocks: u32, out: &mut Vec<u8>) -> Result<(), StoreFault> {
+        prove!(lba <= self.blocks);
+        let start = out.len();
+        if self.append_all(lba, blocks, out).is_err() {
+            out.truncate(start);
+            return Err(StoreFault::NoMemory);
         }
         Ok(())
     }

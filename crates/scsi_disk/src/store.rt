@@ -1,7 +1,7 @@
 //! What a store of blocks does, and how it fails.
 
-ghost use Rattle.std.specs.Prelude.{◌≡◌, ℕ, List, Bool, true, ◌+◌, ◌*◌, ◌/◌, ◌%◌, ◌≤◌, length, OnOk, IsErrOf};
-ghost use Rattle.scsi_disk.specs.Disk.{Disk, IsDisk, blocks_from, written, IsOldOrNew, Tells};
+ghost use Rattle.std.specs.Prelude.{◌≡◌, ℕ, List, Bool, true, ◌+◌, ◌*◌, ◌/◌, ◌%◌, ◌≤◌, ◌++◌, length, OnOk, OnErr, IsErrOf};
+ghost use Rattle.scsi_disk.specs.Disk.{Disk, IsDisk, Appends, blocks_from, written, IsOldOrNew, Tells};
 ghost use Rattle.scsi_disk.specs.Lasting.{Adds, Lasts, Within};
 
 use std::alloc::AllocError;
@@ -75,6 +75,34 @@ pub trait BlockStore {
             → Lasts (synced self.new) (disk self.new) (kept self.new) }
         ensures tells { Tells (disk self.old).tells (failures self.old) (failures self.new)
             (untold self.old) (untold self.new) result };
+
+    /// Appends so many whole blocks, from block `lba` on, to `out`. They lie inside the store. After
+    /// an error `out` is as it was: `NoMemory` may also say that it could not grow, and `Device` comes
+    /// as it does of a read. No block changes.
+    ///
+    /// A store that has its blocks in memory copies them once.
+    fn read_onto(&mut self, lba: u64, blocks: u32, out: &mut Vec<u8>) -> Result<(), StoreFault>
+        requires inside { lba + blocks ≤ (disk self.old).count }
+        ensures ok { OnOk result (failures self.new ≡ failures self.old
+            → out.new.items ≡ out.old.items ++ blocks_from (disk self.old) lba blocks) }
+        ensures appends { OnOk result (Appends (512 * blocks) out.old.items out.new.items) }
+        ensures err { OnErr result (out.new.items ≡ out.old.items) }
+        ensures disk { disk self.new ≡ disk self.old }
+        ensures kept { Within (kept self.old) (kept self.new) }
+        ensures lasts { failures self.new ≡ failures self.old
+            → Lasts (synced self.old) (disk self.old) (kept self.old)
+            → Lasts (synced self.new) (disk self.new) (kept self.new) }
+        ensures tells { Tells (disk self.old).tells (failures self.old) (failures self.new)
+            (untold self.old) (untold self.new) result }
+    {
+        let start = out.len();
+        out.resize(start + 512 * blocks as usize, 0)?;
+        let answer = self.read(lba, &mut out[start..]);
+        if answer.is_err() {
+            out.truncate(start);
+        }
+        answer
+    }
 
     /// Writes whole blocks, from block `lba` on. They lie inside the store.
     ///
