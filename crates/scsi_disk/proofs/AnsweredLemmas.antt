@@ -15,12 +15,12 @@ use Rattle.scsi_disk.specs.Plan.{is_read, plan_of, transfer}
 use Rattle.scsi_disk.specs.Effect.{Effect, Executes, FailsBy, HasOtherData, effect, check, disk_by, outcome_by}
 
 -- a failure was counted and not told, so that the store does not tell each
-does_not_tell : {T : Type 0} (tells : Bool) (before after ub ua : ℕ) (result : Result T StoreFault) → Tells tells before after ub ua result → before < after
+pub does_not_tell : {T : Type 0} (tells : Bool) (before after ub ua : ℕ) (result : Result T StoreFault) → Tells tells before after ub ua result → before < after
     → (IsErrOf result Device → ⊥) → tells ≡ false
 does_not_tell true before after ub ua result t rose not = absurd (not (t.told (t.honest refl) rose))
 does_not_tell false before after ub ua result t rose not = refl
 
-not_err : {T : Type 0} (x : T) → IsErrOf (Ok x) Device → ⊥
+pub not_err : {T : Type 0} (x : T) → IsErrOf (Ok x) Device → ⊥
 not_err x e = cc
 
 module _ (before after ub ua : ℕ) (disk now : Disk) (order : Order) (bytes : List ℕ) (length : ℕ) where
@@ -30,13 +30,13 @@ module _ (before after ub ua : ℕ) (disk now : Disk) (order : Order) (bytes : L
   -- ---- a plan to give
 
   module _ (plan : plan_of order disk.count ≡ Give length) (same : now ≡ disk) where
-    worked : (o : Outcome) → o ≡ outcome_by (Give length) disk order → at o ≡ effect disk order bytes
+    pub worked : (o : Outcome) → o ≡ outcome_by (Give length) disk order → at o ≡ effect disk order bytes
     worked o e =
         ap (λ (d : Disk). record { disk = d; outcome = o }) same
         ∙ ap (λ (x : Outcome). record { disk = disk; outcome = x }) e
         ∙ ap (λ (p : Plan). record { disk = disk_by p disk order bytes; outcome = outcome_by p disk order }) (sym plan)
 
-    failed : (o : Outcome) → FailsBy (Give length) disk order bytes (at o) → FailsBy (plan_of order disk.count) disk order bytes (at o)
+    pub failed : (o : Outcome) → FailsBy (Give length) disk order bytes (at o) → FailsBy (plan_of order disk.count) disk order bytes (at o)
     failed o f = subst (λ (p : Plan). FailsBy p disk order bytes (at o)) (sym plan) f
 
     pub gave : (answer : Result Outcome StoreFault) (result : Result Outcome AllocError)

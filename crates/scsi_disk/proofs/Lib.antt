@@ -5,3 +5,4 @@ pub mod SparseLemmas
 pub mod RunLemmas
 pub mod AnsweredLemmas
 pub mod AppendLemmas
+pub mod ReadingLemmas

@@ -34,7 +34,7 @@ fn residual(wanted: u32, expected: u32) -> Residual
 }
 
 /// GOOD, for a command that has so many bytes.
-fn good(order: &Order, wanted: u32, bytes: Vec<u8>) -> Outcome
+pub(crate) fn good(order: &Order, wanted: u32, bytes: Vec<u8>) -> Outcome
     ensures { result ≡ good order.now wanted bytes.items }
 {
     Outcome {
@@ -46,7 +46,7 @@ fn good(order: &Order, wanted: u32, bytes: Vec<u8>) -> Outcome
 }
 
 /// CHECK CONDITION: no data, so that all that was expected is missing.
-fn check(alloc: Global, order: &Order, sense: Sense) -> Outcome
+pub(crate) fn check(alloc: Global, order: &Order, sense: Sense) -> Outcome
     ensures { result ≡ check order.now sense }
 {
     Outcome {
