@@ -90,7 +90,7 @@ said : (head : Head) (bytes : List ℕ) → canonical_bytes (message head bytes)
 unfolding segment_bytes
 said head bytes = refl
 
-front_kept : (old new more now : List ℕ) → now ≡ new ++ more → take (length old) new ≡ old → take (length old) now ≡ old
+pub front_kept : (old new more now : List ℕ) → now ≡ new ++ more → take (length old) new ≡ old → take (length old) now ≡ old
 front_kept old new more now is front =
     let e : new ≡ old ++ drop (length old) new = sym (take-append-drop (length old) new) ∙ ap (λ (x : List ℕ). x ++ drop (length old) new) front in
     ap (take (length old)) (is ∙ ap (λ (x : List ℕ). x ++ more) e ∙ append_assoc old (drop (length old) new) more)

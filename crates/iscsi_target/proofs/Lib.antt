@@ -37,3 +37,4 @@ pub mod OneOutcomeLaw
 pub mod OutOfMemoryLemmas
 pub mod CrashLemmas
 pub mod PassedLemmas
+pub mod ReadPartLemmas

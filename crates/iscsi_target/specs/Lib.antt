@@ -10,5 +10,6 @@ pub mod Worked
 pub mod Sessions
 pub mod Feed
 pub mod Crash
+pub mod Reads
 pub mod Inside
 pub mod Laws

@@ -12,6 +12,7 @@ ghost use Rattle.iscsi_target.specs.Inside.{Leaves};
 
 mod command;
 mod dispatch;
+mod reads;
 mod writes;
 
 use crate::tasks::Tasks;

@@ -24,6 +24,7 @@ pub record IsWhole (disk : Disk) (order : Order) (range : BlockRange) : Type 0 w
   pub reads : is_read order.cdb ≡ true
   pub first : range.first ≡ (transfer order.cdb).first
   pub inside : range.first + range.count ≤ disk.count
+  pub few : range.count ≤ 8192
 
 chosen : (b : Bool) (x y : BlockRange) → cond b (Some x) None ≡ Some y → (b ≡ true) × (x ≡ y)
 chosen true x y e = (refl, cc)
@@ -52,6 +53,7 @@ whole_by disk order (Give n) range p e =
       reads = tests.0;
       first = sym first;
       inside = omega (arith, facts.names.inside);
+      few = omega (arith, facts.names.few);
     }
 
 pub whole : (disk : Disk) (order : Order) (planned : Plan) (range : BlockRange) → planned ≡ plan_of order disk.count → whole_blocks order planned ≡ Some range →

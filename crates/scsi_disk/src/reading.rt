@@ -1,6 +1,6 @@
 //! READs of whole blocks, whose data a caller takes from the store itself.
 
-ghost use Rattle.std.specs.Prelude.{◌≡◌, ℕ, [], IfOk, IsErr};
+ghost use Rattle.std.specs.Prelude.{◌≡◌, ℕ, [], IfOk, IsOk};
 ghost use Rattle.scsi_disk.specs.Plan.{plan_of, wanted_length};
 ghost use Rattle.scsi_disk.specs.Effect.{good, check};
 ghost use Rattle.scsi_disk.specs.Reading.{whole_blocks};
@@ -48,14 +48,10 @@ pub fn read_outcome(alloc: Global, order: &Order, blocks: u64) -> Outcome
 
 /// The outcome of a READ whose blocks could not be read for this fault: CHECK CONDITION with
 /// `ReadError`, or an error where memory ran out.
-pub fn failed_read(
-    alloc: Global,
-    order: &Order,
-    fault: StoreFault,
-) -> Result<Outcome, AllocError>
-    ensures device { fault ≡ StoreFault.Device
-        → IfOk result (λ outcome. outcome ≡ check order.now ReadError) }
-    ensures no_memory { fault ≡ StoreFault.NoMemory → IsErr result }
+pub fn failed_read(alloc: Global, order: &Order, fault: StoreFault) -> Result<Outcome, AllocError>
+    ensures ok { IfOk result (λ outcome. (fault ≡ StoreFault.Device)
+        × (outcome ≡ check order.now ReadError)) }
+    ensures device { fault ≡ StoreFault.Device → IsOk result }
 {
     match fault {
         StoreFault::NoMemory => Err(AllocError),

@@ -77,7 +77,7 @@ impl Machine {
     }
 
     // How many bytes the initiator takes in one segment.
-    fn max_segment(&self) -> u32
+    pub(super) fn max_segment(&self) -> u32
         ensures value { result ≡ self.now.session.held.initiator_max_recv }
         ensures some { 512 ≤ result }
         ensures short { result ≤ 16777215 }
@@ -121,6 +121,9 @@ impl Machine {
         ensures crash { Crashes []
             (S.disk store.old) (S.disk store.new) (S.kept store.old) (S.kept store.new) }
     {
+        if let Some(range) = self.blocks_to_send(&order, planned) {
+            return self.execute_read(tag, &order, range, store, out);
+        }
         let outcome = execute_planned(*out.allocator(), &order, planned, &[], store)?;
         self.send_outcome(tag, &outcome, out)?;
         self.count();
@@ -213,7 +216,7 @@ impl Machine {
     }
 
     // The head of a Data-In behind others.
-    fn data_in(&self, tag: u32, sent: Sent, is_final: bool) -> Head
+    pub(super) fn data_in(&self, tag: u32, sent: Sent, is_final: bool) -> Head
         ensures head { result ≡ data_in_head self.now.session (waiting self.now.tasks) tag sent.count sent.bytes is_final }
         ensures fits { Fits result }
     {
@@ -253,9 +256,9 @@ pub(super) fn order_of(command: &ScsiCommand) -> Order
 
 // The Data-In PDUs of a command that were sent.
 #[derive(Clone, Copy, Debug, PartialEq, Eq)]
-struct Sent {
+pub(super) struct Sent {
     // How many.
-    count: u32,
+    pub(super) count: u32,
     // How many bytes they carried.
-    bytes: u32,
+    pub(super) bytes: u32,
 }

@@ -1,0 +1,22 @@
+use Rattle.std.proofs.Common.{◌≡◌, ◌≤◌}
+use Rattle.scsi_disk.specs.Lasting.{Within}
+use Rattle.iscsi_target.specs.Reads.{read_in}
+use Rattle.iscsi_target.proofs.ReadPartLemmas.{PartsOut}
+use Rattle.iscsi_target.proofs.machine.Machine.append_sequence.Given as goal
+
+-- The parts of the blocks before those that are left went out.
+abbrev pub invariant-loop-rest : goal.invariant-loop-rest
+invariant-loop-rest g l =
+    let disk = g.S.BlockStore.disk in
+    let failures = g.S.BlockStore.failures in
+    let kept = g.S.BlockStore.kept in
+    record {
+      parts : PartsOut l.self l.fn.tag (read_in (disk l.fn.store) l.fn.run (failures l.fn.store) (failures l.store)) l.fn.before l.sent l.rest
+          l.fn.out.items l.out.items;
+      disk : disk l.store ≡ disk l.fn.store;
+      kept : Within (kept l.fn.store) (kept l.store);
+      rises : failures l.fn.store ≤ failures l.store;
+    }
+
+abbrev pub decreases-loop-rest : goal.decreases-loop-rest
+decreases-loop-rest g l = l.rest.count
