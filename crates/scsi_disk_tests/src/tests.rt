@@ -6,8 +6,8 @@ ghost use Rattle.scsi_disk.specs.Runs.{AreSupplied};
 
 use scsi_cdb::{Bytes, Cdb, Residual, Sense};
 use scsi_disk::{
-    BlockStore, FailAt, MOST_BLOCKS, MemoryStore, Order, Outcome, Plan, SparseStore, StoreFault,
-    execute, plan, run_orders,
+    BlockRange, BlockStore, FailAt, MOST_BLOCKS, MemoryStore, Order, Outcome, Plan, SparseStore,
+    StoreFault, execute, failed_read, plan, read_outcome, run_orders, whole_blocks,
 };
 use std::alloc::{AllocError, Global};
 use std::fmt::Debug;
@@ -771,6 +771,131 @@ fn orders_behind_a_failure(rt: HostRuntime) -> Result<(), Fail> {
         check_rows(&rt, rt.alloc(), rows, &mut store)?;
         same(&rt, &store.failures(), &1, &"failures");
     }
+    Ok(())
+}
+
+/// Where blocks begin, and how many there are: none, some in one extent, over two, and all.
+const RUNS: &[(u64, u32)] = &[(130, 0), (60, 2), (62, 4), (129, 1), (0, 130)];
+
+/// Asserts that runs of blocks are appended behind what is there. Blocks 63 and 64 are of 5a.
+fn check_appended<S: BlockStore>(
+    rt: &impl Abort,
+    alloc: Global,
+    store: &mut S,
+) -> Result<(), Fail> {
+    for (lba, count) in RUNS {
+        let (lba, count) = (*lba, *count);
+        assert!(rt; lba < 200 && count < 200 && lba + u64::from(count) <= store.blocks());
+        let mut out = Vec::from_slice(alloc, b"before")?;
+        let appended = store.read_onto(lba, count, &mut out);
+        let len = if appended.is_ok() {
+            512 * count as usize
+        } else {
+            0
+        };
+        same(rt, &out.len(), &(6 + len), &lba);
+        assert!(rt; out.starts_with(b"before"), "from {lba} on");
+        for (at, byte) in out.iter().skip(6).enumerate() {
+            let n = lba + (at / 512) as u64;
+            let want = if n == 63 || n == 64 { 0x5a } else { 0x00 };
+            same(rt, byte, &want, &n);
+        }
+        appended?;
+    }
+    Ok(())
+}
+
+#[test]
+fn appended_blocks(rt: HostRuntime) -> Result<(), Fail> {
+    let mut memory = MemoryStore::new(rt.alloc(), 130)?;
+    memory.write(63, &[0x5a; 1024])?;
+    check_appended(&rt, rt.alloc(), &mut memory)?;
+    let mut sparse = SparseStore::new(rt.alloc(), 130);
+    sparse.write(63, &[0x5a; 1024])?;
+    check_appended(&rt, rt.alloc(), &mut sparse)?;
+    Ok(())
+}
+
+#[test]
+fn a_failing_read_of_appended_blocks(rt: HostRuntime) -> Result<(), Fail> {
+    let mut store = FailAt::new(MemoryStore::new(rt.alloc(), 8)?, 0);
+    let mut out = Vec::from_slice(rt.alloc(), b"before")?;
+    out.reserve(4096)?;
+    let first = store.read_onto(0, 8, &mut out);
+    same(&rt, &first, &Err(StoreFault::Device), &"first");
+    same(&rt, &out.as_slice(), &b"before".as_slice(), &"first");
+    same(&rt, &store.failures(), &1, &"failures");
+    let second = store.read_onto(0, 8, &mut out);
+    same(&rt, &second, &Ok(()), &"second");
+    same(&rt, &out.len(), &4102, &"second");
+    same(&rt, &store.failures(), &1, &"failures");
+    Ok(())
+}
+
+/// Commands to unit 0 with 2,048 blocks, and the whole blocks that they give.
+const WHOLE: &[(&str, [u32; 4], Data, Option<(u64, u32)>)] = &[
+    (
+        "as many as are expected",
+        READ_8,
+        Data::Reads(4096),
+        Some((0, 8)),
+    ),
+    (
+        "fewer are expected",
+        READ_8,
+        Data::Reads(1536),
+        Some((0, 3)),
+    ),
+    (
+        "a part of a block is expected",
+        READ_8,
+        Data::Reads(1537),
+        None,
+    ),
+    ("more are expected", READ_8, Data::Reads(8192), Some((0, 8))),
+    (
+        "none are named",
+        [0x28000000, 0x00050000, 0, 0],
+        Data::Reads(512),
+        Some((5, 0)),
+    ),
+    (
+        "from the last but one on, with 64-bit numbers",
+        [0x88000000, 0, 0x07fe0000, 0x00020000],
+        Data::Reads(1024),
+        Some((2046, 2)),
+    ),
+    (
+        "past the end",
+        [0x28000000, 0x08000000, 0x01000000, 0],
+        Data::Reads(512),
+        None,
+    ),
+    ("no READ", INQUIRY, Data::Reads(36), None),
+    ("a WRITE", WRITE_8, Data::Writes(4096), None),
+];
+
+#[test]
+fn whole_blocks_of_reads(rt: HostRuntime) {
+    for (name, words, data, want) in WHOLE {
+        let order = order_of(*words, *data);
+        let want = want.map(|(first, count)| BlockRange { first, count });
+        same(&rt, &whole_blocks(&order, plan(&order, 2048)), &want, name);
+    }
+}
+
+#[test]
+fn outcomes_of_read_blocks(rt: HostRuntime) -> Result<(), Fail> {
+    let order = order_of(READ_8, Data::Reads(8192));
+    if let Plan::Give(_) = plan(&order, 2048) {
+        let done = read_outcome(rt.alloc(), &order, 2048);
+        check_outcome(&rt, "read", &done, None, b"", Residual::Under(4096));
+    }
+    let failed = failed_read(rt.alloc(), &order, StoreFault::Device)?;
+    let sense = Some(Sense::ReadError);
+    check_outcome(&rt, "failed", &failed, sense, b"", Residual::Under(8192));
+    let refused = failed_read(rt.alloc(), &order, StoreFault::NoMemory);
+    assert!(rt; refused.is_err(), "out of memory");
     Ok(())
 }
 
