@@ -4,7 +4,7 @@ use super::queues::{
     BEHIND, EIGHT, FAILING_QUEUES, LONG_QUEUES, SHORT_QUEUES, TURN, WAITING_REQUESTS,
     WAITING_WRITES, WINDOWS,
 };
-use super::rows::{Dialogue, FAILING, LOGIN, LOGINS, LONG, REQUESTS, SHORT, WRITES};
+use super::rows::{Dialogue, FAILING, FAILING_PARTS, LOGIN, LOGINS, LONG, REQUESTS, SHORT, WRITES};
 use super::{BY_PDU, feed_pieces, pdu_of, same, target_of, target_with};
 use iscsi_examples::{SESSION, append_pdu};
 use iscsi_login::{Phase, Preferences, Session, Stage};
@@ -214,8 +214,10 @@ fn stores_that_fail(rt: HostRuntime) -> Result<(), Fail> {
     for row in FAILING {
         check_failing(&rt, rt.alloc(), 0, row)?;
     }
-    for (at, row) in FAILING_QUEUES {
-        check_failing(&rt, rt.alloc(), *at, row)?;
+    for rows in [FAILING_PARTS, FAILING_QUEUES] {
+        for (at, row) in rows {
+            check_failing(&rt, rt.alloc(), *at, row)?;
+        }
     }
     Ok(())
 }
