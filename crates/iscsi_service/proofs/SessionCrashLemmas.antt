@@ -139,7 +139,10 @@ crashes_behind old mid before store after piece front rest kept was left parts a
     let none : CrashesFed old before piece at was was = record { count = p.count; adds = λ n bytes h. inl h } in
     let later : CrashesFed mid at rest after was left = record {
       count = q.count;
-      adds = λ n bytes h. elim (q.adds n bytes h) [ inl first ↦ inl first | inr is ↦ inr (passed_lower mid store a.failures rest after.failures n bytes low is) ];
+      adds = λ n bytes h. elim (q.adds n bytes h) [
+        | inl first ↦ inl first
+        | inr is ↦ inr (passed_lower mid store a.failures rest after.failures n bytes low is)
+      ];
     } in
     let all : CrashesFed old before piece after was left =
     crashes_then old mid before at after piece front rest was was left parts a.advances (omega (arith, low, rises)) none later in

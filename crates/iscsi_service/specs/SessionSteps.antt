@@ -57,8 +57,8 @@ pub record Comes (old : Connection) (before : Store) (bytes : List ℕ) (new : C
   pub few : failures ≤ after.failures
   pub advances : Advances old before bytes new (store_of after.disk failures)
 
--- The answers that waited were not all sent: none where the sync failed, and a front of them where a
--- write did.
+-- The answers that waited were not all sent: none where the sync failed, and a front of them where
+-- a write did.
 abbrev pub HoldsBack : SessionFault → Option (List ℕ) → Option (List ℕ) → List ℕ → Type 0
 HoldsBack session.Sync contents now waiting = now ≡ contents
 HoldsBack session.Write contents now waiting = WroteFront contents now waiting

@@ -19,15 +19,15 @@ const LONGEST_READ: usize = 1_048_576;
 /// memory goes with it; the store stays.
 ///
 /// What comes is read in pieces of at most 1,048,576 bytes, and the answers to a piece leave
-/// together, as soon as more than 65,536 bytes of them wait and at its end: the store is synced once
-/// for all of them, before they leave.
+/// together, as soon as more than 65,536 bytes of them wait and at its end: the store is synced
+/// once for all of them, before they leave.
 ///
 /// A session that is closed, by a logout or a refused login, and a connection that ends between two
 /// PDUs are no fault. `Network` is answered where no connection is accepted; `Target` where the
-/// target refuses what its initiator sent or the connection ends within a PDU, after the answers that
-/// were due; `Read` where a read from the connection fails or 16,777,216 of them did not reach its
-/// end; `Sync` where a sync of the store fails, and the answers that waited for it are not sent;
-/// `Write` where a write to the connection fails; and `NoMemory` where memory runs out.
+/// target refuses what its initiator sent or the connection ends within a PDU, after the answers
+/// that were due; `Read` where a read from the connection fails or 16,777,216 of them did not reach
+/// its end; `Sync` where a sync of the store fails, and the answers that waited for it are not
+/// sent; `Write` where a write to the connection fails; and `NoMemory` where memory runs out.
 ///
 /// The session is that of RFC 7143, sections 6 and 11; that it has a connection of its own is own
 /// rule.

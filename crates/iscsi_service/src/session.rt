@@ -65,13 +65,13 @@ pub enum SessionFault {
 /// them. It stops where the session is closed, by a logout or a refused login, and where the stream
 /// ends.
 ///
-/// Where the store counted no failure, what is written are the answers to all PDUs of what was read,
-/// and the store has the blocks that they leave; when out of memory those of some first PDUs, whole,
-/// and of some first tasks of the next one. Of a failed sync or write nothing is said, but that
-/// behind a failed sync no answer that waited for it is written. Answers `Ok` where the stream ends
-/// behind a PDU or the session was closed and no rule broken; `Target` with the rule that the last
-/// PDU broke, or with the fault and the place of what follows the PDUs where that is refused, or
-/// begun and not whole at the end of the stream, after the answers that were due; `Read` where a
+/// Where the store counted no failure, what is written are the answers to all PDUs of what was
+/// read, and the store has the blocks that they leave; when out of memory those of some first PDUs,
+/// whole, and of some first tasks of the next one. Of a failed sync or write nothing is said, but
+/// that behind a failed sync no answer that waited for it is written. Answers `Ok` where the stream
+/// ends behind a PDU or the session was closed and no rule broken; `Target` with the rule that the
+/// last PDU broke, or with the fault and the place of what follows the PDUs where that is refused,
+/// or begun and not whole at the end of the stream, after the answers that were due; `Read` where a
 /// read fails or 16,777,216 of them did not reach the end, and none of these faults came before;
 /// `Sync` where a sync of the store fails; `Write` where a write fails or takes no byte.
 ///

@@ -4,8 +4,8 @@ use Rattle.iscsi_target.specs.Machine.{is_closed}
 use Rattle.iscsi_target.specs.Feed.{Store}
 use Rattle.iscsi_target.specs.Inside.{store_of}
 use Rattle.iscsi_service.specs.SessionSteps.{service}
-use Rattle.iscsi_service.proofs.SessionReadInvariant.{next_goes, next_closes, next_is_closed, next_is_open, next_rises, closes_synced, goes_written, write_loses}
-use Rattle.iscsi_service.proofs.SessionReadInvariant.{breaks_held, fault_breaks}
+use Rattle.iscsi_service.proofs.SessionReadInvariant.{next_goes, next_closes, next_is_closed, next_is_open, next_rises, closes_synced, goes_written}
+use Rattle.iscsi_service.proofs.SessionReadInvariant.{write_loses, breaks_held, fault_breaks}
 use Rattle.iscsi_service.proofs.SessionCrashLemmas.{next_crashes, next_advances, comes_synced, crashes_synced}
 use Rattle.iscsi_service.proofs.session.serve_next.Goals as goal
 
@@ -34,8 +34,8 @@ returns-in_err-write_out-in-Err-clause-err g c =
     rw (p.1, p.2) (breaks_held (service c.args.target.now before contents c.args.out.now.items) (service c.feed_next.new.self after now [])
     c.args.piece.now c.in_err-write_out-in-Err.field-0.0 contents now c.feed_next.new.out.items c.in_err-write_out-in-Err.ensures.err
     (write_loses c.args.target.now c.feed_next.new.self before mid after contents now c.args.out.now.items c.args.piece.now c.feed_next.new.out.items []
-    c.in_err-write_out-in-Err.field-0.0 c.feed_next.result c.feed_next.ensures.fed c.in_err-write_out-in-Err.ensures.store c.in_err-write_out-in-Err.ensures.bytes
-    c.in_err-write_out-in-Err.ensures.err))
+    c.in_err-write_out-in-Err.field-0.0 c.feed_next.result c.feed_next.ensures.fed c.in_err-write_out-in-Err.ensures.store
+    c.in_err-write_out-in-Err.ensures.bytes c.in_err-write_out-in-Err.ensures.err))
 
 pub returns-in_ok-write_out-in-Ok-clause-goes : goal.returns-in_ok-write_out-in-Ok-clause-goes
 returns-in_ok-write_out-in-Ok-clause-goes g c =
