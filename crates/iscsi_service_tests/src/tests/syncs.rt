@@ -34,6 +34,13 @@ const ANSWERS: &str =
     21800000 00000000 00000000 00000000 00000002 00000000 00000003 00000003 0000000a 00000000 00000000 00000000\n\
     26800000 00000000 00000000 00000000 00000003 00000000 00000004 00000003 0000000a 00000000 00000000 00000000";
 
+// The same where each write of a block fails.
+const REFUSALS: &str =
+    "23870000 00000045 40000001 00000001 00000000 00000000 00000001 00000001 00000008 00000000 00000000 00000000 'AuthMethod=None|MaxRecvDataSegmentLength=8192|TargetPortalGroupTag=1|\n\
+    21820002 00000014 00000000 00000000 00000001 00000000 00000002 00000002 00000009 00000000 00000000 00000200 0012700003000000000a000000000c0000000000\n\
+    21820002 00000014 00000000 00000000 00000002 00000000 00000003 00000003 0000000a 00000000 00000000 00000200 0012700003000000000a000000000c0000000000\n\
+    26800000 00000000 00000000 00000000 00000003 00000000 00000004 00000003 0000000a 00000000 00000000 00000000";
+
 /// What comes of the session where a medium stops after so many calls: a store syncs it as it
 /// begins, and the session asks it for two writes and for one sync.
 struct Row {
@@ -107,18 +114,28 @@ fn requests(alloc: Global) -> Result<Vec<u8>, Fail> {
     Ok(stream)
 }
 
-// Serves the session over a medium that stops after so many calls: how it ends, and what a crash
-// leaves that takes back so many writes of each block.
+// Serves the session over a store: how it ends.
 fn serve<W: Write>(
+    alloc: Global,
+    store: &mut FileStore<StopsAt<CrashMemory>>,
+    out: &mut W,
+) -> Result<Result<(), SessionFault>, Fail> {
+    let stream = requests(alloc)?;
+    let mut source = stream.as_slice();
+    let config = configuration(alloc)?;
+    Ok(serve_stream(alloc, config, store, &mut source, out))
+}
+
+// Serves it over a medium that stops after so many calls: how it ends, and what a crash leaves that
+// takes back so many writes of each block.
+fn served<W: Write>(
     alloc: Global,
     calls: u64,
     back: usize,
     out: &mut W,
 ) -> Result<(Result<(), SessionFault>, [u8; 8]), Fail> {
     let mut store = FileStore::new(StopsAt::new(dots(alloc)?, calls))?;
-    let stream = requests(alloc)?;
-    let mut source = stream.as_slice();
-    let end = serve_stream(alloc, configuration(alloc)?, &mut store, &mut source, out);
+    let end = serve(alloc, &mut store, out)?;
     let mut medium = store.into_medium().into_medium();
     medium.crash(&[back; 8]);
     Ok((end, letters(medium.bytes())))
@@ -129,7 +146,7 @@ fn answers_wait_for_one_sync(rt: HostRuntime) -> Result<(), Fail> {
     for row in ROWS {
         let answers = pdus_of(rt.alloc(), row.answers)?;
         let mut out = Vec::new(rt.alloc());
-        let (end, left) = serve(rt.alloc(), row.calls, row.back, &mut out)?;
+        let (end, left) = served(rt.alloc(), row.calls, row.back, &mut out)?;
         same(&rt, &end, &row.end, &row.calls);
         same(&rt, &out.as_slice(), &answers.as_slice(), &row.calls);
         same(&rt, &left, row.left, &(row.calls, row.back));
@@ -140,8 +157,23 @@ fn answers_wait_for_one_sync(rt: HostRuntime) -> Result<(), Fail> {
 /// Whatever a writer took, it was synced before.
 #[test]
 fn a_writer_that_fails_behind_a_sync(rt: HostRuntime) -> Result<(), Fail> {
-    let (end, left) = serve(rt.alloc(), 4, 2, &mut Full)?;
+    let (end, left) = served(rt.alloc(), 4, 2, &mut Full)?;
     same(&rt, &end, &Err(SessionFault::Write), &"a writer");
     same(&rt, &left, b"...YZ...", &"a writer");
+    Ok(())
+}
+
+/// Behind a sync that failed sessions are served, and each of their writes is refused.
+#[test]
+fn a_session_behind_a_sync_that_failed(rt: HostRuntime) -> Result<(), Fail> {
+    let mut store = FileStore::new(StopsAt::new(dots(rt.alloc())?, 3))?;
+    let rows = [("", Err(SessionFault::Sync)), (REFUSALS, Ok(()))];
+    for (answers, due) in rows {
+        let answers = pdus_of(rt.alloc(), answers)?;
+        let mut out = Vec::new(rt.alloc());
+        let end = serve(rt.alloc(), &mut store, &mut out)?;
+        same(&rt, &end, &due, &answers.len());
+        same(&rt, &out.as_slice(), &answers.as_slice(), &answers.len());
+    }
     Ok(())
 }
