@@ -1,4 +1,4 @@
-use Rattle.std.proofs.Common.{◌≡◌, ◌+◌, ◌*◌, ◌%◌, ◌≤◌, ◌++◌, List, ℕ, Some, None, refl, ap, sym, ◌∙◌, arith, rules}
+use Rattle.std.proofs.Common.{◌≡◌, ◌+◌, ◌*◌, ◌%◌, ◌≤◌, ◌++◌, List, ℕ, Some, None, refl, ap, ◌∙◌, arith, rules}
 use Rattle.scsi_disk.specs.Disk.{cut, joined}
 use Rattle.scsi_disk.specs.Sparse.{Extents, disk_in}
 use Rattle.scsi_disk.proofs.AppendLemmas.{map_ok, resized}

@@ -1,5 +1,5 @@
-use Rattle.std.proofs.Common.{ℕ, ◌≡◌, ◌+◌, ◌*◌, ◌∙◌, arith, rules}
-use Rattle.std.proofs.lemmas.List.{length-append, length-replicate, length-take, length-drop}
+use Rattle.std.proofs.Common.{ℕ, ◌∙◌, arith, rules}
+use Rattle.std.proofs.lemmas.List.{length-take, length-drop}
 use Rattle.scsi_disk.proofs.AppendLemmas.{filled}
 use Rattle.scsi_disk.proofs.store.BlockStore.read_onto.Goals as goal
 
