@@ -25,6 +25,7 @@ returns-in-None-clause-ok c =
     let blocks = c.args.blocks in
     let counts = ap (λ (s : Extents). s.count) c.self.view_is in
     let low : n + blocks ≤ c.self.inside.blocks = omega arith in
-    resized c.resize.result c.args.out.now.items c.resize.new.self.items _ (c.len.result + 512 * blocks) c.args.out.now.len (512 * blocks) (search rules) (search rules) c.resize.ensures.items
+    resized c.resize.result c.args.out.now.items c.resize.new.self.items _ (c.len.result + 512 * blocks) c.args.out.now.len (512 * blocks) (search rules)
+    (search rules) c.resize.ensures.items
     (run_missing c.self.inside.blocks c.self.inside.extents.entries n blocks None c.in-None.ensures.value c.requires.one low refl
     ∙ ap (λ (s : Extents). joined (disk_in s).block n blocks) c.self.view_is)
