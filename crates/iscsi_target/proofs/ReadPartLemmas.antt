@@ -1,10 +1,9 @@
 -- READs whose data go out part by part.
-use Rattle.std.proofs.Common.{◌≡◌, ◌<◌, ◌≤◌, ℕ, ◌+◌, ◌*◌, List, [], ◌∷◌, ◌++◌, Bool, min, length, take, drop, replicate, None, refl, sym, ap, ◌∙◌, subst, arith}
+use Rattle.std.proofs.Common.{◌≡◌, ◌<◌, ◌≤◌, ℕ, ◌+◌, ◌*◌, List, [], ◌++◌, min, length, take, drop, replicate, refl, sym, ap, ◌∙◌, subst, arith}
 use Rattle.std.proofs.Common.{append_assoc, Result, Ok, Err, OnOk}
 use Rattle.std.specs.Prelude.{◌==◌}
 use Rattle.std.proofs.lemmas.Bool.Decides.{nat_tests}
 use Rattle.std.proofs.lemmas.List.{append-nil, drop_at, length-append, take_all, take_at}
-use Rattle.std.proofs.lemmas.List.Concat.{flat_map-append}
 use Rattle.scsi_cdb.specs.declared.sense.Sense.TheVariants.{ReadError}
 use Rattle.scsi_disk.specs.Disk.{Appends, Disk, IsDisk, Tells, blocks_from}
 use Rattle.scsi_disk.specs.declared.store.StoreFault.{StoreFault}
@@ -18,12 +17,11 @@ use Rattle.scsi_disk.proofs.ReadingLemmas.{IsWhole, appended_read, executed, non
 use Rattle.iscsi_pdu.specs.Meaning.{header, padding, whole}
 use Rattle.iscsi_stream.proofs.PaddingLemmas.{whole_is}
 use Rattle.iscsi_pdu.specs.declared.head.Head.{Head}
-use Rattle.iscsi_stream.specs.Stream.{Message}
-use Rattle.iscsi_stream.specs.Canonical.{canon, canonical_bytes}
-use Rattle.iscsi_login.specs.Held.{Held, max_burst}
+use Rattle.iscsi_stream.specs.Canonical.{canon}
+use Rattle.iscsi_login.specs.Held.{max_burst}
 use Rattle.iscsi_target.specs.State.{Machine, waiting}
-use Rattle.iscsi_target.specs.Execution.{command_answers, data_in_head, data_in_parts, data_ins, response_head, sense_segment, sequence_parts}
-use Rattle.iscsi_target.specs.Reads.{AnswersRead, IsOf, Read, SendsPart, SendsRuns, SendsSequence, read_in}
+use Rattle.iscsi_target.specs.Execution.{data_in_head, data_in_parts, data_ins, response_head, sense_segment, sequence_parts}
+use Rattle.iscsi_target.specs.Reads.{AnswersRead, Read, SendsPart, SendsRuns, SendsSequence, read_in}
 use Rattle.iscsi_target.specs.declared.machine.command.Sent.{Sent}
 use Rattle.iscsi_target.proofs.DataInSequenceLemmas.{GaveRuns, GaveUpTo, front_kept, gave_more, gave_run, unsent}
 use Rattle.iscsi_target.proofs.CommandLemmas.{told_order}
@@ -90,7 +88,7 @@ pub parts_next : (s : Machine) (tag : ℕ) (disk mid : Disk) (run rest next : Bl
     → SendsPart head (read_in mid (record { first = rest.first; count = n }) fm fa) new now → next.first ≡ rest.first + n → next.count + n ≡ rest.count
     → fb ≤ fm → fm ≤ fa → PartsOut s tag (read_in disk run fb fm) before sent rest old new
     → PartsOut s tag (read_in disk run fb fa) before (record { count = sent.count + 1; bytes = sent.bytes + 512 * n }) next old now
-parts_next s tag disk mid run rest next fb fm fa n most before sent head old new now is_most some more_left is_n is_head same part is_first is_count low high g =
+parts_next s tag disk mid run rest next fb fm fa n most before sent head old new now is_most some more_left is_n is_head same part is_first is_count low up g =
     let x : List ℕ = part.bytes in
     let size : length x ≡ 512 * n = part.is_of.size in
     let at : rest.first ≡ run.first + g.done = g.first in
@@ -101,7 +99,7 @@ parts_next s tag disk mid run rest next fb fm fa n most before sent head old new
       done = g.done + n;
       first = omega (arith, is_first, at);
       left = omega (arith, g.left, is_count);
-      were = read_more disk run.first g.done n fb fm fa g.bytes x low high g.were here;
+      were = read_more disk run.first g.done n fb fm fa g.bytes x low up g.were here;
       carried = omega (arith, g.carried);
       few = omega (arith, g.few, is_n, is_most, some, more_left);
       front = front_kept old new (whole head x) now part.output g.front;
@@ -203,7 +201,8 @@ sequences_next s tag disk mid range rest next fb fm fa n burst sent after old ne
           carried ∙ ap (λ (k : ℕ). sent.bytes + k) (sym size ∙ ap length front) in
           let is_now : now ≡ new ++ canon (data_ins s.session (waiting s.tasks) tag sent.count sent.bytes
           (sequence_parts s.session.held (take (512 * n) rest_bytes))) =
-          run.output ∙ ap (λ (b : List ℕ). new ++ canon (data_ins s.session (waiting s.tasks) tag sent.count sent.bytes (sequence_parts s.session.held b))) front in
+          run.output ∙ ap (λ (b : List ℕ). new ++ canon (data_ins s.session (waiting s.tasks) tag sent.count sent.bytes
+          (sequence_parts s.session.held b))) front in
           subst (λ (all : List ℕ). GaveRuns s tag all (unsent after more) old now) (sym (append_assoc g.bytes x more))
           (gave_run s tag (g.bytes ++ rest_bytes) rest_bytes sent after old new now more (512 * n) takes (omega (arith, is_burst, some))
           (omega (arith, rest_long, more_left)) (omega (arith, is_n, is_burst, rest_long)) counted is_bytes run.few is_now back

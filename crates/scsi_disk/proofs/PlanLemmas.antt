@@ -74,8 +74,8 @@ joined-add block first (suc c) d =
     ap (joined block first) more ∙ ap (λ t. block first ++ t) (joined-add block (first + 1) c d ∙ ap (λ k. joined block (first + 1) c ++ joined block k d) next)
     ∙ sym (append_assoc (block first) (joined block (first + 1) c) (joined block (first + suc c) d))
 
-pub length-joined : (size : ℕ) (block : ℕ → List ℕ) (first c : ℕ) → ((n : ℕ) → first ≤ n → n < first + c → length (block n) ≡ size) → length (joined block first c)
-    ≡ size * c
+pub length-joined : (size : ℕ) (block : ℕ → List ℕ) (first c : ℕ) → ((n : ℕ) → first ≤ n → n < first + c → length (block n) ≡ size)
+    → length (joined block first c) ≡ size * c
 unfolding joined
 length-joined size block first zero h = let e : 0 ≡ size * zero = omega arith in e
 length-joined size block first (suc c) h =

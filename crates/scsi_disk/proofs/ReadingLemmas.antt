@@ -1,6 +1,6 @@
 -- READs whose data a caller takes from the store itself.
-use Rattle.std.proofs.Common.{◌≡◌, ◌<◌, ◌≤◌, ℕ, ◌+◌, ◌*◌, ◌/◌, ◌%◌, List, [], ◌++◌, Bool, true, false, cond, length, take, drop, Option, Some, None, IsTrue, inl, inr, refl, sym}
-use Rattle.std.proofs.Common.{ap, ◌∙◌, arith, Ok}
+use Rattle.std.proofs.Common.{◌≡◌, ◌<◌, ◌≤◌, ℕ, ◌+◌, ◌*◌, ◌/◌, ◌%◌, List, [], ◌++◌, Bool, true, false, cond, length, take, drop, Some, None, refl, sym}
+use Rattle.std.proofs.Common.{inl, inr, ap, ◌∙◌, arith, Ok}
 use Rattle.std.specs.Prelude.{◌==◌, ◌&&◌}
 use Rattle.std.proofs.lemmas.Bool.{cases_lt, eqb-true}
 use Rattle.std.proofs.lemmas.List.{length-append, take_all, drop_at}
@@ -10,9 +10,8 @@ use Rattle.scsi_disk.specs.declared.order.Outcome.{Outcome}
 use Rattle.scsi_disk.specs.declared.order.Plan.{Plan}
 use Rattle.scsi_disk.specs.declared.order.Plan.TheVariants.{Refuse, Give, Take}
 use Rattle.scsi_disk.specs.declared.reading.BlockRange.{BlockRange}
-use Rattle.scsi_disk.specs.declared.store.StoreFault.{StoreFault}
 use Rattle.scsi_disk.specs.Disk.{Appends, Disk, IsDisk, Tells, blocks_from, joined}
-use Rattle.scsi_disk.specs.Effect.{Effect, Executes, FailsBy, effect, good, check, disk_by, outcome_by, wanted_data}
+use Rattle.scsi_disk.specs.Effect.{Executes, good, check, wanted_data}
 use Rattle.scsi_disk.specs.Plan.{is_read, plan_of, transfer, wanted_length}
 use Rattle.scsi_disk.specs.Reading.{WereRead, whole_blocks}
 use Rattle.scsi_disk.proofs.PlanLemmas.{given, joined-add, length-joined, read_gives}

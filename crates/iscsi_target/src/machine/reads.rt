@@ -179,7 +179,8 @@ impl Machine {
         requires count { before.count ≤ before.bytes }
         ensures most { 0 < self.now.session.held.initiator_max_recv }
         ensures ok { IfOk result (λ sent. SendsSequence self.now tag (read_in (S.disk store.old) run
-            (S.failures store.old) (S.failures store.new)) before sent out.old.items out.new.items) }
+            (S.failures store.old) (S.failures store.new)) before sent
+            out.old.items out.new.items) }
         ensures front { take (length out.old.items) out.new.items ≡ out.old.items }
         ensures disk { S.disk store.new ≡ S.disk store.old }
         ensures kept { Within (S.kept store.old) (S.kept store.new) }

@@ -1,6 +1,6 @@
 //! Images: what is refused, and what is kept.
 
-use super::{read, same, write};
+use super::{read, same, spelled, write};
 use scsi_disk::{BlockStore, StoreFault};
 use scsi_file::{FileStore, HostFile, OpenFault};
 use std::test::Fail;
@@ -104,5 +104,27 @@ fn an_image_keeps_what_was_written(rt: HostRuntime) -> Result<(), Fail> {
         &"opened again",
     );
     let _ = std::fs::remove_file(&rt, path);
+    Ok(())
+}
+
+#[test]
+fn blocks_of_an_image_are_appended(rt: HostRuntime) -> Result<(), Fail> {
+    let path = "appended.img";
+    let _ = std::fs::remove_file(&rt, path);
+    assert!(rt; HostFile::create(&rt, path, 8).is_ok());
+    let Ok(medium) = HostFile::open(&rt, path) else {
+        return Err(Fail::from("not opened"));
+    };
+    let Ok(mut store) = FileStore::new(medium) else {
+        return Err(Fail::from("not synced"));
+    };
+    let mut out = Vec::from_slice(rt.alloc(), b"before")?;
+    let written = write(&mut store, 6, b"yz");
+    assert!(rt; written.is_ok() && store.blocks() == 8);
+    let appended = store.read_onto(5, 3, &mut out);
+    let _ = std::fs::remove_file(&rt, path);
+    appended?;
+    assert!(rt; out.len() == 1542 && out.starts_with(b"before"));
+    same(&rt, &spelled(&out[6..]), b"\0yz\0\0\0\0\0", &"appended");
     Ok(())
 }

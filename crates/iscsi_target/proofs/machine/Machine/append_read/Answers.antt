@@ -2,7 +2,7 @@ use Rattle.std.proofs.Common.{◌≡◌, ◌∙◌, ◌*◌, ℕ, [], sym, ap, r
 use Rattle.scsi_disk.specs.Effect.{good}
 use Rattle.scsi_disk.specs.Plan.{plan_of, wanted_length}
 use Rattle.scsi_disk.specs.declared.order.Outcome.{Outcome}
-use Rattle.scsi_disk.proofs.ReadingLemmas.{IsWhole, whole}
+use Rattle.scsi_disk.proofs.ReadingLemmas.{whole}
 use Rattle.iscsi_target.specs.State.{waiting}
 use Rattle.iscsi_target.specs.Execution.{response_head}
 use Rattle.iscsi_target.proofs.ReadPartLemmas.{answers_read}

@@ -1,4 +1,4 @@
-use Rattle.std.proofs.Common.{◌≡◌, ◌<◌, ◌≤◌, ◌+◌, ◌*◌, ◌∙◌, refl, arith}
+use Rattle.std.proofs.Common.{◌≡◌, ◌<◌, ◌∙◌, refl, arith}
 use Rattle.iscsi_target.specs.Reads.{read_in}
 use Rattle.iscsi_target.proofs.ReadPartLemmas.{sequences_all, sequences_next, sequences_none}
 use Rattle.iscsi_target.proofs.machine.Machine.append_runs.Goals as goal

@@ -1,4 +1,4 @@
-use Rattle.std.proofs.Common.{◌≡◌, ◌<◌, ◌≤◌, ◌+◌, ◌*◌, ◌∙◌, refl, arith}
+use Rattle.std.proofs.Common.{◌≡◌, ◌<◌, ◌∙◌, refl, arith}
 use Rattle.iscsi_target.specs.Reads.{read_in}
 use Rattle.iscsi_target.proofs.ReadPartLemmas.{parts_all, parts_next, parts_none}
 use Rattle.iscsi_target.proofs.machine.Machine.append_sequence.Goals as goal

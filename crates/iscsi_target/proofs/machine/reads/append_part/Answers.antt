@@ -1,4 +1,4 @@
-use Rattle.std.proofs.Common.{◌≡◌, ◌∙◌, ℕ, List, ◌++◌, ap}
+use Rattle.std.proofs.Common.{◌∙◌, ℕ, List, ◌++◌, ap}
 use Rattle.iscsi_target.proofs.ReadPartLemmas.{part_sent}
 use Rattle.iscsi_target.proofs.machine.reads.append_part.Goals as goal
 

@@ -1,4 +1,4 @@
-use Rattle.std.proofs.Common.{◌∙◌, ap, ℕ, List, ◌++◌, ◌≡◌, ◌*◌, ◌/◌, ◌≤◌, length, arith, rules}
+use Rattle.std.proofs.Common.{◌∙◌, ap, ℕ, List, ◌++◌}
 use Rattle.scsi_disk.specs.Disk.{IsDisk, cut, disk_of, joined}
 use Rattle.scsi_disk.proofs.AppendLemmas.{appended}
 use Rattle.scsi_disk.proofs.BlockLemmas.{is_disk}

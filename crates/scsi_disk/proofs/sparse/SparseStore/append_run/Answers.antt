@@ -1,4 +1,4 @@
-use Rattle.std.proofs.Common.{◌≡◌, ◌+◌, ◌*◌, ◌%◌, ◌≤◌, ◌++◌, List, ℕ, Some, None, refl, ap, sym, ◌∙◌, arith, rules}
+use Rattle.std.proofs.Common.{◌≡◌, ◌+◌, ◌*◌, ◌%◌, ◌≤◌, ◌++◌, List, ℕ, Some, None, refl, ap, ◌∙◌, arith, rules}
 use Rattle.scsi_disk.specs.Disk.{cut, joined}
 use Rattle.scsi_disk.specs.Sparse.{Extents, disk_in}
 use Rattle.scsi_disk.proofs.AppendLemmas.{map_ok, resized}
@@ -25,6 +25,7 @@ returns-in-None-clause-ok c =
     let blocks = c.args.blocks in
     let counts = ap (λ (s : Extents). s.count) c.self.view_is in
     let low : n + blocks ≤ c.self.inside.blocks = omega arith in
-    resized c.resize.result c.args.out.now.items c.resize.new.self.items _ (c.len.result + 512 * blocks) c.args.out.now.len (512 * blocks) (search rules) (search rules) c.resize.ensures.items
+    resized c.resize.result c.args.out.now.items c.resize.new.self.items _ (c.len.result + 512 * blocks) c.args.out.now.len (512 * blocks) (search rules)
+    (search rules) c.resize.ensures.items
     (run_missing c.self.inside.blocks c.self.inside.extents.entries n blocks None c.in-None.ensures.value c.requires.one low refl
     ∙ ap (λ (s : Extents). joined (disk_in s).block n blocks) c.self.view_is)
