@@ -1,8 +1,9 @@
 -- What a crash leaves of a session's blocks, from read to read.
 use Rattle.std.proofs.Common.{◌≡◌, ◌≤◌, ◌+◌, ◌-◌, inl, inr, ℕ, Bool, true, false, List, [], ◌∷◌, ◌++◌, length, take, drop, Option, refl, sym, ap, subst}
-use Rattle.std.proofs.Common.{◌∙◌, arith, append-nil}
+use Rattle.std.proofs.Common.{◌⊎◌, ◌∙◌, arith, append-nil, append_assoc}
+use Rattle.std.proofs.lemmas.List.{append_cancel_right}
 use Rattle.std.specs.Prelude.{Result, Ok}
-use Rattle.std.specs.Io.KnownBytes.{Consumes}
+use Rattle.std.specs.Io.KnownBytes.{Appends, Consumes}
 use Rattle.std.proofs.KnownBytes.{Consumes-nil, Consumes-trans}
 use Rattle.scsi_disk.specs.Disk.{Disk}
 use Rattle.scsi_disk.specs.Lasting.{Within}
@@ -14,14 +15,15 @@ use Rattle.iscsi_target.specs.declared.fault.TargetFault.{TargetFault}
 use Rattle.iscsi_target_session.specs.Configured.{Settings}
 use Rattle.iscsi_target.specs.Execution.{Device, device_next}
 use Rattle.iscsi_target.specs.State.{Execution, Machine, Stepped}
-use Rattle.iscsi_target.specs.Machine.{MayAnswer, RunsIn}
+use Rattle.iscsi_target.specs.Machine.{MayAnswer, RunsIn, is_closed}
 use Rattle.iscsi_target.specs.Feed.{Connection, Store, FedNext, FedNextIf, opening_connection, scene}
 use Rattle.iscsi_target.specs.Crash.{CrashesFed, CrashesNext, IsPassed}
 use Rattle.iscsi_target.specs.Inside.{Advances, store_of}
 use Rattle.iscsi_target.proofs.PassedLemmas.{no_advance, advances_then, feeds_advance, crashes_none, crashes_next, crashes_more, crashes_then, passed_more}
 use Rattle.iscsi_target.proofs.ServingLemmas.{runs_rise}
-use Rattle.iscsi_service.specs.SessionSteps.{service, Goes, Comes, Syncs}
-use Rattle.iscsi_service.proofs.SessionReadInvariant.{Outside, outside, ReadUpTo, at_start, next_rises, next_is_open}
+use Rattle.iscsi_service.specs.Session.{Comes, SentBefore, StandsBehind}
+use Rattle.iscsi_service.specs.SessionSteps.{Service, service, Goes, LeftLast, Syncs}
+use Rattle.iscsi_service.proofs.SessionReadInvariant.{Outside, outside, ReadUpTo, PieceUpTo, at_start, all_served, goes_none, next_rises, next_is_open}
 
 -- ---- failures that a sync counts
 
@@ -115,18 +117,20 @@ comes_then old mid new before store after x y a b =
 abbrev pub Crashed : Connection → Store → List ℕ → Store → (ℕ → List ℕ → Type 0) → (ℕ → List ℕ → Type 0) → Type 0
 Crashed old before bytes after kept left = (before.failures ≤ after.failures) × CrashesFed old before bytes after kept left
 
+crash_synced : (old : Connection) (before store after : Store) (piece : List ℕ) (kept was left : ℕ → List ℕ → Type 0) →
+    CrashesFed old before piece store kept was → Syncs store after → Within was left → CrashesFed old before piece after kept left
+crash_synced old before store after piece kept was left c s within = record {
+  count = ap (λ (d : Disk). d.count) s.disk ∙ c.count;
+  adds = λ n bytes k. elim (c.adds n bytes (within n bytes k)) [
+    | inl first ↦ inl first
+    | inr is ↦ inr (passed_later old before piece store.failures after.failures n bytes s.rises is)
+  ];
+}
+
 pub crashes_synced : (old : Connection) (before store after : Store) (piece : List ℕ) (kept was left : ℕ → List ℕ → Type 0) →
     Crashed old before piece store kept was → Syncs store after → Within was left → Crashed old before piece after kept left
-crashes_synced old before store after piece kept was left c s within = (
-  (let low = c.0 in let high = s.rises in omega (arith, low, high)),
-  record {
-    count = ap (λ (d : Disk). d.count) s.disk ∙ c.1.count;
-    adds = λ n bytes k. elim (c.1.adds n bytes (within n bytes k)) [
-      | inl first ↦ inl first
-      | inr is ↦ inr (passed_later old before piece store.failures after.failures n bytes s.rises is)
-    ];
-  },
-)
+crashes_synced old before store after piece kept was left c s within =
+    ((let low = c.0 in let high = s.rises in omega (arith, low, high)), crash_synced old before store after piece kept was left c.1 s within)
 
 -- a crash behind bytes that came behind others
 crashes_behind : (old mid : Connection) (before store after : Store) (piece front rest : List ℕ) (kept was left : ℕ → List ℕ → Type 0) →
@@ -208,6 +212,159 @@ piece_crashes old now before store after piece rest kept was left p q r = (
   crashes_behind old now before store after piece p.front rest kept was left p.parts p.advances r.0 q.1 r.1,
 )
 
+-- ---- when the last answers left
+
+-- some state of a store that was synced
+abbrev pub SomeSynced : {S : Type 0} → (S → Bool) → (S → Store) → (S → ℕ → List ℕ → Type 0) → (Store → (ℕ → List ℕ → Type 0) → Type 0) → Type 0
+SomeSynced {S} synced store kept P = (state : S) × (synced state ≡ true) × P (store state) (kept state)
+
+-- the last answers left behind a front of the piece, where the store was this one, and the bytes up to the rest were served since
+pub record LastUpTo (old : Service) (piece rest : List ℕ) (store : Store) (kept : ℕ → List ℕ → Type 0) (now : Service) (was : ℕ → List ℕ → Type 0)
+    : Type 0 where
+  pub front : List ℕ
+  pub behind : List ℕ
+  pub whole : piece ≡ front ++ behind
+  pub target : Connection
+  pub goes : Goes old front (service target store now.contents [])
+  pub comes : Comes old.target old.store front target store
+  pub advances : AdvancesUpTo target store behind rest now.target now.store
+  pub crash : Crashed target store behind now.store kept was
+
+pub last_begins : (target : Connection) (store : Store) (contents : Option (List ℕ)) (waiting piece : List ℕ) (kept : ℕ → List ℕ → Type 0) →
+    LastUpTo (service target store contents []) piece piece store kept (service target store contents waiting) kept
+last_begins target store contents waiting piece kept = record {
+  front = [];
+  behind = piece;
+  whole = refl;
+  target = target;
+  goes = goes_none (service target store contents []);
+  comes = no_bytes_come target store;
+  advances = piece_begins target store piece;
+  crash = (omega arith, crashes_none target store piece kept);
+}
+
+-- a PDU more, whose answers wait
+last_waits : (old : Service) (piece rest : List ℕ) (n : ℕ) (target new : Connection) (then store after : Store) (contents now : Option (List ℕ))
+    (waiting written : List ℕ) (kept was left : ℕ → List ℕ → Type 0) → LastUpTo old piece rest then kept (service target store contents waiting) was →
+    now ≡ contents → Comes target store (take n rest) new after → Crashed target store rest after was left →
+    LastUpTo old piece (drop n rest) then kept (service new after now written) left
+last_waits old piece rest n target new then store after contents now waiting written kept was left l same comes crash = record {
+  front = l.front;
+  behind = l.behind;
+  whole = l.whole;
+  target = l.target;
+  goes = subst (λ (x : Option (List ℕ)). Goes old l.front (service l.target then x [])) (sym same) l.goes;
+  comes = l.comes;
+  advances = piece_advances l.target target new then store after l.behind rest n l.advances comes;
+  crash = piece_crashes l.target target then store after l.behind rest kept was left l.advances l.crash crash;
+}
+
+-- a PDU more, behind which the answers left
+last_leaves : (old : Service) (piece rest : List ℕ) (new : Connection) (after : Store) (now : Option (List ℕ)) (written : List ℕ)
+    (left : ℕ → List ℕ → Type 0) → PieceUpTo old piece rest (service new after now written) → AdvancesUpTo old.target old.store piece rest new after →
+    written ≡ [] → LastUpTo old piece rest after left (service new after now written) left
+last_leaves old piece rest new after now written left p a none =
+    let same : a.front ≡ p.front = append_cancel_right a.front p.front rest (sym a.parts ∙ p.parts) in
+    record {
+      front = p.front;
+      behind = rest;
+      whole = p.parts;
+      target = new;
+      goes = subst (λ (x : List ℕ). Goes old p.front (service new after now x)) none p.goes;
+      comes = subst (λ (x : List ℕ). Comes old.target old.store x new after) same a.advances;
+      advances = piece_begins new after rest;
+      crash = (omega arith, crashes_none new after rest left);
+    }
+
+-- a PDU more
+pub last_more : {S : Type 0} (synced : S → Bool) (state : S → Store) (kept : S → ℕ → List ℕ → Type 0) (here : S) (old : Service) (piece rest : List ℕ) (n : ℕ)
+    (target new : Connection) (store : Store) (contents now : Option (List ℕ)) (waiting written : List ℕ) (was : ℕ → List ℕ → Type 0)
+    → SomeSynced synced state kept (λ then k. LastUpTo old piece rest then k (service target store contents waiting) was)
+    → PieceUpTo old piece (drop n rest) (service new (state here) now written) → AdvancesUpTo old.target old.store piece (drop n rest) new (state here)
+    → Comes target store (take n rest) new (state here) → Crashed target store rest (state here) was (kept here)
+    → (now ≡ contents) ⊎ ((written ≡ []) × (synced here ≡ true))
+    → SomeSynced synced state kept (λ then k. LastUpTo old piece (drop n rest) then k (service new (state here) now written) (kept here))
+last_more synced state kept here old piece rest n target new store contents now waiting written was l p a comes crash (inl same) = (
+  l.0,
+  l.1,
+  last_waits old piece rest n target new (state l.0) store (state here) contents now waiting written (kept l.0) was (kept here) l.2 same comes crash,
+)
+last_more synced state kept here old piece rest n target new store contents now waiting written was l p a comes crash (inr sent) =
+    (here, sent.1, last_leaves old piece (drop n rest) new (state here) now written (kept here) p a sent.0)
+
+-- the answers to the next PDU did not leave
+pub last_stops : (old : Service) (piece rest : List ℕ) (target new : Connection) (then store after : Store) (contents now : Option (List ℕ))
+    (waiting written : List ℕ) (kept was left : ℕ → List ℕ → Type 0) → LastUpTo old piece rest then kept (service target store contents waiting) was →
+    now ≡ contents → Crashed target store rest after was left → LeftLast old piece then kept (service new after now written) left
+last_stops old piece rest target new then store after contents now waiting written kept was left l same crash = record {
+  front = l.front;
+  behind = l.behind;
+  whole = l.whole;
+  target = l.target;
+  goes = subst (λ (x : Option (List ℕ)). Goes old l.front (service l.target then x [])) (sym same) l.goes;
+  stands = inr l.comes;
+  few = (let low = l.crash.0 in let high = crash.0 in omega (arith, low, high));
+  crash = (piece_crashes l.target target then store after l.behind rest kept was left l.advances l.crash crash).1;
+}
+
+-- the next PDU closed the session
+pub last_closed : {S : Type 0} (synced : S → Bool) (state : S → Store) (kept : S → ℕ → List ℕ → Type 0) (here : S) (old : Service) (piece rest : List ℕ)
+    (n : ℕ) (target new : Connection) (store : Store) (contents now : Option (List ℕ)) (waiting written : List ℕ) (was : ℕ → List ℕ → Type 0)
+    → SomeSynced synced state kept (λ then k. LastUpTo old piece rest then k (service target store contents waiting) was)
+    → PieceUpTo old piece (drop n rest) (service new (state here) now written) → is_closed new.machine ≡ true
+    → Crashed target store rest (state here) was (kept here) → (now ≡ contents) ⊎ ((written ≡ []) × (synced here ≡ true))
+    → SomeSynced synced state kept (λ then k. LeftLast old piece then k (service new (state here) now written) (kept here))
+last_closed synced state kept here old piece rest n target new store contents now waiting written was l p over crash (inl same) = (
+  l.0,
+  l.1,
+  last_stops old piece rest target new (state l.0) store (state here) contents now waiting written (kept l.0) was (kept here) l.2 same crash,
+)
+last_closed synced state kept here old piece rest n target new store contents now waiting written was l p over crash (inr sent) = (
+  here,
+  sent.1,
+  record {
+    front = p.front;
+    behind = drop n rest;
+    whole = p.parts;
+    target = new;
+    goes = subst (λ (x : List ℕ). Goes old p.front (service new (state here) now x)) sent.0 p.goes;
+    stands = inl over;
+    few = omega arith;
+    crash = crashes_none new (state here) (drop n rest) (kept here);
+  },
+)
+
+-- a sync failed
+pub last_synced : (old : Service) (piece : List ℕ) (target : Connection) (then store after : Store) (contents now : Option (List ℕ))
+    (waiting written : List ℕ) (kept was left : ℕ → List ℕ → Type 0) → LeftLast old piece then kept (service target store contents waiting) was →
+    Syncs store after → Within was left → now ≡ contents → LeftLast old piece then kept (service target after now written) left
+last_synced old piece target then store after contents now waiting written kept was left l s within same = record {
+  front = l.front;
+  behind = l.behind;
+  whole = l.whole;
+  target = l.target;
+  goes = subst (λ (x : Option (List ℕ)). Goes old l.front (service l.target then x [])) (sym same) l.goes;
+  stands = l.stands;
+  few = (let low = l.few in let high = s.rises in omega (arith, low, high));
+  crash = crash_synced l.target then store after l.behind kept was left l.crash s within;
+}
+
+-- a sync failed behind the whole piece
+pub last_done : (old : Service) (piece rest : List ℕ) (target : Connection) (then store after : Store) (contents now : Option (List ℕ))
+    (waiting written : List ℕ) (kept was left : ℕ → List ℕ → Type 0) → LastUpTo old piece rest then kept (service target store contents waiting) was →
+    Syncs store after → Within was left → now ≡ contents → LeftLast old piece then kept (service target after now written) left
+last_done old piece rest target then store after contents now waiting written kept was left l s within same =
+    last_synced old piece target then store after contents now waiting written kept was left (record {
+      front = l.front;
+      behind = l.behind;
+      whole = l.whole;
+      target = l.target;
+      goes = l.goes;
+      stands = inr l.comes;
+      few = l.crash.0;
+      crash = l.crash.1;
+    }) s within same
+
 -- ---- a session
 
 -- what was read was served, and led here; what a crash leaves behind it
@@ -248,3 +405,30 @@ session_more settings first now new store after r0 r1 r2 w0 w1 w2 kept was left 
   advances = comes_then (opening_connection settings 1) now new first store after up.read.stream piece up.advances advances;
   crash = session_crashes settings first now store after r0 r1 w0 w1 kept was left piece up crash;
 }
+
+-- where a sync failed in the next piece, what was written before
+pub session_last : (settings : Settings) (first : Store) (now new : Connection) (then store after : Store) (r0 r1 r2 w0 w1 w2 : Option (List ℕ))
+    (kept was at left : ℕ → List ℕ → Type 0) (piece : List ℕ) → SessionUpTo settings (outside first r0 w0) now (outside store r1 w1) kept was →
+    Consumes r1 r2 piece → LeftLast (service now store w1 []) piece then at (service new after w2 []) left →
+    (read : List ℕ) × (written : List ℕ) × Consumes r0 r2 read × Appends w0 w2 written × SentBefore settings first read written then at after left
+session_last settings first now new then store after r0 r1 r2 w0 w1 w2 kept was at left piece up read l =
+    let served = l.goes settings first up.read.stream w0 up.read.served in (
+      up.read.stream ++ piece,
+      served.sent,
+      Consumes-trans r0 r1 r2 up.read.stream piece up.read.consumed read,
+      served.appended,
+      record {
+        front = up.read.stream ++ l.front;
+        behind = l.behind;
+        whole = ap (λ (x : List ℕ). up.read.stream ++ x) l.whole ∙ sym (append_assoc up.read.stream l.front l.behind);
+        target = l.target;
+        stands = stands_then l.stands;
+        answered = λ range none. all_served settings first (up.read.stream ++ l.front) l.target then w0 w2 served range none;
+        few = l.few;
+        crash = l.crash;
+      },
+    )
+  where
+    stands_then : StandsBehind now store l.front l.target then → StandsBehind (opening_connection settings 1) first (up.read.stream ++ l.front) l.target then
+    stands_then (inl over) = inl over
+    stands_then (inr comes) = inr (comes_then (opening_connection settings 1) now l.target first store then up.read.stream l.front up.advances comes)

@@ -294,6 +294,11 @@ held_front session.Write contents now waiting held = held
 held_front session.Read contents now waiting held = absurd held
 held_front (session.Target fault) contents now waiting held = absurd held
 
+-- none of them, where it was the sync
+pub held_all : (fault : SessionFault) (contents now : Option (List ℕ)) (waiting : List ℕ) → fault ≡ session.Sync → HoldsBack fault contents now waiting →
+    now ≡ contents
+held_all fault contents now waiting is held = subst (λ (f : SessionFault). HoldsBack f contents now waiting) is held
+
 -- a part of them was, or none
 front_out : (settings : Settings) (first : Store) (stream : List ℕ) (target : Connection) (store after : Store) (start contents now : Option (List ℕ))
     (waiting : List ℕ)
@@ -512,7 +517,7 @@ is_over_more settings disk read more o = (
 )
 
 -- no bytes change nothing
-goes_none : (s : Service) → Goes s [] s
+pub goes_none : (s : Service) → Goes s [] s
 goes_none s = λ settings first stream start up. subst (λ (x : List ℕ). ServedUpTo settings first x start s)
     (sym (append-nil stream)) up
 
@@ -624,7 +629,7 @@ read_more settings first now new store after r0 r1 r2 w0 w1 w2 piece up read goe
     }
 
 -- all PDUs of what was read are answered
-all_served : (settings : Settings) (first : Store) (stream : List ℕ) (now : Connection) (store : Store) (w0 w1 : Option (List ℕ)) →
+pub all_served : (settings : Settings) (first : Store) (stream : List ℕ) (now : Connection) (store : Store) (w0 w1 : Option (List ℕ)) →
     (up : ServedUpTo settings first stream w0 (service now store w1 []))
     → IsInRange settings.preferences → store.failures ≡ first.failures → ServesAll settings first.disk stream store.disk up.sent
 all_served settings first stream now store w0 w1 up range h ms given rest s =

@@ -10,14 +10,16 @@ use Rattle.iscsi_stream.specs.declared.fault.StreamFault.TheVariants as stream
 use Rattle.iscsi_stream.specs.Segment.{no_login}
 use Rattle.iscsi_stream.specs.Stream.{Message, ReadsAs, NoPdu, Splits, longest_segment}
 use Rattle.iscsi_stream.specs.Framing.{IsBegun, last_place}
-use Rattle.iscsi_login.specs.Negotiation.{standard}
+use Rattle.iscsi_login.specs.Negotiation.{IsInRange, standard}
 use Rattle.iscsi_target.specs.declared.fault.TargetFault.TheVariants as faults
 use Rattle.iscsi_target_session.specs.Configured.{Settings}
 use Rattle.iscsi_target_session.specs.Session.{limit}
 use Rattle.iscsi_stream.specs.Canonical.{canon}
 use Rattle.iscsi_target.specs.State.{Execution, Stepped, opening, unchanged}
 use Rattle.iscsi_target.specs.Machine.{answers, is_closed, MayStop}
-use Rattle.iscsi_target.specs.Feed.{Writes, beginning}
+use Rattle.iscsi_target.specs.Feed.{Connection, Store, Writes, beginning, opening_connection}
+use Rattle.iscsi_target.specs.Inside.{Advances, store_of}
+use Rattle.iscsi_target.specs.Crash.{CrashesFed}
 use Rattle.iscsi_target.specs.Laws.{Leads}
 use Rattle.iscsi_service.specs.declared.session.SessionFault.{SessionFault}
 use Rattle.iscsi_service.specs.declared.session.SessionFault.TheVariants as session
@@ -141,6 +143,39 @@ EndsBy settings disk (Err (session.Target faults.NoMemory)) read = Unit {0}
 EndsBy settings disk (Err session.Sync) read = Unit {0}
 EndsBy settings disk (Err session.Write) read = Unit {0}
 EndsBy settings disk (Err (session.Target faults.Closed)) read = ⊥
+
+-- ---- a sync that failed
+
+-- These bytes led a target and its store from here to there; of the failures that were counted some
+-- may be those of syncs.
+pub record Comes (old : Connection) (before : Store) (bytes : List ℕ) (new : Connection)
+    (after : Store) : Type 0 where
+  pub failures : ℕ
+  pub few : failures ≤ after.failures
+  pub advances : Advances old before bytes new (store_of after.disk failures)
+
+-- They did so, or the session was closed by them.
+abbrev pub StandsBehind : Connection → Store → List ℕ → Connection → Store → Type 0
+StandsBehind old before bytes new after =
+    (is_closed new.machine ≡ true) ⊎ Comes old before bytes new after
+
+-- What was written are the answers to all PDUs of a front of what was read, where the store was
+-- this one and a crash left this. A crash at last leaves of each block what it would have left then,
+-- or what a command of a PDU behind that front leaves of it.
+pub record SentBefore (settings : Settings) (first : Store) (read written : List ℕ) (store : Store)
+    (kept : ℕ → List ℕ → Type 0) (last : Store) (left : ℕ → List ℕ → Type 0) : Type 0 where
+  pub front : List ℕ
+  pub behind : List ℕ
+  pub whole : read ≡ front ++ behind
+  -- where the session stood then
+  pub target : Connection
+  pub stands : StandsBehind (opening_connection settings 1) first front target store
+  pub answered : IsInRange settings.preferences → store.failures ≡ first.failures
+      → ServesAll settings first.disk front store.disk written
+  pub few : store.failures ≤ last.failures
+  pub crash : CrashesFed target store behind last kept left
+
+-- ---- the end
 
 -- A session that ended well has read its reader to the end, or was closed.
 abbrev pub EndsWell : Settings → Disk → Option (List ℕ) → Option (List ℕ) → Type 0

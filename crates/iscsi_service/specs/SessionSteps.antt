@@ -7,8 +7,8 @@ use Rattle.iscsi_stream.specs.Normalising.{WroteFront}
 use Rattle.iscsi_target.specs.declared.fault.TargetFault.TheVariants as faults
 use Rattle.iscsi_target_session.specs.Configured.{Settings}
 use Rattle.iscsi_target.specs.Feed.{Connection, Store, FedAll, opening_connection, stream_of, scene}
-use Rattle.iscsi_target.specs.Inside.{store_of, Advances}
-use Rattle.iscsi_service.specs.Session.{HasExecuted, IsOver, EndsBy, ServesFirst}
+use Rattle.iscsi_target.specs.Crash.{CrashesFed}
+use Rattle.iscsi_service.specs.Session.{HasExecuted, IsOver, EndsBy, ServesFirst, StandsBehind}
 use Rattle.iscsi_service.specs.declared.session.SessionFault.{SessionFault}
 use Rattle.iscsi_service.specs.declared.session.SessionFault.TheVariants as session
 
@@ -48,14 +48,6 @@ pub record ServedUpTo (settings : Settings) (first : Store) (stream : List ℕ)
 pub record Syncs (before after : Store) : Type 0 where
   pub disk : after.disk ≡ before.disk
   pub rises : before.failures ≤ after.failures
-
--- These bytes led a target and its store from here to there; of the failures that were counted some
--- may be those of syncs.
-pub record Comes (old : Connection) (before : Store) (bytes : List ℕ) (new : Connection)
-    (after : Store) : Type 0 where
-  pub failures : ℕ
-  pub few : failures ≤ after.failures
-  pub advances : Advances old before bytes new (store_of after.disk failures)
 
 -- The answers that waited were not all sent: none where the sync failed, and a front of them where
 -- a write did.
@@ -103,6 +95,20 @@ RunsOut old bytes new =
     × HasExecuted first.disk new.store.disk
     × (new.store.failures ≡ first.failures
     → ServesFirst settings first.disk (stream ++ bytes) new.store.disk sent)
+
+-- When the last answers left, some first bytes were served, the store was this one, and a crash
+-- left this. A crash at last leaves of each block what it would have left then, or what a command
+-- of a PDU behind them leaves of it.
+pub record LeftLast (old : Service) (bytes : List ℕ) (store : Store) (kept : ℕ → List ℕ → Type 0)
+    (new : Service) (left : ℕ → List ℕ → Type 0) : Type 0 where
+  pub front : List ℕ
+  pub behind : List ℕ
+  pub whole : bytes ≡ front ++ behind
+  pub target : Connection
+  pub goes : Goes old front (service target store new.contents [])
+  pub stands : StandsBehind old.target old.store front target store
+  pub few : store.failures ≤ new.store.failures
+  pub crash : CrashesFed target store behind new.store kept left
 
 -- What is left where a session ends by a fault at these bytes.
 abbrev pub Breaks : Service → List ℕ → SessionFault → Service → Type 0

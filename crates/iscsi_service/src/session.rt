@@ -1,6 +1,6 @@
 //! A target's session over a stream (RFC 7143, sections 6 and 11).
 
-ghost use Rattle.std.specs.Prelude.{◌≡◌, ◌≢◌, ◌≤◌, ◌<◌, ℕ, List, [], true, false, length, take, Ok, Err, IfOk, IfErr, OnOk};
+ghost use Rattle.std.specs.Prelude.{◌≡◌, ◌≢◌, ◌⊎◌, ◌≤◌, ◌<◌, ℕ, List, [], true, false, length, take, Ok, Err, IfOk, IfErr, OnOk};
 ghost use Rattle.std.specs.Io.KnownBytes.{Appends, Consumes};
 ghost use Rattle.scsi_disk.specs.Lasting.{Lasts, Within};
 ghost use Rattle.iscsi_pdu.specs.Meaning.{AreBytes};
@@ -10,8 +10,8 @@ ghost use Rattle.iscsi_target.specs.Machine.{is_closed};
 ghost use Rattle.iscsi_target.specs.Feed.{opening_connection};
 ghost use Rattle.iscsi_target.specs.Crash.{CrashesFed};
 ghost use Rattle.iscsi_target.specs.Inside.{store_of};
-ghost use Rattle.iscsi_service.specs.Session.{target_settings, EndsBy, EndsWell, HasExecuted, Serves};
-ghost use Rattle.iscsi_service.specs.SessionSteps.{Goes, ClosesBy, Breaks, Comes, HoldsBack, Syncs, service};
+ghost use Rattle.iscsi_service.specs.Session.{target_settings, Comes, EndsBy, EndsWell, HasExecuted, SentBefore, Serves};
+ghost use Rattle.iscsi_service.specs.SessionSteps.{Goes, ClosesBy, Breaks, HoldsBack, LeftLast, Syncs, service};
 
 use iscsi_login::{Phase, Preferences};
 use iscsi_stream::{PIECE, READS, write_fully};
@@ -102,6 +102,14 @@ pub fn serve_stream<S: BlockStore, R: Read, W: Write>(
     // They are, whatever comes of it but a sync that failed.
     ensures synced { S.synced store.old ≡ true → result ≢ Err SessionFault.Sync
         → S.synced store.new ≡ true }
+    // Where one failed, the last answers that were written left a store that was synced.
+    ensures unsent { result ≡ Err SessionFault.Sync → S.synced store.old ≡ true
+        → (then : S) × (S.synced then ≡ true) × (read : List ℕ) × (written : List ℕ)
+        × Consumes (R.remaining r.old) (R.remaining r.new) read
+        × Appends (W.contents w.old) (W.contents w.new) written
+        × SentBefore config (store_of (S.disk store.old) (S.failures store.old)) read written
+        (store_of (S.disk then) (S.failures then)) (S.kept then)
+        (store_of (S.disk store.new) (S.failures store.new)) (S.kept store.new) }
     ensures end { S.failures store.new ≡ S.failures store.old → OnOk result
         (EndsWell config (S.disk store.old) (R.remaining r.old) (R.remaining r.new)) }
 {
@@ -133,6 +141,13 @@ pub(crate) fn serve_reads<S: BlockStore, R: Read, W: Write>(
         → Lasts (S.synced store.new) (S.disk store.new) (S.kept store.new) }
     ensures synced { S.synced store.old ≡ true → result ≢ Err SessionFault.Sync
         → S.synced store.new ≡ true }
+    ensures unsent { result ≡ Err SessionFault.Sync → S.synced store.old ≡ true
+        → (then : S) × (S.synced then ≡ true) × (read : List ℕ) × (written : List ℕ)
+        × Consumes (R.remaining r.old) (R.remaining r.new) read
+        × Appends (W.contents w.old) (W.contents w.new) written
+        × SentBefore config (store_of (S.disk store.old) (S.failures store.old)) read written
+        (store_of (S.disk then) (S.failures then)) (S.kept then)
+        (store_of (S.disk store.new) (S.failures store.new)) (S.kept store.new) }
     ensures end { S.failures store.new ≡ S.failures store.old → OnOk result
         (EndsWell config (S.disk store.old) (R.remaining r.old) (R.remaining r.new)) }
 {
@@ -184,6 +199,12 @@ fn serve_piece<S: BlockStore, W: Write>(
         (store_of (S.disk store.old) (S.failures store.old)) piece.now
         (store_of (S.disk store.new) (S.failures store.new)) (S.kept store.old) (S.kept store.new) }
     ensures synced { result ≢ Err SessionFault.Sync → S.synced store.new ≡ true }
+    ensures unsent { result ≡ Err SessionFault.Sync → S.synced store.old ≡ true
+        → (then : S) × (S.synced then ≡ true) × LeftLast
+        (service target.old (store_of (S.disk store.old) (S.failures store.old)) (W.contents w.old) [])
+        piece.now (store_of (S.disk then) (S.failures then)) (S.kept then)
+        (service target.new (store_of (S.disk store.new) (S.failures store.new)) (W.contents w.new) [])
+        (S.kept store.new) }
 {
     out.clear();
     let mut rest = piece;
@@ -233,6 +254,10 @@ fn serve_next<S: BlockStore, W: Write>(
         (store_of (S.disk store.new) (S.failures store.new)) (S.kept store.old) (S.kept store.new) }
     ensures synced { IfErr result (λ fault. fault ≢ SessionFault.Sync
         → S.synced store.new ≡ true) }
+    ensures unsent { IfErr result (λ fault. fault ≡ SessionFault.Sync
+        → W.contents w.new ≡ W.contents w.old) }
+    ensures sent { OnOk result ((W.contents w.new ≡ W.contents w.old)
+        ⊎ ((out.new.items ≡ []) × (S.synced store.new ≡ true))) }
 {
     match target.feed_next(piece, store, out) {
         Ok(done) => {

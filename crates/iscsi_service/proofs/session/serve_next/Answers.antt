@@ -5,7 +5,7 @@ use Rattle.iscsi_target.specs.Feed.{Store}
 use Rattle.iscsi_target.specs.Inside.{store_of}
 use Rattle.iscsi_service.specs.SessionSteps.{service}
 use Rattle.iscsi_service.proofs.SessionReadInvariant.{next_goes, next_closes, next_is_closed, next_is_open, next_rises, closes_synced, goes_written}
-use Rattle.iscsi_service.proofs.SessionReadInvariant.{write_loses, breaks_held, fault_breaks}
+use Rattle.iscsi_service.proofs.SessionReadInvariant.{write_loses, breaks_held, fault_breaks, held_all}
 use Rattle.iscsi_service.proofs.SessionCrashLemmas.{next_crashes, next_advances, comes_synced, crashes_synced}
 use Rattle.iscsi_service.proofs.session.serve_next.Goals as goal
 
@@ -187,3 +187,15 @@ returns-else-len-gt-MOST_WAITING-clause-advances g c =
     let contents = g.W.Write.contents c.args.w.now in
     λ open_. next_advances (is_closed c.args.target.now.machine) c.args.target.now c.feed_next.new.self before after c.args.out.now.items c.args.piece.now
     c.feed_next.new.out.items c.in-Ok.done c.in-Ok.ensures.fed open_
+
+pub returns-in_err-write_out-in-Ok-clause-unsent : goal.returns-in_err-write_out-in-Ok-clause-unsent
+returns-in_err-write_out-in-Ok-clause-unsent g c =
+    let p = err_from_is_err_and c.from_residual.result c.from_residual.ensures.1 in
+    rw (p.1, p.2) (λ is. held_all c.in_err-write_out-in-Ok.field-0.0 (g.W.Write.contents c.args.w.now) (g.W.Write.contents c.write_out.new.w)
+    c.feed_next.new.out.items is c.in_err-write_out-in-Ok.ensures.err)
+
+pub returns-in_err-write_out-in-Err-clause-unsent : goal.returns-in_err-write_out-in-Err-clause-unsent
+returns-in_err-write_out-in-Err-clause-unsent g c =
+    let p = err_from_is_err_and c.from_residual-in_err-write_out-in-Err.result c.from_residual-in_err-write_out-in-Err.ensures.1 in
+    rw (p.1, p.2) (λ is. held_all c.in_err-write_out-in-Err.field-0.0 (g.W.Write.contents c.args.w.now) (g.W.Write.contents c.write_out-in-Err.new.w)
+    c.feed_next.new.out.items is c.in_err-write_out-in-Err.ensures.err)

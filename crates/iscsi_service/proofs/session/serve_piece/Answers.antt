@@ -6,8 +6,9 @@ use Rattle.iscsi_target.specs.Feed.{Store}
 use Rattle.iscsi_target.specs.Inside.{store_of}
 use Rattle.iscsi_service.specs.SessionSteps.{Service, service}
 use Rattle.iscsi_service.proofs.SessionReadInvariant.{PieceUpTo, piece_next, piece_breaks, piece_lost, piece_done, piece_over, piece_closes}
-use Rattle.iscsi_service.proofs.SessionReadInvariant.{piece_start, closes_synced}
+use Rattle.iscsi_service.proofs.SessionReadInvariant.{piece_start, closes_synced, held_all}
 use Rattle.iscsi_service.proofs.SessionCrashLemmas.{AdvancesUpTo, piece_begins, piece_advances, piece_advanced, piece_crashes, comes_synced, crashes_synced}
+use Rattle.iscsi_service.proofs.SessionCrashLemmas.{LastUpTo, SomeSynced, last_begins, last_more, last_stops, last_closed, last_synced, last_done}
 use Rattle.iscsi_target.proofs.PassedLemmas.{crashes_none}
 use Rattle.iscsi_service.proofs.session.serve_piece.Goals as goal
 
@@ -20,6 +21,11 @@ loop-rest-init g c =
           (piece_start (service c.args.target.now before (g.W.Write.contents c.args.w.now) []) c.args.piece.now),
       piece_begins c.args.target.now before c.args.piece.now,
       (omega arith, crashes_none c.args.target.now before c.args.piece.now (g.S.BlockStore.kept c.args.store.now)),
+      λ synced. (
+        c.args.store.now,
+        synced,
+        last_begins c.args.target.now before (g.W.Write.contents c.args.w.now) _ c.args.piece.now (g.S.BlockStore.kept c.args.store.now),
+      ),
     )
 
 pub returns-in_err-taken-clause-err : goal.returns-in_err-taken-clause-err
@@ -104,6 +110,15 @@ loop-rest-preserved g c =
       piece_crashes c.args.target.now c.loop-rest.target old.store mid.store after c.args.piece.now c.loop-rest.rest.now (g.S.BlockStore.kept c.args.store.now)
           (g.S.BlockStore.kept c.loop-rest.store) (g.S.BlockStore.kept c.serve_next.new.store) c.loop-rest.invariant.2 c.loop-rest.invariant.3
           c.serve_next.ensures.crash,
+      λ synced. subst (λ (x : List ℕ). SomeSynced g.S.BlockStore.synced (λ s. store_of (g.S.BlockStore.disk s) (g.S.BlockStore.failures s))
+          g.S.BlockStore.kept (λ then kept. LastUpTo old c.args.piece.now x then kept new (g.S.BlockStore.kept c.serve_next.new.store)))
+          (sym (take_rest c.loop-rest.rest.now c.in_ok-taken.taken))
+          (last_more g.S.BlockStore.synced (λ s. store_of (g.S.BlockStore.disk s) (g.S.BlockStore.failures s)) g.S.BlockStore.kept
+          c.serve_next.new.store old c.args.piece.now c.loop-rest.rest.now c.in_ok-taken.taken c.loop-rest.target c.serve_next.new.target mid.store
+          mid.contents contents mid.waiting c.serve_next.new.out.items (g.S.BlockStore.kept c.loop-rest.store) (c.loop-rest.invariant.4 synced) up
+          (piece_advances c.args.target.now c.loop-rest.target c.serve_next.new.target old.store mid.store after c.args.piece.now c.loop-rest.rest.now
+          c.in_ok-taken.taken c.loop-rest.invariant.2 (c.in_ok-taken.ensures.advances (sym c.is_over.ensures ∙ c.if-is_over.false)))
+          (c.in_ok-taken.ensures.advances (sym c.is_over.ensures ∙ c.if-is_over.false)) c.serve_next.ensures.crash c.in_ok-taken.ensures.sent),
     )
 
 pub returns-in_err-write_out-2-clause-err : goal.returns-in_err-write_out-2-clause-err
@@ -189,3 +204,69 @@ returns-clause-advances g c = λ _.
     comes_synced c.args.target.now c.loop-rest.target before store last c.args.piece.now
     (piece_advanced c.args.target.now c.loop-rest.target before store c.args.piece.now c.loop-rest.rest.now c.loop-rest.invariant.2
     (eqb-true (length c.loop-rest.rest.now) 0 (sym c.loop-rest-test.ensures))) c.in_ok-write_out-2.ensures.store
+
+pub returns-in_err-taken-clause-unsent : goal.returns-in_err-taken-clause-unsent
+returns-in_err-taken-clause-unsent g c =
+    let old : Service = service c.args.target.now (store_of (g.S.BlockStore.disk c.args.store.now) (g.S.BlockStore.failures c.args.store.now))
+    (g.W.Write.contents c.args.w.now) [] in
+    let mid : Service = service c.loop-rest.target (store_of (g.S.BlockStore.disk c.loop-rest.store) (g.S.BlockStore.failures c.loop-rest.store))
+    (g.W.Write.contents c.loop-rest.w) c.loop-rest.out.items in
+    let after : Store = store_of (g.S.BlockStore.disk c.serve_next.new.store) (g.S.BlockStore.failures c.serve_next.new.store) in
+    let contents = g.W.Write.contents c.serve_next.new.w in
+    let p = err_from_is_err_and c.from_residual.result c.from_residual.ensures.1 in
+    rw (p.1, p.2) (λ is synced.
+    let l = c.loop-rest.invariant.4 synced in (
+      l.0,
+      l.1,
+      last_stops old c.args.piece.now c.loop-rest.rest.now c.loop-rest.target c.serve_next.new.target
+          (store_of (g.S.BlockStore.disk l.0) (g.S.BlockStore.failures l.0)) mid.store after mid.contents contents mid.waiting []
+          (g.S.BlockStore.kept l.0) (g.S.BlockStore.kept c.loop-rest.store) (g.S.BlockStore.kept c.serve_next.new.store) l.2
+          (c.in_err-taken.ensures.unsent (cc)) c.serve_next.ensures.crash,
+    ))
+
+pub returns-in_err-write_out-clause-unsent : goal.returns-in_err-write_out-clause-unsent
+returns-in_err-write_out-clause-unsent g c =
+    let old : Service = service c.args.target.now (store_of (g.S.BlockStore.disk c.args.store.now) (g.S.BlockStore.failures c.args.store.now))
+    (g.W.Write.contents c.args.w.now) [] in
+    let mid : Service = service c.loop-rest.target (store_of (g.S.BlockStore.disk c.loop-rest.store) (g.S.BlockStore.failures c.loop-rest.store))
+    (g.W.Write.contents c.loop-rest.w) c.loop-rest.out.items in
+    let after : Store = store_of (g.S.BlockStore.disk c.serve_next.new.store) (g.S.BlockStore.failures c.serve_next.new.store) in
+    let contents = g.W.Write.contents c.serve_next.new.w in
+    let last : Store = store_of (g.S.BlockStore.disk c.write_out.new.store) (g.S.BlockStore.failures c.write_out.new.store) in
+    let new : Service = service c.serve_next.new.target after contents c.serve_next.new.out.items in
+    let left : List ℕ = drop c.in_ok-taken.taken c.loop-rest.rest.now in
+    let up : PieceUpTo old c.args.piece.now left new = piece_next old mid new c.args.piece.now c.loop-rest.rest.now c.in_ok-taken.taken c.loop-rest.invariant.1
+    c.in_ok-taken.ensures.goes in
+    let over = c.in_ok-taken.ensures.closes (sym c.is_over.ensures ∙ c.if-is_over.true) in
+    let p = err_from_is_err_and c.from_residual-in_err-write_out.result c.from_residual-in_err-write_out.ensures.1 in
+    rw (p.1, p.2) (λ is synced.
+    let l = last_closed g.S.BlockStore.synced (λ s. store_of (g.S.BlockStore.disk s) (g.S.BlockStore.failures s)) g.S.BlockStore.kept
+    c.serve_next.new.store old c.args.piece.now c.loop-rest.rest.now c.in_ok-taken.taken c.loop-rest.target c.serve_next.new.target mid.store mid.contents
+    contents mid.waiting c.serve_next.new.out.items (g.S.BlockStore.kept c.loop-rest.store) (c.loop-rest.invariant.4 synced) up over.0
+    c.serve_next.ensures.crash c.in_ok-taken.ensures.sent in (
+      l.0,
+      l.1,
+      last_synced old c.args.piece.now c.serve_next.new.target (store_of (g.S.BlockStore.disk l.0) (g.S.BlockStore.failures l.0)) after last contents
+          (g.W.Write.contents c.write_out.new.w) c.serve_next.new.out.items [] (g.S.BlockStore.kept l.0) (g.S.BlockStore.kept c.serve_next.new.store)
+          (g.S.BlockStore.kept c.write_out.new.store) l.2 c.in_err-write_out.ensures.store c.in_err-write_out.ensures.kept
+          (held_all c.in_err-write_out.field-0.0 contents (g.W.Write.contents c.write_out.new.w) c.serve_next.new.out.items (cc)
+          c.in_err-write_out.ensures.err),
+    ))
+
+pub returns-in_err-write_out-2-clause-unsent : goal.returns-in_err-write_out-2-clause-unsent
+returns-in_err-write_out-2-clause-unsent g c =
+    let old : Service = service c.args.target.now (store_of (g.S.BlockStore.disk c.args.store.now) (g.S.BlockStore.failures c.args.store.now))
+    (g.W.Write.contents c.args.w.now) [] in
+    let mid : Service = service c.loop-rest.target (store_of (g.S.BlockStore.disk c.loop-rest.store) (g.S.BlockStore.failures c.loop-rest.store))
+    (g.W.Write.contents c.loop-rest.w) c.loop-rest.out.items in
+    let last : Store = store_of (g.S.BlockStore.disk c.write_out-2.new.store) (g.S.BlockStore.failures c.write_out-2.new.store) in
+    let p = err_from_is_err_and c.from_residual-in_err-write_out-2.result c.from_residual-in_err-write_out-2.ensures.1 in
+    rw (p.1, p.2) (λ is synced.
+    let l = c.loop-rest.invariant.4 synced in (
+      l.0,
+      l.1,
+      last_done old c.args.piece.now c.loop-rest.rest.now c.loop-rest.target (store_of (g.S.BlockStore.disk l.0) (g.S.BlockStore.failures l.0)) mid.store last
+          mid.contents (g.W.Write.contents c.write_out-2.new.w) mid.waiting [] (g.S.BlockStore.kept l.0) (g.S.BlockStore.kept c.loop-rest.store)
+          (g.S.BlockStore.kept c.write_out-2.new.store) l.2 c.in_err-write_out-2.ensures.store c.in_err-write_out-2.ensures.kept
+          (held_all c.in_err-write_out-2.field-0.0 mid.contents (g.W.Write.contents c.write_out-2.new.w) mid.waiting (cc) c.in_err-write_out-2.ensures.err),
+    ))

@@ -5,7 +5,7 @@ use Rattle.iscsi_target.specs.Crash.{CrashesFed}
 use Rattle.iscsi_target.specs.Inside.{store_of}
 use Rattle.iscsi_service.proofs.SessionReadInvariant.{read_stops, reads_stop, end_stops, over_stops, finish_stops, read_more, fault_stops}
 use Rattle.iscsi_service.proofs.SessionReadInvariant.{fault_executed, over_ends, ok_is, ok_open, outside, ReadUpTo}
-use Rattle.iscsi_service.proofs.SessionCrashLemmas.{session_start, session_crashes, session_more}
+use Rattle.iscsi_service.proofs.SessionCrashLemmas.{session_start, session_crashes, session_more, session_last}
 use Rattle.iscsi_service.proofs.session.serve_reads.Goals as goal
 
 pub loop-init : goal.loop-init
@@ -197,3 +197,23 @@ pub returns-in_err-serve_piece-clause-synced : goal.returns-in_err-serve_piece-c
 returns-in_err-serve_piece-clause-synced g c =
     let p = err_from_is_err_and c.from_residual.result c.from_residual.ensures.1 in
     rw (p.1, p.2) (λ synced other. c.in_err-serve_piece.ensures.synced (λ e. other cc))
+
+pub returns-in_err-serve_piece-clause-unsent : goal.returns-in_err-serve_piece-clause-unsent
+returns-in_err-serve_piece-clause-unsent g c =
+    let first : Store = store_of (g.S.BlockStore.disk c.args.store.now) (g.S.BlockStore.failures c.args.store.now) in
+    let store : Store = store_of (g.S.BlockStore.disk c.loop.store) (g.S.BlockStore.failures c.loop.store) in
+    let after : Store = store_of (g.S.BlockStore.disk c.serve_piece.new.store) (g.S.BlockStore.failures c.serve_piece.new.store) in
+    let r0 = g.R.Read.remaining c.args.r.now in
+    let r1 = g.R.Read.remaining c.loop.r in
+    let r2 = g.R.Read.remaining c.read.new.self in
+    let w0 = g.W.Write.contents c.args.w.now in
+    let w1 = g.W.Write.contents c.loop.w in
+    let w2 = g.W.Write.contents c.serve_piece.new.w in
+    let piece : List ℕ = take c.in-Ok.n c.read.new.buf in
+    let p = err_from_is_err_and c.from_residual.result c.from_residual.ensures.1 in
+    rw (p.1, p.2) (λ is synced.
+    let l = c.in_err-serve_piece.ensures.unsent (cc) (c.loop.invariant.2 synced) in
+    let m = session_last c.args.config first c.loop.target c.serve_piece.new.target (store_of (g.S.BlockStore.disk l.0) (g.S.BlockStore.failures l.0)) store
+    after r0 r1 r2 w0 w1 w2 (g.S.BlockStore.kept c.args.store.now) (g.S.BlockStore.kept c.loop.store) (g.S.BlockStore.kept l.0)
+    (g.S.BlockStore.kept c.serve_piece.new.store) piece c.loop.invariant.1 c.in-Ok.ensures.bytes.0 l.2 in
+    (l.0, l.1, m.0, m.1, m.2, m.3, m.4))
