@@ -42,7 +42,8 @@ const ROWS: &[Row] = &[
     Row {
         apart: true,
         calls: 2,
-        answers: [FAILED; 3],
+        // the sync between the writes told that it failed
+        answers: [FAILED, FAILED, Ok(())],
         seen: b"abXYefgh",
         outcomes: &[b"abcdefgh", b"abXdefgh", b"abcYefgh", b"abXYefgh"],
     },
