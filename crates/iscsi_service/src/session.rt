@@ -1,4 +1,5 @@
-//! A target's session over a stream (RFC 7143, sections 6 and 11).
+//! A target's session over a stream (RFC 7143, sections 6 and 11). One file, more than half of which
+//! is the contracts.
 
 ghost use Rattle.std.specs.Prelude.{◌≡◌, ◌≢◌, ◌⊎◌, ◌≤◌, ◌<◌, ℕ, List, [], true, false, length, take, Ok, Err, IfOk, IfErr, OnOk};
 ghost use Rattle.std.specs.Io.KnownBytes.{Appends, Consumes};

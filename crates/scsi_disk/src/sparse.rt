@@ -1,4 +1,5 @@
-//! A store that keeps only what was written.
+//! A store that keeps only what was written. One file, since reads, writes and the room for them go
+//! over the same extents.
 
 ghost use Rattle.std.specs.Prelude.{◌≡◌, refl, ◌+◌, ◌*◌, ◌/◌, ◌%◌, ◌^◌, ◌<◌, ◌≤◌, ◌++◌, length, take, ℕ, true, IsOk, IfOk, IsSome, OnOk, OnErr, IsErrOf};
 ghost use Rattle.std.specs.FinMap.{get};
