@@ -24,7 +24,7 @@ const LONG_WRITE: usize = 262_144;
 pub struct Peer {
     /// Its connection.
     pub connection: Connection,
-    /// Why its session ends; the first reason stays.
+    /// Why its session ends; the first reason stays, but where a sync fails.
     pub end: Option<SessionEnd>,
 }
 
@@ -148,7 +148,7 @@ impl Peer {
             return Step::Rests;
         }
         let Ok(bytes) = hall.offered(seat, store) else {
-            return self.over(SessionEnd::Sync);
+            return self.lost();
         };
         match self.connection.write(bytes, now) {
             Moved::Bytes(count) => {
@@ -233,6 +233,13 @@ impl Peer {
 
     fn over(&mut self, end: SessionEnd) -> Step {
         self.end_by(end);
+        Step::Over
+    }
+
+    // What commands wrote may be lost. That ends the session whatever the reason before, since it
+    // ends the others too.
+    fn lost(&mut self) -> Step {
+        self.end = Some(SessionEnd::Sync);
         Step::Over
     }
 }
