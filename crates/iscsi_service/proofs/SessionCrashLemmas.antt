@@ -21,7 +21,7 @@ use Rattle.iscsi_target.specs.Crash.{CrashesFed, CrashesNext, IsPassed}
 use Rattle.iscsi_target.specs.Inside.{Advances, store_of}
 use Rattle.iscsi_target.proofs.PassedLemmas.{no_advance, advances_then, feeds_advance, crashes_none, crashes_next, crashes_more, crashes_then, passed_more}
 use Rattle.iscsi_target.proofs.ServingLemmas.{runs_rise}
-use Rattle.iscsi_service.specs.Session.{Comes, SentBefore, StandsBehind}
+use Rattle.iscsi_service.specs.Session.{Comes, SentBefore, StandsBehind, exchange}
 use Rattle.iscsi_service.specs.SessionSteps.{Service, service, Goes, LeftLast, Syncs}
 use Rattle.iscsi_service.proofs.SessionReadInvariant.{Outside, outside, ReadUpTo, PieceUpTo, at_start, all_served, goes_none, next_rises, next_is_open}
 
@@ -218,20 +218,28 @@ piece_crashes old now before store after piece rest kept was left p q r = (
 abbrev pub SomeSynced : {S : Type 0} → (S → Bool) → (S → Store) → (S → ℕ → List ℕ → Type 0) → (Store → (ℕ → List ℕ → Type 0) → Type 0) → Type 0
 SomeSynced {S} synced store kept P = (state : S) × (synced state ≡ true) × P (store state) (kept state)
 
+-- a piece, and the bytes of it that are left
+pub record Serving : Type 0 where
+  pub piece : List ℕ
+  pub rest : List ℕ
+
+abbrev pub serving : List ℕ → List ℕ → Serving
+serving piece rest = record { piece = piece; rest = rest }
+
 -- the last answers left behind a front of the piece, where the store was this one, and the bytes up to the rest were served since
-pub record LastUpTo (old : Service) (piece rest : List ℕ) (store : Store) (kept : ℕ → List ℕ → Type 0) (now : Service) (was : ℕ → List ℕ → Type 0)
+pub record LastUpTo (old : Service) (at : Serving) (store : Store) (kept : ℕ → List ℕ → Type 0) (now : Service) (was : ℕ → List ℕ → Type 0)
     : Type 0 where
   pub front : List ℕ
   pub behind : List ℕ
-  pub whole : piece ≡ front ++ behind
+  pub whole : at.piece ≡ front ++ behind
   pub target : Connection
   pub goes : Goes old front (service target store now.contents [])
   pub comes : Comes old.target old.store front target store
-  pub advances : AdvancesUpTo target store behind rest now.target now.store
+  pub advances : AdvancesUpTo target store behind at.rest now.target now.store
   pub crash : Crashed target store behind now.store kept was
 
 pub last_begins : (target : Connection) (store : Store) (contents : Option (List ℕ)) (waiting piece : List ℕ) (kept : ℕ → List ℕ → Type 0) →
-    LastUpTo (service target store contents []) piece piece store kept (service target store contents waiting) kept
+    LastUpTo (service target store contents []) (serving piece piece) store kept (service target store contents waiting) kept
 last_begins target store contents waiting piece kept = record {
   front = [];
   behind = piece;
@@ -245,9 +253,9 @@ last_begins target store contents waiting piece kept = record {
 
 -- a PDU more, whose answers wait
 last_waits : (old : Service) (piece rest : List ℕ) (n : ℕ) (target new : Connection) (then store after : Store) (contents now : Option (List ℕ))
-    (waiting written : List ℕ) (kept was left : ℕ → List ℕ → Type 0) → LastUpTo old piece rest then kept (service target store contents waiting) was →
+    (waiting written : List ℕ) (kept was left : ℕ → List ℕ → Type 0) → LastUpTo old (serving piece rest) then kept (service target store contents waiting) was →
     now ≡ contents → Comes target store (take n rest) new after → Crashed target store rest after was left →
-    LastUpTo old piece (drop n rest) then kept (service new after now written) left
+    LastUpTo old (serving piece (drop n rest)) then kept (service new after now written) left
 last_waits old piece rest n target new then store after contents now waiting written kept was left l same comes crash = record {
   front = l.front;
   behind = l.behind;
@@ -262,7 +270,7 @@ last_waits old piece rest n target new then store after contents now waiting wri
 -- a PDU more, behind which the answers left
 last_leaves : (old : Service) (piece rest : List ℕ) (new : Connection) (after : Store) (now : Option (List ℕ)) (written : List ℕ)
     (left : ℕ → List ℕ → Type 0) → PieceUpTo old piece rest (service new after now written) → AdvancesUpTo old.target old.store piece rest new after →
-    written ≡ [] → LastUpTo old piece rest after left (service new after now written) left
+    written ≡ [] → LastUpTo old (serving piece rest) after left (service new after now written) left
 last_leaves old piece rest new after now written left p a none =
     let same : a.front ≡ p.front = append_cancel_right a.front p.front rest (sym a.parts ∙ p.parts) in
     record {
@@ -279,11 +287,11 @@ last_leaves old piece rest new after now written left p a none =
 -- a PDU more
 pub last_more : {S : Type 0} (synced : S → Bool) (state : S → Store) (kept : S → ℕ → List ℕ → Type 0) (here : S) (old : Service) (piece rest : List ℕ) (n : ℕ)
     (target new : Connection) (store : Store) (contents now : Option (List ℕ)) (waiting written : List ℕ) (was : ℕ → List ℕ → Type 0)
-    → SomeSynced synced state kept (λ then k. LastUpTo old piece rest then k (service target store contents waiting) was)
+    → SomeSynced synced state kept (λ then k. LastUpTo old (serving piece rest) then k (service target store contents waiting) was)
     → PieceUpTo old piece (drop n rest) (service new (state here) now written) → AdvancesUpTo old.target old.store piece (drop n rest) new (state here)
     → Comes target store (take n rest) new (state here) → Crashed target store rest (state here) was (kept here)
     → (now ≡ contents) ⊎ ((written ≡ []) × (synced here ≡ true))
-    → SomeSynced synced state kept (λ then k. LastUpTo old piece (drop n rest) then k (service new (state here) now written) (kept here))
+    → SomeSynced synced state kept (λ then k. LastUpTo old (serving piece (drop n rest)) then k (service new (state here) now written) (kept here))
 last_more synced state kept here old piece rest n target new store contents now waiting written was l p a comes crash (inl same) = (
   l.0,
   l.1,
@@ -294,7 +302,7 @@ last_more synced state kept here old piece rest n target new store contents now 
 
 -- the answers to the next PDU did not leave
 pub last_stops : (old : Service) (piece rest : List ℕ) (target new : Connection) (then store after : Store) (contents now : Option (List ℕ))
-    (waiting written : List ℕ) (kept was left : ℕ → List ℕ → Type 0) → LastUpTo old piece rest then kept (service target store contents waiting) was →
+    (waiting written : List ℕ) (kept was left : ℕ → List ℕ → Type 0) → LastUpTo old (serving piece rest) then kept (service target store contents waiting) was →
     now ≡ contents → Crashed target store rest after was left → LeftLast old piece then kept (service new after now written) left
 last_stops old piece rest target new then store after contents now waiting written kept was left l same crash = record {
   front = l.front;
@@ -310,7 +318,7 @@ last_stops old piece rest target new then store after contents now waiting writt
 -- the next PDU closed the session
 pub last_closed : {S : Type 0} (synced : S → Bool) (state : S → Store) (kept : S → ℕ → List ℕ → Type 0) (here : S) (old : Service) (piece rest : List ℕ)
     (n : ℕ) (target new : Connection) (store : Store) (contents now : Option (List ℕ)) (waiting written : List ℕ) (was : ℕ → List ℕ → Type 0)
-    → SomeSynced synced state kept (λ then k. LastUpTo old piece rest then k (service target store contents waiting) was)
+    → SomeSynced synced state kept (λ then k. LastUpTo old (serving piece rest) then k (service target store contents waiting) was)
     → PieceUpTo old piece (drop n rest) (service new (state here) now written) → is_closed new.machine ≡ true
     → Crashed target store rest (state here) was (kept here) → (now ≡ contents) ⊎ ((written ≡ []) × (synced here ≡ true))
     → SomeSynced synced state kept (λ then k. LeftLast old piece then k (service new (state here) now written) (kept here))
@@ -351,7 +359,7 @@ last_synced old piece target then store after contents now waiting written kept 
 
 -- a sync failed behind the whole piece
 pub last_done : (old : Service) (piece rest : List ℕ) (target : Connection) (then store after : Store) (contents now : Option (List ℕ))
-    (waiting written : List ℕ) (kept was left : ℕ → List ℕ → Type 0) → LastUpTo old piece rest then kept (service target store contents waiting) was →
+    (waiting written : List ℕ) (kept was left : ℕ → List ℕ → Type 0) → LastUpTo old (serving piece rest) then kept (service target store contents waiting) was →
     Syncs store after → Within was left → now ≡ contents → LeftLast old piece then kept (service target after now written) left
 last_done old piece rest target then store after contents now waiting written kept was left l s within same =
     last_synced old piece target then store after contents now waiting written kept was left (record {
@@ -410,7 +418,7 @@ session_more settings first now new store after r0 r1 r2 w0 w1 w2 kept was left 
 pub session_last : (settings : Settings) (first : Store) (now new : Connection) (then store after : Store) (r0 r1 r2 w0 w1 w2 : Option (List ℕ))
     (kept was at left : ℕ → List ℕ → Type 0) (piece : List ℕ) → SessionUpTo settings (outside first r0 w0) now (outside store r1 w1) kept was →
     Consumes r1 r2 piece → LeftLast (service now store w1 []) piece then at (service new after w2 []) left →
-    (read : List ℕ) × (written : List ℕ) × Consumes r0 r2 read × Appends w0 w2 written × SentBefore settings first read written then at after left
+    (read : List ℕ) × (written : List ℕ) × Consumes r0 r2 read × Appends w0 w2 written × SentBefore (exchange settings first read written) then at after left
 session_last settings first now new then store after r0 r1 r2 w0 w1 w2 kept was at left piece up read l =
     let served = l.goes settings first up.read.stream w0 up.read.served in (
       up.read.stream ++ piece,

@@ -159,19 +159,31 @@ abbrev pub StandsBehind : Connection → Store → List ℕ → Connection → S
 StandsBehind old before bytes new after =
     (is_closed new.machine ≡ true) ⊎ Comes old before bytes new after
 
+-- What a session with these settings over a store read and wrote.
+pub record Exchange : Type 0 where
+  pub settings : Settings
+  pub store : Store
+  pub read : List ℕ
+  pub written : List ℕ
+
+-- Such an exchange.
+abbrev pub exchange : Settings → Store → List ℕ → List ℕ → Exchange
+exchange settings store read written =
+    record { settings = settings; store = store; read = read; written = written }
+
 -- What was written are the answers to all PDUs of a front of what was read, where the store was
 -- this one and a crash left this. A crash at last leaves of each block what it would have left then,
 -- or what a command of a PDU behind that front leaves of it.
-pub record SentBefore (settings : Settings) (first : Store) (read written : List ℕ) (store : Store)
-    (kept : ℕ → List ℕ → Type 0) (last : Store) (left : ℕ → List ℕ → Type 0) : Type 0 where
+pub record SentBefore (all : Exchange) (store : Store) (kept : ℕ → List ℕ → Type 0) (last : Store)
+    (left : ℕ → List ℕ → Type 0) : Type 0 where
   pub front : List ℕ
   pub behind : List ℕ
-  pub whole : read ≡ front ++ behind
+  pub whole : all.read ≡ front ++ behind
   -- where the session stood then
   pub target : Connection
-  pub stands : StandsBehind (opening_connection settings 1) first front target store
-  pub answered : IsInRange settings.preferences → store.failures ≡ first.failures
-      → ServesAll settings first.disk front store.disk written
+  pub stands : StandsBehind (opening_connection all.settings 1) all.store front target store
+  pub answered : IsInRange all.settings.preferences → store.failures ≡ all.store.failures
+      → ServesAll all.settings all.store.disk front store.disk all.written
   pub few : store.failures ≤ last.failures
   pub crash : CrashesFed target store behind last kept left
 

@@ -11,7 +11,7 @@ ghost use Rattle.iscsi_target.specs.Machine.{is_closed};
 ghost use Rattle.iscsi_target.specs.Feed.{opening_connection};
 ghost use Rattle.iscsi_target.specs.Crash.{CrashesFed};
 ghost use Rattle.iscsi_target.specs.Inside.{store_of};
-ghost use Rattle.iscsi_service.specs.Session.{target_settings, Comes, EndsBy, EndsWell, HasExecuted, SentBefore, Serves};
+ghost use Rattle.iscsi_service.specs.Session.{target_settings, Comes, EndsBy, EndsWell, HasExecuted, SentBefore, Serves, exchange};
 ghost use Rattle.iscsi_service.specs.SessionSteps.{Goes, ClosesBy, Breaks, HoldsBack, LeftLast, Syncs, service};
 
 use iscsi_login::{Phase, Preferences};
@@ -108,7 +108,8 @@ pub fn serve_stream<S: BlockStore, R: Read, W: Write>(
         → (then : S) × (S.synced then ≡ true) × (read : List ℕ) × (written : List ℕ)
         × Consumes (R.remaining r.old) (R.remaining r.new) read
         × Appends (W.contents w.old) (W.contents w.new) written
-        × SentBefore config (store_of (S.disk store.old) (S.failures store.old)) read written
+        × SentBefore
+        (exchange config (store_of (S.disk store.old) (S.failures store.old)) read written)
         (store_of (S.disk then) (S.failures then)) (S.kept then)
         (store_of (S.disk store.new) (S.failures store.new)) (S.kept store.new) }
     ensures end { S.failures store.new ≡ S.failures store.old → OnOk result
@@ -146,7 +147,8 @@ pub(crate) fn serve_reads<S: BlockStore, R: Read, W: Write>(
         → (then : S) × (S.synced then ≡ true) × (read : List ℕ) × (written : List ℕ)
         × Consumes (R.remaining r.old) (R.remaining r.new) read
         × Appends (W.contents w.old) (W.contents w.new) written
-        × SentBefore config (store_of (S.disk store.old) (S.failures store.old)) read written
+        × SentBefore
+        (exchange config (store_of (S.disk store.old) (S.failures store.old)) read written)
         (store_of (S.disk then) (S.failures then)) (S.kept then)
         (store_of (S.disk store.new) (S.failures store.new)) (S.kept store.new) }
     ensures end { S.failures store.new ≡ S.failures store.old → OnOk result

@@ -20,8 +20,9 @@ use Rattle.iscsi_pdu.specs.declared.head.Head.{Head}
 use Rattle.iscsi_stream.specs.Canonical.{canon}
 use Rattle.iscsi_login.specs.Held.{max_burst}
 use Rattle.iscsi_target.specs.State.{Machine, waiting}
+use Rattle.iscsi_target.specs.Inside.{store_of}
 use Rattle.iscsi_target.specs.Execution.{data_in_head, data_in_parts, data_ins, response_head, sense_segment, sequence_parts}
-use Rattle.iscsi_target.specs.Reads.{AnswersRead, Read, SendsPart, SendsRuns, SendsSequence, read_in}
+use Rattle.iscsi_target.specs.Reads.{AnswersRead, Read, Reply, SendsPart, SendsRuns, SendsSequence, read_in, reply}
 use Rattle.iscsi_target.specs.declared.machine.command.Sent.{Sent}
 use Rattle.iscsi_target.proofs.DataInSequenceLemmas.{GaveRuns, GaveUpTo, front_kept, gave_more, gave_run, unsent}
 use Rattle.iscsi_target.proofs.CommandLemmas.{told_order}
@@ -48,7 +49,7 @@ part_sent (Err f) head disk part before after ub ua old mid new is works a tells
 -- ---- a sequence
 
 -- of the blocks of a sequence those before the ones that are left went out
-pub record PartsOut (s : Machine) (tag : ℕ) (read : Read) (before sent : Sent) (rest : BlockRange) (old new : List ℕ) : Type 0 where
+pub record PartsOut (to : Reply) (read : Read) (before sent : Sent) (rest : BlockRange) : Type 0 where
   pub bytes : List ℕ
   pub done : ℕ
   pub first : rest.first ≡ read.range.first + done
@@ -56,11 +57,12 @@ pub record PartsOut (s : Machine) (tag : ℕ) (read : Read) (before sent : Sent)
   pub were : WereRead read.disk read.range.first done read.before read.after bytes
   pub carried : sent.bytes ≡ before.bytes + 512 * done
   pub few : sent.count ≤ sent.bytes
-  pub front : take (length old) new ≡ old
-  pub gave : (more : List ℕ) → length more ≡ 512 * rest.count → GaveUpTo s tag (unsent before (bytes ++ more)) (unsent sent more) old new
+  pub front : take (length to.old) to.new ≡ to.old
+  pub gave : (more : List ℕ) → length more ≡ 512 * rest.count
+      → GaveUpTo to.machine to.tag (unsent before (bytes ++ more)) (unsent sent more) to.old to.new
 
 pub parts_none : (s : Machine) (tag : ℕ) (disk : Disk) (run : BlockRange) (n : ℕ) (before : Sent) (old : List ℕ) → before.count ≤ before.bytes →
-    PartsOut s tag (read_in disk run n n) before before run old old
+    PartsOut (reply s tag old old) (read_in disk run n n) before before run
 parts_none s tag disk run n before old few = record {
   bytes = [];
   done = 0;
@@ -86,8 +88,8 @@ pub parts_next : (s : Machine) (tag : ℕ) (disk mid : Disk) (run rest next : Bl
     (old new now : List ℕ) → 512 * most ≡ s.session.held.initiator_max_recv → 0 < most → 0 < rest.count → n ≡ min most rest.count
     → head ≡ data_in_head s.session (waiting s.tasks) tag sent.count sent.bytes (n == rest.count) → mid ≡ disk
     → SendsPart head (read_in mid (record { first = rest.first; count = n }) fm fa) new now → next.first ≡ rest.first + n → next.count + n ≡ rest.count
-    → fb ≤ fm → fm ≤ fa → PartsOut s tag (read_in disk run fb fm) before sent rest old new
-    → PartsOut s tag (read_in disk run fb fa) before (record { count = sent.count + 1; bytes = sent.bytes + 512 * n }) next old now
+    → fb ≤ fm → fm ≤ fa → PartsOut (reply s tag old new) (read_in disk run fb fm) before sent rest
+    → PartsOut (reply s tag old now) (read_in disk run fb fa) before (record { count = sent.count + 1; bytes = sent.bytes + 512 * n }) next
 parts_next s tag disk mid run rest next fb fm fa n most before sent head old new now is_most some more_left is_n is_head same part is_first is_count low up g =
     let x : List ℕ = part.bytes in
     let size : length x ≡ 512 * n = part.is_of.size in
@@ -119,7 +121,7 @@ parts_next s tag disk mid run rest next fb fm fa n most before sent head old new
     }
 
 pub parts_all : (s : Machine) (tag : ℕ) (read : Read) (before sent : Sent) (rest : BlockRange) (old new : List ℕ) → rest.count ≡ 0
-    → PartsOut s tag read before sent rest old new → SendsSequence s tag read before sent old new
+    → PartsOut (reply s tag old new) read before sent rest → SendsSequence (reply s tag old new) read before sent
 parts_all s tag read before sent rest old new none g =
     let all : g.done ≡ read.range.count = omega (arith, g.left, none) in
     let last = g.gave [] (omega (arith, none)) in
@@ -137,7 +139,7 @@ parts_all s tag read before sent rest old new none g =
 -- ---- sequences
 
 -- of the blocks those before the ones that are left went out
-pub record SequencesOut (s : Machine) (tag : ℕ) (read : Read) (sent : Sent) (rest : BlockRange) (old new : List ℕ) : Type 0 where
+pub record SequencesOut (to : Reply) (read : Read) (sent : Sent) (rest : BlockRange) : Type 0 where
   pub bytes : List ℕ
   pub done : ℕ
   pub first : rest.first ≡ read.range.first + done
@@ -145,11 +147,12 @@ pub record SequencesOut (s : Machine) (tag : ℕ) (read : Read) (sent : Sent) (r
   pub were : WereRead read.disk read.range.first done read.before read.after bytes
   pub carried : sent.bytes ≡ 512 * done
   pub few : sent.count ≤ sent.bytes
-  pub front : take (length old) new ≡ old
-  pub gave : (more : List ℕ) → length more ≡ 512 * rest.count → GaveRuns s tag (bytes ++ more) (unsent sent more) old new
+  pub front : take (length to.old) to.new ≡ to.old
+  pub gave : (more : List ℕ) → length more ≡ 512 * rest.count
+      → GaveRuns to.machine to.tag (bytes ++ more) (unsent sent more) to.old to.new
 
 pub sequences_none : (s : Machine) (tag : ℕ) (disk : Disk) (range : BlockRange) (n : ℕ) (old new : List ℕ) → new ≡ old →
-    SequencesOut s tag (read_in disk range n n) (record { count = 0; bytes = 0 }) range old new
+    SequencesOut (reply s tag old new) (read_in disk range n n) (record { count = 0; bytes = 0 }) range
 sequences_none s tag disk range n old new same = record {
   bytes = [];
   done = 0;
@@ -170,9 +173,9 @@ sequences_none s tag disk range n old new same = record {
 
 pub sequences_next : (s : Machine) (tag : ℕ) (disk mid : Disk) (range rest next : BlockRange) (fb fm fa n burst : ℕ) (sent after : Sent)
     (old new now : List ℕ) → 512 * burst ≡ max_burst s.session.held → 0 < burst → 0 < s.session.held.initiator_max_recv → 0 < rest.count
-    → n ≡ min burst rest.count → mid ≡ disk → SendsSequence s tag (read_in mid (record { first = rest.first; count = n }) fm fa) sent after new now
-    → next.first ≡ rest.first + n → next.count + n ≡ rest.count → fb ≤ fm → fm ≤ fa → SequencesOut s tag (read_in disk range fb fm) sent rest old new
-    → SequencesOut s tag (read_in disk range fb fa) after next old now
+    → n ≡ min burst rest.count → mid ≡ disk → SendsSequence (reply s tag new now) (read_in mid (record { first = rest.first; count = n }) fm fa) sent after
+    → next.first ≡ rest.first + n → next.count + n ≡ rest.count → fb ≤ fm → fm ≤ fa → SequencesOut (reply s tag old new) (read_in disk range fb fm) sent rest
+    → SequencesOut (reply s tag old now) (read_in disk range fb fa) after next
 sequences_next s tag disk mid range rest next fb fm fa n burst sent after old new now is_burst some takes more_left is_n same run is_first is_count low high g =
     let x : List ℕ = run.bytes in
     let size : length x ≡ 512 * n = run.is_of.size in
@@ -210,7 +213,7 @@ sequences_next s tag disk mid range rest next fb fm fa n burst sent after old ne
     }
 
 pub sequences_all : (s : Machine) (tag : ℕ) (read : Read) (sent : Sent) (rest : BlockRange) (old new : List ℕ) → rest.count ≡ 0
-    → SequencesOut s tag read sent rest old new → SendsRuns s tag read sent.count old new
+    → SequencesOut (reply s tag old new) read sent rest → SendsRuns (reply s tag old new) read sent.count
 sequences_all s tag read sent rest old new none g =
     let all : g.done ≡ read.range.count = omega (arith, g.left, none) in
     let last = g.gave [] (omega (arith, none)) in
@@ -226,9 +229,10 @@ sequences_all s tag read sent rest old new none g =
 -- ---- the answers
 
 pub answers_read : (s : Machine) (tag : ℕ) (order : Order) (disk now_disk : Disk) (range : BlockRange) (fb fa count : ℕ) (head : Head)
-    (old new now : List ℕ) → IsWhole disk order range → IsDisk disk → now_disk ≡ disk → fb ≤ fa → SendsRuns s tag (read_in disk range fb fa) count old new
+    (old new now : List ℕ) → IsWhole disk order range → IsDisk disk → now_disk ≡ disk → fb ≤ fa
+    → SendsRuns (reply s tag old new) (read_in disk range fb fa) count
     → head ≡ response_head s.session (waiting s.tasks) tag (good order (wanted_length order disk.count) []) count → now ≡ new ++ whole head []
-    → AnswersRead s tag order disk now_disk fb fa old now
+    → AnswersRead (reply s tag old now) order (store_of disk fb) (store_of now_disk fa)
 answers_read s tag order disk now_disk range fb fa count head old new now is is_disk same rises runs is_head is_now =
     let outcome : Outcome = good order (wanted_length order disk.count) runs.bytes in
     record {
@@ -241,7 +245,7 @@ answers_read s tag order disk now_disk range fb fa count head old new now is is_
 pub answers_failed : (s : Machine) (tag : ℕ) (order : Order) (disk now_disk : Disk) (range : BlockRange) (fb fa : ℕ) (outcome : Outcome) (head : Head)
     (old mid now : List ℕ) → IsWhole disk order range → now_disk ≡ disk → fb < fa → outcome ≡ check order ReadError → mid ≡ old
     → head ≡ response_head s.session (waiting s.tasks) tag outcome 0 → now ≡ mid ++ whole head (sense_segment outcome.sense)
-    → AnswersRead s tag order disk now_disk fb fa old now
+    → AnswersRead (reply s tag old now) order (store_of disk fb) (store_of now_disk fa)
 answers_failed s tag order disk now_disk range fb fa outcome head old mid now is same rose told is_mid is_head is_now =
     let none : [] ≡ outcome.bytes = ap (λ (o : Outcome). o.bytes) (sym told) in
     record {

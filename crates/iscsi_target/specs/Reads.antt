@@ -11,6 +11,7 @@ use Rattle.iscsi_pdu.specs.declared.head.Head.{Head}
 use Rattle.iscsi_stream.specs.Canonical.{canon}
 use Rattle.iscsi_login.specs.Held.{Held, max_burst}
 use Rattle.iscsi_target.specs.State.{Machine, waiting}
+use Rattle.iscsi_target.specs.Feed.{Store}
 use Rattle.iscsi_target.specs.Execution.{sequence_parts, data_in_parts, data_ins, command_answers}
 use Rattle.iscsi_target.specs.declared.machine.command.Sent.{Sent}
 
@@ -35,6 +36,17 @@ read_in disk range before after =
 abbrev pub IsOf : Read → List ℕ → Type 0
 IsOf read bytes = WereRead read.disk read.range.first read.range.count read.before read.after bytes
 
+-- What a machine appends for the command with a tag: what the output held before, and then.
+pub record Reply : Type 0 where
+  pub machine : Machine
+  pub tag : ℕ
+  pub old : List ℕ
+  pub new : List ℕ
+
+-- Such a reply.
+abbrev pub reply : Machine → ℕ → List ℕ → List ℕ → Reply
+reply machine tag old new = record { machine = machine; tag = tag; old = old; new = new }
+
 -- What was read was appended behind a head.
 pub record SendsPart (head : Head) (read : Read) (old new : List ℕ) : Type 0 where
   pub bytes : List ℕ
@@ -42,30 +54,29 @@ pub record SendsPart (head : Head) (read : Read) (old new : List ℕ) : Type 0 w
   pub output : new ≡ old ++ whole head bytes
 
 -- What was read was appended as a sequence of Data-In, behind others (section 11.7).
-pub record SendsSequence (s : Machine) (tag : ℕ) (read : Read) (before sent : Sent)
-    (old new : List ℕ) : Type 0 where
+pub record SendsSequence (to : Reply) (read : Read) (before sent : Sent) : Type 0 where
   pub bytes : List ℕ
   pub is_of : IsOf read bytes
-  pub count : sent.count ≡ before.count + length (sequence_parts s.session.held bytes)
+  pub count : sent.count ≡ before.count + length (sequence_parts to.machine.session.held bytes)
   pub carried : sent.bytes ≡ before.bytes + 512 * read.range.count
   pub few : sent.count ≤ sent.bytes
-  pub output : new ≡ old ++ canon (data_ins s.session (waiting s.tasks) tag before.count
-      before.bytes (sequence_parts s.session.held bytes))
+  pub output : to.new ≡ to.old ++ canon (data_ins to.machine.session
+      (waiting to.machine.tasks) to.tag before.count before.bytes
+      (sequence_parts to.machine.session.held bytes))
 
 -- What was read was appended as so many Data-In (section 11.7).
-pub record SendsRuns (s : Machine) (tag : ℕ) (read : Read) (count : ℕ) (old new : List ℕ)
-    : Type 0 where
+pub record SendsRuns (to : Reply) (read : Read) (count : ℕ) : Type 0 where
   pub bytes : List ℕ
   pub is_of : IsOf read bytes
-  pub counted : count ≡ length (data_in_parts s.session.held bytes)
-  pub output : new ≡ old ++ canon (data_ins s.session (waiting s.tasks) tag 0 0
-      (data_in_parts s.session.held bytes))
+  pub counted : count ≡ length (data_in_parts to.machine.session.held bytes)
+  pub output : to.new ≡ to.old ++ canon (data_ins to.machine.session
+      (waiting to.machine.tasks) to.tag 0 0 (data_in_parts to.machine.session.held bytes))
 
 -- An order without data was executed over a store, and its answers were appended (section 11.4).
-pub record AnswersRead (s : Machine) (tag : ℕ) (order : Order) (disk now : Disk)
-    (before after : ℕ) (old new : List ℕ) : Type 0 where
+pub record AnswersRead (to : Reply) (order : Order) (before after : Store) : Type 0 where
   pub outcome : Outcome
-  pub executes : Executes before after disk order []
-      (record { disk = now; outcome = outcome })
-  pub output : new ≡ old ++ canon (command_answers s.session (waiting s.tasks) tag outcome
-      (data_in_parts s.session.held outcome.bytes))
+  pub executes : Executes before.failures after.failures before.disk order []
+      (record { disk = after.disk; outcome = outcome })
+  pub output : to.new ≡ to.old ++ canon (command_answers to.machine.session
+      (waiting to.machine.tasks) to.tag outcome
+      (data_in_parts to.machine.session.held outcome.bytes))

@@ -11,7 +11,7 @@ ghost use Rattle.iscsi_login.specs.Held.{max_burst};
 ghost use Rattle.iscsi_target.specs.Execution.{execute};
 ghost use Rattle.iscsi_target.specs.Crash.{Crashes};
 ghost use Rattle.iscsi_target.specs.Inside.{Handles, moment, store_of};
-ghost use Rattle.iscsi_target.specs.Reads.{AnswersRead, SendsPart, SendsRuns, SendsSequence, TakesBlocks, read_in};
+ghost use Rattle.iscsi_target.specs.Reads.{AnswersRead, SendsPart, SendsRuns, SendsSequence, TakesBlocks, read_in, reply};
 
 use super::Machine;
 use super::command::Sent;
@@ -75,9 +75,10 @@ impl Machine {
         requires takes { TakesBlocks self.now.session.held }
         requires whole { whole_blocks order.now (plan_of order.now (S.disk store.old).count)
             ≡ Some range }
-        ensures ok { OnOk result (AnswersRead self.now tag order.now (S.disk store.old)
-            (S.disk store.new) (S.failures store.old) (S.failures store.new)
-            out.old.items out.new.items) }
+        ensures ok { OnOk result (AnswersRead
+            (reply self.now tag out.old.items out.new.items) order.now
+            (store_of (S.disk store.old) (S.failures store.old))
+            (store_of (S.disk store.new) (S.failures store.new))) }
         ensures err { OnErr result (out.new.items ≡ out.old.items) }
         ensures disk { S.disk store.new ≡ S.disk store.old }
         ensures kept { Within (S.kept store.old) (S.kept store.new) }
@@ -106,9 +107,10 @@ impl Machine {
         requires takes { TakesBlocks self.now.session.held }
         requires whole { whole_blocks order.now (plan_of order.now (S.disk store.old).count)
             ≡ Some range }
-        ensures ok { OnOk result (AnswersRead self.now tag order.now (S.disk store.old)
-            (S.disk store.new) (S.failures store.old) (S.failures store.new)
-            out.old.items out.new.items) }
+        ensures ok { OnOk result (AnswersRead
+            (reply self.now tag out.old.items out.new.items) order.now
+            (store_of (S.disk store.old) (S.failures store.old))
+            (store_of (S.disk store.new) (S.failures store.new))) }
         ensures front { take (length out.old.items) out.new.items ≡ out.old.items }
         ensures disk { S.disk store.new ≡ S.disk store.old }
         ensures kept { Within (S.kept store.old) (S.kept store.new) }
@@ -137,8 +139,9 @@ impl Machine {
         requires inside { range.first + range.count ≤ (S.disk store.old).count }
         requires few { (S.disk store.old).count < 2 ^ 64 }
         requires short { 512 * range.count < 2 ^ 32 }
-        ensures ok { IfOk result (λ count. SendsRuns self.now tag (read_in (S.disk store.old) range
-            (S.failures store.old) (S.failures store.new)) count out.old.items out.new.items) }
+        ensures ok { IfOk result (λ count. SendsRuns
+            (reply self.now tag out.old.items out.new.items) (read_in (S.disk store.old) range
+            (S.failures store.old) (S.failures store.new)) count) }
         ensures front { take (length out.old.items) out.new.items ≡ out.old.items }
         ensures disk { S.disk store.new ≡ S.disk store.old }
         ensures kept { Within (S.kept store.old) (S.kept store.new) }
@@ -178,9 +181,9 @@ impl Machine {
         requires short { before.bytes + 512 * run.count < 2 ^ 32 }
         requires count { before.count ≤ before.bytes }
         ensures most { 0 < self.now.session.held.initiator_max_recv }
-        ensures ok { IfOk result (λ sent. SendsSequence self.now tag (read_in (S.disk store.old) run
-            (S.failures store.old) (S.failures store.new)) before sent
-            out.old.items out.new.items) }
+        ensures ok { IfOk result (λ sent. SendsSequence
+            (reply self.now tag out.old.items out.new.items) (read_in (S.disk store.old) run
+            (S.failures store.old) (S.failures store.new)) before sent) }
         ensures front { take (length out.old.items) out.new.items ≡ out.old.items }
         ensures disk { S.disk store.new ≡ S.disk store.old }
         ensures kept { Within (S.kept store.old) (S.kept store.new) }

@@ -8,7 +8,7 @@ use Rattle.iscsi_service.specs.SessionSteps.{Service, service}
 use Rattle.iscsi_service.proofs.SessionReadInvariant.{PieceUpTo, piece_next, piece_breaks, piece_lost, piece_done, piece_over, piece_closes}
 use Rattle.iscsi_service.proofs.SessionReadInvariant.{piece_start, closes_synced, held_all}
 use Rattle.iscsi_service.proofs.SessionCrashLemmas.{AdvancesUpTo, piece_begins, piece_advances, piece_advanced, piece_crashes, comes_synced, crashes_synced}
-use Rattle.iscsi_service.proofs.SessionCrashLemmas.{LastUpTo, SomeSynced, last_begins, last_more, last_stops, last_closed, last_synced, last_done}
+use Rattle.iscsi_service.proofs.SessionCrashLemmas.{LastUpTo, SomeSynced, last_begins, last_more, last_stops, last_closed, last_synced, last_done, serving}
 use Rattle.iscsi_target.proofs.PassedLemmas.{crashes_none}
 use Rattle.iscsi_service.proofs.session.serve_piece.Goals as goal
 
@@ -111,7 +111,8 @@ loop-rest-preserved g c =
           (g.S.BlockStore.kept c.loop-rest.store) (g.S.BlockStore.kept c.serve_next.new.store) c.loop-rest.invariant.2 c.loop-rest.invariant.3
           c.serve_next.ensures.crash,
       λ synced. subst (λ (x : List ℕ). SomeSynced g.S.BlockStore.synced (λ s. store_of (g.S.BlockStore.disk s) (g.S.BlockStore.failures s))
-          g.S.BlockStore.kept (λ then kept. LastUpTo old c.args.piece.now x then kept new (g.S.BlockStore.kept c.serve_next.new.store)))
+          g.S.BlockStore.kept (λ then kept. LastUpTo old (serving c.args.piece.now x) then kept new
+          (g.S.BlockStore.kept c.serve_next.new.store)))
           (sym (take_rest c.loop-rest.rest.now c.in_ok-taken.taken))
           (last_more g.S.BlockStore.synced (λ s. store_of (g.S.BlockStore.disk s) (g.S.BlockStore.failures s)) g.S.BlockStore.kept
           c.serve_next.new.store old c.args.piece.now c.loop-rest.rest.now c.in_ok-taken.taken c.loop-rest.target c.serve_next.new.target mid.store

@@ -3,7 +3,7 @@ use Rattle.iscsi_target.specs.Machine.{is_closed}
 use Rattle.iscsi_target.specs.Inside.{store_of}
 use Rattle.iscsi_service.specs.SessionSteps.{service}
 use Rattle.iscsi_service.proofs.SessionReadInvariant.{PieceUpTo}
-use Rattle.iscsi_service.proofs.SessionCrashLemmas.{AdvancesUpTo, Crashed, LastUpTo, SomeSynced}
+use Rattle.iscsi_service.proofs.SessionCrashLemmas.{AdvancesUpTo, Crashed, LastUpTo, SomeSynced, serving}
 use Rattle.iscsi_service.proofs.session.serve_piece.Given as goal
 
 abbrev pub invariant-loop-rest : goal.invariant-loop-rest
@@ -17,8 +17,8 @@ invariant-loop-rest g l =
     (store_of (g.S.BlockStore.disk l.store) (g.S.BlockStore.failures l.store)) (g.S.BlockStore.kept l.fn.store) (g.S.BlockStore.kept l.store)
     × (g.S.BlockStore.synced l.fn.store ≡ true → SomeSynced g.S.BlockStore.synced
     (λ s. store_of (g.S.BlockStore.disk s) (g.S.BlockStore.failures s)) g.S.BlockStore.kept (λ then kept. LastUpTo
-    (service l.fn.target (store_of (g.S.BlockStore.disk l.fn.store) (g.S.BlockStore.failures l.fn.store)) (g.W.Write.contents l.fn.w) []) l.fn.piece l.rest
-    then kept
+    (service l.fn.target (store_of (g.S.BlockStore.disk l.fn.store) (g.S.BlockStore.failures l.fn.store)) (g.W.Write.contents l.fn.w) [])
+    (serving l.fn.piece l.rest) then kept
     (service l.target (store_of (g.S.BlockStore.disk l.store) (g.S.BlockStore.failures l.store)) (g.W.Write.contents l.w) l.out.items)
     (g.S.BlockStore.kept l.store)))
 

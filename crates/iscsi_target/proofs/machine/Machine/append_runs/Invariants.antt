@@ -1,6 +1,6 @@
 use Rattle.std.proofs.Common.{◌≡◌, ◌≤◌}
 use Rattle.scsi_disk.specs.Lasting.{Within}
-use Rattle.iscsi_target.specs.Reads.{read_in}
+use Rattle.iscsi_target.specs.Reads.{read_in, reply}
 use Rattle.iscsi_target.proofs.ReadPartLemmas.{SequencesOut}
 use Rattle.iscsi_target.proofs.machine.Machine.append_runs.Given as goal
 
@@ -11,8 +11,8 @@ invariant-loop-rest g l =
     let failures = g.S.BlockStore.failures in
     let kept = g.S.BlockStore.kept in
     record {
-      sequences : SequencesOut l.self l.fn.tag (read_in (disk l.fn.store) l.fn.range (failures l.fn.store) (failures l.store)) l.sent l.rest
-          l.fn.out.items l.out.items;
+      sequences : SequencesOut (reply l.self l.fn.tag l.fn.out.items l.out.items)
+          (read_in (disk l.fn.store) l.fn.range (failures l.fn.store) (failures l.store)) l.sent l.rest;
       disk : disk l.store ≡ disk l.fn.store;
       kept : Within (kept l.fn.store) (kept l.store);
       rises : failures l.fn.store ≤ failures l.store;
