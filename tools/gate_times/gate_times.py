@@ -6,8 +6,8 @@
 At the top of the repository: runs `rt ci`, or the words that are given, and passes its lines on. While it runs, the
 processes of the prover and the compilers below it are looked at once a second. At the end there is a table on
 standard error: for each crate and part of the gate (proof, tests, edits) how many checks there were, their seconds of
-processor, the wall seconds from the first to the last, and the most memory of one. What a process does within the
-second before it ends is not seen. The exit status is that of the command.
+processor, the wall seconds from the first to the last, and the most memory of one; and the dearest checks of edits by
+name. What a process does within the second before it ends is not seen. The exit status is that of the command.
 """
 import os
 import subprocess
@@ -17,6 +17,8 @@ import time
 
 TICK = os.sysconf("SC_CLK_TCK")
 PAGE = os.sysconf("SC_PAGE_SIZE")
+# So many edits are told by name.
+DEAREST = 20
 
 
 def words_of(process):
@@ -50,6 +52,19 @@ def part_of(words):
     return crate, "edits" if words[1] == "check" and "-o" not in words else "proof"
 
 
+def edit_of(words):
+    """The name of the edit that such a process tries, by its number among those of its crate, or "all of them" for the
+    check that they begin with; None where it tries none."""
+    if "--incremental" not in words:
+        return None
+    crate = words[words.index("--crate-name") + 1]
+    number = os.path.basename(words[words.index("--incremental") + 1])
+    if not number.isdigit():
+        return f"{crate}: all of them"
+    names = sorted(os.listdir(f"crates/{crate}/must-fail"))
+    return f"{crate}: {names[int(number)]}" if int(number) < len(names) else None
+
+
 class Part:
     """What was seen of a part of the gate."""
 
@@ -64,6 +79,8 @@ class Table:
 
     def __init__(self):
         self.parts = {}
+        # the edits, and the seconds of each process that tried one
+        self.edits = {}
         # the part of each process that was seen, by its number and start
         self.known = {}
         self.began = time.time()
@@ -78,7 +95,10 @@ class Table:
             parent, start, seconds, memory = times
             key = process, start
             if key not in self.known:
-                self.known[key] = part_of(words_of(process))
+                words = words_of(process)
+                self.known[key] = part_of(words)
+                if self.known[key] and self.known[key][1] == "edits":
+                    self.edits[key] = edit_of(words), 0
                 if self.known[key]:
                     part = self.parts.setdefault(self.known[key], Part(now))
                     # the copies that a check makes of itself are no checks of their own
@@ -86,6 +106,8 @@ class Table:
             if self.known[key]:
                 part = self.parts[self.known[key]]
                 part.seconds[key] = seconds
+                if key in self.edits:
+                    self.edits[key] = self.edits[key][0], seconds
                 part.last = now
                 part.memory = max(part.memory, memory)
 
@@ -102,6 +124,11 @@ class Table:
                 total += seconds
                 row = f"{crate:24} {name:6} {part.checks:6} {seconds:7.0f} {part.first:6.0f} {part.last:6.0f}"
                 print(f"{row} {part.memory // 10**6:6}", file=sys.stderr)
+        tried = {}
+        for name, seconds in self.edits.values():
+            tried[name] = tried.get(name, 0) + seconds
+        for name in sorted(filter(None, tried), key=tried.get, reverse=True)[:DEAREST]:
+            print(f"{tried[name]:7.0f} {name}", file=sys.stderr)
         wall = time.time() - self.began
         print(f"all: {total / 60:.1f} minutes of processor, {wall / 60:.1f} of wall", file=sys.stderr)
 

@@ -481,6 +481,32 @@ def sync_that_fails(program, room):
     return seen == [True, True, FAILED, FAILED, FAILED, True, True, True, True] or seen
 
 
+def module_of(tool):
+    """The module of another tool's run.py."""
+    spec = importlib.util.spec_from_file_location(f"{tool}_run", f"{TOP}/tools/{tool}/run.py")
+    module = importlib.util.module_from_spec(spec)
+    sys.modules[f"{tool}_run"] = module
+    spec.loader.exec_module(module)
+    return module
+
+
+def sync_that_fails_for_all(program, room):
+    """With --at-once a sync that fails ends the session that met it and the one beside it, and the service goes on."""
+    want("strace")
+    many = module_of("many_sessions")
+    # the first sync is that of opening, the second that of the first write
+    before = ("strace", "-f", "-qq", "-o", f"{room}/log", "-e", "trace=fdatasync", "-e", "inject=fdatasync:error=EIO:when=2")
+    with Service(program, f"{room}/image", *create(), "--at-once", "2", before=before) as service:
+        if service.told == b"":
+            raise Skipped("strace may not trace")
+        with socket.create_connection(("127.0.0.1", service.port), timeout=SECONDS) as beside:
+            answer = many.log_in(beside, 1)
+            seen = [len(answer), *qemu(service.url, "write -P 1 0 4k"), beside.recv(1), service.is_there()]
+        service.kill()
+        lines = service.process.communicate()[1]
+    return (seen, lines) == ([48 + 56, FAILED, b"", True], b"sync failed\n" * 2) or (seen, lines)
+
+
 CASES = [
     converted,
     opened_again,
@@ -495,6 +521,7 @@ CASES = [
     synced_first,
     synced_together,
     sync_that_fails,
+    sync_that_fails_for_all,
     killed,
 ]
 
@@ -502,19 +529,11 @@ CASES = [
 # ---- costs
 
 
-def speed_module():
-    """The module of tools/speed/run.py, whose client and tables these are."""
-    spec = importlib.util.spec_from_file_location("speed_run", f"{TOP}/tools/speed/run.py")
-    module = importlib.util.module_from_spec(spec)
-    sys.modules["speed_run"] = module
-    spec.loader.exec_module(module)
-    module.DISK = BLOCK * BLOCKS
-    return module
-
-
 def costs(program, room, rounds, seconds):
     """Commands a second over an image, beside tgt over a file that is opened to be written through."""
-    speed = speed_module()
+    # its client and tables
+    speed = module_of("speed")
+    speed.DISK = BLOCK * BLOCKS
     client = f"{room}/speed"
     if speed.missing("cc", "tgtd", "tgtadm"):
         sys.exit("tgt or cc is not installed")
