@@ -490,8 +490,9 @@ def module_of(tool):
     return module
 
 
-def sync_that_fails_for_all(program, room):
-    """With --at-once a sync that fails ends the session that met it and the one beside it, and the service goes on."""
+def at_a_failed_sync(program, room, write):
+    """What is seen where one session rests and another writes, as `write` does, and its sync fails: the login's answer, what came of the
+    write, what the session that rests receives, whether the service goes on, and its lines."""
     want("strace")
     many = module_of("many_sessions")
     # the first sync is that of opening, the second that of the first write
@@ -501,10 +502,33 @@ def sync_that_fails_for_all(program, room):
             raise Skipped("strace may not trace")
         with socket.create_connection(("127.0.0.1", service.port), timeout=SECONDS) as beside:
             answer = many.log_in(beside, 1)
-            seen = [len(answer), *qemu(service.url, "write -P 1 0 4k"), beside.recv(1), service.is_there()]
+            seen = [len(answer), write(many, service), beside.recv(1), service.is_there()]
         service.kill()
-        lines = service.process.communicate()[1]
-    return (seen, lines) == ([48 + 56, FAILED, b"", True], b"sync failed\n" * 2) or (seen, lines)
+        return [*seen, service.process.communicate()[1]]
+
+
+def sync_that_fails_for_all(program, room):
+    """With --at-once a sync that fails ends the session that met it and the one beside it, and the service goes on."""
+    seen = at_a_failed_sync(program, room, lambda many, service: qemu(service.url, "write -P 1 0 4k"))
+    return seen == [48 + 56, [FAILED], b"", True, b"sync failed\n" * 2] or seen
+
+
+# WRITE(10) of block 0 behind a login, and a header of no kind.
+WRITE = bytes.fromhex("01a10000 00000200 00000000 00000000 00000002 00000200 00000001 00000002 2a000000 00000000 01000000 00000000")
+NO_KIND = bytes.fromhex("3f") + bytes(47)
+
+
+def sync_that_fails_at_the_end(program, room):
+    """So it does where the session that met it was to end for what came behind its write."""
+
+    def write(many, service):
+        with socket.create_connection(("127.0.0.1", service.port), timeout=SECONDS) as peer:
+            many.log_in(peer, 2)
+            peer.sendall(WRITE + bytes(BLOCK) + NO_KIND)
+            return peer.recv(1)
+
+    seen = at_a_failed_sync(program, room, write)
+    return seen == [48 + 56, b"", b"", True, b"sync failed\n" * 2] or seen
 
 
 CASES = [
@@ -522,6 +546,7 @@ CASES = [
     synced_together,
     sync_that_fails,
     sync_that_fails_for_all,
+    sync_that_fails_at_the_end,
     killed,
 ]
 
