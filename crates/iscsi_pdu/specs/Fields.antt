@@ -1,7 +1,6 @@
 -- The field table of the PDUs (RFC 7143, section 11): a list of rows for each kind. Bits of no row,
--- and of a row whose
--- condition does not hold, are free.
--- `always` is a field that every PDU of the kind has, and `only_if` one with a condition.
+-- and of a row whose condition does not hold, are free. `always` is a field that every
+-- PDU of the kind has, and `only_if` one with a condition.
 use Rattle.std.specs.Prelude.{ℕ, Bool, not, ◌==◌, ◌||◌, List, [], ◌∷◌}
 use Rattle.scsi_cdb.specs.declared.cdb.Cdb.{Cdb}
 use Rattle.scsi_cdb.specs.Layout.{Row, always, only_if}

@@ -49,8 +49,7 @@ use thiserror::Error;
 /// What the header of a PDU means, by its kind: all but the length of the data segment.
 ///
 /// A field with a condition is an `Option`, and has a value exactly where its condition holds. Bits
-/// of no field are
-/// ignored on receipt, those that the standard wants to be 1 too (own rule).
+/// of no field are ignored on receipt, those that the standard wants to be 1 too (own rule).
 #[derive(Clone, Copy, Debug, PartialEq, Eq)]
 pub enum Head {
     /// Opcode 00 (section 11.18).
@@ -249,12 +248,11 @@ fn checked(bytes: &[u8; 48]) -> Result<(Head, u32), HeadFault>
 }
 
 /// The canonical header of a head, before a data segment of `len` bytes: bits of no field are 0,
-/// but for those that
-/// the standard wants to be 1.
+/// but for those that the standard wants to be 1.
 ///
 /// The head has to fit the table: each number is within its mask, each field with a condition is
-/// there exactly where
-/// its condition holds, and an unknown descriptor block is one of no other record.
+/// there exactly where its condition holds, and an unknown descriptor block is one of no other
+/// record.
 pub fn write_head(head: &Head, len: u32) -> [u8; 48]
     requires fits { Fits head.now }
     requires short { len < 2 ^ 24 }

@@ -26,8 +26,7 @@ use std::io::{Read, Write};
 /// Answers `Stream` where the stream ends within a PDU or has what the target's framer refuses, with
 /// the place of that; `Protocol` with the rule that the last PDU broke; `Ok` where no rule was broken
 /// and the stream ends behind a PDU, or the session was closed: a refused login is no fault. `Read`,
-/// `Write` and `NoMemory` are as in
-/// `normalise`.
+/// `Write` and `NoMemory` are as in `normalise`.
 pub fn answer<R: Read, W: Write>(
     alloc: Global,
     blocks: u64,

@@ -1,6 +1,5 @@
 //! Fields at their places in bytes: each is read from and written to a byte list by its place and
-//! mask.
-//! Numbers of several bytes have the highest byte first.
+//! mask. Numbers of several bytes have the highest byte first.
 
 ghost use Rattle.std.specs.Prelude.{◌≡◌, ◌+◌, ◌*◌, ◌/◌, ◌<◌, ◌≤◌, ◌^◌, length, Some, IfSome};
 ghost use Rattle.std.specs.Option.{ForSome};
