@@ -4,7 +4,7 @@ use Rattle.std.specs.Prelude.{map}
 use Rattle.iscsi_pdu.specs.declared.head.Head.{Head}
 use Rattle.iscsi_stream.specs.Stream.{Message}
 use Rattle.iscsi_compare.specs.SameJob.{Renumbering, renumbered, renumbered_message, SameJob}
-use Rattle.iscsi_compare.proofs.SameHeads.{nothing, inverse, both, head_nothing, head_back, head_both}
+use Rattle.iscsi_compare.proofs.HeadNumberLemmas.{nothing, inverse, both, head_nothing, head_back, head_both}
 
 with_head : (m : Message) (g h : Head) → g ≡ h → ◌≡◌ {A = Message} (record m { head = g }) (record m { head = h })
 with_head m g h e = ap (λ (x : Head). let k : Message = record m { head = x } in k) e

@@ -3,8 +3,8 @@ use Rattle.std.proofs.lemmas.Result.{err_from_is_err_and}
 use Rattle.iscsi_compare.specs.declared.fault.CompareFault.TheVariants as fault
 use Rattle.iscsi_compare.specs.Comparing.{Agree, Fails, Part}
 use Rattle.iscsi_compare.specs.Inside.{fuel}
-use Rattle.iscsi_compare.proofs.Sides.{less}
-use Rattle.iscsi_compare.proofs.Steps.{first_stops, second_stops, onwards, memory_stops, they_part, they_agree, one_more}
+use Rattle.iscsi_compare.proofs.SideLemmas.{less}
+use Rattle.iscsi_compare.proofs.InStepLemmas.{first_stops, second_stops, onwards, memory_stops, they_part, they_agree, one_more}
 use Rattle.iscsi_compare.proofs.in_step.compare.Goals as goal
 
 pub returns-in_err-some-clause-compares : goal.returns-in_err-some-clause-compares

@@ -1,5 +1,5 @@
 use Rattle.iscsi_compare.specs.Inside.{fuel}
-use Rattle.iscsi_compare.proofs.Steps.{streams, InStep}
+use Rattle.iscsi_compare.proofs.InStepLemmas.{streams, InStep}
 use Rattle.iscsi_compare.proofs.in_step.compare.Given as goal
 
 abbrev pub invariant-loop-other_form : goal.invariant-loop-other_form

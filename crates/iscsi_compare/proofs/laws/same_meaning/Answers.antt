@@ -1,6 +1,6 @@
 use Rattle.std.proofs.Common.{ap}
 use Rattle.iscsi_stream.specs.Canonical.{canon}
-use Rattle.iscsi_compare.proofs.Wholes.{agree_means, means_agree, same_forms}
+use Rattle.iscsi_compare.proofs.WholeStreamsLaw.{agree_means, means_agree, same_forms}
 use Rattle.iscsi_compare.proofs.laws.same_meaning.Goals as goal
 
 pub returns-clause-meanings : goal.returns-clause-meanings

@@ -1,4 +1,4 @@
-use Rattle.iscsi_compare.proofs.Wholes.{rest_of, same_wholes, other_wholes, no_refusal}
+use Rattle.iscsi_compare.proofs.WholeStreamsLaw.{rest_of, same_wholes, other_wholes, no_refusal}
 use Rattle.iscsi_compare.proofs.laws.whole_streams.Goals as goal
 
 pub returns-clause-same : goal.returns-clause-same

@@ -3,8 +3,17 @@ use Rattle.std.proofs.lemmas.Result.{err_from_is_err_and}
 use Rattle.iscsi_compare.specs.declared.fault.CompareFault.TheVariants as fault
 use Rattle.iscsi_compare.specs.SameJobJudge.{LearnsNext}
 use Rattle.iscsi_compare.specs.SameJobVerdict.{AgreeOnJob, PartFromJob, FailsInJob}
-use Rattle.iscsi_compare.proofs.SameRuns.{job_at_start, job_not_begun, job_first_stops, job_second_stops, job_onwards, job_memory, job_parts, job_agrees}
-use Rattle.iscsi_compare.proofs.SameRuns.{job_one_more, alike}
+use Rattle.iscsi_compare.proofs.RunsInStepLemmas.{
+  job_at_start,
+  job_not_begun,
+  job_first_stops,
+  job_second_stops,
+  job_onwards,
+  job_memory,
+  job_parts,
+  job_agrees,
+}
+use Rattle.iscsi_compare.proofs.RunsInStepLemmas.{job_one_more, alike}
 use Rattle.iscsi_compare.proofs.same_job.compare_jobs.Goals as goal
 
 pub returns-in_err-renaming-clause-compares : goal.returns-in_err-renaming-clause-compares

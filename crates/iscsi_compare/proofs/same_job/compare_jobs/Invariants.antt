@@ -1,6 +1,6 @@
 use Rattle.iscsi_compare.specs.Inside.{fuel}
-use Rattle.iscsi_compare.proofs.Steps.{streams}
-use Rattle.iscsi_compare.proofs.SameRuns.{JobInStep}
+use Rattle.iscsi_compare.proofs.InStepLemmas.{streams}
+use Rattle.iscsi_compare.proofs.RunsInStepLemmas.{JobInStep}
 use Rattle.iscsi_compare.proofs.same_job.compare_jobs.Given as goal
 
 abbrev pub invariant-loop-renaming : goal.invariant-loop-renaming

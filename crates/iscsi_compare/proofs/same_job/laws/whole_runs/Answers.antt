@@ -1,5 +1,5 @@
-use Rattle.iscsi_compare.proofs.Wholes.{rest_of}
-use Rattle.iscsi_compare.proofs.SameWholes.{same_whole_runs, other_whole_runs, no_run_refused}
+use Rattle.iscsi_compare.proofs.WholeStreamsLaw.{rest_of}
+use Rattle.iscsi_compare.proofs.WholeRunsLaw.{same_whole_runs, other_whole_runs, no_run_refused}
 use Rattle.iscsi_compare.proofs.same_job.laws.whole_runs.Goals as goal
 
 pub returns-clause-same : goal.returns-clause-same

@@ -1,4 +1,4 @@
-use Rattle.iscsi_compare.proofs.SameSegments.{same_texts_if}
+use Rattle.iscsi_compare.proofs.SegmentTextLemmas.{same_texts_if}
 use Rattle.iscsi_compare.proofs.same_job.segments.is_same_segment.Goals as goal
 
 pub returns-in-Some-Some : goal.returns-in-Some-Some

@@ -2,7 +2,7 @@ use Rattle.std.proofs.Common.{◌∙◌, true, false, subst}
 use Rattle.std.proofs.lemmas.Result.{err_from_is_err_and}
 use Rattle.iscsi_compare.specs.declared.fault.Which.{Which}
 use Rattle.iscsi_compare.specs.Inside.{ReadsOn, Stands, SideFails, fuel}
-use Rattle.iscsi_compare.proofs.Sides.{reads_and, reads_then, at_most}
+use Rattle.iscsi_compare.proofs.SideLemmas.{reads_and, reads_then, at_most}
 use Rattle.iscsi_compare.proofs.side.Side.advance.Goals as goal
 
 pub returns-in_err-feed-clause-err : goal.returns-in_err-feed-clause-err

@@ -1,5 +1,5 @@
 use Rattle.iscsi_compare.specs.Inside.{pending}
-use Rattle.iscsi_compare.proofs.Sides.{feed_fails, fed_side, fed_fuel}
+use Rattle.iscsi_compare.proofs.SideLemmas.{feed_fails, fed_side, fed_fuel}
 use Rattle.iscsi_compare.proofs.side.Side.feed.Goals as goal
 
 pub returns-in-Err-clause-err : goal.returns-in-Err-clause-err

@@ -1,6 +1,6 @@
 use Rattle.std.proofs.Common.{arith}
 use Rattle.std.proofs.KnownBytes.{Keeps-refl}
-use Rattle.iscsi_compare.proofs.Sides.{at_end, at_piece, cannot_read, cannot_end}
+use Rattle.iscsi_compare.proofs.SideLemmas.{at_end, at_piece, cannot_read, cannot_end}
 use Rattle.iscsi_compare.proofs.side.Side.fill.Goals as goal
 
 pub returns-then-self-eq-READS-clause-err : goal.returns-then-self-eq-READS-clause-err

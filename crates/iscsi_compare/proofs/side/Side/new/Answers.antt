@@ -1,4 +1,4 @@
-use Rattle.iscsi_compare.proofs.Sides.{read_none}
+use Rattle.iscsi_compare.proofs.SideLemmas.{read_none}
 use Rattle.iscsi_compare.proofs.side.Side.new.Goals as goal
 
 pub returns-clause-none : goal.returns-clause-none

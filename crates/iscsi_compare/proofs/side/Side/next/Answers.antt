@@ -1,5 +1,5 @@
 use Rattle.std.proofs.lemmas.Result.{err_from_is_err_and}
-use Rattle.iscsi_compare.proofs.Sides.{reads_begun}
+use Rattle.iscsi_compare.proofs.SideLemmas.{reads_begun}
 use Rattle.iscsi_compare.proofs.side.Side.next.Goals as goal
 
 pub returns-in_err-write_form-clause-err : goal.returns-in_err-write_form-clause-err

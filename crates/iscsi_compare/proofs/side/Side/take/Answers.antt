@@ -1,7 +1,7 @@
 use Rattle.std.proofs.Common.{[], ◌∷◌, ◌++◌, sym, subst}
 use Rattle.iscsi_stream.specs.Framing.{Framing, message_of}
 use Rattle.iscsi_compare.specs.Inside.{ReadTo, pending}
-use Rattle.iscsi_compare.proofs.Sides.{read_given, taken_fuel}
+use Rattle.iscsi_compare.proofs.SideLemmas.{read_given, taken_fuel}
 use Rattle.iscsi_compare.proofs.side.Side.take.Goals as goal
 
 pub returns-clause-taken : goal.returns-clause-taken

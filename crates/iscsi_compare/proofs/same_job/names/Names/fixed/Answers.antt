@@ -1,4 +1,4 @@
-use Rattle.iscsi_compare.proofs.SameNames.{joined_itself}
+use Rattle.iscsi_compare.proofs.RenamingLemmas.{joined_itself}
 use Rattle.iscsi_compare.proofs.same_job.names.Names.fixed.Goals as goal
 
 pub returns-clause-said : goal.returns-clause-said

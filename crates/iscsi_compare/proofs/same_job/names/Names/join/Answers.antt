@@ -1,5 +1,5 @@
 use Rattle.std.proofs.Common.{sym, ◌∙◌}
-use Rattle.iscsi_compare.proofs.SameNames.{joins_new, joins_taken, none_of}
+use Rattle.iscsi_compare.proofs.RenamingLemmas.{joins_new, joins_taken, none_of}
 use Rattle.iscsi_compare.proofs.same_job.names.Names.join.Goals as goal
 
 pub returns-then-contains_key : goal.returns-then-contains_key

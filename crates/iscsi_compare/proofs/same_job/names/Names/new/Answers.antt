@@ -1,4 +1,4 @@
-use Rattle.iscsi_compare.proofs.SameNames.{sound_new}
+use Rattle.iscsi_compare.proofs.RenamingLemmas.{sound_new}
 use Rattle.iscsi_compare.proofs.same_job.names.Names.new.Goals as goal
 
 pub returns-clause-sound : goal.returns-clause-sound

@@ -4,7 +4,7 @@ use Rattle.iscsi_pdu.specs.Meaning.{Fits}
 use Rattle.iscsi_compare.specs.declared.same_job.numbers.Numbers.{Numbers}
 use Rattle.iscsi_compare.specs.SameJobNumbers.{numbers, with_numbers}
 use Rattle.iscsi_compare.specs.SameJobJudge.{Allows}
-use Rattle.iscsi_compare.proofs.SameLearning.{learns_none, learns_heads, learns_at, other_fits}
+use Rattle.iscsi_compare.proofs.LearningLemmas.{learns_none, learns_heads, learns_at, other_fits}
 use Rattle.iscsi_compare.proofs.same_job.renaming.Renaming.accepts_head.Goals as goal
 
 pub returns-then-not-branch-clause-learns : goal.returns-then-not-branch-clause-learns

@@ -1,6 +1,6 @@
 use Rattle.std.proofs.Common.{refl}
 use Rattle.iscsi_stream.specs.Framing.{is_ready}
-use Rattle.iscsi_compare.proofs.SameNext.{both_next, first_next, second_next, unready_of}
+use Rattle.iscsi_compare.proofs.NextMessageLemmas.{both_next, first_next, second_next, unready_of}
 use Rattle.iscsi_compare.proofs.same_job.renaming.Renaming.accepts_next.Goals as goal
 
 pub returns-in-Some-Some-clause-learns : goal.returns-in-Some-Some-clause-learns

@@ -1,7 +1,7 @@
 use Rattle.std.proofs.Common.{refl}
 use Rattle.std.proofs.lemmas.Map.Lookups.{exact_bytes}
 use Rattle.iscsi_compare.specs.SameJobJudge.{known_by}
-use Rattle.iscsi_compare.proofs.SameLearning.{learns_nine}
+use Rattle.iscsi_compare.proofs.LearningLemmas.{learns_nine}
 use Rattle.iscsi_compare.proofs.same_job.renaming.Renaming.learn.Goals as goal
 
 pub join_some-requires-clause-exact : goal.join_some-requires-clause-exact

@@ -1,4 +1,4 @@
-use Rattle.iscsi_compare.proofs.SameNames.{none_some}
+use Rattle.iscsi_compare.proofs.RenamingLemmas.{none_some}
 use Rattle.iscsi_compare.proofs.same_job.renaming.Renaming.new.Goals as goal
 
 pub returns-clause-all : goal.returns-clause-all

@@ -49,9 +49,9 @@ use Rattle.iscsi_compare.specs.SameJob.{Renumbering, renumbered_message, SameJob
 use Rattle.iscsi_compare.specs.SameJobLearning.{Learns}
 use Rattle.iscsi_compare.specs.SameJobJudge.{Allows, IsSoundRenaming, NextIs, LearnsNext}
 use Rattle.iscsi_compare.specs.SameJobVerdict.{AgreeOnJob, PartFromJob, FailsInJob}
-use Rattle.iscsi_compare.proofs.Sides.{read_given, begins, stands_at}
-use Rattle.iscsi_compare.proofs.Steps.{Compared, Streams, streams, GivesUp, gave}
-use Rattle.iscsi_compare.proofs.SameLearning.{some_left, and_second}
+use Rattle.iscsi_compare.proofs.SideLemmas.{read_given, begins, stands_at}
+use Rattle.iscsi_compare.proofs.InStepLemmas.{Compared, Streams, streams, GivesUp, gave}
+use Rattle.iscsi_compare.proofs.LearningLemmas.{some_left, and_second}
 use Rattle.iscsi_compare.proofs.SameJobLaws.{same_self}
 
 -- ---- what is known of two lists

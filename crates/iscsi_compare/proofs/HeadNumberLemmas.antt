@@ -9,8 +9,8 @@ use Rattle.iscsi_pdu.specs.Fields.{reserved_tag, is_tag}
 use Rattle.iscsi_compare.specs.declared.same_job.numbers.Numbers.{Numbers}
 use Rattle.iscsi_compare.specs.SameJob.{Renumbering, shifted, renumbered}
 use Rattle.iscsi_compare.specs.SameJobNumbers.{numbers, with_numbers, renamed}
-use Rattle.iscsi_compare.proofs.SameNames.{identity, backward, chained}
-use Rattle.iscsi_compare.proofs.SameSteps.{shifted_none, shifted_twice, shifted_back, steps_back, same_tag, mapped_twice, mapped_same}
+use Rattle.iscsi_compare.proofs.RenamingLemmas.{identity, backward, chained}
+use Rattle.iscsi_compare.proofs.SerialStepLemmas.{shifted_none, shifted_twice, shifted_back, steps_back, same_tag, mapped_twice, mapped_same}
 
 -- a head of the other run has the other run's numbers in place of its own
 pub renumbered_is : (r : Renumbering) (h : Head) → renumbered r h ≡ with_numbers h (renamed r (numbers h))

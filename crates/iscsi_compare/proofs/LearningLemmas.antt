@@ -13,9 +13,9 @@ use Rattle.iscsi_compare.specs.SameJobNumbers.{numbers, with_numbers, renamed}
 use Rattle.iscsi_compare.specs.SameJobLearning.{Carries, IsSteps, Known, IsLeft, Learns}
 use Rattle.iscsi_compare.specs.declared.same_job.renaming.Renaming.{Renaming}
 use Rattle.iscsi_compare.specs.SameJobJudge.{Allows, IsSoundRenaming}
-use Rattle.iscsi_compare.proofs.SameNames.{apart}
-use Rattle.iscsi_compare.proofs.SameHeads.{renumbered_is, numbers_of, same_numbers}
-use Rattle.iscsi_compare.proofs.SameFits.{fits_renumbered}
+use Rattle.iscsi_compare.proofs.RenamingLemmas.{apart}
+use Rattle.iscsi_compare.proofs.HeadNumberLemmas.{renumbered_is, numbers_of, same_numbers}
+use Rattle.iscsi_compare.proofs.HeadFitLemmas.{fits_renumbered}
 
 true_of : (b : Bool) → (b ≡ false → ⊥) → b ≡ true
 true_of true h = refl

@@ -3,7 +3,7 @@ use Rattle.std.proofs.Common.{◌≡◌, inl, inr, ℕ, ◌+◌, ◌-◌, ◌<�
 use Rattle.std.specs.Prelude.{Option, Some, None, nat_lt, option_map, not, ◌==◌}
 use Rattle.std.proofs.lemmas.Bool.{cases_lt, cases_Bool, eqb-true}
 use Rattle.iscsi_compare.specs.SameJob.{OneToOne, shifted}
-use Rattle.iscsi_compare.proofs.SameNames.{apart, one_to_one}
+use Rattle.iscsi_compare.proofs.RenamingLemmas.{apart, one_to_one}
 
 lt_true : (n m : ℕ) → n < m → nat_lt n m ≡ true
 lt_true n m h = grind arith

@@ -18,7 +18,7 @@ use Rattle.iscsi_compare.specs.declared.fault.CompareFault.TheVariants as fault
 use Rattle.iscsi_compare.specs.declared.side.Side.{Side}
 use Rattle.iscsi_compare.specs.Comparing.{Input, input_of, Gave, BeginsWith, GoesOn, Agree, Part, Fails}
 use Rattle.iscsi_compare.specs.Inside.{ReadTo, HasRead, IsOpen, ReadsOn, Stands, SideFails, FormIf, pending}
-use Rattle.iscsi_compare.proofs.Sides.{read_given, reaches, begins, stands_at}
+use Rattle.iscsi_compare.proofs.SideLemmas.{read_given, reaches, begins, stands_at}
 
 -- ---- equal forms
 

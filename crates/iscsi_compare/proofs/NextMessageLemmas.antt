@@ -10,7 +10,7 @@ use Rattle.iscsi_compare.specs.declared.same_job.renaming.Renaming.{Renaming}
 use Rattle.iscsi_compare.specs.SameJob.{Renumbering, renumbered_message}
 use Rattle.iscsi_compare.specs.SameJobLearning.{Learns}
 use Rattle.iscsi_compare.specs.SameJobJudge.{Allows, NextIs, LearnsNext}
-use Rattle.iscsi_compare.proofs.SameNames.{apart}
+use Rattle.iscsi_compare.proofs.RenamingLemmas.{apart}
 
 next_some : (v : Framing) (h : Head) (d : List ℕ) → is_ready v ≡ true → Means v.held h d → NextIs (is_ready v) v (Some (message_of v h d))
 next_some v h d ready means = subst (λ (b : Bool). NextIs b v (Some (message_of v h d))) (sym ready) (h, d, means, refl)

@@ -12,7 +12,7 @@ use Rattle.iscsi_compare.specs.declared.fault.CompareFault.TheVariants as fault
 use Rattle.iscsi_compare.specs.Comparing.{Input}
 use Rattle.iscsi_compare.specs.SameJob.{renumbered_message, SameJob}
 use Rattle.iscsi_compare.specs.SameJobVerdict.{AgreeOnJob, PartFromJob, FailsInJob}
-use Rattle.iscsi_compare.proofs.Wholes.{Rest, all_read, following, follows, refused_whole}
+use Rattle.iscsi_compare.proofs.WholeStreamsLaw.{Rest, all_read, following, follows, refused_whole}
 
 pub same_whole_runs : (s t : List ℕ) (ms ns : List Message) (x y : Input) → Rest s x → Rest t y → StreamMeans s ms
     → StreamMeans t ns → AgreeOnJob x y → SameJob ms ns

@@ -8,7 +8,7 @@ use Rattle.iscsi_pdu.specs.declared.head.Head.TheVariants.{AsyncMessage, Reject}
 use Rattle.iscsi_pdu.specs.Fields.{reserved_tag, is_tag}
 use Rattle.iscsi_pdu.specs.Meaning.{Fits}
 use Rattle.iscsi_compare.specs.SameJob.{Renumbering, shifted, renumbered}
-use Rattle.iscsi_compare.proofs.SameSteps.{same_tag}
+use Rattle.iscsi_compare.proofs.SerialStepLemmas.{same_tag}
 
 is_some_mapped : (f : ℕ → ℕ) (o : Option ℕ) → is_some (option_map f o) ≡ is_some o
 is_some_mapped f None = refl
