@@ -2,14 +2,11 @@
 //! 7143, section 11; the last rows are of a session that was captured twice. Long, since it has a table
 //! of 40 rows.
 
-use hex::FromHexError;
 use iscsi_compare::same_job::compare_jobs;
 use iscsi_compare::{CompareFault, Verdict, Which};
+use iscsi_examples::{Source, Steps, marked, same};
 use std::alloc::Global;
-use std::io;
-use std::io::Read;
 use std::process::Abort;
-use std::test::Fail;
 
 // For each row what is said, its name, and the PDUs of the first run and of the second.
 const ROWS: &str = "\
@@ -246,18 +243,6 @@ fn rows() -> &'static str {
     ROWS
 }
 
-// The bytes of the lines of a row that have this mark.
-fn marked(alloc: Global, row: &str, mark: &str) -> Result<Vec<u8>, FromHexError> {
-    let mut stream = Vec::new(alloc);
-    for line in row.lines() {
-        if let Some(words) = line.trim_start().strip_prefix(mark) {
-            let digits: Vec<u8> = words.bytes().filter(|byte| *byte != b' ').collect(alloc)?;
-            stream.extend_from_slice(&hex::decode(alloc, digits)?)?;
-        }
-    }
-    Ok(stream)
-}
-
 // What is due in a row.
 fn due_of(said: &str) -> Option<Verdict> {
     if said == "same" {
@@ -270,51 +255,38 @@ fn due_of(said: &str) -> Option<Verdict> {
     })
 }
 
-// What is said of the two runs of a row, and of the same the other way round.
-fn check_row(rt: &impl Abort, alloc: Global, row: &str) -> Result<(), Fail> {
-    let (said, name) = row.split_once(": ").ok_or("no name")?;
-    let due = due_of(said.trim()).ok_or("no verdict")?;
-    let first = marked(alloc, row, "> ")?;
-    let second = marked(alloc, row, "< ")?;
+// What is said of two runs: `due`, with no line where it is that they are the same.
+fn check_runs(
+    rt: &impl Abort,
+    alloc: Global,
+    first: &[u8],
+    second: &[u8],
+    due: Verdict,
+    row: (&str, &str),
+) {
     let mut lines = Vec::new(alloc);
-    let mut mine = first.as_slice();
-    let mut other = second.as_slice();
+    let mut mine = first;
+    let mut other = second;
     let verdict = compare_jobs(alloc, &mut mine, &mut other, &mut lines);
-    assert_eq!(rt; verdict, Ok(due), "{name}");
-    assert_eq!(rt; lines.is_empty(), due == Verdict::Same, "{name}");
-    let mut mine = first.as_slice();
-    let mut other = second.as_slice();
-    let verdict = compare_jobs(alloc, &mut other, &mut mine, &mut lines);
-    assert_eq!(rt; verdict, Ok(due), "other way: {name}");
-    Ok(())
+    same(rt, &verdict, &Ok(due), &row);
+    same(rt, &lines.is_empty(), &(due == Verdict::Same), &row);
+}
+
+// What is said of the two runs of a row, and of the same the other way round.
+fn check_row(rt: &impl Abort, alloc: Global, row: &str) {
+    let (said, name) = row.split_once(": ").expect(rt, "no name");
+    let due = due_of(said.trim()).expect(rt, "no verdict");
+    let first = marked(alloc, row, "> ").expect(rt, name);
+    let second = marked(alloc, row, "< ").expect(rt, name);
+    check_runs(rt, alloc, &first, &second, due, (name, "one way"));
+    check_runs(rt, alloc, &second, &first, due, (name, "other way"));
 }
 
 #[test]
-fn two_runs(rt: HostRuntime) -> Result<(), Fail> {
-    assert_eq!(&rt; rows().split("\n\n").count(), COUNT);
+fn two_runs(rt: HostRuntime) {
+    same(&rt, &rows().split("\n\n").count(), &COUNT, &"rows");
     for row in rows().split("\n\n") {
-        check_row(&rt, rt.alloc(), row)?;
-    }
-    Ok(())
-}
-
-// Gives a stream in pieces of 48 bytes, and fails after so many of them.
-#[derive(Drop)]
-struct Failing<'a> {
-    rest: &'a [u8],
-    before: usize,
-}
-
-impl Read for Failing<'_> {
-    fn read(&mut self, buf: &mut [u8]) -> io::Result<usize> {
-        if self.before == 0 {
-            return Err(io::Error::from(io::ErrorKind::Other));
-        }
-        self.before = self.before.saturating_sub(1);
-        let n = buf.len().min(self.rest.len()).min(48);
-        buf[..n].copy_from_slice(&self.rest[..n]);
-        self.rest = &self.rest[n..];
-        Ok(n)
+        check_row(&rt, rt.alloc(), row);
     }
 }
 
@@ -329,6 +301,14 @@ fn run() -> &'static str {
     RUN
 }
 
+// Pieces of 48 bytes, of which one fails after so many.
+fn fails_after(before: usize) -> Steps {
+    Steps {
+        step: 48,
+        before: Some(before),
+    }
+}
+
 // What is said where the streams fail after so many reads.
 fn said_of(
     alloc: Global,
@@ -336,65 +316,48 @@ fn said_of(
     second: &[u8],
     before: (usize, usize),
 ) -> Result<Verdict, CompareFault> {
-    let mut mine = Failing {
-        rest: first,
-        before: before.0,
-    };
-    let mut other = Failing {
-        rest: second,
-        before: before.1,
-    };
+    let mut mine = Source::new(first, fails_after(before.0));
+    let mut other = Source::new(second, fails_after(before.1));
     let mut lines = Vec::new(alloc);
     compare_jobs(alloc, &mut mine, &mut other, &mut lines)
 }
 
+// The first stream fails after so many reads, and then the second.
+fn check_reads(rt: &impl Abort, alloc: Global, first: &[u8], second: &[u8], before: usize) {
+    let said = said_of(alloc, first, second, (before, 3));
+    same(rt, &said, &Err(CompareFault::Read(Which::First)), &before);
+    let said = said_of(alloc, first, second, (3, before));
+    same(rt, &said, &Err(CompareFault::Read(Which::Second)), &before);
+}
+
 #[test]
-fn each_read_fails(rt: HostRuntime) -> Result<(), Fail> {
-    let first = marked(rt.alloc(), run(), "> ")?;
-    let second = marked(rt.alloc(), run(), "< ")?;
+fn each_read_fails(rt: HostRuntime) {
+    let first = marked(rt.alloc(), run(), "> ").expect(&rt, "a run");
+    let second = marked(rt.alloc(), run(), "< ").expect(&rt, "a run");
     // Two pieces of a stream, and its end.
     for before in 0..3usize {
-        let due = Err(CompareFault::Read(Which::First));
-        assert_eq!(&rt;
-            said_of(rt.alloc(), &first, &second, (before, 3)),
-            due,
-            "{before}"
-        );
-        let due = Err(CompareFault::Read(Which::Second));
-        assert_eq!(&rt;
-            said_of(rt.alloc(), &first, &second, (3, before)),
-            due,
-            "{before}"
-        );
+        check_reads(&rt, rt.alloc(), &first, &second, before);
     }
-    assert_eq!(&rt;
-        said_of(rt.alloc(), &first, &second, (3, 3)),
-        Ok(Verdict::Same)
-    );
-    Ok(())
+    let said = said_of(rt.alloc(), &first, &second, (3, 3));
+    same(&rt, &said, &Ok(Verdict::Same), &"none fails");
 }
 
 // What a test stands on is made again where memory ran out.
-fn ample(alloc: Global, mark: &str) -> Result<Vec<u8>, Fail> {
+fn ample(rt: &impl Abort, alloc: Global, mark: &str) -> Vec<u8> {
     match marked(alloc, run(), mark) {
-        Ok(bytes) => Ok(bytes),
-        Err(_) => Ok(marked(alloc, run(), mark)?),
+        Ok(bytes) => bytes,
+        Err(_) => marked(alloc, run(), mark).expect(rt, "a run"),
     }
 }
 
 /// For `rt try --test --fail-alloc`: nothing but the want of memory may come in place of a verdict.
 #[test]
-fn refused_memory_changes_no_verdict(rt: HostRuntime) -> Result<(), Fail> {
-    let first = ample(rt.alloc(), "> ")?;
-    let second = ample(rt.alloc(), "< ")?;
-    let said = said_of(rt.alloc(), &first, &second, (3, 3));
+fn refused_memory_changes_no_verdict(rt: HostRuntime) {
+    let first = ample(&rt, rt.alloc(), "> ");
+    let second = ample(&rt, rt.alloc(), "< ");
+    let mut said = said_of(rt.alloc(), &first, &second, (3, 3));
     if said == Err(CompareFault::NoMemory) {
-        assert_eq!(&rt;
-            said_of(rt.alloc(), &first, &second, (3, 3)),
-            Ok(Verdict::Same)
-        );
-    } else {
-        assert_eq!(&rt; said, Ok(Verdict::Same));
+        said = said_of(rt.alloc(), &first, &second, (3, 3));
     }
-    Ok(())
+    same(&rt, &said, &Ok(Verdict::Same), &"at last");
 }

@@ -4,25 +4,24 @@
 use iscsi_compare::{CompareFault, Verdict, compare};
 use iscsi_examples::LineFault;
 use std::alloc::Global;
-use std::fmt::Debug;
 use std::process::Abort;
 
 mod bits;
 mod failing;
 mod worked;
 
-// Asserts that a value is the one that is due, in a row of which this tells.
-fn same<T: PartialEq + Debug>(rt: &impl Abort, value: &T, due: &T, row: &impl Debug) {
-    assert_eq!(rt; *value, *due, "{row:?}");
-}
-
 // The bytes of lines of hex text.
-fn bytes_of(alloc: Global, lines: &str) -> Result<Vec<u8>, LineFault> {
+fn read_bytes(alloc: Global, lines: &str) -> Result<Vec<u8>, LineFault> {
     let mut stream = Vec::new(alloc);
     for line in lines.lines() {
         stream.extend_from_slice(&iscsi_examples::bytes_of(alloc, line)?)?;
     }
     Ok(stream)
+}
+
+// The same where memory is not refused.
+fn bytes_of(rt: &impl Abort, alloc: Global, lines: &str) -> Vec<u8> {
+    read_bytes(alloc, lines).expect(rt, "lines of hex")
 }
 
 // What is said of two streams that are there as a whole.

@@ -1,11 +1,13 @@
-//! What tests of iSCSI sessions share: PDUs as lines of text, a session of both ends, a reader that
-//! fails and a writer that is full. No program uses it.
+//! What tests of iSCSI sessions share: PDUs as lines of text, a session of both ends, readers and
+//! writers that fail, and assertions. No program uses it.
 #![tactic(auto)]
 
+mod asserts;
 mod failing;
 mod line;
 mod session;
 
-pub use failing::{Broken, Full};
-pub use line::{LineFault, append_pdu, bytes_of, pdus_of, segment_of};
+pub use asserts::{same, same_bytes, same_debug, same_text};
+pub use failing::{Broken, Full, SURE, Sink, Source, Steps};
+pub use line::{LineFault, append_pdu, bytes_of, marked, pdus_of, segment_of};
 pub use session::SESSION;

@@ -123,3 +123,14 @@ pub fn pdus_of(alloc: Global, lines: &str) -> Result<Vec<u8>, LineFault> {
     }
     Ok(stream)
 }
+
+/// The PDUs of the lines that have this mark, one behind another.
+pub fn marked(alloc: Global, lines: &str, mark: &str) -> Result<Vec<u8>, LineFault> {
+    let mut stream = Vec::new(alloc);
+    for line in lines.lines() {
+        if let Some(pdu) = line.strip_prefix(mark) {
+            append_pdu(pdu, &mut stream)?;
+        }
+    }
+    Ok(stream)
+}

@@ -1,15 +1,14 @@
 //! Several sessions over one disk. Their PDUs are those of a worked session, or worked out by hand
 //! from the tables of RFC 7143, section 11.
 
-use iscsi_examples::{LineFault, SESSION, append_pdu};
+use iscsi_examples::{LineFault, SESSION, marked, same};
 use iscsi_hall::{Hall, MOST_READ};
-use iscsi_login::Preferences;
+use iscsi_login::{Phase, Preferences};
 use iscsi_target::{Config, TargetFault};
 use scsi_disk::SparseStore;
 use std::alloc::{AllocError, Global};
 use std::fmt::Debug;
 use std::process::Abort;
-use std::test::Fail;
 
 mod interleaved;
 mod memory;
@@ -28,7 +27,7 @@ const READ: (usize, usize) = (15, 4);
 const LOGOUT: (usize, usize) = (19, 3);
 
 /// Why there is nothing to look at.
-#[derive(Clone, Copy, Debug, PartialEq, Eq)]
+#[derive(Clone, Copy, Debug)]
 enum Trouble {
     /// Memory ran out.
     NoMemory,
@@ -50,11 +49,6 @@ impl From<LineFault> for Trouble {
 
 /// The most turns that one read leads to here.
 const MOST_TURNS: usize = 4096;
-
-// Asserts that a value is the one that is due, in a row of which this tells.
-fn same<T: PartialEq + Debug>(rt: &impl Abort, value: &T, due: &T, row: &impl Debug) {
-    assert_eq!(rt; *value, *due, "{row:?}");
-}
 
 // What the target of the worked session is configured with: bursts of 1,024 bytes, segments of 512.
 fn config(alloc: Global) -> Result<Config, Trouble> {
@@ -153,17 +147,6 @@ fn read_pieces(
     Ok(None)
 }
 
-// The PDUs of one end, of which this is the mark, in a text of both.
-fn pdus_at(alloc: Global, mark: &str, lines: &str) -> Result<Vec<u8>, Trouble> {
-    let mut pdus = Vec::new(alloc);
-    for line in lines.lines() {
-        if let Some(pdu) = line.strip_prefix(mark) {
-            append_pdu(pdu, &mut pdus)?;
-        }
-    }
-    Ok(pdus)
-}
-
 // So many lines of the worked session, from one on.
 fn part(alloc: Global, lines: (usize, usize)) -> Result<String, Trouble> {
     let (first, count) = lines;
@@ -175,23 +158,31 @@ fn part(alloc: Global, lines: (usize, usize)) -> Result<String, Trouble> {
     Ok(text)
 }
 
+// A full room of so many seats.
+fn room_of(rt: &impl Abort, alloc: Global, seats: usize) -> Box<Room> {
+    full_room(alloc, seats).expect(rt, "a room")
+}
+
+// The PDUs of one end, of which this is the mark, in a text of both.
+fn pdus_at(rt: &impl Abort, alloc: Global, mark: &str, lines: &str) -> Vec<u8> {
+    marked(alloc, lines, mark).expect(rt, "PDUs")
+}
+
+// The same in lines of the worked session.
+fn pdus_in(rt: &impl Abort, alloc: Global, mark: &str, lines: (usize, usize)) -> Vec<u8> {
+    let text = part(alloc, lines).expect(rt, "lines");
+    pdus_at(rt, alloc, mark, &text)
+}
+
 // Has a seat read what the initiator sends in these lines, in pieces of this length, and asserts
 // that the target answers as they say.
-fn play(
-    rt: &impl Abort,
-    alloc: Global,
-    room: &mut Room,
-    seat: usize,
-    lines: &str,
-    len: usize,
-) -> Result<(), Fail> {
-    let stream = pdus_at(alloc, "I> ", lines)?;
-    let want = pdus_at(alloc, "T> ", lines)?;
+fn play(rt: &impl Abort, alloc: Global, room: &mut Room, seat: usize, lines: &str, len: usize) {
+    let stream = pdus_at(rt, alloc, "I> ", lines);
+    let want = pdus_at(rt, alloc, "T> ", lines);
     let mut out = Vec::new(alloc);
-    let fault = read_pieces(room, seat, &stream, len, &mut out)?;
-    same(rt, &out.as_slice(), &want.as_slice(), &(seat, len, lines));
+    let fault = read_pieces(room, seat, &stream, len, &mut out).expect(rt, "pieces");
+    same(rt, &out, &want, &(seat, len, lines));
     same(rt, &fault, &None, &(seat, len, lines));
-    Ok(())
 }
 
 // The same with lines of the worked session.
@@ -202,6 +193,12 @@ fn play_part(
     seat: usize,
     lines: (usize, usize),
     len: usize,
-) -> Result<(), Fail> {
-    play(rt, alloc, room, seat, &part(alloc, lines)?, len)
+) {
+    let text = part(alloc, lines).expect(rt, "lines");
+    play(rt, alloc, room, seat, &text, len);
+}
+
+// Asserts in which phase a seat is: in none where it is free.
+fn check_phase(rt: &impl Abort, room: &Room, seat: usize, due: Option<Phase>, row: &impl Debug) {
+    same(rt, &room.hall.phase(seat), &due, &(seat, row));
 }

@@ -6,7 +6,7 @@ use iscsi_initiator::{Config, Initiator, InitiatorFault, Request};
 use iscsi_login::{Auth, ConfigFault, Offers, Phase, Preferences, Session, Stage};
 use scsi_cdb::Bytes;
 use std::alloc::Global;
-use std::test::Fail;
+use std::process::Abort;
 
 mod breaches;
 mod configs;
@@ -79,67 +79,66 @@ fn config_of(alloc: Global, setup: &str) -> Result<Config, ConfigFault> {
 }
 
 // The initiator of a dialogue. It stands in a box: a function that owns it is then proved much sooner.
-fn initiator_of(alloc: Global, setup: &str) -> Result<Box<Initiator>, Fail> {
-    let config = config_of(alloc, setup)?;
-    Ok(Box::new(alloc, Initiator::new(alloc, config))?)
+fn initiator_of(rt: &impl Abort, alloc: Global, setup: &str) -> Box<Initiator> {
+    let config = config_of(alloc, setup).expect(rt, setup);
+    Box::new(alloc, Initiator::new(alloc, config)).expect(rt, "an initiator")
 }
 
 // The PDU of a line of a dialogue, behind its mark: header, segment and padding. `@` stands for the
 // standard text.
-fn pdu_of(alloc: Global, line: &str, out: &mut Vec<u8>) -> Result<(), Fail> {
+fn pdu_of(rt: &impl Abort, alloc: Global, line: &str, out: &mut Vec<u8>) {
     let Some(header) = line.strip_suffix('@') else {
-        return Ok(append_pdu(line, out)?);
+        append_pdu(line, out).expect(rt, line);
+        return;
     };
-    let mut whole = String::new(alloc);
-    whole.push_str(header)?;
-    whole.push_str(preludes::SECOND)?;
-    Ok(append_pdu(&whole, out)?)
+    let text = preludes::SECOND;
+    let whole = format!(in alloc; "{header}{text}").expect(rt, "text");
+    append_pdu(&whole, out).expect(rt, line);
 }
 
 // The data of a request.
-fn data_of(alloc: Global, segment: &str) -> Result<Bytes, Fail> {
-    Ok(Bytes::from_vec(segment_of(alloc, segment)?))
+fn data_of(rt: &impl Abort, alloc: Global, segment: &str) -> Bytes {
+    Bytes::from_vec(segment_of(alloc, segment).expect(rt, segment))
 }
 
 // The request of a line of a dialogue.
-fn request_of(alloc: Global, line: &str) -> Result<Request, Fail> {
+fn request_of(rt: &impl Abort, alloc: Global, line: &str) -> Request {
     let (kind, rest) = line.split_once(' ').unwrap_or((line, ""));
     match kind {
-        "ping" => {
-            let bytes = data_of(alloc, rest)?;
-            Ok(Request::Ping { bytes })
-        }
-        "text" => {
-            let bytes = data_of(alloc, rest)?;
-            Ok(Request::Text { bytes })
-        }
-        "in" => in_of(rest),
-        "out" => out_of(alloc, rest),
-        "logout" => Ok(Request::Logout),
-        _ => Err(Fail::from("no such request")),
+        "ping" => Request::Ping {
+            bytes: data_of(rt, alloc, rest),
+        },
+        "text" => Request::Text {
+            bytes: data_of(rt, alloc, rest),
+        },
+        "in" => in_of(rt, rest),
+        "out" => out_of(rt, alloc, rest),
+        "logout" => Request::Logout,
+        _ => panic!(rt; "no such request"),
     }
 }
 
 // The unit and the block that a command begins with, and what is left of its line.
-fn head_of(line: &str) -> Result<(u64, [u8; 16], &str), Fail> {
-    let (unit, rest) = line.split_once(' ').ok_or("no unit")?;
-    let (block, rest) = rest.split_once(' ').ok_or("no block")?;
-    let lun = u64::from_str_radix(unit, 16)?;
-    Ok((lun, <[u8; 16]>::from_hex(block)?, rest))
+fn head_of<'a>(rt: &impl Abort, line: &'a str) -> (u64, [u8; 16], &'a str) {
+    let (unit, rest) = line.split_once(' ').expect(rt, "no unit");
+    let (block, rest) = rest.split_once(' ').expect(rt, "no block");
+    let lun = u64::from_str_radix(unit, 16).expect(rt, unit);
+    let cdb = <[u8; 16]>::from_hex(block).expect(rt, block);
+    (lun, cdb, rest)
 }
 
 // A command that reads: how many bytes are expected stands behind the block.
-fn in_of(line: &str) -> Result<Request, Fail> {
-    let (lun, cdb, expected) = head_of(line)?;
-    let expected = expected.parse::<u32>()?;
-    Ok(Request::In { lun, cdb, expected })
+fn in_of(rt: &impl Abort, line: &str) -> Request {
+    let (lun, cdb, expected) = head_of(rt, line);
+    let expected = expected.parse::<u32>().expect(rt, expected);
+    Request::In { lun, cdb, expected }
 }
 
 // A command that writes: the data stand behind the block.
-fn out_of(alloc: Global, line: &str) -> Result<Request, Fail> {
-    let (lun, cdb, data) = head_of(line)?;
-    let bytes = data_of(alloc, data)?;
-    Ok(Request::Out { lun, cdb, bytes })
+fn out_of(rt: &impl Abort, alloc: Global, line: &str) -> Request {
+    let (lun, cdb, data) = head_of(rt, line);
+    let bytes = data_of(rt, alloc, data);
+    Request::Out { lun, cdb, bytes }
 }
 
 // Feeds what comes in pieces of this length, and gives the last answer.

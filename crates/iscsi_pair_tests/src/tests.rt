@@ -5,18 +5,11 @@ use iscsi_login::{Auth, ConfigFault, Offers, Preferences, Session, Stage};
 use iscsi_pair::{Pair, Step};
 use scsi_disk::MemoryStore;
 use std::alloc::{AllocError, Global};
-use std::fmt::Debug;
 use std::process::Abort;
-use std::test::Fail;
 
 mod failures;
 mod logins;
 mod scripts;
-
-// Asserts that a value is the one that is due, in a row of which this tells.
-fn same<T: PartialEq + Debug>(rt: &impl Abort, value: &T, due: &T, row: &impl Debug) {
-    assert_eq!(rt; *value, *due, "{row:?}");
-}
 
 /// How many bytes a move has: always as many, or a number up to a limit that a fixed rule draws.
 #[derive(Drop)]
@@ -117,12 +110,12 @@ fn target_of(alloc: Global, setup: &str) -> Result<iscsi_target::Config, ConfigF
 
 // A new pair, with a disk of 2,048 blocks. It stands in a box: a function that owns it is then proved
 // much sooner.
-fn pair_of(alloc: Global, setup: &str) -> Result<Box<Pair>, Fail> {
-    let initiator = initiator_of(alloc, setup)?;
-    let target = target_of(alloc, setup)?;
-    let store = MemoryStore::new(alloc, 2048)?;
-    let pair = Pair::new(alloc, initiator, target, 1, store)?;
-    Ok(Box::new(alloc, pair)?)
+fn pair_of(rt: &impl Abort, alloc: Global, setup: &str) -> Box<Pair> {
+    let initiator = initiator_of(alloc, setup).expect(rt, setup);
+    let target = target_of(alloc, setup).expect(rt, setup);
+    let store = MemoryStore::new(alloc, 2048).expect(rt, "a disk");
+    let pair = Pair::new(alloc, initiator, target, 1, store).expect(rt, "a pair");
+    Box::new(alloc, pair).expect(rt, "a pair")
 }
 
 // Eight moves of a schedule, and after each one to the initiator.
@@ -136,14 +129,14 @@ fn moves(alloc: Global, schedule: &mut Schedule) -> Result<Vec<Step>, AllocError
 }
 
 // Moves all that is on its way, and all that it leads to.
-fn deliver(alloc: Global, pair: &mut Pair, schedule: &mut Schedule) -> Result<(), Fail> {
+fn deliver(rt: &impl Abort, alloc: Global, pair: &mut Pair, schedule: &mut Schedule) {
     for _ in 0..100_000 {
-        pair.run(moves(alloc, schedule)?);
+        pair.run(moves(alloc, schedule).expect(rt, "moves"));
         if pair.queued() == (0, 0) {
-            return Ok(());
+            return;
         }
     }
-    Err(Fail::from("bytes go on and on"))
+    panic!(rt; "bytes go on and on");
 }
 
 // The one step of a request.
@@ -154,7 +147,6 @@ fn one_step(alloc: Global, request: Request) -> Result<Vec<Step>, AllocError> {
 }
 
 // Hands in a request.
-fn submit(alloc: Global, pair: &mut Pair, request: Request) -> Result<(), AllocError> {
-    pair.run(one_step(alloc, request)?);
-    Ok(())
+fn submit(rt: &impl Abort, alloc: Global, pair: &mut Pair, request: Request) {
+    pair.run(one_step(alloc, request).expect(rt, "a step"));
 }

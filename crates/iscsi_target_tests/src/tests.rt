@@ -5,9 +5,7 @@ use iscsi_login::{Phase, Preferences};
 use iscsi_target::{Config, Target, TargetFault};
 use scsi_disk::BlockStore;
 use std::alloc::Global;
-use std::fmt::Debug;
 use std::process::Abort;
-use std::test::Fail;
 
 mod changes;
 mod configs;
@@ -20,36 +18,36 @@ const NAME: &[u8] = b"iqn.2026-01.example:disk";
 /// In place of the length of pieces: one PDU at a time.
 const BY_PDU: usize = 0;
 
-// Asserts that a value is the one that is due, in a row of which this tells.
-fn same<T: PartialEq + Debug>(rt: &impl Abort, value: &T, due: &T, row: &impl Debug) {
-    assert_eq!(rt; *value, *due, "{row:?}");
-}
-
 // A target that has just begun. It stands in a box: a function that owns it is then proved much sooner.
-fn target_of(alloc: Global) -> Result<Box<Target>, Fail> {
-    target_with(alloc, Preferences::standard())
+fn target_of(rt: &impl Abort, alloc: Global) -> Box<Target> {
+    target_with(rt, alloc, Preferences::standard())
 }
 
 // A target with these preferences that has just begun.
-fn target_with(alloc: Global, preferences: Preferences) -> Result<Box<Target>, Fail> {
-    let config = Config::new(alloc, NAME, 1, 1, preferences)?;
-    Ok(Box::new(alloc, Target::new(alloc, config, 1))?)
+fn target_with(rt: &impl Abort, alloc: Global, preferences: Preferences) -> Box<Target> {
+    let config = Config::new(alloc, NAME, 1, 1, preferences).expect(rt, "a configuration");
+    Box::new(alloc, Target::new(alloc, config, 1)).expect(rt, "a target")
 }
 
-// A line of a dialogue, whose text has as many keys more as it says behind a `+`.
-fn longer(alloc: Global, line: &str) -> Result<String, Fail> {
-    let (front, more) = line.split_once('+').unwrap_or((line, "0"));
-    let mut longer = String::new(alloc);
-    longer.push_str(front)?;
-    for number in 0..more.parse::<u16>()? {
-        longer.push_str(&format!(in alloc; "K{number:03}=1|")?)?;
+// Appends so many keys.
+fn append_keys(rt: &impl Abort, alloc: Global, count: u16, text: &mut String) {
+    for number in 0..count {
+        let key = format!(in alloc; "K{number:03}=1|").expect(rt, "a key");
+        text.push_str(&key).expect(rt, "a key");
     }
-    Ok(longer)
 }
 
-// The PDU of a line of a dialogue, behind its mark: header, segment and padding.
-fn pdu_of(alloc: Global, line: &str, out: &mut Vec<u8>) -> Result<(), Fail> {
-    Ok(append_pdu(&longer(alloc, line)?, out)?)
+// The PDU of a line of a dialogue, behind its mark: header, segment and padding. Its text has as many keys
+// more as it says behind a `+`.
+fn pdu_of(rt: &impl Abort, alloc: Global, line: &str, out: &mut Vec<u8>) {
+    let Some((front, more)) = line.split_once('+') else {
+        append_pdu(line, out).expect(rt, line);
+        return;
+    };
+    let mut longer = String::from_str(alloc, front).expect(rt, "a line");
+    let count = more.parse::<u16>().expect(rt, more);
+    append_keys(rt, alloc, count, &mut longer);
+    append_pdu(&longer, out).expect(rt, line);
 }
 
 // Feeds what comes in a turn one PDU at a time, and gives the last answer.

@@ -1,17 +1,17 @@
 //! Sessions whose PDUs come in between each other's.
 
 use super::{
-    LOGIN, LOGOUT, PING, READ, Room, WRITE, config, full_room, part, pdus_at, play, play_part,
-    read_piece, read_pieces, same,
+    LOGIN, LOGOUT, PING, READ, Room, WRITE, check_phase, config, pdus_at, pdus_in, play, play_part,
+    read_piece, read_pieces, room_of,
 };
-use iscsi_examples::SESSION;
+use iscsi_examples::{SESSION, same};
 use iscsi_login::Phase;
 use iscsi_pdu::HeadFault;
 use iscsi_stream::StreamFault;
 use iscsi_target::{Target, TargetFault};
 use scsi_disk::SparseStore;
 use std::alloc::Global;
-use std::test::Fail;
+use std::process::Abort;
 
 /// The lengths of pieces: a byte, less than a header, a header, and many PDUs.
 const LENGTHS: &[usize] = &[1, 47, 48, 8192];
@@ -33,92 +33,113 @@ const SECOND_READ: &str =
     T> 25800000 00000200 00000000 00000000 00000002 ffffffff 00000000 00000003 0000000a 00000000 00000000 00000000 44*512\n\
     T> 21800000 00000000 00000000 00000000 00000002 00000000 00000004 00000003 0000000a 00000001 00000000 00000000";
 
+// What a target answers to a whole session.
+fn alone(rt: &impl Abort, alloc: Global, stream: &[u8]) -> Vec<u8> {
+    let mut store = SparseStore::new(alloc, 2048);
+    let config = config(alloc).expect(rt, "a configuration");
+    let mut target = Box::new(alloc, Target::new(alloc, config, 1)).expect(rt, "a target");
+    let mut out = Vec::new(alloc);
+    let phase = target.feed(stream, &mut store, &mut out);
+    same(rt, &phase, &Ok(Phase::Closed), &"the target");
+    out
+}
+
+// What the one seat of a hall answers to a stream.
+fn seated(rt: &impl Abort, alloc: Global, stream: &[u8], len: usize) -> Vec<u8> {
+    let mut room = room_of(rt, alloc, 1);
+    let mut out = Vec::new(alloc);
+    read_pieces(&mut room, 0, stream, len, &mut out).expect(rt, "pieces");
+    out
+}
+
+// The worked session at the one seat of a hall.
+fn check_one(rt: &impl Abort, alloc: Global, len: usize) {
+    let mut room = room_of(rt, alloc, 1);
+    play(rt, alloc, &mut room, 0, SESSION, len);
+    check_phase(rt, &room, 0, Some(Phase::Closed), &len);
+}
+
 /// One session alone answers what a target does, and what the worked session says.
 #[test]
-fn one_session(rt: HostRuntime) -> Result<(), Fail> {
-    let stream = pdus_at(rt.alloc(), "I> ", SESSION)?;
-    let mut store = SparseStore::new(rt.alloc(), 2048);
-    let mut target = Box::new(rt.alloc(), Target::new(rt.alloc(), config(rt.alloc())?, 1))?;
-    let mut alone = Vec::new(rt.alloc());
-    let phase = target.feed(&stream, &mut store, &mut alone);
-    same(&rt, &phase, &Ok(Phase::Closed), &"the target");
+fn one_session(rt: HostRuntime) {
+    let stream = pdus_at(&rt, rt.alloc(), "I> ", SESSION);
+    let alone = alone(&rt, rt.alloc(), &stream);
     for len in LENGTHS {
-        let mut room = full_room(rt.alloc(), 1)?;
-        play(&rt, rt.alloc(), &mut room, 0, SESSION, *len)?;
-        same(&rt, &room.hall.phase(0), &Some(Phase::Closed), len);
-        let mut room = full_room(rt.alloc(), 1)?;
-        let mut out = Vec::new(rt.alloc());
-        read_pieces(&mut room, 0, &stream, *len, &mut out)?;
-        same(&rt, &out, &alone, len);
+        check_one(&rt, rt.alloc(), *len);
+        same(&rt, &seated(&rt, rt.alloc(), &stream, *len), &alone, len);
     }
-    Ok(())
 }
 
-/// A write of one session between two reads of another.
+// A write of one session between two reads of another, in pieces of this length.
+fn check_write(rt: &impl Abort, alloc: Global, room: &mut Room, len: usize) {
+    play_part(rt, alloc, room, 0, LOGIN, len);
+    play_part(rt, alloc, room, 1, LOGIN, len);
+    play(rt, alloc, room, 0, FIRST_READ, len);
+    play_part(rt, alloc, room, 1, PING, len);
+    play_part(rt, alloc, room, 1, WRITE, len);
+    play(rt, alloc, room, 0, SECOND_READ, len);
+    play_part(rt, alloc, room, 1, READ, len);
+    play_part(rt, alloc, room, 1, LOGOUT, len);
+    check_phase(rt, room, 0, Some(Phase::Full), &len);
+    check_phase(rt, room, 1, Some(Phase::Closed), &len);
+}
+
 #[test]
-fn a_write_between_two_reads(rt: HostRuntime) -> Result<(), Fail> {
+fn a_write_between_two_reads(rt: HostRuntime) {
     for len in LENGTHS {
-        let mut room = full_room(rt.alloc(), 2)?;
-        play_part(&rt, rt.alloc(), &mut room, 0, LOGIN, *len)?;
-        play_part(&rt, rt.alloc(), &mut room, 1, LOGIN, *len)?;
-        play(&rt, rt.alloc(), &mut room, 0, FIRST_READ, *len)?;
-        play_part(&rt, rt.alloc(), &mut room, 1, PING, *len)?;
-        play_part(&rt, rt.alloc(), &mut room, 1, WRITE, *len)?;
-        play(&rt, rt.alloc(), &mut room, 0, SECOND_READ, *len)?;
-        play_part(&rt, rt.alloc(), &mut room, 1, READ, *len)?;
-        play_part(&rt, rt.alloc(), &mut room, 1, LOGOUT, *len)?;
-        same(&rt, &room.hall.phase(0), &Some(Phase::Full), len);
-        same(&rt, &room.hall.phase(1), &Some(Phase::Closed), len);
+        check_write(&rt, rt.alloc(), &mut room_of(&rt, rt.alloc(), 2), *len);
     }
-    Ok(())
 }
 
-// Has two seats read the same stream, a piece of this length in turn, and gives what they answer.
-fn in_turn(
+// Has two seats read the same stream, a piece of this length in turn, and asserts that each answers
+// what is due.
+fn check_in_turn(
+    rt: &impl Abort,
     alloc: Global,
     room: &mut Room,
     stream: &[u8],
+    want: &Vec<u8>,
     len: usize,
-) -> Result<(Vec<u8>, Vec<u8>), Fail> {
+) {
     let (mut first, mut second) = (Vec::new(alloc), Vec::new(alloc));
     for piece in stream.chunks(len.max(1)) {
-        read_piece(room, 0, piece, &mut first)?;
-        read_piece(room, 1, piece, &mut second)?;
+        read_piece(room, 0, piece, &mut first).expect(rt, "a piece");
+        read_piece(room, 1, piece, &mut second).expect(rt, "a piece");
     }
-    Ok((first, second))
+    same(rt, &first, want, &len);
+    same(rt, &second, want, &len);
+    check_phase(rt, room, 1, Some(Phase::Full), &len);
 }
 
 /// Two logins, of which each has a piece in turn.
 #[test]
-fn two_logins(rt: HostRuntime) -> Result<(), Fail> {
-    let login = part(rt.alloc(), LOGIN)?;
-    let stream = pdus_at(rt.alloc(), "I> ", &login)?;
-    let want = pdus_at(rt.alloc(), "T> ", &login)?;
+fn two_logins(rt: HostRuntime) {
+    let stream = pdus_in(&rt, rt.alloc(), "I> ", LOGIN);
+    let want = pdus_in(&rt, rt.alloc(), "T> ", LOGIN);
     for len in LENGTHS {
-        let mut room = full_room(rt.alloc(), 2)?;
-        let (first, second) = in_turn(rt.alloc(), &mut room, &stream, *len)?;
-        same(&rt, &first, &want, len);
-        same(&rt, &second, &want, len);
-        same(&rt, &room.hall.phase(1), &Some(Phase::Full), len);
+        let mut room = room_of(&rt, rt.alloc(), 2);
+        check_in_turn(&rt, rt.alloc(), &mut room, &stream, &want, *len);
     }
-    Ok(())
 }
 
-/// A fault of one session between two PDUs of another.
-#[test]
-fn a_fault_of_one(rt: HostRuntime) -> Result<(), Fail> {
+// A fault of one session between two PDUs of another, in pieces of this length.
+fn check_fault(rt: &impl Abort, alloc: Global, room: &mut Room, unknown: &[u8], len: usize) {
     let fault = TargetFault::Stream(StreamFault::Head(HeadFault::UnknownOpcode, 0));
+    play_part(rt, alloc, room, 0, LOGIN, len);
+    let mut out = Vec::new(alloc);
+    let came = read_pieces(room, 1, unknown, len, &mut out).expect(rt, "pieces");
+    same(rt, &came, &Some(fault), &len);
+    check_phase(rt, room, 1, Some(Phase::Closed), &len);
+    play_part(rt, alloc, room, 0, PING, len);
+    check_phase(rt, room, 0, Some(Phase::Full), &len);
+}
+
+#[test]
+fn a_fault_of_one(rt: HostRuntime) {
     let mut unknown = [0; 48];
     unknown[0] = 0x1f;
     for len in LENGTHS {
-        let mut room = full_room(rt.alloc(), 2)?;
-        play_part(&rt, rt.alloc(), &mut room, 0, LOGIN, *len)?;
-        let mut out = Vec::new(rt.alloc());
-        let came = read_pieces(&mut room, 1, &unknown, *len, &mut out)?;
-        same(&rt, &came, &Some(fault), len);
-        same(&rt, &room.hall.phase(1), &Some(Phase::Closed), len);
-        play_part(&rt, rt.alloc(), &mut room, 0, PING, *len)?;
-        same(&rt, &room.hall.phase(0), &Some(Phase::Full), len);
+        let mut room = room_of(&rt, rt.alloc(), 2);
+        check_fault(&rt, rt.alloc(), &mut room, &unknown, *len);
     }
-    Ok(())
 }

@@ -1,11 +1,11 @@
 //! Memory that is refused to one of two sessions, for `rt try --test --fail-alloc`.
 
 use super::interleaved::{FIRST_READ, FIRST_READ_OF_44};
-use super::{LOGIN, Room, Trouble, full_room, part, pdus_at, read_pieces, same};
+use super::{LOGIN, Room, Trouble, check_phase, full_room, part, read_pieces};
+use iscsi_examples::{marked, same_bytes};
 use iscsi_login::Phase;
 use std::alloc::Global;
 use std::process::Abort;
-use std::test::Fail;
 
 // The ping and the write of the worked session, which come behind its login.
 const PING_AND_WRITE: (usize, usize) = (5, 10);
@@ -21,8 +21,8 @@ struct Part {
 
 fn part_of(alloc: Global, lines: &str) -> Result<Part, Trouble> {
     Ok(Part {
-        came: pdus_at(alloc, "I> ", lines)?,
-        due: pdus_at(alloc, "T> ", lines)?,
+        came: marked(alloc, lines, "I> ")?,
+        due: marked(alloc, lines, "T> ")?,
         out: Vec::with_capacity(alloc, 4096)?,
     })
 }
@@ -37,8 +37,9 @@ struct Stage {
     later: Vec<u8>,
 }
 
-fn new_stage(alloc: Global) -> Result<Stage, Trouble> {
-    let login = pdus_at(alloc, "I> ", &part(alloc, LOGIN)?)?;
+// Two seats, both logged in.
+fn logged_in(alloc: Global) -> Result<Box<Room>, Trouble> {
+    let login = marked(alloc, &part(alloc, LOGIN)?, "I> ")?;
     let mut room = full_room(alloc, 2)?;
     let mut out = Vec::with_capacity(alloc, 4096)?;
     for seat in 0..2 {
@@ -46,11 +47,15 @@ fn new_stage(alloc: Global) -> Result<Stage, Trouble> {
             return Err(Trouble::NoMemory);
         }
     }
+    Ok(room)
+}
+
+fn new_stage(alloc: Global) -> Result<Stage, Trouble> {
     Ok(Stage {
-        room,
+        room: logged_in(alloc)?,
         write: part_of(alloc, &part(alloc, PING_AND_WRITE)?)?,
         read: part_of(alloc, FIRST_READ)?,
-        later: pdus_at(alloc, "T> ", FIRST_READ_OF_44)?,
+        later: marked(alloc, FIRST_READ_OF_44, "T> ")?,
     })
 }
 
@@ -71,33 +76,42 @@ fn check(rt: &impl Abort, out: &[u8], due: &[u8], refused: bool, row: &str) {
     if refused {
         assert!(rt; out.len() < due.len() && due.starts_with(out), "{row}");
     } else {
-        same(rt, &out, &due, &row);
+        same_bytes(rt, out, due, &row);
+    }
+}
+
+// Two sessions, made again where memory ran out.
+fn ample_stage(rt: &impl Abort, alloc: Global) -> Stage {
+    match new_stage(alloc) {
+        Ok(stage) => stage,
+        Err(_) => new_stage(alloc).expect(rt, "a stage"),
     }
 }
 
 /// Where memory runs out in one session, that session alone ends: it has answered a front of what
 /// is due, and the other answers as ever. The disk has the write of the first, or nothing.
 #[test]
-fn refused_memory_ends_one_session(rt: HostRuntime) -> Result<(), Fail> {
-    let mut stage = match new_stage(rt.alloc()) {
-        Ok(stage) => stage,
-        Err(_) => new_stage(rt.alloc())?,
-    };
+fn refused_memory_ends_one_session(rt: HostRuntime) {
+    let mut stage = ample_stage(&rt, rt.alloc());
     let first = serve(&mut stage.room, 0, &mut stage.write);
     let second = serve(&mut stage.room, 1, &mut stage.read);
     assert!(rt; !(first && second), "one was refused");
     check(&rt, &stage.write.out, &stage.write.due, first, "the write");
-    let is_new = stage.read.out.starts_with(stage.later.as_slice());
-    if is_new {
-        check(&rt, &stage.read.out, &stage.later, second, "the read");
-    } else {
-        check(&rt, &stage.read.out, &stage.read.due, second, "the read");
-    }
+    let is_new = stage.read.out.starts_with(&stage.later);
+    let due = read_due(&stage, is_new);
+    check(&rt, &stage.read.out, due, second, "the read");
     // The read gives what the write left where that was answered.
     assert!(rt; first || second || is_new, "a write is lost");
-    same(&rt, &stage.room.hall.phase(0), &left(first), &"first");
-    same(&rt, &stage.room.hall.phase(1), &left(second), &"second");
-    Ok(())
+    check_phase(&rt, &stage.room, 0, left(first), &"first");
+    check_phase(&rt, &stage.room, 1, left(second), &"second");
+}
+
+// What is due of the read: what the write of the first session left, or what was there before.
+fn read_due(stage: &Stage, is_new: bool) -> &[u8] {
+    if is_new {
+        return &stage.later;
+    }
+    &stage.read.due
 }
 
 // What a seat is left in.

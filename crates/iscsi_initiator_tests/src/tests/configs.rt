@@ -1,5 +1,6 @@
 //! What an initiator may be configured with.
 
+use iscsi_examples::same;
 use iscsi_initiator::Config;
 use iscsi_login::{Auth, ConfigFault, Offers, Preferences, Session, Stage};
 use std::alloc::Global;
@@ -126,7 +127,7 @@ fn check_row(rt: &impl Abort, alloc: Global, row: &Row) {
     let (what, initiator, target, max_recv, start, segment, want) = *row;
     let offers = offers(initiator, target, max_recv);
     let config = Config::new(alloc, offers, start, ISID, 1, segment);
-    assert_eq!(rt; config.err(), want, "{what}");
+    same(rt, &config.err(), &want, &what);
 }
 
 #[test]

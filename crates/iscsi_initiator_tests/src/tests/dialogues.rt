@@ -14,15 +14,14 @@ use super::preludes::BURSTS;
 use super::requests::REQUESTS;
 use super::words::{answer_of, outcome_of, phase_of, place_of, submit_of};
 use super::{feed_pieces, initiator_of, lines_before, pdu_of, request_of};
-use iscsi_examples::{SESSION, append_pdu, segment_of};
+use iscsi_examples::{SESSION, append_pdu, same, segment_of};
 use iscsi_initiator::Initiator;
 use iscsi_login::{Answered, NegKey, Phase};
 use std::alloc::Global;
 use std::process::Abort;
-use std::test::Fail;
 
 /// What is held before a login (RFC 7143, section 13).
-const BEFORE: [(NegKey, Answered); 4] = [
+const BEFORE: &[(NegKey, Answered)] = &[
     (NegKey::MaxBurstLength, Answered::Number(262_144)),
     (NegKey::InitialR2T, Answered::Flag(true)),
     (NegKey::ImmediateData, Answered::Flag(true)),
@@ -30,7 +29,7 @@ const BEFORE: [(NegKey, Answered); 4] = [
 ];
 
 /// What is held after the login `BURSTS`.
-const AFTER: [(NegKey, Answered); 6] = [
+const AFTER: &[(NegKey, Answered)] = &[
     (NegKey::MaxBurstLength, Answered::Number(1024)),
     (NegKey::FirstBurstLength, Answered::Number(1024)),
     (NegKey::InitialR2T, Answered::Flag(false)),
@@ -41,34 +40,35 @@ const AFTER: [(NegKey, Answered); 6] = [
 
 // Hands in a request, and says in words what is answered.
 fn submit(
+    rt: &impl Abort,
     alloc: Global,
     initiator: &mut Initiator,
     call: &str,
     out: &mut Vec<u8>,
-) -> Result<String, Fail> {
-    let result = initiator.submit(request_of(alloc, call)?, out);
-    let request = request_of(alloc, call)?;
-    Ok(submit_of(alloc, &result, &request)?)
+) -> String {
+    let result = initiator.submit(request_of(rt, alloc, call), out);
+    let request = request_of(rt, alloc, call);
+    submit_of(alloc, &result, &request).expect(rt, "text")
 }
 
 // Calls the session, and says in words what it answers. What it sends, and the bytes of an outcome,
 // are appended.
 fn answer_to(
+    rt: &impl Abort,
     alloc: Global,
     initiator: &mut Initiator,
-    call: &str,
-    came: &[u8],
+    turn: &Turn,
     len: usize,
     out: &mut Vec<u8>,
-) -> Result<String, Fail> {
-    let result = match call {
-        "" => feed_pieces(initiator, came, len, out).map(phase_of),
+) -> String {
+    let result = match turn.call.as_str() {
+        "" => feed_pieces(initiator, &turn.came, len, out).map(phase_of),
         "start" => initiator.start(out).map(|_| "ok"),
         "finish" => initiator.finish().map(|_| "ok"),
-        "outcome" => return Ok(outcome_of(alloc, initiator.outcome(), out)?),
-        _ => return submit(alloc, initiator, call, out),
+        "outcome" => return outcome_of(alloc, &initiator.outcome(), out).expect(rt, "text"),
+        call => return submit(rt, alloc, initiator, call, out),
     };
-    Ok(answer_of(alloc, &result)?)
+    answer_of(alloc, &result).expect(rt, "text")
 }
 
 /// A call, the bytes that come before its answer, and those that are due with it.
@@ -90,13 +90,16 @@ impl Turn {
     }
 
     // Takes a line with `!`, `T>`, `I>` or `:`.
-    fn take(&mut self, alloc: Global, mark: &str, rest: &str) -> Result<(), Fail> {
+    fn take(&mut self, rt: &impl Abort, alloc: Global, mark: &str, rest: &str) {
         match mark {
-            "!" => Ok(self.call.push_str(rest)?),
-            "T>" => pdu_of(alloc, rest, &mut self.came),
-            "I>" => pdu_of(alloc, rest, &mut self.want),
-            ":" => Ok(self.want.extend_from_slice(&segment_of(alloc, rest)?)?),
-            _ => Err(Fail::from("no such line")),
+            "!" => self.call.push_str(rest).expect(rt, "a call"),
+            "T>" => pdu_of(rt, alloc, rest, &mut self.came),
+            "I>" => pdu_of(rt, alloc, rest, &mut self.want),
+            ":" => {
+                let bytes = segment_of(alloc, rest).expect(rt, rest);
+                self.want.extend_from_slice(&bytes).expect(rt, "bytes");
+            }
+            _ => panic!(rt; "no such line"),
         }
     }
 }
@@ -110,29 +113,18 @@ fn check_answer(
     initiator: &mut Initiator,
     turn: &Turn,
     want: &str,
-) -> Result<(), Fail> {
-    let call = turn.call.as_str();
+) {
     let mut out = Vec::new(alloc);
-    let answer = answer_to(alloc, initiator, call, &turn.came, len, &mut out)?;
-    assert_eq!(rt;
-        (answer.as_str(), out.as_slice()),
-        (want, turn.want.as_slice()),
-        "{name}, pieces of {len}, at {call} = {want}"
-    );
-    Ok(())
+    let answer = answer_to(rt, alloc, initiator, turn, len, &mut out);
+    let row = (name, len, turn.call.as_str(), want);
+    same(rt, &answer.as_str(), &want, &row);
+    same(rt, &out, &turn.want, &row);
 }
 
 // Compares the phase and the stage of a session.
-fn check_place(
-    rt: &impl Abort,
-    alloc: Global,
-    name: &str,
-    initiator: &Initiator,
-    want: &str,
-) -> Result<(), Fail> {
-    let place = place_of(alloc, initiator)?;
-    assert_eq!(rt; place.as_str(), want, "{name}");
-    Ok(())
+fn check_place(rt: &impl Abort, alloc: Global, name: &str, initiator: &Initiator, want: &str) {
+    let place = place_of(alloc, initiator).expect(rt, "text");
+    same(rt, &place.as_str(), &want, &name);
 }
 
 // Goes through the lines of a session, whose stream comes in pieces of this length.
@@ -143,119 +135,122 @@ fn check(
     len: usize,
     initiator: &mut Initiator,
     lines: &str,
-) -> Result<(), Fail> {
+) {
     let mut turn = Turn::new(alloc);
     for line in lines.lines() {
         let (mark, rest) = line.split_once(' ').unwrap_or((line, ""));
         match mark {
-            "?" => check_place(rt, alloc, name, initiator, rest)?,
+            "?" => check_place(rt, alloc, name, initiator, rest),
             "=" => {
-                check_answer(rt, alloc, name, len, initiator, &turn, rest)?;
+                check_answer(rt, alloc, name, len, initiator, &turn, rest);
                 turn = Turn::new(alloc);
             }
-            _ => turn.take(alloc, mark, rest)?,
+            _ => turn.take(rt, alloc, mark, rest),
         }
     }
-    assert_eq!(rt; turn.came.len(), 0, "{name}");
-    Ok(())
+    same(rt, &turn.came.len(), &0, &name);
 }
 
-// Goes through sessions in pieces of each length. The first line of a session says how it is
-// configured, what goes before, and its name.
-fn check_all(rt: &impl Abort, alloc: Global, dialogues: &str) -> Result<(), Fail> {
+// Goes through a session in pieces of each length. Its first line says how it is configured, what goes
+// before, and its name.
+fn check_dialogue(rt: &impl Abort, alloc: Global, dialogue: &str) {
+    let (first, lines) = dialogue.split_once('\n').unwrap_or(("", ""));
+    let (setup, rest) = first.split_once(", ").unwrap_or(("", ""));
+    let (before, name) = rest.split_once(": ").unwrap_or(("", ""));
+    for len in [1usize, 47, 48, 100_000] {
+        let mut initiator = initiator_of(rt, alloc, setup);
+        check(rt, alloc, name, len, &mut initiator, lines_before(before));
+        check(rt, alloc, name, len, &mut initiator, lines);
+    }
+}
+
+// Goes through sessions.
+fn check_all(rt: &impl Abort, alloc: Global, dialogues: &str) {
     for dialogue in dialogues.split("# ") {
-        let (first, lines) = dialogue.split_once('\n').unwrap_or(("", ""));
-        let (setup, rest) = first.split_once(", ").unwrap_or(("", ""));
-        let (before, name) = rest.split_once(": ").unwrap_or(("", ""));
-        for len in [1usize, 47, 48, 100_000] {
-            let mut initiator = initiator_of(alloc, setup)?;
-            check(rt, alloc, name, len, &mut initiator, lines_before(before))?;
-            check(rt, alloc, name, len, &mut initiator, lines)?;
-        }
+        check_dialogue(rt, alloc, dialogue);
     }
-    Ok(())
 }
 
 #[test]
-fn logins(rt: HostRuntime) -> Result<(), Fail> {
-    check_all(&rt, rt.alloc(), LOGINS)
+fn logins(rt: HostRuntime) {
+    check_all(&rt, rt.alloc(), LOGINS);
 }
 
 #[test]
-fn requests(rt: HostRuntime) -> Result<(), Fail> {
-    check_all(&rt, rt.alloc(), REQUESTS)
+fn requests(rt: HostRuntime) {
+    check_all(&rt, rt.alloc(), REQUESTS);
 }
 
 #[test]
-fn breaches(rt: HostRuntime) -> Result<(), Fail> {
-    check_all(&rt, rt.alloc(), BREACHES)
+fn breaches(rt: HostRuntime) {
+    check_all(&rt, rt.alloc(), BREACHES);
 }
 
-// Compares what is held for some keys.
-fn check_held(rt: &impl Abort, initiator: &Initiator, rows: &[(NegKey, Answered)]) {
+// Compares what is held: for some keys, and the longest segments of either end.
+fn check_held(
+    rt: &impl Abort,
+    initiator: &Initiator,
+    rows: &[(NegKey, Answered)],
+    longest: (u32, u32),
+) {
+    let params = initiator.params();
     for (key, want) in rows {
-        assert_eq!(rt; initiator.params().get(*key), *want, "{key:?}");
+        same(rt, &params.get(*key), want, key);
     }
+    let held = (params.initiator_max_recv, params.target_max_recv);
+    same(rt, &held, &longest, &"the longest segments");
 }
 
 /// Before the login the defaults stand.
 #[test]
-fn held_before_the_login(rt: HostRuntime) -> Result<(), Fail> {
-    let initiator = initiator_of(rt.alloc(), "short")?;
-    check_held(&rt, &initiator, &BEFORE);
-    assert_eq!(rt; initiator.params().initiator_max_recv, 512);
-    assert_eq!(rt; initiator.params().target_max_recv, 8192);
-    Ok(())
+fn held_before_the_login(rt: HostRuntime) {
+    let initiator = initiator_of(&rt, rt.alloc(), "short");
+    check_held(&rt, &initiator, BEFORE, (512, 8192));
 }
 
 /// What is agreed is what the target answered.
 #[test]
-fn held_after_the_login(rt: HostRuntime) -> Result<(), Fail> {
-    let mut initiator = initiator_of(rt.alloc(), "standard")?;
-    check(&rt, rt.alloc(), "login", 48, &mut initiator, BURSTS)?;
-    check_held(&rt, &initiator, &AFTER);
-    assert_eq!(rt; initiator.params().initiator_max_recv, 8192);
-    assert_eq!(rt; initiator.params().target_max_recv, 512);
-    Ok(())
+fn held_after_the_login(rt: HostRuntime) {
+    let mut initiator = initiator_of(&rt, rt.alloc(), "standard");
+    check(&rt, rt.alloc(), "login", 48, &mut initiator, BURSTS);
+    check_held(&rt, &initiator, AFTER, (8192, 512));
 }
 
 // Does what a line asks of an initiator, whose last outcome was taken.
-fn call(
-    alloc: Global,
-    initiator: &mut Initiator,
-    call: &str,
-    out: &mut Vec<u8>,
-) -> Result<(), Fail> {
+fn call(rt: &impl Abort, alloc: Global, initiator: &mut Initiator, call: &str, out: &mut Vec<u8>) {
     if call == "start" {
-        return Ok(initiator.start(out)?);
+        initiator.start(out).expect(rt, call);
+        return;
     }
     initiator.outcome();
-    match initiator.submit(request_of(alloc, call)?, out) {
-        Ok(()) => Ok(()),
-        Err(_) => Err(Fail::from("not submitted")),
-    }
+    let result = initiator.submit(request_of(rt, alloc, call), out);
+    same(rt, &result.is_ok(), &true, &call);
+}
+
+// Feeds the PDU of a line.
+fn feed(rt: &impl Abort, alloc: Global, initiator: &mut Initiator, line: &str, out: &mut Vec<u8>) {
+    let mut came = Vec::new(alloc);
+    append_pdu(line, &mut came).expect(rt, line);
+    initiator.feed(&came, out).expect(rt, line);
 }
 
 /// The initiator's part of the session of both ends, a PDU at a time.
 #[test]
-fn a_session_of_both_ends(rt: HostRuntime) -> Result<(), Fail> {
-    let mut initiator = initiator_of(rt.alloc(), "standard")?;
+fn a_session_of_both_ends(rt: HostRuntime) {
+    let mut initiator = initiator_of(&rt, rt.alloc(), "standard");
     let (mut out, mut want) = (Vec::new(rt.alloc()), Vec::new(rt.alloc()));
     for line in SESSION.lines() {
-        let (mark, rest) = line.split_once(' ').ok_or("no mark")?;
+        let (mark, rest) = line.split_once(' ').expect(&rt, "no mark");
         match mark {
-            "!" => call(rt.alloc(), &mut initiator, rest, &mut out)?,
-            "I>" => append_pdu(rest, &mut want)?,
+            "!" => call(&rt, rt.alloc(), &mut initiator, rest, &mut out),
+            "I>" => append_pdu(rest, &mut want).expect(&rt, rest),
             "T>" => {
-                assert_eq!(rt; out, want, "{line}");
-                let mut came = Vec::new(rt.alloc());
-                append_pdu(rest, &mut came)?;
-                initiator.feed(&came, &mut out)?;
+                same(&rt, &out, &want, &line);
+                feed(&rt, rt.alloc(), &mut initiator, rest, &mut out);
             }
-            _ => return Err(Fail::from("no such line")),
+            _ => panic!(&rt; "no such line"),
         }
     }
-    assert_eq!(rt; out, want);
-    assert_eq!(rt; initiator.phase(), Phase::Closed);
-    Ok(())
+    same(&rt, &out, &want, &"all");
+    same(&rt, &initiator.phase(), &Phase::Closed, &"all");
 }

@@ -30,7 +30,7 @@ pub fn answer_of(
     answer: &Result<&'static str, InitiatorFault>,
 ) -> Result<String, AllocError> {
     match answer {
-        Ok(word) => format!(in alloc; "{word}"),
+        Ok(word) => String::from_str(alloc, word),
         Err(fault) => format!(in alloc; "failed, {fault}"),
     }
 }
@@ -42,12 +42,12 @@ pub fn submit_of(
     request: &Request,
 ) -> Result<String, AllocError> {
     let Err(refused) = answer else {
-        return format!(in alloc; "ok");
+        return String::from_str(alloc, "ok");
     };
     if !is_same(&refused.request, request) {
-        return format!(in alloc; "another request");
+        return String::from_str(alloc, "another request");
     }
-    format!(in alloc; "{}", refusal_of(refused.fault))
+    String::from_str(alloc, refusal_of(refused.fault))
 }
 
 // Why a request is refused.
@@ -104,14 +104,25 @@ fn command_of(
     format!(in alloc; "response {response} status {status} {rest} {count} sense {sense}")
 }
 
+// A word, and bytes that are appended.
+fn word_of(
+    alloc: Global,
+    word: &str,
+    bytes: &[u8],
+    out: &mut Vec<u8>,
+) -> Result<String, AllocError> {
+    out.extend_from_slice(bytes)?;
+    String::from_str(alloc, word)
+}
+
 /// An outcome, and its bytes, the sense before the data.
 pub fn outcome_of(
     alloc: Global,
-    done: Option<Done>,
+    done: &Option<Done>,
     out: &mut Vec<u8>,
 ) -> Result<String, AllocError> {
     match done {
-        None => format!(in alloc; "none"),
+        None => word_of(alloc, "none", b"", out),
         Some(
             Done::Command {
                 response,
@@ -123,16 +134,11 @@ pub fn outcome_of(
         ) => {
             out.extend_from_slice(sense.as_slice())?;
             out.extend_from_slice(bytes.as_slice())?;
-            command_of(alloc, response, status, sense.as_slice().len(), residual)
+            let count = sense.as_slice().len();
+            command_of(alloc, *response, *status, count, *residual)
         }
-        Some(Done::Ping { bytes }) => {
-            out.extend_from_slice(bytes.as_slice())?;
-            format!(in alloc; "ping")
-        }
-        Some(Done::Text { bytes }) => {
-            out.extend_from_slice(bytes.as_slice())?;
-            format!(in alloc; "text")
-        }
-        Some(Done::Closed) => format!(in alloc; "closed"),
+        Some(Done::Ping { bytes }) => word_of(alloc, "ping", bytes.as_slice(), out),
+        Some(Done::Text { bytes }) => word_of(alloc, "text", bytes.as_slice(), out),
+        Some(Done::Closed) => word_of(alloc, "closed", b"", out),
     }
 }

@@ -1,18 +1,19 @@
 //! Requests that come at the wrong time, and what a failed end does.
 
-use super::{Schedule, deliver, pair_of, same, submit};
+use super::{Schedule, deliver, pair_of, submit};
+use iscsi_examples::same;
 use iscsi_initiator::{Request, SubmitFault};
 use iscsi_login::Stage;
 use iscsi_pair::{EndFault, Pair, Step};
 use scsi_cdb::Bytes;
 use std::alloc::{AllocError, Global};
-use std::test::Fail;
+use std::process::Abort;
 
 // A pair after its login.
-fn logged_in(alloc: Global) -> Result<Box<Pair>, Fail> {
-    let mut pair = pair_of(alloc, "")?;
-    deliver(alloc, &mut pair, &mut Schedule::always(4096))?;
-    Ok(pair)
+fn logged_in(rt: &impl Abort, alloc: Global) -> Box<Pair> {
+    let mut pair = pair_of(rt, alloc, "");
+    deliver(rt, alloc, &mut pair, &mut Schedule::always(4096));
+    pair
 }
 
 // A ping of so many bytes.
@@ -22,14 +23,16 @@ fn ping(alloc: Global, len: usize) -> Result<Request, AllocError> {
     })
 }
 
-// Hands in a ping of so many bytes, and gives the refusal that the pair then keeps.
-fn refusal_of_ping(
+// Hands in a ping of so many bytes, and asserts which refusal the pair then keeps.
+fn check_ping(
+    rt: &impl Abort,
     alloc: Global,
     pair: &mut Pair,
     len: usize,
-) -> Result<Option<SubmitFault>, AllocError> {
-    submit(alloc, pair, ping(alloc, len)?)?;
-    Ok(refusal(pair))
+    due: Option<SubmitFault>,
+) {
+    submit(rt, alloc, pair, ping(alloc, len).expect(rt, "a ping"));
+    same(rt, &refusal(pair), &due, &len);
 }
 
 // The refusal that a pair keeps.
@@ -48,58 +51,51 @@ fn no_steps(alloc: Global) -> Result<Vec<Step>, AllocError> {
     Ok(steps)
 }
 
-#[test]
-fn before_login(rt: HostRuntime) -> Result<(), Fail> {
-    let mut pair = pair_of(rt.alloc(), "")?;
-    let before = pair.queued();
-    submit(rt.alloc(), &mut pair, Request::Logout)?;
-    let refusal = refusal(&pair);
-    same(&rt, &refusal, &Some(SubmitFault::NotReady), &"before login");
-    same(&rt, &pair.queued(), &before, &"before login");
-    // It has failed: it drops what comes, and the login stays where it was.
-    deliver(rt.alloc(), &mut pair, &mut Schedule::always(47))?;
+// The stages of both ends, and that the target has no fault.
+fn check_stages(rt: &impl Abort, pair: &Pair, initiator: Stage, target: Stage) {
     let stages = (pair.initiator().stage(), pair.target().stage());
+    same(rt, &stages, &(initiator, target), &"stages");
     same(
-        &rt,
-        &stages,
-        &(Stage::Security, Stage::Operational),
-        &"stages",
-    );
-    same(
-        &rt,
+        rt,
         &pair.target_fault().is_none(),
         &true,
         &"the target's fault",
     );
-    Ok(())
 }
 
 #[test]
-fn while_one_is_open(rt: HostRuntime) -> Result<(), Fail> {
-    let mut pair = logged_in(rt.alloc())?;
-    let first = refusal_of_ping(rt.alloc(), &mut pair, 2)?;
-    same(&rt, &first, &None, &"the first");
-    let second = refusal_of_ping(rt.alloc(), &mut pair, 2)?;
-    same(&rt, &second, &Some(SubmitFault::Busy), &"the second");
-    Ok(())
-}
-
-#[test]
-fn too_long(rt: HostRuntime) -> Result<(), Fail> {
-    let mut pair = logged_in(rt.alloc())?;
-    let refusal = refusal_of_ping(rt.alloc(), &mut pair, 8193)?;
-    same(&rt, &refusal, &Some(SubmitFault::TooLong), &"8,193 bytes");
-    same(&rt, &pair.queued(), &(0, 0), &"8,193 bytes");
-    Ok(())
-}
-
-#[test]
-fn no_bytes(rt: HostRuntime) -> Result<(), Fail> {
-    let mut pair = pair_of(rt.alloc(), "")?;
+fn before_login(rt: HostRuntime) {
+    let mut pair = pair_of(&rt, rt.alloc(), "");
     let before = pair.queued();
-    pair.run(no_steps(rt.alloc())?);
+    submit(&rt, rt.alloc(), &mut pair, Request::Logout);
+    let not_ready = Some(SubmitFault::NotReady);
+    same(&rt, &refusal(&pair), &not_ready, &"before login");
+    same(&rt, &pair.queued(), &before, &"before login");
+    // It has failed: it drops what comes, and the login stays where it was.
+    deliver(&rt, rt.alloc(), &mut pair, &mut Schedule::always(47));
+    check_stages(&rt, &pair, Stage::Security, Stage::Operational);
+}
+
+#[test]
+fn while_one_is_open(rt: HostRuntime) {
+    let mut pair = logged_in(&rt, rt.alloc());
+    check_ping(&rt, rt.alloc(), &mut pair, 2, None);
+    check_ping(&rt, rt.alloc(), &mut pair, 2, Some(SubmitFault::Busy));
+}
+
+#[test]
+fn too_long(rt: HostRuntime) {
+    let mut pair = logged_in(&rt, rt.alloc());
+    check_ping(&rt, rt.alloc(), &mut pair, 8193, Some(SubmitFault::TooLong));
+    same(&rt, &pair.queued(), &(0, 0), &"8,193 bytes");
+}
+
+#[test]
+fn no_bytes(rt: HostRuntime) {
+    let mut pair = pair_of(&rt, rt.alloc(), "");
+    let before = pair.queued();
+    pair.run(no_steps(rt.alloc()).expect(&rt, "moves"));
     same(&rt, &pair.queued(), &before, &"no bytes");
     let is_quiet = pair.outcome().is_none() && pair.initiator_fault().is_none();
     same(&rt, &is_quiet, &true, &"no bytes");
-    Ok(())
 }

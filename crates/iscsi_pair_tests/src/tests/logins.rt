@@ -1,11 +1,12 @@
 //! Logins of a pair.
 
-use super::{Schedule, deliver, pair_of, same};
+use super::{Schedule, deliver, pair_of};
+use iscsi_examples::same;
 use iscsi_initiator::InitiatorFault;
 use iscsi_login::{Answered, NegKey, Phase, Stage};
 use iscsi_pair::{EndFault, Pair};
 use std::alloc::Global;
-use std::test::Fail;
+use std::process::Abort;
 
 /// The keys that a login settles (RFC 7143, section 13), with what two ends of the standard preferences
 /// hold then.
@@ -47,11 +48,14 @@ fn holds_the_standard(pair: &Pair) -> bool {
         && KEYS.iter().all(|(key, due)| there.get(*key) == *due)
 }
 
+/// The lengths of pieces: a byte, less than a header, a header, and all.
+const PIECES: &[usize] = &[1, 47, 48, 100_000];
+
 // A pair that went through its login in pieces of this length.
-fn run_login(alloc: Global, setup: &str, piece: usize) -> Result<Box<Pair>, Fail> {
-    let mut pair = pair_of(alloc, setup)?;
-    deliver(alloc, &mut pair, &mut Schedule::always(piece))?;
-    Ok(pair)
+fn run_login(rt: &impl Abort, alloc: Global, setup: &str, piece: usize) -> Box<Pair> {
+    let mut pair = pair_of(rt, alloc, setup);
+    deliver(rt, alloc, &mut pair, &mut Schedule::always(piece));
+    pair
 }
 
 // The detail of the refusal of class 2 that the initiator was answered.
@@ -62,35 +66,45 @@ fn refused_detail(pair: &Pair) -> Option<u8> {
     }
 }
 
-#[test]
-fn agree(rt: HostRuntime) -> Result<(), Fail> {
-    for setup in [
-        "",
-        "segments",
-        "single",
-        "bursts",
-        "chap or none",
-        "discovery",
-    ] {
-        for piece in [1, 47, 48, 100_000] {
-            let pair = run_login(rt.alloc(), setup, piece)?;
-            same(&rt, &hold_the_same(&pair), &true, &(setup, piece));
-            let is_due = matches!(setup, "" | "segments" | "single" | "chap or none");
-            same(&rt, &holds_the_standard(&pair), &is_due, &(setup, piece));
-        }
-    }
-    Ok(())
+// Logins after which both ends hold the same: what the standard preferences agree on, or not.
+const AGREED: &[(&str, bool)] = &[
+    ("", true),
+    ("segments", true),
+    ("single", true),
+    ("bursts", false),
+    ("chap or none", true),
+    ("discovery", false),
+];
+
+// Both ends hold the same, and that is the standard or not.
+fn check_agreed(rt: &impl Abort, pair: &Pair, is_standard: bool, row: (&str, usize)) {
+    same(rt, &hold_the_same(pair), &true, &row);
+    same(rt, &holds_the_standard(pair), &is_standard, &row);
 }
 
 #[test]
-fn are_refused(rt: HostRuntime) -> Result<(), Fail> {
-    for (setup, detail) in [("another name", 3), ("chap", 1)] {
-        for piece in [1, 47, 48, 100_000] {
-            let pair = run_login(rt.alloc(), setup, piece)?;
-            same(&rt, &refused_detail(&pair), &Some(detail), &(setup, piece));
-            let end = (pair.target_fault().is_none(), pair.target().phase());
-            same(&rt, &end, &(true, Phase::Closed), &(setup, piece));
+fn agree(rt: HostRuntime) {
+    for (setup, is_standard) in AGREED {
+        for piece in PIECES {
+            let pair = run_login(&rt, rt.alloc(), setup, *piece);
+            check_agreed(&rt, &pair, *is_standard, (setup, *piece));
         }
     }
-    Ok(())
+}
+
+// The login is refused with this detail, and the session closed without a fault of the target.
+fn check_refused(rt: &impl Abort, pair: &Pair, detail: u8, row: (&str, usize)) {
+    same(rt, &refused_detail(pair), &Some(detail), &row);
+    let end = (pair.target_fault().is_none(), pair.target().phase());
+    same(rt, &end, &(true, Phase::Closed), &row);
+}
+
+#[test]
+fn are_refused(rt: HostRuntime) {
+    for piece in PIECES {
+        let pair = run_login(&rt, rt.alloc(), "another name", *piece);
+        check_refused(&rt, &pair, 3, ("another name", *piece));
+        let pair = run_login(&rt, rt.alloc(), "chap", *piece);
+        check_refused(&rt, &pair, 1, ("chap", *piece));
+    }
 }

@@ -1,13 +1,13 @@
 //! Commands over every kind of schedule.
 
-use super::{Schedule, deliver, logins, pair_of, same, submit};
+use super::{Schedule, deliver, logins, pair_of, submit};
 use hex::encode;
-use iscsi_examples::segment_of;
+use iscsi_examples::{same, segment_of};
 use iscsi_initiator::{Done, Request};
 use iscsi_pair::Pair;
 use scsi_cdb::{Bytes, Residual};
 use std::alloc::Global;
-use std::test::Fail;
+use std::process::Abort;
 
 /// What is asked, and what comes of it. `in` has the unit, the descriptor block and the bytes expected;
 /// `out` the unit, the block and the bytes. Of a command come the status, the sense, how many bytes
@@ -34,98 +34,106 @@ in 0 28000000000000000800 4096 = 0 - 4096 5a*4096 exact
 ";
 
 // The descriptor block of hex text, which may lack bytes 00 at its end.
-fn block_of(alloc: Global, text: &str) -> Result<[u8; 16], Fail> {
+fn block_of(rt: &impl Abort, alloc: Global, text: &str) -> [u8; 16] {
     let mut block = [0u8; 16];
-    for (at, byte) in block.iter_mut().zip(segment_of(alloc, text)?) {
+    let bytes = segment_of(alloc, text).expect(rt, text);
+    for (at, byte) in block.iter_mut().zip(bytes) {
         *at = byte;
     }
-    Ok(block)
+    block
 }
 
 // The unit and the block that a command begins with, and its last word.
-fn words_of<'a>(alloc: Global, line: &'a str) -> Result<(u64, [u8; 16], &'a str), Fail> {
-    let (unit, rest) = line.split_once(' ').ok_or("no unit")?;
-    let (block, rest) = rest.split_once(' ').ok_or("no block")?;
-    let unit = unit.parse::<u8>()?;
-    Ok(((unit as u64) << 48, block_of(alloc, block)?, rest))
+fn words_of<'a>(rt: &impl Abort, alloc: Global, line: &'a str) -> (u64, [u8; 16], &'a str) {
+    let (unit, rest) = line.split_once(' ').expect(rt, "no unit");
+    let (block, rest) = rest.split_once(' ').expect(rt, "no block");
+    let unit = unit.parse::<u8>().expect(rt, unit);
+    ((unit as u64) << 48, block_of(rt, alloc, block), rest)
 }
 
 // A command that reads.
-fn in_of(alloc: Global, line: &str) -> Result<Request, Fail> {
-    let (lun, cdb, expected) = words_of(alloc, line)?;
-    let expected = expected.parse()?;
-    Ok(Request::In { lun, cdb, expected })
+fn in_of(rt: &impl Abort, alloc: Global, line: &str) -> Request {
+    let (lun, cdb, expected) = words_of(rt, alloc, line);
+    let expected = expected.parse().expect(rt, expected);
+    Request::In { lun, cdb, expected }
+}
+
+// The bytes of a request.
+fn data_of(rt: &impl Abort, alloc: Global, data: &str) -> Bytes {
+    Bytes::from_vec(segment_of(alloc, data).expect(rt, data))
 }
 
 // A command that writes.
-fn out_of(alloc: Global, line: &str) -> Result<Request, Fail> {
-    let (lun, cdb, data) = words_of(alloc, line)?;
-    let bytes = Bytes::from_vec(segment_of(alloc, data)?);
-    Ok(Request::Out { lun, cdb, bytes })
+fn out_of(rt: &impl Abort, alloc: Global, line: &str) -> Request {
+    let (lun, cdb, data) = words_of(rt, alloc, line);
+    let bytes = data_of(rt, alloc, data);
+    Request::Out { lun, cdb, bytes }
 }
 
 // The request of a line.
-fn request_of(alloc: Global, line: &str) -> Result<Request, Fail> {
+fn request_of(rt: &impl Abort, alloc: Global, line: &str) -> Request {
     let (kind, rest) = line.split_once(' ').unwrap_or((line, ""));
     match kind {
-        "in" => in_of(alloc, rest),
-        "out" => out_of(alloc, rest),
-        "ping" => {
-            let bytes = Bytes::from_vec(segment_of(alloc, rest)?);
-            Ok(Request::Ping { bytes })
-        }
-        "logout" => Ok(Request::Logout),
-        _ => Err(Fail::from("no request")),
+        "in" => in_of(rt, alloc, rest),
+        "out" => out_of(rt, alloc, rest),
+        "ping" => Request::Ping {
+            bytes: data_of(rt, alloc, rest),
+        },
+        "logout" => Request::Logout,
+        _ => panic!(rt; "no request"),
     }
 }
 
 // The bytes as hex text, a dash where there are none, or a byte and how many of it where they are
 // many of one.
-fn shown(alloc: Global, bytes: &[u8]) -> Result<String, Fail> {
+fn shown(rt: &impl Abort, alloc: Global, bytes: &[u8]) -> String {
     let Some(first) = bytes.first() else {
-        return Ok(format!(in alloc; "-")?);
+        return String::from_str(alloc, "-").expect(rt, "text");
     };
     if bytes.len() > 16 && bytes.iter().all(|byte| byte == first) {
-        return Ok(format!(in alloc; "{first:02x}*{}", bytes.len())?);
+        return format!(in alloc; "{first:02x}*{}", bytes.len()).expect(rt, "text");
     }
-    Ok(encode(alloc, bytes)?)
+    encode(alloc, bytes).expect(rt, "text")
 }
 
-// The words of a residual.
-fn residual_of(alloc: Global, residual: Residual) -> Result<String, Fail> {
-    Ok(match residual {
-        Residual::Exact => format!(in alloc; "exact")?,
-        Residual::Under(n) => format!(in alloc; "under {n}")?,
-        Residual::Over(n) => format!(in alloc; "over {n}")?,
-    })
+// The words of a residual: what it is, and how many bytes.
+fn residual_of(rt: &impl Abort, alloc: Global, residual: Residual) -> String {
+    let (words, count) = match residual {
+        Residual::Exact => return String::from_str(alloc, "exact").expect(rt, "text"),
+        Residual::Under(count) => ("under", count),
+        Residual::Over(count) => ("over", count),
+    };
+    format!(in alloc; "{words} {count}").expect(rt, "text")
 }
 
 // The words of a command's outcome.
 fn command_of(
+    rt: &impl Abort,
     alloc: Global,
     status: u8,
     sense: &[u8],
     bytes: &[u8],
     residual: Residual,
-) -> Result<String, Fail> {
-    let (sense, data) = (shown(alloc, sense)?, shown(alloc, bytes)?);
-    let rest = residual_of(alloc, residual)?;
-    Ok(format!(in alloc; "{status} {sense} {} {data} {rest}", bytes.len())?)
+) -> String {
+    let (sense, data) = (shown(rt, alloc, sense), shown(rt, alloc, bytes));
+    let rest = residual_of(rt, alloc, residual);
+    let count = bytes.len();
+    format!(in alloc; "{status} {sense} {count} {data} {rest}").expect(rt, "text")
+}
+
+// A word and bytes.
+fn word_and_bytes(rt: &impl Abort, alloc: Global, word: &str, bytes: &[u8]) -> String {
+    let text = shown(rt, alloc, bytes);
+    format!(in alloc; "{word} {text}").expect(rt, "text")
 }
 
 // The words of an outcome.
-fn told(alloc: Global, done: Option<Done>) -> Result<String, Fail> {
+fn told(rt: &impl Abort, alloc: Global, done: &Option<Done>) -> String {
     match done {
-        None => Ok(format!(in alloc; "nothing")?),
-        Some(Done::Closed) => Ok(format!(in alloc; "closed")?),
-        Some(Done::Ping { bytes }) => {
-            let text = shown(alloc, bytes.as_slice())?;
-            Ok(format!(in alloc; "ping {text}")?)
-        }
-        Some(Done::Text { bytes }) => {
-            let text = shown(alloc, bytes.as_slice())?;
-            Ok(format!(in alloc; "text {text}")?)
-        }
+        None => String::from_str(alloc, "nothing").expect(rt, "text"),
+        Some(Done::Closed) => String::from_str(alloc, "closed").expect(rt, "text"),
+        Some(Done::Ping { bytes }) => word_and_bytes(rt, alloc, "ping", bytes.as_slice()),
+        Some(Done::Text { bytes }) => word_and_bytes(rt, alloc, "text", bytes.as_slice()),
         Some(
             Done::Command {
                 status,
@@ -134,83 +142,88 @@ fn told(alloc: Global, done: Option<Done>) -> Result<String, Fail> {
                 residual,
                 ..
             },
-        ) => command_of(alloc, status, sense.as_slice(), bytes.as_slice(), residual),
+        ) => command_of(
+            rt,
+            alloc,
+            *status,
+            sense.as_slice(),
+            bytes.as_slice(),
+            *residual,
+        ),
     }
 }
 
-// Asks for something, and says what comes of it.
-fn ask(
+// Asks for what a line says, and asserts that what it says comes of it.
+fn check_line(
+    rt: &impl Abort,
     alloc: Global,
     pair: &mut Pair,
     schedule: &mut Schedule,
-    request: &str,
-) -> Result<String, Fail> {
-    submit(alloc, pair, request_of(alloc, request)?)?;
-    deliver(alloc, pair, schedule)?;
-    told(alloc, pair.outcome())
+    line: &str,
+    number: usize,
+) {
+    let (request, due) = line.split_once(" = ").expect(rt, "no outcome");
+    submit(rt, alloc, pair, request_of(rt, alloc, request));
+    deliver(rt, alloc, pair, schedule);
+    let found = told(rt, alloc, &pair.outcome());
+    same(rt, &found.as_str(), &due, &(number, request));
 }
 
-// Asks all lines. Gives the first one of which something else comes, with what comes, or nothing.
-fn first_wrong(
-    alloc: Global,
-    pair: &mut Pair,
-    schedule: &mut Schedule,
-    script: &str,
-) -> Result<String, Fail> {
-    for line in script.lines() {
-        let (request, due) = line.split_once(" = ").ok_or("no outcome")?;
-        let found = ask(alloc, pair, schedule, request)?;
-        if found.as_str() != due {
-            return Ok(format!(in alloc; "{line}: {found}")?);
-        }
-    }
-    Ok(String::new(alloc))
-}
-
-// Runs a login and the commands, and says what is wrong, or nothing.
-fn run_script(
+// Runs a login and the commands over the schedule of this number.
+fn check_script(
+    rt: &impl Abort,
     alloc: Global,
     setup: &str,
     schedule: &mut Schedule,
     script: &str,
-) -> Result<String, Fail> {
-    let mut pair = pair_of(alloc, setup)?;
-    deliver(alloc, &mut pair, schedule)?;
-    if !logins::hold_the_same(&pair) {
-        return Ok(format!(in alloc; "the login")?);
+    number: usize,
+) {
+    let mut pair = pair_of(rt, alloc, setup);
+    deliver(rt, alloc, &mut pair, schedule);
+    same(rt, &logins::hold_the_same(&pair), &true, &number);
+    for line in script.lines() {
+        check_line(rt, alloc, &mut pair, schedule, line, number);
     }
-    let wrong = first_wrong(alloc, &mut pair, schedule, script)?;
-    if pair.target_fault().is_some() || pair.initiator_fault().is_some() {
-        return Ok(format!(in alloc; "an end failed: {wrong}")?);
-    }
-    Ok(wrong)
+    let has_failed = pair.target_fault().is_some() || pair.initiator_fault().is_some();
+    same(rt, &has_failed, &false, &number);
 }
 
-#[test]
-fn in_pieces_of_one_length(rt: HostRuntime) -> Result<(), Fail> {
+// Runs a script in pieces of each length to 100, and of 4,096 bytes.
+fn check_pieces(rt: &impl Abort, alloc: Global, setup: &str, script: &str) {
     for number in 1..102 {
         let piece = if number == 101 { 4096 } else { number };
-        let wrong = run_script(rt.alloc(), "", &mut Schedule::always(piece), COMMANDS)?;
-        same(&rt, &wrong.as_str(), &"", &piece);
+        check_script(
+            rt,
+            alloc,
+            setup,
+            &mut Schedule::always(piece),
+            script,
+            piece,
+        );
     }
-    Ok(())
 }
 
 #[test]
-fn small_bursts(rt: HostRuntime) -> Result<(), Fail> {
-    for number in 1..102 {
-        let piece = if number == 101 { 4096 } else { number };
-        let wrong = run_script(rt.alloc(), "bursts", &mut Schedule::always(piece), BURSTS)?;
-        same(&rt, &wrong.as_str(), &"", &piece);
-    }
-    Ok(())
+fn in_pieces_of_one_length(rt: HostRuntime) {
+    check_pieces(&rt, rt.alloc(), "", COMMANDS);
 }
 
 #[test]
-fn over_two_hundred_schedules(rt: HostRuntime) -> Result<(), Fail> {
-    for number in 0..220 {
-        let wrong = run_script(rt.alloc(), "", &mut Schedule::numbered(number), COMMANDS)?;
-        same(&rt, &wrong.as_str(), &"", &number);
+fn small_bursts(rt: HostRuntime) {
+    check_pieces(&rt, rt.alloc(), "bursts", BURSTS);
+}
+
+#[test]
+fn over_two_hundred_schedules(rt: HostRuntime) {
+    for number in 0..220u32 {
+        let mut schedule = Schedule::numbered(number);
+        check_script(
+            &rt,
+            rt.alloc(),
+            "",
+            &mut schedule,
+            COMMANDS,
+            number as usize,
+        );
     }
-    Ok(())
 }

@@ -1,12 +1,12 @@
 //! Readers and writers that fail.
 
-use super::rows::{NOP_OUT, lines_of, parts_of, rows};
-use super::runs::{SURE, Steps, Target, run_with};
-use super::{came_of, same, written_of};
+use super::rows::{NOP_OUT, Row, lines_of, row_of, rows};
+use super::runs::run_with;
+use super::{came_of, written_of};
+use iscsi_examples::{SURE, Sink, Steps, same, same_bytes};
 use iscsi_stream::{ToolFault, write_fully};
 use std::alloc::Global;
 use std::process::Abort;
-use std::test::Fail;
 
 const LINE: &[u8] =
     b"0 NOP-Out i=1 itt=00000001 ttt=ffffffff cmdsn=00000005 expstatsn=00000002 data=3\n";
@@ -27,114 +27,99 @@ fn check_two(
     steps: (Steps, Steps),
     fault: ToolFault,
     want: &[u8],
-) -> Result<(), Fail> {
-    let mut stream = came_of(alloc, lines_of(rt, NOP_OUT))?;
-    stream.extend_from_slice(&came_of(alloc, lines_of(rt, NOP_OUT))?)?;
+) {
+    let mut stream = came_of(rt, alloc, lines_of(rt, NOP_OUT));
+    let second = came_of(rt, alloc, lines_of(rt, NOP_OUT));
+    stream.extend_from_slice(&second).expect(rt, "two PDUs");
     let met = run_with(alloc, is_shown, &stream, steps.0, steps.1);
     same(rt, &met.result, &Err(fault), &is_shown);
-    same(rt, &met.written.as_slice(), &want, &is_shown);
-    Ok(())
+    same_bytes(rt, &met.written, want, &is_shown);
 }
 
 #[test]
-fn a_read_fails_in_the_second_pdu(rt: HostRuntime) -> Result<(), Fail> {
-    let want = written_of(rt.alloc(), lines_of(&rt, NOP_OUT))?;
+fn a_read_fails_in_the_second_pdu(rt: HostRuntime) {
+    let want = written_of(&rt, rt.alloc(), lines_of(&rt, NOP_OUT));
     let steps = (second_fails(60), SURE);
-    check_two(&rt, rt.alloc(), false, steps, ToolFault::Read, &want)?;
-    check_two(&rt, rt.alloc(), true, steps, ToolFault::Read, LINE)
+    check_two(&rt, rt.alloc(), false, steps, ToolFault::Read, &want);
+    check_two(&rt, rt.alloc(), true, steps, ToolFault::Read, LINE);
 }
 
 #[test]
-fn a_write_fails_after_ten_bytes(rt: HostRuntime) -> Result<(), Fail> {
-    let want = written_of(rt.alloc(), lines_of(&rt, NOP_OUT))?;
-    let want = want.get(..10).ok_or("too short")?;
+fn a_write_fails_after_ten_bytes(rt: HostRuntime) {
+    let want = written_of(&rt, rt.alloc(), lines_of(&rt, NOP_OUT));
+    let want = want.get(..10).expect(&rt, "too short");
     let steps = (SURE, second_fails(10));
-    check_two(&rt, rt.alloc(), false, steps, ToolFault::Write, want)?;
-    check_two(
-        &rt,
-        rt.alloc(),
-        true,
-        steps,
-        ToolFault::Write,
-        b"0 NOP-Out ",
-    )
+    check_two(&rt, rt.alloc(), false, steps, ToolFault::Write, want);
+    let line = b"0 NOP-Out ";
+    check_two(&rt, rt.alloc(), true, steps, ToolFault::Write, line);
 }
 
 #[test]
-fn a_write_takes_no_byte(rt: HostRuntime) -> Result<(), Fail> {
-    let stream = came_of(rt.alloc(), lines_of(&rt, NOP_OUT))?;
-    let none = Steps {
-        step: 0,
-        before: None,
-    };
+fn a_write_takes_no_byte(rt: HostRuntime) {
+    let stream = came_of(&rt, rt.alloc(), lines_of(&rt, NOP_OUT));
+    let none = Steps::of(0);
     let met = run_with(rt.alloc(), false, &stream, SURE, none);
     same(&rt, &met.result, &Err(ToolFault::Write), &"result");
     same(&rt, &met.written.len(), &0, &"written");
-    let mut target = Target::new(rt.alloc(), none);
-    same(
-        &rt,
-        &write_fully(&mut target, b"abc"),
-        &Err(ToolFault::Write),
-        &"three bytes",
-    );
+    let mut sink = Sink::new(rt.alloc(), none);
+    let written = write_fully(&mut sink, b"abc");
+    same(&rt, &written, &Err(ToolFault::Write), &"three bytes");
     // Where there is nothing to write, nothing fails.
-    same(&rt, &write_fully(&mut target, b""), &Ok(()), &"no byte");
-    Ok(())
+    same(&rt, &write_fully(&mut sink, b""), &Ok(()), &"no byte");
 }
 
 // Reads of 48 bytes and writes of 20, of which one fails, by this fault, after others.
 fn one_fails(fault: ToolFault, before: usize) -> (Steps, Steps) {
-    let before = Some(before);
-    let (reads, writes) = match fault {
-        ToolFault::Read => (before, None),
-        _ => (None, before),
-    };
-    (
-        Steps {
-            step: 48,
-            before: reads,
-        },
-        Steps {
-            step: 20,
-            before: writes,
-        },
-    )
+    let (mut reads, mut writes) = (Steps::of(48), Steps::of(20));
+    match fault {
+        ToolFault::Read => reads.before = Some(before),
+        _ => writes.before = Some(before),
+    }
+    (reads, writes)
+}
+
+// The call behind so many others fails, if there is one: then the fault comes. Says whether there is.
+fn check_fault(
+    rt: &impl Abort,
+    alloc: Global,
+    row: &Row<'_>,
+    fault: ToolFault,
+    before: usize,
+) -> bool {
+    let (reads, writes) = one_fails(fault, before);
+    let met = run_with(alloc, false, &row.came, reads, writes);
+    let is_met = met.failures > 0;
+    let at = (row.name, before);
+    same(rt, &(met.result == Err(fault)), &is_met, &at);
+    same(rt, &met.result.is_ok(), &!is_met, &at);
+    same(rt, &row.want.starts_with(&met.written), &true, &at);
+    if !is_met {
+        same(rt, &met.written, &row.want, &at);
+    }
+    is_met
 }
 
 // A call fails in turn until a run meets no failure: the fault comes exactly in the runs with one.
-fn check_each(rt: &impl Abort, alloc: Global, row: &str, fault: ToolFault) -> Result<(), Fail> {
-    let (name, lines) = parts_of(row);
-    let came = came_of(alloc, lines)?;
-    let want = written_of(alloc, lines)?;
+fn check_each(rt: &impl Abort, alloc: Global, row: &str, fault: ToolFault) {
+    let row = row_of(rt, alloc, row);
     for before in 0..400usize {
-        let (reads, writes) = one_fails(fault, before);
-        let met = run_with(alloc, false, &came, reads, writes);
-        let is_met = met.failures > 0;
-        let is_fault = met.result == Err(fault);
-        same(rt, &is_fault, &is_met, &(name, before));
-        same(rt, &met.result.is_ok(), &!is_met, &(name, before));
-        assert!(rt; want.starts_with(&met.written), "{name} at {before}");
-        if !is_met {
-            same(rt, &met.written.as_slice(), &want.as_slice(), &name);
-            return Ok(());
+        if !check_fault(rt, alloc, &row, fault, before) {
+            return;
         }
     }
-    assert!(rt; false, "{name}");
-    Ok(())
+    panic!(rt; "{}", row.name);
 }
 
 #[test]
-fn each_read_fails(rt: HostRuntime) -> Result<(), Fail> {
+fn each_read_fails(rt: HostRuntime) {
     for row in rows().split("\n\n") {
-        check_each(&rt, rt.alloc(), row, ToolFault::Read)?;
+        check_each(&rt, rt.alloc(), row, ToolFault::Read);
     }
-    Ok(())
 }
 
 #[test]
-fn each_write_fails(rt: HostRuntime) -> Result<(), Fail> {
+fn each_write_fails(rt: HostRuntime) {
     for row in rows().split("\n\n") {
-        check_each(&rt, rt.alloc(), row, ToolFault::Write)?;
+        check_each(&rt, rt.alloc(), row, ToolFault::Write);
     }
-    Ok(())
 }

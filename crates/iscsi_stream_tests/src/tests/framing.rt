@@ -4,12 +4,12 @@
 //! `feed 0 47` feeds bytes 0 to 47 of the stream, `segment` is what the ready PDU has, `ready` says
 //! whether there is one, and `rest` counts the bytes of the stream past the framer's place.
 
+use super::came_of;
 use super::rows::{LOGIN_IN_THREE, MIXED_REQUESTS, NOP_OUT, lines_of};
-use super::{came_of, same};
+use iscsi_examples::{same, same_debug};
 use iscsi_stream::{Framer, Logins};
 use std::alloc::Global;
 use std::process::Abort;
-use std::test::Fail;
 
 /// A header that no PDU has.
 const UNKNOWN: &str =
@@ -172,109 +172,109 @@ const MIXED: &str = "new 8192\n\
     rest = 0\n\
     place = 336";
 
+// A number of a script.
+fn number_of(rt: &impl Abort, text: &str) -> u16 {
+    text.parse::<u16>().expect(rt, text)
+}
+
 // Bytes of a stream, from the first number to the second.
-fn piece_of<'a>(stream: &'a [u8], range: &str) -> Result<&'a [u8], Fail> {
-    let (start, end) = range.split_once(' ').ok_or("no range")?;
-    let (start, end) = (start.parse::<usize>()?, end.parse::<usize>()?);
-    Ok(stream.get(start..end).ok_or("past the end")?)
+fn piece_of<'a>(rt: &impl Abort, stream: &'a [u8], range: &str) -> &'a [u8] {
+    let (start, end) = range.split_once(' ').expect(rt, "no range");
+    let (start, end) = (number_of(rt, start), number_of(rt, end));
+    let piece = stream.get(usize::from(start)..usize::from(end));
+    piece.expect(rt, "past the end")
 }
 
-// What a call answers.
-fn said(alloc: Global, framer: &mut Framer, stream: &[u8], call: &str) -> Result<String, Fail> {
-    if let Some(range) = call.strip_prefix("feed ") {
-        let fed = framer.feed(piece_of(stream, range)?);
-        return Ok(format!(in alloc; "{fed:?}")?);
-    }
-    if call == "finish" {
-        let finished = framer.finish();
-        return Ok(format!(in alloc; "{finished:?}")?);
-    }
-    if call == "take" {
-        framer.take();
-        return Ok(String::new(alloc));
-    }
-    seen(alloc, framer, stream, call)
-}
-
-// What a framer shows.
-fn seen(alloc: Global, framer: &Framer, stream: &[u8], call: &str) -> Result<String, Fail> {
+// What a framer shows is what is due.
+fn check_seen(
+    rt: &impl Abort,
+    alloc: Global,
+    framer: &Framer,
+    stream: &[u8],
+    call: &str,
+    want: &str,
+) {
     let pdu = framer.pdu().map(|pdu| pdu.bytes);
-    Ok(match call {
-        "held" => format!(in alloc; "{}", framer.held())?,
-        "place" => format!(in alloc; "{}", framer.place())?,
-        "rest" => format!(in alloc; "{}", (stream.len() as u64).saturating_sub(framer.place()))?,
-        "ready" => format!(in alloc; "{}", pdu.is_some())?,
-        "segment" => format!(in alloc; "{pdu:?}")?,
-        "continued" => format!(in alloc; "{}", framer.continued())?,
-        _ => return Err(Fail::from("no such call")),
-    })
+    let rest = (stream.len() as u64).saturating_sub(framer.place());
+    match call {
+        "held" => same_debug(rt, alloc, &framer.held(), want, &call),
+        "place" => same_debug(rt, alloc, &framer.place(), want, &call),
+        "rest" => same_debug(rt, alloc, &rest, want, &call),
+        "ready" => same_debug(rt, alloc, &pdu.is_some(), want, &call),
+        "segment" => same_debug(rt, alloc, &pdu, want, &call),
+        "continued" => same_debug(rt, alloc, &framer.continued(), want, &call),
+        _ => panic!(rt; "no such call"),
+    }
+}
+
+// A call answers what is due.
+fn check_call(
+    rt: &impl Abort,
+    alloc: Global,
+    framer: &mut Framer,
+    stream: &[u8],
+    call: &str,
+    want: &str,
+) {
+    if let Some(range) = call.strip_prefix("feed ") {
+        let fed = framer.feed(piece_of(rt, stream, range));
+        same_debug(rt, alloc, &fed, want, &call);
+        return;
+    }
+    match call {
+        "finish" => same_debug(rt, alloc, &framer.finish(), want, &call),
+        "take" => framer.take(),
+        _ => check_seen(rt, alloc, framer, stream, call, want),
+    }
 }
 
 // Goes through the calls of a script.
-fn check(rt: &impl Abort, alloc: Global, stream: &[u8], script: &str) -> Result<(), Fail> {
+fn check(rt: &impl Abort, alloc: Global, stream: &[u8], script: &str) {
     let mut framer = Framer::new(alloc, 0);
     for line in script.lines() {
         let (call, want) = line.split_once(" = ").unwrap_or((line, ""));
         if let Some(limit) = call.strip_prefix("new ") {
-            framer = Framer::new(alloc, u32::from(limit.parse::<u16>()?));
-            continue;
+            framer = Framer::new(alloc, u32::from(number_of(rt, limit)));
+        } else {
+            check_call(rt, alloc, &mut framer, stream, call, want);
         }
-        let said = said(alloc, &mut framer, stream, call)?;
-        same(rt, &said.as_str(), &want, &line);
     }
-    Ok(())
 }
 
 #[test]
-fn calls(rt: HostRuntime) -> Result<(), Fail> {
-    let mut stream = came_of(rt.alloc(), lines_of(&rt, NOP_OUT))?;
-    stream.extend_from_slice(&came_of(rt.alloc(), UNKNOWN)?)?;
-    for script in [
-        OVER_THE_LIMIT,
-        UP_TO_THE_LIMIT,
-        BEGUN_AND_NOT_WHOLE,
-        AFTER_A_HEADER,
-    ] {
-        check(&rt, rt.alloc(), &stream, script)?;
-    }
-    Ok(())
+fn calls(rt: HostRuntime) {
+    let mut stream = came_of(&rt, rt.alloc(), lines_of(&rt, NOP_OUT));
+    let unknown = came_of(&rt, rt.alloc(), UNKNOWN);
+    stream.extend_from_slice(&unknown).expect(&rt, "two PDUs");
+    check(&rt, rt.alloc(), &stream, OVER_THE_LIMIT);
+    check(&rt, rt.alloc(), &stream, UP_TO_THE_LIMIT);
+    check(&rt, rt.alloc(), &stream, BEGUN_AND_NOT_WHOLE);
+    check(&rt, rt.alloc(), &stream, AFTER_A_HEADER);
 }
 
 #[test]
-fn pdus_that_continue_others(rt: HostRuntime) -> Result<(), Fail> {
-    let stream = came_of(rt.alloc(), lines_of(&rt, LOGIN_IN_THREE))?;
-    check(&rt, rt.alloc(), &stream, IN_THREE)?;
-    let stream = came_of(rt.alloc(), lines_of(&rt, MIXED_REQUESTS))?;
-    check(&rt, rt.alloc(), &stream, MIXED)
+fn pdus_that_continue_others(rt: HostRuntime) {
+    let stream = came_of(&rt, rt.alloc(), lines_of(&rt, LOGIN_IN_THREE));
+    check(&rt, rt.alloc(), &stream, IN_THREE);
+    let stream = came_of(&rt, rt.alloc(), lines_of(&rt, MIXED_REQUESTS));
+    check(&rt, rt.alloc(), &stream, MIXED);
+}
+
+// Which texts of a login go on.
+fn logins(request: bool, response: bool) -> Logins {
+    Logins { request, response }
 }
 
 #[test]
-fn logins_of_two_kinds(rt: HostRuntime) -> Result<(), Fail> {
-    same(
-        &rt,
-        &Logins::new(),
-        &Logins {
-            request: false,
-            response: false,
-        },
-        &"at the start",
-    );
+fn logins_of_two_kinds(rt: HostRuntime) {
+    same(&rt, &Logins::new(), &logins(false, false), &"at the start");
     // The head of the first login request goes on in the next.
-    let stream = came_of(rt.alloc(), lines_of(&rt, LOGIN_IN_THREE))?;
+    let stream = came_of(&rt, rt.alloc(), lines_of(&rt, LOGIN_IN_THREE));
     let mut framer = Framer::new(rt.alloc(), 8192);
-    framer.feed(&stream)?;
-    let head = framer.pdu().ok_or("not ready")?.head;
-    let logins = Logins::new().after(&head);
-    same(
-        &rt,
-        &logins,
-        &Logins {
-            request: true,
-            response: false,
-        },
-        &"after a request",
-    );
-    assert!(rt; logins.continues(&head));
-    assert!(rt; !Logins::new().continues(&head));
-    Ok(())
+    framer.feed(&stream).expect(&rt, "a login");
+    let head = framer.pdu().expect(&rt, "not ready").head;
+    let after = Logins::new().after(&head);
+    same(&rt, &after, &logins(true, false), &"after a request");
+    same(&rt, &after.continues(&head), &true, &"goes on");
+    same(&rt, &Logins::new().continues(&head), &false, &"begins");
 }

@@ -1,12 +1,12 @@
 //! Lines, worked out by hand from the field table.
 
 use super::rows::{NOP_OUT, lines_of, parts_of};
-use super::runs::{SURE, run_with};
-use super::{came_of, same, written_of};
-use iscsi_examples::bytes_of;
+use super::runs::run_with;
+use super::{came_of, written_of};
+use iscsi_examples::{SURE, bytes_of, same, same_bytes};
 use iscsi_stream::{Counts, Framer, StreamFault, ToolFault, canonical_head, show_line};
 use std::alloc::Global;
-use std::test::Fail;
+use std::process::Abort;
 
 fn shown(alloc: Global, stream: &[u8]) -> (Result<Counts, ToolFault>, Vec<u8>) {
     let run = run_with(alloc, true, stream, SURE, SURE);
@@ -119,58 +119,71 @@ fn kinds() -> &'static str {
     KINDS
 }
 
+// The line of a kind: a header, and a line end behind its line.
+fn check_kind(rt: &impl Abort, alloc: Global, row: &str) {
+    let (header, line) = parts_of(row);
+    let header = bytes_of(alloc, header).expect(rt, "a header");
+    let (result, out) = shown(alloc, &header);
+    same(rt, &out.strip_suffix(b"\n"), &Some(line.as_bytes()), &line);
+    let bytes_out = (line.len() as u64).saturating_add(1);
+    same(rt, &result, &counts(1, 48, bytes_out), &line);
+}
+
 #[test]
-fn a_line_for_each_kind(rt: HostRuntime) -> Result<(), Fail> {
+fn a_line_for_each_kind(rt: HostRuntime) {
     same(&rt, &kinds().split("\n\n").count(), &29, &"kinds");
     for row in kinds().split("\n\n") {
-        let (header, line) = parts_of(row);
-        let (result, out) = shown(rt.alloc(), &bytes_of(rt.alloc(), header)?);
-        same(&rt, &out.get(..line.len()), &Some(line.as_bytes()), &line);
-        same(&rt, &out.get(line.len()..), &Some(b"\n".as_slice()), &line);
-        let bytes_out = (line.len() as u64).saturating_add(1);
-        same(&rt, &result, &counts(1, 48, bytes_out), &line);
+        check_kind(&rt, rt.alloc(), row);
     }
-    Ok(())
+}
+
+// Of so many bytes of two PDUs so many are written, and this is answered.
+fn check_two(
+    rt: &impl Abort,
+    alloc: Global,
+    len: usize,
+    written: usize,
+    want: Result<Counts, ToolFault>,
+) {
+    let pdu = came_of(rt, alloc, lines_of(rt, NOP_OUT));
+    let mut stream = came_of(rt, alloc, lines_of(rt, NOP_OUT));
+    stream.extend_from_slice(&pdu).expect(rt, "two PDUs");
+    let (result, out) = shown(alloc, stream.get(..len).unwrap_or(&[]));
+    same(rt, &result, &want, &len);
+    let due = TWICE.as_bytes().get(..written).unwrap_or(&[]);
+    same_bytes(rt, &out, due, &len);
 }
 
 /// The first is shown where the second is not whole.
 #[test]
-fn places_and_lengths(rt: HostRuntime) -> Result<(), Fail> {
-    let mut stream = came_of(rt.alloc(), lines_of(&rt, NOP_OUT))?;
-    stream.extend_from_slice(&came_of(rt.alloc(), lines_of(&rt, NOP_OUT))?)?;
-    // How much of the stream comes, how much is written, and what is answered.
-    let rows = [
-        (104usize, 163usize, counts(2, 104, 163)),
-        (103, 81, Err(ToolFault::Stream(StreamFault::Truncated(52)))),
-        (0, 0, counts(0, 0, 0)),
-    ];
-    for (len, written, want) in rows {
-        let (result, out) = shown(rt.alloc(), stream.get(..len).unwrap_or(&[]));
-        same(&rt, &result, &want, &len);
-        same(
-            &rt,
-            &Some(out.as_slice()),
-            &TWICE.as_bytes().get(..written),
-            &len,
-        );
-    }
-    Ok(())
+fn places_and_lengths(rt: HostRuntime) {
+    check_two(&rt, rt.alloc(), 104, 163, counts(2, 104, 163));
+    let truncated = StreamFault::Truncated(52);
+    check_two(&rt, rt.alloc(), 103, 81, Err(ToolFault::Stream(truncated)));
+    check_two(&rt, rt.alloc(), 0, 0, counts(0, 0, 0));
 }
 
-/// The farthest place, behind what was there before; and a head alone.
+/// The farthest place, behind what was there before.
+const FARTHEST: &[u8] =
+    b"> 18446744073709551615 NOP-Out i=1 itt=00000001 ttt=ffffffff cmdsn=00000005 expstatsn=00000002 data=3\n";
+
+// The line of the ready PDU.
+fn check_farthest(rt: &impl Abort, alloc: Global, framer: &Framer) {
+    let pdu = framer.pdu().expect(rt, "not ready");
+    let mut out = Vec::from_slice(alloc, b"> ").expect(rt, "two bytes");
+    show_line(18_446_744_073_709_551_615, &pdu, &mut out).expect(rt, "a line");
+    same_bytes(rt, &out, FARTHEST, &"line");
+}
+
+/// A line at the farthest place, and a head alone.
 #[test]
-fn one_pdu(rt: HostRuntime) -> Result<(), Fail> {
-    let stream = came_of(rt.alloc(), lines_of(&rt, NOP_OUT))?;
+fn one_pdu(rt: HostRuntime) {
+    let stream = came_of(&rt, rt.alloc(), lines_of(&rt, NOP_OUT));
     let mut framer = Framer::new(rt.alloc(), 3);
     same(&rt, &framer.feed(&stream), &Ok(52), &"taken");
-    let pdu = framer.pdu().ok_or("not ready")?;
-    let mut out = Vec::from_slice(rt.alloc(), b"> ")?;
-    show_line(18_446_744_073_709_551_615, &pdu, &mut out)?;
-    let want =
-        b"> 18446744073709551615 NOP-Out i=1 itt=00000001 ttt=ffffffff cmdsn=00000005 expstatsn=00000002 data=3\n";
-    same(&rt, &out.as_slice(), &want.as_slice(), &"line");
-    let header = canonical_head(rt.alloc(), &pdu, false)?;
-    let want = written_of(rt.alloc(), lines_of(&rt, NOP_OUT))?;
+    check_farthest(&rt, rt.alloc(), &framer);
+    let pdu = framer.pdu().expect(&rt, "not ready");
+    let header = canonical_head(rt.alloc(), &pdu, false).expect(&rt, "a head");
+    let want = written_of(&rt, rt.alloc(), lines_of(&rt, NOP_OUT));
     same(&rt, &Some(header.as_slice()), &want.get(..48), &"header");
-    Ok(())
 }

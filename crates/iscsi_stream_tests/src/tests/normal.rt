@@ -1,128 +1,114 @@
 //! Canonical streams, and the faults of streams with their places.
 
-use super::rows::{LOGIN_REQUEST, NOP_OUT, WRITE_COMMAND, lines_of, parts_of, rows};
-use super::runs::{SURE, Steps, run_with};
-use super::{came_of, feed_piece, normal_of, same, written_of};
+use super::rows::{LOGIN_REQUEST, NOP_OUT, Row, WRITE_COMMAND, lines_of, parts_of, row_of, rows};
+use super::runs::run_with;
+use super::{came_of, feed_piece, normal_of, written_of};
+use iscsi_examples::{SURE, Steps, same, same_bytes, same_text};
 use iscsi_stream::{Counts, Framer, StreamFault, ToolFault};
 use std::alloc::Global;
 use std::process::Abort;
-use std::test::Fail;
 
 // The canonical stream of a row, with its counts; and again, from the canonical stream.
-fn check_row(rt: &impl Abort, alloc: Global, row: &str) -> Result<(), Fail> {
-    let (name, lines) = parts_of(row);
-    let came = came_of(alloc, lines)?;
-    let want = written_of(alloc, lines)?;
-    let (result, out) = normal_of(alloc, &came);
-    same(rt, &out.as_slice(), &want.as_slice(), &name);
+fn check_row(rt: &impl Abort, alloc: Global, row: &str) {
+    let row = row_of(rt, alloc, row);
+    let (result, out) = normal_of(alloc, &row.came);
+    same(rt, &out, &row.want, &row.name);
     let counts = Counts {
-        pdus: lines.lines().filter(|line| line.starts_with("> ")).count() as u64,
-        bytes_in: came.len() as u64,
-        bytes_out: want.len() as u64,
+        pdus: row.pdus as u64,
+        bytes_in: row.came.len() as u64,
+        bytes_out: row.want.len() as u64,
     };
-    same(rt, &result, &Ok(counts), &name);
-    let (_, again) = normal_of(alloc, &want);
-    same(rt, &again.as_slice(), &want.as_slice(), &name);
-    Ok(())
+    same(rt, &result, &Ok(counts), &row.name);
+    let (_, again) = normal_of(alloc, &row.want);
+    same(rt, &again, &row.want, &row.name);
 }
 
 #[test]
-fn canonical_streams(rt: HostRuntime) -> Result<(), Fail> {
+fn canonical_streams(rt: HostRuntime) {
     same(&rt, &rows().split("\n\n").count(), &29, &"rows");
     for row in rows().split("\n\n") {
-        check_row(&rt, rt.alloc(), row)?;
+        check_row(&rt, rt.alloc(), row);
     }
-    Ok(())
 }
 
 // Feeds a stream in a first piece and others of one length. Answers its place and how it ends.
 fn feed_pieces(
+    rt: &impl Abort,
     alloc: Global,
     came: &[u8],
     first: usize,
     len: usize,
     out: &mut Vec<u8>,
-) -> Result<(u64, Result<(), StreamFault>), Fail> {
+) -> (u64, Result<(), StreamFault>) {
     let (front, rest) = came.split_at_checked(first).unwrap_or((came, &[]));
     let mut framer = Framer::new(alloc, 16_777_215);
-    feed_piece(&mut framer, front, out)?;
+    feed_piece(rt, &mut framer, front, out);
     for piece in rest.chunks(len.max(1)) {
-        feed_piece(&mut framer, piece, out)?;
+        feed_piece(rt, &mut framer, piece, out);
     }
-    Ok((framer.place(), framer.finish()))
+    (framer.place(), framer.finish())
 }
 
 // Whatever the pieces, all of a stream is taken.
-fn check_pieces(
-    rt: &impl Abort,
-    alloc: Global,
-    streams: (&[u8], &[u8]),
-    first: usize,
-    len: usize,
-    name: &str,
-) -> Result<(), Fail> {
-    let (came, want) = streams;
+fn check_pieces(rt: &impl Abort, alloc: Global, row: &Row<'_>, first: usize, len: usize) {
     let mut out = Vec::new(alloc);
-    let ended = feed_pieces(alloc, came, first, len, &mut out)?;
-    same(
-        rt,
-        &ended,
-        &(came.len() as u64, Ok(())),
-        &(name, first, len),
-    );
-    same(rt, &out.as_slice(), &want, &(name, first, len));
-    Ok(())
+    let ended = feed_pieces(rt, alloc, &row.came, first, len, &mut out);
+    let at = (row.name, first, len);
+    same(rt, &ended, &(row.came.len() as u64, Ok(())), &at);
+    same(rt, &out, &row.want, &at);
 }
 
 // In pieces of some lengths, and cut in two at every byte.
-fn check_cuts(rt: &impl Abort, alloc: Global, row: &str) -> Result<(), Fail> {
-    let (name, lines) = parts_of(row);
-    let came = came_of(alloc, lines)?;
-    let want = written_of(alloc, lines)?;
-    for len in [1usize, 47, 48] {
-        check_pieces(rt, alloc, (&came, &want), 0, len, name)?;
+fn check_cuts(rt: &impl Abort, alloc: Global, row: &str) {
+    let row = row_of(rt, alloc, row);
+    check_pieces(rt, alloc, &row, 0, 1);
+    check_pieces(rt, alloc, &row, 0, 47);
+    check_pieces(rt, alloc, &row, 0, 48);
+    for first in 0..=row.came.len() {
+        check_pieces(rt, alloc, &row, first, 100_000);
     }
-    for first in 0..=came.len() {
-        check_pieces(rt, alloc, (&came, &want), first, 100_000, name)?;
-    }
-    Ok(())
 }
 
 #[test]
-fn cuts_make_no_difference(rt: HostRuntime) -> Result<(), Fail> {
+fn cuts_make_no_difference(rt: HostRuntime) {
     for row in rows().split("\n\n") {
-        check_cuts(&rt, rt.alloc(), row)?;
+        check_cuts(&rt, rt.alloc(), row);
     }
-    Ok(())
 }
 
-// A stream that ends within its last PDU, from `start`, gives the PDUs before it, and that place.
-fn check_ends(rt: &impl Abort, alloc: Global, came: &[u8], start: usize, want: &[u8]) {
-    for len in start..came.len() {
-        let (result, out) = normal_of(alloc, came.get(..len).unwrap_or(&[]));
-        if len == start {
-            assert!(rt; result.is_ok(), "{len} bytes");
-        } else {
-            let truncated = ToolFault::Stream(StreamFault::Truncated(start as u64));
-            same(rt, &result, &Err(truncated), &len);
+// A stream that ends in its last PDU, which starts there, gives what is due of the PDUs before it, and that place.
+fn check_end(rt: &impl Abort, alloc: Global, came: &[u8], start: usize, want: &[u8]) {
+    let (result, out) = normal_of(alloc, came);
+    if came.len() == start {
+        same(rt, &result.is_ok(), &true, &start);
+    } else {
+        let truncated = ToolFault::Stream(StreamFault::Truncated(start as u64));
+        same(rt, &result, &Err(truncated), &came.len());
+    }
+    same_bytes(rt, &out, want, &came.len());
+}
+
+// A stream that ends behind each of its PDUs, and at each byte of the next.
+fn check_ends(rt: &impl Abort, alloc: Global, lines: &str) {
+    let (mut came, mut want) = (Vec::new(alloc), Vec::new(alloc));
+    for line in lines.lines() {
+        let start = came.len();
+        let pdu = came_of(rt, alloc, line);
+        came.extend_from_slice(&pdu).expect(rt, "a PDU more");
+        for len in start..came.len() {
+            check_end(rt, alloc, came.get(..len).unwrap_or(&[]), start, &want);
         }
-        same(rt, &out.as_slice(), &want, &len);
+        let written = written_of(rt, alloc, line);
+        want.extend_from_slice(&written).expect(rt, "a PDU more");
     }
 }
 
 #[test]
-fn streams_that_end_early(rt: HostRuntime) -> Result<(), Fail> {
+fn streams_that_end_early(rt: HostRuntime) {
     for row in rows().split("\n\n") {
         let (_, lines) = parts_of(row);
-        let (mut came, mut want) = (Vec::new(rt.alloc()), Vec::new(rt.alloc()));
-        for line in lines.lines() {
-            let start = came.len();
-            came.extend_from_slice(&came_of(rt.alloc(), line)?)?;
-            check_ends(&rt, rt.alloc(), &came, start, &want);
-            want.extend_from_slice(&written_of(rt.alloc(), line)?)?;
-        }
+        check_ends(&rt, rt.alloc(), lines);
     }
-    Ok(())
 }
 
 // The line of a fault without its place, the fault, and the header that has it.
@@ -141,58 +127,55 @@ const FAULTY: &str = "stream: additional header at = Additional\n\
     stream: login segment too long at = TooLong\n\
     > 23810000 00002001 00000000 00000000 00000000 00000000 00000000 00000000 00000000 00000000 00000000 00000000 00000000";
 
-// How a stream ends whose reads give so many bytes each, and what is written.
+// A front and the lines of a header, one behind the other, in reads of so many bytes each: how the stream ends,
+// and what is written.
 fn normal_in_reads(
+    rt: &impl Abort,
     alloc: Global,
-    stream: &[u8],
+    front: &str,
+    header: &str,
     step: usize,
 ) -> (Result<Counts, ToolFault>, Vec<u8>) {
-    let before = None;
-    let run = run_with(alloc, false, stream, Steps { step, before }, SURE);
+    let mut stream = came_of(rt, alloc, front);
+    let header = came_of(rt, alloc, header);
+    stream
+        .extend_from_slice(&header)
+        .expect(rt, "a header more");
+    let run = run_with(alloc, false, &stream, Steps::of(step), SURE);
     (run.result, run.written)
+}
+
+// What is said of the fault that a row's words name, at a place: its line, and the fault.
+fn due_of(rt: &impl Abort, alloc: Global, words: &str, place: u64) -> String {
+    let (line, name) = words.split_once(" = ").expect(rt, "no fault");
+    format!(in alloc; "{line} {place} = Stream(Head({name}, {place}))").expect(rt, "text")
+}
+
+// A fault is said so: its line, and the fault.
+fn check_said(rt: &impl Abort, alloc: Global, fault: ToolFault, due: &String) {
+    let said = format!(in alloc; "{fault} = {fault:?}").expect(rt, "text");
+    same(rt, &said, due, &fault);
 }
 
 // The fault of a row's header behind a stream that ends at a place, and what is written before it, where
 // each read gives so many bytes.
-fn check_fault(
-    rt: &impl Abort,
-    alloc: Global,
-    front: &str,
-    place: u64,
-    row: &str,
-    step: usize,
-) -> Result<(), Fail> {
+fn check_fault(rt: &impl Abort, alloc: Global, front: &str, place: u64, row: &str, step: usize) {
     let (words, header) = parts_of(row);
-    let mut stream = came_of(alloc, front)?;
-    stream.extend_from_slice(&came_of(alloc, header)?)?;
-    let (result, out) = normal_in_reads(alloc, &stream, step);
-    same(
-        rt,
-        &out.as_slice(),
-        &written_of(alloc, front)?.as_slice(),
-        &row,
-    );
-    let Err(fault) = result else {
-        assert!(rt; false, "{row}");
-        return Ok(());
-    };
-    let said = format!(in alloc; "{fault} = {fault:?}")?;
-    let (line, name) = words.split_once(" = ").unwrap_or((words, ""));
-    let want = format!(in alloc; "{line} {place} = Stream(Head({name}, {place}))")?;
-    same(rt, &said.as_str(), &want.as_str(), &row);
-    Ok(())
+    let (result, out) = normal_in_reads(rt, alloc, front, header, step);
+    same(rt, &out, &written_of(rt, alloc, front), &row);
+    let fault = result.expect_err(rt, row);
+    check_said(rt, alloc, fault, &due_of(rt, alloc, words, place));
 }
 
 /// Alone, and behind a whole PDU, in reads of each length.
 #[test]
-fn faults_and_places(rt: HostRuntime) -> Result<(), Fail> {
+fn faults_and_places(rt: HostRuntime) {
     for row in FAULTY.split("\n\n") {
         for step in 1..102 {
-            check_fault(&rt, rt.alloc(), "", 0, row, step)?;
-            check_fault(&rt, rt.alloc(), lines_of(&rt, NOP_OUT), 52, row, step)?;
+            check_fault(&rt, rt.alloc(), "", 0, row, step);
+            check_fault(&rt, rt.alloc(), lines_of(&rt, NOP_OUT), 52, row, step);
         }
     }
-    Ok(())
 }
 
 const FAULTS: &[(ToolFault, &str)] = &[
@@ -216,27 +199,22 @@ const FAULTS: &[(ToolFault, &str)] = &[
 ];
 
 #[test]
-fn lines_of_faults(rt: HostRuntime) -> Result<(), Fail> {
+fn lines_of_faults(rt: HostRuntime) {
     for (fault, line) in FAULTS {
-        let said = format!(in rt.alloc(); "{fault}")?;
-        same(&rt, &said.as_str(), line, fault);
+        same_text(&rt, rt.alloc(), fault, line, fault);
     }
-    Ok(())
 }
 
 // Where a stream is taken, its canonical stream stays as it is. Says whether it is taken.
-fn is_taken(rt: &impl Abort, alloc: Global, stream: &[u8], place: usize, value: u8) -> bool {
+fn is_taken(rt: &impl Abort, alloc: Global, stream: &[u8], at: (usize, u8)) -> bool {
     let (result, out) = normal_of(alloc, stream);
-    let Err(fault) = result else {
+    if result.is_ok() {
         let (again, twice) = normal_of(alloc, &out);
-        assert!(rt; again.is_ok(), "{value} at {place}");
-        same(rt, &twice.as_slice(), &out.as_slice(), &(value, place));
+        same(rt, &again.is_ok(), &true, &at);
+        same(rt, &twice, &out, &at);
         return true;
-    };
-    assert!(rt;
-        matches!(&fault, ToolFault::Stream(_)),
-        "{value} at {place}"
-    );
+    }
+    same(rt, &matches!(result, Err(ToolFault::Stream(_))), &true, &at);
     false
 }
 
@@ -247,7 +225,7 @@ fn is_taken(rt: &impl Abort, alloc: Global, stream: &[u8], place: usize, value: 
 /// have to say the length of the segment: a longer one is not whole, and what a shorter one leaves over
 /// is no PDU. So each of the four has one value, but byte 7 of the NOP-Out four: segments of 1 to 4
 /// bytes fill the same word with their padding.
-const CHANGED: [(&str, u64); 3] = [
+const CHANGED: &[(&str, u64)] = &[
     (NOP_OUT, 11_083),
     (LOGIN_REQUEST, 11_080),
     (WRITE_COMMAND, 11_080),
@@ -261,7 +239,7 @@ fn count_at(rt: &impl Abort, alloc: Global, stream: &mut [u8], place: usize) -> 
         if let Some(byte) = stream.get_mut(place) {
             *byte = value;
         }
-        if is_taken(rt, alloc, stream, place, value) {
+        if is_taken(rt, alloc, stream, (place, value)) {
             taken = taken.saturating_add(1);
         }
     }
@@ -271,15 +249,19 @@ fn count_at(rt: &impl Abort, alloc: Global, stream: &mut [u8], place: usize) -> 
     taken
 }
 
-#[test]
-fn changed_headers(rt: HostRuntime) -> Result<(), Fail> {
-    for (name, want) in CHANGED {
-        let mut stream = came_of(rt.alloc(), lines_of(&rt, name))?;
-        let mut taken = 0u64;
-        for place in 0..48usize {
-            taken = taken.saturating_add(count_at(&rt, rt.alloc(), &mut stream, place));
-        }
-        same(&rt, &taken, &want, &name);
+// How many streams are taken if each byte of the header in turn has each value.
+fn count_changed(rt: &impl Abort, alloc: Global, name: &str) -> u64 {
+    let mut stream = came_of(rt, alloc, lines_of(rt, name));
+    let mut taken = 0u64;
+    for place in 0..48usize {
+        taken = taken.saturating_add(count_at(rt, alloc, &mut stream, place));
     }
-    Ok(())
+    taken
+}
+
+#[test]
+fn changed_headers(rt: HostRuntime) {
+    for (name, want) in CHANGED {
+        same(&rt, &count_changed(&rt, rt.alloc(), name), want, name);
+    }
 }

@@ -5,6 +5,8 @@
 //! padding: nothing, bytes in hex, `5a*512` for so many of a byte, or behind an apostrophe a text, in
 //! which `|` stands for a byte 00 and `~` for a byte ff.
 
+use super::{came_of, written_of};
+use std::alloc::Global;
 use std::process::Abort;
 
 /// A NOP-Out of 52 bytes with the data `abc`.
@@ -183,6 +185,26 @@ pub fn parts_of(row: &str) -> (&str, &str) {
     row.split_once('\n').unwrap_or((row, ""))
 }
 
+/// A row's name, how many PDUs it has, its stream and its canonical stream.
+#[derive(Drop)]
+pub struct Row<'a> {
+    pub name: &'a str,
+    pub pdus: usize,
+    pub came: Vec<u8>,
+    pub want: Vec<u8>,
+}
+
+/// What a row says.
+pub fn row_of<'a>(rt: &impl Abort, alloc: Global, row: &'a str) -> Row<'a> {
+    let (name, lines) = parts_of(row);
+    Row {
+        name,
+        pdus: lines.lines().filter(|line| line.starts_with("> ")).count(),
+        came: came_of(rt, alloc, lines),
+        want: written_of(rt, alloc, lines),
+    }
+}
+
 /// The lines of the row with this name, which has to be there.
 pub fn lines_of(rt: &impl Abort, name: &str) -> &'static str {
     for row in rows().split("\n\n") {
@@ -191,6 +213,5 @@ pub fn lines_of(rt: &impl Abort, name: &str) -> &'static str {
             return lines;
         }
     }
-    assert!(rt; false, "no row {name}");
-    ""
+    panic!(rt; "no row {name}")
 }

@@ -1,17 +1,21 @@
 //! One text from a reader to a writer.
 
-use super::runs::{SURE, Source, Target};
-use super::same;
-use iscsi_examples::segment_of;
+use iscsi_examples::{SURE, Sink, Source, same, same_debug, same_text, segment_of};
 use iscsi_stream::{ToolFault, normalise_text};
 use std::alloc::Global;
-use std::test::Fail;
+use std::process::Abort;
 
-fn normal_text_of(alloc: Global, text: &[u8]) -> (Result<(), ToolFault>, Vec<u8>) {
-    let mut source = Source::new(text, SURE);
-    let mut target = Target::new(alloc, SURE);
-    let result = normalise_text(alloc, &mut source, &mut target);
-    (result, target.taken)
+// The canonical text of a segment, or the fault, and what was written.
+fn normal_text_of(
+    rt: &impl Abort,
+    alloc: Global,
+    segment: &str,
+) -> (Result<(), ToolFault>, Vec<u8>) {
+    let text = segment_of(alloc, segment).expect(rt, "a segment");
+    let mut source = Source::new(&text, SURE);
+    let mut sink = Sink::new(alloc, SURE);
+    let result = normalise_text(alloc, &mut source, &mut sink);
+    (result, sink.taken)
 }
 
 // A text and its canonical text, as rows of streams spell segments.
@@ -27,41 +31,34 @@ const REFUSED: &str = "'A=1 = Err(Text(Unterminated(0))) = text: unterminated at
     'InitialR2T=Yes|InitialR2T=No| = Err(Text(Repeated(15))) = text: repeated key at 15\n\
     00*16385 = Err(TextTooLong) = text: over 16384 bytes";
 
-#[test]
-fn canonical_texts(rt: HostRuntime) -> Result<(), Fail> {
-    for row in TEXTS.lines() {
-        let (text, want) = row.split_once(" = ").ok_or("no canonical text")?;
-        let came = segment_of(rt.alloc(), text)?;
-        let due = segment_of(rt.alloc(), want)?;
-        let (result, out) = normal_text_of(rt.alloc(), &came);
-        same(&rt, &result, &Ok(()), &row);
-        same(&rt, &out.as_slice(), &due.as_slice(), &row);
-    }
-    Ok(())
+fn check_text(rt: &impl Abort, alloc: Global, row: &str) {
+    let (text, want) = row.split_once(" = ").expect(rt, "no canonical text");
+    let (result, out) = normal_text_of(rt, alloc, text);
+    same(rt, &result, &Ok(()), &row);
+    let due = segment_of(alloc, want).expect(rt, "a segment");
+    same(rt, &out, &due, &row);
 }
 
 #[test]
-fn refused_texts(rt: HostRuntime) -> Result<(), Fail> {
-    for row in REFUSED.lines() {
-        let (text, want) = row.split_once(" = ").ok_or("no answer")?;
-        let (answer, line) = want.split_once(" = ").ok_or("no line")?;
-        let came = segment_of(rt.alloc(), text)?;
-        let (result, out) = normal_text_of(rt.alloc(), &came);
-        same(
-            &rt,
-            &format!(in rt.alloc(); "{result:?}")?.as_str(),
-            &answer,
-            &row,
-        );
-        same(&rt, &out.len(), &0, &row);
-        if let Err(fault) = result {
-            same(
-                &rt,
-                &format!(in rt.alloc(); "{fault}")?.as_str(),
-                &line,
-                &row,
-            );
-        }
+fn canonical_texts(rt: HostRuntime) {
+    for row in TEXTS.lines() {
+        check_text(&rt, rt.alloc(), row);
     }
-    Ok(())
+}
+
+fn check_refused(rt: &impl Abort, alloc: Global, row: &str) {
+    let (text, want) = row.split_once(" = ").expect(rt, "no answer");
+    let (answer, line) = want.split_once(" = ").expect(rt, "no line");
+    let (result, out) = normal_text_of(rt, alloc, text);
+    same_debug(rt, alloc, &result, answer, &row);
+    same(rt, &out.len(), &0, &row);
+    let fault = result.expect_err(rt, row);
+    same_text(rt, alloc, &fault, line, &row);
+}
+
+#[test]
+fn refused_texts(rt: HostRuntime) {
+    for row in REFUSED.lines() {
+        check_refused(&rt, rt.alloc(), row);
+    }
 }

@@ -1,13 +1,13 @@
 //! A PDU and its canonical form are answered alike, also where a byte of its header is another one.
 
-use super::{pdu_of, same, target_of};
+use super::{pdu_of, target_of};
+use iscsi_examples::same;
 use iscsi_login::Phase;
 use iscsi_stream::normalise;
 use iscsi_target::TargetFault;
 use scsi_disk::SparseStore;
 use std::alloc::Global;
 use std::process::Abort;
-use std::test::Fail;
 
 /// A login in one request, as a line of a dialogue.
 const LOGIN: &str =
@@ -35,18 +35,18 @@ const OTHERS: u64 = 11_080;
 
 // What a target answers to a PDU behind the login, and all that it writes.
 fn answers_to(
+    rt: &impl Abort,
     alloc: Global,
     login: &[u8],
     pdu: &[u8],
-) -> Result<(Result<Phase, TargetFault>, Vec<u8>), Fail> {
+) -> (Result<Phase, TargetFault>, Vec<u8>) {
     let mut store = SparseStore::new(alloc, 2048);
-    let mut target = target_of(alloc)?;
+    let mut target = target_of(rt, alloc);
     let mut out = Vec::new(alloc);
-    if target.feed(login, &mut store, &mut out)? != Phase::Full {
-        return Err(Fail::from("no login"));
-    }
+    let phase = target.feed(login, &mut store, &mut out);
+    same(rt, &phase, &Ok(Phase::Full), &"login");
     let result = target.feed(pdu, &mut store, &mut out);
-    Ok((result, out))
+    (result, out)
 }
 
 // A PDU and its canonical form are answered alike.
@@ -57,88 +57,73 @@ fn check_alike(
     pdu: &[u8],
     canonical: &[u8],
     row: (usize, u8),
-) -> Result<(), Fail> {
-    let (result, out) = answers_to(alloc, login, pdu)?;
-    let (again, twice) = answers_to(alloc, login, canonical)?;
+) {
+    let (result, out) = answers_to(rt, alloc, login, pdu);
+    let (again, twice) = answers_to(rt, alloc, login, canonical);
     same(rt, &again, &result, &row);
-    same(rt, &twice.as_slice(), &out.as_slice(), &row);
-    Ok(())
+    same(rt, &twice, &out, &row);
 }
 
 // Compares the answers where a PDU has a canonical form that is another one. Says whether it has one.
-fn has_form(
-    rt: &impl Abort,
-    alloc: Global,
-    login: &[u8],
-    pdu: &[u8],
-    row: (usize, u8),
-) -> Result<bool, Fail> {
+fn has_form(rt: &impl Abort, alloc: Global, login: &[u8], pdu: &[u8], row: (usize, u8)) -> bool {
     let mut source = pdu;
     let mut canonical = Vec::new(alloc);
     if normalise(alloc, &mut source, &mut canonical).is_err() {
-        return Ok(false);
+        return false;
     }
     if canonical.as_slice() != pdu {
-        check_alike(rt, alloc, login, pdu, &canonical, row)?;
+        check_alike(rt, alloc, login, pdu, &canonical, row);
     }
-    Ok(true)
+    true
 }
 
 // How many PDUs have a canonical form if the byte at a place has each value in turn.
-fn count_at(
-    rt: &impl Abort,
-    alloc: Global,
-    login: &[u8],
-    pdu: &mut [u8],
-    place: usize,
-) -> Result<u64, Fail> {
+fn count_at(rt: &impl Abort, alloc: Global, login: &[u8], pdu: &mut [u8], place: usize) -> u64 {
     let kept = pdu.get(place).copied().unwrap_or(0);
     let mut count = 0u64;
     for value in 0..=255u8 {
         if let Some(byte) = pdu.get_mut(place) {
             *byte = value;
         }
-        if has_form(rt, alloc, login, pdu, (place, value))? {
+        if has_form(rt, alloc, login, pdu, (place, value)) {
             count = count.saturating_add(1);
         }
     }
     if let Some(byte) = pdu.get_mut(place) {
         *byte = kept;
     }
-    Ok(count)
+    count
 }
 
 // The bytes of a PDU.
-fn bytes_of(alloc: Global, line: &str) -> Result<Vec<u8>, Fail> {
+fn bytes_of(rt: &impl Abort, alloc: Global, line: &str) -> Vec<u8> {
     let mut bytes = Vec::new(alloc);
-    pdu_of(alloc, line, &mut bytes)?;
-    Ok(bytes)
+    pdu_of(rt, alloc, line, &mut bytes);
+    bytes
 }
 
 // A PDU whose header is changed so is answered as its canonical form, wherever it has one.
-fn check_changes(rt: &impl Abort, alloc: Global, line: &str, want: u64) -> Result<(), Fail> {
-    let login = bytes_of(alloc, LOGIN)?;
-    let mut pdu = bytes_of(alloc, line)?;
+fn check_changes(rt: &impl Abort, alloc: Global, line: &str, want: u64) {
+    let login = bytes_of(rt, alloc, LOGIN);
+    let mut pdu = bytes_of(rt, alloc, line);
     let mut count = 0u64;
     for place in 0..48usize {
-        let forms = count_at(rt, alloc, &login, &mut pdu, place)?;
-        count = count.saturating_add(forms);
+        count = count.saturating_add(count_at(rt, alloc, &login, &mut pdu, place));
     }
     same(rt, &count, &want, &line);
-    Ok(())
 }
 
 #[test]
-fn changed_pings_are_answered_alike(rt: HostRuntime) -> Result<(), Fail> {
-    check_changes(&rt, rt.alloc(), PING, PINGS)
+fn changed_pings_are_answered_alike(rt: HostRuntime) {
+    check_changes(&rt, rt.alloc(), PING, PINGS);
 }
 
 #[test]
-fn changed_logins_are_answered_alike(rt: HostRuntime) -> Result<(), Fail> {
-    check_changes(&rt, rt.alloc(), LOGIN_AGAIN, OTHERS)
+fn changed_logins_are_answered_alike(rt: HostRuntime) {
+    check_changes(&rt, rt.alloc(), LOGIN_AGAIN, OTHERS);
 }
 
 #[test]
-fn changed_writes_are_answered_alike(rt: HostRuntime) -> Result<(), Fail> {
-    check_changes(&rt, rt.alloc(), WRITE, OTHERS)
+fn changed_writes_are_answered_alike(rt: HostRuntime) {
+    check_changes(&rt, rt.alloc(), WRITE, OTHERS);
 }
