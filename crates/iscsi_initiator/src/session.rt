@@ -9,11 +9,13 @@ ghost use Rattle.iscsi_initiator.specs.Steps.{closed};
 ghost use Rattle.iscsi_initiator.specs.Machine.{step, taken};
 ghost use Rattle.iscsi_initiator.specs.Inside.{Handles};
 
-mod full;
+mod data_in;
+mod data_out;
+mod dispatch;
 mod login;
+mod r2t;
+mod requests;
 mod responses;
-mod sequence;
-mod submit;
 
 use crate::config::Config;
 use crate::fault::InitiatorFault;

@@ -4,7 +4,7 @@
 ghost use Rattle.std.specs.Prelude.{◌≡◌, ◌≤◌, ◌↔◌, ◌+◌, ◌<◌, length, true, IsTrue, IfOk, IfErr};
 ghost use Rattle.iscsi_service.specs.Session.{HasExecuted};
 ghost use Rattle.iscsi_service.specs.Serving.{EndsService};
-ghost use Rattle.iscsi_service.specs.declared.serve_fault.ServeFault.TheVariants as serve;
+ghost use Rattle.iscsi_service.specs.declared.fault.ServeFault.TheVariants as serve;
 ghost use Rattle.iscsi_server.specs.Serving.{IsDone, IsEmpty};
 
 use crate::configuration::configuration;

@@ -3,7 +3,7 @@
 ghost use Rattle.std.specs.Prelude.{◌≡◌, ◌⊎◌, IfErr};
 ghost use Rattle.iscsi_service.specs.Session.{HasExecuted};
 ghost use Rattle.iscsi_service.specs.Serving.{EndsService};
-ghost use Rattle.iscsi_service.specs.declared.serve_fault.ServeFault.TheVariants as serve;
+ghost use Rattle.iscsi_service.specs.declared.fault.ServeFault.TheVariants as serve;
 ghost use Rattle.iscsi_server.specs.Service.{IsService};
 
 use crate::options::Options;

@@ -29,8 +29,8 @@ use Rattle.iscsi_service.specs.Looping.{HaveOutcomes, FirstHaveOutcomes, Loops, 
 use Rattle.iscsi_service.specs.LoopSteps.{Continues, Fails, IsOfSession, Stops, Runs}
 use Rattle.iscsi_service.specs.Reports.{report}
 use Rattle.iscsi_service.specs.Script.{IsScript, ScriptFails}
-use Rattle.iscsi_service.specs.declared.serve_fault.ServeFault.{ServeFault}
-use Rattle.iscsi_service.specs.declared.serve_fault.ServeFault.TheVariants as serve
+use Rattle.iscsi_service.specs.declared.fault.ServeFault.{ServeFault}
+use Rattle.iscsi_service.specs.declared.fault.ServeFault.TheVariants as serve
 use Rattle.iscsi_target.specs.declared.fault.TargetFault.{TargetFault}
 use Rattle.iscsi_target.specs.declared.fault.TargetFault.TheVariants as target
 use Rattle.iscsi_initiator.specs.declared.fault.InitiatorFault.{InitiatorFault}

@@ -8,8 +8,8 @@ use Rattle.iscsi_initiator.specs.declared.fault.InitiatorFault.{InitiatorFault}
 use Rattle.iscsi_initiator.specs.declared.fault.InitiatorFault.TheVariants as initiator
 use Rattle.iscsi_service.specs.declared.session.SessionFault.{SessionFault}
 use Rattle.iscsi_service.specs.declared.session.SessionFault.TheVariants as session
-use Rattle.iscsi_service.specs.declared.serve_fault.ServeFault.{ServeFault}
-use Rattle.iscsi_service.specs.declared.serve_fault.ServeFault.TheVariants as serve
+use Rattle.iscsi_service.specs.declared.fault.ServeFault.{ServeFault}
+use Rattle.iscsi_service.specs.declared.fault.ServeFault.TheVariants as serve
 use Rattle.iscsi_service.specs.Session.{ServesAll, ServesFirst, EndsBy}
 
 -- The exit status of a fault: 1 where what came is refused, 3 for memory, 4 for reading, writing,

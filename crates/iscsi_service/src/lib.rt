@@ -4,16 +4,16 @@
 
 mod carrier;
 mod command;
-mod looping;
+mod loop_script;
 mod report;
 mod script;
-mod serve_fault;
+mod fault;
 mod serving;
 mod session;
-mod wire;
+mod socket_pair;
 
 pub use carrier::{Carrier, Channel};
-pub use looping::{LONGEST_PIECE, run_loop, run_over};
-pub use serve_fault::ServeFault;
+pub use loop_script::{LONGEST_PIECE, run_loop, run_over};
+pub use fault::ServeFault;
 pub use serving::{serve, serve_one};
 pub use session::{SessionFault, configuration, serve_stream};

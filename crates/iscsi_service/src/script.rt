@@ -9,7 +9,7 @@ ghost use Rattle.iscsi_service.specs.Script.{parted, number, byte_of, test_unit_
 ghost use Rattle.iscsi_service.specs.Script.{AreCommands, IsTooLongAt, LinesFail, IsScript, ScriptFails, IsInRange, AreInRange};
 
 use crate::command::Command;
-use crate::serve_fault::ServeFault;
+use crate::fault::ServeFault;
 use hex::{FromHex, FromHexError};
 use iscsi_stream::{ToolFault, read_within};
 use iscsi_text::split_at_byte;

@@ -4,7 +4,7 @@ ghost use Rattle.std.specs.Prelude.{◌≡◌, ◌≢◌, ◌⊎◌, ◌<◌, �
 ghost use Rattle.iscsi_service.specs.Session.{HasExecuted};
 ghost use Rattle.iscsi_service.specs.Serving.{ServesOne, EndsService};
 
-use crate::serve_fault::ServeFault;
+use crate::fault::ServeFault;
 use crate::session::{configuration, serve_reads};
 use iscsi_target::Config;
 use scsi_disk::BlockStore;

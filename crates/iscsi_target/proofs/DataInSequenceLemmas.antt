@@ -16,7 +16,7 @@ use Rattle.iscsi_target_session.specs.Session.{message}
 use Rattle.iscsi_target.specs.State.{Machine, waiting}
 use Rattle.iscsi_target.specs.Execution.{marked, sequence_parts, data_in_parts, data_ins, data_in_head}
 use Rattle.iscsi_stream.specs.Pieces.{chunks_within, chunks}
-use Rattle.iscsi_target.specs.declared.machine.command.Sent.{Sent}
+use Rattle.iscsi_target.specs.declared.machine.data_in.Sent.{Sent}
 use Rattle.iscsi_stream.proofs.ChunkLemmas.{chunks_step}
 
 -- bytes that go out, behind those that were sent

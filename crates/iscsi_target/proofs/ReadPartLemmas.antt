@@ -23,7 +23,7 @@ use Rattle.iscsi_target.specs.State.{Machine, waiting}
 use Rattle.iscsi_target.specs.Inside.{store_of}
 use Rattle.iscsi_target.specs.Execution.{data_in_head, data_in_parts, data_ins, response_head, sense_segment, sequence_parts}
 use Rattle.iscsi_target.specs.Reads.{AnswersRead, Read, Reply, SendsPart, SendsRuns, SendsSequence, read_in, reply}
-use Rattle.iscsi_target.specs.declared.machine.command.Sent.{Sent}
+use Rattle.iscsi_target.specs.declared.machine.data_in.Sent.{Sent}
 use Rattle.iscsi_target.proofs.DataInSequenceLemmas.{GaveRuns, GaveUpTo, front_kept, gave_more, gave_run, unsent}
 use Rattle.iscsi_target.proofs.CommandLemmas.{told_order}
 

@@ -13,7 +13,7 @@ use Rattle.iscsi_login.specs.Held.{Held, max_burst}
 use Rattle.iscsi_target.specs.State.{Machine, waiting}
 use Rattle.iscsi_target.specs.Feed.{Store}
 use Rattle.iscsi_target.specs.Execution.{sequence_parts, data_in_parts, data_ins, command_answers}
-use Rattle.iscsi_target.specs.declared.machine.command.Sent.{Sent}
+use Rattle.iscsi_target.specs.declared.machine.data_in.Sent.{Sent}
 
 -- Segments and sequences are of whole blocks (sections 13.12 and 13.13).
 pub record TakesBlocks (held : Held) : Type 0 where

@@ -7,10 +7,9 @@ mod kept;
 pub mod laws;
 mod machine;
 mod open_write;
-mod response;
+mod scsi_response;
 mod target;
 mod tasks;
-mod writing;
 
 // (`Due` and `Status` stand in definitions that proofs above take apart: an open write, and why a
 // login is refused)

@@ -10,9 +10,10 @@ ghost use Rattle.iscsi_target.specs.State.{breaks};
 ghost use Rattle.iscsi_target.specs.Machine.{is_closed};
 ghost use Rattle.iscsi_target.specs.Inside.{Leaves};
 
-mod command;
+mod data_in;
 mod dispatch;
 mod reads;
+mod scsi_command;
 mod writes;
 
 use crate::tasks::Tasks;

@@ -1,28 +1,19 @@
-//! Responses to the outstanding request (RFC 7143, section 11). One file: a method for each kind of
-//! PDU that may answer, and what they all look at first.
+//! Responses to the outstanding request (RFC 7143, section 11): a method for each kind of PDU that may
+//! answer, but for the data of a read and R2Ts, which have files of their own.
 
-ghost use Rattle.std.specs.Prelude.{◌≡◌, ◌<◌, ◌^◌, false, None, Some};
-ghost use Rattle.std.specs.Bool.{then_some};
+ghost use Rattle.std.specs.Prelude.{◌≡◌, None, Some};
 ghost use Rattle.std.specs.Option.{option_map};
 ghost use Rattle.iscsi_pdu.specs.Meaning.{Fits};
-ghost use Rattle.iscsi_pdu.specs.Fields.{is_tag};
 ghost use Rattle.iscsi_pdu.specs.declared.head.Head.TheVariants as heads;
-ghost use Rattle.iscsi_initiator.specs.State.{sent_exp_stat_sn};
-ghost use Rattle.iscsi_initiator.specs.Full.{due_to, takes, residual, sense_of, read_outcome, on_data, on_r2t};
-ghost use Rattle.iscsi_initiator.specs.declared.outstanding.Outstanding.TheVariants as opens;
-ghost use Rattle.iscsi_initiator.specs.Inside.{Handles, Counts, with_outstanding, data_received, r2t_received, received_by};
+ghost use Rattle.iscsi_initiator.specs.Full.{due_to, takes, residual, sense_of};
+ghost use Rattle.iscsi_initiator.specs.Inside.{Handles, Counts, received_by};
 
 use super::Session;
-use super::sequence::write_sequence;
 use crate::fault::InitiatorFault;
-use crate::outstanding::{Outstanding, Reading, Writing};
+use crate::outstanding::Outstanding;
 use crate::request::Done;
-use iscsi_login::NegKey;
 use iscsi_pdu::rule::{DATA_OUT_OF_ORDER, KIND_NOT_DUE, TEXT_AT_FAULT};
-use iscsi_pdu::{
-    DataIn, DataOut, Head, LogoutResponse, NopIn, RESERVED_TAG, ReadyToTransfer, ScsiResponse,
-    TextResponse,
-};
+use iscsi_pdu::{Head, LogoutResponse, NopIn, ScsiResponse, TextResponse};
 use scsi_cdb::{Bytes, Residual};
 use std::alloc::{AllocError, Global};
 
@@ -83,100 +74,8 @@ impl Session {
         Ok(None)
     }
 
-    // Data of a read; with a status they complete it.
-    #[tactic(auto, using(crate::proofs::CounterLemmas::takes_broken, crate::proofs::CounterLemmas::takes_updated))]
-    fn on_data(
-        &mut self,
-        head: &DataIn,
-        bytes: &[u8],
-        out: &mut Vec<u8>,
-    ) -> Result<Option<InitiatorFault>, AllocError>
-        ensures { Counts (takes
-            (due_to self.old.outstanding (heads.DataIn head.now)) self.old bytes.now)
-            result self.old self.new out.old.items out.new.items }
-    {
-        let Some(Outstanding::In(_)) = &self.outstanding else {
-            return Ok(self.protocol_error(KIND_NOT_DUE));
-        };
-        if let Some(rule) = self.broken_rule(bytes.len(), head.stat_sn) {
-            return Ok(self.protocol_error(rule));
-        }
-        self.update_counters(head.stat_sn, head.exp_cmd_sn, head.max_cmd_sn);
-        self.receive(head, bytes, out)
-    }
-
-    // Data whose numbers are counted.
-    fn receive(
-        &mut self,
-        head: &DataIn,
-        bytes: &[u8],
-        out: &mut Vec<u8>,
-    ) -> Result<Option<InitiatorFault>, AllocError>
-        ensures { Handles (data_received self.old.outstanding self.old head.now bytes.now)
-            result self.old self.new out.old.items out.new.items }
-    {
-        match self.outstanding.take() {
-            Some(Outstanding::In(reading)) => self.receive_for(reading, head, bytes, out),
-            other => {
-                self.outstanding = other;
-                Ok(self.protocol_error(KIND_NOT_DUE))
-            }
-        }
-    }
-
-    // The same for this read, which was taken out of the session.
-    fn receive_for(
-        &mut self,
-        mut reading: Reading,
-        head: &DataIn,
-        bytes: &[u8],
-        out: &mut Vec<u8>,
-    ) -> Result<Option<InitiatorFault>, AllocError>
-        ensures { Handles
-            (on_data (with_outstanding self.old (opens.In reading)) reading head.now bytes.now)
-            result (with_outstanding self.old (opens.In reading)) self.new
-            out.old.items out.new.items }
-    {
-        if !reading.fits(head, bytes) {
-            self.outstanding = Some(Outstanding::In(reading));
-            return Ok(self.protocol_error(DATA_OUT_OF_ORDER));
-        }
-        if let Err(error) = reading.receive(bytes) {
-            self.outstanding = Some(Outstanding::In(reading));
-            return Err(error);
-        }
-        self.outstanding = Some(Outstanding::In(reading));
-        if !head.has_status {
-            return Ok(None);
-        }
-        self.complete_read(head, *out.allocator());
-        Ok(None)
-    }
-
-    // A field without a value counts as 0.
-    fn complete_read(&mut self, head: &DataIn, alloc: Global)
-        ensures { self.new ≡ record self.old {
-          outstanding = None;
-          done = Some (read_outcome (received_by self.old.outstanding) head.now);
-        } }
-    {
-        let residual = residual(
-            head.overflow.unwrap_or(false),
-            head.underflow.unwrap_or(false),
-            head.residual.unwrap_or(0),
-        );
-        let bytes = self.take_received(alloc);
-        self.complete(Done::Command {
-            response: 0,
-            status: head.status.unwrap_or(0),
-            sense: Bytes::from_vec(Vec::new(alloc)),
-            bytes,
-            residual,
-        });
-    }
-
     // The bytes that the outstanding request received; it is outstanding no more.
-    fn take_received(&mut self, alloc: Global) -> Bytes
+    pub(super) fn take_received(&mut self, alloc: Global) -> Bytes
         ensures bytes { result ≡ received_by self.old.outstanding }
         ensures none { self.new ≡ record self.old { outstanding = None } }
     {
@@ -188,7 +87,7 @@ impl Session {
     }
 
     // The outstanding request has this outcome.
-    fn complete(&mut self, done: Done)
+    pub(super) fn complete(&mut self, done: Done)
         ensures { self.new ≡ record self.old { outstanding = None; done = Some done } }
     {
         self.outstanding = None;
@@ -230,106 +129,6 @@ impl Session {
             residual: residual(head.overflow, head.underflow, head.residual.unwrap_or(0)),
         });
         Ok(None)
-    }
-
-    // An R2T is answered with one sequence.
-    #[tactic(auto, using(crate::proofs::CounterLemmas::takes_broken, crate::proofs::CounterLemmas::takes_updated))]
-    fn on_r2t(
-        &mut self,
-        head: &ReadyToTransfer,
-        bytes: &[u8],
-        out: &mut Vec<u8>,
-    ) -> Result<Option<InitiatorFault>, AllocError>
-        ensures { Counts (takes
-            (due_to self.old.outstanding (heads.ReadyToTransfer head.now)) self.old bytes.now)
-            result self.old self.new out.old.items out.new.items }
-    {
-        let Some(Outstanding::Out(_)) = &self.outstanding else {
-            return Ok(self.protocol_error(KIND_NOT_DUE));
-        };
-        if let Some(rule) = self.broken_rule(bytes.len(), None) {
-            return Ok(self.protocol_error(rule));
-        }
-        self.update_counters(None, head.exp_cmd_sn, head.max_cmd_sn);
-        self.answer_r2t(head, out)
-    }
-
-    // An R2T whose numbers are counted.
-    fn answer_r2t(
-        &mut self,
-        head: &ReadyToTransfer,
-        out: &mut Vec<u8>,
-    ) -> Result<Option<InitiatorFault>, AllocError>
-        ensures { Handles (r2t_received self.old.outstanding self.old head.now)
-            result self.old self.new out.old.items out.new.items }
-    {
-        match self.outstanding.take() {
-            Some(Outstanding::Out(writing)) => self.answer_r2t_for(writing, head, out),
-            other => {
-                self.outstanding = other;
-                Ok(self.protocol_error(KIND_NOT_DUE))
-            }
-        }
-    }
-
-    // The same for this write, which was taken out of the session.
-    fn answer_r2t_for(
-        &mut self,
-        mut writing: Writing,
-        head: &ReadyToTransfer,
-        out: &mut Vec<u8>,
-    ) -> Result<Option<InitiatorFault>, AllocError>
-        ensures { Handles (on_r2t (with_outstanding self.old (opens.Out writing)) writing head.now)
-            result (with_outstanding self.old (opens.Out writing)) self.new
-            out.old.items out.new.items }
-    {
-        if !writing.fits(head, self.held.number(NegKey::MaxBurstLength)) {
-            self.outstanding = Some(Outstanding::Out(writing));
-            return Ok(self.protocol_error(DATA_OUT_OF_ORDER));
-        }
-        let first = self.first_data_out(head);
-        if let Err(error) = write_sequence(first, self.most_sent(), writing.requested(head), out) {
-            self.outstanding = Some(Outstanding::Out(writing));
-            return Err(error);
-        }
-        writing.count(head);
-        self.outstanding = Some(Outstanding::Out(writing));
-        Ok(None)
-    }
-
-    // The most bytes that the target takes in one segment.
-    pub(super) fn most_sent(&self) -> u32
-        ensures most { result ≡ self.now.held.target_max_recv }
-        ensures some { 0 < result }
-        ensures short { result < 2 ^ 24 }
-    {
-        // Opens the invariant of what is held.
-        let _held = self.held.get(NegKey::MaxBurstLength);
-        self.held.target_max_recv
-    }
-
-    // The head of the first Data-Out that an R2T is answered with.
-    fn first_data_out(&self, head: &ReadyToTransfer) -> DataOut
-        ensures value { result ≡ record {
-          is_final = false;
-          lun = then_some (is_tag head.now.target_transfer_tag) head.now.lun;
-          initiator_task_tag = self.now.initiator_task_tag;
-          target_transfer_tag = head.now.target_transfer_tag;
-          exp_stat_sn = sent_exp_stat_sn self.now;
-          data_sn = 0;
-          buffer_offset = head.now.buffer_offset;
-        } }
-        ensures fits { Fits (heads.DataOut result) }
-    {
-        DataOut {
-            is_final: false,
-            lun: (head.target_transfer_tag != RESERVED_TAG).then_some(head.lun),
-            initiator_task_tag: self.initiator_task_tag,
-            target_transfer_tag: head.target_transfer_tag,
-            exp_stat_sn: self.sent_exp_stat_sn(),
-            data_sn: 0,
-            buffer_offset: head.buffer_offset,
-        }
     }
 
     // An answer to a text is to be whole.
@@ -385,7 +184,7 @@ impl Session {
 }
 
 // The residual that a response names; overflow is looked at first.
-fn residual(overflow: bool, underflow: bool, count: u32) -> Residual
+pub(super) fn residual(overflow: bool, underflow: bool, count: u32) -> Residual
     ensures { result ≡ residual overflow underflow count }
 {
     if overflow {

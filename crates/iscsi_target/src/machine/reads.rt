@@ -14,9 +14,8 @@ ghost use Rattle.iscsi_target.specs.Inside.{Handles, moment, store_of};
 ghost use Rattle.iscsi_target.specs.Reads.{AnswersRead, SendsPart, SendsRuns, SendsSequence, TakesBlocks, read_in, reply};
 
 use super::Machine;
-use super::command::Sent;
-use crate::response::response_head;
-use crate::writing::append_response;
+use super::data_in::Sent;
+use crate::scsi_response::{append_response, response_head};
 use iscsi_pdu::{Head, write_head};
 use scsi_disk::{
     BlockRange, BlockStore, Order, Plan, StoreFault, failed_read, read_outcome, whole_blocks,

@@ -15,13 +15,12 @@ ghost use Rattle.iscsi_target.specs.Crash.{Crashes, commands_by};
 ghost use Rattle.iscsi_target.specs.Inside.{Leaves, Handles, Follows, TakePlaces, moment, store_of};
 
 use super::Machine;
-use super::command::order_of;
+use super::scsi_command::order_of;
 use crate::due::Due;
 use crate::kept::Kept;
 use crate::open_write::OpenWrite;
-use crate::response::response_head;
+use crate::scsi_response::{append_response, response_head};
 use crate::tasks::Task;
-use crate::writing::append_response;
 use iscsi_pdu::rule::DATA_OUT_OF_ORDER;
 use iscsi_pdu::{DataOut, Head, ReadyToTransfer, ScsiCommand};
 use iscsi_stream::write_pdu;

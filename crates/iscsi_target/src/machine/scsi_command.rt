@@ -1,0 +1,176 @@
+//! SCSI commands, and what they answer (RFC 7143, sections 11.3 and 11.4).
+
+ghost use Rattle.std.specs.Prelude.{◌≡◌, ◌∷◌, ◌≢◌, ◌<◌, ◌≤◌, ◌^◌, ◌+◌, ◌++◌, ℕ, [], length, take, OnOk, OnErr, IfOk};
+ghost use Rattle.scsi_disk.specs.Plan.{plan_of};
+ghost use Rattle.iscsi_pdu.specs.Meaning.{Fits};
+ghost use Rattle.iscsi_login.specs.Held.{first_burst, is_on, max_burst};
+ghost use Rattle.iscsi_stream.specs.Canonical.{canon};
+ghost use Rattle.iscsi_target.specs.State.{waiting};
+ghost use Rattle.iscsi_target.specs.Execution.{data_in_parts, sequence_parts, data_in_head, data_ins, command_answers, execute};
+ghost use Rattle.iscsi_target.specs.Command.{order_of, breaks_burst_rules, scsi_command};
+ghost use Rattle.iscsi_target.specs.Crash.{Crashes};
+ghost use Rattle.iscsi_target.specs.Inside.{Handles, TakePlaces, moment, store_of};
+
+use super::Machine;
+use crate::scsi_response::{append_response, response_head};
+use iscsi_login::{Answered, NegKey};
+use iscsi_pdu::rule::DATA_OUT_OF_ORDER;
+use iscsi_pdu::{DataIn, Head, RESERVED_TAG, ScsiCommand};
+use iscsi_stream::write_pdu;
+use iscsi_target_session::Received;
+use scsi_disk::{BlockStore, Order, Outcome, Plan, execute_planned, plan};
+use std::alloc::AllocError;
+
+impl Machine {
+    // A SCSI Command that is the first task. Answers the rule that is broken, if one is.
+    pub(super) fn scsi_command<S: BlockStore>(
+        &mut self,
+        command: &ScsiCommand,
+        bytes: &[u8],
+        received: &Received<'_>,
+        store: &mut S,
+        out: &mut Vec<u8>,
+    ) -> Result<Option<u8>, AllocError>
+        requires places { TakePlaces self.old.tasks }
+        requires room { length self.old.tasks < 9 }
+        ensures handles { Handles (λ device. scsi_command device self.old (S.disk store.old)
+            received.now command.now bytes.now) result
+            (moment self.old (store_of (S.disk store.old) (S.failures store.old)) out.old.items)
+            (moment self.new (store_of (S.disk store.new) (S.failures store.new)) out.new.items) }
+        ensures crash { Crashes ((order_of command.now, bytes.now) ∷ [])
+            (S.disk store.old) (S.disk store.new) (S.kept store.old) (S.kept store.new) }
+    {
+        if self.breaks_burst_rules(command, bytes.len()) {
+            return self.breach(DATA_OUT_OF_ORDER, received, out);
+        }
+        let order = order_of(command);
+        let planned = plan(&order, store.blocks());
+        match planned {
+            Plan::Take(total) => self.open(command, total, bytes, store, out),
+            Plan::Refuse(_) | Plan::Give(_) => {
+                self.execute_order(command.initiator_task_tag, order, planned, store, out)
+            }
+        }
+    }
+
+    // Whether a command with so many immediate bytes breaks the rules of the first burst.
+    pub(super) fn breaks_burst_rules(&self, command: &ScsiCommand, len: usize) -> bool
+        ensures { result ≡ breaks_burst_rules self.now.session.held command.now len }
+    {
+        let unasked = command
+            .expected_data_transfer_length
+            .min(self.session.held().first_burst()) as usize;
+        let is_bad_segment = len > 0
+            && (!command.write || !self.is_on(NegKey::ImmediateData) || unasked < len);
+        let is_bad_announcement = command.write
+            && !command.is_final
+            && (self.is_on(NegKey::InitialR2T) || unasked <= len);
+        is_bad_segment || is_bad_announcement
+    }
+
+    // Whether the held value of the key is `Yes`.
+    fn is_on(&self, key: NegKey) -> bool
+        ensures { result ≡ is_on self.now.session.held key }
+    {
+        matches!(self.session.held().get(key), Answered::Flag(true))
+    }
+
+    // How many bytes the initiator takes in one segment.
+    pub(super) fn max_segment(&self) -> u32
+        ensures value { result ≡ self.now.session.held.initiator_max_recv }
+        ensures some { 512 ≤ result }
+        ensures short { result ≤ 16777215 }
+    {
+        self.session.held().initiator_max_recv
+    }
+
+    // How many bytes of data go one after another, at least 512.
+    pub(super) fn max_burst(&self) -> u32
+        ensures value { result ≡ max_burst self.now.session.held }
+        ensures some { 512 ≤ result }
+    {
+        match self.session.held().get(NegKey::MaxBurstLength) {
+            Answered::Number(bytes) => bytes,
+            Answered::Flag(_) | Answered::NoneItem | Answered::Reject => 0,
+        }
+    }
+
+    // How many bytes may come unasked.
+    pub(super) fn first_burst(&self) -> u32
+        ensures { result ≡ first_burst self.now.session.held }
+    {
+        self.session.held().first_burst()
+    }
+
+    // Executes an order that takes no data, by its plan: its data go out, and its response.
+    fn execute_order<S: BlockStore>(
+        &mut self,
+        tag: u32,
+        order: Order,
+        planned: Plan,
+        store: &mut S,
+        out: &mut Vec<u8>,
+    ) -> Result<Option<u8>, AllocError>
+        requires planned { planned ≡ plan_of order (S.disk store.old).count }
+        requires gives { (n : ℕ) → plan_of order (S.disk store.old).count ≢ Plan.Take n }
+        ensures handles { Handles
+            (λ device. execute device self.old (S.disk store.old) tag order []) result
+            (moment self.old (store_of (S.disk store.old) (S.failures store.old)) out.old.items)
+            (moment self.new (store_of (S.disk store.new) (S.failures store.new)) out.new.items) }
+        ensures crash { Crashes []
+            (S.disk store.old) (S.disk store.new) (S.kept store.old) (S.kept store.new) }
+    {
+        if let Some(range) = self.blocks_to_send(&order, planned) {
+            return self.execute_read(tag, &order, range, store, out);
+        }
+        let outcome = execute_planned(*out.allocator(), &order, planned, &[], store)?;
+        self.send_outcome(tag, &outcome, out)?;
+        self.count();
+        Ok(None)
+    }
+
+    // The data of an outcome, and the response.
+    fn send_outcome(&self, tag: u32, outcome: &Outcome, out: &mut Vec<u8>) -> Result<(), AllocError>
+        requires { length outcome.now.bytes < 2 ^ 32 }
+        ensures ok { OnOk result (out.new.items ≡ out.old.items ++ canon
+            (command_answers self.now.session (waiting self.now.tasks) tag outcome.now (data_in_parts self.now.session.held outcome.now.bytes))) }
+        ensures err { OnErr result (out.new.items ≡ out.old.items) }
+    {
+        let start = out.len();
+        let sent = self.append_outcome(tag, outcome, out);
+        if sent.is_err() {
+            out.truncate(start);
+        }
+        sent
+    }
+
+    // The same, but a front may stand where memory ran out.
+    fn append_outcome(
+        &self,
+        tag: u32,
+        outcome: &Outcome,
+        out: &mut Vec<u8>,
+    ) -> Result<(), AllocError>
+        requires { length outcome.now.bytes < 2 ^ 32 }
+        ensures ok { OnOk result (out.new.items ≡ out.old.items ++ canon
+            (command_answers self.now.session (waiting self.now.tasks) tag outcome.now (data_in_parts self.now.session.held outcome.now.bytes))) }
+        ensures front { take (length out.old.items) out.new.items ≡ out.old.items }
+    {
+        let count = self.send_data_in(tag, outcome.bytes.as_slice(), out)?;
+        let head = response_head(self.numbers(), tag, outcome, count);
+        append_response(&head, outcome.sense, out)
+    }
+}
+
+// What a command orders of the disk.
+pub(super) fn order_of(command: &ScsiCommand) -> Order
+    ensures { result ≡ order_of command.now }
+{
+    Order {
+        cdb: command.cdb,
+        lun: command.lun,
+        read: command.read,
+        write: command.write,
+        expected: command.expected_data_transfer_length,
+    }
+}
