@@ -6,8 +6,9 @@
 It takes an idle machine. What is measured side by side goes in turn, N rounds of it (5 if not said); the table has the
 median of each, and the least and the most. WORD is one of serve, normalise, show, texts, compare.
 
-serve      commands a second of speed.c (libiscsi) over `serve` and over tgtd on a file in memory, by size, with 1 and
-           8 outstanding; and microseconds of processor time that the target takes for a command
+serve      commands a second of speed.c (libiscsi) over `serve`, over tgtd on a file in memory and over floor.c, a target
+           without a disk that keeps to the same rules of the protocol, by size, with 1 and 8 outstanding; and
+           microseconds of processor time that the target and the client take for a command
 normalise  megabytes a second of 64 MiB from a file, in segments of 8 KiB and in PDUs of 48 bytes, beside `dd` with reads
            of as many bytes as the program's
 show       lines a second, beside those of tshark for as many packets of the same PDUs
@@ -87,6 +88,8 @@ def table(title, head, lines):
 class Lanthovur:
     """`serve`, for so many connections one after another."""
 
+    title = "`serve`"
+
     def __init__(self, room, sessions):
         port = free_port()
         words = ["serve", "--port", str(port), "--blocks", str(BLOCKS), "--sessions", str(sessions)]
@@ -100,8 +103,27 @@ class Lanthovur:
         self.process.wait()
 
 
+class Floor:
+    """floor.c: what the system, the client and the protocol take."""
+
+    title = "floor"
+
+    def __init__(self, room, sessions):
+        port = free_port()
+        self.process = subprocess.Popen([compiled(room, "floor"), str(port)], stdout=subprocess.PIPE)
+        assert self.process.stdout.readline() == b"listening\n"
+        self.url = f"iscsi://127.0.0.1:{port}/{NAME}/0"
+        self.pid = self.process.pid
+
+    def end(self):
+        self.process.kill()
+        self.process.wait()
+
+
 class Tgt:
     """tgtd, over a file in memory."""
+
+    title = "tgt"
 
     def __init__(self, room, sessions):
         port, control = free_port(), str(os.getpid() % 30000)
@@ -131,39 +153,55 @@ class Tgt:
 
 
 def serve_once(client, target, size, depth, seconds):
-    """Commands a second of reads and of writes, and microseconds of the target's processor time for a command."""
-    before, began = processor(target.pid), time.monotonic()
+    """Commands a second of reads and of writes, and microseconds of processor time for a command, of the target's and of
+    the client's."""
+    before, spent = processor(target.pid), resource.getrusage(resource.RUSAGE_CHILDREN)
     ran = subprocess.run([client, target.url, str(size), str(seconds), str(depth)], check=True, capture_output=True, text=True)
-    rates = {kind: float(rate) for kind, rate in re.findall(r"^(read|write) .*: (\d+) IOPS", ran.stdout, re.M)}
-    done = DISK / size + (rates["read"] + rates["write"]) * seconds
-    return rates["read"], rates["write"], (processor(target.pid) - before) / done * 1e6
+    after, rates = resource.getrusage(resource.RUSAGE_CHILDREN), {}
+    for kind, rate in re.findall(r"^(read|write) .*: (\d+) IOPS", ran.stdout, re.M):
+        rates[kind] = float(rate)
+    each = 1e6 / (DISK / size + (rates["read"] + rates["write"]) * seconds)
+    own = after.ru_utime + after.ru_stime - spent.ru_utime - spent.ru_stime
+    return rates["read"], rates["write"], (processor(target.pid) - before) * each, own * each
+
+
+def compiled(room, name, *libraries):
+    """A program of this folder, or nothing where it can't be compiled."""
+    words = ["cc", "-O2", "-o", f"{room}/{name}", f"{HERE}/{name}.c", *libraries]
+    if missing("cc") or subprocess.run(words, capture_output=True).returncode:
+        return None
+    return f"{room}/{name}"
 
 
 def serve(room, rounds, seconds):
-    client = f"{room}/speed"
-    if missing("cc") or subprocess.run(["cc", "-O2", "-o", client, f"{HERE}/speed.c", "-liscsi"], capture_output=True).returncode:
+    client = compiled(room, "speed", "-liscsi")
+    if not client:
         return print("\nserve: left out, since libiscsi-dev or cc is not installed")
-    kinds = [Lanthovur] + ([] if missing("tgtd", "tgtadm") else [Tgt])
-    if len(kinds) == 1:
+    kinds = [Lanthovur, Floor] + ([] if missing("tgtd", "tgtadm") else [Tgt])
+    if len(kinds) == 2:
         print("\nserve: tgt is not installed")
     targets = [kind(room, rounds * len(SIZES) * 2) for kind in kinds]
+    measured = (("reads", 0), ("writes", 0), ("µs a command", 1), ("µs of the client", 1))
     lines = []
     try:
         for depth in (1, 8):
             for size in SIZES:
-                rows = [[Row(what) for what in ("read", "write", "processor")] for _ in targets]
+                rows = [[Row(what) for what, _ in measured] for _ in targets]
                 for _ in range(rounds):
                     for target, row in zip(targets, rows):
                         for cell, value in zip(row, serve_once(client, target, size, depth, seconds)):
                             cell.values.append(value)
-                for place, what in enumerate(("reads", "writes", "µs a command")):
-                    cells = [row[place].text(1 if place == 2 else 0) for row in rows]
-                    ratio = f"{rows[0][place].median / rows[1][place].median:.2f}" if len(rows) == 2 else ""
-                    lines.append([f"{size // 1024} KiB, {depth} outstanding: {what}", *cells, ratio])
+                for place, (what, digits) in enumerate(measured):
+                    cells = [row[place] for row in rows]
+                    ratios = [f"{cell.median / cells[-1].median:.2f}" for cell in cells[:-1] if len(kinds) == 3]
+                    name = f"{size // 1024} KiB, {depth} outstanding: {what}"
+                    lines.append([name, *(cell.text(digits) for cell in cells), *ratios])
     finally:
         for target in targets:
             target.end()
-    table("Commands a second over a socket", ["", "`serve`", "tgt"[: 3 * (len(kinds) - 1)], "Ratio"], lines)
+    titles = [kind.title for kind in kinds]
+    ratios = [f"{title} / tgt" for title in titles[:-1] if len(kinds) == 3]
+    table("Commands a second over a socket", ["", *titles, *ratios], lines)
 
 
 # ---- streams
