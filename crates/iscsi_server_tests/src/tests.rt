@@ -2,10 +2,9 @@
 //! has turns until the answers are there. PDUs are worked out by hand from the tables of RFC 7143,
 //! section 11.
 
-use iscsi_examples::pdus_of;
+use iscsi_examples::{PING, pdus_of, same};
 use iscsi_server::{Limits, Options, Server};
 use scsi_disk::SparseStore;
-use std::fmt::Debug;
 use std::io::{ErrorKind, Read, Write};
 use std::net::{IpAddr, Ipv4Addr, TcpStream};
 use std::process::Abort;
@@ -61,17 +60,8 @@ const LOGOUT_AT_ONCE: &str =
 const LEFT_AT_ONCE: &str =
     "26800000 00000000 00000000 00000000 00000002 00000000 00000002 00000001 00000008 00000000 00000000 00000000";
 
-// A ping before any login.
-const PING: &str =
-    "40800000 00000000 00000000 00000000 00000001 ffffffff 00000001 00000003 00000000 00000000 00000000 00000000";
-
 /// What clients do one after another: the client, its requests, the answers.
 type Rows<'a> = &'a [(usize, &'static str, &'static str)];
-
-// Asserts that a value is the one that is due, in a row of which this tells.
-fn same<T: PartialEq + Debug>(rt: &impl Abort, value: &T, due: &T, row: &impl Debug) {
-    assert_eq!(rt; *value, *due, "{row:?}");
-}
 
 // A disk of eight blocks for so many sessions, some at a time, each of which may be silent for so
 // many seconds.

@@ -4,16 +4,16 @@
 
 mod carrier;
 mod command;
+mod fault;
 mod loop_script;
 mod report;
 mod script;
-mod fault;
 mod serving;
 mod session;
 mod socket_pair;
 
 pub use carrier::{Carrier, Channel};
-pub use loop_script::{LONGEST_PIECE, run_loop, run_over};
 pub use fault::ServeFault;
+pub use loop_script::{LONGEST_PIECE, run_loop, run_over};
 pub use serving::{serve, serve_one};
 pub use session::{SessionFault, configuration, serve_stream};

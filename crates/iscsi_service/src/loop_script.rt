@@ -20,9 +20,9 @@ ghost use Rattle.iscsi_service.specs.LoopSteps.{Continues, Fails, IsOfSession, R
 
 use crate::carrier::Carrier;
 use crate::command::Command;
+use crate::fault::ServeFault;
 use crate::report::report;
 use crate::script::read_script;
-use crate::fault::ServeFault;
 use crate::session::{FIRST_STAT_SN, TARGET_NAME, configuration};
 use crate::socket_pair::Wire;
 use iscsi_initiator::{Config, Done, Initiator, InitiatorFault, SubmitFault};

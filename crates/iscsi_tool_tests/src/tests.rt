@@ -9,13 +9,12 @@ mod words;
 
 ghost use Rattle.iscsi_tool.specs.Filtering.{HasDisk};
 
-use iscsi_examples::{Broken, Full};
+use iscsi_examples::{Broken, Full, same};
 use iscsi_pdu::HeadFault;
 use iscsi_stream::{StreamFault, ToolFault};
 use iscsi_text::TextFault;
 use iscsi_tool::{Filter, Work, run_filter, status};
 use std::alloc::{AllocError, Global};
-use std::fmt::Debug;
 use std::io;
 use std::io::{Read, Write};
 use std::process::Abort;
@@ -70,11 +69,6 @@ const PING_BYTES: &[u8] =
 const CANONICAL_PING_BYTES: &[u8] =
     b"\x40\x80\0\0\0\0\0\x03\0\0\0\0\0\0\0\0\0\0\0\x01\xff\xff\xff\xff\
     \0\0\0\x05\0\0\0\x02\0\0\0\0\0\0\0\0\0\0\0\0\0\0\0\0abc\0";
-
-// Asserts that a value is the one that is due, in a row of which this tells.
-fn same<T: PartialEq + Debug>(rt: &impl Abort, value: &T, due: &T, row: &impl Debug) {
-    assert_eq!(rt; *value, *due, "{row:?}");
-}
 
 // One of the constants above, which need no disk: `answer` has rows of its own.
 fn diskless(filter: Filter) -> Filter

@@ -1,7 +1,6 @@
 //! Sessions over sockets: a connection to a listener of the test's own.
 
-use super::{CUT, FIRST_ANSWER, NAMELESS, PING, REFUSAL, same};
-use iscsi_examples::pdus_of;
+use iscsi_examples::{CUT, FIRST_ANSWER, NAMELESS, PING, REFUSAL, pdus_of, same};
 use iscsi_initiator::InitiatorFault;
 use iscsi_service::{ServeFault, configuration, serve, serve_one};
 use iscsi_stream::StreamFault;

@@ -1,7 +1,6 @@
 //! Sessions of a target over a reader and a writer, and those that fail.
 
-use super::{CUT, FIRST_ANSWER, NAMELESS, PING, REFUSAL, same};
-use iscsi_examples::{Broken, Full, pdus_of};
+use iscsi_examples::{Broken, CUT, FIRST_ANSWER, Full, NAMELESS, PING, REFUSAL, pdus_of, same};
 use iscsi_service::{SessionFault, configuration, serve_stream};
 use iscsi_stream::StreamFault;
 use iscsi_target::TargetFault;

@@ -2,21 +2,12 @@
 //! each PDU, with its header in hex and, behind an apostrophe, the text of its segment, in which
 //! `|` stands for a byte 00; `5a*512` are 512 bytes of 5a. The padding is left out.
 
-use super::same;
-use iscsi_examples::{Broken, Full, pdus_of};
+use iscsi_examples::{Broken, CUT, FIRST_ANSWER, Full, NAMELESS, PING, REFUSAL, pdus_of, same};
 use iscsi_stream::{StreamFault, ToolFault};
 use iscsi_tool::{Filter, Work, run_filter};
 use std::alloc::Global;
 use std::process::Abort;
 use std::test::Fail;
-
-// The first request of a login, and the first bytes of another.
-const CUT: &str =
-    "43810000 0000006e 40000001 00000000 00000000 00000000 00000001 00000000 00000000 00000000 00000000 00000000 'AuthMethod=None|InitiatorName=iqn.2026-01.example:host|SessionType=Normal|TargetName=iqn.2026-01.example:disk|\n\
-    4387";
-
-const FIRST_ANSWER: &str =
-    "23810000 00000027 40000001 00000000 00000000 00000000 00000001 00000001 00000008 00000000 00000000 00000000 'AuthMethod=None|TargetPortalGroupTag=1|";
 
 // A login.
 pub const LOGIN: &str =
@@ -30,17 +21,6 @@ pub const LOGGED_IN: &str =
 // The answer to a ping behind the login.
 pub const PONG: &str =
     "20800000 00000000 00000000 00000000 00000001 ffffffff 00000003 00000001 00000008 00000000 00000000 00000000";
-
-// A first request without the initiator's name, and a ping.
-const NAMELESS: &str =
-    "43810000 00000047 40000001 00000000 00000000 00000000 00000001 00000000 00000000 00000000 00000000 00000000 'AuthMethod=None|SessionType=Normal|TargetName=iqn.2026-01.example:disk|\n\
-    40800000 00000000 00000000 00000000 00000001 ffffffff 00000001 00000003 00000000 00000000 00000000 00000000";
-
-const REFUSAL: &str =
-    "23000000 00000000 40000001 00000000 00000000 00000000 00000000 00000001 00000008 02070000 00000000 00000000";
-
-pub const PING: &str =
-    "40800000 00000000 00000000 00000000 00000001 ffffffff 00000001 00000003 00000000 00000000 00000000 00000000";
 
 // A write that takes its data, and a read behind it.
 const BEHIND: &str =

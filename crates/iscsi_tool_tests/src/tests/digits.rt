@@ -1,7 +1,7 @@
 //! Answers as hex text, which are written as they come.
 
-use super::answers::{LOGGED_IN, LOGIN, PING, PONG, bytes_of, line_of};
-use super::same;
+use super::answers::{LOGGED_IN, LOGIN, PONG, bytes_of, line_of};
+use iscsi_examples::{PING, same};
 use iscsi_stream::ToolFault;
 use iscsi_tool::{Filter, Work, run_filter};
 use std::alloc::Global;

@@ -1,7 +1,8 @@
 //! A captured session of `iscsi-inq` of libiscsi with the target `tgtd`; how it was made stands in
 //! `docs/session`.
 
-use super::{NORMALISE_HEX, SHOW_HEX, run, same};
+use super::{NORMALISE_HEX, SHOW_HEX, run};
+use iscsi_examples::same;
 use std::alloc::{AllocError, Global};
 use std::test::Fail;
 

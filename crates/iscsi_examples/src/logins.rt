@@ -1,0 +1,24 @@
+//! First requests of a login, and what the target of the programs answers: worked out by hand from
+//! RFC 7143, section 11, a line for each PDU.
+
+/// The first request of a login, and the first bytes of another.
+pub const CUT: &str =
+    "43810000 0000006e 40000001 00000000 00000000 00000000 00000001 00000000 00000000 00000000 00000000 00000000 'AuthMethod=None|InitiatorName=iqn.2026-01.example:host|SessionType=Normal|TargetName=iqn.2026-01.example:disk|\n\
+    4387";
+
+/// The answer to that request, by the target of the programs.
+pub const FIRST_ANSWER: &str =
+    "23810000 00000027 40000001 00000000 00000000 00000000 00000001 00000001 00000008 00000000 00000000 00000000 'AuthMethod=None|TargetPortalGroupTag=1|";
+
+/// A first request without the initiator's name, and a ping.
+pub const NAMELESS: &str =
+    "43810000 00000047 40000001 00000000 00000000 00000000 00000001 00000000 00000000 00000000 00000000 00000000 'AuthMethod=None|SessionType=Normal|TargetName=iqn.2026-01.example:disk|\n\
+    40800000 00000000 00000000 00000000 00000001 ffffffff 00000001 00000003 00000000 00000000 00000000 00000000";
+
+/// The answer to that request: the login is refused.
+pub const REFUSAL: &str =
+    "23000000 00000000 40000001 00000000 00000000 00000000 00000000 00000001 00000008 02070000 00000000 00000000";
+
+/// A ping: the first command behind a login in two requests.
+pub const PING: &str =
+    "40800000 00000000 00000000 00000000 00000001 ffffffff 00000001 00000003 00000000 00000000 00000000 00000000";
