@@ -2,9 +2,10 @@
 //! 7143, section 11; the last rows are of a session that was captured twice. Long, since it has a table
 //! of 40 rows.
 
+use crate::asserts::same;
 use iscsi_compare::same_job::compare_jobs;
 use iscsi_compare::{CompareFault, Verdict, Which};
-use iscsi_examples::{Source, Steps, marked, same};
+use iscsi_examples::{Source, Steps, marked};
 use std::alloc::Global;
 use std::process::Abort;
 

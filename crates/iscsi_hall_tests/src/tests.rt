@@ -1,7 +1,8 @@
 //! Several sessions over one disk. Their PDUs are those of a worked session, or worked out by hand
 //! from the tables of RFC 7143, section 11.
 
-use iscsi_examples::{LineFault, SESSION, marked, same};
+use crate::asserts::same;
+use iscsi_examples::{LineFault, SESSION, marked};
 use iscsi_hall::{Hall, MOST_READ};
 use iscsi_login::{Phase, Preferences};
 use iscsi_target::{Config, TargetFault};

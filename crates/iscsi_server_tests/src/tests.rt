@@ -2,7 +2,8 @@
 //! has turns until the answers are there. PDUs are worked out by hand from the tables of RFC 7143,
 //! section 11.
 
-use iscsi_examples::{PING, pdus_of, same};
+use crate::asserts::same;
+use iscsi_examples::{PING, pdus_of};
 use iscsi_server::{Limits, Options, Server};
 use scsi_disk::SparseStore;
 use std::io::{ErrorKind, Read, Write};

@@ -9,7 +9,8 @@ mod words;
 
 ghost use Rattle.iscsi_tool.specs.Filtering.{HasDisk};
 
-use iscsi_examples::{Broken, Full, same};
+use crate::asserts::same;
+use iscsi_examples::{Broken, Full};
 use iscsi_pdu::HeadFault;
 use iscsi_stream::{StreamFault, ToolFault};
 use iscsi_text::TextFault;

@@ -1,8 +1,8 @@
 //! Each bit of a header of each kind: a free one changes nothing, and any other the meaning.
 
 use super::{bytes_of, compared};
+use crate::asserts::same;
 use iscsi_compare::Verdict;
-use iscsi_examples::same;
 use std::alloc::Global;
 use std::process::Abort;
 

@@ -2,8 +2,9 @@
 
 use super::worked::{CANONICAL, RAW};
 use super::{bytes_of, compared, read_bytes};
+use crate::asserts::same;
 use iscsi_compare::{CompareFault, Verdict, Which, compare};
-use iscsi_examples::{SURE, Source, Steps, same};
+use iscsi_examples::{SURE, Source, Steps};
 use std::alloc::Global;
 use std::process::Abort;
 

@@ -1,8 +1,9 @@
 //! Worked streams: against their canonical streams, against each other, and with a PDU more or less.
 
 use super::{bytes_of, compared};
+use crate::asserts::{same, same_bytes};
 use iscsi_compare::{CompareFault, Verdict, Which, compare};
-use iscsi_examples::{SURE, Source, Steps, same, same_bytes};
+use iscsi_examples::{SURE, Source, Steps};
 use iscsi_pdu::HeadFault;
 use iscsi_stream::StreamFault;
 use std::alloc::Global;

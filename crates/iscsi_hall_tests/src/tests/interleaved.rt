@@ -4,7 +4,8 @@ use super::{
     LOGIN, LOGOUT, PING, READ, Room, WRITE, check_phase, config, pdus_at, pdus_in, play, play_part,
     read_piece, read_pieces, room_of,
 };
-use iscsi_examples::{SESSION, same};
+use crate::asserts::same;
+use iscsi_examples::SESSION;
 use iscsi_login::Phase;
 use iscsi_pdu::HeadFault;
 use iscsi_stream::StreamFault;

@@ -2,7 +2,8 @@
 
 use super::interleaved::{FIRST_READ, FIRST_READ_OF_44};
 use super::{LOGIN, Room, Trouble, check_phase, full_room, part, read_pieces};
-use iscsi_examples::{marked, same_bytes};
+use crate::asserts::same_bytes;
+use iscsi_examples::marked;
 use iscsi_login::Phase;
 use std::alloc::Global;
 use std::process::Abort;

@@ -4,7 +4,7 @@ use super::{
     LOGIN, PING, Room, check_phase, config, pdus_at, pdus_in, play_part, read_into, read_piece,
     room_of, write_out,
 };
-use iscsi_examples::same;
+use crate::asserts::same;
 use iscsi_login::Phase;
 use iscsi_stream::StreamFault;
 use iscsi_target::TargetFault;

@@ -1,7 +1,7 @@
 //! A session that takes the place of an older one, as RFC 7143, section 6.3.5, has it.
 
 use super::{LOGIN, Room, check_phase, pdus_in, read_pieces, room_of};
-use iscsi_examples::same;
+use crate::asserts::same;
 use iscsi_login::Phase;
 use std::alloc::Global;
 use std::process::Abort;

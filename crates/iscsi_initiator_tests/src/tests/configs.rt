@@ -1,6 +1,6 @@
 //! What an initiator may be configured with.
 
-use iscsi_examples::same;
+use crate::asserts::same;
 use iscsi_initiator::Config;
 use iscsi_login::{Auth, ConfigFault, Offers, Preferences, Session, Stage};
 use std::alloc::Global;

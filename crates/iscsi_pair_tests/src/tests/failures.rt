@@ -1,7 +1,7 @@
 //! Requests that come at the wrong time, and what a failed end does.
 
 use super::{Schedule, deliver, pair_of, submit};
-use iscsi_examples::same;
+use crate::asserts::same;
 use iscsi_initiator::{Request, SubmitFault};
 use iscsi_login::Stage;
 use iscsi_pair::{EndFault, Pair, Step};

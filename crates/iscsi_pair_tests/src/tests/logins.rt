@@ -1,7 +1,7 @@
 //! Logins of a pair.
 
 use super::{Schedule, deliver, pair_of};
-use iscsi_examples::same;
+use crate::asserts::same;
 use iscsi_initiator::InitiatorFault;
 use iscsi_login::{Answered, NegKey, Phase, Stage};
 use iscsi_pair::{EndFault, Pair};

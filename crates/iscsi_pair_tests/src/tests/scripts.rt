@@ -1,8 +1,9 @@
 //! Commands over every kind of schedule.
 
 use super::{Schedule, deliver, logins, pair_of, submit};
+use crate::asserts::same;
 use hex::encode;
-use iscsi_examples::{same, segment_of};
+use iscsi_examples::segment_of;
 use iscsi_initiator::{Done, Request};
 use iscsi_pair::Pair;
 use scsi_cdb::{Bytes, Residual};

@@ -1,7 +1,8 @@
 //! Loops of both ends over a socket and in memory: scripts, and the lines that they write. One
 //! file, since it is tables of scripts and what runs them.
 
-use iscsi_examples::{Broken, Full, same};
+use crate::asserts::same;
+use iscsi_examples::{Broken, Full};
 use iscsi_service::{Channel, LONGEST_PIECE, ServeFault, run_loop, run_over};
 use scsi_disk::MOST_BLOCKS;
 use std::alloc::{AllocError, Global};

@@ -1,6 +1,7 @@
 //! Sessions over sockets: a connection to a listener of the test's own.
 
-use iscsi_examples::{CUT, FIRST_ANSWER, NAMELESS, PING, REFUSAL, pdus_of, same};
+use crate::asserts::same;
+use iscsi_examples::{CUT, FIRST_ANSWER, NAMELESS, PING, REFUSAL, pdus_of};
 use iscsi_initiator::InitiatorFault;
 use iscsi_service::{ServeFault, configuration, serve, serve_one};
 use iscsi_stream::StreamFault;

@@ -1,6 +1,7 @@
 //! Sessions of a target over a reader and a writer, and those that fail.
 
-use iscsi_examples::{Broken, CUT, FIRST_ANSWER, Full, NAMELESS, PING, REFUSAL, pdus_of, same};
+use crate::asserts::same;
+use iscsi_examples::{Broken, CUT, FIRST_ANSWER, Full, NAMELESS, PING, REFUSAL, pdus_of};
 use iscsi_service::{SessionFault, configuration, serve_stream};
 use iscsi_stream::StreamFault;
 use iscsi_target::TargetFault;

@@ -1,7 +1,8 @@
 //! Sessions over a medium that may fail and crash: no answer leaves before what it says lasts, and
 //! one sync serves all answers that leave together.
 
-use iscsi_examples::{Full, append_pdu, pdus_of, same};
+use crate::asserts::same;
+use iscsi_examples::{Full, append_pdu, pdus_of};
 use iscsi_service::{SessionFault, configuration, serve_stream};
 use scsi_file::{CrashMemory, FileStore, StopsAt};
 use std::alloc::{AllocError, Global};

@@ -3,7 +3,8 @@
 use super::rows::{NOP_OUT, Row, lines_of, row_of, rows};
 use super::runs::run_with;
 use super::{came_of, written_of};
-use iscsi_examples::{SURE, Sink, Steps, same, same_bytes};
+use crate::asserts::{same, same_bytes};
+use iscsi_examples::{SURE, Sink, Steps};
 use iscsi_stream::{ToolFault, write_fully};
 use std::alloc::Global;
 use std::process::Abort;

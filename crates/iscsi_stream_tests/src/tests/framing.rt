@@ -6,7 +6,7 @@
 
 use super::came_of;
 use super::rows::{LOGIN_IN_THREE, MIXED_REQUESTS, NOP_OUT, lines_of};
-use iscsi_examples::{same, same_debug};
+use crate::asserts::{same, same_debug};
 use iscsi_stream::{Framer, Logins};
 use std::alloc::Global;
 use std::process::Abort;

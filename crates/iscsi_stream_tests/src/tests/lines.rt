@@ -3,7 +3,8 @@
 use super::rows::{NOP_OUT, lines_of, parts_of};
 use super::runs::run_with;
 use super::{came_of, written_of};
-use iscsi_examples::{SURE, bytes_of, same, same_bytes};
+use crate::asserts::{same, same_bytes};
+use iscsi_examples::{SURE, bytes_of};
 use iscsi_stream::{Counts, Framer, StreamFault, ToolFault, canonical_head, show_line};
 use std::alloc::Global;
 use std::process::Abort;

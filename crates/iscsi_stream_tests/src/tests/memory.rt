@@ -1,7 +1,8 @@
 //! Memory that is refused, for `rt try --test --fail-alloc`: nothing but its want may come in place of an answer.
 
 use super::rows::{NOP_OUT, lines_of};
-use iscsi_examples::{marked, same, same_bytes};
+use crate::asserts::{same, same_bytes};
+use iscsi_examples::marked;
 use iscsi_stream::{Framer, StreamFault, ToolFault, canonical, show, show_line};
 use std::alloc::Global;
 use std::process::Abort;

@@ -3,7 +3,8 @@
 use super::rows::{LOGIN_REQUEST, NOP_OUT, Row, WRITE_COMMAND, lines_of, parts_of, row_of, rows};
 use super::runs::run_with;
 use super::{came_of, feed_piece, normal_of, written_of};
-use iscsi_examples::{SURE, Steps, same, same_bytes, same_text};
+use crate::asserts::{same, same_bytes, same_text};
+use iscsi_examples::{SURE, Steps};
 use iscsi_stream::{Counts, Framer, StreamFault, ToolFault};
 use std::alloc::Global;
 use std::process::Abort;

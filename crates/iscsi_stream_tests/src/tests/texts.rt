@@ -1,6 +1,7 @@
 //! One text from a reader to a writer.
 
-use iscsi_examples::{SURE, Sink, Source, same, same_debug, same_text, segment_of};
+use crate::asserts::{same, same_debug, same_text};
+use iscsi_examples::{SURE, Sink, Source, segment_of};
 use iscsi_stream::{ToolFault, normalise_text};
 use std::alloc::Global;
 use std::process::Abort;

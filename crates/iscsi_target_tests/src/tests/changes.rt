@@ -1,7 +1,7 @@
 //! A PDU and its canonical form are answered alike, also where a byte of its header is another one.
 
 use super::{pdu_of, target_of};
-use iscsi_examples::same;
+use crate::asserts::same;
 use iscsi_login::Phase;
 use iscsi_stream::normalise;
 use iscsi_target::TargetFault;

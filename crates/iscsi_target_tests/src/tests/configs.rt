@@ -1,6 +1,6 @@
 //! What a target may be configured with.
 
-use iscsi_examples::same;
+use crate::asserts::same;
 use iscsi_login::{ConfigFault, Preferences};
 use iscsi_target::Config;
 use std::alloc::Global;

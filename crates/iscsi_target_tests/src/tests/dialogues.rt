@@ -6,7 +6,8 @@ use super::queues::{
 };
 use super::rows::{Dialogue, FAILING, FAILING_PARTS, LOGIN, LOGINS, LONG, REQUESTS, SHORT, WRITES};
 use super::{BY_PDU, feed_pieces, pdu_of, target_of, target_with};
-use iscsi_examples::{SESSION, append_pdu, same};
+use crate::asserts::same;
+use iscsi_examples::{SESSION, append_pdu};
 use iscsi_login::{Phase, Preferences, Session, Stage};
 use iscsi_stream::StreamFault;
 use iscsi_target::{Target, TargetFault};

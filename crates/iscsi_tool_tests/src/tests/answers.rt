@@ -2,7 +2,8 @@
 //! each PDU, with its header in hex and, behind an apostrophe, the text of its segment, in which
 //! `|` stands for a byte 00; `5a*512` are 512 bytes of 5a. The padding is left out.
 
-use iscsi_examples::{Broken, CUT, FIRST_ANSWER, Full, NAMELESS, PING, REFUSAL, pdus_of, same};
+use crate::asserts::same;
+use iscsi_examples::{Broken, CUT, FIRST_ANSWER, Full, NAMELESS, PING, REFUSAL, pdus_of};
 use iscsi_stream::{StreamFault, ToolFault};
 use iscsi_tool::{Filter, Work, run_filter};
 use std::alloc::Global;

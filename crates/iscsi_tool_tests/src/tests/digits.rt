@@ -1,7 +1,8 @@
 //! Answers as hex text, which are written as they come.
 
 use super::answers::{LOGGED_IN, LOGIN, PONG, bytes_of, line_of};
-use iscsi_examples::{PING, same};
+use crate::asserts::same;
+use iscsi_examples::PING;
 use iscsi_stream::ToolFault;
 use iscsi_tool::{Filter, Work, run_filter};
 use std::alloc::Global;

@@ -1,6 +1,6 @@
 //! Images: how many blocks those that are opened or made have, and why others are not served.
 
-use iscsi_examples::same;
+use crate::asserts::same;
 use iscsi_tool::{Image, ImageFault, Origin};
 use scsi_disk::BlockStore;
 use scsi_file::OpenFault;

@@ -2,7 +2,7 @@
 //! `docs/session`.
 
 use super::{NORMALISE_HEX, SHOW_HEX, run};
-use iscsi_examples::same;
+use crate::asserts::same;
 use std::alloc::{AllocError, Global};
 use std::test::Fail;
 

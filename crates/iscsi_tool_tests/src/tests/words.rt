@@ -1,7 +1,7 @@
 //! Words of the command line: those that are a job, and those that are none. The file is long for its
 //! rows.
 
-use iscsi_examples::same;
+use crate::asserts::same;
 use iscsi_tool::{LineFault, read_words};
 use std::alloc::{AllocError, Global};
 use std::test::Fail;
