@@ -1,4 +1,4 @@
-//! What tests assert. Where it isn't so, the line that is named is the caller's.
+//! What tests assert. Where it isn't so, the row is told.
 
 use std::fmt::Debug;
 use std::process::Abort;
