@@ -1,4 +1,4 @@
--- Two runs of one job (own rule): what they number differently, and what is the same in both. A run
+-- Two runs of one job: what they number differently, and what is the same in both. A run
 -- chooses its task tags, transfer tags, ISID and TSIH, and where CmdSN and StatSN begin (RFC 7143,
 -- sections 4.2.2, 11.2.1.8, 11.7.4, 11.12.5 and 11.12.6). A table of 17 kinds.
 use Rattle.std.specs.Prelude.{◌≡◌, ℕ, ◌+◌, ◌%◌, ◌^◌, nat_lt, if◌then◌else◌, List, option_map, map}
@@ -14,7 +14,7 @@ pub record OneToOne (A : Type 0) : Type 0 where
   pub there : (name : A) → back (to name) ≡ name
   pub again : (name : A) → to (back name) ≡ name
 
--- a serial number so many steps on, round the circle of 2^32; a number of more bits, which no PDU
+-- a serial number n steps on, round the circle of 2^32; a number of more bits, which no PDU
 -- has, stays
 abbrev pub shifted : ℕ → ℕ → ℕ
 shifted steps number = if nat_lt number (2 ^ 32) then (number + steps) % 2 ^ 32 else number

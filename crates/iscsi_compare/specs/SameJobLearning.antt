@@ -35,7 +35,7 @@ pub record Joins {K : Type 0} (cmp : K → K → Ordering) (old there back : BTr
   pub sound : IsSound cmp there back
   pub learns : Learns (Carries cmp old) (Carries cmp there) Said answer
 
--- so many steps, as far as it is known
+-- n steps, as far as it is known
 abbrev pub IsSteps : Option ℕ → ℕ → Type 0
 IsSteps None steps = Unit {0}
 IsSteps (Some known) steps = steps % 2 ^ 32 ≡ known % 2 ^ 32

@@ -25,7 +25,7 @@ pub fn same_meaning()
 {}
 
 /// Of two streams of the profile, of which as much was read as was needed: a verdict says truly
-/// whether their meanings are one, and no fault of a stream is answered.
+/// whether their meanings are one, and no fault of a stream is returned.
 pub fn whole_streams()
     ensures same { (s t : List ℕ) (ms ns : List Message) (left other_left : Option (List ℕ))
         (first second : Input) → Gave (Some s) left first → Gave (Some t) other_left second

@@ -77,7 +77,7 @@ impl Side {
     /// Reads on until the next PDU is ready, and says whether there is one: where there is none,
     /// the stream has ended behind the PDUs before.
     ///
-    /// Answers `Stream` where the stream leaves the profile, `Read` where a read fails or
+    /// Returns `Stream` where the stream leaves the profile, `Read` where a read fails or
     /// 16,777,216 of them did not reach the next PDU, and `NoMemory` where there is no memory for
     /// its segment.
     pub(crate) fn advance<R: Read>(&mut self, r: &mut R) -> Result<bool, CompareFault>
@@ -114,7 +114,7 @@ impl Side {
     }
 
     /// Appends the line of the PDU that is ready, as `show` writes it, or a line that says that the
-    /// stream ends, and where. Answers `AllocError` where memory runs out.
+    /// stream ends, and where. Returns `AllocError` where memory runs out.
     pub(crate) fn write_line(&self, out: &mut Vec<u8>) -> Result<(), AllocError>
         ensures line { OnOk result ((line : List ℕ) × IsLine line
             × (out.new.items ≡ out.old.items ++ line)) }

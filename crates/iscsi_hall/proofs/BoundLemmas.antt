@@ -22,7 +22,7 @@ use Rattle.iscsi_stream.specs.Canonical.{canon}
 use Rattle.iscsi_login.specs.Held.{first_burst}
 use Rattle.iscsi_login.specs.Stage.{is_closed_phase}
 use Rattle.iscsi_target_session.specs.Session.{Session as SessionState, Reply}
-use Rattle.iscsi_target_session.specs.Rejecting.{breach, reject}
+use Rattle.iscsi_target_session.specs.Rejecting.{reject_and_close, reject}
 use Rattle.iscsi_target_session.specs.Login.{login_step}
 use Rattle.iscsi_target_session.proofs.CaseLemmas.{by_cases}
 use Rattle.iscsi_target.specs.Write.{Write}
@@ -317,13 +317,13 @@ parts_few device disk = record {
   nothing_ = λ s m c. record { keeps = λ h f. f; each = λ h f. omega arith };
   shut_ = λ s m. record { keeps = λ h f. no_few; each = λ h f. omega arith };
   reject_ = λ s reason m a. reply_at s m disk (reject s.session (waiting s.tasks) reason m);
-  breach_ = λ s rule m. reply_at s m disk (breach s.session (waiting s.tasks) rule m);
+  reject_and_close_ = λ s rule m. reply_at s m disk (reject_and_close s.session (waiting s.tasks) rule m);
   login_ = λ s m k. reply_at s m disk (login_step s.session m);
   taken_ = λ s m h w v k e t. turns_at s m [] (with_write v s.tasks) (done_in_turn device s.session disk (with_write v s.tasks))
       (λ c f. taken_few s m h w v e t f) (done_few device s.session disk (with_write v s.tasks));
   refused_ = λ s t m rule a x. record {
-    keeps = λ h f. left_few t.tasks (breach t.session (waiting t.tasks) rule m).session
-        (is_closed_phase (breach t.session (waiting t.tasks) rule m).session.phase) refl (subst AreFew (sym (still_tasks s t m x)) f);
+    keeps = λ h f. left_few t.tasks (reject_and_close t.session (waiting t.tasks) rule m).session
+        (is_closed_phase (reject_and_close t.session (waiting t.tasks) rule m).session.phase) refl (subst AreFew (sym (still_tasks s t m x)) f);
     each = λ h f. omega arith;
   };
   admitted_ = λ s t m a x b. turns_at s m (m ∷ []) (t.tasks ++ task_of disk.count m ∷ [])

@@ -13,7 +13,7 @@ use Rattle.iscsi_hall.specs.Seats.{Seat, Hall, phase_of, seat_at, waiting_at, wi
 use Rattle.iscsi_hall.specs.Turns.{Turn, IsFront, IsOwn, IsLeft, TakesTurn, answers_of, machines, machine_in}
 use Rattle.iscsi_hall.proofs.SeatLemmas.{some_within, changed_same, others_stay}
 
--- what a call did, as a turn of a seat with so many messages
+-- what a call did, as a turn of a seat with n messages
 record Acts (seat : ℕ) (old : Scene) (most : ℕ → Type 0) (new : Scene) : Type 0 where
   pub turn : Turn
   pub seat_is : turn.seat ≡ seat

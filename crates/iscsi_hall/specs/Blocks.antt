@@ -29,7 +29,7 @@ abbrev pub block_by : Plan → Order → List ℕ → ℕ → Option (List ℕ)
 block_by (Take length) order bytes n = block_in (transfer order.cdb).first bytes n
 block_by _ order bytes n = None
 
--- What a command writes to block n of a disk of so many blocks; none where it doesn't.
+-- What a command writes to block n, on a disk that has `count`; none where it doesn't.
 abbrev pub written_by : ℕ → Execution → ℕ → Option (List ℕ)
 written_by count e n = block_by (plan_of e.order count) e.order (data_of e.pieces) n
 

@@ -24,7 +24,7 @@ answers_over s disk (g ∷ gs) =
 abbrev pub messages_in : List Group → List Message
 messages_in gs = flat_map (λ g. g.1) gs
 
--- Each group met a disk of so many blocks.
+-- Each group met a disk of n blocks.
 abbrev pub HaveCount : ℕ → List Group → Type 0
 HaveCount count gs = AllByRecursion (λ g. g.0.count ≡ count) gs
 

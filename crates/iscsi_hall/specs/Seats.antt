@@ -36,12 +36,12 @@ phase_of s = s.connection.machine.session.phase
 abbrev pub is_idle : Seat → Bool
 is_idle s = length s.waiting == 0 && not (is_closed s.connection.machine)
 
--- More may be read: all that was read is taken, and all answers are written (own rule).
+-- More may be read: all that was read is taken, and all answers are written.
 abbrev pub may_read : Seat → Bool
 may_read s = is_idle s && length s.unfed == 0
 
 -- More answers may be gathered, to be written together: none waits, or they have less than 65,536
--- bytes and were not offered to the peer (own rule).
+-- bytes and were not offered to the peer.
 abbrev pub has_room : Seat → Bool
 has_room s = length s.waiting == 0 || (not s.offered && nat_lt (length s.waiting) 65536)
 
@@ -50,11 +50,11 @@ abbrev pub gathering : Seat → Seat
 gathering s = record s { offered = false }
 
 -- The next PDU may be taken: something that was read is not, the session goes on, and there is room
--- for answers (own rule).
+-- for answers.
 abbrev pub may_take : Seat → Bool
 may_take s = has_room s && not (is_closed s.connection.machine) && not (length s.unfed == 0)
 
--- The most bytes that are read at a time (own rule).
+-- The most bytes that are read at a time.
 abbrev pub most_read : ℕ
 most_read = 65_536
 
@@ -62,11 +62,11 @@ most_read = 65_536
 abbrev pub received : List ℕ → Seat → Seat
 received piece s = record s { unfed = piece }
 
--- The seat when its answers were offered, and so many bytes of them written.
+-- The seat when its answers were offered, and n bytes of them written.
 abbrev pub with_sent : ℕ → Seat → Seat
 with_sent count s = record s { waiting = drop count s.waiting; offered = true }
 
--- What is not taken behind a call that took so many bytes; behind a fault it is dropped.
+-- What is not taken behind a call that took `count` bytes; behind a fault it is dropped.
 abbrev pub left_of : Result ℕ TargetFault → List ℕ → List ℕ
 left_of (Ok count) unfed = drop count unfed
 left_of (Err fault) unfed = []
@@ -106,12 +106,12 @@ seat_at hall place = get_or hall.seats place None
 abbrev pub with_seat : Hall → ℕ → Option Seat → Hall
 with_seat hall place seat = record { seats = set hall.seats place seat }
 
--- Of a seat that may be free: more may be read there (own rule).
+-- Of a seat that may be free: more may be read there.
 abbrev pub may_read_at : Option Seat → Bool
 may_read_at None = false
 may_read_at (Some s) = may_read s
 
--- Of a seat that may be free: the next PDU may be taken there (own rule).
+-- Of a seat that may be free: the next PDU may be taken there.
 abbrev pub may_take_at : Option Seat → Bool
 may_take_at None = false
 may_take_at (Some s) = may_take s

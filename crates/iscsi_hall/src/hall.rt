@@ -41,7 +41,7 @@ impl Model for Hall {
 }
 
 impl Hall {
-    /// So many seats, all free. The error is that memory ran out.
+    /// `n` seats, all free. The error is that memory ran out.
     pub fn new(alloc: Global, seats: usize) -> Result<Hall, AllocError>
         ensures new { IfOk result (λ hall. hall ≡ record { seats = replicate seats None }) }
     {
@@ -227,7 +227,7 @@ impl Hall {
         Ok(self.waiting(seat))
     }
 
-    /// What waits was offered to the peer, and so many bytes of it were written.
+    /// What waits was offered to the peer, and `n` bytes of it were written.
     pub fn sent(&mut self, seat: usize, count: usize)
         requires taken { is_some (seat_at self.old seat) ≡ true }
         requires few { count ≤ length (waiting_at (seat_at self.old seat)) }

@@ -17,7 +17,7 @@ use std::marker::Model;
 const FIRST_STAT_SN: u32 = 1;
 /// The most bytes that are read at a time.
 pub const MOST_READ: usize = 65_536;
-/// Of answers that wait, so many bytes are written before more are gathered.
+/// How many bytes of answers wait at most: these are written before more are gathered.
 const GATHERED: usize = 65_536;
 
 /// A session, what was read of its stream and not taken, and the answers that are not written.
@@ -184,7 +184,7 @@ impl Seat {
         &self.output[self.sent..]
     }
 
-    /// It was offered to the peer, and so many bytes of it were written.
+    /// It was offered to the peer, and `n` bytes of it were written.
     pub fn sent(&mut self, count: usize)
         requires few { count ≤ length self.old.waiting }
         ensures { self.new ≡ with_sent count self.old }

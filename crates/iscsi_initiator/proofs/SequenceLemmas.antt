@@ -23,7 +23,7 @@ pub record Due : Type 0 where
 abbrev pub due : DataOut → List ℕ → Due
 due next bytes = record { next = next; bytes = bytes }
 
--- what is written of the sequence in pieces of so many bytes, and what is left to write
+-- what is written of the sequence in pieces of n bytes, and what is left to write
 pub record Wrote (most : ℕ) (all left : Due) (before written : List ℕ) : Type 0 where
   pub fits : Fits (heads.DataOut left.next)
   pub within : left.next.buffer_offset + length left.bytes < 2 ^ 32

@@ -74,7 +74,7 @@ Starts (Err fault) old new before after = StartFails fault old new before after
 
 -- ---- a call of feed
 
--- What a call received of its piece: so many bytes, which complete PDUs of these meanings.
+-- What a call received of its piece: n bytes, which complete PDUs of these meanings.
 pub record Received (old : Connection) (piece : List ℕ) : Type 0 where
   pub count : ℕ
   pub some : count ≤ length piece

@@ -228,7 +228,7 @@ fits_writing m w h =
     && nat_le h.desired_data_transfer_length (max_burst m.held)
     && nat_le (w.sent + h.desired_data_transfer_length) (length w.bytes)
 
--- The write has sent so many bytes more, on one R2T more (section 11.8).
+-- The write has sent n bytes more, on one R2T more (section 11.8).
 abbrev pub has_sent : Machine → Writing → ℕ → Machine
 has_sent m w n = record m {
   outstanding = Some (Out (record w { sent = w.sent + n; next_r2t_sn = next_sn w.next_r2t_sn }));

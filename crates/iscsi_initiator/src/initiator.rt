@@ -24,7 +24,7 @@ use std::marker::Model;
 /// |---|---|
 /// | `Login` | the login runs, once it is started; requests are refused |
 /// | `Full` | one request at a time is sent, and its outcome can be taken |
-/// | `Closed` | each call answers `Closed`; an outcome can still be taken |
+/// | `Closed` | each call returns `Closed`; an outcome can still be taken |
 #[derive(Drop)]
 pub struct Initiator {
     session: Session,
@@ -57,8 +57,8 @@ impl Initiator {
 
     /// Starts the login: appends the first text, or a part of it (RFC 7143, section 6.3).
     ///
-    /// A second start answers `Protocol` with rule 1. After `NoMemory` `out` is as it was. Both close
-    /// the session; a closed session answers `Closed`.
+    /// A second start returns `Protocol` with rule 1. After `NoMemory` `out` is as it was. Both close
+    /// the session; a closed session returns `Closed`.
     pub fn start(&mut self, out: &mut Vec<u8>) -> Result<(), InitiatorFault>
         ensures starts { Starts result self.old self.new out.old.items out.new.items }
     {
@@ -80,7 +80,7 @@ impl Initiator {
     ///
     /// The answer to a logout answers `Closed`, and the rest of the piece is dropped. After a fault the
     /// session is closed: `out` has what the PDUs before the one at fault led to, but after `NoMemory`
-    /// it is as it was. A closed session answers `Closed` and takes nothing (RFC 7143, sections 6 and
+    /// it is as it was. A closed session returns `Closed` and takes nothing (RFC 7143, sections 6 and
     /// 11; the rules and their order are own).
     pub fn feed(&mut self, piece: &[u8], out: &mut Vec<u8>) -> Result<Phase, InitiatorFault>
         ensures feeds { Feeds result self.old piece.now self.new out.old.items out.new.items }
@@ -137,7 +137,7 @@ impl Initiator {
         self.session.stage()
     }
 
-    /// Ends the stream. Answers `Stream` with `Truncated` where it ends within a PDU, which closes the
+    /// Ends the stream. Returns `Stream` with `Truncated` where it ends within a PDU, which closes the
     /// session, and `Closed` where it was closed before.
     pub fn finish(&mut self) -> Result<(), InitiatorFault>
         ensures finishes { Finishes result self.old self.new }

@@ -59,7 +59,7 @@ abbrev pub first_burst : Held → ℕ
 first_burst held =
     min (number_of (held_value held keys.FirstBurstLength)) (max_burst held)
 
--- How many of so many bytes of a command may come unasked (sections 13.11 and 13.14).
+-- How many of n bytes of a command may come unasked (sections 13.11 and 13.14).
 abbrev pub unasked : Held → ℕ → ℕ
 unasked held n = min n (first_burst held)
 

@@ -155,7 +155,7 @@ abbrev pub after_next : Exchange → List Message → Exchange
 after_next x [] = x
 after_next x (m ∷ more) = after_answer x m more
 
--- So many answers, one after another.
+-- N answers, one after another.
 abbrev pub after_answers : ℕ → Exchange → Exchange
 after_answers zero x = x
 after_answers (suc more) x = after_answers more (after_next x x.answers)

@@ -39,7 +39,7 @@ first_traffic c = record {
   demands = [];
 }
 
--- The bytes that stand behind so many.
+-- The bytes that stand behind n.
 abbrev pub behind : List ℕ → List ℕ → List ℕ
 behind before after = drop (length before) after
 

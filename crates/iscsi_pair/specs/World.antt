@@ -97,7 +97,7 @@ keeps_no_memory w = target_ran_out w.target_fault || initiator_ran_out w.initiat
 
 -- What happens to a pair: a step, or the taking of an outcome.
 pub data Event : Type 0 where
-  -- so many bytes of a queue reach the end that they are for
+  -- n bytes of a queue reach the end that they are for
   ToTarget : ℕ → Event
   ToInitiator : ℕ → Event
   -- a request is handed in

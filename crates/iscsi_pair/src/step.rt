@@ -11,9 +11,9 @@ use thiserror::Error;
 /// A step of a pair.
 #[derive(Drop)]
 pub enum Step {
-    /// So many bytes of those queued for the target reach it, or all where fewer are queued.
+    /// `n` bytes of those queued for the target reach it, or all where fewer are queued.
     ToTarget(usize),
-    /// So many bytes of those queued for the initiator reach it, or all where fewer are queued.
+    /// `n` bytes of those queued for the initiator reach it, or all where fewer are queued.
     ToInitiator(usize),
     /// The initiator is handed a request.
     Submit(Request),

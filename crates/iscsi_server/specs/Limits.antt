@@ -1,4 +1,4 @@
--- How long a peer may keep its seat (own rule).
+-- How long a peer may keep its seat.
 use Rattle.std.specs.Prelude.{ℕ, Bool, false, ◌*◌, ◌-◌, Option, Some, None, min, nat_le, ◌||◌, if◌then◌else◌}
 use Rattle.iscsi_login.specs.declared.phase.Phase.{Phase}
 use Rattle.iscsi_login.specs.declared.phase.Phase.TheVariants as phase
@@ -6,16 +6,16 @@ use Rattle.iscsi_server.specs.declared.limits.Limits.{Limits}
 use Rattle.iscsi_server.specs.declared.session_end.SessionEnd.{SessionEnd}
 use Rattle.iscsi_server.specs.declared.session_end.SessionEnd.TheVariants as ends
 
--- There is a limit, and so many seconds reach it.
+-- There is a limit, and n seconds reach it.
 abbrev pub is_passed : Option ℕ → ℕ → Bool
 is_passed (Some limit) seconds = nat_le limit seconds
 is_passed None seconds = false
 
--- A peer takes none of the last answers of a closed session for so many seconds at most.
+-- A peer takes none of the last answers of a closed session for n seconds at most.
 abbrev pub last_write : ℕ
 last_write = 30
 
--- Why a session is ended that was accepted, and had its last byte, so many seconds ago.
+-- Why a session is ended that was accepted, and had its last byte, n seconds ago.
 abbrev pub broken_limit : Limits → Phase → ℕ → ℕ → Option SessionEnd
 broken_limit limits phase.Login accepted silent =
     if is_passed limits.login_within accepted then Some ends.LoginTooLate
@@ -25,7 +25,7 @@ broken_limit limits phase.Full accepted silent =
 broken_limit limits phase.Closed accepted silent =
     if is_passed limits.idle silent || nat_le last_write silent then Some ends.Idle else None
 
--- How many nanoseconds are left of a limit in seconds after so many; no limit is never over.
+-- How many nanoseconds are left of a limit in seconds after n; no limit is never over.
 abbrev pub left_of : Option ℕ → ℕ → Option ℕ
 left_of (Some limit) gone = Some (limit * 1_000_000_000 - gone)
 left_of None gone = None
@@ -36,7 +36,7 @@ shorter (Some one) (Some other) = Some (min one other)
 shorter (Some one) None = Some one
 shorter None other = other
 
--- How many nanoseconds are left to a session that was accepted, and had its last byte, so many
+-- How many nanoseconds are left to a session that was accepted, and had its last byte, n
 -- nanoseconds ago, if no byte comes; none: any.
 abbrev pub time_left : Limits → Phase → ℕ → ℕ → Option ℕ
 time_left limits phase.Login accepted silent =

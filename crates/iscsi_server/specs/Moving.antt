@@ -3,7 +3,7 @@ use Rattle.std.specs.Prelude.{ℕ, ◌≤◌}
 use Rattle.iscsi_server.specs.declared.connection.Moved.{Moved}
 use Rattle.iscsi_server.specs.declared.connection.Moved.TheVariants as moved
 
--- No more than so many bytes went.
+-- No more than n bytes went.
 abbrev pub MovesAtMost : ℕ → Moved → Type 0
 MovesAtMost most (moved.Bytes count) = count ≤ most
 MovesAtMost most moved.Nothing = Unit {0}

@@ -11,7 +11,7 @@ use std::time::{Duration, Instant};
 /// What a read or a write of a connection gave.
 #[derive(Clone, Copy, Debug, PartialEq, Eq)]
 pub enum Moved {
-    /// So many bytes went.
+    /// `n` bytes went.
     Bytes(usize),
     /// None can go now.
     Nothing,

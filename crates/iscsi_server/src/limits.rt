@@ -8,7 +8,7 @@ use crate::session_end::SessionEnd;
 use iscsi_login::Phase;
 use std::time::Duration;
 
-/// So many seconds a peer may take none of the last answers of a closed session (own rule).
+/// For how many seconds a peer may take none of the last answers of a closed session.
 pub const LAST_WRITE: u64 = 30;
 
 /// How long a peer may keep its seat, in seconds; RFC 7143 leaves that to the target.
@@ -56,7 +56,7 @@ impl Limits {
     }
 }
 
-// Whether there is a limit, and so many seconds reach it.
+// Whether there is a limit, and `n` seconds reach it.
 fn is_over(limit: Option<u16>, seconds: u64) -> bool
     ensures { result ≡ is_passed limit seconds }
 {

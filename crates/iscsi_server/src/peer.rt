@@ -16,7 +16,7 @@ use std::time::Instant;
 
 /// How many reads, PDUs and writes a seat has in a turn, before the others have theirs.
 const STEPS: usize = 64;
-/// A write of so many bytes ends a turn, too.
+/// How long a write is that ends a turn, too.
 const LONG_WRITE: usize = 262_144;
 
 /// The peer of a seat.
@@ -244,7 +244,7 @@ impl Peer {
     }
 }
 
-/// So many places for peers.
+/// `n` places for peers.
 pub fn no_peers(alloc: Global, count: usize) -> Result<Vec<Option<Peer>>, AllocError> {
     let mut peers = Vec::new(alloc);
     for _ in 0..count {

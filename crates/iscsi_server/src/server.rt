@@ -59,7 +59,7 @@ impl<'a> Model for Server<'a> {
 }
 
 impl<'a> Server<'a> {
-    /// Listens, with all seats free. `Network` is answered where that fails, and `NoMemory` where
+    /// Listens, with all seats free. `Network` is returned where that fails, and `NoMemory` where
     /// memory runs out.
     pub fn open(rt: &HostRuntime, options: Options<'a>) -> Result<Server<'a>, ServeFault>
         ensures seats { IfOk result (λ server. length server.hall.seats ≡ options.entry.at_once) }
@@ -112,7 +112,7 @@ impl<'a> Server<'a> {
     ///
     /// The line of a session that ends with a fault goes to the standard error, and the others go
     /// on. Only being out of memory outside of sessions (`NoMemory`), and the system's refusing to
-    /// wait, to accept or to tell the time (`Network`) are answered.
+    /// wait, to accept or to tell the time (`Network`) are returned.
     #[tactic(auto, using(crate::proofs::ExecutedLemmas::none_executed))]
     pub fn turn<S: BlockStore>(&mut self, rt: &HostRuntime, store: &mut S) -> Result<(), ServeFault>
         // Whatever comes of it, the blocks are those that commands left.

@@ -16,7 +16,7 @@ use scsi_disk::BlockStore;
 ///
 /// A session that ends with a fault has the fault's line on standard error, and the others go on.
 /// Only being out of memory outside of sessions and a fault of the network end the service; `Write`
-/// is answered where what it prints first cannot be printed.
+/// is returned where what it prints first cannot be printed.
 ///
 /// Each session is one of RFC 7143, sections 6 and 11; that they take turns in one thread, a PDU at a
 /// time, is own rule.

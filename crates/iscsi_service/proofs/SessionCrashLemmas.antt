@@ -27,7 +27,7 @@ use Rattle.iscsi_service.proofs.SessionReadInvariant.{Outside, outside, ReadUpTo
 
 -- ---- failures that a sync counts
 
--- executions, from a count that is less by so many
+-- executions, from a count that is less by n
 runs_lower : (d : Device) (low high more : ℕ) (xs : List Execution) (after : ℕ) → high ≡ low + more → RunsIn d high xs after →
     RunsIn d low xs (after - more)
 runs_lower d low high more [] after is h = omega (arith, is, h)

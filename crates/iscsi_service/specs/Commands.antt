@@ -10,7 +10,7 @@ use Rattle.iscsi_initiator.specs.declared.request.Request.TheVariants as request
 use Rattle.iscsi_service.specs.declared.command.Command.{Command}
 use Rattle.iscsi_service.specs.declared.command.Command.TheVariants.{TestUnitReady, Inquiry, Capacity, Capacity16, Luns, Read, Write, Sync, Ping, Logout}
 
--- A transfer of so many blocks from this one on, with each other field 0 (SBC-3, READ(10)).
+-- A transfer of n blocks from this one on, with each other field 0 (SBC-3, READ(10)).
 abbrev pub transfer : ℕ → ℕ → Transfer10
 transfer logical_block_address blocks = record {
   options = 0;
@@ -44,7 +44,7 @@ writing logical_block_address blocks =
     then cdb.Write10 (transfer logical_block_address blocks)
     else cdb.Write16 (long_transfer logical_block_address blocks)
 
--- A flush of so many blocks from this one on, with each other field 0 (SBC-3, SYNCHRONIZE CACHE
+-- A flush of n blocks from this one on, with each other field 0 (SBC-3, SYNCHRONIZE CACHE
 -- (10)).
 abbrev pub flush : ℕ → ℕ → Cdb
 flush logical_block_address blocks = cdb.SyncCache10 (record {
@@ -55,12 +55,12 @@ flush logical_block_address blocks = cdb.SyncCache10 (record {
   control = 0;
 })
 
--- A command to a unit that may return so many bytes; the unit's number is byte 1 of the LUN, the
+-- A command to a unit that may return n bytes; the unit's number is byte 1 of the LUN, the
 -- second from above (SAM-5, section 4.7).
 abbrev pub data_in_request : ℕ → Cdb → ℕ → Request
 data_in_request unit block expected = requests.In (unit * 2 ^ 48) (canonical block) expected
 
--- A WRITE of so many blocks of 512 bytes, all of them this byte (SBC-3).
+-- A WRITE of n blocks of 512 bytes, all of them this byte (SBC-3).
 abbrev pub written : ℕ → ℕ → ℕ → Request
 written logical_block_address blocks byte =
     requests.Out 0 (canonical (writing logical_block_address blocks))

@@ -23,7 +23,7 @@ use Rattle.iscsi_service.specs.Looping.{initiator_settings, reports, transcript,
 abbrev pub IsFaithful : (List ℕ → List ℕ → Type 0) → Type 0
 IsFaithful carries = (written read : List ℕ) → carries written read → read ≡ written
 
--- What the pair of a loop is made of: the settings of the programs, and so many blocks of 00.
+-- What the pair of a loop is made of: the settings of the programs, and n blocks of 00.
 abbrev pub loop_opening : ℕ → Opening
 loop_opening blocks = record {
   initiator = initiator_settings;
@@ -47,7 +47,7 @@ abbrev pub ends_of : initiator.Connection → target.Connection → Disk → Lis
 ends_of initiator target disk out back =
     record { initiator = initiator; target = target; disk = disk; out = out; back = back }
 
--- Both ends before the login, over so many blocks of 00.
+-- Both ends before the login, over n blocks of 00.
 abbrev pub new_ends : ℕ → Ends
 new_ends blocks = ends_of (initiator.opening_connection initiator_settings)
     (target.opening_connection target_settings 1) (zeros blocks) [] []
@@ -81,7 +81,7 @@ GoOn old new = (blocks : ℕ) (requests : List Request) (outcomes : List Done)
 
 -- ---- one local disk
 
--- The outcomes of requests on one local disk of so many blocks of 00 (section 4.2).
+-- The outcomes of requests on one local disk of n blocks of 00 (section 4.2).
 abbrev pub outcomes_on : ℕ → List Request → List Done
 outcomes_on blocks requests = disk_outcomes (loop_opening blocks) requests
 
@@ -99,7 +99,7 @@ abbrev pub Performs : Ends → Request → Done → Ends → Type 0
 Performs old request done new = (blocks : ℕ) (past : List Request) → AreOneDisk blocks past old
     → (done ≡ outcome_on blocks past request) × AreOneDisk blocks (past ++ request ∷ []) new
 
--- A request behind others, on one local disk of so many blocks.
+-- A request behind others, on one local disk of n blocks.
 pub record Asked : Type 0 where
   pub blocks : ℕ
   pub past : List Request
@@ -123,7 +123,7 @@ WritesLine (Ok done) next ends contents_old contents_new =
 WritesLine (Err fault) next ends contents_old contents_new =
     WroteFront contents_old contents_new (line_of next)
 
--- What the commands up to the first logout lead to on one local disk of so many blocks.
+-- What the commands up to the first logout lead to on one local disk of n blocks.
 abbrev pub command_outcomes : ℕ → List Command → List Done
 command_outcomes blocks commands = outcomes_on blocks (map request_of (up_to_logout commands))
 
@@ -135,7 +135,7 @@ WritesOnDisk blocks commands (Ok done) contents_old contents_new =
 WritesOnDisk blocks commands (Err fault) contents_old contents_new =
     WroteFront contents_old contents_new (reports (command_outcomes blocks commands))
 
--- What is written is what the script leads to on one local disk of so many blocks of 00: all of its
+-- What is written is what the script leads to on one local disk of n blocks of 00: all of its
 -- lines or, before a fault, a front of them.
 abbrev pub LoopsOnDisk : ℕ → Result (Unit {0}) ServeFault → List ℕ → List ℕ → Type 0
 LoopsOnDisk blocks (Ok done) script written = (commands : List Command)

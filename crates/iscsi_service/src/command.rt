@@ -114,7 +114,7 @@ impl Command {
     }
 }
 
-// A command that may return so many bytes.
+// A command that may return `n` bytes.
 fn data_in_request(unit: u8, cdb: Cdb, expected: u32) -> Request
     requires { Fits cdb }
     ensures { result ≡ data_in_request unit cdb expected }

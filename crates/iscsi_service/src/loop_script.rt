@@ -46,12 +46,12 @@ const FIRST_CMD_SN: u32 = 1;
 /// How often one end answers the other before the connection counts as failed.
 const TURNS: u32 = 16_777_216;
 
-/// Logs an initiator in to a target with a disk of so many blocks of 00, over a socket of this
-/// machine, and does what a script says. What an end sends goes in pieces of at most so many bytes,
+/// Logs an initiator in to a target with a disk of `n` blocks of 00, over a socket of this
+/// machine, and does what a script says. What an end sends goes in pieces of at most `n` bytes,
 /// each read as it is written. Writes a line for the login and one for what came of each command,
 /// up to the first logout; without one the connection is closed at the end of the script.
 ///
-/// Before any output `Script` is answered with the first line that is no command, and with that of
+/// Before any output `Script` is returned with the first line that is no command, and with that of
 /// the first byte too many where the script has more than 1,048,576 bytes; `Read` where a read
 /// fails or 16,777,216 of them did not reach the end. `NoMemory` comes where memory runs out, then
 /// or later. `Target` and `Initiator` are the first fault of an end. A refused request and one

@@ -77,7 +77,7 @@ fn read_lines<R: Read>(alloc: Global, r: &mut R) -> Result<Vec<u8>, ServeFault>
     let script = match read_within(alloc, r, LONGEST_SCRIPT) {
         Ok(script) => script,
         Err(ToolFault::NoMemory) => return Err(ServeFault::NoMemory),
-        // Nothing else is answered.
+        // Nothing else is returned.
         Err(_) => return Err(ServeFault::Read),
     };
     if script.len() > LONGEST_SCRIPT {

@@ -23,7 +23,7 @@ const LONGEST_READ: usize = 1_048_576;
 /// once for all of them, before they leave.
 ///
 /// A session that is closed, by a logout or a refused login, and a connection that ends between two
-/// PDUs are no fault. `Network` is answered where no connection is accepted; `Target` where the
+/// PDUs are no fault. `Network` is returned where no connection is accepted; `Target` where the
 /// target refuses what its initiator sent or the connection ends within a PDU, after the answers
 /// that were due; `Read` where a read from the connection fails or 16,777,216 of them did not reach
 /// its end; `Sync` where a sync of the store fails, and the answers that waited for it are not
@@ -69,7 +69,7 @@ pub fn serve_one<S: BlockStore>(
     }
 }
 
-// Room for so many bytes of a read.
+// Room for `n` bytes of a read.
 fn read_buffer(alloc: Global, size: usize) -> Result<Vec<u8>, AllocError>
     requires some { 0 < size }
     ensures some { IfOk result (λ buffer. 0 < length buffer.items) }
@@ -94,11 +94,11 @@ impl Write for Answers<'_> {
     }
 }
 
-/// Listens on 127.0.0.1, prints `listening`, and serves so many connections, one after another,
+/// Listens on 127.0.0.1, prints `listening`, and serves `n` connections, one after another,
 /// over one store. Port 0 is one that the system picks.
 ///
 /// A session that ends with a fault has the fault's line on standard error, and the next one is
-/// served. Only being out of memory and a fault of the network end the service; `Write` is answered
+/// served. Only being out of memory and a fault of the network end the service; `Write` is returned
 /// where `listening` cannot be printed.
 #[tactic(auto, using(crate::proofs::SessionReadInvariant::none_executed))]
 pub fn serve<S: BlockStore>(
@@ -115,7 +115,7 @@ pub fn serve<S: BlockStore>(
     serve_all(rt, &listener, store, sessions)
 }
 
-// A listener, which is announced. It alone answers Write.
+// A listener, which is announced. It alone returns Write.
 fn listen(rt: &HostRuntime, port: u16) -> Result<TcpListener, ServeFault>
     ensures fault { IfErr result
         (λ fault. (fault ≡ ServeFault.Network) ⊎ (fault ≡ ServeFault.Write)) }
@@ -129,7 +129,7 @@ fn listen(rt: &HostRuntime, port: u16) -> Result<TcpListener, ServeFault>
     Ok(listener)
 }
 
-// So many sessions, over one store.
+// `n` sessions, over one store.
 #[tactic(auto, using(crate::proofs::SessionReadInvariant::none_executed))]
 fn serve_all<S: BlockStore>(
     rt: &HostRuntime,

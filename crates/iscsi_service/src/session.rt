@@ -30,7 +30,7 @@ const GROUP: u16 = 1;
 const TSIH: u16 = 1;
 /// The StatSN of the first answer.
 pub(crate) const FIRST_STAT_SN: u32 = 1;
-/// So many bytes of answers may wait while the PDUs of a read are answered.
+/// How many bytes of answers may wait while the PDUs of a read are answered.
 const MOST_WAITING: usize = 65_536;
 
 /// What the target of the programs is configured with: its name, portal group 1, TSIH 1, and the
@@ -69,7 +69,7 @@ pub enum SessionFault {
 /// Where the store counted no failure, what is written are the answers to all PDUs of what was
 /// read, and the store has the blocks that they leave; when out of memory those of some first PDUs,
 /// whole, and of some first tasks of the next one. Of a failed sync or write nothing is said, but
-/// that behind a failed sync no answer that waited for it is written. Answers `Ok` where the stream
+/// that behind a failed sync no answer that waited for it is written. Returns `Ok` where the stream
 /// ends behind a PDU or the session was closed and no rule broken; `Target` with the rule that the
 /// last PDU broke, or with the fault and the place of what follows the PDUs where that is refused,
 /// or begun and not whole at the end of the stream, after the answers that were due; `Read` where a

@@ -32,7 +32,7 @@ impl Wire {
     }
 }
 
-/// Over 127.0.0.1, at a port that the system picks. Each call answers `Network` where a socket
+/// Over 127.0.0.1, at a port that the system picks. Each call returns `Network` where a socket
 /// fails.
 impl Carrier for Wire {
     // No contract can say what a socket gives.
@@ -53,7 +53,7 @@ impl Carrier for Wire {
         carry(&self.target, &self.initiator, piece, read)
     }
 
-    /// Answers `Network` too where the target's socket has more bytes.
+    /// Returns `Network` too where the target's socket has more bytes.
     fn close(self) -> Result<(), ServeFault> {
         let Wire { initiator, target } = self;
         drop(initiator);

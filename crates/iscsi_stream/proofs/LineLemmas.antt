@@ -15,7 +15,7 @@ front_kept old more now start n s e =
     let same : take (start + n) old ≡ old = take_more old (start + n) (omega (arith, s)) in
     ap (take start) (e ∙ ap (λ (front : List ℕ). front ++ more) same) ∙ take_at old more start (sym s)
 
--- the bytes from there on, of which so many stay
+-- the bytes from there on, of which n stay
 pub cut_behind : (old now line rest new : List ℕ) (start n k : ℕ) → start ≡ length old → length old ≤ k → take start now ≡ old
     → new ≡ take (start + n) (take k ((take start now ++ line) ++ rest))
     → new ≡ old ++ take n (take (k - length old) (line ++ rest))

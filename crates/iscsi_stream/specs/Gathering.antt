@@ -22,7 +22,7 @@ pub record Filling : Type 0 where
 abbrev pub filling : List ℕ → ℕ → Filling
 filling segment padded = record { segment = segment; padded = padded }
 
--- What is kept of a PDU whose header is whole and says so, in a buffer with room for so many bytes.
+-- What is kept of a PDU whose header is whole and says so, in a buffer with room for n bytes.
 pub record IsBody (limit : ℕ) (header : List ℕ) (body : Filling) (room : ℕ) (head : Head)
     (len : ℕ) : Type 0 where
   pub says : IsHeader header head len

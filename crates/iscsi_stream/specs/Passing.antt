@@ -17,7 +17,7 @@ abbrev pub IsDue : Form → List Message → List ℕ → Type 0
 IsDue Canonical = IsCanonical
 IsDue Line = AreLines
 
--- so many more, as long as they fit
+-- n more, as long as they fit
 pub record Counted (old new : Counts) (ms : List Message) (bytes : List ℕ) : Type 0 where
   pub pdus : old.pdus + length ms < 2 ^ 64 → new.pdus ≡ old.pdus + length ms
   pub bytes_in : new.bytes_in ≡ old.bytes_in

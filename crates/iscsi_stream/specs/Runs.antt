@@ -9,7 +9,7 @@ use Rattle.iscsi_stream.specs.Stream.{Message}
 use Rattle.iscsi_stream.specs.Framing.{Framing, Takes, given_up, is_ready}
 use Rattle.std.specs.Bool.{IsTrue}
 
--- a call of feed that took so many bytes of the piece, or a call of take that gave up the PDU
+-- a call of feed that took n bytes of the piece, or a call of take that gave up the PDU
 pub data Call : Type 0 where
   Feed : (piece : List ℕ) (taken : ℕ) → Call
   Take : (head : Head) (segment : List ℕ) → Call

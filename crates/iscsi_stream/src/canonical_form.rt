@@ -25,7 +25,7 @@ fn is_last(head: &Head) -> bool
 }
 
 /// The text of a login PDU that has a whole one: a PDU that neither continues another nor is
-/// continued, and whose segment is a text (RFC 7143, section 6.1). Answers `AllocError` where
+/// continued, and whose segment is a text (RFC 7143, section 6.1). Returns `AllocError` where
 /// memory runs out, which it needs to read the segment of a PDU that neither continues another nor
 /// is continued.
 pub fn text_of<'a>(
@@ -48,7 +48,7 @@ pub fn text_of<'a>(
 }
 
 /// The header of a PDU's canonical form, with the length of its canonical segment. The PDU
-/// continues another login PDU or does not. Answers `AllocError` where memory runs out, which it
+/// continues another login PDU or does not. Returns `AllocError` where memory runs out, which it
 /// needs to read the segment of a PDU that neither continues another nor is continued.
 pub fn canonical_head(alloc: Global, pdu: &Pdu<'_>, continued: bool) -> Result<[u8; 48], AllocError>
     requires fits { Fits pdu.now.head }
@@ -82,7 +82,7 @@ pub fn canonical(pdu: &Pdu<'_>, continued: bool, out: &mut Vec<u8>) -> Result<()
 }
 
 /// Appends a PDU with this head and segment, free bits as the profile writes them and padding 00.
-/// Answers `AllocError` where memory runs out, and leaves `out` as it was; with room for 51 bytes
+/// Returns `AllocError` where memory runs out, and leaves `out` as it was; with room for 51 bytes
 /// more than the segment it appends.
 #[tactic(auto, using(crate::proofs::PaddingLemmas::whole_is))]
 pub fn write_pdu(head: &Head, segment: &[u8], out: &mut Vec<u8>) -> Result<(), AllocError>

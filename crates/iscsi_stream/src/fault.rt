@@ -24,7 +24,7 @@ pub enum StreamFault {
     /// The stream ends within the PDU at this place.
     #[error("stream: truncated at {0}")]
     Truncated(u64),
-    /// A fault was answered before.
+    /// A fault was returned before.
     #[error("stream: failed before")]
     Failed,
 }
@@ -58,11 +58,11 @@ pub enum ToolFault {
     /// A write failed, or took no byte.
     #[error("write failed")]
     Write,
-    /// The input is not hex text, or is over its limit. No function of this crate answers it.
+    /// The input is not hex text, or is over its limit. No function of this crate returns it.
     #[error("input: not hex")]
     NotHex,
     /// The initiator broke the rule of this number (own rule: `docs/FORMATS.md` has the rules). No
-    /// function of this crate answers it.
+    /// function of this crate returns it.
     #[error("protocol: rule {0}")]
     Protocol(u8),
 }

@@ -73,9 +73,9 @@ impl Framer {
     /// Takes bytes of the piece until a PDU is ready, and says how many it took: all of them, or
     /// fewer where a PDU is ready then; none while one is ready already.
     ///
-    /// With the last byte of a header it answers `Head` where the header is refused, `OverLimit`
+    /// With the last byte of a header it returns `Head` where the header is refused, `OverLimit`
     /// where its segment is longer than the limit, and `NoMemory` where it is longer than each
-    /// before it and there is no memory for it. After a fault it answers `Failed`, and holds
+    /// before it and there is no memory for it. After a fault it returns `Failed`, and holds
     /// nothing.
     pub fn feed(&mut self, piece: &[u8]) -> Result<usize, StreamFault>
         ensures ok { IfOk result (λ n. Takes self.old piece.now n self.new) }
@@ -174,7 +174,7 @@ impl Framer {
         self.stage = Stage::Header(0);
     }
 
-    /// Ends the stream. Answers `Truncated` where a PDU is begun and not whole, and `Failed` after
+    /// Ends the stream. Returns `Truncated` where a PDU is begun and not whole, and `Failed` after
     /// a fault; a PDU that is ready is none.
     pub fn finish(&mut self) -> Result<(), StreamFault>
         ensures ok { OnOk result ((self.old.failed ≡ false)

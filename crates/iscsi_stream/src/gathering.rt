@@ -15,10 +15,10 @@ pub(crate) const HEADER: usize = 48;
 /// How much of a PDU is gathered.
 #[derive(Clone, Copy)]
 pub(crate) enum Stage {
-    /// So many bytes of the header, fewer than 48.
+    /// `n` bytes of the header, fewer than 48.
     Header(usize),
-    /// The whole header, which says this head and so many bytes of segment; and so many bytes of
-    /// padding, which are counted and not kept.
+    /// The whole header, which says this head and the length of the segment; and how many bytes of
+    /// padding came, which are counted and not kept.
     Body(Head, u32, u32),
 }
 
@@ -76,8 +76,8 @@ fn begin(
     Ok((head, len))
 }
 
-// Takes bytes of the piece into a segment of this length, then into the padding, of which so many
-// are there. Says how many it took, and how many bytes of padding are there then.
+// Takes bytes of the piece into a segment of this length, then into the padding, of which
+// `padded` are there. Says how many it took, and how many bytes of padding are there then.
 fn fill_body(segment: &mut Vec<u8>, len: u32, padded: u32, piece: &[u8]) -> (usize, u32)
     requires room { len ≤ vec_capacity segment.old }
     requires segment { length segment.old.items ≤ len }

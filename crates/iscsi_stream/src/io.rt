@@ -16,7 +16,7 @@ pub const PIECE: usize = 4096;
 
 /// Reads to the end, or until there are more bytes than the limit, and gives all that was read.
 ///
-/// Answers `Read` where a read fails or 16,777,216 of them did not reach the end, and `NoMemory`
+/// Returns `Read` where a read fails or 16,777,216 of them did not reach the end, and `NoMemory`
 /// where memory runs out.
 pub fn read_within<R: Read>(alloc: Global, r: &mut R, limit: usize) -> Result<Vec<u8>, ToolFault>
     requires { limit < 2 ^ 32 }
@@ -51,7 +51,7 @@ pub fn drop_front(bytes: &mut Vec<u8>, count: usize)
     bytes.drain(..count);
 }
 
-/// Writes all of the bytes. Answers `Write` where a write fails or takes no byte, and has then
+/// Writes all of the bytes. Returns `Write` where a write fails or takes no byte, and has then
 /// written a front of them.
 pub fn write_fully<W: Write>(w: &mut W, bytes: &[u8]) -> Result<(), ToolFault>
     ensures ok { OnOk result (Appends (W.contents w.old) (W.contents w.new) bytes.now) }

@@ -34,7 +34,7 @@ pub(crate) enum Form {
 /// Reads a stream to its end and writes its canonical stream; what the PDUs of one read give goes
 /// out in one write.
 ///
-/// Answers `Stream` where the stream leaves the profile, and has then written the canonical form of
+/// Returns `Stream` where the stream leaves the profile, and has then written the canonical form of
 /// all PDUs before that place; `Read` where a read fails or 16,777,216 of them did not reach the
 /// end, having written that of all whole PDUs that came; `NoMemory` where memory runs out, having
 /// written that of some first PDUs; and `Write` where a write fails, having written a part of what

@@ -55,7 +55,7 @@ turns_do = record {
 done_does : (device : Device) (s : Session) (disk : Disk) (tasks : List Task) → Goes device disk (done_in_turn device s disk tasks)
 done_does device s disk tasks = turns (λ device s disk tasks r. Goes device disk r) turns_do device s disk tasks
 
--- also of the first so many
+-- also of the first n
 pub first_does : (k : ℕ) (device : Device) (s : Session) (disk : Disk) (tasks : List Task) → Goes device disk (done_first k device s disk tasks)
 unfolding done_first
 first_does zero device s disk tasks = record { is = refl }
@@ -74,7 +74,7 @@ parts_do device disk = record {
   nothing_ = λ s m c. record { is = refl };
   shut_ = λ s m. record { is = refl };
   reject_ = λ s reason m a. record { is = refl };
-  breach_ = λ s rule m. record { is = refl };
+  reject_and_close_ = λ s rule m. record { is = refl };
   login_ = λ s m k. record { is = refl };
   taken_ = λ s m h w v k e f. record { is = (done_does device s.session disk _).is };
   refused_ = λ s t m rule a x. record { is = refl };

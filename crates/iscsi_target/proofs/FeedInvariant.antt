@@ -51,7 +51,7 @@ pub record GoesUpTo (old : Scene) (piece rest : List ℕ) (new : Scene) : Type 0
   pub rule : fed.stepped.rule ≡ None
   pub live : is_closed new.connection.machine ≡ false
 
--- the last PDU broke this rule, or none; so many were answered at most
+-- the last PDU broke this rule, or none; n were answered at most
 pub record FedAs (old : Scene) (piece rest : List ℕ) (new : Scene) (broken : Option ℕ) (most : ℕ) : Type 0 where
   pub fed : FedUpTo old piece rest new
   pub rule : fed.stepped.rule ≡ broken

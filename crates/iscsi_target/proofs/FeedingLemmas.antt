@@ -38,7 +38,7 @@ use Rattle.iscsi_target.specs.Feed.{Beginning, answers_from, beginning, opening_
 use Rattle.iscsi_target_session.proofs.CaseLemmas.{by_cases}
 use Rattle.iscsi_target.proofs.TurnLemmas.{Begins, begins, Turns, turns, with_tasks}
 use Rattle.iscsi_target.proofs.StepPartLemmas.{Parts, step_parts}
-use Rattle.iscsi_target.proofs.ReplyLemmas.{login_logs, reject_reply, breach_reply, request_answered_reply}
+use Rattle.iscsi_target.proofs.ReplyLemmas.{login_logs, reject_reply, reject_and_close_reply, request_answered_reply}
 use Rattle.iscsi_login.specs.Stage.{is_closed_phase}
 use Rattle.iscsi_target.proofs.NumberLaws.{closed_answers, answers_settings}
 use Rattle.iscsi_target.proofs.AppendLemmas.{answers_append}
@@ -60,7 +60,7 @@ reply_closes tasks disk r c = record { is = c }
 begins_close : Begins (λ device s disk task r. Closes r)
 begins_close = record {
   request_ = λ device s disk m none. reply_closes s.tasks disk _ (request_answered_reply s.session (waiting s.tasks) m m.head).rule;
-  refused_ = λ device s disk m h k broke. reply_closes s.tasks disk _ (breach_reply s.session (waiting s.tasks) data_out_of_order m).rule;
+  refused_ = λ device s disk m h k broke. reply_closes s.tasks disk _ (reject_and_close_reply s.session (waiting s.tasks) data_out_of_order m).rule;
   command_ = λ device s disk m h k none. record { is = λ n e. absurd cc };
   write_ = λ device s disk task w is whole. record { is = λ n e. absurd cc };
   send_r2t_ = λ device s disk task w is whole idle. record { is = λ n e. absurd cc };
@@ -97,10 +97,10 @@ parts_close device disk = record {
   nothing_ = λ s m c. record { is = λ k e. absurd cc };
   shut_ = λ s m. record { is = λ k e. refl };
   reject_ = λ s reason m a. reply_closes s.tasks disk _ (reject_reply s.session (waiting s.tasks) reason m).rule;
-  breach_ = λ s rule m. reply_closes s.tasks disk _ (breach_reply s.session (waiting s.tasks) rule m).rule;
+  reject_and_close_ = λ s rule m. reply_closes s.tasks disk _ (reject_and_close_reply s.session (waiting s.tasks) rule m).rule;
   login_ = λ s m k. reply_closes s.tasks disk (login_step s.session m) (login_logs s.session m).is.rule;
   taken_ = λ s m h w v k e f. record { is = (done_closes device s.session disk _).is };
-  refused_ = λ s t m rule a x. record { is = (breach_reply t.session (waiting t.tasks) rule m).rule };
+  refused_ = λ s t m rule a x. record { is = (reject_and_close_reply t.session (waiting t.tasks) rule m).rule };
   admitted_ = λ s t m a x f. record { is = (done_closes device t.session disk _).is };
 }
 

@@ -26,7 +26,7 @@ use Rattle.iscsi_login.specs.Stage.{is_closed_phase}
 use Rattle.iscsi_stream.specs.Pieces.{Pieces, data_of}
 use Rattle.iscsi_pdu.specs.Serial.{is_within}
 use Rattle.iscsi_pdu.specs.Fields.{reserved_tag}
-use Rattle.iscsi_target_session.specs.Rejecting.{reject, breach}
+use Rattle.iscsi_target_session.specs.Rejecting.{reject, reject_and_close}
 use Rattle.iscsi_pdu.specs.Rules.{kind_not_due, segment_too_long, data_out_of_order, command_out_of_turn, too_many_immediate}
 use Rattle.iscsi_target_session.specs.Login.{login_step}
 use Rattle.iscsi_target.specs.Transfer.{with_piece, with_data, is_in_sequence, received, is_idle, joined_write, is_unsolicited_piece, is_solicited_piece}
@@ -189,7 +189,7 @@ planned_same device s disk ts us h bytes (Give n) c = execute_same device s disk
 command_same : (device : Device) (s : Session) (disk : Disk) (ts us : List Task) (m : Message) (h : Command) (bytes : List ℕ) → Beside ts us
     → Same (scsi_command device (with_tasks s ts) disk m h bytes) (scsi_command device (with_tasks s us) disk m h bytes)
 command_same device s disk ts us m h bytes c =
-    by_cases (breaks_burst_rules s.held h (length bytes)) (λ e. rw e (reply_same disk (λ n. breach s n data_out_of_order m) ts us c))
+    by_cases (breaks_burst_rules s.held h (length bytes)) (λ e. rw e (reply_same disk (λ n. reject_and_close s n data_out_of_order m) ts us c))
     (λ e. rw e (planned_same device s disk ts us h bytes (plan_of (order_of h) disk.count) c))
 
 handled_same : (device : Device) (s : Session) (disk : Disk) (ts us : List Task) (m : Message) (head : Head) → Beside ts us
@@ -357,7 +357,7 @@ met_if true false x y x' y' e p q = absurd cc
 met_if false true x y x' y' e p q = absurd cc
 
 broken_same : (s : Machine) (rule : ℕ) (m : Message) → SameNext (broken (joined s) rule m) (broken s rule m)
-broken_same s rule m = ap (λ (n : ℕ). breach s.session n rule m) (waits_same s.tasks)
+broken_same s rule m = ap (λ (n : ℕ). reject_and_close s.session n rule m) (waits_same s.tasks)
 
 plain_same : (x y : Next) → SameNext x y → SameMet (plainly x) (plainly y)
 plain_same x y h = record { accepted = refl; next = h }

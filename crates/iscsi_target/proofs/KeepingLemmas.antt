@@ -234,7 +234,7 @@ parts_keep device disk = record {
   nothing_ = λ s m c. record { is = same s };
   shut_ = λ s m. record { is = record { settings = refl; stays = λ l. record { stage = refl; held = refl; later = λ l. tt } } };
   reject_ = λ s reason m a. reply_keeps s disk _ (counts s.session);
-  breach_ = λ s rule m. reply_keeps s disk _ (ends s.session);
+  reject_and_close_ = λ s rule m. reply_keeps s disk _ (ends s.session);
   login_ = λ s m k. record { is = record { settings = login_keeps s.session m.head m.segment; stays = λ l. absurd (never s k l) } };
   taken_ = λ s m h w v k e f. record { is = (done_keeps device s disk _).is };
   refused_ = λ s t m rule a x. accepted_keeps s t m (breaks t disk rule m) x (reply_keeps t disk _ (ends t.session));

@@ -14,7 +14,7 @@ use Rattle.iscsi_target.specs.Worked.{hex, entry, first, says, first_text, fresh
 abbrev three : ℕ → List ℕ
 three n = (48 + n / 100) ∷ (48 + n / 10 % 10) ∷ (48 + n % 10) ∷ []
 
--- so many keys, from `K000=1` on
+-- n keys, from `K000=1` on
 abbrev keys : ℕ → List ℕ
 keys zero = []
 keys (suc n) = keys n ++ entry (codes "K" ++ three n ++ codes "=1")

@@ -23,7 +23,7 @@ abbrev pub DueFits : ℕ → Due → Type 0
 DueFits total (Solicited tag data_sn end) = end ≤ total
 DueFits total _ = Unit {0}
 
--- A write that is open on a disk of so many blocks: its pieces tile what it has received (section
+-- A write that is open on a disk of n blocks: its pieces tile what it has received (section
 -- 11.7).
 pub record IsOpen (count : ℕ) (w : Write) : Type 0 where
   pub plan : plan_of w.order count ≡ Take w.total

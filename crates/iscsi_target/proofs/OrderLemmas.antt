@@ -91,7 +91,7 @@ given_by false n disk order = omega (
   expected_most order,
 )
 
--- so many bytes a plan gives at most
+-- n bytes a plan gives at most
 abbrev given : Plan → ℕ
 given (Give n) = n
 given _ = 0

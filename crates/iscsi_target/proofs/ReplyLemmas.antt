@@ -25,7 +25,7 @@ use Rattle.iscsi_target_session.specs.Session.{Session, Reply, limit, nothing, s
 use Rattle.scsi_disk.specs.Plan.{first_of}
 use Rattle.iscsi_pdu.specs.Serial.{next_sn}
 use Rattle.iscsi_pdu.specs.Fields.{reserved_tag}
-use Rattle.iscsi_target_session.specs.Rejecting.{reject, breach}
+use Rattle.iscsi_target_session.specs.Rejecting.{reject, reject_and_close}
 use Rattle.iscsi_pdu.specs.Rules.{kind_not_due}
 use Rattle.iscsi_target_session.specs.declared.status.Status.{Status}
 use Rattle.iscsi_target_session.specs.LoginText.{text_refusals, declared_length, is_operational, is_bad_length, value_for, session_for}
@@ -106,8 +106,8 @@ reject_reply s waiting reason m = record {
   limit = λ l. l;
 }
 
-pub breach_reply : (s : Session) (waiting rule : ℕ) (m : Message) → IsReply s (breach s waiting rule m)
-breach_reply s waiting rule m = record {
+pub reject_and_close_reply : (s : Session) (waiting rule : ℕ) (m : Message) → IsReply s (reject_and_close s waiting rule m)
+reject_and_close_reply s waiting rule m = record {
   stat_sn = (refl, refl);
   ranges = refl;
   rule = λ k e. refl;
@@ -177,9 +177,9 @@ logout_reply s waiting m h = by_cases (nat_le h.reason 1)
     }))
 
 text_reply_in : (s : Session) (waiting : ℕ) (m : Message) (h : TextPdu) (pairs : Option Pairs) → IsReply s (text_reply_to s waiting m h pairs)
-text_reply_in s waiting m h None = breach_reply s waiting _ m
+text_reply_in s waiting m h None = reject_and_close_reply s waiting _ m
 text_reply_in s waiting m h (Some pairs) =
-    by_cases (nat_lt s.held.initiator_max_recv (length (canonical_text (reply_pairs s.settings.name pairs)))) (λ e. rw e (breach_reply s waiting _ m))
+    by_cases (nat_lt s.held.initiator_max_recv (length (canonical_text (reply_pairs s.settings.name pairs)))) (λ e. rw e (reject_and_close_reply s waiting _ m))
     (λ e. rw e (record {
       stat_sn = (refl, refl);
       ranges = refl;
@@ -195,7 +195,7 @@ text_reply_in s waiting m h (Some pairs) =
 
 pub text_reply_is : (s : Session) (waiting : ℕ) (m : Message) (h : TextPdu) (bytes : List ℕ) → IsReply s (text_request s waiting m h bytes)
 text_reply_is s waiting m h bytes =
-    by_cases (not h.is_final || (h.continues || not (h.target_transfer_tag == reserved_tag))) (λ e. rw e (breach_reply s waiting _ m))
+    by_cases (not h.is_final || (h.continues || not (h.target_transfer_tag == reserved_tag))) (λ e. rw e (reject_and_close_reply s waiting _ m))
     (λ e. rw e (text_reply_in s waiting m h (text_in bytes)))
 
 -- ---- the login
@@ -353,7 +353,7 @@ request_answered_reply s waiting m (NopOut h) = nop_reply s waiting h (segment_b
 request_answered_reply s waiting m (TaskRequest h) = task_reply s waiting h
 request_answered_reply s waiting m (TextRequest h) = text_reply_is s waiting m h (segment_bytes m.segment)
 request_answered_reply s waiting m (LogoutRequest h) = logout_reply s waiting m h
-request_answered_reply s waiting m _ = breach_reply s waiting kind_not_due m
+request_answered_reply s waiting m _ = reject_and_close_reply s waiting kind_not_due m
 
 -- ---- beside the tasks
 

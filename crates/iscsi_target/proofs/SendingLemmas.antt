@@ -32,7 +32,7 @@ use Rattle.iscsi_target.specs.Tiles.{TileBytes, GivesTiles, data_in_tag, data_in
 use Rattle.iscsi_target.specs.Laws.{stat_sns, stat_sn_of, response_tag, response_tags, cmd_sns, given_number, FitsNumber, login_cmd_sn, HasCmdSn}
 use Rattle.iscsi_target.proofs.TurnLemmas.{Begins, begins, Turns, turns}
 use Rattle.iscsi_target.proofs.StepPartLemmas.{Accepts, Immediately, InTurn, Parts, step_parts}
-use Rattle.iscsi_target.proofs.ReplyLemmas.{Count, IsReply, Logs, login_logs, reject_reply, breach_reply, request_answered_reply}
+use Rattle.iscsi_target.proofs.ReplyLemmas.{Count, IsReply, Logs, login_logs, reject_reply, reject_and_close_reply, request_answered_reply}
 use Rattle.iscsi_target.proofs.DataInTilingLaw.{execute_tiled}
 
 -- ---- numbers one after another
@@ -236,7 +236,7 @@ execute_tells device s disk tag order pieces =
 begins_tell : Begins (λ device s disk task r. Tells device s.session r)
 begins_tell = record {
   request_ = λ device s disk m none. of_reply device s.session s.tasks disk _ (request_answered_reply s.session (waiting s.tasks) m m.head);
-  refused_ = λ device s disk m h k broke. of_reply device s.session s.tasks disk _ (breach_reply s.session (waiting s.tasks) data_out_of_order m);
+  refused_ = λ device s disk m h k broke. of_reply device s.session s.tasks disk _ (reject_and_close_reply s.session (waiting s.tasks) data_out_of_order m);
   command_ = λ device s disk m h k none. execute_tells device s disk h.initiator_task_tag (order_of h) [];
   write_ = λ device s disk task w is h. execute_tells device s disk w.initiator_task_tag w.order w.pieces;
   send_r2t_ = λ device s disk task w is h g. record {
@@ -354,11 +354,11 @@ parts_tell device disk = record {
   nothing_ = λ s m c. none_accepted device s m (unchanged s disk) (stays_tells device s disk);
   shut_ = λ s m. none_accepted device s m (shut_down s disk) (shut_tells device s disk);
   reject_ = λ s reason m a. plain_tells device s m disk _ (reject_reply s.session (waiting s.tasks) reason m);
-  breach_ = λ s rule m. plain_tells device s m disk _ (breach_reply s.session (waiting s.tasks) rule m);
+  reject_and_close_ = λ s rule m. plain_tells device s m disk _ (reject_and_close_reply s.session (waiting s.tasks) rule m);
   login_ = λ s m k. login_tells device s m disk (login_step s.session m) (login_logs s.session m);
   taken_ = λ s m h w v k e f. none_accepted device s m (done_in_turn device s.session disk _) (done_tells device s.session disk _);
   refused_ = λ s t m rule a x. accepted_tells device s t m (breaks t disk rule m) x
-      (of_reply device t.session t.tasks disk _ (breach_reply t.session (waiting t.tasks) rule m));
+      (of_reply device t.session t.tasks disk _ (reject_and_close_reply t.session (waiting t.tasks) rule m));
   admitted_ = λ s t m a x f. accepted_tells device s t m (done_in_turn device t.session disk _) x (done_tells device t.session disk _);
 }
 

@@ -15,7 +15,7 @@ use Rattle.iscsi_target.specs.Write.{Write}
 use Rattle.iscsi_target.specs.declared.tasks.Task.{Task}
 use Rattle.iscsi_target.specs.State.{Machine, Stepped, on, unchanged, shut_down, waiting, max_cmd_sn}
 use Rattle.iscsi_pdu.specs.Serial.{is_within}
-use Rattle.iscsi_target_session.specs.Rejecting.{reject, breach}
+use Rattle.iscsi_target_session.specs.Rejecting.{reject, reject_and_close}
 use Rattle.iscsi_target.specs.State.{breaks}
 use Rattle.iscsi_pdu.specs.Rules.{kind_not_due, segment_too_long, data_out_of_order, command_out_of_turn, too_many_immediate}
 use Rattle.iscsi_target_session.specs.Login.{login_step}
@@ -40,7 +40,7 @@ pub record Parts (device : Device) (disk : Disk) (P : Machine → Message → St
   pub nothing_ : (s : Machine) (m : Message) → (is_closed s ≡ true) ⊎ (pdu_answers s m m.head ≡ 0) → P s m (unchanged s disk)
   pub shut_ : (s : Machine) (m : Message) → P s m (shut_down s disk)
   pub reject_ : (s : Machine) (reason : ℕ) (m : Message) → pdu_answers s m m.head ≡ 0 → P s m (on disk s.tasks (reject s.session (waiting s.tasks) reason m))
-  pub breach_ : (s : Machine) (rule : ℕ) (m : Message) → P s m (breaks s disk rule m)
+  pub reject_and_close_ : (s : Machine) (rule : ℕ) (m : Message) → P s m (breaks s disk rule m)
   pub login_ : (s : Machine) (m : Message) → s.session.phase ≡ Login → P s m (on disk s.tasks (login_step s.session m))
   pub taken_ : (s : Machine) (m : Message) (h : DataPdu) (w v : Write) → m.head ≡ DataOut h → write_of s.tasks h.initiator_task_tag ≡ Some w
       → taken (first_burst s.session.held) w h (segment_bytes m.segment) ≡ Some v →
@@ -64,9 +64,10 @@ admitted_parts : (device : Device) (disk : Disk) (P : Machine → Message → St
     → (tasks : t.tasks ≡ s.tasks) → P s m (met device s disk (accepting m (admitted t disk.count m)))
 admitted_parts device disk P p s t m a x tasks =
     by_cases (is_tag_of t.tasks (tag_of m.head)) (λ e. rw e (subst (λ (ts : List Task). P s m (having_accepted (m ∷ [])
-    (on disk ts (breach t.session (waiting t.tasks) kind_not_due m)))) tasks (p.refused_ s t m kind_not_due a x)))
+    (on disk ts (reject_and_close t.session (waiting t.tasks) kind_not_due m)))) tasks (p.refused_ s t m kind_not_due a x)))
     (λ e. by_cases (breaks_rules t.session.held (length (segment_bytes m.segment)) m.head)
-    (λ f. rw (e, f) (subst (λ (ts : List Task). P s m (having_accepted (m ∷ []) (on disk ts (breach t.session (waiting t.tasks) data_out_of_order m)))) tasks
+    (λ f. rw (e, f) (subst (λ (ts : List Task). P s m (having_accepted (m ∷ [])
+    (on disk ts (reject_and_close t.session (waiting t.tasks) data_out_of_order m)))) tasks
     (p.refused_ s t m data_out_of_order a x)))
     (λ f. rw (e, f) (p.admitted_ s t m a x f)))
 
@@ -84,13 +85,13 @@ request_parts device disk P p s m false n a c =
     by_cases (is_within n s.session.exp_cmd_sn (max_cmd_sn s))
     (λ e. by_cases (n == s.session.exp_cmd_sn)
     (λ f. rw (e, f) (admitted_parts device disk P p s (advanced s) m a (InTurn n c e (eqb-true n s.session.exp_cmd_sn f)) refl))
-    (λ f. rw (e, f) (p.breach_ s command_out_of_turn m)))
+    (λ f. rw (e, f) (p.reject_and_close_ s command_out_of_turn m)))
     (λ e. rw e (p.nothing_ s m (inr a)))
 
 taken_parts : (device : Device) (disk : Disk) (P : Machine → Message → Stepped → Type 0) → Parts device disk P
     → (s : Machine) (m : Message) (h : DataPdu) (w : Write) (more : Option Write) → m.head ≡ DataOut h → write_of s.tasks h.initiator_task_tag ≡ Some w
     → taken (first_burst s.session.held) w h (segment_bytes m.segment) ≡ more → P s m (met device s disk (plainly (data_taken s m more)))
-taken_parts device disk P p s m h w None k e f = p.breach_ s data_out_of_order m
+taken_parts device disk P p s m h w None k e f = p.reject_and_close_ s data_out_of_order m
 taken_parts device disk P p s m h w (Some v) k e f = p.taken_ s m h w v k e f
 
 data_parts : (device : Device) (disk : Disk) (P : Machine → Message → Stepped → Type 0) → Parts device disk P
@@ -109,15 +110,15 @@ due_parts device disk P p s m (TaskRequest h) k = request_parts device disk P p 
 due_parts device disk P p s m (TextRequest h) k = request_parts device disk P p s m h.immediate h.cmd_sn (λ i. pdu_answers s m (k i)) (λ i. cmd_sn_of (k i))
 due_parts device disk P p s m (LogoutRequest h) k = request_parts device disk P p s m h.immediate h.cmd_sn (λ i. pdu_answers s m (k i)) (λ i. cmd_sn_of (k i))
 due_parts device disk P p s m (ScsiCommand h) k = request_parts device disk P p s m h.immediate h.cmd_sn (λ i. pdu_answers s m (k i)) (λ i. cmd_sn_of (k i))
-due_parts device disk P p s m _ k = p.breach_ s kind_not_due m
+due_parts device disk P p s m _ k = p.reject_and_close_ s kind_not_due m
 
 full_parts : (device : Device) (disk : Disk) (P : Machine → Message → Stepped → Type 0) → Parts device disk P → (s : Machine) (m : Message) →
     P s m (full_step device s disk m)
 full_parts device disk P p s m =
     by_cases (is_due_kind s.session.session_type m.head)
     (λ e. by_cases (is_too_long s m)
-    (λ f. rw (e, f) (p.breach_ s segment_too_long m)) (λ f. rw (e, f) (due_parts device disk P p s m m.head refl)))
-    (λ e. rw e (p.breach_ s kind_not_due m))
+    (λ f. rw (e, f) (p.reject_and_close_ s segment_too_long m)) (λ f. rw (e, f) (due_parts device disk P p s m m.head refl)))
+    (λ e. rw e (p.reject_and_close_ s kind_not_due m))
 
 phase_parts : (device : Device) (disk : Disk) (P : Machine → Message → Stepped → Type 0) → Parts device disk P
     → (phase : Phase) (s : Machine) (m : Message) → s.session.phase ≡ phase → P s m (phase_step device phase s disk m)

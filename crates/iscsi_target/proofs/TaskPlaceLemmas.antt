@@ -12,7 +12,7 @@ use Rattle.iscsi_target.specs.Machine.{is_write_with, write_of, with_write, is_s
 use Rattle.iscsi_target.specs.Inside.{IsWriteAt, TakePlaces, AreInPlace, behind}
 use Rattle.iscsi_target_session.proofs.CaseLemmas.{by_cases}
 
--- none of the first so many tasks is a write with the tag
+-- none of the first n tasks is a write with the tag
 abbrev pub NoneBefore : ℕ → List Task → ℕ → Type 0
 NoneBefore tag tasks place = (i : ℕ) (other : Task) → i < place → is_write_with tag (slice_index_or tasks i other) ≡ false
 

@@ -25,7 +25,7 @@ use Rattle.iscsi_target.specs.Write.{Write}
 use Rattle.iscsi_target.specs.declared.tasks.Task.{Task}
 use Rattle.iscsi_target.specs.declared.tasks.Task.TheVariants.{Request, Data}
 use Rattle.iscsi_target.specs.State.{Machine, Stepped, on, unchanged, shut_down, opening, waiting}
-use Rattle.iscsi_target_session.specs.Rejecting.{breach}
+use Rattle.iscsi_target_session.specs.Rejecting.{reject_and_close}
 use Rattle.iscsi_target.specs.State.{breaks}
 use Rattle.iscsi_target_session.specs.Login.{login_step, login_in}
 use Rattle.iscsi_target.specs.declared.due.Due.{Due}
@@ -117,7 +117,7 @@ login_asks_in s m disk head k = closing s.tasks (pdu_answers s m head) (on disk 
 
 -- ---- tasks
 
--- so many R2Ts were unanswered with the data that came for a write, and so many answered
+-- how many R2Ts were unanswered before data came for a write, and how many they answered
 pub record FitsWrite (w : Write) (before answered : ℕ) : Type 0 where
   pub whole : is_whole w ≡ true → before ≡ answered
   pub idle : is_idle w.due ≡ true → before ≡ answered
@@ -168,7 +168,7 @@ begins_ask = record {
       done_leads s before answered _ f (request_answered_reply s.session (waiting s.tasks) m m.head).ranges
       (on_ends disk s.tasks (request_answered s.session (waiting s.tasks) m m.head)) u;
   refused_ = λ device s disk m h k broke before answered f u. done_leads s before answered (breaks s disk data_out_of_order m) f refl
-      (on_ends disk s.tasks (breach s.session (waiting s.tasks) data_out_of_order m)) u;
+      (on_ends disk s.tasks (reject_and_close s.session (waiting s.tasks) data_out_of_order m)) u;
   command_ = λ device s disk m h k none before answered f u.
       done_leads s before answered (execute device s disk h.initiator_task_tag (order_of h) []) f
       (execute_ranges device s disk h.initiator_task_tag (order_of h) []) (inr refl) u;
@@ -386,7 +386,7 @@ parts_ask device disk = record {
   ];
   shut_ = λ s m o k. closing s.tasks (pdu_answers s m m.head) (shut_down s disk) refl refl;
   reject_ = λ s reason m a o k. answering (unanswered s.tasks) (pdu_answers s m m.head) _ (reply_asks s disk _ refl) a;
-  breach_ = λ s rule m o k. closing s.tasks (pdu_answers s m m.head) (breaks s disk rule m) refl refl;
+  reject_and_close_ = λ s rule m o k. closing s.tasks (pdu_answers s m m.head) (breaks s disk rule m) refl refl;
   login_ = λ s m e o k. login_asks_in s m disk m.head refl;
   taken_ = λ s m h w v e f g o k. having_asks (unanswered s.tasks) (pdu_answers s m m.head) [] _ (taken_asks device s m disk h w v o k e f g);
   refused_ = λ s t m rule a x o k. closing s.tasks (pdu_answers s m m.head) (having_accepted (m ∷ []) (breaks t disk rule m)) refl refl;

@@ -49,7 +49,7 @@ abbrev pub OnTask : (Write → Type 0) → Task → Type 0
 OnTask P (Request m) = Unit {0}
 OnTask P (Data w) = P w
 
--- The writes among tasks are ones that may be open on a disk of so many blocks (section 11.7).
+-- The writes among tasks are ones that may be open on a disk of n blocks (section 11.7).
 abbrev pub IsSound : ℕ → List Task → Type 0
 IsSound count tasks = AllByRecursion (OnTask (IsOpen count)) tasks
 
@@ -321,7 +321,7 @@ parts_go disk = record {
   nothing_ = λ s m c o. record { sound = o; tiled = tt; modest = tt };
   shut_ = λ s m o. record { sound = tt; tiled = tt; modest = tt };
   reject_ = λ s reason m a o. reply_goes s disk _ refl o;
-  breach_ = λ s rule m o. reply_goes s disk _ refl o;
+  reject_and_close_ = λ s rule m o. reply_goes s disk _ refl o;
   login_ = λ s m k o. reply_goes s disk (login_step s.session m) (login_logs s.session m).is.ranges o;
   taken_ = λ s m h w v k e f o.
       taken_kept disk.count (done_in_turn reliable s.session disk (with_write v s.tasks)) [] (done_goes s.session disk (with_write v s.tasks)

@@ -46,14 +46,14 @@ abbrev pub is_bad_announcement : Held → ScsiCommand → ℕ → Bool
 is_bad_announcement held h n =
     h.write && (not h.is_final && (is_on held keys.InitialR2T || nat_le (unasked held h.expected_data_transfer_length) n))
 
--- A command with so many immediate bytes breaks the rules of the first burst (sections 13.10, 13.11
+-- A command with n immediate bytes breaks the rules of the first burst (sections 13.10, 13.11
 -- and 13.14).
 abbrev pub breaks_burst_rules : Held → ScsiCommand → ℕ → Bool
 breaks_burst_rules held h n = is_bad_segment held h n || is_bad_announcement held h n
 
 -- ---- a write
 
--- The head of the next R2T, while so many tasks wait (section 11.8).
+-- The head of the next R2T, while n tasks wait (section 11.8).
 abbrev pub r2t_head : Session → ℕ → Write → Head
 r2t_head s waiting w = heads.ReadyToTransfer (record {
   lun = w.order.lun;
@@ -86,7 +86,7 @@ proceed device s disk w =
     else if is_idle w.due then send_r2t s disk w
     else unchanged (led_by w s) disk
 
--- The write of so many bytes that a command with these immediate bytes opens (section 11.3).
+-- The write of n bytes that a command with these immediate bytes opens (section 11.3).
 abbrev pub opened : ScsiCommand → ℕ → List ℕ → Write
 opened h total bytes = record {
   initiator_task_tag = h.initiator_task_tag;
@@ -118,17 +118,17 @@ abbrev pub task_planned : Message → ScsiCommand → List ℕ → Plan → Task
 task_planned m h bytes (Take total) = Data (opened h total bytes)
 task_planned m h bytes _ = Request m
 
--- The task of a request, on a disk of so many blocks (section 11.3).
+-- The task of a request, on a disk of n blocks (section 11.3).
 abbrev pub task_by : ℕ → Message → Head → Task
 task_by count m (heads.ScsiCommand h) =
     task_planned m h (segment_bytes m.segment) (plan_of (order_of h) count)
 task_by count m _ = Request m
 
--- The task of a request, on a disk of so many blocks (section 11.3).
+-- The task of a request, on a disk of n blocks (section 11.3).
 abbrev pub task_of : ℕ → Message → Task
 task_of count m = task_by count m m.head
 
--- A request with so many bytes breaks the rules of the first burst (sections 13.10, 13.11 and
+-- A request with n bytes breaks the rules of the first burst (sections 13.10, 13.11 and
 -- 13.14).
 abbrev pub breaks_rules : Held → ℕ → Head → Bool
 breaks_rules held n (heads.ScsiCommand h) = breaks_burst_rules held h n

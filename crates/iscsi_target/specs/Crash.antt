@@ -49,7 +49,7 @@ commands_in phases.Login s count m = []
 commands_in phases.Full s count m = commands_by (full_met s count m).next
 commands_in phases.Closed s count m = []
 
--- The commands that may be executed for a PDU, on a disk of so many blocks (section 4.2.4).
+-- The commands that may be executed for a PDU, on a disk of n blocks (section 4.2.4).
 abbrev pub commands_at : Machine → ℕ → Message → List Supplied
 commands_at s count m = commands_in s.session.phase s count m
 
@@ -95,7 +95,7 @@ CrashesNext old piece before after kept_before kept_after =
 
 -- ---- a crash, for any bytes
 
--- The first of these bytes complete some PDUs and one more. Behind the others, with at most so many
+-- The first of these bytes complete some PDUs and one more. Behind the others, with at most n
 -- failures counted, the block has these contents as a command of that one leaves it.
 pub record IsPassed (old : Connection) (before : Store) (piece : List ℕ) (most n : ℕ)
     (bytes : List ℕ) : Type 0 where

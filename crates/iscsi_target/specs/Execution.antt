@@ -52,7 +52,7 @@ sequence_parts held run = marked (chunks held.initiator_max_recv run)
 abbrev pub data_in_parts : Held → List ℕ → List (List ℕ × Bool)
 data_in_parts held bytes = flat_map (sequence_parts held) (chunks (max_burst held) bytes)
 
--- The head of a Data-In, while so many tasks wait; the status comes in a response of its own (section
+-- The head of a Data-In, while n tasks wait; the status comes in a response of its own (section
 -- 11.7; own rule).
 abbrev pub data_in_head : Session → ℕ → ℕ → ℕ → ℕ → Bool → Head
 data_in_head s waiting tag data_sn offset is_final = heads.DataIn (record {
@@ -98,7 +98,7 @@ residual_count Exact = None
 residual_count (Under n) = Some n
 residual_count (Over n) = Some n
 
--- The head of the response to a command that gave so many Data-In (section 11.4).
+-- The head of the response to a command that gave n Data-In (section 11.4).
 abbrev pub response_head : Session → ℕ → ℕ → Outcome → ℕ → Head
 response_head s waiting tag outcome count = heads.ScsiResponse (record {
   bidirectional_overflow = false;

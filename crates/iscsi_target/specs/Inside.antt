@@ -133,7 +133,7 @@ pub record Handles {E : Type 0} (step : Device → Stepped) (result : Result (Op
   pub ok : IfOk result (λ rule. Serves old.store.failures old.output step rule new)
   pub err : OnErr result (GivesUp old new)
 
--- What the first tasks of a machine at work lead to, so many of them.
+-- What the first tasks of a machine at work lead to, n of them.
 abbrev pub first_done : ℕ → Device → Moment → Stepped
 first_done done device old =
     done_first done device old.machine.session old.store.disk old.machine.tasks

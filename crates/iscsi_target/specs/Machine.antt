@@ -26,7 +26,7 @@ use Rattle.iscsi_target.specs.Write.{Write}
 use Rattle.iscsi_target.specs.declared.tasks.Task.{Task}
 use Rattle.iscsi_target.specs.declared.tasks.Task.TheVariants.{Request, Data}
 use Rattle.iscsi_target.specs.State.{Machine, Execution, Stepped, on, unchanged, shut_down, waiting, max_cmd_sn}
-use Rattle.iscsi_target_session.specs.Rejecting.{reject, breach}
+use Rattle.iscsi_target_session.specs.Rejecting.{reject, reject_and_close}
 use Rattle.iscsi_target_session.specs.LoginText.{is_normal}
 use Rattle.iscsi_target_session.specs.Login.{login_step}
 use Rattle.iscsi_target.specs.Transfer.{taken}
@@ -110,7 +110,7 @@ done_in_turn device s disk (task ∷ more) =
     else then_stepped r
     (done_in_turn (device_after r.executed device) r.machine.session r.disk more)
 
--- So many tasks in their order, as far as they are done.
+-- N tasks in their order, as far as they are done.
 unfoldable pub done_first : ℕ → Device → Session → Disk → List Task → Stepped
 done_first zero device s disk tasks =
     unchanged (record { session = s; tasks = tasks }) disk
@@ -145,7 +145,7 @@ accepting m next = record { accepted = m ∷ []; next = next }
 
 -- The PDU broke the rule.
 abbrev pub broken : Machine → ℕ → Message → Next
-broken s rule m = Answered (breach s.session (waiting s.tasks) rule m)
+broken s rule m = Answered (reject_and_close s.session (waiting s.tasks) rule m)
 
 -- ---- a Data-Out
 

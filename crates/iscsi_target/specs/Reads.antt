@@ -64,7 +64,7 @@ pub record SendsSequence (to : Reply) (read : Read) (before sent : Sent) : Type 
       (waiting to.machine.tasks) to.tag before.count before.bytes
       (sequence_parts to.machine.session.held bytes))
 
--- What was read was appended as so many Data-In (section 11.7).
+-- What was read was appended as n Data-In (section 11.7).
 pub record SendsRuns (to : Reply) (read : Read) (count : ℕ) : Type 0 where
   pub bytes : List ℕ
   pub is_of : IsOf read bytes

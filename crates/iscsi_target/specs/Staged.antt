@@ -7,13 +7,13 @@ use Rattle.iscsi_target.specs.Transfer.{received}
 use Rattle.iscsi_target.specs.declared.due.Due.{Due}
 use Rattle.iscsi_target.specs.declared.due.Due.TheVariants.{Nothing, Unsolicited, Solicited}
 
--- So many R2Ts were sent, each for a byte at least.
+-- N R2Ts were sent, each for a byte at least.
 abbrev pub CountsR2ts : ℕ → ℕ → ℕ → Due → Type 0
 CountsR2ts total received r2t_count Nothing = r2t_count ≤ received
 CountsR2ts total received r2t_count (Unsolicited data_sn) = r2t_count ≤ received
 CountsR2ts total received r2t_count (Solicited tag data_sn end) = (end ≤ total) × (r2t_count ≤ end)
 
--- What is kept of a write: a WRITE of so many bytes, no more of them, and what is due.
+-- What is kept of a write: a WRITE of n bytes, no more of them, and what is due.
 pub record IsStaged (order : Order) (total : ℕ) (bytes : List ℕ) (due : Due)
     (r2t_count : ℕ) : Type 0 where
   pub is_write : is_write order.cdb ≡ true
@@ -21,7 +21,7 @@ pub record IsStaged (order : Order) (total : ℕ) (bytes : List ℕ) (due : Due)
   pub fits : length bytes ≤ total
   pub counted_r2ts : CountsR2ts total (length bytes) r2t_count due
 
--- The write once an R2T for so many bytes was sent.
+-- The write once an R2T for n bytes was sent.
 abbrev pub with_r2t_for : ℕ → Write → Write
 with_r2t_for desired w = record w {
   due = Solicited w.r2t_count 0 (received w + desired);

@@ -11,7 +11,7 @@ use Rattle.iscsi_target_session.specs.Session.{Session, Reply, opening_session, 
 use Rattle.iscsi_target.specs.Transfer.{joined_write}
 use Rattle.iscsi_target.specs.declared.tasks.Task.{Task}
 use Rattle.iscsi_target.specs.declared.tasks.Task.TheVariants.{Request, Data}
-use Rattle.iscsi_target_session.specs.Rejecting.{breach}
+use Rattle.iscsi_target_session.specs.Rejecting.{reject_and_close}
 
 -- ---- tasks
 
@@ -106,4 +106,4 @@ shut_down s disk = unchanged (closed s) disk
 
 -- The PDU broke the rule: it is rejected, and the session is closed.
 abbrev pub breaks : Machine → Disk → ℕ → Message → Stepped
-breaks s disk rule m = on disk s.tasks (breach s.session (waiting s.tasks) rule m)
+breaks s disk rule m = on disk s.tasks (reject_and_close s.session (waiting s.tasks) rule m)

@@ -26,7 +26,7 @@ is_whole w = w.total == received w
 
 -- ---- a Data-Out
 
--- Where the unsolicited bytes end at the latest, if so many may come unasked (section 13.14).
+-- Where the unsolicited bytes end at the latest, if n may come unasked (section 13.14).
 abbrev pub unsolicited_end : ℕ → Write → ℕ
 unsolicited_end first_burst w = min w.total first_burst
 
@@ -44,8 +44,8 @@ is_solicited_piece reached end is_final =
 abbrev pub is_next : Write → DataOut → ℕ → Bool
 is_next w h data_sn = h.data_sn == data_sn && h.buffer_offset == received w
 
--- The Data-Out is one of the sequence that is due, if so many may come unasked, and with it so many
--- bytes are reached. LUN and ExpStatSN aren't looked at (sections 11.7 and 11.8; own rule).
+-- The Data-Out is one of the sequence that is due, if `first_burst` bytes may come unasked, and with
+-- it `reached` have come. LUN and ExpStatSN aren't looked at (sections 11.7 and 11.8; own rule).
 abbrev pub is_in_sequence : ℕ → Write → DataOut → ℕ → Due → Bool
 is_in_sequence first_burst w h reached Nothing = false
 is_in_sequence first_burst w h reached (Unsolicited data_sn) =

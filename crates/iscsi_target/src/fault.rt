@@ -7,7 +7,7 @@ use iscsi_stream::StreamFault;
 use std::alloc::AllocError;
 use thiserror::Error;
 
-/// Why a target's session ends. Every later call answers `Closed`.
+/// Why a target's session ends. Every later call returns `Closed`.
 #[derive(Clone, Copy, Debug, PartialEq, Eq, Error)]
 pub enum TargetFault {
     /// Memory ran out. The task that needed it wrote nothing and changed no block; those before it were

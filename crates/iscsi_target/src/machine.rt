@@ -162,8 +162,8 @@ impl Machine {
         result
     }
 
-    // A PDU broke the rule: it is rejected, and the session is closed. Answers the rule.
-    fn breach(
+    // A PDU broke the rule: it is rejected, and the session is closed. Returns the rule.
+    fn reject_and_close(
         &mut self,
         rule: u8,
         received: &Received<'_>,
@@ -173,7 +173,7 @@ impl Machine {
             self.old self.new out.old.items out.new.items }
     {
         let waiting = self.waiting();
-        let result = self.session.breach(waiting, rule, received, out);
+        let result = self.session.reject_and_close(waiting, rule, received, out);
         self.settle();
         result
     }

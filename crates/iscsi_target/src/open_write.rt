@@ -84,7 +84,7 @@ impl OpenWrite {
         (self.total - self.received()).min(burst)
     }
 
-    /// An R2T for so many bytes was sent: its sequence is due.
+    /// An R2T for `n` bytes was sent: its sequence is due.
     pub fn await_sequence(&mut self, desired: u32)
         requires idle { is_idle self.old.due ≡ true }
         requires some { 0 < desired }
@@ -99,7 +99,7 @@ impl OpenWrite {
         self.r2t_count += 1;
     }
 
-    /// Takes the bytes of a Data-Out, where it is due; so many bytes may come unasked. Where memory
+    /// Takes the bytes of a Data-Out, where it is due; `n` bytes may come unasked. Where memory
     /// runs out it is as it was.
     pub fn take(
         &mut self,
@@ -128,7 +128,7 @@ impl OpenWrite {
         Ok(true)
     }
 
-    // Whether the Data-Out, with which so many bytes have come, is one of the sequence that is due.
+    // Whether the Data-Out, with which `n` bytes have come, is one of the sequence that is due.
     fn is_in_sequence(&self, first_burst: u32, head: &DataOut, reached: u64) -> bool
         ensures { result ≡ is_in_sequence first_burst self.now head.now reached self.now.due }
     {

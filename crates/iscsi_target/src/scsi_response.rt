@@ -12,7 +12,7 @@ use scsi_cdb::{Residual, Sense};
 use scsi_disk::Outcome;
 use std::alloc::AllocError;
 
-/// The head of the response to a command whose data were sent in so many PDUs.
+/// The head of the response to a command whose data were sent in `n` PDUs.
 pub fn response_head(numbers: Numbers, tag: u32, outcome: &Outcome, count: u32) -> Head
     ensures head { (s : Session) (waiting : ℕ) → s.stat_sn ≡ numbers.stat_sn
         → s.exp_cmd_sn ≡ numbers.exp_cmd_sn → max_cmd_sn_with s waiting ≡ numbers.max_cmd_sn

@@ -29,7 +29,7 @@ use std::marker::Model;
 /// |---|---|
 /// | `Login` | Login Requests are answered or refused; another PDU closes the session |
 /// | `Full` | requests are answered, commands executed on the store, in their order; behind a write that takes its data up to eight wait |
-/// | `Closed` | each call answers `Closed` |
+/// | `Closed` | each call returns `Closed` |
 #[derive(Drop)]
 pub struct Target {
     machine: Machine,
@@ -65,11 +65,11 @@ impl Target {
     /// Takes a piece of the stream, and appends the answers to the PDUs that it completes. Says in
     /// which phase the session is then.
     ///
-    /// A login that is refused and a logout answer `Closed`, and the rest of the piece is dropped.
+    /// A login that is refused and a logout return `Closed`, and the rest of the piece is dropped.
     /// After a fault the session is closed: `out` has the whole answers to the tasks that were
     /// handled before, and a Reject where a rule was broken in full feature phase. The task at which
     /// memory ran out wrote nothing and changed no block, and none behind it was handled. A closed
-    /// session answers `Closed` and takes nothing (RFC 7143, sections 6 and 11; the rules and their
+    /// session returns `Closed` and takes nothing (RFC 7143, sections 6 and 11; the rules and their
     /// order are own).
     pub fn feed<S: BlockStore>(
         &mut self,
@@ -177,7 +177,7 @@ impl Target {
         self.machine.stage()
     }
 
-    /// Ends the stream. Answers `Stream` with `Truncated` where it ends within a PDU, which closes
+    /// Ends the stream. Returns `Stream` with `Truncated` where it ends within a PDU, which closes
     /// the session, and `Closed` where it was closed before.
     pub fn finish(&mut self) -> Result<(), TargetFault>
         ensures finishes { Finishes self.old result self.new }

@@ -25,13 +25,13 @@ abbrev pub reject : Session → ℕ → ℕ → Message → Reply
 reject s waiting reason m = rejected s waiting reason (canonical_header m)
 
 -- A PDU with this header broke the rule: it is rejected, and the session is closed (own rule).
-abbrev pub breached : Session → ℕ → ℕ → List ℕ → Reply
-breached s waiting rule header = record {
+abbrev pub rejected_and_closed : Session → ℕ → ℕ → List ℕ → Reply
+rejected_and_closed s waiting rule header = record {
   session = ended (counted s);
   answers = (rejected s waiting protocol_error header).answers;
   rule = Some rule;
 }
 
 -- A PDU broke the rule.
-abbrev pub breach : Session → ℕ → ℕ → Message → Reply
-breach s waiting rule m = breached s waiting rule (canonical_header m)
+abbrev pub reject_and_close : Session → ℕ → ℕ → Message → Reply
+reject_and_close s waiting rule m = rejected_and_closed s waiting rule (canonical_header m)

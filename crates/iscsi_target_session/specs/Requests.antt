@@ -10,7 +10,7 @@ use Rattle.iscsi_stream.specs.Stream.{Message}
 use Rattle.iscsi_stream.specs.Canonical.{canonical_header}
 use Rattle.iscsi_target_session.specs.Session.{Session, Reply, nothing, send_response, ended, max_cmd_sn_with}
 use Rattle.iscsi_pdu.specs.Fields.{reserved_tag}
-use Rattle.iscsi_target_session.specs.Rejecting.{breach, breached}
+use Rattle.iscsi_target_session.specs.Rejecting.{reject_and_close, rejected_and_closed}
 use Rattle.iscsi_target_session.specs.TextRequests.{text_request}
 use Rattle.iscsi_pdu.specs.Rules.{kind_not_due, logout_reason}
 use Rattle.iscsi_stream.specs.Segment.{segment_bytes}
@@ -71,7 +71,7 @@ logged_out s waiting h = record {
 -- rule).
 abbrev pub logout_answered : Session → ℕ → LogoutRequest → List ℕ → Reply
 logout_answered s waiting h header =
-    if nat_le h.reason 1 then logged_out s waiting h else breached s waiting logout_reason header
+    if nat_le h.reason 1 then logged_out s waiting h else rejected_and_closed s waiting logout_reason header
 
 -- A Logout Request (section 11.14).
 abbrev pub logout_request : Session → ℕ → Message → LogoutRequest → Reply
@@ -79,7 +79,7 @@ logout_request s waiting m h = logout_answered s waiting h (canonical_header m)
 
 -- ---- any of them
 
--- The answer to a request that is no command, by its kind, while so many commands wait (section
+-- The answer to a request that is no command, by its kind, while n commands wait (section
 -- 4.2.4).
 abbrev pub request_answered : Session → ℕ → Message → Head → Reply
 request_answered s waiting m (heads.NopOut h) = nop_out s waiting h (segment_bytes m.segment)
@@ -87,16 +87,16 @@ request_answered s waiting m (heads.TaskRequest h) = task_request s waiting h
 request_answered s waiting m (heads.TextRequest h) =
     text_request s waiting m h (segment_bytes m.segment)
 request_answered s waiting m (heads.LogoutRequest h) = logout_request s waiting m h
-request_answered s waiting m (heads.ScsiCommand h) = breach s waiting kind_not_due m
-request_answered s waiting m (heads.LoginRequest h) = breach s waiting kind_not_due m
-request_answered s waiting m (heads.DataOut h) = breach s waiting kind_not_due m
-request_answered s waiting m (heads.NopIn h) = breach s waiting kind_not_due m
-request_answered s waiting m (heads.ScsiResponse h) = breach s waiting kind_not_due m
-request_answered s waiting m (heads.TaskResponse h) = breach s waiting kind_not_due m
-request_answered s waiting m (heads.LoginResponse h) = breach s waiting kind_not_due m
-request_answered s waiting m (heads.TextResponse h) = breach s waiting kind_not_due m
-request_answered s waiting m (heads.DataIn h) = breach s waiting kind_not_due m
-request_answered s waiting m (heads.LogoutResponse h) = breach s waiting kind_not_due m
-request_answered s waiting m (heads.ReadyToTransfer h) = breach s waiting kind_not_due m
-request_answered s waiting m (heads.AsyncMessage h) = breach s waiting kind_not_due m
-request_answered s waiting m (heads.Reject h) = breach s waiting kind_not_due m
+request_answered s waiting m (heads.ScsiCommand h) = reject_and_close s waiting kind_not_due m
+request_answered s waiting m (heads.LoginRequest h) = reject_and_close s waiting kind_not_due m
+request_answered s waiting m (heads.DataOut h) = reject_and_close s waiting kind_not_due m
+request_answered s waiting m (heads.NopIn h) = reject_and_close s waiting kind_not_due m
+request_answered s waiting m (heads.ScsiResponse h) = reject_and_close s waiting kind_not_due m
+request_answered s waiting m (heads.TaskResponse h) = reject_and_close s waiting kind_not_due m
+request_answered s waiting m (heads.LoginResponse h) = reject_and_close s waiting kind_not_due m
+request_answered s waiting m (heads.TextResponse h) = reject_and_close s waiting kind_not_due m
+request_answered s waiting m (heads.DataIn h) = reject_and_close s waiting kind_not_due m
+request_answered s waiting m (heads.LogoutResponse h) = reject_and_close s waiting kind_not_due m
+request_answered s waiting m (heads.ReadyToTransfer h) = reject_and_close s waiting kind_not_due m
+request_answered s waiting m (heads.AsyncMessage h) = reject_and_close s waiting kind_not_due m
+request_answered s waiting m (heads.Reject h) = reject_and_close s waiting kind_not_due m

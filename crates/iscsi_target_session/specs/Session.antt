@@ -69,7 +69,7 @@ ended s = record s { phase = phases.Closed; gathered = [] }
 
 -- ---- numbers
 
--- MaxCmdSN while so many tasks wait: the window is as wide as eight commands, less those (section
+-- MaxCmdSN while n tasks wait: the window is as wide as eight commands, less those (section
 -- 4.2.2.1; the width is own rule).
 abbrev pub max_cmd_sn_with : Session → ℕ → ℕ
 max_cmd_sn_with s waiting = (s.exp_cmd_sn + (2 ^ 32 + 7 - waiting)) % 2 ^ 32

@@ -13,7 +13,7 @@ use Rattle.iscsi_pdu.specs.declared.head.Head.TheVariants as heads
 use Rattle.iscsi_stream.specs.Stream.{Message}
 use Rattle.iscsi_target_session.specs.Session.{Session, Reply, send_response, max_cmd_sn_with}
 use Rattle.iscsi_pdu.specs.Fields.{reserved_tag}
-use Rattle.iscsi_target_session.specs.Rejecting.{breach}
+use Rattle.iscsi_target_session.specs.Rejecting.{reject_and_close}
 use Rattle.iscsi_pdu.specs.Rules.{text_at_fault}
 use Rattle.iscsi_target_session.specs.LoginText.{value_for}
 
@@ -76,12 +76,12 @@ text_head s waiting h = heads.TextResponse (record {
 -- longer one closes the session is own rule).
 abbrev pub text_reply : Session → ℕ → Message → TextRequest → List ℕ → Reply
 text_reply s waiting m h text =
-    if nat_lt s.held.initiator_max_recv (length text) then breach s waiting text_at_fault m
+    if nat_lt s.held.initiator_max_recv (length text) then reject_and_close s waiting text_at_fault m
     else send_response s (text_head s waiting h) text
 
 -- The segment is a text, or not (section 6.1).
 abbrev pub text_reply_to : Session → ℕ → Message → TextRequest → Option Pairs → Reply
-text_reply_to s waiting m h None = breach s waiting text_at_fault m
+text_reply_to s waiting m h None = reject_and_close s waiting text_at_fault m
 text_reply_to s waiting m h (Some pairs) =
     text_reply s waiting m h (canonical_text (reply_pairs s.settings.name pairs))
 
@@ -89,5 +89,5 @@ text_reply_to s waiting m h (Some pairs) =
 abbrev pub text_request : Session → ℕ → Message → TextRequest → List ℕ → Reply
 text_request s waiting m h bytes =
     if not h.is_final || (h.continues || not (h.target_transfer_tag == reserved_tag))
-    then breach s waiting text_at_fault m
+    then reject_and_close s waiting text_at_fault m
     else text_reply_to s waiting m h (text_in bytes)

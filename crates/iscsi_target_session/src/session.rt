@@ -5,7 +5,7 @@ ghost use Rattle.std.specs.Prelude.{◌≡◌, ◌<◌, ◌^◌, length};
 ghost use Rattle.iscsi_pdu.specs.Meaning.{Fits};
 ghost use Rattle.iscsi_login.specs.Stage.{is_closed_phase};
 ghost use Rattle.iscsi_target_session.specs.Session.{opening_session, max_cmd_sn_with, send_response, counted, ended};
-ghost use Rattle.iscsi_target_session.specs.Rejecting.{reject, breach};
+ghost use Rattle.iscsi_target_session.specs.Rejecting.{reject, reject_and_close};
 ghost use Rattle.iscsi_target_session.specs.Replies.{Does};
 
 mod login;
@@ -143,7 +143,7 @@ impl Session {
         self.isid
     }
 
-    /// The serial numbers of an answer, while so many tasks wait.
+    /// The serial numbers of an answer, while `n` tasks wait.
     pub fn numbers(&self, waiting: u32) -> Numbers
         ensures stat_sn { result.stat_sn ≡ self.now.stat_sn }
         ensures exp_cmd_sn { result.exp_cmd_sn ≡ self.now.exp_cmd_sn }
@@ -221,15 +221,15 @@ impl Session {
         self.send_response(&head, &header, out)
     }
 
-    /// A PDU broke the rule: it is rejected, and the session is closed. Answers the rule.
-    pub fn breach(
+    /// A PDU broke the rule: it is rejected, and the session is closed. Returns the rule.
+    pub fn reject_and_close(
         &mut self,
         waiting: u32,
         rule: u8,
         received: &Received<'_>,
         out: &mut Vec<u8>,
     ) -> Result<Option<u8>, AllocError>
-        ensures { Does (breach self.old waiting rule received.now) result
+        ensures { Does (reject_and_close self.old waiting rule received.now) result
             self.old self.new out.old.items out.new.items }
     {
         self.reject(waiting, PROTOCOL_ERROR, received, out)?;

@@ -49,7 +49,7 @@ impl<'a> Model for Text<'a> {
 }
 
 impl<'a> Text<'a> {
-    /// Reads a text (RFC 7143, section 6.1), or answers its first fault and the fault's place.
+    /// Reads a text (RFC 7143, section 6.1), or returns its first fault and the fault's place.
     ///
     /// Memory is taken for the list of pairs. Beside it the sort of more than 20 pairs whose keys
     /// neither ascend nor strictly descend takes a second list as long, while it runs; and where a

@@ -18,12 +18,12 @@ use scsi_disk::SparseStore;
 use std::alloc::Global;
 use std::io::{Read, Write};
 
-/// Writes the answers of a target, with a disk of so many blocks of 00, to the stream that a reader
+/// Writes the answers of a target, with a disk of `n` blocks of 00, to the stream that a reader
 /// gives; what one read leads to goes out in one write. It stops where the session is closed.
 ///
 /// What is written are the answers to all PDUs of what was read, and when out of memory those to
 /// some first PDUs and to some first tasks of the next one; of a failed write nothing is said.
-/// Answers `Stream` where the stream ends within a PDU or has what the target's framer refuses, with
+/// Returns `Stream` where the stream ends within a PDU or has what the target's framer refuses, with
 /// the place of that; `Protocol` with the rule that the last PDU broke; `Ok` where no rule was broken
 /// and the stream ends behind a PDU, or the session was closed: a refused login is no fault. `Read`,
 /// `Write` and `NoMemory` are as in `normalise`.
@@ -53,7 +53,7 @@ pub fn answer<R: Read, W: Write>(
 /// Writes the answers to a stream that comes as hex text, as `answer` does, in lower hex, as they
 /// come. The text is read to its end first.
 ///
-/// Answers what `answer` does for the bytes that the text means, and `NotHex` as `read_bytes`. A
+/// Returns what `answer` does for the bytes that the text means, and `NotHex` as `read_bytes`. A
 /// line end follows the answers behind `Ok`, `Stream` and `Protocol`. After `NotHex`, and where
 /// memory or the reader was wanting before the text was whole, nothing is written; when out of
 /// memory later the digits of those answers that `answer` writes then. Of a failed write nothing is

@@ -32,7 +32,7 @@ pub enum ComparisonFault {
 }
 
 impl ComparisonFault {
-    /// The exit status that says the fault: that of `status` (own rule).
+    /// The exit status that says the fault: that of `status`.
     pub fn status(&self) -> u8
         ensures { result ≡ fault_status self.now }
     {

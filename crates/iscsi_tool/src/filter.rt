@@ -22,7 +22,7 @@ pub enum Work {
     Normalise,
     /// Writes the canonical text of one text.
     Text,
-    /// Writes the answers of a target whose disk has so many blocks of 512 bytes, 1 to 2^40.
+    /// Writes the answers of a target whose disk has `n` blocks of 512 bytes, 1 to 2^40.
     Answer(u64),
 }
 

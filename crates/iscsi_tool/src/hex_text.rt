@@ -24,7 +24,7 @@ fn digits(alloc: Global, text: &[u8]) -> Result<Vec<u8>, AllocError>
 
 /// Reads hex text to its end and returns the bytes that it means.
 ///
-/// Answers `NotHex` where the text, its blanks, line ends and carriage returns aside, is not whole
+/// Returns `NotHex` where the text, its blanks, line ends and carriage returns aside, is not whole
 /// pairs of hex digits, or where it has more than 1,048,576 bytes; `Read` where a read fails or
 /// 16,777,216 of them did not reach the end; and `NoMemory` where memory runs out.
 pub fn read_bytes<R: Read>(alloc: Global, r: &mut R) -> Result<Vec<u8>, ToolFault>

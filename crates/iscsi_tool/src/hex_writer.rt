@@ -8,7 +8,7 @@ ghost use Rattle.iscsi_tool.specs.Spelling.{whole_digits, hex_contents, lent_con
 use std::io;
 use std::io::Write;
 
-/// So many bytes at most are spelled for one write to the writer behind.
+/// How many bytes are spelled at most for one write to the writer behind.
 const PIECE: usize = 256;
 
 /// Writes the lower-case hex digits of what it is given, two for each byte, to another writer.

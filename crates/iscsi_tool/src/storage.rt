@@ -13,9 +13,9 @@ use thiserror::Error;
 /// Where the image of a disk comes from.
 #[derive(Clone, Copy, Debug, PartialEq, Eq)]
 pub enum Origin {
-    /// It is there, and has so many blocks, if that is said.
+    /// It is there, and has `n` blocks, if that is said.
     Found { blocks: Option<u64> },
-    /// It is made, of so many blocks of 00, 1 to 2^40.
+    /// It is made, of `n` blocks of 00, 1 to 2^40.
     New { blocks: u64 },
 }
 
@@ -31,7 +31,7 @@ pub struct Image<'a> {
 /// What the disk of a service is kept in.
 #[derive(Clone, Copy, Debug, PartialEq, Eq)]
 pub enum Storage<'a> {
-    /// Memory, with so many blocks of 00, 1 to 2^40.
+    /// Memory, with `n` blocks of 00, 1 to 2^40.
     Memory { blocks: u64 },
     /// An image. What was written lasts.
     Image(Image<'a>),

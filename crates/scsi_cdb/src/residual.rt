@@ -6,8 +6,8 @@
 pub enum Residual {
     /// There is none.
     Exact,
-    /// So many bytes were expected and not transferred (bit U).
+    /// `n` bytes were expected and not transferred (bit U).
     Under(u32),
-    /// So many bytes were there and not expected, and were not transferred (bit O).
+    /// `n` bytes were there and not expected, and were not transferred (bit O).
     Over(u32),
 }

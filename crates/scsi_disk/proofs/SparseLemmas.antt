@@ -99,7 +99,7 @@ joined-blank size b (suc c) =
     ap (λ t. replicate size 0 ++ t) (joined-blank size (b + 1) c) ∙ replicate-append-replicate size (size * c) 0
     ∙ ap (λ k. replicate k 0) (let e : size + size * c ≡ size * suc c = omega arith in e)
 
--- so many blocks from n on lie in one extent, which is this
+-- c blocks from n on lie in one extent, which is this
 module _ (count : ℕ) (es : List (ℕ × List ℕ)) (n c : ℕ) (o : Option (List ℕ)) (is : o ≡ lookup (is_at (nat_cmp (n / 64))) es)
     (one : n % 64 + c ≤ 64) (inside : n + c ≤ count) where
   in_run : (i : ℕ) → i < c → (disk_in (record { count = count; extents = from_entries es })).block (n + i) ≡ block_in 512 o (n % 64 + i)

@@ -3,7 +3,7 @@ use Rattle.std.specs.Prelude.{◌^◌, ◌≡◌, ℕ, zero, suc, ◌+◌, ◌-�
 use Rattle.scsi_disk.specs.declared.store.StoreFault.{StoreFault}
 use Rattle.scsi_disk.specs.declared.store.StoreFault.TheVariants.{Device, NoMemory}
 
--- so many blocks, and the bytes of each
+-- n blocks, and the bytes of each
 pub record Disk : Type 0 where
   pub count : ℕ
   pub block : ℕ → List ℕ
@@ -20,16 +20,16 @@ pub record IsDisk (disk : Disk) : Type 0 where
 unfoldable pub cut : ℕ → List ℕ → ℕ → List ℕ
 cut size bytes n = take size (drop (size * n) bytes)
 
--- the bytes of so many blocks from the first on
+-- the bytes of n blocks from the first on
 unfoldable pub joined : (ℕ → List ℕ) → ℕ → ℕ → List ℕ
 joined block first zero = []
 joined block first (suc count) = block first ++ joined block (first + 1) count
 
--- the bytes of so many blocks of a disk from the first on
+-- the bytes of n blocks of a disk from the first on
 abbrev pub blocks_from : Disk → ℕ → ℕ → List ℕ
 blocks_from disk first count = joined disk.block first count
 
--- so many bytes were appended
+-- n bytes were appended
 pub record Appends (count : ℕ) (old new : List ℕ) : Type 0 where
   pub bytes : List ℕ
   pub size : length bytes ≡ count
@@ -54,7 +54,7 @@ pub record IsOldOrNew (old new disk : Disk) : Type 0 where
   pub tells : disk.tells ≡ old.tells
   pub each : (n : ℕ) → (disk.block n ≡ old.block n) ⊎ (disk.block n ≡ new.block n)
 
--- so many blocks of a size, of 00, and nothing past them
+-- n blocks of a size, of 00, and nothing past them
 unfoldable pub zero_blocks : ℕ → ℕ → ℕ → List ℕ
 zero_blocks size count n = if nat_lt n count then replicate size 0 else []
 
@@ -62,7 +62,7 @@ zero_blocks size count n = if nat_lt n count then replicate size 0 else []
 abbrev pub most_blocks : ℕ
 most_blocks = 2 ^ 40
 
--- a disk of so many blocks of 00
+-- a disk of n blocks of 00
 abbrev pub zeros : ℕ → Disk
 zeros count = record { count = count; block = zero_blocks 512 count; tells = true }
 

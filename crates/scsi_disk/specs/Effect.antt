@@ -20,7 +20,7 @@ residual_of wanted expected =
     else if nat_lt expected wanted then Over (wanted - expected)
     else Exact
 
--- GOOD, for a command that has so many bytes
+-- GOOD, for a command that has n bytes
 abbrev pub good : Order → ℕ → List ℕ → Outcome
 good order wanted bytes = record {
   status = 0x00;
@@ -75,12 +75,12 @@ effect disk order bytes =
 
 -- ---- a call
 
--- where so many bytes are taken, there are as many
+-- where n bytes are taken, there are as many
 abbrev pub IsSuppliedBy : Plan → List ℕ → Type 0
 IsSuppliedBy (Take n) bytes = length bytes ≡ n
 IsSuppliedBy _ bytes = Unit {0}
 
--- the bytes are those that the order takes, on a disk of so many blocks
+-- the bytes are those that the order takes, on a disk of n blocks
 abbrev pub IsSupplied : ℕ → Order → List ℕ → Type 0
 IsSupplied count order bytes = IsSuppliedBy (plan_of order count) bytes
 

@@ -84,13 +84,13 @@ data_of present last (ReportLuns select allocation_length control) =
     option_map (take allocation_length) (luns select)
 data_of present last _ = Some []
 
--- the data that an order other than a READ gives, on a disk of so many blocks; only unit 0 is there
+-- the data that an order other than a READ gives, on a disk of n blocks; only unit 0 is there
 abbrev pub parameter_data : Order → ℕ → Option (List ℕ)
 parameter_data order blocks = data_of (order.lun == 0) (blocks - 1) order.cdb
 
 -- ---- refusals
 
--- The reasons to refuse an order on a disk of so many blocks, in their order: an unknown command; a
+-- The reasons to refuse an order on a disk of n blocks, in their order: an unknown command; a
 -- unit other than 0, but for the standard INQUIRY data; data both ways; data for a command that
 -- takes none; protection (RDPROTECT or WRPROTECT); a page or a report that there is not; over 8,192
 -- blocks; blocks past the end; a WRITE that expects other than its blocks, or sends none of them; a
@@ -144,6 +144,6 @@ plan_by None order blocks =
     if is_write order.cdb then Take (512 * (transfer order.cdb).count)
     else Give (min (wanted_length order blocks) (expected_length order))
 
--- what an order leads to, on a disk of so many blocks
+-- what an order leads to, on a disk of n blocks
 abbrev pub plan_of : Order → ℕ → Plan
 plan_of order blocks = plan_by (first_refusal order blocks) order blocks

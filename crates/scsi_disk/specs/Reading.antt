@@ -15,7 +15,7 @@ whole_blocks order (Give length) =
     else None
 whole_blocks order _ = None
 
--- These bytes were read from so many blocks, over a store whose failures were counted before and
+-- These bytes were read from n blocks, over a store whose failures were counted before and
 -- after: they are those of the disk where none was counted, and one was counted and not told only
 -- where the store doesn't tell each.
 pub record WereRead (disk : Disk) (first count before after : ℕ) (bytes : List ℕ) : Type 0 where

@@ -9,7 +9,7 @@ use Rattle.scsi_disk.specs.Effect.{Effect, Executes, effect, IsSupplied}
 abbrev pub Supplied : Type 0
 Supplied = Order × List ℕ
 
--- each order has the bytes that it takes, on a disk of so many blocks
+-- each order has the bytes that it takes, on a disk of n blocks
 abbrev pub AreSupplied : ℕ → List Supplied → Type 0
 AreSupplied count orders = All (λ o. IsSupplied count o.0 o.1) orders
 
@@ -24,7 +24,7 @@ RunsIn before disk (o ∷ orders) after last told =
     × RunsIn now left.disk orders after last more
     × (told ≡ left.outcome ∷ more)
 
--- so many first orders ran, and no other did anything
+-- n first orders ran, and no other did anything
 abbrev pub RunsSome : ℕ → Disk → List Supplied → ℕ → Disk → Type 0
 RunsSome before disk orders after last =
     (n : ℕ) × (told : List Outcome) × (n ≤ length orders)

@@ -40,7 +40,7 @@ pub record AreExtents (count : ℕ) (extents : FinMap nat_cmp (List ℕ)) : Type
 abbrev pub IsBlank : List ℕ → Type 0
 IsBlank bytes = (n : ℕ) → n < 64 → block_in 512 (Some bytes) n ≡ block_in 512 None n
 
--- the extents of so many blocks from the first on are there
+-- the extents of n blocks from the first on are there
 abbrev pub HasBlocks : FinMap nat_cmp (List ℕ) → ℕ → ℕ → Type 0
 HasBlocks extents first count =
     (n : ℕ) → first ≤ n → n < first + count → IsSome (get extents (n / 64))

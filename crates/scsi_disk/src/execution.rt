@@ -33,7 +33,7 @@ fn residual(wanted: u32, expected: u32) -> Residual
     }
 }
 
-/// GOOD, for a command that has so many bytes.
+/// GOOD, for a command that has `n` bytes.
 pub(crate) fn good(order: &Order, wanted: u32, bytes: Vec<u8>) -> Outcome
     ensures { result ≡ good order.now wanted bytes.items }
 {
@@ -83,7 +83,7 @@ fn read_front<S: BlockStore>(
     Ok(bytes)
 }
 
-/// Gives the data of an order that is planned to give so many bytes.
+/// Gives the data of an order that is planned to give `n` bytes.
 #[tactic(auto, using(crate::proofs::PlanLemmas::given))]
 fn give<S: BlockStore>(
     alloc: Global,
@@ -119,7 +119,7 @@ fn give<S: BlockStore>(
     Ok(good(order, wanted, bytes))
 }
 
-/// Writes the data of an order that is planned to take so many bytes.
+/// Writes the data of an order that is planned to take `n` bytes.
 fn take<S: BlockStore>(
     alloc: Global,
     order: &Order,

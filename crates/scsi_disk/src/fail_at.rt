@@ -41,7 +41,7 @@ impl FailAt {
         }
     }
 
-    /// Counts a call, and answers whether it fails.
+    /// Counts a call, and says whether it fails.
     fn fails(&mut self) -> bool
         ensures next { result ≡ is_next self.old.before }
         ensures passed { self.new ≡ passed self.old }

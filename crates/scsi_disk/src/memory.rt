@@ -17,7 +17,7 @@ pub fn read_blocks(bytes: &[u8], lba: usize, out: &mut [u8])
     out.copy_from_slice(&bytes[first..first + out.len()]);
 }
 
-/// Appends so many blocks of some bytes, from block `lba` on, or leaves `out` as it was.
+/// Appends `n` blocks of some bytes, from block `lba` on, or leaves `out` as it was.
 pub(crate) fn append_blocks(
     bytes: &[u8],
     lba: usize,
@@ -61,7 +61,7 @@ impl Model for MemoryStore {
 }
 
 impl MemoryStore {
-    /// A store of so many blocks of 00, from 1 to 65,536.
+    /// A store of `n` blocks of 00, from 1 to 65,536.
     pub fn new(alloc: Global, blocks: u64) -> Result<MemoryStore, AllocError>
         requires some { 0 < blocks }
         requires few { blocks ≤ 65536 }

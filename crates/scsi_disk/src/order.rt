@@ -22,9 +22,9 @@ pub struct Order {
 pub enum Plan {
     /// It is refused for this reason.
     Refuse(Sense),
-    /// It takes so many bytes, which are then written.
+    /// It takes `n` bytes, which are then written.
     Take(u32),
-    /// It gives so many bytes, and changes no block.
+    /// It gives `n` bytes, and changes no block.
     Give(u32),
 }
 

@@ -109,7 +109,7 @@ fn is_standard_inquiry(cdb: &Cdb) -> bool
 }
 
 impl Transfer {
-    /// It ends past so many blocks, also where its end is not below 2^64.
+    /// It ends past `n` blocks, also where its end is not below 2^64.
     fn ends_past(&self, blocks: u64) -> bool
         ensures { result ≡ nat_lt blocks (self.now.first + self.now.count) }
     {
@@ -120,7 +120,7 @@ impl Transfer {
     }
 }
 
-/// At most so many bytes of these, as a short list.
+/// At most `n` bytes of these, as a short list.
 fn at_most(bytes: &[u8], most: usize) -> ArrayVec<u8, 36>
     requires { length bytes.now ≤ 36 }
     ensures { result.items ≡ take most bytes.now }
@@ -243,7 +243,7 @@ pub(crate) fn wanted_length(order: &Order, blocks: u64) -> u32
     }
 }
 
-/// What an order leads to, on a disk of so many blocks.
+/// What an order leads to, on a disk of `n` blocks.
 ///
 /// It is refused for the first of these reasons that applies:
 /// 1. `InvalidCode`: its command is unknown.

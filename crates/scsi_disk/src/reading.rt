@@ -37,7 +37,7 @@ pub fn whole_blocks(order: &Order, planned: Plan) -> Option<BlockRange>
     }
 }
 
-/// The outcome of a READ whose blocks were read, on a disk of so many blocks: GOOD. Its data, which
+/// The outcome of a READ whose blocks were read, on a disk of `n` blocks: GOOD. Its data, which
 /// the caller has, are left out.
 pub fn read_outcome(alloc: Global, order: &Order, blocks: u64) -> Outcome
     requires { (length : ℕ) × (plan_of order.now blocks ≡ Plan.Give length) }

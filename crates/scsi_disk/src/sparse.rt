@@ -33,7 +33,7 @@ impl Model for Extent {
 }
 
 impl Extent {
-    /// So many blocks of 00, of which an extent has 64.
+    /// `n` blocks of 00, of which an extent has 64.
     fn blank(alloc: Global, blocks: usize) -> Result<Extent, AllocError>
         requires { blocks ≡ 64 }
         ensures blank { IfOk result IsBlank }
@@ -85,7 +85,7 @@ impl Model for SparseStore {
 }
 
 impl SparseStore {
-    /// A store of so many blocks of 00, from 1 to 2^40. It takes no memory.
+    /// A store of `n` blocks of 00, from 1 to 2^40. It takes no memory.
     pub fn new(alloc: Global, blocks: u64) -> SparseStore
         requires some { 0 < blocks }
         requires few { blocks ≤ most_blocks }
@@ -296,7 +296,7 @@ impl BlockStore for SparseStore {
     }
 }
 
-/// How many of so many blocks, from block `n` on, lie in the extent of the first.
+/// How many of these blocks, from block `n` on, lie in the extent of the first.
 fn run_length(n: u64, blocks: usize) -> usize
     requires { 0 < blocks }
     ensures some { 0 < result }

@@ -76,7 +76,7 @@ pub trait BlockStore {
         ensures tells { Tells (disk self.old).tells (failures self.old) (failures self.new)
             (untold self.old) (untold self.new) result };
 
-    /// Appends so many whole blocks, from block `lba` on, to `out`. They lie inside the store.
+    /// Appends `n` whole blocks, from block `lba` on, to `out`. They lie inside the store.
     /// After an error `out` is as it was: `NoMemory` may also say that it could not grow, and
     /// `Device` comes as it does of a read. No block changes.
     ///

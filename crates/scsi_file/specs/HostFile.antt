@@ -4,7 +4,7 @@ use Rattle.scsi_disk.specs.Disk.{Disk, zeros}
 use Rattle.scsi_file.specs.declared.host_file.HostFile.{HostFile}
 use Rattle.scsi_file.specs.Hiding.{hiding}
 
--- so many blocks; nothing is known of their bytes, for which 00 stand
+-- n blocks; nothing is known of their bytes, for which 00 stand
 abbrev pub unknown : ℕ → Disk
 unknown count = hiding (zeros count)
 

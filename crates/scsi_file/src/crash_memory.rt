@@ -55,7 +55,7 @@ impl CrashMemory {
     }
 }
 
-// Makes each block what it was so many contents ago, of those that there were.
+// Makes each block what it was `n` contents ago, of those that there were.
 fn restore_all(bytes: &mut [u8], past: &[Vec<u8>], back: &[usize])
     requires whole { AreBlocks bytes.old }
     ensures size { length bytes.new ≡ length bytes.old }

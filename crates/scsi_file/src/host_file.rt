@@ -79,7 +79,7 @@ impl HostFile {
         HostFile::of(file, bytes)
     }
 
-    /// Makes an image of so many blocks of 00, from 1 to 2^40, at its full size, where there is no
+    /// Makes an image of `n` blocks of 00, from 1 to 2^40, at its full size, where there is no
     /// file; it and its name last.
     pub fn create(rt: &HostRuntime, path: &str, blocks: u64) -> Result<HostFile, OpenFault>
         requires some { 0 < blocks }
@@ -104,7 +104,7 @@ impl HostFile {
         }
     }
 
-    // An image of so many bytes.
+    // An image of `n` bytes.
     fn of(file: File, bytes: u64) -> Result<HostFile, OpenFault>
         ensures size { IfOk result (λ file. 512 * blocks_of file ≡ bytes) }
     {
@@ -196,7 +196,7 @@ fn not_opened(error: io::Error) -> OpenFault {
     }
 }
 
-// What the system answered.
+// What the system returned.
 fn told(answer: io::Result<()>) -> Result<(), StoreFault>
     ensures { IfErr result (λ fault. fault ≡ StoreFault.Device) }
 {

@@ -5,7 +5,7 @@ ghost use Rattle.std.specs.Prelude.{◌≡◌, ℕ, List, ◌+◌, ◌*◌, ◌/
 use crate::medium::Medium;
 use scsi_disk::StoreFault;
 
-/// A medium on another one, so many calls of which are passed on; each later one fails with
+/// A medium on another one, `n` calls of which are passed on; each later one fails with
 /// `Device` and changes nothing. It is as where a process, or the machine, stops at that call.
 #[derive(Drop)]
 pub struct StopsAt<M: Medium> {
@@ -16,7 +16,7 @@ pub struct StopsAt<M: Medium> {
 impl<M: Medium> StopsAt<M> {
     ghost use Rattle.scsi_file.specs.StopsAt.{stopped_of};
 
-    /// The medium, of which so many calls work.
+    /// The medium, of which `n` calls work.
     pub fn new(medium: M, calls: u64) -> StopsAt<M>
         ensures { stopped_of result ≡ medium }
     {
@@ -33,7 +33,7 @@ impl<M: Medium> StopsAt<M> {
         self.medium
     }
 
-    // Counts a call, and answers whether it works.
+    // Counts a call, and says whether it works.
     fn works(&mut self) -> bool
         ensures { stopped_of self.new ≡ stopped_of self.old }
     {

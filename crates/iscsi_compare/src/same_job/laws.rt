@@ -26,7 +26,7 @@ pub fn through_a_third()
 {}
 
 /// Of two streams of the profile, of which as much was read as was needed: a verdict says truly
-/// whether they are of one job, and no fault of a stream is answered.
+/// whether they are of one job, and no fault of a stream is returned.
 pub fn whole_runs()
     ensures same { (s t : List ℕ) (ms ns : List Message) (left other_left : Option (List ℕ))
         (first second : Input) → Gave (Some s) left first → Gave (Some t) other_left second

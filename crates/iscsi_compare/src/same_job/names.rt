@@ -28,7 +28,7 @@ impl<K: Ord + Copy + Drop> Names<K> {
         }
     }
 
-    /// One name is known, which stands for itself. Answers `AllocError` where memory runs out.
+    /// One name is known, which stands for itself. Returns `AllocError` where memory runs out.
     pub(crate) fn fixed(alloc: Global, name: K) -> Result<Names<K>, AllocError>
         requires exact { CmpEqualImpliesEq K.cmp }
         ensures sound { IfOk result (λ names. IsSound K.cmp names.there names.back) }

@@ -33,7 +33,7 @@ pub(crate) struct Renaming {
 }
 
 impl Renaming {
-    /// Nothing is known but the names that stand for themselves. Answers `AllocError` where memory
+    /// Nothing is known but the names that stand for themselves. Returns `AllocError` where memory
     /// runs out.
     pub(crate) fn new(alloc: Global) -> Result<Renaming, AllocError>
         ensures sound { IfOk result IsSoundRenaming }
@@ -51,7 +51,7 @@ impl Renaming {
 
     /// Whether some renumbering that agrees with all that is known gives what stands next in the
     /// second stream from what stands next in the first: a PDU that is ready in both, or none in
-    /// either. If so, it learns which. Answers `AllocError` where memory runs out; what is known is
+    /// either. If so, it learns which. Returns `AllocError` where memory runs out; what is known is
     /// then of no use.
     pub(crate) fn accepts_next(
         &mut self,

@@ -11,7 +11,7 @@ use iscsi_text::Text;
 use std::alloc::{AllocError, Global};
 
 /// Whether the segments of two PDUs, each of which continues another login PDU or does not, mean
-/// the same. Answers `AllocError` where memory runs out.
+/// the same. Returns `AllocError` where memory runs out.
 pub(crate) fn is_same_segment(
     alloc: Global,
     mine: &Pdu<'_>,

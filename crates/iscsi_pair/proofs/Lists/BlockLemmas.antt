@@ -59,7 +59,7 @@ joined_back xs ys first count whole inside =
 
 -- ---- an order
 
--- pieces that tile so many bytes have as many
+-- pieces that tile n bytes have as many
 tiles_size : (at : ℕ) (pieces : Pieces) (end : ℕ) → TilesFrom at pieces end → at + length (data_of pieces) ≡ end
 tiles_size at [] end e = omega (arith, e)
 tiles_size at (piece ∷ pieces) end e =

@@ -39,7 +39,7 @@ a_write t = record { cdb = Write10 t; lun = 0; read = false; write = true; expec
 abbrev a_read : Transfer10 → Order
 a_read t = record { cdb = Read10 t; lun = 0; read = true; write = false; expected = 512 * t.blocks }
 
--- so many bytes are some
+-- n bytes are some
 not_none : (n : ℕ) → 0 < n → not (512 * n == 0) ≡ true
 not_none n some = ap not (ne_eqb (512 * n) 0 (λ none. omega (arith, some, none)))
 
@@ -59,7 +59,7 @@ read_order c write_cdb read_cdb bytes p =
     ∙ ap (λ (b : Bool). (let order : Order = record { cdb = Read10 p.named; lun = 0; read = b; write = false; expected = 512 * p.named.blocks } in order))
     (not_none p.named.blocks p.some)
 
--- what no disk of so many blocks refuses
+-- what no disk of n blocks refuses
 record AreFine (t : Transfer10) (n : ℕ) : Type 0 where
   plain : bit_and t.options 0xe0 ≡ 0
   few : nat_lt 8192 t.blocks ≡ false

@@ -26,7 +26,7 @@ use Rattle.iscsi_pair.proofs.Request.Invariant.{AreWritten, IsOpenFor, between}
 
 -- ---- messages that are read as they were written, whatever the login PDUs before them said
 
--- each of these is, and has a segment of at most so many bytes
+-- each of these is, and has a segment of at most n bytes
 abbrev pub ArePlain : ℕ → List Message → Type 0
 ArePlain most ms = (logins : Logins) → AreWritten most logins ms
 
@@ -90,7 +90,7 @@ pub record HearsOne (held : Held) (i : initiator.Machine) (t : target.Machine) (
   pub fault : (step i m).fault ≡ None
   pub sends_ : AreHeard held t disk (step i m).output
 
--- so many answers are received, and then both ends stand so
+-- n answers are received, and then both ends stand so
 abbrev pub Leads : Held → ℕ → Exchange → Exchange → Type 0
 Leads held zero from x = from ≡ x
 Leads held (suc n) from x = elim from.answers [

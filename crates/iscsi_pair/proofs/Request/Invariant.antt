@@ -22,7 +22,7 @@ use Rattle.iscsi_pair.proofs.Wire.PrefixLemmas.{Readable}
 
 -- ---- what is sent
 
--- The message is read as it was written behind login PDUs that said this, and its segment has at most so many bytes.
+-- The message is read as it was written behind login PDUs that said this, and its segment has at most n bytes.
 pub record IsWritten (most : ℕ) (logins : Logins) (m : Message) : Type 0 where
   pub readable : Readable logins m
   pub short : length (segment_bytes m.segment) ≤ most

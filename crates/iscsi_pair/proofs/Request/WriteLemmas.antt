@@ -525,7 +525,7 @@ below n total part le = (let apart = eqb-false total n part in omega (arith, le,
 
 -- ---- one turn: an R2T goes out, and its sequence comes
 
--- the write of the initiator once it has sent so many bytes more
+-- the write of the initiator once it has sent n bytes more
 abbrev more_sent : Writing → ℕ → Writing
 more_sent v n = record v { sent = v.sent + n; next_r2t_sn = next_sn v.next_r2t_sn }
 

@@ -12,7 +12,7 @@ use Rattle.iscsi_pair.specs.LocalDisk.{window_of_eight}
 abbrev pub before : ℕ → ℕ
 before n = (n + (2 ^ 32 - 1)) % 2 ^ 32
 
--- the last number that is let in from this one on, while so many tasks wait
+-- the last number that is let in from this one on, while n tasks wait
 abbrev pub last_with : ℕ → ℕ → ℕ
 last_with n waiting = (n + (2 ^ 32 + 7 - waiting)) % 2 ^ 32
 

@@ -45,7 +45,7 @@ no_text (heads.LoginRequest h) e = absurd (cc e)
 no_text (heads.LoginResponse h) e = absurd (cc e)
 no_text _ e = refl
 
--- a head that is no login's, whose fields have room, can be written before so many bytes
+-- a head that is no login's, whose fields have room, can be written before n bytes
 plain_writable : (h : Head) (n : ℕ) → is_login (opcode h) ≡ false → HaveRoom (rows h) → FitsBlock h → HasBlockRoom h → n < 2 ^ 24 → IsWritable h n
 plain_writable h n e room fits block lt = record {
   fits = record { filled = HaveRoom-filled (rows h) room; block = fits };

@@ -81,10 +81,10 @@ impl Machine {
             (S.disk store.old) (S.disk store.new) (S.kept store.old) (S.kept store.new) }
     {
         if !self.is_due_kind(&received.pdu.head) {
-            return self.breach(KIND_NOT_DUE, received, out);
+            return self.reject_and_close(KIND_NOT_DUE, received, out);
         }
         if self.is_too_long(received.pdu.bytes.len()) {
-            return self.breach(SEGMENT_TOO_LONG, received, out);
+            return self.reject_and_close(SEGMENT_TOO_LONG, received, out);
         }
         self.serve_due(received, store, out)
     }
@@ -151,7 +151,7 @@ impl Machine {
             | Head::LogoutResponse(_)
             | Head::ReadyToTransfer(_)
             | Head::AsyncMessage(_)
-            | Head::Reject(_) => return self.breach(KIND_NOT_DUE, received, out),
+            | Head::Reject(_) => return self.reject_and_close(KIND_NOT_DUE, received, out),
         };
         if immediate {
             self.serve_at_once(received, store, out)
@@ -179,7 +179,7 @@ impl Machine {
             return self.reject(TOO_MANY_IMMEDIATE, received, out);
         }
         match self.refusal(received) {
-            Some(rule) => self.breach(rule, received, out),
+            Some(rule) => self.reject_and_close(rule, received, out),
             None => self.admit(received, store, out),
         }
     }
@@ -205,20 +205,20 @@ impl Machine {
             return Ok(None);
         }
         if cmd_sn != self.numbers().exp_cmd_sn {
-            return self.breach(COMMAND_OUT_OF_TURN, received, out);
+            return self.reject_and_close(COMMAND_OUT_OF_TURN, received, out);
         }
         self.advance();
         let Some(rule) = self.refusal(received) else {
             return self.admit(received, store, out);
         };
-        let result = self.breach(rule, received, out);
+        let result = self.reject_and_close(rule, received, out);
         if result.is_err() {
             self.session.expect(cmd_sn);
         }
         result
     }
 
-    // Whether a segment of so many bytes is longer than the target declared.
+    // Whether a segment of `n` bytes is longer than the target declared.
     fn is_too_long(&self, len: usize) -> bool
         ensures { result ≡ nat_lt self.now.session.held.target_max_recv len }
     {
@@ -295,7 +295,7 @@ impl Machine {
         }
     }
 
-    // Whether a request with so many bytes breaks the rules of the first burst.
+    // Whether a request with `n` bytes breaks the rules of the first burst.
     fn breaks_rules(&self, head: &Head, len: usize) -> bool
         ensures { result ≡ breaks_rules self.now.session.held len head.now }
     {

@@ -229,7 +229,7 @@ impl Machine {
         self.max_burst() / 512
     }
 
-    // At least the length of so many blocks in Data-In PDUs, and of a response.
+    // At least the length of `n` blocks in Data-In PDUs, and of a response.
     fn room_for(&self, blocks: u32) -> usize {
         let bytes = 512 * blocks as usize;
         let segments = bytes / self.max_segment() as usize;
@@ -238,7 +238,7 @@ impl Machine {
     }
 }
 
-// A Data-In with so many blocks. A front of it may stand where the read failed or memory ran out.
+// A Data-In with `n` blocks. A front of it may stand where the read failed or memory ran out.
 fn append_part<S: BlockStore>(
     head: &Head,
     part: BlockRange,
@@ -261,7 +261,7 @@ fn append_part<S: BlockStore>(
     store.read_onto(part.first, part.count, out)
 }
 
-// The blocks behind so many first ones.
+// The blocks behind `n` first ones.
 fn behind(range: BlockRange, count: u32) -> BlockRange
     requires within { count ≤ range.count }
     requires few { range.first + range.count < 2 ^ 64 }

@@ -22,7 +22,7 @@ use scsi_disk::{BlockStore, Order, Outcome, Plan, execute_planned, plan};
 use std::alloc::AllocError;
 
 impl Machine {
-    // A SCSI Command that is the first task. Answers the rule that is broken, if one is.
+    // A SCSI Command that is the first task. Returns the rule that is broken, if one is.
     pub(super) fn scsi_command<S: BlockStore>(
         &mut self,
         command: &ScsiCommand,
@@ -41,7 +41,7 @@ impl Machine {
             (S.disk store.old) (S.disk store.new) (S.kept store.old) (S.kept store.new) }
     {
         if self.breaks_burst_rules(command, bytes.len()) {
-            return self.breach(DATA_OUT_OF_ORDER, received, out);
+            return self.reject_and_close(DATA_OUT_OF_ORDER, received, out);
         }
         let order = order_of(command);
         let planned = plan(&order, store.blocks());
@@ -53,7 +53,7 @@ impl Machine {
         }
     }
 
-    // Whether a command with so many immediate bytes breaks the rules of the first burst.
+    // Whether a command with `n` immediate bytes breaks the rules of the first burst.
     pub(super) fn breaks_burst_rules(&self, command: &ScsiCommand, len: usize) -> bool
         ensures { result ≡ breaks_burst_rules self.now.session.held command.now len }
     {

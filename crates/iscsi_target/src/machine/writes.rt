@@ -32,7 +32,7 @@ use std::alloc::{AllocError, Global};
 const RESPONSE_LEN: usize = 71;
 
 impl Machine {
-    // Opens a write of so many bytes, with its immediate data.
+    // Opens a write of `n` bytes, with its immediate data.
     pub(super) fn open<S: BlockStore>(
         &mut self,
         command: &ScsiCommand,
@@ -152,7 +152,7 @@ impl Machine {
     }
 
     // A Data-Out, which the write with its tag takes; without one it is dropped. Then tasks are done
-    // in their turn. Answers the rule that is broken, if one is.
+    // in their turn. Returns the rule that is broken, if one is.
     pub(super) fn data_out<S: BlockStore>(
         &mut self,
         head: &DataOut,
@@ -175,12 +175,12 @@ impl Machine {
         let is_due = write.take(self.first_burst(), head, bytes)?;
         self.tasks.put_write(place, write);
         if !is_due {
-            return self.breach(DATA_OUT_OF_ORDER, received, out);
+            return self.reject_and_close(DATA_OUT_OF_ORDER, received, out);
         }
         self.work_off(store, out)
     }
 
-    // The task of a request that has to wait, on a disk of so many blocks.
+    // The task of a request that has to wait, on a disk of `n` blocks.
     pub(super) fn task(
         &self,
         received: &Received<'_>,
@@ -202,7 +202,7 @@ impl Machine {
     }
 }
 
-// The write of so many bytes that a command opens with its immediate data, and the room for all of
+// The write of `n` bytes that a command opens with its immediate data, and the room for all of
 // them.
 fn opened(
     alloc: Global,

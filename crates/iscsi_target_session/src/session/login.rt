@@ -32,7 +32,7 @@ const LONGEST_TEXT: usize = 16_384;
 
 impl Session {
     /// Answers a PDU before full feature phase, where any but a Login Request closes the session.
-    /// Answers the rule that is broken, if one is (RFC 7143, section 6.3).
+    /// Returns the rule that is broken, if one is (RFC 7143, section 6.3).
     pub fn log_in(
         &mut self,
         received: &Received<'_>,
@@ -214,7 +214,7 @@ impl Session {
         }
     }
 
-    // Whether the gathered bytes with so many more are over the limit.
+    // Whether the gathered bytes with `n` more are over the limit.
     fn is_past_limit(&self, len: usize) -> bool
         ensures { IsTrue result ↔ (16384 < length self.now.gathered + len) }
     {

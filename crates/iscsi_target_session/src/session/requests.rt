@@ -14,7 +14,7 @@ use iscsi_pdu::{
 use std::alloc::AllocError;
 
 impl Session {
-    /// Answers a request that is no command, while so many commands wait. Answers the rule that is
+    /// Answers a request that is no command, while `n` commands wait. Returns the rule that is
     /// broken, if one is (RFC 7143, section 4.2.4).
     pub fn answer_request(
         &mut self,
@@ -43,7 +43,7 @@ impl Session {
             | Head::LogoutResponse(_)
             | Head::ReadyToTransfer(_)
             | Head::AsyncMessage(_)
-            | Head::Reject(_) => self.breach(waiting, KIND_NOT_DUE, received, out),
+            | Head::Reject(_) => self.reject_and_close(waiting, KIND_NOT_DUE, received, out),
         }
     }
 
@@ -97,7 +97,7 @@ impl Session {
         self.send_response(&head, &[], out)
     }
 
-    // A session or its connection may be closed (RFC 7143, sections 11.14 and 11.15). Answers the
+    // A session or its connection may be closed (RFC 7143, sections 11.14 and 11.15). Returns the
     // rule that is broken, if one is.
     fn logout_request(
         &mut self,
@@ -110,7 +110,7 @@ impl Session {
             self.old self.new out.old.items out.new.items }
     {
         if request.reason > 1 {
-            return self.breach(waiting, LOGOUT_REASON, received, out);
+            return self.reject_and_close(waiting, LOGOUT_REASON, received, out);
         }
         let numbers = self.numbers(waiting);
         let head = Head::LogoutResponse(LogoutResponse {

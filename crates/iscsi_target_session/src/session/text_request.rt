@@ -20,7 +20,7 @@ use std::alloc::{AllocError, Global};
 const TARGET_NAME: &[u8] = b"TargetName";
 
 impl Session {
-    // A Text Request, which has to be whole. Answers the rule that is broken, if one is.
+    // A Text Request, which has to be whole. Returns the rule that is broken, if one is.
     pub(super) fn text_request(
         &mut self,
         waiting: u32,
@@ -33,15 +33,15 @@ impl Session {
             self.old self.new out.old.items out.new.items }
     {
         if !request.is_final || request.continues || request.target_transfer_tag != RESERVED_TAG {
-            return self.breach(waiting, TEXT_AT_FAULT, received, out);
+            return self.reject_and_close(waiting, TEXT_AT_FAULT, received, out);
         }
         let alloc = *out.allocator();
         let Some(text) = read_text(alloc, bytes)? else {
-            return self.breach(waiting, TEXT_AT_FAULT, received, out);
+            return self.reject_and_close(waiting, TEXT_AT_FAULT, received, out);
         };
         let reply = reply_text(alloc, self.config.name(), &text)?;
         if reply.len() > self.held.initiator_max_recv as usize {
-            return self.breach(waiting, TEXT_AT_FAULT, received, out);
+            return self.reject_and_close(waiting, TEXT_AT_FAULT, received, out);
         }
         let numbers = self.numbers(waiting);
         let head = Head::TextResponse(TextResponse {

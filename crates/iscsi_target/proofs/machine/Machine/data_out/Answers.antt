@@ -6,7 +6,7 @@ use Rattle.iscsi_target.specs.Write.{Write}
 use Rattle.iscsi_target.specs.declared.tasks.Task.TheVariants.{Data}
 use Rattle.iscsi_target.specs.State.{Machine, closed, waiting}
 use Rattle.iscsi_target.specs.State.{breaks}
-use Rattle.iscsi_target_session.specs.Rejecting.{breach}
+use Rattle.iscsi_target_session.specs.Rejecting.{reject_and_close}
 use Rattle.iscsi_target.specs.Transfer.{received, is_in_sequence, with_data, joined_write}
 use Rattle.iscsi_target.specs.Machine.{data_out, write_of, with_write}
 use Rattle.iscsi_target.specs.Inside.{moment, Leaves, Works, store_of}
@@ -57,13 +57,14 @@ returns-then-not-is_due-clause-follows g c =
     c.put_write.ensures ∙ ap (λ (x : Write). insert c.take_write.new.self c.in-Some.place (Data x)) same ∙ c.in-Some.ensures.back c.in-Some.write tag
     ∙ with_same c.args.head.now.initiator_task_tag c.self.inside.tasks c.in-Some.write found tag in
     let whole : with_tasks c.self.inside.session c.put_write.new.self ≡ c.args.self.now = ap (with_tasks c.self.inside.session) put ∙ c.self.view_is in
-    answered_follows c.breach.result (g.S.BlockStore.failures c.args.store.now) c.args.self.now
-    (breach c.args.self.now.session (waiting c.args.self.now.tasks) data_out_of_order c.args.received.now)
+    answered_follows c.reject_and_close.result (g.S.BlockStore.failures c.args.store.now) c.args.self.now
+    (reject_and_close c.args.self.now.session (waiting c.args.self.now.tasks) data_out_of_order c.args.received.now)
     (data_out c.args.self.now c.args.received.now c.args.head.now c.args.bytes.now)
-    (g.S.BlockStore.disk c.args.store.now) c.breach.new.self c.args.out.now.items c.breach.new.out.items
+    (g.S.BlockStore.disk c.args.store.now) c.reject_and_close.new.self c.args.out.now.items c.reject_and_close.new.out.items
     (data_refused c.args.self.now c.args.received.now c.args.head.now c.args.bytes.now c.in-Some.write here due)
-    (subst (λ (x : Machine). Leaves (breaks x (g.S.BlockStore.disk c.args.store.now) data_out_of_order c.args.received.now) c.breach.result x c.breach.new.self
-    c.args.out.now.items c.breach.new.out.items) whole (c.breach.ensures (g.S.BlockStore.disk c.args.store.now)))
+    (subst (λ (x : Machine). Leaves (breaks x (g.S.BlockStore.disk c.args.store.now) data_out_of_order c.args.received.now)
+    c.reject_and_close.result x c.reject_and_close.new.self
+    c.args.out.now.items c.reject_and_close.new.out.items) whole (c.reject_and_close.ensures (g.S.BlockStore.disk c.args.store.now)))
 
 pub returns-clause-follows : goal.returns-clause-follows
 returns-clause-follows g c =

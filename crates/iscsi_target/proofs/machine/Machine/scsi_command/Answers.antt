@@ -11,11 +11,12 @@ use Rattle.iscsi_target.proofs.machine.Machine.scsi_command.Goals as goal
 
 pub returns-then-breaks_burst_rules-clause-handles : goal.returns-then-breaks_burst_rules-clause-handles
 returns-then-breaks_burst_rules-clause-handles g c =
-    leaves_handles c.breach.result (g.S.BlockStore.failures c.args.store.now) (breaks c.args.self.now (g.S.BlockStore.disk c.args.store.now) data_out_of_order
+    leaves_handles c.reject_and_close.result (g.S.BlockStore.failures c.args.store.now) (breaks c.args.self.now (g.S.BlockStore.disk c.args.store.now)
+    data_out_of_order
     c.args.received.now) (λ (d : Device). scsi_command d c.args.self.now (g.S.BlockStore.disk c.args.store.now) c.args.received.now c.args.command.now
-    c.args.bytes.now) (g.S.BlockStore.disk c.args.store.now) c.args.self.now c.breach.new.self c.args.out.now.items c.breach.new.out.items
+    c.args.bytes.now) (g.S.BlockStore.disk c.args.store.now) c.args.self.now c.reject_and_close.new.self c.args.out.now.items c.reject_and_close.new.out.items
     (λ (d : Device). command_broken d c.args.self.now (g.S.BlockStore.disk c.args.store.now) c.args.received.now c.args.command.now c.args.bytes.now
-    (sym c.breaks_burst_rules.ensures ∙ c.if-breaks_burst_rules.true)) refl refl (c.breach.ensures (g.S.BlockStore.disk c.args.store.now))
+    (sym c.breaks_burst_rules.ensures ∙ c.if-breaks_burst_rules.true)) refl refl (c.reject_and_close.ensures (g.S.BlockStore.disk c.args.store.now))
 
 pub returns-in-Refuse-clause-crash : goal.returns-in-Refuse-clause-crash
 returns-in-Refuse-clause-crash g c =

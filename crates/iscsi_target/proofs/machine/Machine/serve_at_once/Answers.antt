@@ -2,7 +2,7 @@ use Rattle.std.proofs.Common.{◌≡◌, inl, [], ◌∷◌, ◌++◌, true, sym
 use Rattle.std.specs.Prelude.{Some, None}
 use Rattle.iscsi_pdu.specs.Rules.{too_many_immediate}
 use Rattle.iscsi_target.specs.State.{Machine, waiting}
-use Rattle.iscsi_target_session.specs.Rejecting.{reject, breach}
+use Rattle.iscsi_target_session.specs.Rejecting.{reject, reject_and_close}
 use Rattle.iscsi_target.specs.Command.{task_of}
 use Rattle.iscsi_target.specs.Machine.{immediate, is_busy}
 use Rattle.iscsi_target.specs.Inside.{refusal, store_of}
@@ -39,13 +39,13 @@ returns-in-Some-clause-follows g c =
     let none : c.args.self.now.tasks ≡ [] = ap (λ (x : Machine). x.tasks) (sym c.self.view_is)
     ∙ no_length c.self.inside.tasks (omega (arith, c.len.ensures.value, c.if-len-gt0.false)) in
     let some : refusal c.args.self.now c.args.received.now ≡ Some c.in-Some.rule = sym c.refusal.ensures ∙ c.in-Some.is in
-    answered_follows c.breach.result (g.S.BlockStore.failures c.args.store.now) c.args.self.now
-    (breach c.args.self.now.session (waiting c.args.self.now.tasks) c.in-Some.rule c.args.received.now)
+    answered_follows c.reject_and_close.result (g.S.BlockStore.failures c.args.store.now) c.args.self.now
+    (reject_and_close c.args.self.now.session (waiting c.args.self.now.tasks) c.in-Some.rule c.args.received.now)
     (immediate c.args.self.now (g.S.BlockStore.disk c.args.store.now).count c.args.received.now).next (g.S.BlockStore.disk c.args.store.now)
-    c.breach.new.self c.args.out.now.items c.breach.new.out.items
+    c.reject_and_close.new.self c.args.out.now.items c.reject_and_close.new.out.items
     (sym (at_once c.args.self.now (g.S.BlockStore.disk c.args.store.now).count c.args.received.now none)
     ∙ admitted_some c.args.self.now (g.S.BlockStore.disk c.args.store.now).count c.args.received.now c.in-Some.rule some)
-    (c.breach.ensures (g.S.BlockStore.disk c.args.store.now))
+    (c.reject_and_close.ensures (g.S.BlockStore.disk c.args.store.now))
 
 pub returns-in-None-clause-follows : goal.returns-in-None-clause-follows
 returns-in-None-clause-follows g c =

@@ -1,7 +1,7 @@
 use Rattle.std.proofs.Common.{◌≡◌, false, rules, subst}
 use Rattle.iscsi_pdu.specs.Rules.{kind_not_due}
 use Rattle.iscsi_target.specs.State.{waiting}
-use Rattle.iscsi_target_session.specs.Rejecting.{breach}
+use Rattle.iscsi_target_session.specs.Rejecting.{reject_and_close}
 use Rattle.iscsi_target.specs.Machine.{due_met, data_out}
 use Rattle.iscsi_target.specs.Inside.{store_of}
 use Rattle.iscsi_target.proofs.ServingLemmas.{answered_follows, follows_as}
@@ -22,12 +22,12 @@ returns-in-DataOut-clause-follows g c =
 pub returns-in-LoginRequest-clause-follows : goal.returns-in-LoginRequest-clause-follows
 returns-in-LoginRequest-clause-follows g c =
     let other : is_initiator_s c.received.inside.pdu.head ≡ false = search rules in
-    answered_follows c.breach.result (g.S.BlockStore.failures c.args.store.now) c.args.self.now
-    (breach c.args.self.now.session (waiting c.args.self.now.tasks) kind_not_due c.args.received.now)
+    answered_follows c.reject_and_close.result (g.S.BlockStore.failures c.args.store.now) c.args.self.now
+    (reject_and_close c.args.self.now.session (waiting c.args.self.now.tasks) kind_not_due c.args.received.now)
     (due_met c.args.self.now (g.S.BlockStore.disk c.args.store.now).count c.args.received.now c.args.received.now.head).next
-    (g.S.BlockStore.disk c.args.store.now) c.breach.new.self c.args.out.now.items c.breach.new.out.items
+    (g.S.BlockStore.disk c.args.store.now) c.reject_and_close.new.self c.args.out.now.items c.reject_and_close.new.out.items
     (never_due c.args.self.now (g.S.BlockStore.disk c.args.store.now).count c.received.inside.continued c.received.inside.pdu.head
-    c.received.inside.pdu.bytes.now c.args.received.now c.received.view_is other) (c.breach.ensures (g.S.BlockStore.disk c.args.store.now))
+    c.received.inside.pdu.bytes.now c.args.received.now c.received.view_is other) (c.reject_and_close.ensures (g.S.BlockStore.disk c.args.store.now))
 
 pub returns-in-DataOut-clause-crash : goal.returns-in-DataOut-clause-crash
 returns-in-DataOut-clause-crash g c =

@@ -5,7 +5,7 @@ use Rattle.iscsi_target_session.specs.Session.{Session}
 use Rattle.iscsi_target.specs.State.{Machine, waiting}
 use Rattle.iscsi_target.proofs.TurnLemmas.{with_tasks}
 use Rattle.iscsi_target.specs.State.{breaks}
-use Rattle.iscsi_target_session.specs.Rejecting.{breach}
+use Rattle.iscsi_target_session.specs.Rejecting.{reject_and_close}
 use Rattle.iscsi_target.specs.Command.{task_of}
 use Rattle.iscsi_target.specs.Machine.{advanced, in_turn}
 use Rattle.iscsi_target.specs.Inside.{moment, Leaves, Works, refusal, store_of}
@@ -26,12 +26,12 @@ returns-then-not-is_within-clause-follows g c =
 pub returns-then-cmd_sn-numbers-clause-follows : goal.returns-then-cmd_sn-numbers-clause-follows
 returns-then-cmd_sn-numbers-clause-follows g c =
     let apart : (c.args.cmd_sn == c.args.self.now.session.exp_cmd_sn) ≡ false = search rules in
-    answered_follows c.breach.result (g.S.BlockStore.failures c.args.store.now) c.args.self.now
-    (breach c.args.self.now.session (waiting c.args.self.now.tasks) command_out_of_turn c.args.received.now)
+    answered_follows c.reject_and_close.result (g.S.BlockStore.failures c.args.store.now) c.args.self.now
+    (reject_and_close c.args.self.now.session (waiting c.args.self.now.tasks) command_out_of_turn c.args.received.now)
     (in_turn c.args.self.now (g.S.BlockStore.disk c.args.store.now).count c.args.received.now c.args.cmd_sn).next (g.S.BlockStore.disk c.args.store.now)
-    c.breach.new.self c.args.out.now.items c.breach.new.out.items
+    c.reject_and_close.new.self c.args.out.now.items c.reject_and_close.new.out.items
     (out_of_turn c.args.self.now (g.S.BlockStore.disk c.args.store.now).count c.args.received.now c.args.cmd_sn c.is_within.result c.is_within.ensures
-    c.if-not-is_within.false apart) (c.breach.ensures (g.S.BlockStore.disk c.args.store.now))
+    c.if-not-is_within.false apart) (c.reject_and_close.ensures (g.S.BlockStore.disk c.args.store.now))
 
 pub admit-requires-clause-room : goal.admit-requires-clause-room
 admit-requires-clause-room g c =
@@ -60,9 +60,9 @@ returns-in_default-clause-follows g c =
 pub returns-then-is_err-clause-follows : goal.returns-then-is_err-clause-follows
 returns-then-is_err-clause-follows g c =
     let due : c.args.cmd_sn ≡ c.args.self.now.session.exp_cmd_sn = search rules in
-    let back : (with_tasks c.expect.new.self c.self.inside.tasks) ≡ record c.breach-result.new.self {
+    let back : (with_tasks c.expect.new.self c.self.inside.tasks) ≡ record c.reject_and_close-result.new.self {
       session =
-          record c.breach-result.new.self.session { exp_cmd_sn = c.args.self.now.session.exp_cmd_sn };
+          record c.reject_and_close-result.new.self.session { exp_cmd_sn = c.args.self.now.session.exp_cmd_sn };
     } =
     ap (λ (x : Session). with_tasks x c.self.inside.tasks) (c.expect.ensures ∙ ap (λ (k : ℕ). record c.self.inside.session { exp_cmd_sn = k }) due)
     ∙ ap (λ (x : Machine). record x { session = record x.session { exp_cmd_sn = c.args.self.now.session.exp_cmd_sn } }) c.self.view_is in
@@ -70,17 +70,17 @@ returns-then-is_err-clause-follows g c =
     let some : c.refusal.result ≡ Some c.in-Some.rule = search rules in
     let rule : refusal (advanced c.args.self.now) c.args.received.now ≡ Some c.in-Some.rule =
     ap (λ (x : Machine). refusal x c.args.received.now) (sym c.advance.ensures) ∙ sym c.refusal.ensures ∙ some in
-    turned_back c.breach-result.result (g.S.BlockStore.failures c.args.store.now) c.args.self.now c.breach-result.new.self
-    (with_tasks c.expect.new.self c.self.inside.tasks) (breach (advanced c.args.self.now).session (waiting c.args.self.now.tasks) c.in-Some.rule
+    turned_back c.reject_and_close-result.result (g.S.BlockStore.failures c.args.store.now) c.args.self.now c.reject_and_close-result.new.self
+    (with_tasks c.expect.new.self c.self.inside.tasks) (reject_and_close (advanced c.args.self.now).session (waiting c.args.self.now.tasks) c.in-Some.rule
     c.args.received.now) (in_turn c.args.self.now (g.S.BlockStore.disk c.args.store.now).count c.args.received.now c.args.cmd_sn).next
-    (g.S.BlockStore.disk c.args.store.now) c.args.out.now.items c.breach-result.new.out.items
+    (g.S.BlockStore.disk c.args.store.now) c.args.out.now.items c.reject_and_close-result.new.out.items
     (sym (inside c.args.self.now (g.S.BlockStore.disk c.args.store.now).count c.args.received.now c.args.cmd_sn c.is_within.result c.is_within.ensures
     c.if-not-is_within.false same) ∙ admitted_some (advanced c.args.self.now)
     (g.S.BlockStore.disk c.args.store.now).count c.args.received.now c.in-Some.rule rule)
-    (subst (λ (x : Machine). Leaves (breaks x (g.S.BlockStore.disk c.args.store.now) c.in-Some.rule c.args.received.now) c.breach-result.result x
-    c.breach-result.new.self c.args.out.now.items c.breach-result.new.out.items) c.advance.ensures
-    (c.breach-result.ensures (g.S.BlockStore.disk c.args.store.now)))
-    (search rules) (on_err c.breach-result.result back)
+    (subst (λ (x : Machine). Leaves (breaks x (g.S.BlockStore.disk c.args.store.now) c.in-Some.rule c.args.received.now) c.reject_and_close-result.result x
+    c.reject_and_close-result.new.self c.args.out.now.items c.reject_and_close-result.new.out.items) c.advance.ensures
+    (c.reject_and_close-result.ensures (g.S.BlockStore.disk c.args.store.now)))
+    (search rules) (on_err c.reject_and_close-result.result back)
 
 pub returns-else-is_err-clause-follows : goal.returns-else-is_err-clause-follows
 returns-else-is_err-clause-follows g c =
@@ -88,17 +88,18 @@ returns-else-is_err-clause-follows g c =
     let some : c.refusal.result ≡ Some c.in-Some.rule = search rules in
     let rule : refusal (advanced c.args.self.now) c.args.received.now ≡ Some c.in-Some.rule =
     ap (λ (x : Machine). refusal x c.args.received.now) (sym c.advance.ensures) ∙ sym c.refusal.ensures ∙ some in
-    turned_back c.breach-result.result (g.S.BlockStore.failures c.args.store.now) c.args.self.now c.breach-result.new.self c.breach-result.new.self
-    (breach (advanced c.args.self.now).session (waiting c.args.self.now.tasks) c.in-Some.rule c.args.received.now)
+    turned_back c.reject_and_close-result.result (g.S.BlockStore.failures c.args.store.now) c.args.self.now
+    c.reject_and_close-result.new.self c.reject_and_close-result.new.self
+    (reject_and_close (advanced c.args.self.now).session (waiting c.args.self.now.tasks) c.in-Some.rule c.args.received.now)
     (in_turn c.args.self.now (g.S.BlockStore.disk c.args.store.now).count c.args.received.now c.args.cmd_sn).next (g.S.BlockStore.disk c.args.store.now)
-    c.args.out.now.items c.breach-result.new.out.items
+    c.args.out.now.items c.reject_and_close-result.new.out.items
     (sym (inside c.args.self.now (g.S.BlockStore.disk c.args.store.now).count c.args.received.now c.args.cmd_sn c.is_within.result c.is_within.ensures
     c.if-not-is_within.false same) ∙ admitted_some (advanced c.args.self.now)
     (g.S.BlockStore.disk c.args.store.now).count c.args.received.now c.in-Some.rule rule)
-    (subst (λ (x : Machine). Leaves (breaks x (g.S.BlockStore.disk c.args.store.now) c.in-Some.rule c.args.received.now) c.breach-result.result x
-    c.breach-result.new.self c.args.out.now.items c.breach-result.new.out.items) c.advance.ensures
-    (c.breach-result.ensures (g.S.BlockStore.disk c.args.store.now)))
-    (any_ok c.breach-result.result refl) (search rules)
+    (subst (λ (x : Machine). Leaves (breaks x (g.S.BlockStore.disk c.args.store.now) c.in-Some.rule c.args.received.now) c.reject_and_close-result.result x
+    c.reject_and_close-result.new.self c.args.out.now.items c.reject_and_close-result.new.out.items) c.advance.ensures
+    (c.reject_and_close-result.ensures (g.S.BlockStore.disk c.args.store.now)))
+    (any_ok c.reject_and_close-result.result refl) (search rules)
 
 pub returns-in_default-clause-crash : goal.returns-in_default-clause-crash
 returns-in_default-clause-crash g c =
