@@ -1,6 +1,6 @@
 -- What the calls of an initiator do: a stream that comes in pieces, and requests (RFC 7143,
 -- sections 4 and 11).
-use Rattle.std.specs.Prelude.{◌≡◌, ◌≢◌, ℕ, ◌≤◌, ◌⊎◌, true, false, max, List, [], ◌++◌, length, take, drop, Option, Some, None, Result, Ok, Err}
+use Rattle.std.specs.Prelude.{◌≡◌, ◌≢◌, ℕ, ◌≤◌, ◌⊎◌, true, false, List, [], ◌++◌, length, take, drop, Option, Some, None, Result, Ok, Err}
 use Rattle.iscsi_stream.specs.declared.fault.StreamFault.{StreamFault}
 use Rattle.iscsi_stream.specs.declared.fault.StreamFault.TheVariants as stream
 use Rattle.iscsi_stream.specs.Stream.{Message}
@@ -9,6 +9,7 @@ use Rattle.iscsi_stream.specs.Framing as framings
 use Rattle.iscsi_stream.specs.Framing.{Framing, is_ready, Moves, FeedFails, FinishFails}
 use Rattle.iscsi_login.specs.declared.phase.Phase.{Phase}
 use Rattle.iscsi_login.specs.declared.phase.Phase.TheVariants as phases
+use Rattle.iscsi_login.specs.Held.{longest_taken}
 use Rattle.iscsi_initiator.specs.declared.fault.InitiatorFault.{InitiatorFault}
 use Rattle.iscsi_initiator.specs.declared.fault.InitiatorFault.TheVariants as faults
 use Rattle.iscsi_initiator.specs.declared.request.Request.{Request}
@@ -26,9 +27,9 @@ pub record Connection : Type 0 where
   pub machine : Machine
   pub framing : Framing
 
--- The longest segment that an initiator takes (section 13.12; that 8,192 bytes fit is own rule).
+-- The longest segment that an initiator with these settings takes (section 13.12).
 abbrev pub limit : Settings → ℕ
-limit settings = max 8192 settings.proposal.prefs.max_recv
+limit settings = longest_taken settings.proposal.prefs
 
 -- An initiator to which nothing came.
 abbrev pub opening_connection : Settings → Connection

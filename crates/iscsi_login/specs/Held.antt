@@ -1,8 +1,9 @@
 -- What an end holds of a login: a value of each negotiated key, and what each end takes (RFC 7143,
 -- section 13).
-use Rattle.std.specs.Prelude.{ℕ, Bool, false, List, map, min, slice_index_or}
+use Rattle.std.specs.Prelude.{ℕ, Bool, false, List, map, min, max, slice_index_or}
 use Rattle.iscsi_login.specs.declared.key.NegKey.{NegKey}
 use Rattle.iscsi_login.specs.declared.key.NegKey.TheVariants as keys
+use Rattle.iscsi_login.specs.declared.preferences.Preferences.{Preferences}
 use Rattle.iscsi_login.specs.declared.preferences.Answered.{Answered}
 use Rattle.iscsi_login.specs.declared.preferences.Answered.TheVariants.{Flag, Number, Reject}
 use Rattle.iscsi_login.specs.Key.{row, rule_of, default_of, all_keys, IsWithin}
@@ -62,6 +63,11 @@ first_burst held =
 -- How many of n bytes of a command may come unasked (sections 13.11 and 13.14).
 abbrev pub unasked : Held → ℕ → ℕ
 unasked held n = min n (first_burst held)
+
+-- The longest segment that an end takes: the one that it declares, or one of a login, before which it
+-- declares nothing (section 13.12; that 8,192 bytes fit is own rule).
+abbrev pub longest_taken : Preferences → ℕ
+longest_taken p = max 8192 p.max_recv
 
 -- Each key has a value that it allows, and each length is one that may be declared (section 13).
 pub record IsHeld (held : Held) : Type 0 where

@@ -1,6 +1,6 @@
 -- The session of a target between two PDUs, but for its commands: its login, its numbers and what is
 -- held; and what a message does that no command needs (RFC 7143, section 4.2).
-use Rattle.std.specs.Prelude.{ℕ, ◌+◌, ◌-◌, ◌^◌, ◌%◌, Bool, false, max, List, [], ◌∷◌, Option, None, replicate}
+use Rattle.std.specs.Prelude.{ℕ, ◌+◌, ◌-◌, ◌^◌, ◌%◌, Bool, false, List, [], ◌∷◌, Option, None, replicate}
 use Rattle.iscsi_pdu.specs.Serial.{next_sn}
 use Rattle.iscsi_pdu.specs.declared.head.Head.{Head}
 use Rattle.iscsi_stream.specs.Segment.{Bytes}
@@ -11,7 +11,7 @@ use Rattle.iscsi_login.specs.declared.stage.Session.{Session as SessionType}
 use Rattle.iscsi_login.specs.declared.stage.Session.TheVariants as session_types
 use Rattle.iscsi_login.specs.declared.stage.Stage.{Stage}
 use Rattle.iscsi_login.specs.declared.stage.Stage.TheVariants as stages
-use Rattle.iscsi_login.specs.Held.{Held, defaults}
+use Rattle.iscsi_login.specs.Held.{Held, defaults, longest_taken}
 use Rattle.iscsi_target_session.specs.Configured.{Settings}
 
 -- ---- the session
@@ -58,10 +58,9 @@ opening_session settings first_stat_sn = record {
   stat_sn = first_stat_sn;
 }
 
--- The longest segment that the target's framer takes: any of a login fits (section 13.12; own
--- rule).
+-- The longest segment that a target with these settings takes (section 13.12).
 abbrev pub limit : Settings → ℕ
-limit settings = max 8192 settings.preferences.max_recv
+limit settings = longest_taken settings.preferences
 
 -- A session that is over; what was gathered is dropped.
 abbrev pub ended : Session → Session
