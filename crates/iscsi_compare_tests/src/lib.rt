@@ -7,4 +7,5 @@ mod asserts;
 mod same_job;
 #[cfg(test)]
 mod tests;
-pub mod uses;
+#[cfg(test)]
+mod uses;

@@ -50,7 +50,7 @@ const LOGOUT: &[u8] = b"logout";
 /// A line is `tur U`, `inquiry U A`, `capacity`, `capacity16`, `luns`, `read LBA N`, `write LBA N
 /// BB`, `sync LBA N`, `ping HEX` or `logout`, its words parted by one blank: decimal numbers, of
 /// which U is below 256, A below 65536, LBA below 2^64 and N, in blocks, at most 8192, but in a
-/// `sync` LBA is below 2^32 and N below 65536; two hex digits BB; and 1 to 8192 bytes HEX. Answers
+/// `sync` LBA is below 2^32 and N below 65536; two hex digits BB; and 1 to 8192 bytes HEX. Returns
 /// `Script` with the first line, counted from 1, that is none of these; where the script has more
 /// than 1,048,576 bytes, with the line of the first byte too many. `Read` comes where a read fails
 /// or 16,777,216 of them did not reach the end, and `NoMemory` where memory runs out.

@@ -15,7 +15,7 @@ use std::alloc::AllocError;
 const LINE: usize = 320;
 
 /// Appends the line of a PDU: its place in decimal, its kind, its fields that have a value in the
-/// order of the field table, in lower hex, and the length of its segment in decimal. Answers
+/// order of the field table, in lower hex, and the length of its segment in decimal. Returns
 /// `AllocError` where memory runs out, and leaves `out` as it was.
 pub fn show_line(place: u64, pdu: &Pdu<'_>, out: &mut Vec<u8>) -> Result<(), AllocError>
     requires { Fits pdu.now.head }

@@ -3,4 +3,5 @@
 
 #[cfg(test)]
 mod tests;
-pub mod uses;
+#[cfg(test)]
+mod uses;
