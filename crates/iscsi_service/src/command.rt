@@ -13,7 +13,7 @@ use std::alloc::{AllocError, Global};
 const FIRST_LONG_ADDRESS: u64 = 4_294_967_296;
 
 /// A command of a script.
-#[derive(Debug, Drop)]
+#[derive(Drop)]
 pub enum Command {
     /// TEST UNIT READY of a unit.
     TestUnitReady {

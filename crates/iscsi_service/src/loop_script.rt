@@ -1,9 +1,9 @@
 //! A session of an initiator and a target over a socket, as a script says. One file: both ends, and
 //! the commands that drive them; more than half of it are the contracts.
 
-ghost use Rattle.std.specs.Prelude.{◌≡◌, ◌<◌, ◌≤◌, ◌∷◌, [], ℕ, List, IfOk, IfErr, OnOk};
+ghost use Rattle.std.specs.Prelude.{◌≡◌, ◌<◌, ◌≤◌, ◌∷◌, [], ℕ, List, Option, IfOk, IfErr, OnOk};
 ghost use Rattle.scsi_disk.specs.Disk.{most_blocks};
-ghost use Rattle.std.specs.Io.KnownBytes.{Appends, Consumes};
+ghost use Rattle.std.specs.Io.KnownBytes.{Appends, Consumes, IsAtEnd};
 ghost use Rattle.iscsi_initiator.specs.State.{opening};
 ghost use Rattle.iscsi_initiator.specs.Calls.{opening_connection};
 ghost use Rattle.iscsi_initiator.specs.declared.fault.InitiatorFault.TheVariants as faults;
@@ -12,6 +12,7 @@ ghost use Rattle.iscsi_initiator.specs.declared.request.Request.{Request};
 ghost use Rattle.iscsi_service.specs.declared.fault.ServeFault.TheVariants as serve;
 ghost use Rattle.iscsi_service.specs.Reports.{report};
 ghost use Rattle.iscsi_service.specs.Commands.{request_of};
+ghost use Rattle.iscsi_service.specs.Script.{IsScript};
 ghost use Rattle.iscsi_stream.specs.Normalising.{WroteFront};
 ghost use Rattle.iscsi_service.specs.Looping.{initiator_settings, Loops, ReadsFirst};
 ghost use Rattle.scsi_disk.specs.Sparse.{disk_in};
@@ -104,16 +105,39 @@ pub fn run_over<C: Carrier, R: Read, W: Write>(
         × LoopsOnDisk blocks result script written }
 {
     let commands = read_script(rt.alloc(), r)?;
-    let mut ends = LoopbackSession::<C>::open(rt, blocks, piece as usize)?;
-    ends.log_in()?;
+    let mut ends = LoopbackSession::open(rt.alloc(), blocks, piece as usize)?;
+    run_session::<C, W>(rt, &mut ends, commands, w)
+}
+
+// Runs a session that is not started, over a connection of its own.
+fn run_session<C: Carrier, W: Write>(
+    rt: &HostRuntime,
+    ends: &mut LoopbackSession,
+    commands: Vec<Command>,
+    w: &mut W,
+) -> Result<(), ServeFault>
+    requires begins { ends.old.initiator ≡ opening_connection initiator_settings }
+    ensures loops { (script : List ℕ) (left : Option (List ℕ)) → IsScript script commands.items
+        → IsAtEnd left → (written : List ℕ) × Appends (W.contents w.old) (W.contents w.new) written
+        × Loops result script written × ReadsFirst result written left }
+    ensures on_disk { IsFaithful C.carries → (blocks : ℕ) (script : List ℕ)
+        → ends_of ends.old.initiator ends.old.target (disk_in ends.old.store) [] []
+        ≡ new_ends blocks → IsScript script commands.items → (written : List ℕ)
+        × Appends (W.contents w.old) (W.contents w.new) written
+        × LoopsOnDisk blocks result script written }
+{
+    let mut carrier = C::open(rt)?;
+    ends.log_in(&mut carrier)?;
     write_line(w, b"login\n")?;
-    run_commands(&mut ends, commands, w)?;
-    ends.close()
+    run_commands(ends, &mut carrier, commands, w)?;
+    carrier.close()?;
+    ends.finish()
 }
 
 // Does the commands up to the first logout, with a line for each.
 fn run_commands<C: Carrier, W: Write>(
-    ends: &mut LoopbackSession<C>,
+    ends: &mut LoopbackSession,
+    carrier: &mut C,
     commands: Vec<Command>,
     w: &mut W,
 ) -> Result<(), ServeFault>
@@ -127,7 +151,7 @@ fn run_commands<C: Carrier, W: Write>(
 {
     for command in commands {
         let is_logout = command.is_logout();
-        run_command(ends, command, w)?;
+        run_command(ends, carrier, command, w)?;
         if is_logout {
             return Ok(());
         }
@@ -137,7 +161,8 @@ fn run_commands<C: Carrier, W: Write>(
 
 // Does a command, and writes the line of its outcome.
 fn run_command<C: Carrier, W: Write>(
-    ends: &mut LoopbackSession<C>,
+    ends: &mut LoopbackSession,
+    carrier: &mut C,
     command: Command,
     w: &mut W,
 ) -> Result<(), ServeFault>
@@ -155,7 +180,7 @@ fn run_command<C: Carrier, W: Write>(
         (W.contents w.old) (W.contents w.new) }
 {
     let alloc = ends.alloc;
-    let done = ends.perform(command)?;
+    let done = ends.perform(carrier, command)?;
     write_line(w, report(alloc, &done)?.as_bytes())
 }
 
@@ -171,23 +196,22 @@ fn write_line<W: Write>(w: &mut W, line: &[u8]) -> Result<(), ServeFault>
     }
 }
 
-/// A session of both ends, over a connection between them.
+/// Both ends of a session.
 #[derive(Drop)]
-struct LoopbackSession<C> {
+struct LoopbackSession {
     alloc: Global,
     initiator: Initiator,
     target: Target,
     store: SparseStore,
-    carrier: C,
     /// The most bytes of a piece, 1 to 4096.
     piece: usize,
     ghost moves: { 0 < piece },
     ghost short: { piece ≤ 4096 },
 }
 
-impl<C: Carrier> LoopbackSession<C> {
+impl LoopbackSession {
     // Both ends of a session that is not started.
-    fn open(rt: &HostRuntime, blocks: u64, piece: usize) -> Result<LoopbackSession<C>, ServeFault>
+    fn open(alloc: Global, blocks: u64, piece: usize) -> Result<LoopbackSession, ServeFault>
         requires some { 0 < blocks }
         requires few { blocks ≤ most_blocks }
         requires moves { 0 < piece }
@@ -198,19 +222,20 @@ impl<C: Carrier> LoopbackSession<C> {
             ends_of ends.initiator ends.target (disk_in ends.store) [] [] ≡ new_ends blocks) }
         ensures err { IfErr result IsOfSession }
     {
-        let alloc = rt.alloc();
+        // What may fail comes first, so that no end has to be let go.
+        let initiator = initiator_configuration(alloc)?;
+        let target = configuration(alloc)?;
         Ok(LoopbackSession {
             alloc,
-            initiator: Initiator::new(alloc, initiator_configuration(alloc)?),
-            target: Target::new(alloc, configuration(alloc)?, FIRST_STAT_SN),
+            initiator: Initiator::new(alloc, initiator),
+            target: Target::new(alloc, target, FIRST_STAT_SN),
             store: SparseStore::new(alloc, blocks),
-            carrier: C::open(rt)?,
             piece,
         })
     }
 
     // Logs in.
-    fn log_in(&mut self) -> Result<(), ServeFault>
+    fn log_in<C: Carrier>(&mut self, carrier: &mut C) -> Result<(), ServeFault>
         ensures continues { OnOk result
             (Continues self.old.initiator.machine [] [] self.new.initiator.machine) }
         ensures served { IsFaithful C.carries → (blocks : ℕ)
@@ -221,7 +246,7 @@ impl<C: Carrier> LoopbackSession<C> {
     {
         let mut out = Vec::new(self.alloc);
         self.initiator.start(&mut out)?;
-        self.settle(out)?;
+        self.settle(carrier, out)?;
         match self.initiator.phase() {
             Phase::Full => Ok(()),
             Phase::Login | Phase::Closed => Err(no_outcome()),
@@ -229,7 +254,7 @@ impl<C: Carrier> LoopbackSession<C> {
     }
 
     // Hands in a command, and returns what came of it.
-    fn perform(&mut self, command: Command) -> Result<Done, ServeFault>
+    fn perform<C: Carrier>(&mut self, carrier: &mut C, command: Command) -> Result<Done, ServeFault>
         ensures continues { IfOk result (λ done. Continues self.old.initiator.machine
             (request_of command ∷ []) (done ∷ []) self.new.initiator.machine) }
         ensures served { IsFaithful C.carries → IfOk result (λ done. Performs
@@ -244,7 +269,7 @@ impl<C: Carrier> LoopbackSession<C> {
             Ok(()) => {}
             Err(refused) => return Err(refusal(refused.fault)),
         }
-        self.settle(out)?;
+        self.settle(carrier, out)?;
         match self.initiator.outcome() {
             Some(done) => Ok(done),
             None => Err(no_outcome()),
@@ -252,7 +277,7 @@ impl<C: Carrier> LoopbackSession<C> {
     }
 
     // Moves what the initiator sends to the target, and its answers back, until neither sends more.
-    fn settle(&mut self, requests: Vec<u8>) -> Result<(), ServeFault>
+    fn settle<C: Carrier>(&mut self, carrier: &mut C, requests: Vec<u8>) -> Result<(), ServeFault>
         ensures continues { OnOk result
             (Continues self.old.initiator.machine [] [] self.new.initiator.machine) }
         ensures served { IsFaithful C.carries → OnOk result (GoOn
@@ -265,14 +290,18 @@ impl<C: Carrier> LoopbackSession<C> {
             if requests.is_empty() {
                 return Ok(());
             }
-            let answers = self.feed_target(&requests)?;
-            requests = self.feed_initiator(&answers)?;
+            let answers = self.feed_target(carrier, &requests)?;
+            requests = self.feed_initiator(carrier, &answers)?;
         }
         Err(ServeFault::Network)
     }
 
     // Moves requests to the target, and returns its answers.
-    fn feed_target(&mut self, requests: &[u8]) -> Result<Vec<u8>, ServeFault>
+    fn feed_target<C: Carrier>(
+        &mut self,
+        carrier: &mut C,
+        requests: &[u8],
+    ) -> Result<Vec<u8>, ServeFault>
         ensures kept { self.new.initiator ≡ self.old.initiator }
         ensures served { IsFaithful C.carries → IfOk result (λ answers. GoOn
             (ends_of self.old.initiator self.old.target (disk_in self.old.store) requests.now [])
@@ -286,7 +315,7 @@ impl<C: Carrier> LoopbackSession<C> {
         while !rest.is_empty() {
             let len = rest.len().min(self.piece);
             let read = &mut buffer[..len];
-            self.carrier.to_target(&rest[..len], read)?;
+            carrier.to_target(&rest[..len], read)?;
             self.target.feed(read, &mut self.store, &mut answers)?;
             // Its contract says that these are the blocks of a disk, whatever was written.
             let _blocks = self.store.blocks();
@@ -296,7 +325,11 @@ impl<C: Carrier> LoopbackSession<C> {
     }
 
     // Moves answers to the initiator, and returns what it sends then.
-    fn feed_initiator(&mut self, answers: &[u8]) -> Result<Vec<u8>, ServeFault>
+    fn feed_initiator<C: Carrier>(
+        &mut self,
+        carrier: &mut C,
+        answers: &[u8],
+    ) -> Result<Vec<u8>, ServeFault>
         ensures continues { OnOk result
             (Continues self.old.initiator.machine [] [] self.new.initiator.machine) }
         ensures served { IsFaithful C.carries → IfOk result (λ requests. GoOn
@@ -311,25 +344,19 @@ impl<C: Carrier> LoopbackSession<C> {
         while !rest.is_empty() {
             let len = rest.len().min(self.piece);
             let read = &mut buffer[..len];
-            self.carrier.to_initiator(&rest[..len], read)?;
+            carrier.to_initiator(&rest[..len], read)?;
             self.initiator.feed(read, &mut requests)?;
             rest = &rest[len..];
         }
         Ok(requests)
     }
 
-    // Closes the connection. The target's stream ends then, unless the session was closed before.
-    fn close(self) -> Result<(), ServeFault>
+    // Ends the target's stream, unless the session was closed before.
+    fn finish(&mut self) -> Result<(), ServeFault>
         ensures err { IfErr result IsOfSession }
     {
-        let LoopbackSession {
-            mut target,
-            carrier,
-            ..
-        } = self;
-        carrier.close()?;
-        if target.phase() != Phase::Closed {
-            target.finish()?;
+        if self.target.phase() != Phase::Closed {
+            self.target.finish()?;
         }
         Ok(())
     }
