@@ -10,6 +10,7 @@ ghost use Rattle.iscsi_tool.specs.Storage.{IsStorage};
 use crate::storage::{Image, Origin, Storage};
 use crate::words::{
     BAD_BLOCKS, Job, LineFault, Service, bad_number, blocks, blocks_of, flag, number, valued,
+    with_word,
 };
 use clap::{Arg, ArgMatches, Command};
 use iscsi_login::is_name;
@@ -77,64 +78,56 @@ fn with_image<'a>(
     program: Command<'a>,
     has_image: bool,
 ) -> Result<Command<'a>, AllocError> {
-    program
-        .arg(valued(
-            alloc,
-            "file",
-            "F",
-            "keeps the disk in F, a file or a block device; then --blocks may be left out",
-        )
-        .required(has_image))?
-        .arg(
-            flag(
-                alloc,
-                "create",
-                "makes the file F, of N blocks of 00; there must be none",
-            )
-            .requires_arg("blocks")?
-            .requires_arg("file")?,
-        )
+    let file = valued(
+        alloc,
+        "file",
+        "F",
+        "keeps the disk in F, a file or a block device; then --blocks may be left out",
+    );
+    let program = program.arg(file.required(has_image))?;
+    with_word(program, create(alloc))
+}
+
+// `--create`, which wants the words of an image.
+fn create<'a>(alloc: Global) -> Result<Arg<'a>, AllocError> {
+    flag(
+        alloc,
+        "create",
+        "makes the file F, of N blocks of 00; there must be none",
+    )
+    .requires_arg("blocks")?
+    .requires_arg("file")
 }
 
 // With `--at-once`, and the words that want it.
 fn with_options<'a>(alloc: Global, program: Command<'a>) -> Result<Command<'a>, AllocError> {
-    program
-        .arg(valued(
-            alloc,
-            "at-once",
-            "k",
-            "how many sessions at a time, 1 to 64; the words below want this one",
-        ))?
-        .arg(option(
-            alloc,
-            "listen",
-            "ADDR",
-            "the IPv4 or IPv6 address to listen at, if not 127.0.0.1; who reaches it has the disk",
-        )?)?
-        .arg(option(
-            alloc,
-            "name",
-            "IQN",
-            "the target's name, if not iqn.2026-01.example:disk",
-        )?)?
-        .arg(option(
-            alloc,
-            "idle",
-            "S",
-            "ends a session after so many seconds without a byte, 1 to 65535",
-        )?)?
-        .arg(option(
-            alloc,
-            "login-within",
-            "S",
-            "ends a session that has not logged in after so many seconds, 1 to 65535",
-        )?)?
-        .arg(flag(
-            alloc,
-            "print-port",
-            "prints the port on a line behind 'listening'",
-        )
-        .requires_arg("at-once")?)
+    let at_once = valued(
+        alloc,
+        "at-once",
+        "k",
+        "how many sessions at a time, 1 to 64; the words below want this one",
+    );
+    let listen_help =
+        "the IPv4 or IPv6 address to listen at, if not 127.0.0.1; who reaches it has the disk";
+    let name_help = "the target's name, if not iqn.2026-01.example:disk";
+    let idle_help = "ends a session after so many seconds without a byte, 1 to 65535";
+    let login_help = "ends a session that has not logged in after so many seconds, 1 to 65535";
+    let program = program.arg(at_once)?;
+    let program = with_word(program, option(alloc, "listen", "ADDR", listen_help))?;
+    let program = with_word(program, option(alloc, "name", "IQN", name_help))?;
+    let program = with_word(program, option(alloc, "idle", "S", idle_help))?;
+    let program = with_word(program, option(alloc, "login-within", "S", login_help))?;
+    with_word(program, print_port(alloc))
+}
+
+// `--print-port`, which wants `--at-once`.
+fn print_port<'a>(alloc: Global) -> Result<Arg<'a>, AllocError> {
+    flag(
+        alloc,
+        "print-port",
+        "prints the port on a line behind 'listening'",
+    )
+    .requires_arg("at-once")
 }
 
 // A word with a value, which wants `--at-once`.

@@ -130,6 +130,14 @@ fn program<'a>(alloc: Global, name: &'a str, about: &'a str) -> Result<Command<'
         ))
 }
 
+fn show_program<'a>(alloc: Global) -> Result<Command<'a>, AllocError> {
+    program(
+        alloc,
+        "show",
+        "Writes a line for each PDU of the standard input",
+    )
+}
+
 fn normalise_program<'a>(alloc: Global) -> Result<Command<'a>, AllocError> {
     program(
         alloc,
@@ -137,6 +145,14 @@ fn normalise_program<'a>(alloc: Global) -> Result<Command<'a>, AllocError> {
         "Writes the canonical stream or text of the standard input",
     )?
     .arg(flag(alloc, "text", "the input is one text, not a stream"))
+}
+
+// With one more word, if it could be made.
+pub(crate) fn with_word<'a>(
+    program: Command<'a>,
+    word: Result<Arg<'a>, AllocError>,
+) -> Result<Command<'a>, AllocError> {
+    program.arg(word?)
 }
 
 // A word with a value.
@@ -210,8 +226,8 @@ fn compare_program<'a>(alloc: Global) -> Result<Command<'a>, AllocError> {
     ))
 }
 
-// The words of each job; those of a service over an image, where one is named.
-fn command<'a>(alloc: Global, has_image: bool) -> Result<Command<'a>, AllocError> {
+// The program, without the words of its jobs.
+fn bare_command<'a>(alloc: Global) -> Result<Command<'a>, AllocError> {
     Command::new(alloc, "lanthovur")
         .about(
             "Shows, normalises, compares and answers iSCSI byte streams, serves a disk, and runs \
@@ -221,17 +237,26 @@ fn command<'a>(alloc: Global, has_image: bool) -> Result<Command<'a>, AllocError
         .disable_version_flag(true)
         .disable_help_subcommand(true)
         .subcommand_required(true)
-        .bin_name("lanthovur")?
-        .subcommand(program(
-            alloc,
-            "show",
-            "Writes a line for each PDU of the standard input",
-        )?)?
-        .subcommand(normalise_program(alloc)?)?
-        .subcommand(compare_program(alloc)?)?
-        .subcommand(answer_program(alloc)?)?
-        .subcommand(serve_program(alloc, has_image)?)?
-        .subcommand(loop_program(alloc)?)
+        .bin_name("lanthovur")
+}
+
+// With the words of one more job, if they could be made.
+fn with_job<'a>(
+    command: Command<'a>,
+    job: Result<Command<'a>, AllocError>,
+) -> Result<Command<'a>, AllocError> {
+    command.subcommand(job?)
+}
+
+// The words of each job; those of a service over an image, where one is named.
+fn command<'a>(alloc: Global, has_image: bool) -> Result<Command<'a>, AllocError> {
+    let command = bare_command(alloc)?;
+    let command = with_job(command, show_program(alloc))?;
+    let command = with_job(command, normalise_program(alloc))?;
+    let command = with_job(command, compare_program(alloc))?;
+    let command = with_job(command, answer_program(alloc))?;
+    let command = with_job(command, serve_program(alloc, has_image))?;
+    with_job(command, loop_program(alloc))
 }
 
 /// The job that the words of a command line ask for, without the program's name. Words that are no
@@ -249,6 +274,13 @@ pub fn read_words<'a, S: AsStr>(alloc: Global, words: &'a [S]) -> Result<Job<'a>
         Ok(matches) => matches,
         Err(error) => return Err(usage(alloc, error)),
     };
+    job_of(alloc, &matches)
+}
+
+// The job that words which were read ask for.
+fn job_of<'a>(alloc: Global, matches: &ArgMatches<'a>) -> Result<Job<'a>, LineFault>
+    ensures disk { IfOk result IsJob }
+{
     let Some((name, asked)) = matches.subcommand() else {
         return Ok(UNASKED);
     };
