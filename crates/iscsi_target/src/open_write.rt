@@ -11,7 +11,7 @@ use std::alloc::AllocError;
 use std::marker::Model;
 
 /// A write whose data are not all there.
-#[derive(Debug, Drop)]
+#[derive(Drop)]
 pub struct OpenWrite {
     /// The command's tag.
     pub initiator_task_tag: u32,

@@ -97,7 +97,7 @@ impl Machine {
 }
 
 // The Data-In PDUs of a command that were sent.
-#[derive(Clone, Copy, Debug, PartialEq, Eq)]
+#[derive(Clone, Copy)]
 pub(super) struct Sent {
     // How many.
     pub(super) count: u32,
