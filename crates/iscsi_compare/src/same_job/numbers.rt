@@ -12,7 +12,7 @@ use iscsi_pdu::{
 
 /// The numbers of a head that two runs of one job may choose differently. Where its kind has no
 /// such field, it is the name that stands for itself, or absent.
-#[derive(Clone, Copy, Debug, PartialEq, Eq)]
+#[derive(Clone, Copy)]
 pub(crate) struct Numbers {
     pub(crate) task: u32,
     pub(crate) referenced_task: u32,
