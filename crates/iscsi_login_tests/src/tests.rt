@@ -9,7 +9,6 @@ use iscsi_text::{Text, Value};
 use std::alloc::{AllocError, Global};
 use std::fmt::Debug;
 use std::process::Abort;
-use std::test::Fail;
 
 // Those of the worked login.
 fn normal_offers() -> Offers<'static> {
@@ -131,24 +130,42 @@ fn value_of<'a>(rt: &impl Abort, text: &Text<'a>, key: NegKey) -> Value<'a> {
     text.get(key.name(), 0).expect(rt, "the key is there")
 }
 
+// A text where memory is not refused.
+fn text_of<'a>(rt: &impl Abort, alloc: Global, bytes: &'a [u8]) -> Text<'a> {
+    Text::read(alloc, bytes).expect(rt, "a text")
+}
+
+fn check_offer(
+    rt: &impl Abort,
+    text: &Text,
+    key: NegKey,
+    preferences: &Preferences,
+    given: Answered,
+    held: Answered,
+) {
+    let offer = value_of(rt, text, key);
+    same(rt, &result(key, &offer, preferences), &given, &key);
+    let params = held_offers(rt, text, preferences);
+    same(rt, &params.get(key), &held, &key);
+}
+
+// The standard preferences but for the seconds to wait.
+fn waiting(time2wait: u32) -> Preferences {
+    let mut preferences = Preferences::standard();
+    preferences.time2wait = time2wait;
+    preferences
+}
+
 #[test]
-fn results_and_held_values(rt: HostRuntime) -> Result<(), Fail> {
+fn results_and_held_values(rt: HostRuntime) {
     for (key, bytes, time2wait, given, held) in OFFERED {
-        let preferences = Preferences {
-            time2wait: *time2wait,
-            ..Preferences::standard()
-        };
-        let text = Text::read(rt.alloc(), bytes)?;
-        let offer = value_of(&rt, &text, *key);
-        same(&rt, &result(*key, &offer, &preferences), given, &key);
-        let params = held_offers(&rt, &text, &preferences);
-        same(&rt, &params.get(*key), held, &key);
+        let text = text_of(&rt, rt.alloc(), bytes);
+        check_offer(&rt, &text, *key, &waiting(*time2wait), *given, *held);
     }
-    Ok(())
 }
 
 // An offer of a key, an answer to it, and whether the answer is legal.
-const LEGAL: &[(&str, &str, &str, bool)] = &[
+const LEGAL: &[Legal] = &[
     ("MaxBurstLength", "1024", "512", true),
     ("MaxBurstLength", "1024", "1024", true),
     ("MaxBurstLength", "1024", "1025", false),
@@ -177,33 +194,41 @@ fn pair_of(alloc: Global, key: &str, value: &str) -> Result<String, AllocError> 
 }
 
 // Whether an answer to an offer of a key is legal.
-fn is_legal(
-    rt: &impl Abort,
-    alloc: Global,
-    name: &str,
-    offer: &str,
-    answer: &str,
-) -> Result<bool, Fail> {
+fn is_legal(rt: &impl Abort, key: NegKey, offered: &Text, answered: &Text) -> bool {
+    let (offer, answer) = (value_of(rt, offered, key), value_of(rt, answered, key));
+    legal_answer(key, &offer, &answer)
+}
+
+type Legal = (&'static str, &'static str, &'static str, bool);
+
+fn check_legal(rt: &impl Abort, alloc: Global, row: &Legal) {
+    let (name, offer, answer, legal) = *row;
     let key = NegKey::named(name.as_bytes()).expect(rt, "a negotiated key");
-    let offered = pair_of(alloc, name, offer)?;
-    let answered = pair_of(alloc, name, answer)?;
-    let offered = Text::read(alloc, offered.as_bytes())?;
-    let answered = Text::read(alloc, answered.as_bytes())?;
-    let (offer, answer) = (value_of(rt, &offered, key), value_of(rt, &answered, key));
-    Ok(legal_answer(key, &offer, &answer))
+    let offered = pair_of(alloc, name, offer).expect(rt, "an offer");
+    let answered = pair_of(alloc, name, answer).expect(rt, "an answer");
+    let offered = text_of(rt, alloc, offered.as_bytes());
+    let answered = text_of(rt, alloc, answered.as_bytes());
+    let is_legal = is_legal(rt, key, &offered, &answered);
+    same(rt, &is_legal, &legal, &(name, offer, answer));
 }
 
 #[test]
-fn legal_answers(rt: HostRuntime) -> Result<(), Fail> {
-    for (name, offer, answer, legal) in LEGAL {
-        let is_legal = is_legal(&rt, rt.alloc(), name, offer, answer)?;
-        same(&rt, &is_legal, legal, &(name, offer, answer));
+fn legal_answers(rt: HostRuntime) {
+    for row in LEGAL {
+        check_legal(&rt, rt.alloc(), row);
     }
-    Ok(())
 }
 
 // A text, the kind of session, what the target declares, and its answer.
-const ANSWERS: &[(&[u8], Session, Option<u16>, Option<u32>, &[u8])] = &[
+type Row = (
+    &'static [u8],
+    Session,
+    Option<u16>,
+    Option<u32>,
+    &'static [u8],
+);
+
+const ANSWERS: &[Row] = &[
     (
         SECURITY,
         Session::Normal,
@@ -257,14 +282,18 @@ fn answer_twice(
     }
 }
 
+fn check_answer(rt: &impl Abort, alloc: Global, row: &Row) {
+    let (given, session, tag, max_recv, want) = *row;
+    let text = text_of(rt, alloc, given);
+    let answer = answer_twice(rt, alloc, &text, session, tag, max_recv);
+    same(rt, &answer.as_slice(), &want, &given);
+}
+
 #[test]
-fn answers_to_texts(rt: HostRuntime) -> Result<(), Fail> {
-    for (given, session, tag, max_recv, want) in ANSWERS {
-        let text = Text::read(rt.alloc(), given)?;
-        let answer = answer_twice(&rt, rt.alloc(), &text, *session, *tag, *max_recv);
-        same(&rt, &answer.as_slice(), want, given);
+fn answers_to_texts(rt: HostRuntime) {
+    for row in ANSWERS {
+        check_answer(&rt, rt.alloc(), row);
     }
-    Ok(())
 }
 
 // A kind of session, and the first burst and the seconds to wait that both ends hold then.
@@ -274,12 +303,13 @@ const SESSIONS: &[(Session, u32, u32)] = &[
 ];
 
 // The operational text of the worked login, written again where memory ran out.
-fn operational_of(alloc: Global) -> Result<Vec<u8>, AllocError> {
+fn operational_of(rt: &impl Abort, alloc: Global) -> Vec<u8> {
     let mut out = Vec::new(alloc);
     if normal_offers().operational_text(&mut out).is_err() {
-        normal_offers().operational_text(&mut out)?;
+        let again = normal_offers().operational_text(&mut out);
+        again.expect(rt, "memory is there again");
     }
-    Ok(out)
+    out
 }
 
 // What the target holds after the text, and the initiator after the answer, with segments of 4096
@@ -332,32 +362,48 @@ fn check_same(rt: &impl Abort, target: &Params, initiator: &Params) {
     );
 }
 
+// What the target of the worked login prefers.
+fn preferences_of_target() -> Preferences {
+    let mut preferences = Preferences::standard();
+    preferences.max_burst = 512;
+    preferences.time2wait = 9;
+    preferences.initial_r2t = true;
+    preferences
+}
+
+// What both ends hold after an answer to the text.
+fn check_session(
+    rt: &impl Abort,
+    offered: &Text,
+    answer: &Text,
+    session: Session,
+    first_burst: u32,
+    wait: u32,
+) {
+    let preferences = preferences_of_target();
+    let (target, initiator) = held_by_both(rt, offered, answer, &preferences, session);
+    check_same(rt, &target, &initiator);
+    same(rt, &target.first_burst(), &first_burst, &session);
+    let held = target.number(NegKey::DefaultTime2Wait);
+    same(rt, &held, &wait, &session);
+}
+
+// The target's answer to the text in a session of this kind.
+fn answer_of(rt: &impl Abort, alloc: Global, offered: &Text, session: Session) -> Vec<u8> {
+    let preferences = preferences_of_target();
+    let answer = answer_text(alloc, offered, &preferences, session, None, Some(4096));
+    answer.expect(rt, "an answer")
+}
+
 #[test]
-fn both_ends_hold_the_same(rt: HostRuntime) -> Result<(), Fail> {
-    let preferences = Preferences {
-        max_burst: 512,
-        time2wait: 9,
-        initial_r2t: true,
-        ..Preferences::standard()
-    };
-    let offered = operational_of(rt.alloc())?;
-    let offered = Text::read(rt.alloc(), offered.as_slice())?;
+fn both_ends_hold_the_same(rt: HostRuntime) {
+    let offered = operational_of(&rt, rt.alloc());
+    let offered = text_of(&rt, rt.alloc(), offered.as_slice());
     for (session, first_burst, wait) in SESSIONS {
-        let answer = answer_text(
-            rt.alloc(),
-            &offered,
-            &preferences,
-            *session,
-            None,
-            Some(4096),
-        )?;
-        let answer = Text::read(rt.alloc(), answer.as_slice())?;
-        let (target, initiator) = held_by_both(&rt, &offered, &answer, &preferences, *session);
-        check_same(&rt, &target, &initiator);
-        same(&rt, &target.first_burst(), first_burst, session);
-        same(&rt, &target.number(NegKey::DefaultTime2Wait), wait, session);
+        let answer = answer_of(&rt, rt.alloc(), &offered, *session);
+        let answer = text_of(&rt, rt.alloc(), answer.as_slice());
+        check_session(&rt, &offered, &answer, *session, *first_burst, *wait);
     }
-    Ok(())
 }
 
 // A good answer to the operational text, but for `DataDigest` and `MaxBurstLength`.
@@ -432,30 +478,28 @@ fn judge(rt: &impl Abort, start: Stage, stage: Stage, answer: &Text, want: Optio
 }
 
 // The answer of these pairs beside `REST` is judged at each stage where a login starts.
-fn judge_operational(
-    rt: &impl Abort,
-    alloc: Global,
-    part: &[u8],
-    want: Option<&[u8]>,
-) -> Result<(), Fail> {
-    let mut answer = Vec::from_slice(alloc, REST)?;
-    answer.extend_from_slice(part)?;
-    let answer = Text::read(alloc, answer.as_slice())?;
+fn judge_operational(rt: &impl Abort, alloc: Global, part: &[u8], want: Option<&[u8]>) {
+    let mut answer = Vec::from_slice(alloc, REST).expect(rt, "an answer");
+    answer.extend_from_slice(part).expect(rt, "an answer");
+    let answer = text_of(rt, alloc, answer.as_slice());
     judge(rt, Stage::Security, Stage::Operational, &answer, want);
     judge(rt, Stage::Operational, Stage::Operational, &answer, want);
-    Ok(())
+}
+
+// An answer to the security text is judged.
+fn judge_security(rt: &impl Abort, alloc: Global, answer: &[u8], want: Option<&[u8]>) {
+    let answer = text_of(rt, alloc, answer);
+    judge(rt, Stage::Security, Stage::Security, &answer, want);
 }
 
 #[test]
-fn judged_answers(rt: HostRuntime) -> Result<(), Fail> {
+fn judged_answers(rt: HostRuntime) {
     for (answer, want) in SECURITY_ANSWERS {
-        let answer = Text::read(rt.alloc(), answer)?;
-        judge(&rt, Stage::Security, Stage::Security, &answer, *want);
+        judge_security(&rt, rt.alloc(), answer, *want);
     }
     for (part, want) in OPERATIONAL_ANSWERS {
-        judge_operational(&rt, rt.alloc(), part, *want)?;
+        judge_operational(&rt, rt.alloc(), part, *want);
     }
-    Ok(())
 }
 
 // The text of a stage, by the stage where the login started.
@@ -465,90 +509,101 @@ const STAGES: &[(Stage, Stage, &[u8])] = &[
     (Stage::Operational, Stage::Operational, SINGLE),
 ];
 
+// A point, behind which a text is written; where memory runs out the point stands alone.
+fn point_of(rt: &impl Abort, alloc: Global) -> Vec<u8> {
+    Vec::from_slice(alloc, b".").expect(rt, "a point")
+}
+
+fn check_point(rt: &impl Abort, out: &[u8], row: &impl Debug) {
+    same(rt, &out, &b".".as_slice(), row);
+}
+
+fn check_stage(rt: &impl Abort, alloc: Global, start: Stage, stage: Stage, want: &[u8]) {
+    let offers = normal_offers();
+    let mut out = point_of(rt, alloc);
+    if offers.write_text(start, stage, &mut out).is_err() {
+        check_point(rt, &out, &(start, stage));
+        let again = offers.write_text(start, stage, &mut out);
+        again.expect(rt, "memory is there again");
+    }
+    same(rt, &out.get(1..), &Some(want), &(start, stage));
+}
+
 #[test]
-fn texts_of_stages(rt: HostRuntime) -> Result<(), Fail> {
+fn texts_of_stages(rt: HostRuntime) {
     for (start, stage, want) in STAGES {
-        let mut out = vec![in rt.alloc(); b'.']?;
-        if normal_offers()
-            .write_text(*start, *stage, &mut out)
-            .is_err()
-        {
-            same(&rt, &out.as_slice(), &b".".as_slice(), &(start, stage));
-            normal_offers().write_text(*start, *stage, &mut out)?;
-        }
-        same(&rt, &&out[1..], want, &(start, stage));
+        check_stage(&rt, rt.alloc(), *start, *stage, want);
     }
-    Ok(())
 }
 
-// The security text behind a point; where memory runs out the point stands alone.
-fn security_of(rt: &impl Abort, alloc: Global, offers: &Offers) -> Result<Vec<u8>, AllocError> {
-    let mut out = vec![in alloc; b'.']?;
+// The security text behind a point.
+fn check_security(rt: &impl Abort, alloc: Global, offers: &Offers, want: &[u8]) {
+    let mut out = point_of(rt, alloc);
     if offers.security_text(&mut out).is_err() {
-        same(rt, &out.as_slice(), &b".".as_slice(), offers);
-        offers.security_text(&mut out)?;
+        check_point(rt, &out, offers);
+        let again = offers.security_text(&mut out);
+        again.expect(rt, "memory is there again");
     }
-    Ok(out)
+    same(rt, &out.get(1..), &Some(want), offers);
 }
 
-fn single_of(alloc: Global) -> Result<Vec<u8>, AllocError> {
+fn single_of(rt: &impl Abort, alloc: Global) -> Vec<u8> {
     let mut out = Vec::new(alloc);
     if normal_offers().single_text(&mut out).is_err() {
-        normal_offers().single_text(&mut out)?;
+        let again = normal_offers().single_text(&mut out);
+        again.expect(rt, "memory is there again");
     }
-    Ok(out)
+    out
 }
 
 const DISCOVERY: &[u8] =
     b"AuthMethod=CHAP,None\0InitiatorName=iqn.2026-01.example:host\0SessionType=Discovery\0";
 
-#[test]
-fn security_texts(rt: HostRuntime) -> Result<(), Fail> {
-    let discovery = Offers {
-        session: Session::Discovery,
-        auth: Auth::ChapOrNone,
-        ..normal_offers()
-    };
-    for (offers, want) in [(normal_offers(), SECURITY), (discovery, DISCOVERY)] {
-        let out = security_of(&rt, rt.alloc(), &offers)?;
-        same(&rt, &out.get(1..), &Some(want), &offers);
-    }
-    Ok(())
+// Those of a discovery session that may ask for a password.
+fn discovery_offers() -> Offers<'static> {
+    let mut offers = normal_offers();
+    offers.session = Session::Discovery;
+    offers.auth = Auth::ChapOrNone;
+    offers
 }
 
 #[test]
-fn operational_and_single_texts(rt: HostRuntime) -> Result<(), Fail> {
-    let out = operational_of(rt.alloc())?;
-    same(&rt, &out.as_slice(), &OPERATIONAL, &"operational");
-    same(&rt, &out.len(), &283, &"operational");
-    let out = single_of(rt.alloc())?;
-    same(&rt, &out.as_slice(), &SINGLE, &"single");
-    same(&rt, &out.len(), &377, &"single");
-    Ok(())
+fn security_texts(rt: HostRuntime) {
+    check_security(&rt, rt.alloc(), &normal_offers(), SECURITY);
+    check_security(&rt, rt.alloc(), &discovery_offers(), DISCOVERY);
+}
+
+fn check_text(rt: &impl Abort, out: &[u8], want: &[u8], len: usize, name: &str) {
+    same(rt, &out, &want, &name);
+    same(rt, &out.len(), &len, &name);
 }
 
 #[test]
-fn lengths_and_first_bursts(rt: HostRuntime) -> Result<(), Fail> {
-    same(&rt, &Params::defaults().first_burst(), &65536, &"default");
-    same(
-        &rt,
-        &Params::defaults().initiator_max_recv,
-        &8192,
-        &"default",
-    );
+fn operational_and_single_texts(rt: HostRuntime) {
+    let out = operational_of(&rt, rt.alloc());
+    check_text(&rt, &out, OPERATIONAL, 283, "operational");
+    let out = single_of(&rt, rt.alloc());
+    check_text(&rt, &out, SINGLE, 377, "single");
+}
+
+// A first burst is no longer than another one.
+fn check_first_burst(rt: &impl Abort, alloc: Global) {
+    let text = text_of(rt, alloc, b"FirstBurstLength=65536\0MaxBurstLength=512\0");
+    let params = held_offers(rt, &text, &Preferences::standard());
+    same(rt, &params.first_burst(), &512, &"first burst");
+}
+
+#[test]
+fn lengths_and_first_bursts(rt: HostRuntime) {
+    let defaults = Params::defaults();
+    same(&rt, &defaults.first_burst(), &65536, &"default");
+    same(&rt, &defaults.initiator_max_recv, &8192, &"default");
     let declaring = Params::declaring(16777215);
     same(&rt, &declaring.initiator_max_recv, &16777215, &"declared");
     same(&rt, &declaring.target_max_recv, &8192, &"not declared");
-    same(
-        &rt,
-        &declaring.number(NegKey::MaxBurstLength),
-        &262144,
-        &"longest burst",
-    );
-    let text = Text::read(rt.alloc(), b"FirstBurstLength=65536\0MaxBurstLength=512\0")?;
-    let params = held_offers(&rt, &text, &Preferences::standard());
-    same(&rt, &params.first_burst(), &512, &"first burst");
-    Ok(())
+    let longest = declaring.number(NegKey::MaxBurstLength);
+    same(&rt, &longest, &262144, &"longest burst");
+    check_first_burst(&rt, rt.alloc());
 }
 
 // Two stages, and whether a login may move from the first to the second.
@@ -566,8 +621,9 @@ fn stages(rt: HostRuntime) {
     for (from, to, may) in MOVES {
         same(&rt, &from.may_move(*to), may, &(from, to));
     }
-    let numbers = [Stage::Security, Stage::Operational, Stage::Full].map(Stage::number);
-    same(&rt, &numbers, &[0, 1, 3], &"numbers");
+    same(&rt, &Stage::Security.number(), &0, &"security");
+    same(&rt, &Stage::Operational.number(), &1, &"operational");
+    same(&rt, &Stage::Full.number(), &3, &"full");
 }
 
 const FAULTS: &[(ConfigFault, &str)] = &[
@@ -576,22 +632,23 @@ const FAULTS: &[(ConfigFault, &str)] = &[
     (ConfigFault::OutOfRange, "out of range"),
 ];
 
+fn check_line(rt: &impl Abort, alloc: Global, fault: ConfigFault, line: &str) {
+    let text = format!(in alloc; "{fault}").expect(rt, "text");
+    same(rt, &text.as_str(), &line, &fault);
+}
+
 #[test]
-fn lines_of_faults(rt: HostRuntime) -> Result<(), Fail> {
+fn lines_of_faults(rt: HostRuntime) {
     for (fault, line) in FAULTS {
-        same(
-            &rt,
-            &format!(in rt.alloc(); "{fault}")?.as_str(),
-            line,
-            fault,
-        );
+        check_line(&rt, rt.alloc(), *fault, line);
     }
-    Ok(())
 }
 
 // The longest burst and first burst, the seconds to wait and to retain, the longest segment, and
 // whether all are in their ranges: the ends of each range, and one past them.
-const RANGES: &[(u32, u32, u32, u32, u32, bool)] = &[
+type Range = (u32, u32, u32, u32, u32, bool);
+
+const RANGES: &[Range] = &[
     (512, 512, 0, 0, 512, true),
     (16777215, 16777215, 3600, 3600, 16777215, true),
     (511, 512, 0, 0, 512, false),
@@ -601,17 +658,20 @@ const RANGES: &[(u32, u32, u32, u32, u32, bool)] = &[
     (512, 512, 0, 0, 16777216, false),
 ];
 
+fn check_range(rt: &impl Abort, row: &Range) {
+    let (max_burst, first_burst, time2wait, time2retain, max_recv, within) = *row;
+    let mut preferences = Preferences::standard();
+    preferences.max_burst = max_burst;
+    preferences.first_burst = first_burst;
+    preferences.time2wait = time2wait;
+    preferences.time2retain = time2retain;
+    preferences.max_recv = max_recv;
+    same(rt, &preferences.in_range(), &within, &preferences);
+}
+
 #[test]
 fn ranges_of_preferences(rt: HostRuntime) {
-    for (max_burst, first_burst, time2wait, time2retain, max_recv, within) in RANGES {
-        let preferences = Preferences {
-            max_burst: *max_burst,
-            first_burst: *first_burst,
-            time2wait: *time2wait,
-            time2retain: *time2retain,
-            max_recv: *max_recv,
-            ..Preferences::standard()
-        };
-        same(&rt, &preferences.in_range(), within, &preferences);
+    for row in RANGES {
+        check_range(&rt, row);
     }
 }

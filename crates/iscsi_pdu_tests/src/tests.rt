@@ -7,8 +7,14 @@ use iscsi_pdu::{
     TaskRequest, TaskResponse, TextRequest, TextResponse, Window, laws, pad, read_head, write_head,
 };
 use scsi_cdb::{Cdb, Transfer10};
+use std::alloc::Global;
+use std::fmt::Debug;
 use std::process::Abort;
-use std::test::Fail;
+
+/// Asserts that a value is the one that is due, in a row of which this tells.
+fn same<T: PartialEq + Debug>(rt: &impl Abort, value: &T, due: &T, row: &impl Debug) {
+    assert_eq!(rt; *value, *due, "{row:?}");
+}
 
 /// The header of which these are the words.
 fn header(words: [u32; 12]) -> [u8; 48] {
@@ -30,7 +36,7 @@ fn is_written(came: [u32; 12], written: [u32; 12]) -> bool {
 /// A header has this head.
 fn check_head(rt: &impl Abort, words: [u32; 12], head: &Head) {
     let read = read_head(&header(words)).map(|(read, _)| read);
-    assert_eq!(rt; read, Ok(*head), "{words:?}");
+    same(rt, &read, &Ok(*head), &words);
 }
 
 /// All bits of a word.
@@ -183,7 +189,7 @@ const INITIATOR_HEADERS: &[([u32; 12], [u32; 12])] = &[
 #[test]
 fn headers_of_the_initiator(rt: HostRuntime) {
     for (i, (came, written)) in INITIATOR_HEADERS.iter().enumerate() {
-        assert!(rt; is_written(*came, *written), "row {i}");
+        same(&rt, &is_written(*came, *written), &true, &i);
     }
 }
 
@@ -334,7 +340,7 @@ const TARGET_HEADERS: &[([u32; 12], [u32; 12])] = &[
 #[test]
 fn headers_of_the_target(rt: HostRuntime) {
     for (i, (came, written)) in TARGET_HEADERS.iter().enumerate() {
-        assert!(rt; is_written(*came, *written), "row {i}");
+        same(&rt, &is_written(*came, *written), &true, &i);
     }
 }
 
@@ -649,26 +655,37 @@ const REFUSALS: &[([u32; 2], Result<u32, HeadFault>)] = &[
     ([0x05800000, 0x00ffffff], Ok(0xff_ffff)),
 ];
 
+/// The length of the segment of a header with these words, or why it is refused.
+fn length_of(words: [u32; 2]) -> Result<u32, HeadFault> {
+    let [first, second] = words;
+    let (_, len) = read_head(&header([first, second, 0, 0, 0, 0, 0, 0, 0, 0, 0, 0]))?;
+    Ok(len)
+}
+
 #[test]
 fn refusals(rt: HostRuntime) {
-    for ([first, second], want) in REFUSALS {
-        let read = read_head(&header([*first, *second, 0, 0, 0, 0, 0, 0, 0, 0, 0, 0]));
-        assert_eq!(rt; read.map(|(_, len)| len), *want, "{first} {second}");
+    for (words, want) in REFUSALS {
+        same(&rt, &length_of(*words), want, words);
     }
 }
 
 /// What is printed of each refusal.
+const WORDS: &[(HeadFault, &str)] = &[
+    (HeadFault::UnknownOpcode, "unknown opcode"),
+    (HeadFault::Additional, "additional header"),
+    (HeadFault::TooLong, "login segment too long"),
+];
+
+fn check_words(rt: &impl Abort, alloc: Global, fault: HeadFault, want: &str) {
+    let text = format!(in alloc; "{fault}").expect(rt, want);
+    same(rt, &text.as_str(), &want, &fault);
+}
+
 #[test]
-fn refusals_in_words(rt: HostRuntime) -> Result<(), Fail> {
-    let rows = [
-        (HeadFault::UnknownOpcode, "unknown opcode"),
-        (HeadFault::Additional, "additional header"),
-        (HeadFault::TooLong, "login segment too long"),
-    ];
-    for (fault, want) in rows {
-        assert_eq!(rt; format!(in rt.alloc(); "{fault}")?.as_str(), want);
+fn refusals_in_words(rt: HostRuntime) {
+    for (fault, want) in WORDS {
+        check_words(&rt, rt.alloc(), *fault, want);
     }
-    Ok(())
 }
 
 /// Two numbers, and whether the first is before the second.
@@ -691,15 +708,23 @@ const BETWEEN: &[(u32, u32, u32, bool)] = &[
     (5, 0, 0x8000_0000, false),
 ];
 
+fn check_before(rt: &impl Abort, a: u32, b: u32, want: bool) {
+    same(rt, &Serial(a).before(Serial(b)), &want, &(a, b));
+}
+
+fn check_within(rt: &impl Abort, number: u32, low: u32, high: u32, want: bool) {
+    let within = Serial(number).within(Serial(low), Serial(high));
+    same(rt, &within, &want, &(number, low, high));
+}
+
 #[test]
 fn serials(rt: HostRuntime) {
     for (a, b, want) in ORDERED {
-        assert_eq!(rt; Serial(*a).before(Serial(*b)), *want, "{a} and {b}");
+        check_before(&rt, *a, *b, *want);
     }
-    assert_eq!(rt; Serial(0xffff_ffff).next(), Serial(0));
+    same(&rt, &Serial(0xffff_ffff).next(), &Serial(0), &"the wrap");
     for (number, low, high, want) in BETWEEN {
-        let within = Serial(*number).within(Serial(*low), Serial(*high));
-        assert_eq!(rt; within, *want, "{number}");
+        check_within(&rt, *number, *low, *high, *want);
     }
 }
 
@@ -720,12 +745,16 @@ fn window_of(pair: (u32, u32)) -> Window {
     }
 }
 
+fn check_window(rt: &impl Abort, pair: (u32, u32), new: (u32, u32)) {
+    let mut window = window_of((5, 9));
+    window.update(Serial(pair.0), Serial(pair.1));
+    same(rt, &window, &window_of(new), &pair);
+}
+
 #[test]
 fn windows(rt: HostRuntime) {
     for (pair, new) in PAIRS {
-        let mut window = window_of((5, 9));
-        window.update(Serial(pair.0), Serial(pair.1));
-        assert_eq!(rt; window, window_of(*new));
+        check_window(&rt, *pair, *new);
     }
 }
 
@@ -735,7 +764,7 @@ const PADDED: &[(u32, u32)] = &[(0, 0), (1, 3), (2, 2), (3, 1), (4, 0), (0xfffff
 #[test]
 fn padding(rt: HostRuntime) {
     for (len, padding) in PADDED {
-        assert_eq!(rt; pad(*len), *padding, "{len} bytes");
+        same(&rt, &pad(*len), padding, len);
     }
 }
 
@@ -747,5 +776,6 @@ fn a_head_is_read_again(rt: HostRuntime) {
         exp_cmd_sn: 2,
         max_cmd_sn: 3,
     });
-    assert_eq!(rt; laws::read_written(&head, 48), Ok((head, 48)));
+    let read = laws::read_written(&head, 48);
+    same(&rt, &read, &Ok((head, 48)), &"a head");
 }

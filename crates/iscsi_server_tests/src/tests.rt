@@ -7,9 +7,8 @@ use iscsi_examples::{PING, pdus_of};
 use iscsi_server::{Limits, Options, Server};
 use scsi_disk::SparseStore;
 use std::io::{ErrorKind, Read, Write};
-use std::net::{IpAddr, Ipv4Addr, TcpStream};
+use std::net::{IpAddr, Ipv4Addr, Net, TcpStream};
 use std::process::Abort;
-use std::test::Fail;
 
 /// How many blocks the disk has.
 const BLOCKS: u64 = 8;
@@ -89,107 +88,127 @@ struct Service<'a> {
 }
 
 impl Service<'_> {
-    fn turn(&mut self, rt: &HostRuntime) -> Result<(), Fail> {
-        Ok(self.server.turn(rt, &mut self.store)?)
+    fn turn(&mut self, rt: &HostRuntime, abort: &impl Abort) {
+        let turned = self.server.turn(rt, &mut self.store);
+        turned.expect(abort, "a turn");
     }
 }
 
 // A service; it stands in a box, so that functions which own it are proved sooner.
-fn open<'a>(rt: &HostRuntime, options: Options<'a>) -> Result<Box<Service<'a>>, Fail> {
+fn open<'a>(rt: &HostRuntime, abort: &impl Abort, options: Options<'a>) -> Box<Service<'a>> {
     let store = SparseStore::new(rt.alloc(), BLOCKS);
-    let server = Server::open(rt, options)?;
-    Ok(Box::new(rt.alloc(), Service { server, store })?)
+    let server = Server::open(rt, options).expect(abort, "a server");
+    Box::new(rt.alloc(), Service { server, store }).expect(abort, "a service")
 }
 
-// So many clients, in the order in which they are accepted.
-fn clients(rt: &HostRuntime, server: &Server<'_>, count: usize) -> Result<Vec<TcpStream>, Fail> {
+// A client at a port of this machine.
+fn client_at<N: Net<Stream = TcpStream>>(rt: &N, abort: &impl Abort, port: u16) -> TcpStream {
+    let client = TcpStream::connect(rt, (Ipv4Addr::LOCALHOST, port)).expect(abort, "a client");
+    client.set_nonblocking(true).expect(abort, "a client");
+    client
+}
+
+// Two clients, in the order in which they are accepted.
+fn clients(rt: &HostRuntime, abort: &impl Abort, server: &Server<'_>) -> Vec<TcpStream> {
+    let port = server.port().expect(abort, "a port");
     let mut clients = Vec::new(rt.alloc());
-    for _ in 0..count {
-        let client = TcpStream::connect(rt, (Ipv4Addr::LOCALHOST, server.port()?))?;
-        client.set_nonblocking(true)?;
-        clients.push(client)?;
-    }
-    Ok(clients)
+    clients
+        .push(client_at(rt, abort, port))
+        .expect(abort, "a client");
+    clients
+        .push(client_at(rt, abort, port))
+        .expect(abort, "a client");
+    clients
 }
 
 // Appends what came to a client, and says whether anything did.
-fn receive(client: &TcpStream, out: &mut Vec<u8>) -> Result<bool, Fail> {
+fn receive(abort: &impl Abort, client: &TcpStream, out: &mut Vec<u8>) -> bool {
     let mut buffer = [0u8; 4096];
     let mut client = client;
     match client.read(&mut buffer) {
         Ok(count) => {
-            out.extend_from_slice(&buffer[..count])?;
-            Ok(count > 0)
+            out.extend_from_slice(&buffer[..count])
+                .expect(abort, "bytes");
+            count > 0
         }
-        Err(error) if error.kind() == ErrorKind::WouldBlock => Ok(false),
-        Err(error) => Err(Fail::from(error)),
+        Err(error) => {
+            same(abort, &error.kind(), &ErrorKind::WouldBlock, &"a client");
+            false
+        }
     }
 }
 
-// What comes to a client while the server has turns, up to so many bytes.
+// Appends what comes to a client while the server has turns, up to so many bytes.
 fn answers(
     rt: &HostRuntime,
+    abort: &impl Abort,
     service: &mut Service<'_>,
     client: &TcpStream,
     count: usize,
-) -> Result<Vec<u8>, Fail> {
-    let mut out = Vec::new(rt.alloc());
+    out: &mut Vec<u8>,
+) {
     for _ in 0..MOST_TURNS {
         if out.len() >= count {
-            break;
+            return;
         }
-        if !receive(client, &mut out)? {
-            service.turn(rt)?;
+        if !receive(abort, client, out) {
+            service.turn(rt, abort);
         }
     }
-    Ok(out)
 }
 
-// A client writes requests. Says whether it has the answers that are due.
-fn is_answered(
+// A client writes requests, and has the answers that are due.
+fn check_answers(
     rt: &HostRuntime,
+    abort: &impl Abort,
     service: &mut Service<'_>,
     client: &TcpStream,
     requests: &str,
     due: &str,
-) -> Result<bool, Fail> {
+    row: (&str, usize),
+) {
     let mut writer = client;
-    writer.write_all(&pdus_of(rt.alloc(), requests)?)?;
-    let due = pdus_of(rt.alloc(), due)?;
-    let out = answers(rt, service, client, due.len())?;
-    Ok(out.as_slice() == due.as_slice())
+    let stream = pdus_of(rt.alloc(), requests).expect(abort, requests);
+    writer.write_all(&stream).expect(abort, requests);
+    let due = pdus_of(rt.alloc(), due).expect(abort, due);
+    let mut out = Vec::new(rt.alloc());
+    answers(rt, abort, service, client, due.len(), &mut out);
+    same(abort, &out, &due, &row);
 }
 
-// Has turns until all sessions were served, and says whether they were.
-fn finish(rt: &HostRuntime, service: &mut Service<'_>) -> Result<bool, Fail> {
+// Has turns until all sessions were served.
+fn finish(rt: &HostRuntime, abort: &impl Abort, service: &mut Service<'_>, name: &str) {
     for _ in 0..MOST_TURNS {
         if service.server.is_done() {
-            return Ok(true);
+            return;
         }
-        service.turn(rt)?;
+        service.turn(rt, abort);
     }
-    Ok(false)
+    same(abort, &service.server.is_done(), &true, &name);
 }
 
-// Does what the rows say. Gives the row at which other bytes came, and whether all sessions were
-// served then.
-fn run(
+// Does what the rows say: all answers are those that are due, and all sessions are served then.
+fn check_rows(
     rt: &HostRuntime,
+    abort: &impl Abort,
     service: &mut Service<'_>,
     clients: &[TcpStream],
     rows: Rows<'_>,
-) -> Result<(Option<usize>, bool), Fail> {
-    for (row, (place, requests, due)) in rows.iter().enumerate() {
-        let client = clients.get(*place).ok_or("no such client")?;
-        if !is_answered(rt, service, client, requests, due)? {
-            return Ok((Some(row), false));
-        }
+    name: &str,
+) {
+    for (at, (place, requests, due)) in rows.iter().enumerate() {
+        let client = clients.get(*place).expect(abort, "no such client");
+        check_answers(rt, abort, service, client, requests, due, (name, at));
     }
-    Ok((None, finish(rt, service)?))
+    finish(rt, abort, service, name);
 }
 
-/// All answers were those that are due, and all sessions were served.
-const WELL: (Option<usize>, bool) = (None, true);
+// Two clients of a service do what the rows say.
+fn check(rt: &HostRuntime, abort: &impl Abort, options: Options<'_>, rows: Rows<'_>, name: &str) {
+    let mut service = open(rt, abort, options);
+    let clients = clients(rt, abort, &service.server);
+    check_rows(rt, abort, &mut service, &clients, rows, name);
+}
 
 /// The second session reads what the first one wrote, between its login and its logout.
 const TWO: Rows<'static> = &[
@@ -202,12 +221,8 @@ const TWO: Rows<'static> = &[
 ];
 
 #[test]
-fn two_sessions_at_once(rt: HostRuntime) -> Result<(), Fail> {
-    let mut service = open(&rt, options(2, 2, 5))?;
-    let clients = clients(&rt, &service.server, 2)?;
-    let seen = run(&rt, &mut service, &clients, TWO)?;
-    same(&rt, &seen, &WELL, &"two at once");
-    Ok(())
+fn two_sessions_at_once(rt: HostRuntime) {
+    check(&rt, &rt, options(2, 2, 5), TWO, "two at once");
 }
 
 /// The same port logs in once more, as after a restart: the first session is ended.
@@ -219,12 +234,8 @@ const AGAIN: Rows<'static> = &[
 
 // The first client stays and sends nothing: for longer than a test may take it would keep its seat.
 #[test]
-fn the_same_port_once_more(rt: HostRuntime) -> Result<(), Fail> {
-    let mut service = open(&rt, options(2, 2, 120))?;
-    let clients = clients(&rt, &service.server, 2)?;
-    let seen = run(&rt, &mut service, &clients, AGAIN)?;
-    same(&rt, &seen, &WELL, &"the same port");
-    Ok(())
+fn the_same_port_once_more(rt: HostRuntime) {
+    check(&rt, &rt, options(2, 2, 120), AGAIN, "the same port");
 }
 
 /// The first session breaks a rule, and the second one goes on.
@@ -235,12 +246,8 @@ const FAULT: Rows<'static> = &[
 ];
 
 #[test]
-fn a_fault_ends_its_session_alone(rt: HostRuntime) -> Result<(), Fail> {
-    let mut service = open(&rt, options(2, 2, 5))?;
-    let clients = clients(&rt, &service.server, 2)?;
-    let seen = run(&rt, &mut service, &clients, FAULT)?;
-    same(&rt, &seen, &WELL, &"a fault");
-    Ok(())
+fn a_fault_ends_its_session_alone(rt: HostRuntime) {
+    check(&rt, &rt, options(2, 2, 5), FAULT, "a fault");
 }
 
 /// One session at a time: the second one has its turns when the first one is over.
@@ -252,19 +259,17 @@ const ONE: Rows<'static> = &[
 ];
 
 #[test]
-fn one_more_than_there_are_seats(rt: HostRuntime) -> Result<(), Fail> {
-    let mut service = open(&rt, options(2, 1, 5))?;
-    let clients = clients(&rt, &service.server, 2)?;
-    let seen = run(&rt, &mut service, &clients, ONE)?;
-    same(&rt, &seen, &WELL, &"one at a time");
-    Ok(())
+fn one_more_than_there_are_seats(rt: HostRuntime) {
+    check(&rt, &rt, options(2, 1, 5), ONE, "one at a time");
 }
 
 #[test]
-fn a_silent_peer_leaves(rt: HostRuntime) -> Result<(), Fail> {
-    let mut service = open(&rt, options(2, 2, 1))?;
-    let clients = clients(&rt, &service.server, 2)?;
-    let seen = run(&rt, &mut service, &clients, &[(0, LOGIN, LOGIN_1)])?;
-    same(&rt, &seen, &WELL, &"silent peers");
-    Ok(())
+fn a_silent_peer_leaves(rt: HostRuntime) {
+    check(
+        &rt,
+        &rt,
+        options(2, 2, 1),
+        &[(0, LOGIN, LOGIN_1)],
+        "silent peers",
+    );
 }

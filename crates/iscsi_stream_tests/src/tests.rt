@@ -1,7 +1,8 @@
 //! Streams by example: headers in words of hex, worked out by hand from the tables of RFC 7143, section 11.
 
-use iscsi_examples::{SURE, marked};
-use iscsi_stream::{Counts, Framer, ToolFault, canonical};
+use crate::asserts::same;
+use iscsi_examples::marked;
+use iscsi_stream::{Counts, Framer, ToolFault, canonical, normalise};
 use std::alloc::Global;
 use std::process::Abort;
 
@@ -14,8 +15,6 @@ mod rows;
 mod runs;
 mod texts;
 
-use runs::run_with;
-
 // The stream of a row that comes.
 fn came_of(rt: &impl Abort, alloc: Global, lines: &str) -> Vec<u8> {
     marked(alloc, lines, "> ").expect(rt, "lines of a row")
@@ -26,10 +25,25 @@ fn written_of(rt: &impl Abort, alloc: Global, lines: &str) -> Vec<u8> {
     marked(alloc, lines, "< ").expect(rt, "lines of a row")
 }
 
-// The canonical stream, or the fault, and what was written.
-fn normal_of(alloc: Global, stream: &[u8]) -> (Result<Counts, ToolFault>, Vec<u8>) {
-    let run = run_with(alloc, false, stream, SURE, SURE);
-    (run.result, run.written)
+// Appends the canonical stream, or what is written of it before the fault.
+fn normal_of(alloc: Global, stream: &[u8], out: &mut Vec<u8>) -> Result<Counts, ToolFault> {
+    let mut source = stream;
+    normalise(alloc, &mut source, out)
+}
+
+// The row of this number: a blank line stands between two.
+fn nth_row<'a>(rt: &impl Abort, rows: &'a str, number: usize) -> &'a str {
+    rows.split("\n\n").nth(number).expect(rt, "no such row")
+}
+
+// There are so many rows.
+fn check_count(rt: &impl Abort, rows: &str, count: usize) {
+    same(rt, &rows.split("\n\n").count(), &count, &"rows");
+}
+
+// The two parts of a row of text, at the first of these marks.
+fn split_at_mark<'a>(rt: &impl Abort, row: &'a str, mark: &str) -> (&'a str, &'a str) {
+    row.split_once(mark).expect(rt, row)
 }
 
 // Feeds a piece, and appends the canonical form of each PDU that it makes whole.

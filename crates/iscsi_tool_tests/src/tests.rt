@@ -15,11 +15,10 @@ use iscsi_pdu::HeadFault;
 use iscsi_stream::{StreamFault, ToolFault};
 use iscsi_text::TextFault;
 use iscsi_tool::{Filter, Work, run_filter, status};
-use std::alloc::{AllocError, Global};
+use std::alloc::Global;
 use std::io;
 use std::io::{Read, Write};
 use std::process::Abort;
-use std::test::Fail;
 
 const SHOW: Filter = Filter {
     work: Work::Show,
@@ -85,12 +84,10 @@ fn diskless(filter: Filter) -> Filter
     Filter { work, hex }
 }
 
-// What a filter answers, and what it writes.
-fn run(alloc: Global, filter: Filter, input: &[u8]) -> (Result<(), ToolFault>, Vec<u8>) {
+// What a filter answers. What it writes is appended.
+fn run(alloc: Global, filter: Filter, input: &[u8], out: &mut Vec<u8>) -> Result<(), ToolFault> {
     let mut source = input;
-    let mut out = Vec::new(alloc);
-    let result = run_filter(alloc, diskless(filter), &mut source, &mut out);
-    (result, out)
+    run_filter(alloc, diskless(filter), &mut source, out)
 }
 
 // Asserts what a filter answers, and all that it writes.
@@ -102,7 +99,8 @@ fn check(
     want: Result<(), ToolFault>,
     due: &[u8],
 ) {
-    let (result, out) = run(alloc, filter, input);
+    let mut out = Vec::new(alloc);
+    let result = run(alloc, filter, input, &mut out);
     same(rt, &result, &want, &(filter, input));
     same(rt, &out.as_slice(), &due, &(filter, input));
 }
@@ -127,11 +125,10 @@ const GOOD: &[(Filter, &[u8], &[u8])] = &[
 ];
 
 #[test]
-fn streams_and_texts(rt: HostRuntime) -> Result<(), Fail> {
+fn streams_and_texts(rt: HostRuntime) {
     for (filter, input, due) in GOOD {
         check(&rt, rt.alloc(), *filter, input, Ok(()), due);
     }
-    Ok(())
 }
 
 /// The ping as hex text: blanks between words; capitals, with no blank; line ends and blanks within a
@@ -145,12 +142,16 @@ const SPELLINGS: &[&[u8]] = &[
 ];
 
 #[test]
-fn streams_as_hex(rt: HostRuntime) -> Result<(), Fail> {
+fn streams_as_hex(rt: HostRuntime) {
     for text in SPELLINGS {
         check(&rt, rt.alloc(), NORMALISE_HEX, text, Ok(()), CANONICAL_PING);
         check(&rt, rt.alloc(), SHOW_HEX, text, Ok(()), PING_LINE);
     }
-    Ok(())
+}
+
+// So many bytes of one value.
+fn bytes_of(rt: &impl Abort, alloc: Global, count: usize, byte: u8) -> Vec<u8> {
+    vec![in alloc; byte; count].expect(rt, "bytes")
 }
 
 /// Texts that are refused: the line is ended after a fault of the text too, but not where it is no
@@ -165,21 +166,13 @@ const BAD_TEXTS: &[(&[u8], ToolFault, &[u8])] = &[
 ];
 
 #[test]
-fn texts_that_are_refused(rt: HostRuntime) -> Result<(), Fail> {
+fn texts_that_are_refused(rt: HostRuntime) {
     for (text, fault, due) in BAD_TEXTS {
         check(&rt, rt.alloc(), TEXT_HEX, text, Err(*fault), due);
     }
-    let mut text = Vec::new(rt.alloc());
-    text.resize(32_770, b'0')?;
-    check(
-        &rt,
-        rt.alloc(),
-        TEXT_HEX,
-        &text,
-        Err(ToolFault::TextTooLong),
-        b"\n",
-    );
-    Ok(())
+    let text = bytes_of(&rt, rt.alloc(), 32_770, b'0');
+    let too_long = Err(ToolFault::TextTooLong);
+    check(&rt, rt.alloc(), TEXT_HEX, &text, too_long, b"\n");
 }
 
 /// Text that is not hex.
@@ -194,18 +187,20 @@ const NOT_HEX: &[&[u8]] = &[
     b"4 \n",
 ];
 
-#[test]
-fn text_that_is_not_hex(rt: HostRuntime) -> Result<(), Fail> {
-    // Whole pairs behind a whole PDU, but for the last one.
-    let mut odd = Vec::from_slice(rt.alloc(), PING)?;
-    odd.extend_from_slice(b"4")?;
-    for filter in [NORMALISE_HEX, SHOW_HEX] {
-        for text in NOT_HEX {
-            check(&rt, rt.alloc(), filter, text, Err(ToolFault::NotHex), b"");
-        }
-        check(&rt, rt.alloc(), filter, &odd, Err(ToolFault::NotHex), b"");
+// No text of these is hex, nor whole pairs behind a whole PDU, but for the last one.
+fn check_not_hex(rt: &impl Abort, alloc: Global, filter: Filter) {
+    for text in NOT_HEX {
+        check(rt, alloc, filter, text, Err(ToolFault::NotHex), b"");
     }
-    Ok(())
+    let mut odd = Vec::from_slice(alloc, PING).expect(rt, "a ping");
+    odd.push(b'4').expect(rt, "a digit");
+    check(rt, alloc, filter, &odd, Err(ToolFault::NotHex), b"");
+}
+
+#[test]
+fn text_that_is_not_hex(rt: HostRuntime) {
+    check_not_hex(&rt, rt.alloc(), NORMALISE_HEX);
+    check_not_hex(&rt, rt.alloc(), SHOW_HEX);
 }
 
 // A text of so many bytes of hex, and that it is refused or not.
@@ -216,43 +211,41 @@ fn check_length(
     byte: u8,
     count: usize,
     is_hex: bool,
-) -> Result<(), AllocError> {
-    let mut text = Vec::new(alloc);
-    text.resize(count, byte)?;
-    let (result, out) = run(alloc, filter, &text);
-    same(
-        rt,
-        &(result == Err(ToolFault::NotHex)),
-        &!is_hex,
-        &(filter, byte, count),
-    );
+) {
+    let text = bytes_of(rt, alloc, count, byte);
+    let mut out = Vec::new(alloc);
+    let result = run(alloc, filter, &text, &mut out);
+    let is_refused = result == Err(ToolFault::NotHex);
+    same(rt, &is_refused, &!is_hex, &(filter, byte, count));
     if !is_hex {
         same(rt, &out.len(), &0, &(filter, byte, count));
     }
-    Ok(())
 }
 
+/// Bytes, how many, and whether so many are taken: what is dropped counts.
+const LONGEST: &[(u8, usize, bool)] = &[
+    (b'0', 1_048_578, false),
+    (b' ', 1_048_578, false),
+    (b' ', 1_048_577, false),
+    (b' ', 1_048_576, true),
+];
+
 #[test]
-fn the_longest_text(rt: HostRuntime) -> Result<(), Fail> {
-    for filter in [NORMALISE_HEX, SHOW_HEX] {
-        check_length(&rt, rt.alloc(), filter, b'0', 1_048_578, false)?;
-        // What is dropped counts.
-        check_length(&rt, rt.alloc(), filter, b' ', 1_048_578, false)?;
-        check_length(&rt, rt.alloc(), filter, b' ', 1_048_577, false)?;
-        check_length(&rt, rt.alloc(), filter, b' ', 1_048_576, true)?;
+fn the_longest_text(rt: HostRuntime) {
+    for (byte, count, is_hex) in LONGEST {
+        check_length(&rt, rt.alloc(), NORMALISE_HEX, *byte, *count, *is_hex);
+        check_length(&rt, rt.alloc(), SHOW_HEX, *byte, *count, *is_hex);
     }
-    Ok(())
 }
 
 /// 524,288 bytes of 00 are a NOP-Out again and again, and 32 bytes more.
 #[test]
-fn the_longest_stream_as_hex(rt: HostRuntime) -> Result<(), Fail> {
-    let mut text = Vec::new(rt.alloc());
-    text.resize(1_048_576, b'0')?;
-    let (result, _) = run(rt.alloc(), NORMALISE_HEX, &text);
+fn the_longest_stream_as_hex(rt: HostRuntime) {
+    let text = bytes_of(&rt, rt.alloc(), 1_048_576, b'0');
+    let mut out = Vec::new(rt.alloc());
+    let result = run(rt.alloc(), NORMALISE_HEX, &text, &mut out);
     let fault = ToolFault::Stream(StreamFault::Truncated(524_256));
     same(&rt, &result, &Err(fault), &"the longest");
-    Ok(())
 }
 
 /// What follows the ping, the fault, and its line.
@@ -284,32 +277,35 @@ const BAD_STREAMS: &[(&[u8], StreamFault, &str)] = &[
 ];
 
 // A stream whose second PDU is at fault; with nothing before it the line of the bytes is empty.
-fn check_behind(
-    rt: &impl Abort,
-    alloc: Global,
-    rest: &[u8],
-    fault: StreamFault,
-    line: &str,
-) -> Result<(), Fail> {
-    let mut text = Vec::from_slice(alloc, PING)?;
-    text.extend_from_slice(b"\n")?;
-    text.extend_from_slice(rest)?;
-    let fault = ToolFault::Stream(fault);
+fn check_behind(rt: &impl Abort, alloc: Global, rest: &[u8], fault: ToolFault, line: &str) {
+    let mut text = Vec::from_slice(alloc, PING).expect(rt, "a ping");
+    text.push(b'\n').expect(rt, "a line end");
+    text.extend_from_slice(rest).expect(rt, "the rest");
     check(rt, alloc, NORMALISE_HEX, &text, Err(fault), CANONICAL_PING);
     check(rt, alloc, SHOW_HEX, &text, Err(fault), PING_LINE);
-    same(rt, &format!(in alloc; "{fault}")?.as_str(), &line, &line);
-    let (result, out) = run(alloc, NORMALISE_HEX, rest);
+    check_line(rt, alloc, &fault, line);
+}
+
+// What is said of a fault.
+fn check_line(rt: &impl Abort, alloc: Global, fault: &ToolFault, line: &str) {
+    let said = format!(in alloc; "{fault}").expect(rt, line);
+    same(rt, &said.as_str(), &line, &line);
+}
+
+// The same alone.
+fn check_alone(rt: &impl Abort, alloc: Global, rest: &[u8], line: &str) {
+    let mut out = Vec::new(alloc);
+    let result = run(alloc, NORMALISE_HEX, rest, &mut out);
     same(rt, &result.is_err(), &true, &line);
     same(rt, &out.as_slice(), &b"\n".as_slice(), &line);
-    Ok(())
 }
 
 #[test]
-fn faults_behind_a_pdu(rt: HostRuntime) -> Result<(), Fail> {
+fn faults_behind_a_pdu(rt: HostRuntime) {
     for (rest, fault, line) in BAD_STREAMS {
-        check_behind(&rt, rt.alloc(), rest, *fault, line)?;
+        check_behind(&rt, rt.alloc(), rest, ToolFault::Stream(*fault), line);
+        check_alone(&rt, rt.alloc(), rest, line);
     }
-    Ok(())
 }
 
 /// A fault, its line and the exit status.
@@ -348,12 +344,11 @@ const FAULTS: &[(ToolFault, &str, u8)] = &[
 ];
 
 #[test]
-fn fault_lines_and_statuses(rt: HostRuntime) -> Result<(), Fail> {
+fn fault_lines_and_statuses(rt: HostRuntime) {
     for (fault, line, code) in FAULTS {
-        let said = format!(in rt.alloc(); "{fault}")?;
-        same(&rt, &(said.as_str(), status(fault)), &(*line, *code), line);
+        check_line(&rt, rt.alloc(), fault, line);
+        same(&rt, &status(fault), code, line);
     }
-    Ok(())
 }
 
 /// What a filter writes before a read fails behind a whole PDU: with hex nothing.
@@ -364,21 +359,25 @@ const BROKEN: &[(Filter, &[u8], &[u8])] = &[
     (SHOW_HEX, PING, b""),
 ];
 
-// A filter whose reader fails behind its input, and one whose writer takes no byte.
-fn check_failing(rt: &impl Abort, alloc: Global, filter: Filter, input: &[u8], due: &[u8]) {
+// A filter whose reader fails behind its input.
+fn check_reader(rt: &impl Abort, alloc: Global, filter: Filter, input: &[u8], due: &[u8]) {
     let mut out = Vec::new(alloc);
     let result = run_filter(alloc, diskless(filter), &mut Broken(Some(input)), &mut out);
     same(rt, &result, &Err(ToolFault::Read), &filter);
     same(rt, &out.as_slice(), &due, &filter);
+}
+
+// A filter whose writer takes no byte.
+fn check_writer(rt: &impl Abort, alloc: Global, filter: Filter, input: &[u8]) {
     let mut source = input;
     let result = run_filter(alloc, diskless(filter), &mut source, &mut Full);
     same(rt, &result, &Err(ToolFault::Write), &filter);
 }
 
 #[test]
-fn readers_and_writers_that_fail(rt: HostRuntime) -> Result<(), Fail> {
+fn readers_and_writers_that_fail(rt: HostRuntime) {
     for (filter, input, due) in BROKEN {
-        check_failing(&rt, rt.alloc(), *filter, input, due);
+        check_reader(&rt, rt.alloc(), *filter, input, due);
+        check_writer(&rt, rt.alloc(), *filter, input);
     }
-    Ok(())
 }

@@ -12,7 +12,6 @@ use scsi_disk::{
 use std::alloc::{AllocError, Global};
 use std::fmt::Debug;
 use std::process::Abort;
-use std::test::Fail;
 
 /// Asserts that a value is the one that is due, in a row of which this tells.
 fn same<T: PartialEq + Debug>(rt: &impl Abort, value: &T, due: &T, row: &impl Debug) {
@@ -91,10 +90,10 @@ fn run<S: BlockStore>(
     order: &Order,
     bytes: &[u8],
     store: &mut S,
-) -> Result<Outcome, AllocError> {
+) -> Outcome {
     let supplied = is_supplied(order, bytes, store.blocks());
     assert!(rt; supplied);
-    execute(alloc, order, bytes, store)
+    execute(alloc, order, bytes, store).expect(rt, "memory")
 }
 
 const INQUIRY: [u32; 4] = [0x12000000, 0x24000000, 0, 0];
@@ -334,19 +333,32 @@ const PLANS_ELSEWHERE: &[(&str, [u32; 4], Data, Plan)] = &[
     ),
 ];
 
+fn check_plan(rt: &impl Abort, order: &Order, want: &Plan, name: &str) {
+    same(rt, &plan(order, 2048), want, &name);
+}
+
 #[test]
 fn plans(rt: HostRuntime) {
     for (name, words, data, want) in PLANS {
-        same(&rt, &plan(&order_of(*words, *data), 2048), want, &name);
+        check_plan(&rt, &order_of(*words, *data), want, name);
     }
     for (name, words, data, want) in PLANS_ELSEWHERE {
-        let order = elsewhere(order_of(*words, *data));
-        same(&rt, &plan(&order, 2048), want, &name);
+        check_plan(&rt, &elsewhere(order_of(*words, *data)), want, name);
     }
 }
 
+/// A command, and what it gives: the sense, bytes and the residual.
+type Row = (
+    &'static str,
+    [u32; 4],
+    Data,
+    Option<Sense>,
+    &'static [u8],
+    Residual,
+);
+
 /// Commands to unit 0 of 2,048 blocks of 00: the sense, the bytes and the residual that they give.
-const OUTCOMES: &[(&str, [u32; 4], Data, Option<Sense>, &[u8], Residual)] = &[
+const OUTCOMES: &[Row] = &[
     (
         "short INQUIRY",
         [0x12000000, 0x05000000, 0, 0],
@@ -472,25 +484,28 @@ fn check_outcome(
     same(rt, &outcome.bytes.as_slice(), &bytes, &name);
 }
 
-#[test]
-fn outcomes(rt: HostRuntime) -> Result<(), Fail> {
-    let mut store = MemoryStore::new(rt.alloc(), 2048)?;
-    for (name, words, data, sense, bytes, residual) in OUTCOMES {
-        let order = order_of(*words, *data);
-        let outcome = run(&rt, rt.alloc(), &order, &[], &mut store)?;
-        check_outcome(&rt, name, &outcome, *sense, bytes, *residual);
-    }
-    Ok(())
+/// Executes the command of a row, and asserts what it gives.
+fn check_row(rt: &impl Abort, alloc: Global, row: &Row, store: &mut MemoryStore) {
+    let (name, words, data, sense, bytes, residual) = *row;
+    let outcome = run(rt, alloc, &order_of(words, data), &[], store);
+    check_outcome(rt, name, &outcome, sense, bytes, residual);
 }
 
 #[test]
-fn standard_data_of_unit_1(rt: HostRuntime) -> Result<(), Fail> {
-    let mut store = MemoryStore::new(rt.alloc(), 2048)?;
+fn outcomes(rt: HostRuntime) {
+    let mut store = MemoryStore::new(rt.alloc(), 2048).expect(&rt, "a disk");
+    for row in OUTCOMES {
+        check_row(&rt, rt.alloc(), row, &mut store);
+    }
+}
+
+#[test]
+fn standard_data_of_unit_1(rt: HostRuntime) {
+    let mut store = MemoryStore::new(rt.alloc(), 2048).expect(&rt, "a disk");
     let order = elsewhere(order([0x12000000, 0x05000000, 0, 0], true, false, 5));
-    let outcome = run(&rt, rt.alloc(), &order, &[], &mut store)?;
+    let outcome = run(&rt, rt.alloc(), &order, &[], &mut store);
     let bytes = b"\x7f\x00\x06\x12\x1f";
     check_outcome(&rt, "INQUIRY", &outcome, None, bytes, Residual::Exact);
-    Ok(())
 }
 
 /// Asserts that each order takes the bytes beside it.
@@ -505,14 +520,7 @@ fn check_supplied(rt: &impl Abort, orders: &[(Order, Bytes)], blocks: u64)
 
 /// Commands that are run one after another, and what each gives: the sense, of which byte each of its
 /// blocks is, and the residual. A WRITE has bytes of 5a.
-type Rows = &'static [(
-    &'static str,
-    [u32; 4],
-    Data,
-    Option<Sense>,
-    &'static [u8],
-    Residual,
-)];
+type Rows = &'static [Row];
 
 /// A write of two blocks on an end of an extent, and reads over it, at the end and past it, on 130
 /// blocks of 00.
@@ -709,11 +717,18 @@ fn orders_of(alloc: Global, rows: Rows) -> Result<Vec<(Order, Bytes)>, AllocErro
     Ok(orders)
 }
 
+/// Asserts that bytes are all this one.
+fn check_fill(rt: &impl Abort, bytes: &[u8], want: u8, row: &impl Debug) {
+    for byte in bytes {
+        same(rt, byte, &want, row);
+    }
+}
+
 /// Asserts that blocks are each of one byte alone.
 fn check_blocks(rt: &impl Abort, name: &str, bytes: &[u8], fills: &[u8]) {
     same(rt, &(bytes.len() / 512), &fills.len(), &name);
-    for (i, byte) in bytes.iter().enumerate() {
-        same(rt, &Some(byte), &fills.get(i / 512), &name);
+    for (i, block) in bytes.chunks(512).enumerate() {
+        check_fill(rt, block, *fills.get(i).expect(rt, name), &name);
     }
 }
 
@@ -730,97 +745,117 @@ fn check_run(
     check_blocks(rt, name, outcome.bytes.as_slice(), fills);
 }
 
-/// Runs the commands of some rows, and asserts that each gives what is due.
-fn check_rows<S: BlockStore>(
-    rt: &impl Abort,
-    alloc: Global,
-    rows: Rows,
-    store: &mut S,
-) -> Result<(), AllocError> {
-    let orders = orders_of(alloc, rows)?;
-    check_supplied(rt, &orders, store.blocks());
-    let told = run_orders(alloc, &orders, store)?;
+/// What the command of a row gave.
+fn check_told(rt: &impl Abort, row: &Row, outcome: &Outcome) {
+    let (name, _, _, sense, fills, residual) = *row;
+    check_run(rt, name, outcome, sense, fills, residual);
+}
+
+/// Asserts that each command of some rows gave what is due.
+fn check_all(rt: &impl Abort, rows: Rows, told: &[Outcome]) {
     same(rt, &told.len(), &rows.len(), &"outcomes");
-    for ((name, _, _, sense, fills, residual), outcome) in rows.iter().zip(told.iter()) {
-        check_run(rt, name, outcome, *sense, fills, *residual);
+    for (i, outcome) in told.iter().enumerate() {
+        check_told(rt, rows.get(i).expect(rt, "a row"), outcome);
     }
-    Ok(())
+}
+
+/// Runs the commands of some rows, and asserts that each gives what is due.
+fn check_rows<S: BlockStore>(rt: &impl Abort, alloc: Global, rows: Rows, store: &mut S) {
+    let orders = orders_of(alloc, rows).expect(rt, "orders");
+    check_supplied(rt, &orders, store.blocks());
+    let told = run_orders(alloc, &orders, store).expect(rt, "memory");
+    check_all(rt, rows, &told);
 }
 
 #[test]
-fn either_store(rt: HostRuntime) -> Result<(), Fail> {
-    let mut memory = MemoryStore::new(rt.alloc(), 130)?;
-    check_rows(&rt, rt.alloc(), OVER_AN_EXTENT, &mut memory)?;
+fn either_store(rt: HostRuntime) {
+    let mut memory = MemoryStore::new(rt.alloc(), 130).expect(&rt, "a disk");
+    check_rows(&rt, rt.alloc(), OVER_AN_EXTENT, &mut memory);
     let mut sparse = SparseStore::new(rt.alloc(), 130);
-    check_rows(&rt, rt.alloc(), OVER_AN_EXTENT, &mut sparse)?;
-    Ok(())
+    check_rows(&rt, rt.alloc(), OVER_AN_EXTENT, &mut sparse);
 }
 
 /// The largest disk keeps what was written alone.
 #[test]
-fn the_largest_disk(rt: HostRuntime) -> Result<(), Fail> {
+fn the_largest_disk(rt: HostRuntime) {
     let mut store = SparseStore::new(rt.alloc(), MOST_BLOCKS);
     same(&rt, &store.blocks(), &1_099_511_627_776, &"blocks");
-    Ok(check_rows(&rt, rt.alloc(), AT_THE_LAST_OF_MOST, &mut store)?)
+    check_rows(&rt, rt.alloc(), AT_THE_LAST_OF_MOST, &mut store);
+}
+
+/// A disk of 8 blocks, of which the first call of those that can fail does.
+fn failing_disk(rt: &impl Abort, alloc: Global) -> FailAt {
+    FailAt::new(MemoryStore::new(alloc, 8).expect(rt, "a disk"), 0)
+}
+
+fn check_failing(rt: &impl Abort, alloc: Global, rows: Rows) {
+    let mut store = failing_disk(rt, alloc);
+    check_rows(rt, alloc, rows, &mut store);
+    same(rt, &store.failures(), &1, &"failures");
 }
 
 #[test]
-fn orders_behind_a_failure(rt: HostRuntime) -> Result<(), Fail> {
-    for rows in [FAILING_READ, FAILING_WRITE] {
-        let mut store = FailAt::new(MemoryStore::new(rt.alloc(), 8)?, 0);
-        check_rows(&rt, rt.alloc(), rows, &mut store)?;
-        same(&rt, &store.failures(), &1, &"failures");
-    }
-    Ok(())
+fn orders_behind_a_failure(rt: HostRuntime) {
+    check_failing(&rt, rt.alloc(), FAILING_READ);
+    check_failing(&rt, rt.alloc(), FAILING_WRITE);
 }
 
 /// Where blocks begin, and how many there are: none, some in one extent, over two, and all.
 const RUNS: &[(u64, u32)] = &[(130, 0), (60, 2), (62, 4), (129, 1), (0, 130)];
 
-/// Asserts that runs of blocks are appended behind what is there. Blocks 63 and 64 are of 5a.
-fn check_appended<S: BlockStore>(
+/// Asserts that bytes are those of blocks from this one on, of which 63 and 64 are of 5a.
+fn check_fills(rt: &impl Abort, lba: u64, bytes: &[u8]) {
+    for (i, block) in bytes.chunks(512).enumerate() {
+        let n = lba.saturating_add(i as u64);
+        let want = if n == 63 || n == 64 { 0x5a } else { 0x00 };
+        check_fill(rt, block, want, &n);
+    }
+}
+
+/// Asserts that a run of blocks is appended behind what is there.
+fn check_run_of<S: BlockStore>(
     rt: &impl Abort,
     alloc: Global,
     store: &mut S,
-) -> Result<(), Fail> {
+    lba: u64,
+    count: u32,
+) {
+    assert!(rt; lba < 200 && count < 200 && lba + u64::from(count) <= store.blocks());
+    let mut out = Vec::from_slice(alloc, b"before").expect(rt, "six bytes");
+    let appended = store.read_onto(lba, count, &mut out);
+    let len = if appended.is_ok() {
+        512 * count as usize
+    } else {
+        0
+    };
+    same(rt, &out.len(), &(6 + len), &lba);
+    same(rt, &out.starts_with(b"before"), &true, &lba);
+    check_fills(rt, lba, out.get(6..).unwrap_or_default());
+    appended.expect(rt, "blocks");
+}
+
+/// Asserts that runs of blocks are appended behind what is there. Blocks 63 and 64 are of 5a.
+fn check_appended<S: BlockStore>(rt: &impl Abort, alloc: Global, store: &mut S) {
     for (lba, count) in RUNS {
-        let (lba, count) = (*lba, *count);
-        assert!(rt; lba < 200 && count < 200 && lba + u64::from(count) <= store.blocks());
-        let mut out = Vec::from_slice(alloc, b"before")?;
-        let appended = store.read_onto(lba, count, &mut out);
-        let len = if appended.is_ok() {
-            512 * count as usize
-        } else {
-            0
-        };
-        same(rt, &out.len(), &(6 + len), &lba);
-        assert!(rt; out.starts_with(b"before"), "from {lba} on");
-        for (at, byte) in out.iter().skip(6).enumerate() {
-            let n = lba + (at / 512) as u64;
-            let want = if n == 63 || n == 64 { 0x5a } else { 0x00 };
-            same(rt, byte, &want, &n);
-        }
-        appended?;
+        check_run_of(rt, alloc, store, *lba, *count);
     }
-    Ok(())
 }
 
 #[test]
-fn appended_blocks(rt: HostRuntime) -> Result<(), Fail> {
-    let mut memory = MemoryStore::new(rt.alloc(), 130)?;
-    memory.write(63, &[0x5a; 1024])?;
-    check_appended(&rt, rt.alloc(), &mut memory)?;
+fn appended_blocks(rt: HostRuntime) {
+    let mut memory = MemoryStore::new(rt.alloc(), 130).expect(&rt, "a disk");
+    memory.write(63, &[0x5a; 1024]).expect(&rt, "a write");
+    check_appended(&rt, rt.alloc(), &mut memory);
     let mut sparse = SparseStore::new(rt.alloc(), 130);
-    sparse.write(63, &[0x5a; 1024])?;
-    check_appended(&rt, rt.alloc(), &mut sparse)?;
-    Ok(())
+    sparse.write(63, &[0x5a; 1024]).expect(&rt, "a write");
+    check_appended(&rt, rt.alloc(), &mut sparse);
 }
 
 #[test]
-fn a_failing_read_of_appended_blocks(rt: HostRuntime) -> Result<(), Fail> {
-    let mut store = FailAt::new(MemoryStore::new(rt.alloc(), 8)?, 0);
-    let mut out = Vec::from_slice(rt.alloc(), b"before")?;
-    out.reserve(4096)?;
+fn a_failing_read_of_appended_blocks(rt: HostRuntime) {
+    let mut store = FailAt::new(MemoryStore::new(rt.alloc(), 8).expect(&rt, "a disk"), 0);
+    let mut out = Vec::from_slice(rt.alloc(), b"before").expect(&rt, "six bytes");
+    out.reserve(4096).expect(&rt, "room");
     let first = store.read_onto(0, 8, &mut out);
     same(&rt, &first, &Err(StoreFault::Device), &"first");
     same(&rt, &out.as_slice(), &b"before".as_slice(), &"first");
@@ -829,7 +864,6 @@ fn a_failing_read_of_appended_blocks(rt: HostRuntime) -> Result<(), Fail> {
     same(&rt, &second, &Ok(()), &"second");
     same(&rt, &out.len(), &4102, &"second");
     same(&rt, &store.failures(), &1, &"failures");
-    Ok(())
 }
 
 /// Commands to unit 0 with 2,048 blocks, and the whole blocks that they give.
@@ -875,28 +909,36 @@ const WHOLE: &[(&str, [u32; 4], Data, Option<(u64, u32)>)] = &[
     ("a WRITE", WRITE_8, Data::Writes(4096), None),
 ];
 
+/// A range of blocks by its first and their count.
+fn range_of(range: &Option<(u64, u32)>) -> Option<BlockRange> {
+    let (first, count) = (*range)?;
+    Some(BlockRange { first, count })
+}
+
+fn check_whole(rt: &impl Abort, order: &Order, want: &Option<(u64, u32)>, name: &str) {
+    let found = whole_blocks(order, plan(order, 2048));
+    same(rt, &found, &range_of(want), &name);
+}
+
 #[test]
 fn whole_blocks_of_reads(rt: HostRuntime) {
     for (name, words, data, want) in WHOLE {
-        let order = order_of(*words, *data);
-        let want = want.map(|(first, count)| BlockRange { first, count });
-        same(&rt, &whole_blocks(&order, plan(&order, 2048)), &want, name);
+        check_whole(&rt, &order_of(*words, *data), want, name);
     }
 }
 
 #[test]
-fn outcomes_of_read_blocks(rt: HostRuntime) -> Result<(), Fail> {
+fn outcomes_of_read_blocks(rt: HostRuntime) {
     let order = order_of(READ_8, Data::Reads(8192));
     if let Plan::Give(_) = plan(&order, 2048) {
         let done = read_outcome(rt.alloc(), &order, 2048);
         check_outcome(&rt, "read", &done, None, b"", Residual::Under(4096));
     }
-    let failed = failed_read(rt.alloc(), &order, StoreFault::Device)?;
+    let failed = failed_read(rt.alloc(), &order, StoreFault::Device).expect(&rt, "an outcome");
     let sense = Some(Sense::ReadError);
     check_outcome(&rt, "failed", &failed, sense, b"", Residual::Under(8192));
     let refused = failed_read(rt.alloc(), &order, StoreFault::NoMemory);
-    assert!(rt; refused.is_err(), "out of memory");
-    Ok(())
+    same(&rt, &refused.is_err(), &true, &"out of memory");
 }
 
 /// Asserts that a block is of one byte alone.
@@ -904,55 +946,67 @@ fn check_block<S: BlockStore>(rt: &impl Abort, store: &mut S, lba: u64, want: u8
     assert!(rt; lba < store.blocks());
     let mut block = [0xff; 512];
     let read = store.read(lba, &mut block);
-    assert!(rt; read.is_ok(), "block {lba}");
-    same(rt, &block, &[want; 512], &lba);
+    same(rt, &read.is_ok(), &true, &lba);
+    check_fill(rt, &block, want, &lba);
+}
+
+/// Blocks, and whether they are among those that are written.
+const AROUND: &[(u64, bool)] = &[
+    (0, false),
+    (62, false),
+    (63, true),
+    (64, true),
+    (65, false),
+    (129, false),
+];
+
+/// Asserts that blocks 63 and 64 are of one byte alone, and the ones around them of 00.
+fn check_around(rt: &impl Abort, store: &mut SparseStore, byte: u8) {
+    for (lba, is_written) in AROUND {
+        check_block(rt, store, *lba, if *is_written { byte } else { 0 });
+    }
 }
 
 #[test]
-fn sparse_store(rt: HostRuntime) -> Result<(), Fail> {
+fn sparse_store(rt: HostRuntime) {
     let mut store = SparseStore::new(rt.alloc(), 130);
     let written = store.write(63, &[0x5a; 1024]);
     // Where memory runs out, also for the second extent alone, no block has changed.
-    let want = if written.is_ok() { 0x5a } else { 0x00 };
-    for (lba, byte) in [(0, 0), (62, 0), (63, want), (64, want), (65, 0), (129, 0)] {
-        check_block(&rt, &mut store, lba, byte);
-    }
+    check_around(&rt, &mut store, if written.is_ok() { 0x5a } else { 0x00 });
     assert_ne!(rt; written, Err(StoreFault::Device));
     same(&rt, &store.failures(), &0, &"failures");
-    Ok(written?)
+    written.expect(&rt, "a write");
 }
 
 #[test]
-fn a_failing_read(rt: HostRuntime) -> Result<(), Fail> {
-    let mut store = FailAt::new(MemoryStore::new(rt.alloc(), 8)?, 0);
+fn a_failing_read(rt: HostRuntime) {
+    let mut store = failing_disk(&rt, rt.alloc());
     let order = order([0x28000000, 0, 0x01000000, 0], true, false, 512);
-    let first = run(&rt, rt.alloc(), &order, &[], &mut store)?;
+    let first = run(&rt, rt.alloc(), &order, &[], &mut store);
     let sense = Some(Sense::ReadError);
     check_outcome(&rt, "first", &first, sense, b"", Residual::Under(512));
     same(&rt, &store.failures(), &1, &"failures");
-    let second = run(&rt, rt.alloc(), &order, &[], &mut store)?;
+    let second = run(&rt, rt.alloc(), &order, &[], &mut store);
     check_outcome(&rt, "second", &second, None, &[0x00; 512], Residual::Exact);
     same(&rt, &store.failures(), &1, &"failures");
-    Ok(())
 }
 
 /// Blocks, and the byte of which each is after the first write and after the second.
 const WRITTEN: &[(u64, u8, u8)] = &[(0, 0, 0), (1, 0x5a, 0x5a), (2, 0, 0x5a), (3, 0, 0)];
 
 #[test]
-fn a_failing_write(rt: HostRuntime) -> Result<(), Fail> {
-    let mut store = FailAt::new(MemoryStore::new(rt.alloc(), 8)?, 0);
+fn a_failing_write(rt: HostRuntime) {
+    let mut store = failing_disk(&rt, rt.alloc());
     let order = order([0x2a000000, 0x00010000, 0x02000000, 0], false, true, 1024);
-    let first = run(&rt, rt.alloc(), &order, &[0x5a; 1024], &mut store)?;
+    let first = run(&rt, rt.alloc(), &order, &[0x5a; 1024], &mut store);
     let sense = Some(Sense::WriteError);
     check_outcome(&rt, "first", &first, sense, b"", Residual::Under(1024));
     for (lba, byte, _) in WRITTEN {
         check_block(&rt, &mut store, *lba, *byte);
     }
-    let second = run(&rt, rt.alloc(), &order, &[0x5a; 1024], &mut store)?;
+    let second = run(&rt, rt.alloc(), &order, &[0x5a; 1024], &mut store);
     check_outcome(&rt, "second", &second, None, b"", Residual::Exact);
     for (lba, _, byte) in WRITTEN {
         check_block(&rt, &mut store, *lba, *byte);
     }
-    Ok(())
 }

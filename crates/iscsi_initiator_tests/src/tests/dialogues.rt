@@ -16,7 +16,7 @@ use super::words::{answer_of, outcome_of, phase_of, place_of, submit_of};
 use super::{feed_pieces, initiator_of, lines_before, pdu_of, request_of};
 use crate::asserts::same;
 use iscsi_examples::{SESSION, append_pdu, segment_of};
-use iscsi_initiator::Initiator;
+use iscsi_initiator::{Initiator, InitiatorFault};
 use iscsi_login::{Answered, NegKey, Phase};
 use std::alloc::Global;
 use std::process::Abort;
@@ -52,6 +52,21 @@ fn submit(
     submit_of(alloc, &result, &request).expect(rt, "text")
 }
 
+// Calls the session, which has no request to hand in, and says in words what it answers.
+fn answer_to_call(
+    initiator: &mut Initiator,
+    turn: &Turn,
+    len: usize,
+    out: &mut Vec<u8>,
+) -> Result<&'static str, InitiatorFault> {
+    match turn.call.as_str() {
+        "start" => initiator.start(out)?,
+        "finish" => initiator.finish()?,
+        _ => return Ok(phase_of(feed_pieces(initiator, &turn.came, len, out)?)),
+    }
+    Ok("ok")
+}
+
 // Calls the session, and says in words what it answers. What it sends, and the bytes of an outcome,
 // are appended.
 fn answer_to(
@@ -62,14 +77,14 @@ fn answer_to(
     len: usize,
     out: &mut Vec<u8>,
 ) -> String {
-    let result = match turn.call.as_str() {
-        "" => feed_pieces(initiator, &turn.came, len, out).map(phase_of),
-        "start" => initiator.start(out).map(|_| "ok"),
-        "finish" => initiator.finish().map(|_| "ok"),
-        "outcome" => return outcome_of(alloc, &initiator.outcome(), out).expect(rt, "text"),
-        call => return submit(rt, alloc, initiator, call, out),
-    };
-    answer_of(alloc, &result).expect(rt, "text")
+    match turn.call.as_str() {
+        "outcome" => outcome_of(alloc, &initiator.outcome(), out).expect(rt, "text"),
+        "" | "start" | "finish" => {
+            let result = answer_to_call(initiator, turn, len, out);
+            answer_of(alloc, &result).expect(rt, "text")
+        }
+        call => submit(rt, alloc, initiator, call, out),
+    }
 }
 
 /// A call, the bytes that come before its answer, and those that are due with it.
@@ -235,23 +250,49 @@ fn feed(rt: &impl Abort, alloc: Global, initiator: &mut Initiator, line: &str, o
     initiator.feed(&came, out).expect(rt, line);
 }
 
+/// What a session sent, and what is due.
+#[derive(Drop)]
+struct Sent {
+    out: Vec<u8>,
+    want: Vec<u8>,
+}
+
+// A line of the session of both ends.
+fn play_line(
+    rt: &impl Abort,
+    alloc: Global,
+    initiator: &mut Initiator,
+    line: &str,
+    sent: &mut Sent,
+) {
+    let (mark, rest) = line.split_once(' ').expect(rt, "no mark");
+    match mark {
+        "!" => call(rt, alloc, initiator, rest, &mut sent.out),
+        "I>" => append_pdu(rest, &mut sent.want).expect(rt, rest),
+        "T>" => {
+            same(rt, &sent.out, &sent.want, &line);
+            feed(rt, alloc, initiator, rest, &mut sent.out);
+        }
+        _ => panic!(rt; "no such line"),
+    }
+}
+
+// A session that sent nothing yet.
+fn sent_nothing(alloc: Global) -> Sent {
+    Sent {
+        out: Vec::new(alloc),
+        want: Vec::new(alloc),
+    }
+}
+
 /// The initiator's part of the session of both ends, a PDU at a time.
 #[test]
 fn a_session_of_both_ends(rt: HostRuntime) {
     let mut initiator = initiator_of(&rt, rt.alloc(), "standard");
-    let (mut out, mut want) = (Vec::new(rt.alloc()), Vec::new(rt.alloc()));
+    let mut sent = sent_nothing(rt.alloc());
     for line in SESSION.lines() {
-        let (mark, rest) = line.split_once(' ').expect(&rt, "no mark");
-        match mark {
-            "!" => call(&rt, rt.alloc(), &mut initiator, rest, &mut out),
-            "I>" => append_pdu(rest, &mut want).expect(&rt, rest),
-            "T>" => {
-                same(&rt, &out, &want, &line);
-                feed(&rt, rt.alloc(), &mut initiator, rest, &mut out);
-            }
-            _ => panic!(&rt; "no such line"),
-        }
+        play_line(&rt, rt.alloc(), &mut initiator, line, &mut sent);
     }
-    same(&rt, &out, &want, &"all");
+    same(&rt, &sent.out, &sent.want, &"all");
     same(&rt, &initiator.phase(), &Phase::Closed, &"all");
 }

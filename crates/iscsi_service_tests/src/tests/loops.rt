@@ -5,8 +5,9 @@ use crate::asserts::same;
 use iscsi_examples::{Broken, Full};
 use iscsi_service::{Channel, LONGEST_PIECE, ServeFault, run_loop, run_over};
 use scsi_disk::MOST_BLOCKS;
-use std::alloc::{AllocError, Global};
-use std::test::Fail;
+use std::alloc::Global;
+use std::fmt::Debug;
+use std::process::Abort;
 
 // A write, reads and a logout, worked out by hand from the tables of SPC-4 and SBC-3.
 const BLOCKS: &str = "write 0 8 5a\nread 0 1\ncapacity\nread 2047 2\nlogout\n";
@@ -142,25 +143,22 @@ const REFUSED: &[&str] = &[
     "capacity10",
 ];
 
-// How a script ends with a disk of 2048 blocks, in pieces of at most so many bytes, and what it
-// writes.
-fn run(rt: &HostRuntime, script: &[u8], most: u32) -> (Result<(), ServeFault>, Vec<u8>) {
-    run_on(rt, 2048, script, most)
-}
+/// The lengths of pieces.
+const PIECES: &[u32] = &[1, 47, 48, 4096];
 
-// The same with a disk of so many blocks.
+// How a script ends with a disk of so many blocks, in pieces of at most so many bytes. What it
+// writes is appended.
 fn run_on(
     rt: &HostRuntime,
     blocks: u64,
     script: &[u8],
     most: u32,
-) -> (Result<(), ServeFault>, Vec<u8>) {
+    out: &mut Vec<u8>,
+) -> Result<(), ServeFault> {
     let piece = most.max(1).min(LONGEST_PIECE);
-    let mut source = script;
-    let mut out = Vec::new(rt.alloc());
     let blocks = blocks.max(1).min(MOST_BLOCKS);
-    let result = run_loop(rt, blocks, piece, &mut source, &mut out);
-    (result, out)
+    let mut source = script;
+    run_loop(rt, blocks, piece, &mut source, out)
 }
 
 // The same with both ends joined in memory.
@@ -169,188 +167,214 @@ fn run_in_memory(
     blocks: u64,
     script: &[u8],
     most: u32,
-) -> (Result<(), ServeFault>, Vec<u8>) {
+    out: &mut Vec<u8>,
+) -> Result<(), ServeFault> {
     let piece = most.max(1).min(LONGEST_PIECE);
-    let mut source = script;
-    let mut out = Vec::new(rt.alloc());
     let blocks = blocks.max(1).min(MOST_BLOCKS);
-    let result = run_over::<Channel, _, _>(rt, blocks, piece, &mut source, &mut out);
-    (result, out)
+    let mut source = script;
+    run_over::<Channel, _, _>(rt, blocks, piece, &mut source, out)
 }
 
-// The line at which a script is refused, and how many bytes it writes.
-fn refusal_of(rt: &HostRuntime, script: &[u8], most: u32) -> (Option<u64>, usize) {
-    match run(rt, script, most) {
-        (Err(ServeFault::Script(line)), out) => (Some(line), out.len()),
-        (_, out) => (None, out.len()),
+/// A script with a disk of so many blocks, and the lines that it writes.
+#[derive(Clone, Copy)]
+struct Script<'a> {
+    blocks: u64,
+    script: &'a str,
+    want: &'a str,
+}
+
+// The script over a socket ends well, with its lines.
+fn check_run(
+    rt: &HostRuntime,
+    abort: &impl Abort,
+    script: Script<'_>,
+    most: u32,
+    row: &impl Debug,
+) {
+    let mut out = Vec::new(rt.alloc());
+    let result = run_on(rt, script.blocks, script.script.as_bytes(), most, &mut out);
+    same(abort, &result.is_ok(), &true, row);
+    same(abort, &out.as_slice(), &script.want.as_bytes(), row);
+}
+
+// The same in memory, in pieces of each length.
+fn check_in_memory(
+    rt: &HostRuntime,
+    abort: &impl Abort,
+    script: Script<'_>,
+    most: u32,
+    name: &str,
+) {
+    let mut out = Vec::new(rt.alloc());
+    let result = run_in_memory(rt, script.blocks, script.script.as_bytes(), most, &mut out);
+    same(abort, &result.is_ok(), &true, &name);
+    same(abort, &out.as_slice(), &script.want.as_bytes(), &name);
+}
+
+// The line at which a script is refused, if it is, and how many bytes it writes.
+fn check_refusal(
+    rt: &HostRuntime,
+    abort: &impl Abort,
+    script: &[u8],
+    most: u32,
+    line: u64,
+    row: &str,
+) {
+    let mut out = Vec::new(rt.alloc());
+    let found = match run_on(rt, 2048, script, most, &mut out) {
+        Err(ServeFault::Script(line)) => Some(line),
+        _ => None,
+    };
+    same(abort, &(found, out.len()), &(Some(line), 0), &row);
+}
+
+// A script with a disk of 2048 blocks, and its lines.
+fn script_of<'a>(script: &'a str, want: &'a str) -> Script<'a> {
+    Script {
+        blocks: 2048,
+        script,
+        want,
     }
 }
 
 #[test]
-fn loops_in_pieces(rt: HostRuntime) -> Result<(), Fail> {
-    for number in 1..102 {
-        let piece = if number == 101 { 4096 } else { number };
-        let (result, out) = run(&rt, BLOCKS.as_bytes(), piece);
-        same(&rt, &result.is_ok(), &true, &piece);
-        same(&rt, &out.as_slice(), &BLOCKS_LINES.as_bytes(), &piece);
+fn loops_in_pieces(rt: HostRuntime) {
+    let script = script_of(BLOCKS, BLOCKS_LINES);
+    for piece in 1..101 {
+        check_run(&rt, &rt, script, piece, &piece);
     }
-    Ok(())
+    check_run(&rt, &rt, script, 4096, &4096);
 }
 
 #[test]
-fn loops_over_a_socket(rt: HostRuntime) -> Result<(), Fail> {
+fn loops_over_a_socket(rt: HostRuntime) {
     for (name, script, want) in SCRIPTS {
-        let (result, out) = run(&rt, script.as_bytes(), 48);
-        same(&rt, &result.is_ok(), &true, name);
-        same(&rt, &out.as_slice(), &want.as_bytes(), name);
+        check_run(&rt, &rt, script_of(script, want), 48, name);
     }
-    Ok(())
+}
+
+// In pieces of each length.
+fn check_pieces(rt: &HostRuntime, abort: &impl Abort, script: Script<'_>, name: &str) {
+    for piece in PIECES {
+        check_run(rt, abort, script, *piece, &name);
+    }
+}
+
+// The same in memory.
+fn check_pieces_in_memory(rt: &HostRuntime, abort: &impl Abort, script: Script<'_>, name: &str) {
+    for piece in PIECES {
+        check_in_memory(rt, abort, script, *piece, name);
+    }
+}
+
+// The script of a row.
+fn script_on(row: &(&'static str, u64, &'static str, &'static str)) -> Script<'static> {
+    let (_, blocks, script, want) = *row;
+    Script {
+        blocks,
+        script,
+        want,
+    }
 }
 
 #[test]
-fn loops_over_disks(rt: HostRuntime) -> Result<(), Fail> {
-    for (name, blocks, script, want) in DISKS {
-        for piece in [1, 47, 48, 4096] {
-            let (result, out) = run_on(&rt, *blocks, script.as_bytes(), piece);
-            same(&rt, &result.is_ok(), &true, name);
-            same(&rt, &out.as_slice(), &want.as_bytes(), name);
-        }
+fn loops_over_disks(rt: HostRuntime) {
+    for row in DISKS {
+        check_pieces(&rt, &rt, script_on(row), row.0);
     }
-    Ok(())
 }
 
 #[test]
-fn loops_in_memory(rt: HostRuntime) -> Result<(), Fail> {
+fn loops_in_memory(rt: HostRuntime) {
     for (name, script, want) in SCRIPTS {
-        for piece in [1, 47, 48, 4096] {
-            let (result, out) = run_in_memory(&rt, 2048, script.as_bytes(), piece);
-            same(&rt, &result.is_ok(), &true, name);
-            same(&rt, &out.as_slice(), &want.as_bytes(), name);
-        }
+        check_pieces_in_memory(&rt, &rt, script_of(script, want), name);
     }
-    Ok(())
 }
 
 #[test]
-fn loops_over_disks_in_memory(rt: HostRuntime) -> Result<(), Fail> {
-    for (name, blocks, script, want) in DISKS {
-        for piece in [1, 47, 48, 4096] {
-            let (result, out) = run_in_memory(&rt, *blocks, script.as_bytes(), piece);
-            same(&rt, &result.is_ok(), &true, name);
-            same(&rt, &out.as_slice(), &want.as_bytes(), name);
-        }
+fn loops_over_disks_in_memory(rt: HostRuntime) {
+    for row in DISKS {
+        check_pieces_in_memory(&rt, &rt, script_on(row), row.0);
     }
-    Ok(())
 }
 
 // A script whose second line this is.
-fn script_of(alloc: Global, line: &str) -> Result<Vec<u8>, AllocError> {
-    let mut script = Vec::from_slice(alloc, b"tur 0\n")?;
-    script.extend_from_slice(line.as_bytes())?;
-    script.extend_from_slice(b"\nlogout\n")?;
-    Ok(script)
+fn second_line(rt: &impl Abort, alloc: Global, line: &str) -> Vec<u8> {
+    let script = format!(in alloc; "tur 0\n{line}\nlogout\n").expect(rt, "a script");
+    script.into_bytes()
 }
 
 #[test]
-fn lines_that_are_refused(rt: HostRuntime) -> Result<(), Fail> {
+fn lines_that_are_refused(rt: HostRuntime) {
     for line in REFUSED {
-        let script = script_of(rt.alloc(), line)?;
-        same(&rt, &refusal_of(&rt, &script, 48), &(Some(2), 0), line);
+        let script = second_line(&rt, rt.alloc(), line);
+        check_refusal(&rt, &rt, &script, 48, 2, line);
     }
-    Ok(())
+}
+
+// Appends so many bytes in hex.
+fn append_digits(rt: &impl Abort, bytes: usize, text: &mut Vec<u8>) {
+    for _ in 0..bytes {
+        text.extend_from_slice(b"5a").expect(rt, "two digits");
+    }
 }
 
 // These bytes, and so many more in hex.
-fn digits(alloc: Global, start: &[u8], bytes: usize) -> Result<Vec<u8>, AllocError> {
-    let mut text = Vec::from_slice(alloc, start)?;
-    for _ in 0..bytes {
-        text.extend_from_slice(b"5a")?;
-    }
-    Ok(text)
+fn digits(rt: &impl Abort, alloc: Global, start: &[u8], bytes: usize) -> Vec<u8> {
+    let mut text = Vec::from_slice(alloc, start).expect(rt, "bytes");
+    append_digits(rt, bytes, &mut text);
+    text
 }
 
 #[test]
-fn a_ping_too_long(rt: HostRuntime) -> Result<(), Fail> {
-    let script = digits(rt.alloc(), b"ping ", 8193)?;
-    same(
-        &rt,
-        &refusal_of(&rt, &script, 4096),
-        &(Some(1), 0),
-        &"8,193 bytes",
-    );
-    Ok(())
+fn a_ping_too_long(rt: HostRuntime) {
+    let script = digits(&rt, rt.alloc(), b"ping ", 8193);
+    check_refusal(&rt, &rt, &script, 4096, 1, "8,193 bytes");
 }
 
 #[test]
-fn the_longest_ping(rt: HostRuntime) -> Result<(), Fail> {
-    let script = digits(rt.alloc(), b"ping ", 8192)?;
-    let mut want = digits(rt.alloc(), b"login\nping ", 8192)?;
-    want.push(b'\n')?;
-    let (result, out) = run(&rt, &script, 4096);
+fn the_longest_ping(rt: HostRuntime) {
+    let script = digits(&rt, rt.alloc(), b"ping ", 8192);
+    let mut want = digits(&rt, rt.alloc(), b"login\nping ", 8192);
+    want.push(b'\n').expect(&rt, "a line end");
+    let mut out = Vec::new(rt.alloc());
+    let result = run_on(&rt, 2048, &script, 4096, &mut out);
     same(&rt, &result.is_ok(), &true, &"8,192 bytes");
-    same(&rt, &out.as_slice(), &want.as_slice(), &"8,192 bytes");
-    Ok(())
+    same(&rt, &out, &want, &"8,192 bytes");
 }
 
 // A script of so many bytes, of which the third ends the first line.
-fn long_script(alloc: Global, bytes: usize) -> Result<Vec<u8>, AllocError> {
-    let mut script = Vec::from_slice(alloc, b"no\n")?;
-    script.resize(bytes, b' ')?;
-    Ok(script)
-}
-
-// A script whose first byte too many is the first one of the third line.
-fn third_line(alloc: Global) -> Result<Vec<u8>, AllocError> {
-    let mut script = long_script(alloc, 1_048_575)?;
-    script.extend_from_slice(b"\n ")?;
-    Ok(script)
+fn long_script(rt: &impl Abort, alloc: Global, bytes: usize) -> Vec<u8> {
+    let mut script = Vec::from_slice(alloc, b"no\n").expect(rt, "three bytes");
+    script.resize(bytes, b' ').expect(rt, "blanks");
+    script
 }
 
 #[test]
-fn the_longest_script(rt: HostRuntime) -> Result<(), Fail> {
-    let script = long_script(rt.alloc(), 1_048_576)?;
-    same(
-        &rt,
-        &refusal_of(&rt, &script, 48),
-        &(Some(1), 0),
-        &"the longest",
-    );
-    let script = long_script(rt.alloc(), 1_048_577)?;
-    same(
-        &rt,
-        &refusal_of(&rt, &script, 48),
-        &(Some(2), 0),
-        &"one byte more",
-    );
-    let script = third_line(rt.alloc())?;
-    same(
-        &rt,
-        &refusal_of(&rt, &script, 48),
-        &(Some(3), 0),
-        &"in the third line",
-    );
-    Ok(())
+fn the_longest_script(rt: HostRuntime) {
+    let script = long_script(&rt, rt.alloc(), 1_048_576);
+    check_refusal(&rt, &rt, &script, 48, 1, "the longest");
+    let script = long_script(&rt, rt.alloc(), 1_048_577);
+    check_refusal(&rt, &rt, &script, 48, 2, "one byte more");
+    // The first byte too many is the first one of the third line.
+    let mut script = long_script(&rt, rt.alloc(), 1_048_575);
+    script.extend_from_slice(b"\n ").expect(&rt, "two bytes");
+    check_refusal(&rt, &rt, &script, 48, 3, "in the third line");
 }
 
 #[test]
-fn a_script_that_fails(rt: HostRuntime) -> Result<(), Fail> {
+fn a_script_that_fails(rt: HostRuntime) {
     let mut out = Vec::new(rt.alloc());
     let result = run_loop(&rt, 8, 48, &mut Broken(Some(b"tur 0\n")), &mut out);
     let is_read = matches!(result, Err(ServeFault::Read));
-    same(
-        &rt,
-        &(is_read, out.len()),
-        &(true, 0),
-        &"a script that fails",
-    );
-    Ok(())
+    same(&rt, &is_read, &true, &"a script that fails");
+    same(&rt, &out.len(), &0, &"a script that fails");
 }
 
 #[test]
-fn lines_that_fail(rt: HostRuntime) -> Result<(), Fail> {
+fn lines_that_fail(rt: HostRuntime) {
     let mut source = b"tur 0\n".as_slice();
     let result = run_loop(&rt, 8, 48, &mut source, &mut Full);
     let is_write = matches!(result, Err(ServeFault::Write));
     same(&rt, &is_write, &true, &"lines that fail");
-    Ok(())
 }

@@ -7,10 +7,10 @@ use iscsi_service::{ServeFault, configuration, serve, serve_one};
 use iscsi_stream::StreamFault;
 use iscsi_target::TargetFault;
 use scsi_disk::SparseStore;
-use std::alloc::{AllocError, Global};
+use std::alloc::Global;
 use std::io::{Read, Write};
 use std::net::{Ipv4Addr, Net, Shutdown, TcpListener, TcpStream};
-use std::test::Fail;
+use std::process::Abort;
 
 // A login and a logout.
 const LOGOUT: &str =
@@ -44,40 +44,66 @@ const READ_ANSWERS: &str =
     25800000 00000400 00000000 00000000 00000001 ffffffff 00000000 00000002 00000009 00000000 00000000 00000000 '||||||||||||||||||||||||||||||||||||||||||||||||||||||||||||||||||||||||||||||||||||||||||||||||||||||||||||||||||||||||||||||||||||||||||||||||||||||||||||||||||||||||||||||||||||||||||||||||||||||||||||||||||||||||||||||||||||||||||||||||||||||||||||||||||||||||||||||||||||||||||||||||||||||||||||||||||||||||||||||||||||||||||||||||||||||||||||||||||||||||||||||||||||||||||||||||||||||||||||||||||||||||||||||||||||||||||||||||||||||||||||||||||||||||||||||||||||||||||||||||||||||||||||||||||||||||||||||||ZZZZZZZZZZZZZZZZZZZZZZZZZZZZZZZZZZZZZZZZZZZZZZZZZZZZZZZZZZZZZZZZZZZZZZZZZZZZZZZZZZZZZZZZZZZZZZZZZZZZZZZZZZZZZZZZZZZZZZZZZZZZZZZZZZZZZZZZZZZZZZZZZZZZZZZZZZZZZZZZZZZZZZZZZZZZZZZZZZZZZZZZZZZZZZZZZZZZZZZZZZZZZZZZZZZZZZZZZZZZZZZZZZZZZZZZZZZZZZZZZZZZZZZZZZZZZZZZZZZZZZZZZZZZZZZZZZZZZZZZZZZZZZZZZZZZZZZZZZZZZZZZZZZZZZZZZZZZZZZZZZZZZZZZZZZZZZZZZZZZZZZZZZZZZZZZZZZZZZZZZZZZZZZZZZZZZZZZZZZZZZZZZZZZZZZZZZZZZZZZZZZZZZZZZZZZZZZZZZZZZZZZZZZZZZZZZZZZZZZZZZZZZZZZZZZZZZZZZZZZZZZZZZZZZZZZZZZZZZZZZZZZZZZZZZZZZZZZZZZZZZZZZZZZZZZZ\n\
     21800000 00000000 00000000 00000000 00000001 00000000 00000002 00000002 00000009 00000001 00000000 00000000";
 
-// What one session answers over a connection, and how it ends. The connection may be ended by its
-// initiator first.
+// A connection to the listener, over which some requests were sent. It may be ended by its initiator.
+fn ask<N>(rt: &N, alloc: Global, listener: &TcpListener, requests: &str, ends: bool) -> TcpStream
+where
+    N: Net<Listener = TcpListener, Stream = TcpStream> + Abort,
+{
+    let address = listener.local_addr().expect(rt, "an address");
+    let mut initiator = TcpStream::connect(rt, address).expect(rt, "a connection");
+    let stream = pdus_of(alloc, requests).expect(rt, requests);
+    initiator.write_all(&stream).expect(rt, "requests");
+    if ends {
+        initiator.shutdown(Shutdown::Write).expect(rt, "an end");
+    }
+    initiator
+}
+
+// How one session ends over a connection. What it answers is appended.
 fn exchange<N>(
     rt: &N,
     alloc: Global,
     store: &mut SparseStore,
     requests: &str,
     ends: bool,
-) -> Result<(Result<(), ServeFault>, Vec<u8>), Fail>
+    answers: &mut Vec<u8>,
+) -> Result<(), ServeFault>
 where
-    N: Net<Listener = TcpListener, Stream = TcpStream>,
+    N: Net<Listener = TcpListener, Stream = TcpStream> + Abort,
 {
-    let listener = TcpListener::bind(rt, (Ipv4Addr::LOCALHOST, 0))?;
-    let mut initiator = TcpStream::connect(rt, listener.local_addr()?)?;
-    initiator.write_all(&pdus_of(alloc, requests)?)?;
-    if ends {
-        initiator.shutdown(Shutdown::Write)?;
-    }
-    let result = serve_one(alloc, &listener, store, configuration(alloc)?);
-    let mut answers = Vec::new(alloc);
-    initiator.read_to_end(&mut answers)?;
-    Ok((result, answers))
+    let listener = TcpListener::bind(rt, (Ipv4Addr::LOCALHOST, 0)).expect(rt, "a listener");
+    let mut initiator = ask(rt, alloc, &listener, requests, ends);
+    let config = configuration(alloc).expect(rt, "a configuration");
+    let result = serve_one(alloc, &listener, store, config);
+    initiator.read_to_end(answers).expect(rt, "answers");
+    result
 }
 
 // The line of a fault, or nothing.
-fn line_of(alloc: Global, outcome: Result<(), ServeFault>) -> Result<String, Fail> {
+fn line_of(rt: &impl Abort, alloc: Global, outcome: Result<(), ServeFault>) -> String {
     match outcome {
-        Ok(()) => Ok(String::new(alloc)),
-        Err(fault) => Ok(format!(in alloc; "{fault}")?),
+        Ok(()) => String::new(alloc),
+        Err(fault) => format!(in alloc; "{fault}").expect(rt, "a line"),
     }
 }
 
+type Row = (&'static str, &'static str, bool, &'static str);
+
+// A session over a disk: what it answers, and the line of its fault.
+fn check_session<N>(rt: &N, alloc: Global, store: &mut SparseStore, row: &Row)
+where
+    N: Net<Listener = TcpListener, Stream = TcpStream> + Abort,
+{
+    let (requests, answers, ends, line) = *row;
+    let mut out = Vec::new(alloc);
+    let result = exchange(rt, alloc, store, requests, ends, &mut out);
+    same(rt, &line_of(rt, alloc, result).as_str(), &line, &requests);
+    let want = pdus_of(alloc, answers).expect(rt, answers);
+    same(rt, &out, &want, &requests);
+}
+
 /// Sessions: the requests, the answers, whether the initiator ends the stream, and the fault's line.
-const SESSIONS: &[(&str, &str, bool, &str)] = &[
+const SESSIONS: &[Row] = &[
     // Closed by the target, while the connection stands.
     (LOGOUT, LOGOUT_ANSWERS, false, ""),
     (NAMELESS, REFUSAL, false, ""),
@@ -88,27 +114,25 @@ const SESSIONS: &[(&str, &str, bool, &str)] = &[
 ];
 
 #[test]
-fn sessions_over_a_socket(rt: HostRuntime) -> Result<(), Fail> {
-    for (requests, answers, ends, line) in SESSIONS {
+fn sessions_over_a_socket(rt: HostRuntime) {
+    for row in SESSIONS {
         let mut store = SparseStore::new(rt.alloc(), 8);
-        let (result, out) = exchange(&rt, rt.alloc(), &mut store, requests, *ends)?;
-        let want = pdus_of(rt.alloc(), answers)?;
-        same(&rt, &line_of(rt.alloc(), result)?.as_str(), line, requests);
-        same(&rt, &out.as_slice(), &want.as_slice(), requests);
+        check_session(&rt, rt.alloc(), &mut store, row);
     }
-    Ok(())
 }
 
+/// Sessions over one disk, one after another.
+const BEHIND: &[Row] = &[
+    (WRITE, WRITE_ANSWERS, false, ""),
+    (READ, READ_ANSWERS, true, ""),
+];
+
 #[test]
-fn a_session_reads_what_an_earlier_one_wrote(rt: HostRuntime) -> Result<(), Fail> {
+fn a_session_reads_what_an_earlier_one_wrote(rt: HostRuntime) {
     let mut store = SparseStore::new(rt.alloc(), 8);
-    for (requests, answers, ends) in [(WRITE, WRITE_ANSWERS, false), (READ, READ_ANSWERS, true)] {
-        let (result, out) = exchange(&rt, rt.alloc(), &mut store, requests, ends)?;
-        let want = pdus_of(rt.alloc(), answers)?;
-        same(&rt, &result.is_ok(), &true, &requests);
-        same(&rt, &out.as_slice(), &want.as_slice(), &requests);
+    for row in BEHIND {
+        check_session(&rt, rt.alloc(), &mut store, row);
     }
-    Ok(())
 }
 
 /// A port that the system picks is announced, and with no connection to serve the service ends.
@@ -144,16 +168,14 @@ const FAULTS: [(ServeFault, &str, u8); 9] = [
     (ServeFault::Write, "write failed", 4),
 ];
 
-// The line and the status of a fault.
-fn told(alloc: Global, fault: &ServeFault) -> Result<(String, u8), AllocError> {
-    Ok((format!(in alloc; "{fault}")?, fault.status()))
+fn check_fault(rt: &impl Abort, alloc: Global, fault: &ServeFault, line: &str, status: u8) {
+    let text = format!(in alloc; "{fault}").expect(rt, line);
+    same(rt, &(text.as_str(), fault.status()), &(line, status), &line);
 }
 
 #[test]
-fn lines_and_statuses_of_faults(rt: HostRuntime) -> Result<(), Fail> {
+fn lines_and_statuses_of_faults(rt: HostRuntime) {
     for (fault, line, status) in FAULTS {
-        let (text, found) = told(rt.alloc(), &fault)?;
-        same(&rt, &(text.as_str(), found), &(line, status), &line);
+        check_fault(&rt, rt.alloc(), &fault, line, status);
     }
-    Ok(())
 }

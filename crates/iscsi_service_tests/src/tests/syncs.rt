@@ -5,9 +5,9 @@ use crate::asserts::same;
 use iscsi_examples::{Full, append_pdu, pdus_of};
 use iscsi_service::{SessionFault, configuration, serve_stream};
 use scsi_file::{CrashMemory, FileStore, StopsAt};
-use std::alloc::{AllocError, Global};
+use std::alloc::Global;
 use std::io::Write;
-use std::test::Fail;
+use std::process::Abort;
 
 // A login in one stage.
 const LOGIN: &str =
@@ -85,13 +85,11 @@ const ROWS: &[Row] = &[
     },
 ];
 
-// A medium of 8 blocks that are full of dots.
-fn dots(alloc: Global) -> Result<CrashMemory, AllocError> {
-    let bytes = vec![in alloc; b'.'; 4096]?;
-    if bytes.len() != 4096 {
-        return Err(AllocError);
-    }
-    Ok(CrashMemory::new(alloc, bytes))
+// A medium of 8 blocks that are full of dots, which stops after so many calls.
+fn dots(rt: &impl Abort, alloc: Global, calls: u64) -> StopsAt<CrashMemory> {
+    let bytes = vec![in alloc; b'.'; 4096].expect(rt, "8 blocks");
+    assert!(rt; bytes.len() == 4096);
+    StopsAt::new(CrashMemory::new(alloc, bytes), calls)
 }
 
 // The first byte of each of 8 blocks.
@@ -103,77 +101,95 @@ fn letters(bytes: &[u8]) -> [u8; 8] {
     letters
 }
 
+// Appends a write of a block that is full of this byte.
+fn append_write(rt: &impl Abort, header: &str, letter: u8, stream: &mut Vec<u8>) {
+    append_pdu(header, stream).expect(rt, header);
+    stream.extend_from_slice(&[letter; 512]).expect(rt, header);
+}
+
 // The login, the writes and the logout.
-fn requests(alloc: Global) -> Result<Vec<u8>, Fail> {
-    let mut stream = pdus_of(alloc, LOGIN)?;
+fn requests(rt: &impl Abort, alloc: Global) -> Vec<u8> {
+    let mut stream = pdus_of(alloc, LOGIN).expect(rt, "a login");
     for (header, letter) in WRITES {
-        append_pdu(header, &mut stream)?;
-        stream.extend_from_slice(&[*letter; 512])?;
+        append_write(rt, header, *letter, &mut stream);
     }
-    append_pdu(LOGOUT, &mut stream)?;
-    Ok(stream)
+    append_pdu(LOGOUT, &mut stream).expect(rt, "a logout");
+    stream
 }
 
 // Serves the session over a store: how it ends.
 fn serve<W: Write>(
+    rt: &impl Abort,
     alloc: Global,
     store: &mut FileStore<StopsAt<CrashMemory>>,
     out: &mut W,
-) -> Result<Result<(), SessionFault>, Fail> {
-    let stream = requests(alloc)?;
+) -> Result<(), SessionFault> {
+    let stream = requests(rt, alloc);
     let mut source = stream.as_slice();
-    let config = configuration(alloc)?;
-    Ok(serve_stream(alloc, config, store, &mut source, out))
+    let config = configuration(alloc).expect(rt, "a configuration");
+    serve_stream(alloc, config, store, &mut source, out)
 }
 
-// Serves it over a medium that stops after so many calls: how it ends, and what a crash leaves that
-// takes back so many writes of each block.
-fn served<W: Write>(
-    alloc: Global,
-    calls: u64,
-    back: usize,
-    out: &mut W,
-) -> Result<(Result<(), SessionFault>, [u8; 8]), Fail> {
-    let mut store = FileStore::new(StopsAt::new(dots(alloc)?, calls))?;
-    let end = serve(alloc, &mut store, out)?;
-    let mut medium = store.into_medium().into_medium();
+// A store over a medium of dots that stops after so many calls. It stands in a box, so that
+// functions which own it are proved sooner.
+fn store_of(rt: &impl Abort, alloc: Global, calls: u64) -> Box<FileStore<StopsAt<CrashMemory>>> {
+    let store = FileStore::new(dots(rt, alloc, calls)).expect(rt, "a store");
+    Box::new(alloc, store).expect(rt, "a store")
+}
+
+// What a crash leaves that takes back so many writes of each block.
+fn left_of(store: Box<FileStore<StopsAt<CrashMemory>>>, back: usize) -> [u8; 8] {
+    let mut medium = Box::into_inner(store).into_medium().into_medium();
     medium.crash(&[back; 8]);
-    Ok((end, letters(medium.bytes())))
+    letters(medium.bytes())
+}
+
+fn check_row(rt: &impl Abort, alloc: Global, row: &Row) {
+    let mut out = Vec::new(alloc);
+    let mut store = store_of(rt, alloc, row.calls);
+    let end = serve(rt, alloc, &mut *store, &mut out);
+    same(rt, &end, &row.end, &row.calls);
+    let left = left_of(store, row.back);
+    same(rt, &left, row.left, &(row.calls, row.back));
+    let answers = pdus_of(alloc, row.answers).expect(rt, "answers");
+    same(rt, &out, &answers, &row.calls);
 }
 
 #[test]
-fn answers_wait_for_one_sync(rt: HostRuntime) -> Result<(), Fail> {
+fn answers_wait_for_one_sync(rt: HostRuntime) {
     for row in ROWS {
-        let answers = pdus_of(rt.alloc(), row.answers)?;
-        let mut out = Vec::new(rt.alloc());
-        let (end, left) = served(rt.alloc(), row.calls, row.back, &mut out)?;
-        same(&rt, &end, &row.end, &row.calls);
-        same(&rt, &out.as_slice(), &answers.as_slice(), &row.calls);
-        same(&rt, &left, row.left, &(row.calls, row.back));
+        check_row(&rt, rt.alloc(), row);
     }
-    Ok(())
 }
 
 /// Whatever a writer took, it was synced before.
 #[test]
-fn a_writer_that_fails_behind_a_sync(rt: HostRuntime) -> Result<(), Fail> {
-    let (end, left) = served(rt.alloc(), 4, 2, &mut Full)?;
+fn a_writer_that_fails_behind_a_sync(rt: HostRuntime) {
+    let mut store = store_of(&rt, rt.alloc(), 4);
+    let end = serve(&rt, rt.alloc(), &mut *store, &mut Full);
     same(&rt, &end, &Err(SessionFault::Write), &"a writer");
-    same(&rt, &left, b"...YZ...", &"a writer");
-    Ok(())
+    same(&rt, &left_of(store, 2), b"...YZ...", &"a writer");
+}
+
+// A session, and what it answers.
+fn check_session(
+    rt: &impl Abort,
+    alloc: Global,
+    store: &mut FileStore<StopsAt<CrashMemory>>,
+    answers: &str,
+    due: Result<(), SessionFault>,
+) {
+    let mut out = Vec::new(alloc);
+    let end = serve(rt, alloc, store, &mut out);
+    let answers = pdus_of(alloc, answers).expect(rt, "answers");
+    same(rt, &end, &due, &answers.len());
+    same(rt, &out, &answers, &answers.len());
 }
 
 /// Behind a sync that failed sessions are served, and each of their writes is refused.
 #[test]
-fn a_session_behind_a_sync_that_failed(rt: HostRuntime) -> Result<(), Fail> {
-    let mut store = FileStore::new(StopsAt::new(dots(rt.alloc())?, 3))?;
-    let rows = [("", Err(SessionFault::Sync)), (REFUSALS, Ok(()))];
-    for (answers, due) in rows {
-        let answers = pdus_of(rt.alloc(), answers)?;
-        let mut out = Vec::new(rt.alloc());
-        let end = serve(rt.alloc(), &mut store, &mut out)?;
-        same(&rt, &end, &due, &answers.len());
-        same(&rt, &out.as_slice(), &answers.as_slice(), &answers.len());
-    }
-    Ok(())
+fn a_session_behind_a_sync_that_failed(rt: HostRuntime) {
+    let mut store = store_of(&rt, rt.alloc(), 3);
+    check_session(&rt, rt.alloc(), &mut *store, "", Err(SessionFault::Sync));
+    check_session(&rt, rt.alloc(), &mut *store, REFUSALS, Ok(()));
 }

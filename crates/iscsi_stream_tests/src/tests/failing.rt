@@ -1,6 +1,6 @@
 //! Readers and writers that fail.
 
-use super::rows::{NOP_OUT, Row, lines_of, row_of, rows};
+use super::rows::{COUNT, NOP_OUT, Row, lines_of, row_at, row_of};
 use super::runs::run_with;
 use super::{came_of, written_of};
 use crate::asserts::{same, same_bytes};
@@ -34,7 +34,7 @@ fn check_two(
     stream.extend_from_slice(&second).expect(rt, "two PDUs");
     let met = run_with(alloc, is_shown, &stream, steps.0, steps.1);
     same(rt, &met.result, &Err(fault), &is_shown);
-    same_bytes(rt, &met.written, want, &is_shown);
+    same_bytes(rt, &met.sink.taken, want, &is_shown);
 }
 
 #[test]
@@ -55,28 +55,30 @@ fn a_write_fails_after_ten_bytes(rt: HostRuntime) {
     check_two(&rt, rt.alloc(), true, steps, ToolFault::Write, line);
 }
 
+// A writer takes no byte. Where there is nothing to write, nothing fails.
+fn check_no_byte(rt: &impl Abort, sink: &mut Sink) {
+    let written = write_fully(sink, b"abc");
+    same(rt, &written, &Err(ToolFault::Write), &"three bytes");
+    same(rt, &write_fully(sink, b""), &Ok(()), &"no byte");
+}
+
 #[test]
 fn a_write_takes_no_byte(rt: HostRuntime) {
     let stream = came_of(&rt, rt.alloc(), lines_of(&rt, NOP_OUT));
     let none = Steps::of(0);
     let met = run_with(rt.alloc(), false, &stream, SURE, none);
     same(&rt, &met.result, &Err(ToolFault::Write), &"result");
-    same(&rt, &met.written.len(), &0, &"written");
-    let mut sink = Sink::new(rt.alloc(), none);
-    let written = write_fully(&mut sink, b"abc");
-    same(&rt, &written, &Err(ToolFault::Write), &"three bytes");
-    // Where there is nothing to write, nothing fails.
-    same(&rt, &write_fully(&mut sink, b""), &Ok(()), &"no byte");
+    same(&rt, &met.sink.taken.len(), &0, &"written");
+    check_no_byte(&rt, &mut Sink::new(rt.alloc(), none));
 }
 
 // Reads of 48 bytes and writes of 20, of which one fails, by this fault, after others.
 fn one_fails(fault: ToolFault, before: usize) -> (Steps, Steps) {
-    let (mut reads, mut writes) = (Steps::of(48), Steps::of(20));
-    match fault {
-        ToolFault::Read => reads.before = Some(before),
-        _ => writes.before = Some(before),
+    let before = Some(before);
+    if fault == ToolFault::Read {
+        return (Steps { step: 48, before }, Steps::of(20));
     }
-    (reads, writes)
+    (Steps::of(48), Steps { step: 20, before })
 }
 
 // The call behind so many others fails, if there is one: then the fault comes. Says whether there is.
@@ -93,9 +95,9 @@ fn check_fault(
     let at = (row.name, before);
     same(rt, &(met.result == Err(fault)), &is_met, &at);
     same(rt, &met.result.is_ok(), &!is_met, &at);
-    same(rt, &row.want.starts_with(&met.written), &true, &at);
+    same(rt, &row.want.starts_with(&met.sink.taken), &true, &at);
     if !is_met {
-        same(rt, &met.written, &row.want, &at);
+        same(rt, &met.sink.taken, &row.want, &at);
     }
     is_met
 }
@@ -113,14 +115,14 @@ fn check_each(rt: &impl Abort, alloc: Global, row: &str, fault: ToolFault) {
 
 #[test]
 fn each_read_fails(rt: HostRuntime) {
-    for row in rows().split("\n\n") {
-        check_each(&rt, rt.alloc(), row, ToolFault::Read);
+    for number in 0..COUNT {
+        check_each(&rt, rt.alloc(), row_at(&rt, number), ToolFault::Read);
     }
 }
 
 #[test]
 fn each_write_fails(rt: HostRuntime) {
-    for row in rows().split("\n\n") {
-        check_each(&rt, rt.alloc(), row, ToolFault::Write);
+    for number in 0..COUNT {
+        check_each(&rt, rt.alloc(), row_at(&rt, number), ToolFault::Write);
     }
 }

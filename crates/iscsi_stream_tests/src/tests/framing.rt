@@ -4,8 +4,8 @@
 //! `feed 0 47` feeds bytes 0 to 47 of the stream, `segment` is what the ready PDU has, `ready` says
 //! whether there is one, and `rest` counts the bytes of the stream past the framer's place.
 
-use super::came_of;
 use super::rows::{LOGIN_IN_THREE, MIXED_REQUESTS, NOP_OUT, lines_of};
+use super::{came_of, split_at_mark};
 use crate::asserts::{same, same_debug};
 use iscsi_stream::{Framer, Logins};
 use std::alloc::Global;
@@ -179,10 +179,16 @@ fn number_of(rt: &impl Abort, text: &str) -> u16 {
 
 // Bytes of a stream, from the first number to the second.
 fn piece_of<'a>(rt: &impl Abort, stream: &'a [u8], range: &str) -> &'a [u8] {
-    let (start, end) = range.split_once(' ').expect(rt, "no range");
+    let (start, end) = split_at_mark(rt, range, " ");
     let (start, end) = (number_of(rt, start), number_of(rt, end));
     let piece = stream.get(usize::from(start)..usize::from(end));
     piece.expect(rt, "past the end")
+}
+
+// The segment of the PDU that is ready, if there is one.
+fn segment_in(framer: &Framer) -> Option<&[u8]> {
+    let pdu = framer.pdu()?;
+    Some(pdu.bytes)
 }
 
 // What a framer shows is what is due.
@@ -194,14 +200,13 @@ fn check_seen(
     call: &str,
     want: &str,
 ) {
-    let pdu = framer.pdu().map(|pdu| pdu.bytes);
     let rest = (stream.len() as u64).saturating_sub(framer.place());
     match call {
         "held" => same_debug(rt, alloc, &framer.held(), want, &call),
         "place" => same_debug(rt, alloc, &framer.place(), want, &call),
         "rest" => same_debug(rt, alloc, &rest, want, &call),
-        "ready" => same_debug(rt, alloc, &pdu.is_some(), want, &call),
-        "segment" => same_debug(rt, alloc, &pdu, want, &call),
+        "ready" => same_debug(rt, alloc, &framer.pdu().is_some(), want, &call),
+        "segment" => same_debug(rt, alloc, &segment_in(framer), want, &call),
         "continued" => same_debug(rt, alloc, &framer.continued(), want, &call),
         _ => panic!(rt; "no such call"),
     }
@@ -265,16 +270,20 @@ fn logins(request: bool, response: bool) -> Logins {
     Logins { request, response }
 }
 
+// Which texts go on after the first login request of a stream.
+fn check_logins(rt: &impl Abort, framer: &mut Framer, stream: &[u8]) {
+    framer.feed(stream).expect(rt, "a login");
+    let head = &framer.pdu().expect(rt, "not ready").head;
+    let after = Logins::new().after(head);
+    same(rt, &after, &logins(true, false), &"after a request");
+    same(rt, &after.continues(head), &true, &"goes on");
+    same(rt, &Logins::new().continues(head), &false, &"begins");
+}
+
 #[test]
 fn logins_of_two_kinds(rt: HostRuntime) {
     same(&rt, &Logins::new(), &logins(false, false), &"at the start");
     // The head of the first login request goes on in the next.
     let stream = came_of(&rt, rt.alloc(), lines_of(&rt, LOGIN_IN_THREE));
-    let mut framer = Framer::new(rt.alloc(), 8192);
-    framer.feed(&stream).expect(&rt, "a login");
-    let head = framer.pdu().expect(&rt, "not ready").head;
-    let after = Logins::new().after(&head);
-    same(&rt, &after, &logins(true, false), &"after a request");
-    same(&rt, &after.continues(&head), &true, &"goes on");
-    same(&rt, &Logins::new().continues(&head), &false, &"begins");
+    check_logins(&rt, &mut Framer::new(rt.alloc(), 8192), &stream);
 }

@@ -1,17 +1,17 @@
 //! Lines, worked out by hand from the field table.
 
 use super::rows::{NOP_OUT, lines_of, parts_of};
-use super::runs::run_with;
-use super::{came_of, written_of};
+use super::{came_of, check_count, nth_row, written_of};
 use crate::asserts::{same, same_bytes};
-use iscsi_examples::{SURE, bytes_of};
-use iscsi_stream::{Counts, Framer, StreamFault, ToolFault, canonical_head, show_line};
+use iscsi_examples::bytes_of;
+use iscsi_stream::{Counts, Framer, StreamFault, ToolFault, canonical_head, show, show_line};
 use std::alloc::Global;
 use std::process::Abort;
 
-fn shown(alloc: Global, stream: &[u8]) -> (Result<Counts, ToolFault>, Vec<u8>) {
-    let run = run_with(alloc, true, stream, SURE, SURE);
-    (run.result, run.written)
+// Appends the lines of a stream.
+fn shown(alloc: Global, stream: &[u8], out: &mut Vec<u8>) -> Result<Counts, ToolFault> {
+    let mut source = stream;
+    show(alloc, &mut source, out)
 }
 
 fn counts(pdus: u64, bytes_in: u64, bytes_out: u64) -> Result<Counts, ToolFault> {
@@ -116,6 +116,9 @@ const TWICE: &str =
     "0 NOP-Out i=1 itt=00000001 ttt=ffffffff cmdsn=00000005 expstatsn=00000002 data=3\n\
     52 NOP-Out i=1 itt=00000001 ttt=ffffffff cmdsn=00000005 expstatsn=00000002 data=3\n";
 
+// How many rows of kinds there are.
+const COUNT: usize = 29;
+
 fn kinds() -> &'static str {
     KINDS
 }
@@ -124,7 +127,8 @@ fn kinds() -> &'static str {
 fn check_kind(rt: &impl Abort, alloc: Global, row: &str) {
     let (header, line) = parts_of(row);
     let header = bytes_of(alloc, header).expect(rt, "a header");
-    let (result, out) = shown(alloc, &header);
+    let mut out = Vec::new(alloc);
+    let result = shown(alloc, &header, &mut out);
     same(rt, &out.strip_suffix(b"\n"), &Some(line.as_bytes()), &line);
     let bytes_out = (line.len() as u64).saturating_add(1);
     same(rt, &result, &counts(1, 48, bytes_out), &line);
@@ -132,9 +136,9 @@ fn check_kind(rt: &impl Abort, alloc: Global, row: &str) {
 
 #[test]
 fn a_line_for_each_kind(rt: HostRuntime) {
-    same(&rt, &kinds().split("\n\n").count(), &29, &"kinds");
-    for row in kinds().split("\n\n") {
-        check_kind(&rt, rt.alloc(), row);
+    check_count(&rt, kinds(), COUNT);
+    for number in 0..COUNT {
+        check_kind(&rt, rt.alloc(), nth_row(&rt, kinds(), number));
     }
 }
 
@@ -149,7 +153,8 @@ fn check_two(
     let pdu = came_of(rt, alloc, lines_of(rt, NOP_OUT));
     let mut stream = came_of(rt, alloc, lines_of(rt, NOP_OUT));
     stream.extend_from_slice(&pdu).expect(rt, "two PDUs");
-    let (result, out) = shown(alloc, stream.get(..len).unwrap_or(&[]));
+    let mut out = Vec::new(alloc);
+    let result = shown(alloc, stream.get(..len).unwrap_or(&[]), &mut out);
     same(rt, &result, &want, &len);
     let due = TWICE.as_bytes().get(..written).unwrap_or(&[]);
     same_bytes(rt, &out, due, &len);
@@ -176,6 +181,14 @@ fn check_farthest(rt: &impl Abort, alloc: Global, framer: &Framer) {
     same_bytes(rt, &out, FARTHEST, &"line");
 }
 
+// The canonical header of the ready PDU.
+fn check_header(rt: &impl Abort, alloc: Global, framer: &Framer) {
+    let pdu = framer.pdu().expect(rt, "not ready");
+    let header = canonical_head(alloc, &pdu, false).expect(rt, "a head");
+    let want = written_of(rt, alloc, lines_of(rt, NOP_OUT));
+    same(rt, &Some(header.as_slice()), &want.get(..48), &"header");
+}
+
 /// A line at the farthest place, and a head alone.
 #[test]
 fn one_pdu(rt: HostRuntime) {
@@ -183,8 +196,5 @@ fn one_pdu(rt: HostRuntime) {
     let mut framer = Framer::new(rt.alloc(), 3);
     same(&rt, &framer.feed(&stream), &Ok(52), &"taken");
     check_farthest(&rt, rt.alloc(), &framer);
-    let pdu = framer.pdu().expect(&rt, "not ready");
-    let header = canonical_head(rt.alloc(), &pdu, false).expect(&rt, "a head");
-    let want = written_of(&rt, rt.alloc(), lines_of(&rt, NOP_OUT));
-    same(&rt, &Some(header.as_slice()), &want.get(..48), &"header");
+    check_header(&rt, rt.alloc(), &framer);
 }

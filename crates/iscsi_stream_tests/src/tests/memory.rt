@@ -19,6 +19,14 @@ fn ample(rt: &impl Abort, alloc: Global, mark: &str) -> Vec<u8> {
 const LINE: &[u8] =
     b"0 NOP-Out i=1 itt=00000001 ttt=ffffffff cmdsn=00000005 expstatsn=00000002 data=3\n";
 
+// Shows a stream once more.
+fn show_again(rt: &impl Abort, alloc: Global, stream: &[u8], room: &mut [u8]) {
+    let mut source = stream;
+    let mut out = room;
+    let shown = show(alloc, &mut source, &mut out);
+    same(rt, &shown.is_ok(), &true, &"once more");
+}
+
 // Shows a stream, once more where memory ran out: then nothing was written.
 fn show_at_last(rt: &impl Abort, alloc: Global, stream: &[u8], room: &mut [u8]) {
     let mut source = stream;
@@ -27,10 +35,7 @@ fn show_at_last(rt: &impl Abort, alloc: Global, stream: &[u8], room: &mut [u8]) 
     if result.is_err() {
         same(rt, &result, &Err(ToolFault::NoMemory), &"fault");
         same(rt, &out.len(), &128, &"room left");
-        let mut source = stream;
-        let mut again = &mut *room;
-        let shown = show(alloc, &mut source, &mut again);
-        same(rt, &shown.is_ok(), &true, &"once more");
+        show_again(rt, alloc, stream, room);
     }
 }
 
@@ -76,16 +81,21 @@ fn line_at_last(rt: &impl Abort, framer: &Framer, want: &[u8], out: &mut Vec<u8>
     }
 }
 
+// The canonical form of the ready PDU, and its line behind it.
+fn check_at_last(rt: &impl Abort, alloc: Global, framer: &Framer, want: &[u8]) {
+    let mut out = canonical_at_last(rt, alloc, framer);
+    same_bytes(rt, &out, want, &"canonical");
+    line_at_last(rt, framer, want, &mut out);
+    same(rt, &out.get(want.len()..), &Some(LINE), &"line");
+}
+
 /// A PDU at a time: what ran out of memory leaves what was there, and the next call gives what is due.
 #[test]
 fn refused_memory_leaves_what_was_there(rt: HostRuntime) {
     let stream = ample(&rt, rt.alloc(), "> ");
     let want = ample(&rt, rt.alloc(), "< ");
     let framer = ready_framer(&rt, rt.alloc(), &stream);
-    let mut out = canonical_at_last(&rt, rt.alloc(), &framer);
-    same(&rt, &out, &want, &"canonical");
-    line_at_last(&rt, &framer, &want, &mut out);
-    same(&rt, &out.get(want.len()..), &Some(LINE), &"line");
+    check_at_last(&rt, rt.alloc(), &framer, &want);
 }
 
 /// The limit comes before memory is asked for.
@@ -97,15 +107,20 @@ fn refused_memory_hides_no_limit(rt: HostRuntime) {
     same(&rt, &framer.feed(&stream), &limit, &"limit");
 }
 
+// Gives the ready PDU up, and takes it once more.
+fn check_again(rt: &impl Abort, framer: &mut Framer, stream: &[u8]) {
+    framer.take();
+    same(rt, &framer.feed(stream), &Ok(52), &"taken");
+    let segment = framer.pdu().expect(rt, "not ready").bytes;
+    same_bytes(rt, segment, b"abc", &"segment");
+}
+
 /// A segment no longer than an earlier one asks for no memory, so no refusal reaches it.
 #[test]
 fn the_buffer_is_kept(rt: HostRuntime) {
     let stream = ample(&rt, rt.alloc(), "> ");
     let mut framer = ready_framer(&rt, rt.alloc(), &stream);
     for _ in 0..100u64 {
-        framer.take();
-        same(&rt, &framer.feed(&stream), &Ok(52), &"taken");
-        let segment = framer.pdu().expect(&rt, "not ready").bytes;
-        same_bytes(&rt, segment, b"abc", &"segment");
+        check_again(&rt, &mut framer, &stream);
     }
 }

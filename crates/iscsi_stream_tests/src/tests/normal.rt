@@ -1,18 +1,30 @@
 //! Canonical streams, and the faults of streams with their places.
 
-use super::rows::{LOGIN_REQUEST, NOP_OUT, Row, WRITE_COMMAND, lines_of, parts_of, row_of, rows};
-use super::runs::run_with;
-use super::{came_of, feed_piece, normal_of, written_of};
+use super::rows::{
+    COUNT, LOGIN_REQUEST, NOP_OUT, Row, WRITE_COMMAND, lines_of, parts_of, row_at, row_of, rows,
+};
+use super::runs::{Outcome, run_with};
+use super::{came_of, check_count, feed_piece, normal_of, nth_row, split_at_mark, written_of};
 use crate::asserts::{same, same_bytes, same_text};
 use iscsi_examples::{SURE, Steps};
 use iscsi_stream::{Counts, Framer, StreamFault, ToolFault};
 use std::alloc::Global;
+use std::fmt::Debug;
 use std::process::Abort;
+
+// A canonical stream stays as it is.
+fn check_kept(rt: &impl Abort, alloc: Global, stream: &[u8], row: &impl Debug) {
+    let mut out = Vec::new(alloc);
+    let result = normal_of(alloc, stream, &mut out);
+    same(rt, &result.is_ok(), &true, row);
+    same_bytes(rt, &out, stream, row);
+}
 
 // The canonical stream of a row, with its counts; and again, from the canonical stream.
 fn check_row(rt: &impl Abort, alloc: Global, row: &str) {
     let row = row_of(rt, alloc, row);
-    let (result, out) = normal_of(alloc, &row.came);
+    let mut out = Vec::new(alloc);
+    let result = normal_of(alloc, &row.came, &mut out);
     same(rt, &out, &row.want, &row.name);
     let counts = Counts {
         pdus: row.pdus as u64,
@@ -20,42 +32,46 @@ fn check_row(rt: &impl Abort, alloc: Global, row: &str) {
         bytes_out: row.want.len() as u64,
     };
     same(rt, &result, &Ok(counts), &row.name);
-    let (_, again) = normal_of(alloc, &row.want);
-    same(rt, &again, &row.want, &row.name);
+    check_kept(rt, alloc, &row.want, &row.name);
 }
 
 #[test]
 fn canonical_streams(rt: HostRuntime) {
-    same(&rt, &rows().split("\n\n").count(), &29, &"rows");
-    for row in rows().split("\n\n") {
-        check_row(&rt, rt.alloc(), row);
+    check_count(&rt, rows(), COUNT);
+    for number in 0..COUNT {
+        check_row(&rt, rt.alloc(), row_at(&rt, number));
     }
 }
 
-// Feeds a stream in a first piece and others of one length. Answers its place and how it ends.
-fn feed_pieces(
+// Feeds a stream in pieces of one length.
+fn feed_pieces(rt: &impl Abort, framer: &mut Framer, came: &[u8], len: usize, out: &mut Vec<u8>) {
+    for piece in came.chunks(len.max(1)) {
+        feed_piece(rt, framer, piece, out);
+    }
+}
+
+// Feeds a stream in a first piece and others of one length.
+fn feed_cut(
     rt: &impl Abort,
-    alloc: Global,
+    framer: &mut Framer,
     came: &[u8],
     first: usize,
     len: usize,
     out: &mut Vec<u8>,
-) -> (u64, Result<(), StreamFault>) {
+) {
     let (front, rest) = came.split_at_checked(first).unwrap_or((came, &[]));
-    let mut framer = Framer::new(alloc, 16_777_215);
-    feed_piece(rt, &mut framer, front, out);
-    for piece in rest.chunks(len.max(1)) {
-        feed_piece(rt, &mut framer, piece, out);
-    }
-    (framer.place(), framer.finish())
+    feed_piece(rt, framer, front, out);
+    feed_pieces(rt, framer, rest, len, out);
 }
 
 // Whatever the pieces, all of a stream is taken.
 fn check_pieces(rt: &impl Abort, alloc: Global, row: &Row<'_>, first: usize, len: usize) {
     let mut out = Vec::new(alloc);
-    let ended = feed_pieces(rt, alloc, &row.came, first, len, &mut out);
+    let mut framer = Framer::new(alloc, 16_777_215);
+    feed_cut(rt, &mut framer, &row.came, first, len, &mut out);
     let at = (row.name, first, len);
-    same(rt, &ended, &(row.came.len() as u64, Ok(())), &at);
+    same(rt, &framer.place(), &(row.came.len() as u64), &at);
+    same(rt, &framer.finish(), &Ok(()), &at);
     same(rt, &out, &row.want, &at);
 }
 
@@ -72,14 +88,15 @@ fn check_cuts(rt: &impl Abort, alloc: Global, row: &str) {
 
 #[test]
 fn cuts_make_no_difference(rt: HostRuntime) {
-    for row in rows().split("\n\n") {
-        check_cuts(&rt, rt.alloc(), row);
+    for number in 0..COUNT {
+        check_cuts(&rt, rt.alloc(), row_at(&rt, number));
     }
 }
 
 // A stream that ends in its last PDU, which starts there, gives what is due of the PDUs before it, and that place.
 fn check_end(rt: &impl Abort, alloc: Global, came: &[u8], start: usize, want: &[u8]) {
-    let (result, out) = normal_of(alloc, came);
+    let mut out = Vec::new(alloc);
+    let result = normal_of(alloc, came, &mut out);
     if came.len() == start {
         same(rt, &result.is_ok(), &true, &start);
     } else {
@@ -89,26 +106,36 @@ fn check_end(rt: &impl Abort, alloc: Global, came: &[u8], start: usize, want: &[
     same_bytes(rt, &out, want, &came.len());
 }
 
+// A stream that ends at a place, and at each byte behind it.
+fn check_ends_from(rt: &impl Abort, alloc: Global, came: &[u8], start: usize, want: &[u8]) {
+    for len in start..came.len() {
+        check_end(rt, alloc, came.get(..len).unwrap_or(&[]), start, want);
+    }
+}
+
+// A stream that ends behind its first PDUs, and at each byte of the next, which is a line: both streams then have it.
+fn check_next(rt: &impl Abort, alloc: Global, line: &str, came: &mut Vec<u8>, want: &mut Vec<u8>) {
+    let start = came.len();
+    came.extend_from_slice(&came_of(rt, alloc, line))
+        .expect(rt, line);
+    check_ends_from(rt, alloc, came, start, want);
+    want.extend_from_slice(&written_of(rt, alloc, line))
+        .expect(rt, line);
+}
+
 // A stream that ends behind each of its PDUs, and at each byte of the next.
-fn check_ends(rt: &impl Abort, alloc: Global, lines: &str) {
+fn check_ends(rt: &impl Abort, alloc: Global, row: &str) {
+    let (_, lines) = parts_of(row);
     let (mut came, mut want) = (Vec::new(alloc), Vec::new(alloc));
     for line in lines.lines() {
-        let start = came.len();
-        let pdu = came_of(rt, alloc, line);
-        came.extend_from_slice(&pdu).expect(rt, "a PDU more");
-        for len in start..came.len() {
-            check_end(rt, alloc, came.get(..len).unwrap_or(&[]), start, &want);
-        }
-        let written = written_of(rt, alloc, line);
-        want.extend_from_slice(&written).expect(rt, "a PDU more");
+        check_next(rt, alloc, line, &mut came, &mut want);
     }
 }
 
 #[test]
 fn streams_that_end_early(rt: HostRuntime) {
-    for row in rows().split("\n\n") {
-        let (_, lines) = parts_of(row);
-        check_ends(&rt, rt.alloc(), lines);
+    for number in 0..COUNT {
+        check_ends(&rt, rt.alloc(), row_at(&rt, number));
     }
 }
 
@@ -128,6 +155,9 @@ const FAULTY: &str = "stream: additional header at = Additional\n\
     stream: login segment too long at = TooLong\n\
     > 23810000 00002001 00000000 00000000 00000000 00000000 00000000 00000000 00000000 00000000 00000000 00000000 00000000";
 
+// How many faulty rows there are.
+const FAULTY_COUNT: usize = 5;
+
 // A front and the lines of a header, one behind the other, in reads of so many bytes each: how the stream ends,
 // and what is written.
 fn normal_in_reads(
@@ -136,19 +166,18 @@ fn normal_in_reads(
     front: &str,
     header: &str,
     step: usize,
-) -> (Result<Counts, ToolFault>, Vec<u8>) {
+) -> Outcome {
     let mut stream = came_of(rt, alloc, front);
     let header = came_of(rt, alloc, header);
     stream
         .extend_from_slice(&header)
         .expect(rt, "a header more");
-    let run = run_with(alloc, false, &stream, Steps::of(step), SURE);
-    (run.result, run.written)
+    run_with(alloc, false, &stream, Steps::of(step), SURE)
 }
 
 // What is said of the fault that a row's words name, at a place: its line, and the fault.
 fn due_of(rt: &impl Abort, alloc: Global, words: &str, place: u64) -> String {
-    let (line, name) = words.split_once(" = ").expect(rt, "no fault");
+    let (line, name) = split_at_mark(rt, words, " = ");
     format!(in alloc; "{line} {place} = Stream(Head({name}, {place}))").expect(rt, "text")
 }
 
@@ -162,20 +191,25 @@ fn check_said(rt: &impl Abort, alloc: Global, fault: ToolFault, due: &String) {
 // each read gives so many bytes.
 fn check_fault(rt: &impl Abort, alloc: Global, front: &str, place: u64, row: &str, step: usize) {
     let (words, header) = parts_of(row);
-    let (result, out) = normal_in_reads(rt, alloc, front, header, step);
-    same(rt, &out, &written_of(rt, alloc, front), &row);
-    let fault = result.expect_err(rt, row);
+    let met = normal_in_reads(rt, alloc, front, header, step);
+    same(rt, &met.sink.taken, &written_of(rt, alloc, front), &row);
+    let fault = met.result.expect_err(rt, row);
     check_said(rt, alloc, fault, &due_of(rt, alloc, words, place));
 }
 
-/// Alone, and behind a whole PDU, in reads of each length.
+// A row alone, and behind a whole PDU, in reads of each length.
+fn check_faulty(rt: &impl Abort, alloc: Global, row: &str) {
+    for step in 1..102usize {
+        check_fault(rt, alloc, "", 0, row, step);
+        check_fault(rt, alloc, lines_of(rt, NOP_OUT), 52, row, step);
+    }
+}
+
 #[test]
 fn faults_and_places(rt: HostRuntime) {
-    for row in FAULTY.split("\n\n") {
-        for step in 1..102 {
-            check_fault(&rt, rt.alloc(), "", 0, row, step);
-            check_fault(&rt, rt.alloc(), lines_of(&rt, NOP_OUT), 52, row, step);
-        }
+    check_count(&rt, FAULTY, FAULTY_COUNT);
+    for number in 0..FAULTY_COUNT {
+        check_faulty(&rt, rt.alloc(), nth_row(&rt, FAULTY, number));
     }
 }
 
@@ -206,17 +240,22 @@ fn lines_of_faults(rt: HostRuntime) {
     }
 }
 
+// Whether the fault is the stream's.
+fn is_of_stream(said: &Result<Counts, ToolFault>) -> bool {
+    matches!(said, Err(ToolFault::Stream(_)))
+}
+
 // Where a stream is taken, its canonical stream stays as it is. Says whether it is taken.
 fn is_taken(rt: &impl Abort, alloc: Global, stream: &[u8], at: (usize, u8)) -> bool {
-    let (result, out) = normal_of(alloc, stream);
-    if result.is_ok() {
-        let (again, twice) = normal_of(alloc, &out);
-        same(rt, &again.is_ok(), &true, &at);
-        same(rt, &twice, &out, &at);
-        return true;
+    let mut out = Vec::new(alloc);
+    let result = normal_of(alloc, stream, &mut out);
+    let is_taken = result.is_ok();
+    if is_taken {
+        check_kept(rt, alloc, &out, &at);
+    } else {
+        same(rt, &is_of_stream(&result), &true, &at);
     }
-    same(rt, &matches!(result, Err(ToolFault::Stream(_))), &true, &at);
-    false
+    is_taken
 }
 
 /// Rows of one PDU, and how many streams are taken if each byte of the header in turn has each value.

@@ -5,7 +5,7 @@
 //! padding: nothing, bytes in hex, `5a*512` for so many of a byte, or behind an apostrophe a text, in
 //! which `|` stands for a byte 00 and `~` for a byte ff.
 
-use super::{came_of, written_of};
+use super::{came_of, nth_row, written_of};
 use std::alloc::Global;
 use std::process::Abort;
 
@@ -175,9 +175,17 @@ const ROWS: &str = "nothing\n\
     > 43870000 00000015 40000001 00000000 00000000 00000000 00000001 00000003 00000000 00000000 00000000 00000000 'MaxBurstLength=0x400||||\n\
     < 43870000 00000014 40000001 00000000 00000000 00000000 00000001 00000003 00000000 00000000 00000000 00000000 'MaxBurstLength=1024|";
 
+/// How many rows there are.
+pub const COUNT: usize = 29;
+
 /// All rows, with a blank line between two.
 pub fn rows() -> &'static str {
     ROWS
+}
+
+/// The row of this number.
+pub fn row_at(rt: &impl Abort, number: usize) -> &'static str {
+    nth_row(rt, rows(), number)
 }
 
 /// The name of a row and its lines.
@@ -194,12 +202,23 @@ pub struct Row<'a> {
     pub want: Vec<u8>,
 }
 
+// How many PDUs come.
+fn count_of(lines: &str) -> usize {
+    let mut count = 0usize;
+    for line in lines.lines() {
+        if line.starts_with("> ") {
+            count = count.saturating_add(1);
+        }
+    }
+    count
+}
+
 /// What a row says.
 pub fn row_of<'a>(rt: &impl Abort, alloc: Global, row: &'a str) -> Row<'a> {
     let (name, lines) = parts_of(row);
     Row {
         name,
-        pdus: lines.lines().filter(|line| line.starts_with("> ")).count(),
+        pdus: count_of(lines),
         came: came_of(rt, alloc, lines),
         want: written_of(rt, alloc, lines),
     }
@@ -207,8 +226,8 @@ pub fn row_of<'a>(rt: &impl Abort, alloc: Global, row: &'a str) -> Row<'a> {
 
 /// The lines of the row with this name, which has to be there.
 pub fn lines_of(rt: &impl Abort, name: &str) -> &'static str {
-    for row in rows().split("\n\n") {
-        let (first, lines) = parts_of(row);
+    for number in 0..COUNT {
+        let (first, lines) = parts_of(row_at(rt, number));
         if first == name {
             return lines;
         }

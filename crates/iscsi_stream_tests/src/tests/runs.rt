@@ -8,7 +8,7 @@ use std::alloc::Global;
 #[derive(Drop)]
 pub struct Outcome {
     pub result: Result<Counts, ToolFault>,
-    pub written: Vec<u8>,
+    pub sink: Sink,
     pub failures: u64,
 }
 
@@ -29,7 +29,7 @@ pub fn run_with(
     };
     Outcome {
         result,
-        written: sink.taken,
         failures: source.failures.saturating_add(sink.failures),
+        sink,
     }
 }

@@ -1,22 +1,22 @@
 //! One text from a reader to a writer.
 
+use super::split_at_mark;
 use crate::asserts::{same, same_debug, same_text};
-use iscsi_examples::{SURE, Sink, Source, segment_of};
+use iscsi_examples::segment_of;
 use iscsi_stream::{ToolFault, normalise_text};
 use std::alloc::Global;
 use std::process::Abort;
 
-// The canonical text of a segment, or the fault, and what was written.
+// Appends the canonical text of a segment, unless it is refused.
 fn normal_text_of(
     rt: &impl Abort,
     alloc: Global,
     segment: &str,
-) -> (Result<(), ToolFault>, Vec<u8>) {
+    out: &mut Vec<u8>,
+) -> Result<(), ToolFault> {
     let text = segment_of(alloc, segment).expect(rt, "a segment");
-    let mut source = Source::new(&text, SURE);
-    let mut sink = Sink::new(alloc, SURE);
-    let result = normalise_text(alloc, &mut source, &mut sink);
-    (result, sink.taken)
+    let mut source = text.as_slice();
+    normalise_text(alloc, &mut source, out)
 }
 
 // A text and its canonical text, as rows of streams spell segments.
@@ -33,8 +33,9 @@ const REFUSED: &str = "'A=1 = Err(Text(Unterminated(0))) = text: unterminated at
     00*16385 = Err(TextTooLong) = text: over 16384 bytes";
 
 fn check_text(rt: &impl Abort, alloc: Global, row: &str) {
-    let (text, want) = row.split_once(" = ").expect(rt, "no canonical text");
-    let (result, out) = normal_text_of(rt, alloc, text);
+    let (text, want) = split_at_mark(rt, row, " = ");
+    let mut out = Vec::new(alloc);
+    let result = normal_text_of(rt, alloc, text, &mut out);
     same(rt, &result, &Ok(()), &row);
     let due = segment_of(alloc, want).expect(rt, "a segment");
     same(rt, &out, &due, &row);
@@ -48,9 +49,10 @@ fn canonical_texts(rt: HostRuntime) {
 }
 
 fn check_refused(rt: &impl Abort, alloc: Global, row: &str) {
-    let (text, want) = row.split_once(" = ").expect(rt, "no answer");
-    let (answer, line) = want.split_once(" = ").expect(rt, "no line");
-    let (result, out) = normal_text_of(rt, alloc, text);
+    let (text, want) = split_at_mark(rt, row, " = ");
+    let (answer, line) = split_at_mark(rt, want, " = ");
+    let mut out = Vec::new(alloc);
+    let result = normal_text_of(rt, alloc, text, &mut out);
     same_debug(rt, alloc, &result, answer, &row);
     same(rt, &out.len(), &0, &row);
     let fault = result.expect_err(rt, row);

@@ -33,20 +33,19 @@ const WRITE: &str =
 
 const OTHERS: u64 = 11_080;
 
-// What a target answers to a PDU behind the login, and all that it writes.
+// What a target answers to a PDU behind the login. All that it writes is appended.
 fn answers_to(
     rt: &impl Abort,
     alloc: Global,
     login: &[u8],
     pdu: &[u8],
-) -> (Result<Phase, TargetFault>, Vec<u8>) {
+    out: &mut Vec<u8>,
+) -> Result<Phase, TargetFault> {
     let mut store = SparseStore::new(alloc, 2048);
     let mut target = target_of(rt, alloc);
-    let mut out = Vec::new(alloc);
-    let phase = target.feed(login, &mut store, &mut out);
+    let phase = target.feed(login, &mut store, out);
     same(rt, &phase, &Ok(Phase::Full), &"login");
-    let result = target.feed(pdu, &mut store, &mut out);
-    (result, out)
+    target.feed(pdu, &mut store, out)
 }
 
 // A PDU and its canonical form are answered alike.
@@ -58,8 +57,9 @@ fn check_alike(
     canonical: &[u8],
     row: (usize, u8),
 ) {
-    let (result, out) = answers_to(rt, alloc, login, pdu);
-    let (again, twice) = answers_to(rt, alloc, login, canonical);
+    let (mut out, mut twice) = (Vec::new(alloc), Vec::new(alloc));
+    let result = answers_to(rt, alloc, login, pdu, &mut out);
+    let again = answers_to(rt, alloc, login, canonical, &mut twice);
     same(rt, &again, &result, &row);
     same(rt, &twice, &out, &row);
 }

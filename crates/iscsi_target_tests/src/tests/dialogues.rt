@@ -58,13 +58,20 @@ impl Turn {
     }
 }
 
+// The bytes of a block are all this one.
+fn check_fill(rt: &impl Abort, block: &[u8], want: u8, lba: u64) {
+    for byte in block {
+        same(rt, byte, &want, &lba);
+    }
+}
+
 // A block is of one byte alone.
 fn check_block<S: BlockStore>(rt: &impl Abort, store: &mut S, lba: u64, want: u8) {
     assert!(rt; lba < store.blocks());
     let mut block = [0xff; 512];
     let read = store.read(lba, &mut block);
-    assert!(rt; read.is_ok(), "block {lba}");
-    same(rt, &block, &[want; 512], &lba);
+    same(rt, &read.is_ok(), &true, &lba);
+    check_fill(rt, &block, want, lba);
 }
 
 // The first blocks, so many, are of 5a, and the ones behind them of 00.
@@ -367,21 +374,48 @@ fn feed(
     target.feed(&came, store, out).expect(rt, line);
 }
 
+/// What a session sent, and what is due.
+#[derive(Drop)]
+struct Sent {
+    out: Vec<u8>,
+    want: Vec<u8>,
+}
+
+// A line of the session of both ends.
+fn play_line(
+    rt: &impl Abort,
+    alloc: Global,
+    target: &mut Target,
+    store: &mut SparseStore,
+    line: &str,
+    sent: &mut Sent,
+) {
+    let (mark, rest) = line.split_once(' ').expect(rt, "no mark");
+    match mark {
+        "!" => same(rt, &sent.out, &sent.want, &line),
+        "I>" => feed(rt, alloc, target, store, rest, &mut sent.out),
+        "T>" => append_pdu(rest, &mut sent.want).expect(rt, rest),
+        _ => panic!(rt; "no such line"),
+    }
+}
+
+// A session that sent nothing yet.
+fn sent_nothing(alloc: Global) -> Sent {
+    Sent {
+        out: Vec::new(alloc),
+        want: Vec::new(alloc),
+    }
+}
+
 /// The target's part of the session of both ends, a PDU at a time.
 #[test]
 fn a_session_of_both_ends(rt: HostRuntime) {
     let mut store = SparseStore::new(rt.alloc(), 2048);
     let mut target = target_of_session(&rt, rt.alloc());
-    let (mut out, mut want) = (Vec::new(rt.alloc()), Vec::new(rt.alloc()));
+    let mut sent = sent_nothing(rt.alloc());
     for line in SESSION.lines() {
-        let (mark, rest) = line.split_once(' ').expect(&rt, "no mark");
-        match mark {
-            "!" => same(&rt, &out, &want, &line),
-            "I>" => feed(&rt, rt.alloc(), &mut target, &mut store, rest, &mut out),
-            "T>" => append_pdu(rest, &mut want).expect(&rt, rest),
-            _ => panic!(&rt; "no such line"),
-        }
+        play_line(&rt, rt.alloc(), &mut target, &mut store, line, &mut sent);
     }
-    same(&rt, &out, &want, &"at the end");
+    same(&rt, &sent.out, &sent.want, &"at the end");
     same(&rt, &target.phase(), &Phase::Closed, &"after the logout");
 }

@@ -2,9 +2,8 @@
 
 use super::same;
 use iscsi_text::{Text, TextFault, Value, read_text, split_at_byte, value_in};
-use std::alloc::{AllocError, Global};
+use std::alloc::Global;
 use std::process::Abort;
-use std::test::Fail;
 
 const KEY_OF_63: &[u8] = b"aaaaaaaaaaaaaaaaaaaaaaaaaaaaaaaaaaaaaaaaaaaaaaaaaaaaaaaaaaaaaaa=1\0";
 
@@ -100,40 +99,31 @@ const CANONICAL: &[(&str, &[u8], &[u8])] = &[
     ),
 ];
 
+// A text where memory is not refused.
+fn text_of<'a>(rt: &impl Abort, alloc: Global, bytes: &'a [u8]) -> Text<'a> {
+    Text::read(alloc, bytes).expect(rt, "a text")
+}
+
 // The canonical text of a row, and its length before it is written.
-fn check_canonical(
-    rt: &impl Abort,
-    alloc: Global,
-    name: &str,
-    bytes: &[u8],
-    want: &[u8],
-) -> Result<(), Fail> {
-    let text = Text::read(alloc, bytes)?;
+fn check_canonical(rt: &impl Abort, alloc: Global, name: &str, bytes: &[u8], want: &[u8]) {
+    let text = text_of(rt, alloc, bytes);
     same(rt, &text.canonical_len(), &want.len(), &name);
     let mut out = Vec::new(alloc);
-    text.write(&mut out)?;
+    text.write(&mut out).expect(rt, name);
     same(rt, &out.as_slice(), &want, &name);
-    Ok(())
 }
 
 #[test]
-fn canonical_texts_are_written(rt: HostRuntime) -> Result<(), Fail> {
+fn canonical_texts_are_written(rt: HostRuntime) {
     for (name, bytes, want) in CANONICAL {
-        check_canonical(&rt, rt.alloc(), name, bytes, want)?;
+        check_canonical(&rt, rt.alloc(), name, bytes, want);
     }
-    Ok(())
 }
 
 #[test]
-fn many_spare_bytes_are_nothing(rt: HostRuntime) -> Result<(), Fail> {
-    let spare = [0; 16_384];
-    same(
-        &rt,
-        &Text::read(rt.alloc(), &spare)?.len(),
-        &0,
-        &"spare bytes",
-    );
-    Ok(())
+fn many_spare_bytes_are_nothing(rt: HostRuntime) {
+    let text = text_of(&rt, rt.alloc(), &[0; 16_384]);
+    same(&rt, &text.len(), &0, &"spare bytes");
 }
 
 // A text, its first fault, and what is printed of it.
@@ -169,19 +159,23 @@ const FAULTS: &[(&[u8], TextFault, &str)] = &[
     ),
 ];
 
-fn check_line(rt: &impl Abort, alloc: Global, fault: TextFault, line: &str) -> Result<(), Fail> {
-    same(rt, &format!(in alloc; "{fault}")?.as_str(), &line, &fault);
-    Ok(())
+fn check_line(rt: &impl Abort, alloc: Global, fault: TextFault, line: &str) {
+    let text = format!(in alloc; "{fault}").expect(rt, "text");
+    same(rt, &text.as_str(), &line, &fault);
+}
+
+fn check_fault(rt: &impl Abort, alloc: Global, bytes: &[u8], want: TextFault, line: &str) {
+    let fault = Text::read(alloc, bytes).err();
+    same(rt, &fault, &Some(want), &line);
+    check_line(rt, alloc, want, line);
 }
 
 #[test]
-fn first_faults_are_answered(rt: HostRuntime) -> Result<(), Fail> {
+fn first_faults_are_answered(rt: HostRuntime) {
     for (bytes, want, line) in FAULTS {
-        let fault = Text::read(rt.alloc(), bytes).err();
-        same(&rt, &fault, &Some(*want), &line);
-        check_line(&rt, rt.alloc(), *want, line)?;
+        check_fault(&rt, rt.alloc(), bytes, *want, line);
     }
-    check_line(&rt, rt.alloc(), TextFault::NoMemory, "memory")
+    check_line(&rt, rt.alloc(), TextFault::NoMemory, "memory");
 }
 
 const TYPED: &[u8] = b"TargetAddress=b\0MaxBurstLength=0x10\0TargetAddress=a\0ImmediateData=No\0\
@@ -204,15 +198,14 @@ fn check_pair(rt: &impl Abort, text: &Text, n: usize, want: Option<(&[u8], Value
 }
 
 #[test]
-fn values_have_their_keys_types(rt: HostRuntime) -> Result<(), Fail> {
-    let text = Text::read(rt.alloc(), TYPED)?;
+fn values_have_their_keys_types(rt: HostRuntime) {
+    let text = text_of(&rt, rt.alloc(), TYPED);
     same(&rt, &text.len(), &8, &"length");
     same(&rt, &text.pairs().len(), &8, &"pairs");
     for (n, (key, value)) in PAIRS.iter().enumerate() {
         check_pair(&rt, &text, n, Some((key.as_bytes(), *value)));
     }
     check_pair(&rt, &text, 8, None);
-    Ok(())
 }
 
 // A key, which of its values, and the value.
@@ -224,19 +217,18 @@ const VALUES: &[(&str, usize, Option<Value<'static>>)] = &[
     ("X-other", 0, None),
 ];
 
+fn check_value(rt: &impl Abort, text: &Text, key: &str, place: usize, want: &Option<Value>) {
+    same(rt, &text.get(key.as_bytes(), place), want, &key);
+    let found = value_in(text.pairs(), key.as_bytes(), place);
+    same(rt, &found, want, &key);
+}
+
 #[test]
-fn values_are_got_by_key_and_place(rt: HostRuntime) -> Result<(), Fail> {
-    let text = Text::read(rt.alloc(), TYPED)?;
+fn values_are_got_by_key_and_place(rt: HostRuntime) {
+    let text = text_of(&rt, rt.alloc(), TYPED);
     for (key, place, want) in VALUES {
-        same(&rt, &text.get(key.as_bytes(), *place), want, &key);
-        same(
-            &rt,
-            &value_in(text.pairs(), key.as_bytes(), *place),
-            want,
-            &key,
-        );
+        check_value(&rt, &text, key, *place, want);
     }
-    Ok(())
 }
 
 // Reads the text again where memory ran out: only that may come in place of the text.
@@ -253,12 +245,17 @@ fn read_twice<'a>(rt: &impl Abort, alloc: Global, bytes: &'a [u8], name: &str) -
 // Writes the text again where memory ran out: that leaves `out` as it was.
 fn write_twice(rt: &impl Abort, alloc: Global, text: &Text, name: &str) -> Vec<u8> {
     let mut out = Vec::new(alloc);
-    if text.write(&mut out) == Err(AllocError) {
+    if text.write(&mut out).is_err() {
         same(rt, &out.len(), &0, &name);
-        let again = text.write(&mut out);
-        assert!(rt; again.is_ok(), "{name}");
+        text.write(&mut out).expect(rt, name);
     }
     out
+}
+
+fn check_twice(rt: &impl Abort, alloc: Global, name: &str, bytes: &[u8], want: &[u8]) {
+    let text = read_twice(rt, alloc, bytes, name);
+    let out = write_twice(rt, alloc, &text, name);
+    same(rt, &out.as_slice(), &want, &name);
 }
 
 // What `rt try --test --fail-alloc N` is for: what is refused answers that memory is out and leaves
@@ -266,9 +263,7 @@ fn write_twice(rt: &impl Abort, alloc: Global, text: &Text, name: &str) -> Vec<u
 #[test]
 fn refused_memory_changes_no_answer(rt: HostRuntime) {
     for (name, bytes, want) in CANONICAL {
-        let text = read_twice(&rt, rt.alloc(), bytes, name);
-        let out = write_twice(&rt, rt.alloc(), &text, name);
-        same(&rt, &out.as_slice(), want, &name);
+        check_twice(&rt, rt.alloc(), name, bytes, want);
     }
 }
 
@@ -284,7 +279,11 @@ fn check_read(rt: &impl Abort, alloc: Global, bytes: &[u8], pairs: Option<usize>
     let Ok(text) = read_text(alloc, bytes) else {
         return;
     };
-    same(rt, &text.map(|text| text.len()), &pairs, &bytes);
+    let count = match text {
+        Some(text) => Some(text.len()),
+        None => None,
+    };
+    same(rt, &count, &pairs, &bytes);
 }
 
 #[test]

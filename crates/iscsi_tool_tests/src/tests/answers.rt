@@ -8,7 +8,6 @@ use iscsi_stream::{StreamFault, ToolFault};
 use iscsi_tool::{Filter, Work, run_filter};
 use std::alloc::Global;
 use std::process::Abort;
-use std::test::Fail;
 
 // A login.
 pub const LOGIN: &str =
@@ -79,16 +78,22 @@ const TURN_ANSWERS: &str =
     "3f800400 00000030 00000000 00000000 ffffffff 00000000 00000003 00000001 00000008 00000000 00000000 00000000 018100000000000000000000000000000000000100000000000000030000000300000000000000000000000000000000";
 
 // The bytes of a line: a header, and a segment of text, or of one byte so many times.
-pub fn bytes_of(alloc: Global, parts: &[&str]) -> Result<Vec<u8>, Fail> {
+pub fn bytes_of(rt: &impl Abort, alloc: Global, parts: &[&str]) -> Vec<u8> {
     let mut stream = Vec::new(alloc);
     for part in parts {
-        stream.extend_from_slice(&pdus_of(alloc, part)?)?;
+        append_part(rt, alloc, part, &mut stream);
     }
-    Ok(stream)
+    stream
+}
+
+// Appends the PDUs of some lines.
+fn append_part(rt: &impl Abort, alloc: Global, part: &str, stream: &mut Vec<u8>) {
+    let pdus = pdus_of(alloc, part).expect(rt, part);
+    stream.extend_from_slice(&pdus).expect(rt, part);
 }
 
 /// Sessions: the requests, the answers, and how the filter ends.
-const SESSIONS: &[(&str, &[&str], &[&str], Result<(), ToolFault>)] = &[
+const SESSIONS: &[Row] = &[
     ("nothing", &[], &[], Ok(())),
     (
         "a login and a ping",
@@ -124,71 +129,93 @@ const SESSIONS: &[(&str, &[&str], &[&str], Result<(), ToolFault>)] = &[
     ),
 ];
 
-// What a target with eight blocks answers, and what it writes.
-fn answer(alloc: Global, hex: bool, input: &[u8]) -> (Result<(), ToolFault>, Vec<u8>) {
+// What a target with eight blocks answers. What it writes is appended.
+fn answer(alloc: Global, hex: bool, input: &[u8], out: &mut Vec<u8>) -> Result<(), ToolFault> {
     let work = Work::Answer(8);
     let mut source = input;
-    let mut out = Vec::new(alloc);
-    let result = run_filter(alloc, Filter { work, hex }, &mut source, &mut out);
-    (result, out)
+    run_filter(alloc, Filter { work, hex }, &mut source, out)
 }
 
 // The line of bytes in hex.
-pub fn line_of(alloc: Global, bytes: &[u8]) -> Result<Vec<u8>, Fail> {
-    let mut line = hex::encode(alloc, bytes)?.into_bytes();
-    line.push(b'\n')?;
-    Ok(line)
+pub fn line_of(rt: &impl Abort, alloc: Global, bytes: &[u8]) -> Vec<u8> {
+    let mut line = hex::encode(alloc, bytes).expect(rt, "digits").into_bytes();
+    line.push(b'\n').expect(rt, "a line end");
+    line
 }
 
-// A session as bytes, and as hex text, whose line stands also after a fault.
-fn check(
+// What comes of a stream, and what is written then.
+fn check_stream(
     rt: &impl Abort,
     alloc: Global,
     name: &str,
-    requests: &[&str],
-    answers: &[&str],
-    want: Result<(), ToolFault>,
-) -> Result<(), Fail> {
-    let stream = bytes_of(alloc, requests)?;
-    let due = bytes_of(alloc, answers)?;
-    let (result, out) = answer(alloc, false, &stream);
-    same(rt, &result, &want, &name);
-    same(rt, &out.as_slice(), &due.as_slice(), &name);
-    let text = hex::encode(alloc, &stream)?;
-    let (result, line) = answer(alloc, true, text.as_bytes());
-    same(rt, &result, &want, &name);
-    same(
-        rt,
-        &line.as_slice(),
-        &line_of(alloc, &due)?.as_slice(),
-        &name,
-    );
-    Ok(())
+    stream: &[u8],
+    due: &[u8],
+    want: &Result<(), ToolFault>,
+) {
+    let mut out = Vec::new(alloc);
+    let result = answer(alloc, false, stream, &mut out);
+    same(rt, &result, want, &name);
+    same(rt, &out.as_slice(), &due, &name);
+}
+
+// The same as hex text.
+fn check_text(
+    rt: &impl Abort,
+    alloc: Global,
+    name: &str,
+    stream: &[u8],
+    due: &[u8],
+    want: &Result<(), ToolFault>,
+) {
+    let text = hex::encode(alloc, stream).expect(rt, "digits");
+    let mut line = Vec::new(alloc);
+    let result = answer(alloc, true, text.as_bytes(), &mut line);
+    same(rt, &result, want, &name);
+    same(rt, &line, &line_of(rt, alloc, due), &name);
+}
+
+type Row = (
+    &'static str,
+    &'static [&'static str],
+    &'static [&'static str],
+    Result<(), ToolFault>,
+);
+
+// A session as bytes, and as hex text, whose line stands also after a fault.
+fn check(rt: &impl Abort, alloc: Global, row: &Row) {
+    let (name, requests, answers, want) = row;
+    let stream = bytes_of(rt, alloc, requests);
+    let due = bytes_of(rt, alloc, answers);
+    check_stream(rt, alloc, name, &stream, &due, want);
+    check_text(rt, alloc, name, &stream, &due, want);
 }
 
 #[test]
-fn answers_to_streams(rt: HostRuntime) -> Result<(), Fail> {
-    for (name, requests, answers, want) in SESSIONS {
-        check(&rt, rt.alloc(), name, requests, answers, *want)?;
+fn answers_to_streams(rt: HostRuntime) {
+    for row in SESSIONS {
+        check(&rt, rt.alloc(), row);
     }
-    Ok(())
+}
+
+const ANSWER: Filter = Filter {
+    work: Work::Answer(8),
+    hex: false,
+};
+
+// What was read is answered before the read that fails.
+fn check_reader(rt: &impl Abort, alloc: Global, requests: &[u8], answers: &[u8]) {
+    let mut out = Vec::new(alloc);
+    let result = run_filter(alloc, ANSWER, &mut Broken(Some(requests)), &mut out);
+    same(rt, &result, &Err(ToolFault::Read), &"a reader");
+    same(rt, &out.as_slice(), &answers, &"a reader");
 }
 
 #[test]
-fn a_reader_and_a_writer_that_fail(rt: HostRuntime) -> Result<(), Fail> {
-    let filter = Filter {
-        work: Work::Answer(8),
-        hex: false,
-    };
-    let requests = bytes_of(rt.alloc(), &[LOGIN, PING])?;
-    let answers = bytes_of(rt.alloc(), &[LOGGED_IN, PONG])?;
-    // What was read is answered before the read that fails.
-    let mut out = Vec::new(rt.alloc());
-    let result = run_filter(rt.alloc(), filter, &mut Broken(Some(&requests)), &mut out);
-    same(&rt, &result, &Err(ToolFault::Read), &"a reader");
-    same(&rt, &out.as_slice(), &answers.as_slice(), &"a reader");
+fn a_reader_and_a_writer_that_fail(rt: HostRuntime) {
+    let requests = bytes_of(&rt, rt.alloc(), &[LOGIN, PING]);
+    let answers = bytes_of(&rt, rt.alloc(), &[LOGGED_IN, PONG]);
+    check_reader(&rt, rt.alloc(), &requests, &answers);
     let mut source = requests.as_slice();
-    let result = run_filter(rt.alloc(), filter, &mut source, &mut Full);
+    let result = run_filter(rt.alloc(), ANSWER, &mut source, &mut Full);
     same(&rt, &result, &Err(ToolFault::Write), &"a writer");
-    Ok(())
 }

@@ -9,7 +9,6 @@ use std::alloc::Global;
 use std::io;
 use std::io::Write;
 use std::process::Abort;
-use std::test::Fail;
 
 const ANSWER: Filter = Filter {
     work: Work::Answer(8),
@@ -39,26 +38,20 @@ impl Write for Narrow {
 }
 
 // The hex text of a login and a ping.
-fn requests(alloc: Global) -> Result<String, Fail> {
-    let stream = bytes_of(alloc, &[LOGIN, PING])?;
-    Ok(hex::encode(alloc, &stream)?)
+fn requests(rt: &impl Abort, alloc: Global) -> String {
+    let stream = bytes_of(rt, alloc, &[LOGIN, PING]);
+    hex::encode(alloc, &stream).expect(rt, "digits")
 }
 
 // The line of their answers.
-fn answers(alloc: Global) -> Result<Vec<u8>, Fail> {
-    let stream = bytes_of(alloc, &[LOGGED_IN, PONG])?;
-    line_of(alloc, &stream)
+fn answers(rt: &impl Abort, alloc: Global) -> Vec<u8> {
+    let stream = bytes_of(rt, alloc, &[LOGGED_IN, PONG]);
+    line_of(rt, alloc, &stream)
 }
 
 // A writer that takes a byte at a time has the first digits of what is due, as many as it has room
 // for, and all of it where it has room.
-fn check_narrow(
-    rt: &impl Abort,
-    alloc: Global,
-    text: &str,
-    due: &[u8],
-    room: usize,
-) -> Result<(), Fail> {
+fn check_narrow(rt: &impl Abort, alloc: Global, text: &str, due: &[u8], room: usize) {
     let mut source = text.as_bytes();
     let mut out = Narrow {
         taken: Vec::new(alloc),
@@ -74,18 +67,22 @@ fn check_narrow(
     same(rt, &result, &want, &room);
     let front = due.get(..room).unwrap_or(due);
     same(rt, &out.taken.as_slice(), &front, &room);
-    Ok(())
 }
 
+// Room between two digits of a byte, between two bytes, and in the second answer.
+const ROOMS: &[usize] = &[0, 1, 2, 3, 192, 193];
+
 #[test]
-fn a_writer_that_takes_one_byte(rt: HostRuntime) -> Result<(), Fail> {
-    let text = requests(rt.alloc())?;
-    let due = answers(rt.alloc())?;
-    // Between two digits of a byte, between two bytes, in the second answer, before the line end.
-    for room in [0, 1, 2, 3, 192, 193, due.len().saturating_sub(1), due.len()] {
-        check_narrow(&rt, rt.alloc(), text.as_str(), &due, room)?;
+fn a_writer_that_takes_one_byte(rt: HostRuntime) {
+    let text = requests(&rt, rt.alloc());
+    let due = answers(&rt, rt.alloc());
+    for room in ROOMS {
+        check_narrow(&rt, rt.alloc(), text.as_str(), &due, *room);
     }
-    Ok(())
+    // Before the line end, and for all.
+    let short = due.len().saturating_sub(1);
+    check_narrow(&rt, rt.alloc(), text.as_str(), &due, short);
+    check_narrow(&rt, rt.alloc(), text.as_str(), &due, due.len());
 }
 
 // The hex text of a login without the initiator's name, and the line of its refusal.

@@ -4,8 +4,9 @@ use crate::asserts::same;
 use iscsi_tool::{Image, ImageFault, Origin};
 use scsi_disk::BlockStore;
 use scsi_file::OpenFault;
+use std::alloc::Global;
 use std::fs;
-use std::test::Fail;
+use std::process::Abort;
 
 /// The image of these rows.
 const PATH: &str = "image.img";
@@ -19,20 +20,15 @@ const ASKED: &[(Option<u64>, Result<u64, ImageFault>)] = &[
 ];
 
 #[test]
-fn images_have_what_is_asked_for(rt: HostRuntime) -> Result<(), Fail> {
+fn images_have_what_is_asked_for(rt: HostRuntime) {
     let _ = fs::remove_file(&rt, PATH);
     same(&rt, &made(&rt), &Ok(8), &"made");
-    same(
-        &rt,
-        &made(&rt),
-        &Err(ImageFault::Open(OpenFault::Exists)),
-        &"made twice",
-    );
+    let exists = ImageFault::Open(OpenFault::Exists);
+    same(&rt, &made(&rt), &Err(exists), &"made twice");
     for (blocks, due) in ASKED {
         same(&rt, &found(&rt, *blocks), due, blocks);
     }
     let _ = fs::remove_file(&rt, PATH);
-    Ok(())
 }
 
 // How many blocks an image of eight has that is made, or why it isn't.
@@ -68,12 +64,15 @@ const LINES: &[(ImageFault, &str)] = &[
     (ImageFault::Size { has: 8, asked: 9 }, "has 8 blocks, not 9"),
 ];
 
+fn check_line(rt: &impl Abort, alloc: Global, fault: &ImageFault, line: &str) {
+    let said = format!(in alloc; "{fault}").expect(rt, line);
+    same(rt, &said.as_str(), &line, fault);
+    same(rt, &fault.status(), &4, fault);
+}
+
 #[test]
-fn lines_and_statuses_of_images(rt: HostRuntime) -> Result<(), Fail> {
+fn lines_and_statuses_of_images(rt: HostRuntime) {
     for (fault, line) in LINES {
-        let said = format!(in rt.alloc(); "{fault}")?;
-        same(&rt, &said.as_str(), line, fault);
-        same(&rt, &fault.status(), &4, fault);
+        check_line(&rt, rt.alloc(), fault, line);
     }
-    Ok(())
 }

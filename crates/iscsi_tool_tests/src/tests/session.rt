@@ -3,8 +3,9 @@
 
 use super::{NORMALISE_HEX, SHOW_HEX, run};
 use crate::asserts::same;
-use std::alloc::{AllocError, Global};
-use std::test::Fail;
+use iscsi_examples::segment_of;
+use std::alloc::Global;
+use std::process::Abort;
 
 // What the initiator sent, as hex text.
 const INITIATOR: &[u8] = b"\
@@ -96,64 +97,83 @@ fn names_each(lines: &str, rows: &[(&str, &str, &str)]) -> bool {
     lines.next().is_none()
 }
 
-#[test]
-fn show_names_each_pdu_of_a_session(rt: HostRuntime) {
-    let alloc = rt.alloc();
-    let sides = [
-        ("initiator", INITIATOR, INITIATOR_PDUS.as_slice()),
-        ("target", TARGET, TARGET_PDUS.as_slice()),
-    ];
-    for (name, text, rows) in sides {
-        let (result, out) = run(alloc, SHOW_HEX, text);
-        same(&rt, &result, &Ok(()), &name);
-        let lines = str::from_utf8(&out).unwrap_or("");
-        same(&rt, &names_each(lines, rows), &true, &name);
-    }
+fn check_lines(
+    rt: &impl Abort,
+    alloc: Global,
+    name: &str,
+    text: &[u8],
+    rows: &[(&str, &str, &str)],
+) {
+    let mut out = Vec::new(alloc);
+    let result = run(alloc, SHOW_HEX, text, &mut out);
+    same(rt, &result, &Ok(()), &name);
+    let lines = str::from_utf8(&out).unwrap_or("");
+    same(rt, &names_each(lines, rows), &true, &name);
 }
 
-// Its login texts, with the keys in the order of their bytes; `|` stands for a byte 00.
-const INITIATOR_KEYS: &str = "DataDigest=None|DataPDUInOrder=Yes|DataSequenceInOrder=Yes|\
+#[test]
+fn show_names_each_pdu_of_a_session(rt: HostRuntime) {
+    check_lines(&rt, rt.alloc(), "initiator", INITIATOR, &INITIATOR_PDUS);
+    check_lines(&rt, rt.alloc(), "target", TARGET, &TARGET_PDUS);
+}
+
+// Its login texts behind an apostrophe, with the keys in the order of their bytes; `|` stands for a byte 00.
+const INITIATOR_KEYS: &str = "'DataDigest=None|DataPDUInOrder=Yes|DataSequenceInOrder=Yes|\
     DefaultTime2Retain=0|DefaultTime2Wait=2|ErrorRecoveryLevel=0|FirstBurstLength=262144|\
     HeaderDigest=None,CRC32C|IFMarker=No|ImmediateData=Yes|InitialR2T=No|\
     InitiatorName=iqn.2001-04.com.example:init|MaxBurstLength=262144|MaxConnections=1|\
     MaxOutstandingR2T=1|MaxRecvDataSegmentLength=262144|OFMarker=No|SessionType=Normal|\
     TargetName=iqn.2001-04.com.example:disk|";
 
-const TARGET_KEYS: &str = "DataDigest=None|DataPDUInOrder=Yes|DataSequenceInOrder=Yes|\
+const TARGET_KEYS: &str = "'DataDigest=None|DataPDUInOrder=Yes|DataSequenceInOrder=Yes|\
     DefaultTime2Retain=0|DefaultTime2Wait=2|ErrorRecoveryLevel=0|FirstBurstLength=65536|\
     HeaderDigest=None|IFMarker=No|ImmediateData=Yes|InitialR2T=Yes|MaxBurstLength=262144|\
     MaxConnections=1|MaxOutstandingR2T=1|OFMarker=No|TargetPortalGroupTag=1|";
 
-// The digits of a text, as hex.
-fn login_digits(alloc: Global, keys: &str) -> Result<String, AllocError> {
-    let mut text = Vec::new(alloc);
-    for byte in keys.bytes() {
-        text.push(if byte == b'|' { 0 } else { byte })?;
-    }
-    hex::encode(alloc, &text)
+// Appends the digits of a text, as hex.
+fn append_digits(rt: &impl Abort, alloc: Global, keys: &str, due: &mut Vec<u8>) {
+    let text = segment_of(alloc, keys).expect(rt, "a text");
+    let digits = hex::encode(alloc, &text).expect(rt, "digits");
+    due.extend_from_slice(digits.as_bytes())
+        .expect(rt, "digits");
+}
+
+// The digits of lines of hex text.
+fn digits_of(rt: &impl Abort, alloc: Global, text: &[u8]) -> Vec<u8> {
+    let digits = text.iter().copied().filter(|b| *b != b'\n').collect(alloc);
+    digits.expect(rt, "digits")
 }
 
 // The canonical stream as hex text: each bit that is free is 0 already, and each pad byte, so that only the
 // keys of the login text, behind its header, are in another order.
-fn canonical_of(alloc: Global, text: &[u8], keys: &str) -> Result<Vec<u8>, Fail> {
-    let digits: Vec<u8> = text.iter().copied().filter(|b| *b != b'\n').collect(alloc)?;
-    let login = login_digits(alloc, keys)?;
-    let mut due = Vec::from_slice(alloc, digits.get(..96).ok_or("no header")?)?;
-    due.extend_from_slice(login.as_bytes())?;
-    due.extend_from_slice(digits.get(due.len()..).ok_or("no padding")?)?;
-    due.push(b'\n')?;
-    Ok(due)
+fn canonical_of(rt: &impl Abort, alloc: Global, text: &[u8], keys: &str) -> Vec<u8> {
+    let digits = digits_of(rt, alloc, text);
+    let header = digits.get(..96).expect(rt, "no header");
+    let mut due = Vec::from_slice(alloc, header).expect(rt, "a header");
+    append_digits(rt, alloc, keys, &mut due);
+    let rest = digits.get(due.len()..).expect(rt, "no padding");
+    due.extend_from_slice(rest).expect(rt, "the rest");
+    due.push(b'\n').expect(rt, "a line end");
+    due
+}
+
+// A stream as hex text has this canonical one.
+fn check_canonical(rt: &impl Abort, alloc: Global, text: &[u8], due: &[u8], keys: &str) {
+    let mut out = Vec::new(alloc);
+    let result = run(alloc, NORMALISE_HEX, text, &mut out);
+    same(rt, &result, &Ok(()), &keys);
+    same(rt, &out.as_slice(), &due, &keys);
+}
+
+// The canonical stream, also of the canonical stream.
+fn check_twice(rt: &impl Abort, alloc: Global, text: &[u8], keys: &str) {
+    let due = canonical_of(rt, alloc, text, keys);
+    check_canonical(rt, alloc, text, &due, keys);
+    check_canonical(rt, alloc, &due, &due, keys);
 }
 
 #[test]
-fn canonical_streams_of_a_session(rt: HostRuntime) -> Result<(), Fail> {
-    for (text, keys) in [(INITIATOR, INITIATOR_KEYS), (TARGET, TARGET_KEYS)] {
-        let due = canonical_of(rt.alloc(), text, keys)?;
-        let (result, once) = run(rt.alloc(), NORMALISE_HEX, text);
-        same(&rt, &result, &Ok(()), &keys);
-        same(&rt, &once.as_slice(), &due.as_slice(), &keys);
-        let (_, twice) = run(rt.alloc(), NORMALISE_HEX, &once);
-        same(&rt, &twice.as_slice(), &due.as_slice(), &keys);
-    }
-    Ok(())
+fn canonical_streams_of_a_session(rt: HostRuntime) {
+    check_twice(&rt, rt.alloc(), INITIATOR, INITIATOR_KEYS);
+    check_twice(&rt, rt.alloc(), TARGET, TARGET_KEYS);
 }

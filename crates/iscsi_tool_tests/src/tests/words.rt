@@ -4,7 +4,7 @@
 use crate::asserts::same;
 use iscsi_tool::{LineFault, read_words};
 use std::alloc::{AllocError, Global};
-use std::test::Fail;
+use std::process::Abort;
 
 /// Words, parted by one blank each, and the job that they ask for.
 const JOBS: &[(&str, &str)] = &[
@@ -316,38 +316,44 @@ fn words_of<'a>(alloc: Global, line: &'a str) -> Result<Vec<&'a str>, AllocError
 }
 
 // What the words of a line come to: the job, or the text that says why they are none.
-fn said_of(alloc: Global, line: &str) -> Result<String, Fail> {
-    match read_words(alloc, words_of(alloc, line)?.as_slice()) {
-        Ok(job) => Ok(format!(in alloc; "{job:?}")?),
-        Err(LineFault::Usage(text)) => Ok(text),
-        Err(LineFault::NoMemory) => Err(Fail::from("memory")),
+fn said_of(rt: &impl Abort, alloc: Global, line: &str) -> String {
+    let words = words_of(alloc, line).expect(rt, line);
+    match read_words(alloc, words.as_slice()) {
+        Ok(job) => format!(in alloc; "{job:?}").expect(rt, line),
+        Err(LineFault::Usage(text)) => text,
+        Err(LineFault::NoMemory) => panic!(rt; "memory"),
     }
 }
 
+fn check_job(rt: &impl Abort, alloc: Global, line: &str, job: &str) {
+    let said = said_of(rt, alloc, line);
+    same(rt, &said.as_str(), &job, &line);
+}
+
 #[test]
-fn words_that_are_a_job(rt: HostRuntime) -> Result<(), Fail> {
+fn words_that_are_a_job(rt: HostRuntime) {
     for (line, job) in JOBS {
-        let said = said_of(rt.alloc(), line)?;
-        same(&rt, &said.as_str(), job, line);
+        check_job(&rt, rt.alloc(), line, job);
     }
-    Ok(())
+}
+
+fn check_refused(rt: &impl Abort, alloc: Global, line: &str, text: &str) {
+    let said = said_of(rt, alloc, line);
+    let is_whole = said.starts_with(text) && said.ends_with("\n");
+    same(rt, &is_whole, &true, &(line, said.as_str()));
 }
 
 #[test]
-fn words_that_are_no_job(rt: HostRuntime) -> Result<(), Fail> {
+fn words_that_are_no_job(rt: HostRuntime) {
     for (line, text) in REFUSED {
-        let said = said_of(rt.alloc(), line)?;
-        let is_whole = said.starts_with(*text) && said.ends_with("\n");
-        same(&rt, &is_whole, &true, &(line, said.as_str()));
+        check_refused(&rt, rt.alloc(), line, text);
     }
-    Ok(())
 }
 
 #[test]
-fn help_names_the_jobs(rt: HostRuntime) -> Result<(), Fail> {
-    let said = said_of(rt.alloc(), "--help")?;
+fn help_names_the_jobs(rt: HostRuntime) {
+    let said = said_of(&rt, rt.alloc(), "--help");
     for text in HELP {
         same(&rt, &said.contains(*text), &true, text);
     }
-    Ok(())
 }
