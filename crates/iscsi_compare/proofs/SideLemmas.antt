@@ -153,7 +153,7 @@ splits_read read ms v rest k given behind r s =
 place_given : (read : List ℕ) (ms : List Message) (v : Framing) (rest : List ℕ) (k : ℕ) (given behind : List ℕ) (place : ℕ) → ReadTo read ms v rest k →
     Splits longest_segment read ms given behind → place ≡ min (length given) last_place
     → place ≡ length given
-place_given read ms v rest k given behind place r s is = omega (arith, is, ap length s.whole, length-append given behind, r.small, r.counted)
+place_given read ms v rest k given behind place r s is = omega (arith, is, ap length s.reaches.whole, length-append given behind, r.small, r.counted)
 
 pub feed_fails : (e : StreamFault) (which : Which) (read : List ℕ) (ms : List Message) (v : Framing) (rest : List ℕ) (k : ℕ) (left : Option (List ℕ)) →
     ReadTo read ms v rest k → FeedFails v rest e
@@ -167,7 +167,7 @@ feed_fails (stream.OverLimit place) which read ms v rest k left r fails =
     let x = limit_splits r.front rest ms place v r.taken fails in
     let s = splits_read read ms v rest k x.0 x.1 r x.2 in
     let over = x.4 in
-    let bytes : AreBytes x.1 = AreBytes-back x.0 x.1 (subst AreBytes s.whole r.bytes) in
+    let bytes : AreBytes x.1 = AreBytes-back x.0 x.1 (subst AreBytes s.reaches.whole r.bytes) in
     absurd (omega (arith, IsHeader-short (take 48 x.1) over.0 over.1 (AreBytes-take 48 x.1 bytes) over.2, over.3, r.limit))
 feed_fails (stream.Truncated place) which read ms v rest k left r fails = absurd fails
 feed_fails stream.Failed which read ms v rest k left r fails = absurd (apart fails r.taken.live)

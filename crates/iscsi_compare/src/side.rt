@@ -1,8 +1,7 @@
 //! One of two streams that are read in step.
 
-ghost use Rattle.std.specs.Prelude.{◌≡◌, ◌≤◌, ◌<◌, ◌-◌, ◌++◌, ◌∷◌, ℕ, List, [], length, take, drop, true, false, Option, Ok, None, IfOk, IfErr, IfSome, OnOk, OnErr};
-ghost use Rattle.std.specs.Io.KnownBytes.{Consumes, Keeps, IsAtEnd};
-ghost use Rattle.iscsi_pdu.specs.Meaning.{AreBytes, Means};
+ghost use Rattle.std.specs.Prelude.{◌≡◌, ◌≤◌, ◌<◌, ◌-◌, ◌++◌, ◌∷◌, ℕ, List, [], length, take, drop, true, false, Option, Ok, IfOk, IfErr, OnOk, OnErr};
+ghost use Rattle.iscsi_pdu.specs.Meaning.{Means};
 ghost use Rattle.iscsi_pdu.specs.declared.head.Head.{Head};
 ghost use Rattle.iscsi_stream.specs.Stream.{Message};
 ghost use Rattle.iscsi_stream.specs.Framing.{is_ready, message_of, stopped, Takes, FeedFails};
@@ -11,7 +10,7 @@ ghost use Rattle.iscsi_compare.specs.Comparing.{input_of};
 ghost use Rattle.iscsi_compare.specs.Inside.{compare_fault, fuel, IsOpen, HasRead, ReadsOn, Stands, SideFails, FormIf};
 
 use crate::fault::{CompareFault, Which};
-use iscsi_stream::{Framer, PIECE, READS, StreamFault, canonical, show_line};
+use iscsi_stream::{Framer, PIECE, Reads, StreamFault, canonical, show_line};
 use itoa::Buffer;
 use std::alloc::{AllocError, Global};
 use std::io::Read;
@@ -20,7 +19,7 @@ use std::io::Read;
 const LONGEST_SEGMENT: u32 = 16_777_215;
 
 /// A stream that is read PDU by PDU: its framer, the piece that was read last, of which the framer
-/// has not taken the bytes from `from` to `to`, and how many reads there were.
+/// has not taken the bytes from `from` to `to`, and its reads.
 #[derive(Drop)]
 pub(crate) struct Side {
     pub(crate) which: Which,
@@ -28,7 +27,7 @@ pub(crate) struct Side {
     pub(crate) piece: [u8; PIECE],
     pub(crate) from: usize,
     pub(crate) to: usize,
-    pub(crate) reads: u32,
+    pub(crate) reads: Reads,
 }
 
 impl Side {
@@ -44,7 +43,7 @@ impl Side {
             piece: [0; PIECE],
             from: 0,
             to: 0,
-            reads: 0,
+            reads: Reads::new(),
         }
     }
 
@@ -178,38 +177,18 @@ impl Side {
         ensures err { IfErr result (λ fault. ReadsOn self.old
             (R.remaining r.old) (R.remaining r.new) (SideFails fault self.old.which)) }
     {
-        if self.reads == READS {
-            return Err(CompareFault::Read(self.which));
-        }
-        let Some(count) = read_piece(r, &mut self.piece) else {
-            return Err(CompareFault::Read(self.which));
-        };
-        if count == 0 {
-            return match self.framer.finish() {
+        match self.reads.next(r, &mut self.piece) {
+            Ok(Some(count)) => {
+                self.from = 0;
+                self.to = count;
+                Ok(true)
+            }
+            Ok(None) => match self.framer.finish() {
                 Ok(()) => Ok(false),
                 Err(fault) => Err(compare_fault(self.which, fault)),
-            };
+            },
+            Err(_) => Err(CompareFault::Read(self.which)),
         }
-        self.reads += 1;
-        self.from = 0;
-        self.to = count;
-        Ok(true)
-    }
-}
-
-// Reads a piece, and says how many bytes it has: none at the end of the stream.
-fn read_piece<R: Read>(r: &mut R, piece: &mut [u8]) -> Option<usize>
-    requires some { 0 < length piece.old }
-    ensures bytes { AreBytes piece.new }
-    ensures length { length piece.new ≡ length piece.old }
-    ensures some { IfSome result (λ count. (count ≤ length piece.new)
-        × Consumes (R.remaining r.old) (R.remaining r.new) (take count piece.new)
-        × (count ≡ 0 → IsAtEnd (R.remaining r.new))) }
-    ensures none { result ≡ None → Keeps (R.remaining r.old) (R.remaining r.new) }
-{
-    match r.read(piece) {
-        Ok(count) => Some(count),
-        Err(_) => None,
     }
 }
 

@@ -15,7 +15,7 @@ ghost use Rattle.iscsi_service.specs.Session.{target_settings, Comes, EndsBy, En
 ghost use Rattle.iscsi_service.specs.SessionSteps.{Goes, ClosesBy, Breaks, HoldsBack, LeftLast, Syncs, service};
 
 use iscsi_login::{Phase, Preferences};
-use iscsi_stream::{PIECE, READS, write_fully};
+use iscsi_stream::{PIECE, ReadFault, Reads, write_fully};
 use iscsi_target::{Config, Target, TargetFault};
 use scsi_disk::BlockStore;
 use std::alloc::{AllocError, Global};
@@ -58,6 +58,17 @@ pub enum SessionFault {
     /// A write failed, or took no byte.
     #[error("write failed")]
     Write,
+}
+
+impl From<ReadFault> for SessionFault {
+    ghost use Rattle.std.specs.Prelude.{◌≡◌};
+    ghost use Rattle.iscsi_service.specs.declared.session.SessionFault.TheVariants as faults;
+
+    ghost from_gives = { λ _ e. e ≡ faults.Read };
+
+    fn from(_fault: ReadFault) -> SessionFault {
+        SessionFault::Read
+    }
 }
 
 /// Runs the session of a target with a store over a stream: takes what a reader returns, in reads
@@ -156,22 +167,16 @@ pub(crate) fn serve_reads<S: BlockStore, R: Read, W: Write>(
 {
     let mut target = Target::new(alloc, config, FIRST_STAT_SN);
     let mut out = Vec::new(alloc);
-    for _ in 0..READS {
-        let n = match r.read(buffer) {
-            Ok(n) => n,
-            Err(_) => return Err(SessionFault::Read),
-        };
-        if n == 0 {
-            if let Err(fault) = target.finish() {
-                return Err(SessionFault::Target(fault));
-            }
-            return Ok(());
-        }
+    let mut reads = Reads::new();
+    while let Some(n) = reads.next(r, buffer)? {
         if serve_piece(&mut target, &buffer[..n], store, &mut out, w)? {
             return Ok(());
         }
     }
-    Err(SessionFault::Read)
+    match target.finish() {
+        Ok(()) => Ok(()),
+        Err(fault) => Err(SessionFault::Target(fault)),
+    }
 }
 
 // Answers the PDUs of a piece, and writes their answers. Says whether the session is over.

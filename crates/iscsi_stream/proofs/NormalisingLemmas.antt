@@ -69,17 +69,6 @@ splits_at : (v : Framing) (s : List ℕ) (ms : List Message) (t : HasTaken s ms 
     Splits longest_segment s ms t.given t.rest
 splits_at v s ms t limit unready = subst (λ (n : ℕ). Splits n s ms t.given t.rest) limit (splits_taken s ms v t (unready_of v.failed v.held t.live unready))
 
-pub reads_stop : (form : Form) (v : Framing) (k : Counts) (i : ℕ) (r0 r1 w0 w1 : Option (List ℕ)) → WrittenUpTo form v k i (sides r0 w0) (sides r1 w1) →
-    Answered r0 r1 w0 w1 (WritesUntil (IsDue form) tool.Read)
-reads_stop form v k i r0 r1 w0 w1 up = (
-  up.read,
-  up.out,
-  up.bytes,
-  up.consumed,
-  up.written,
-  (up.ms, up.taken.given, up.taken.rest, record { splits = splits_at v up.read up.ms up.taken up.limit up.unready; due = up.due }),
-)
-
 pub read_stops : (form : Form) (v : Framing) (k : Counts) (i : ℕ) (r0 r1 r2 w0 w1 : Option (List ℕ))
     → WrittenUpTo form v k i (sides r0 w0) (sides r1 w1) → Keeps r1 r2 →
     Answered r0 r2 w0 w1 (WritesUntil (IsDue form) tool.Read)
@@ -89,7 +78,7 @@ read_stops form v k i r0 r1 r2 w0 w1 up kept = (
   up.bytes,
   Consumes-kept r0 r1 r2 up.read up.consumed kept,
   up.written,
-  (up.ms, up.taken.given, up.taken.rest, record { splits = splits_at v up.read up.ms up.taken up.limit up.unready; due = up.due }),
+  (let s = splits_at v up.read up.ms up.taken up.limit up.unready in (up.ms, up.taken.given, up.taken.rest, s.reaches, (s.no_more, up.due))),
 )
 
 consumed_none : (r0 r1 r2 : Option (List ℕ)) (read : List ℕ) → Consumes r0 r1 read → Consumes r1 r2 [] → Consumes r0 r2 read
@@ -102,6 +91,7 @@ finish_stops (stream.Head f p) form v k i r0 r1 r2 w0 w1 lt up read fails = absu
 finish_stops (stream.OverLimit p) form v k i r0 r1 r2 w0 w1 lt up read fails = absurd fails
 finish_stops (stream.Truncated p) form v k i r0 r1 r2 w0 w1 lt up read fails =
     let t = up.taken in
+    let s = splits_at v up.read up.ms t up.limit up.unready in
     let some : 0 < length t.rest = omega (arith, fails.1, ap length t.held, length-settled t.rest) in
     let place : p ≡ length t.given = omega (arith, fails.3, t.place, ap length t.whole, length-append t.given t.rest, up.small) in (
       up.read,
@@ -113,10 +103,8 @@ finish_stops (stream.Truncated p) form v k i r0 r1 r2 w0 w1 lt up read fails =
         up.ms,
         t.given,
         t.rest,
-        (
-          record { splits = splits_at v up.read up.ms t up.limit up.unready; due = up.due },
-          (some, subst (λ (n : ℕ). IsBegun n t.rest) up.limit t.begun, place),
-        ),
+        s.reaches,
+        (s.no_more, up.due, (some, subst (λ (n : ℕ). IsBegun n t.rest) up.limit t.begun, place)),
       ),
     )
 finish_stops stream.Failed form v k i r0 r1 r2 w0 w1 lt up read fails = absurd (apart fails up.taken.live)
@@ -178,7 +166,7 @@ pass_stops tool.NoMemory form v k i r0 r1 r2 w0 w1 w2 piece out lt le bytes up r
       AreBytes-append up.read piece up.bytes bytes,
       Consumes-trans r0 r1 r2 up.read piece up.consumed read,
       wrote_on w0 w1 w2 up.out part.out out up.written part.appended wrote,
-      (up.ms ++ part.more, r.0, r.1, record { reaches = r.2; due = due_append form up.ms part.more up.out part.out up.due part.due }),
+      (up.ms ++ part.more, r.0, r.1, r.2, due_append form up.ms part.more up.out part.out up.due part.due),
     )
 pass_stops (tool.Stream f) form v k i r0 r1 r2 w0 w1 w2 piece out lt le bytes up read part fails wrote =
     let all = AreBytes-append up.read piece up.bytes bytes in
@@ -193,13 +181,8 @@ pass_stops (tool.Stream f) form v k i r0 r1 r2 w0 w1 w2 piece out lt le bytes up
         up.ms ++ stop.more,
         r.0,
         r.1,
-        (
-          record {
-            splits = record { whole = r.2.whole; reads = r.2.reads; no_more = r.3 };
-            due = due_append form up.ms stop.more up.out stop.out up.due stop.due;
-          },
-          r.4,
-        ),
+        r.2,
+        (r.3, due_append form up.ms stop.more up.out stop.out up.due stop.due, r.4),
       ),
     )
 pass_stops tool.Read form v k i r0 r1 r2 w0 w1 w2 piece out lt le bytes up read part fails wrote = absurd fails
@@ -225,12 +208,13 @@ write_stops e form v k i r0 r1 r2 w0 w1 w2 piece out bytes up read part is front
         up.ms ++ part.more,
         r.0,
         r.1,
-        record {
-          reaches = r.2;
-          bytes = up.out ++ part.out;
-          due = due_append form up.ms part.more up.out part.out up.due part.due;
-          part = (length up.out + n, ap (λ (x : List ℕ). up.out ++ take n x) part.appended ∙ sym (take_past up.out part.out n));
-        },
+        r.2,
+        (
+          up.out ++ part.out,
+          length up.out + n,
+          due_append form up.ms part.more up.out part.out up.due part.due,
+          ap (λ (x : List ℕ). up.out ++ take n x) part.appended ∙ sym (take_past up.out part.out n),
+        ),
       ),
     )
 

@@ -205,8 +205,10 @@ pub splits_more : (limit : ℕ) (stream more : List ℕ) (ms : List Message) (gi
 splits_more limit stream more ms given rest f s long bad =
     let front : fault_of (take 48 (rest ++ more)) ≡ Some f = ap fault_of (take-append-le 48 rest more long) ∙ bad in (
       record {
-        whole = ap (λ (x : List ℕ). x ++ more) s.whole ∙ append_assoc given rest more;
-        reads = s.reads;
+        reaches = record {
+          whole = ap (λ (x : List ℕ). x ++ more) s.reaches.whole ∙ append_assoc given rest more;
+          reads = s.reaches.reads;
+        };
         no_more = no_pdu_bad limit (rest ++ more) f front;
       },
       omega (arith, length-append rest more),
@@ -313,9 +315,9 @@ canon-shorter limit logins s (m ∷ ms) bytes reads =
 -- a stream of the profile leaves no rest
 pub all_given : (stream given rest : List ℕ) (ms ns : List Message) → StreamMeans stream ns → Splits longest_segment stream ms given rest → rest ≡ []
 all_given stream given rest ms ns means s =
-    let same = (same_split longest_segment no_login stream ns [] given ms rest means (no_pdu_none longest_segment) s.reads s.no_more (append-nil stream
-    ∙ s.whole)).1 in
-    nil_from_length rest (omega (arith, ap length same, ap length s.whole, length-append given rest))
+    let same = (same_split longest_segment no_login stream ns [] given ms rest means (no_pdu_none longest_segment) s.reaches.reads s.no_more (append-nil stream
+    ∙ s.reaches.whole)).1 in
+    nil_from_length rest (omega (arith, ap length same, ap length s.reaches.whole, length-append given rest))
 
 -- as many messages as fit
 pub count-shorter : (limit : ℕ) (logins : Logins) (s : List ℕ) (ms : List Message) → ReadsAs limit logins s ms → length ms ≤ length s

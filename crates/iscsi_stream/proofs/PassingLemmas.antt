@@ -179,8 +179,10 @@ header_splits s p ms f place v t fails =
       t.given,
       t.rest ++ p,
       record {
-        whole = ap (λ (x : List ℕ). x ++ p) t.whole ∙ append_assoc t.given t.rest p;
-        reads = t.reads;
+        reaches = record {
+          whole = ap (λ (x : List ℕ). x ++ p) t.whole ∙ append_assoc t.given t.rest p;
+          reads = t.reads;
+        };
         no_more = no_pdu_bad v.limit (t.rest ++ p) f bad;
       },
       long_rest v p s ms t fails.1.reached,
@@ -199,8 +201,10 @@ limit_splits s p ms place v t fails =
       t.given,
       t.rest ++ p,
       record {
-        whole = ap (λ (x : List ℕ). x ++ p) t.whole ∙ append_assoc t.given t.rest p;
-        reads = t.reads;
+        reaches = record {
+          whole = ap (λ (x : List ℕ). x ++ p) t.whole ∙ append_assoc t.given t.rest p;
+          reads = t.reads;
+        };
         no_more = no_pdu_over v.limit (t.rest ++ p) over.0 over.1 r over.3;
       },
       long_rest v p s ms t over.2.reaches.reached,

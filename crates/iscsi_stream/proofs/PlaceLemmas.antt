@@ -55,9 +55,9 @@ ready_not stream ms v t given rest s some whole =
     let header : IsHeader (take 48 t.rest) good.0 (length segment) = subst (λ (k : ℕ). IsHeader (take 48 t.rest) good.0 k) (sym size) good.1.header in
     let means = means_of t.rest good.0 segment header (is.1 ∙ ap pdu_len (sym size)) (ap (λ (k : ℕ). take k (drop 48 t.rest)) size) in
     let reads = reads_one_more v.limit no_login t.given ms t.rest good.0 segment t.reads means (omega (arith, size, good.1.within)) in
-    let all = longest v.limit no_login given ms rest (t.given ++ t.rest) _ [] s.reads s.no_more reads (sym s.whole ∙ t.whole
+    let all = longest v.limit no_login given ms rest (t.given ++ t.rest) _ [] s.reaches.reads s.no_more reads (sym s.reaches.whole ∙ t.whole
     ∙ sym (append-nil (t.given ++ t.rest))) in
-    omega (arith, all, some, ap length t.whole, ap length s.whole, length-append given rest)
+    omega (arith, all, some, ap length t.whole, ap length s.reaches.whole, length-append given rest)
 
 false_unless : (b : Bool) → (b ≡ true → ⊥) → b ≡ false
 false_unless true f = absurd (f refl)
@@ -70,14 +70,14 @@ is_end stream ms place v t ends =
     let part : is_whole v.held ≡ false = ap is_whole t.held ∙ is_whole-settled t.rest
     ∙ false_unless (is_whole t.rest) (ready_not stream ms v t ends.0 ends.1 s ends.3) in
     let mine = splits_taken stream ms v t part in
-    let same : t.given ≡ ends.0 = (same_split v.limit no_login t.given ms t.rest ends.0 ms ends.1 t.reads mine.no_more s.reads s.no_more (sym t.whole
-    ∙ s.whole)).1 in
+    let same : t.given ≡ ends.0 = (same_split v.limit no_login t.given ms t.rest ends.0 ms ends.1 t.reads mine.no_more s.reaches.reads s.no_more (sym t.whole
+    ∙ s.reaches.whole)).1 in
     let some : 0 < length v.held = omega (
       arith,
       ends.3,
       ap length same,
       ap length t.whole,
-      ap length s.whole,
+      ap length s.reaches.whole,
       length-append t.given t.rest,
       length-append ends.0 ends.1,
       ap length t.held,

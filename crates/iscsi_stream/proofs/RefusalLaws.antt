@@ -69,8 +69,8 @@ meets : (stream piece given rest : List ℕ) (ms : List Message) (v : Framing) �
     ≤ length rest → NoHeader v.limit rest → MeetsHeader v piece rest
 meets stream piece given rest ms v t s long none =
     let whole : stream ++ piece ≡ t.given ++ (t.rest ++ piece) = ap (λ (x : List ℕ). x ++ piece) t.whole ∙ append_assoc t.given t.rest piece in
-    let same : given ≡ t.given = same_given v.limit no_login given ms rest t.given (t.rest ++ piece) s.reads t.reads (sym s.whole ∙ whole) in
-    let behind : rest ≡ t.rest ++ piece = sym (drop_at given rest (length given) refl) ∙ ap (drop (length given)) (sym s.whole ∙ whole)
+    let same : given ≡ t.given = same_given v.limit no_login given ms rest t.given (t.rest ++ piece) s.reaches.reads t.reads (sym s.reaches.whole ∙ whole) in
+    let behind : rest ≡ t.rest ++ piece = sym (drop_at given rest (length given) refl) ∙ ap (drop (length given)) (sym s.reaches.whole ∙ whole)
     ∙ drop_at t.given (t.rest ++ piece) (length given) (ap length (sym same)) in
     let short : length t.rest < 48 = (
     elim (cases_lt (length t.rest) 48) [

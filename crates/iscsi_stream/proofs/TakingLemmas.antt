@@ -157,8 +157,7 @@ moves_then a b c x y ms ns p q s ks t =
 -- where no PDU is ready, the bytes taken split where the framer says
 pub splits_taken : (s : List ℕ) (ms : List Message) (v : Framing) (t : HasTaken s ms v) → is_whole v.held ≡ false → Splits v.limit s ms t.given t.rest
 splits_taken s ms v t part = record {
-  whole = t.whole;
-  reads = t.reads;
+  reaches = record { whole = t.whole; reads = t.reads };
   no_more = no_pdu_begun v.limit t.rest t.begun (sym (is_whole-settled t.rest) ∙ ap is_whole (sym t.held) ∙ part);
 }
 

@@ -7,7 +7,7 @@ use Rattle.iscsi_stream.specs.declared.fault.StreamFault.TheVariants as stream
 use Rattle.iscsi_stream.specs.declared.fault.ToolFault.{ToolFault}
 use Rattle.iscsi_stream.specs.declared.fault.ToolFault.TheVariants as tool
 use Rattle.iscsi_stream.specs.declared.counts.Counts.{Counts}
-use Rattle.iscsi_stream.specs.Stream.{Message, StreamMeans, longest_segment, Reaches, Splits}
+use Rattle.iscsi_stream.specs.Stream.{Message, StreamMeans, longest_segment, NoPdu, Reaches}
 use Rattle.iscsi_stream.specs.Canonical.{canon}
 use Rattle.iscsi_stream.specs.Shown.{AreLines}
 use Rattle.iscsi_stream.specs.Framing.{IsBegun}
@@ -15,13 +15,11 @@ use Rattle.iscsi_stream.specs.Framing.{IsBegun}
 -- The rest begins with a header that is refused, or it is begun and not whole; the fault names its
 -- place. No segment is over the limit.
 abbrev pub RestFails : StreamFault → List ℕ → List ℕ → Type 0
-RestFails stream.NoMemory given rest = ⊥
 RestFails (stream.Head fault place) given rest = (48 ≤ length rest)
     × (fault_of (take 48 rest) ≡ Some fault) × (place ≡ length given)
-RestFails (stream.OverLimit place) given rest = ⊥
 RestFails (stream.Truncated place) given rest = (0 < length rest) × IsBegun longest_segment rest
     × (place ≡ length given)
-RestFails stream.Failed given rest = ⊥
+RestFails _ given rest = ⊥
 
 -- The counts are exact.
 pub record AreCounts (counts : Counts) (ms : List Message) (read written : List ℕ) : Type 0 where
@@ -29,44 +27,22 @@ pub record AreCounts (counts : Counts) (ms : List Message) (read written : List 
   pub bytes_in : counts.bytes_in ≡ length read
   pub bytes_out : counts.bytes_out ≡ length written
 
--- The PDUs of what was read are these, and what is due for them was written.
-pub record Wrote (Due : List Message → List ℕ → Type 0) (read : List ℕ) (ms : List Message)
-    (given rest written : List ℕ) : Type 0 where
-  pub splits : Splits longest_segment read ms given rest
-  pub due : Due ms written
+-- The first PDUs of what was read, and the bytes before and behind their end.
+abbrev pub Parts : List ℕ → (List Message → List ℕ → List ℕ → Type 0) → Type 0
+Parts read P = (ms : List Message) × (given : List ℕ) × (rest : List ℕ)
+    × Reaches longest_segment read ms given rest × P ms given rest
 
--- What is due for the first PDUs of what was read was written.
-pub record WroteSome (Due : List Message → List ℕ → Type 0) (read : List ℕ) (ms : List Message)
-    (given rest written : List ℕ) : Type 0 where
-  pub reaches : Reaches longest_segment read ms given rest
-  pub due : Due ms written
-
--- A part of what is due for the first PDUs of what was read was written.
-pub record WrotePart (Due : List Message → List ℕ → Type 0) (read : List ℕ) (ms : List Message)
-    (given rest written : List ℕ) : Type 0 where
-  pub reaches : Reaches longest_segment read ms given rest
-  pub bytes : List ℕ
-  pub due : Due ms bytes
-  pub part : (n : ℕ) × (written ≡ take n bytes)
-
--- some PDUs of what was read, and the bytes before and after their end
-abbrev pub Parts : (List Message → List ℕ → List ℕ → Type 0) → Type 0
-Parts P = (ms : List Message) × (given : List ℕ) × (rest : List ℕ) × P ms given rest
-
--- what was read and written where a fault is answered
+-- What was read and written where a fault is answered: what is due for the PDUs before it, for some
+-- first of them where memory ran out, and a part of that where a write failed.
 abbrev pub WritesUntil : (List Message → List ℕ → Type 0) → ToolFault → List ℕ → List ℕ → Type 0
-WritesUntil Due tool.NoMemory read written = Parts
-    (λ ms given rest. WroteSome Due read ms given rest written)
-WritesUntil Due (tool.Stream fault) read written =
-    Parts (λ ms given rest. Wrote Due read ms given rest written × RestFails fault given rest)
-WritesUntil Due tool.Read read written = Parts
-    (λ ms given rest. Wrote Due read ms given rest written)
-WritesUntil Due tool.Write read written = Parts
-    (λ ms given rest. WrotePart Due read ms given rest written)
-WritesUntil Due (tool.Text fault) read written = ⊥
-WritesUntil Due tool.TextTooLong read written = ⊥
-WritesUntil Due tool.NotHex read written = ⊥
-WritesUntil Due (tool.Protocol rule) read written = ⊥
+WritesUntil Due tool.NoMemory read written = Parts read (λ ms given rest. Due ms written)
+WritesUntil Due (tool.Stream fault) read written = Parts read
+    (λ ms given rest. NoPdu longest_segment rest × Due ms written × RestFails fault given rest)
+WritesUntil Due tool.Read read written = Parts read
+    (λ ms given rest. NoPdu longest_segment rest × Due ms written)
+WritesUntil Due tool.Write read written = Parts read
+    (λ ms given rest. (due : List ℕ) × (n : ℕ) × Due ms due × (written ≡ take n due))
+WritesUntil Due _ read written = ⊥
 
 -- What was read and written where a call answers that writes what is due for each PDU.
 abbrev pub Writes : (List Message → List ℕ → Type 0) → Result Counts ToolFault → List ℕ → List ℕ →
@@ -78,10 +54,6 @@ Writes Due (Err fault) read written = WritesUntil Due fault read written
 -- Normalising writes the canonical stream of the PDUs.
 abbrev pub IsCanonical : List Message → List ℕ → Type 0
 IsCanonical ms written = written ≡ canon ms
-
--- what normalise has read and written where it answers a fault
-abbrev pub NormaliseFails : ToolFault → List ℕ → List ℕ → Type 0
-NormaliseFails fault read written = WritesUntil IsCanonical fault read written
 
 -- What normalise has read and written where it answers.
 abbrev pub Normalises : Result Counts ToolFault → List ℕ → List ℕ → Type 0

@@ -64,6 +64,5 @@ pub record Reaches (limit : ℕ) (stream : List ℕ) (ms : List Message)
 -- within the limit.
 pub record Splits (limit : ℕ) (stream : List ℕ) (ms : List Message)
     (given rest : List ℕ) : Type 0 where
-  pub whole : stream ≡ given ++ rest
-  pub reads : ReadsAs limit no_login given ms
+  pub reaches : Reaches limit stream ms given rest
   pub no_more : NoPdu limit rest

@@ -37,6 +37,11 @@ impl From<AllocError> for StreamFault {
     }
 }
 
+/// A read failed, or there were 16,777,216 of them.
+#[derive(Clone, Copy, Debug, PartialEq, Eq, Error)]
+#[error("read failed")]
+pub struct ReadFault;
+
 /// Why a run over a stream stops.
 #[derive(Clone, Copy, Debug, PartialEq, Eq, Error)]
 pub enum ToolFault {
@@ -89,5 +94,16 @@ impl From<StreamFault> for ToolFault {
             StreamFault::NoMemory => ToolFault::NoMemory,
             _ => ToolFault::Stream(fault),
         }
+    }
+}
+
+impl From<ReadFault> for ToolFault {
+    ghost use Rattle.std.specs.Prelude.{◌≡◌};
+    ghost use Rattle.iscsi_stream.specs.declared.fault.ToolFault.TheVariants as tool;
+
+    ghost from_gives = { λ _ e. e ≡ tool.Read };
+
+    fn from(_fault: ReadFault) -> ToolFault {
+        ToolFault::Read
     }
 }

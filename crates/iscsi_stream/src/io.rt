@@ -1,18 +1,79 @@
-//! Readers that are read whole, up to a limit, and writers that take all of some bytes.
+//! Readers in pieces, or whole up to a limit, and writers that take all of some bytes.
 
-ghost use Rattle.std.specs.Prelude.{◌≡◌, ◌≤◌, ◌<◌, ◌^◌, ◌⊎◌, ℕ, List, drop, length, IfOk, IfErr, OnOk};
-ghost use Rattle.std.specs.Io.KnownBytes.{Appends, Consumes, IsAtEnd};
+ghost use Rattle.std.specs.Prelude.{◌≡◌, ◌≤◌, ◌<◌, ◌+◌, ◌^◌, ◌⊎◌, ℕ, List, [], drop, take, length, IfOk, IfErr, IfSome, IfNone, OnOk, OnErr};
+ghost use Rattle.std.specs.Io.KnownBytes.{Appends, Consumes, Keeps, IsAtEnd};
+ghost use Rattle.iscsi_pdu.specs.Meaning.{AreBytes};
 ghost use Rattle.iscsi_stream.specs.Normalising.{WroteFront};
 ghost use Rattle.iscsi_stream.specs.declared.fault.ToolFault.TheVariants as tool;
 
-use crate::fault::ToolFault;
+use crate::fault::{ReadFault, ToolFault};
 use std::alloc::Global;
 use std::io::{Read, Write};
+use std::marker::Model;
 
 /// How many reads a reader is asked for; after these it counts as failed.
-pub const READS: u32 = 16_777_216;
+const READS: u32 = 16_777_216;
 /// How many bytes a read takes at most.
 pub const PIECE: usize = 4096;
+
+/// The reads of a stream, which is read in pieces: how many there were.
+#[derive(Drop)]
+pub struct Reads {
+    done: u32,
+}
+
+impl Model for Reads {
+    ghost use Rattle.std.specs.Prelude.{ℕ, ◌≤◌};
+
+    ghost Value = { ℕ };
+
+    ghost view = { λ reads. reads.done };
+
+    ghost invariant = { λ reads. reads.done ≤ 16777216 };
+}
+
+impl Reads {
+    /// Nothing was read yet.
+    pub fn new() -> Reads
+        ensures { result ≡ 0 }
+    {
+        Reads { done: 0 }
+    }
+
+    /// Reads the next piece into a buffer, and says how many bytes it has; `None` where the stream
+    /// has ended.
+    ///
+    /// Returns `ReadFault` where the read fails, or 16,777,216 of them did not reach the end.
+    pub fn next<R: Read>(
+        &mut self,
+        r: &mut R,
+        buffer: &mut [u8],
+    ) -> Result<Option<usize>, ReadFault>
+        requires some { 0 < length buffer.old }
+        ensures left { OnOk result (self.old < 16777216) }
+        ensures bytes { AreBytes buffer.new }
+        ensures length { length buffer.new ≡ length buffer.old }
+        ensures piece { IfOk result (λ piece. IfSome piece (λ n. (0 < n) × (n ≤ length buffer.new)
+            × Consumes (R.remaining r.old) (R.remaining r.new) (take n buffer.new)
+            × (self.new ≡ self.old + 1))) }
+        ensures end { IfOk result (λ piece. IfNone piece (IsAtEnd (R.remaining r.new)
+            × Consumes (R.remaining r.old) (R.remaining r.new) [] × (self.new ≡ self.old))) }
+        ensures err { OnErr result (Keeps (R.remaining r.old) (R.remaining r.new)
+            × (self.new ≡ self.old)) }
+    {
+        if self.done == READS {
+            return Err(ReadFault);
+        }
+        match r.read(buffer) {
+            Ok(0) => Ok(None),
+            Ok(n) => {
+                self.done += 1;
+                Ok(Some(n))
+            }
+            Err(_) => Err(ReadFault),
+        }
+    }
+}
 
 /// Reads to the end, or until there are more bytes than the limit, and gives all that was read.
 ///
@@ -27,20 +88,14 @@ pub fn read_within<R: Read>(alloc: Global, r: &mut R, limit: usize) -> Result<Ve
 {
     let mut bytes = Vec::new(alloc);
     let mut buffer = [0u8; PIECE];
-    for _ in 0..READS {
-        let n = match r.read(&mut buffer) {
-            Ok(n) => n,
-            Err(_) => return Err(ToolFault::Read),
-        };
-        if n == 0 {
-            return Ok(bytes);
-        }
+    let mut reads = Reads::new();
+    while let Some(n) = reads.next(r, &mut buffer)? {
         bytes.extend_from_slice(&buffer[..n])?;
         if bytes.len() > limit {
             return Ok(bytes);
         }
     }
-    Err(ToolFault::Read)
+    Ok(bytes)
 }
 
 /// Drops the first bytes of a buffer.

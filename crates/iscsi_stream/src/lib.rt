@@ -16,9 +16,9 @@ mod texts;
 
 pub use canonical_form::{canonical, canonical_head, text_of, write_pdu};
 pub use counts::Counts;
-pub use fault::{StreamFault, ToolFault};
+pub use fault::{ReadFault, StreamFault, ToolFault};
 pub use framer::Framer;
-pub use io::{PIECE, READS, drop_front, read_within, write_fully};
+pub use io::{PIECE, Reads, drop_front, read_within, write_fully};
 pub use lines::show_line;
 pub use logins::Logins;
 pub use normalising::{normalise, show};

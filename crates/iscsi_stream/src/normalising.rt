@@ -13,7 +13,7 @@ use crate::canonical_form::canonical;
 use crate::counts::Counts;
 use crate::fault::ToolFault;
 use crate::framer::Framer;
-use crate::io::{PIECE, READS, write_fully};
+use crate::io::{PIECE, Reads, write_fully};
 use crate::lines::show_line;
 use iscsi_pdu::Pdu;
 use std::alloc::{AllocError, Global};
@@ -83,22 +83,16 @@ fn write_stream<R: Read, W: Write>(
     let mut out = Vec::new(alloc);
     let mut counts = Counts::new();
     let mut buffer = [0u8; PIECE];
-    for _ in 0..READS {
-        let n = match r.read(&mut buffer) {
-            Ok(n) => n,
-            Err(_) => return Err(ToolFault::Read),
-        };
-        if n == 0 {
-            framer.finish()?;
-            return Ok(counts);
-        }
+    let mut reads = Reads::new();
+    while let Some(n) = reads.next(r, &mut buffer)? {
         counts.bytes_in = counts.bytes_in.saturating_add(n as u64);
         out.clear();
         let passed = pass_on(form, &mut framer, &buffer[..n], &mut out, &mut counts);
         write_fully(w, &out)?;
         passed?;
     }
-    Err(ToolFault::Read)
+    framer.finish()?;
+    Ok(counts)
 }
 
 // Takes a piece of the stream, and appends what stands for the PDUs that it makes whole.

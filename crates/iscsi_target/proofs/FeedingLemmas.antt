@@ -454,8 +454,8 @@ left : (taken piece more : List ℕ) (count : ℕ) (first ms : List Message) (gi
     (t : HasTaken (taken ++ take count piece) first v)
     → Splits longest_segment ((taken ++ piece) ++ more) ms given rest → Leaves no_login first ms ((t.rest ++ drop count piece) ++ more) rest
 left taken piece more count first ms given rest v le t s =
-    prefix_split v.limit no_login t.given first ((t.rest ++ drop count piece) ++ more) given ms rest le t.reads s.reads s.no_more
-    (sym (whole_stream taken piece more t.given t.rest count t.whole) ∙ s.whole)
+    prefix_split v.limit no_login t.given first ((t.rest ++ drop count piece) ++ more) given ms rest le t.reads s.reaches.reads s.no_more
+    (sym (whole_stream taken piece more t.given t.rest count t.whole) ∙ s.reaches.whole)
 
 writes_of : (settings : Settings) (n : ℕ) (disk : Disk) (ms : List Message) (rest : List ℕ) (now : Connection) (disk_now : Disk) (written : List ℕ) →
     Meets (beginning settings n disk) ms now disk_now written
@@ -675,8 +675,8 @@ live_leads settings n disk taken now disk_now written ms given rest le open_ liv
     let h : HasAnswered (beginning settings n disk) taken now disk_now written = live.has in
     let t : HasTaken taken h.messages now.framing = h.taken in
     let x : Leaves no_login h.messages ms t.rest rest =
-    prefix_split now.framing.limit no_login t.given h.messages t.rest given ms rest (omega (arith, le, live.bound)) t.reads s.reads s.no_more (sym t.whole
-    ∙ s.whole) in
+    prefix_split now.framing.limit no_login t.given h.messages t.rest given ms rest (omega (arith, le, live.bound)) t.reads s.reaches.reads s.no_more (sym t.whole
+    ∙ s.reaches.whole) in
     let part : is_whole t.rest ≡ false = sym (is_whole-settled t.rest) ∙ ap is_whole (sym t.held)
     ∙ unready_of now.framing.failed now.framing.held t.live live.ready in
     let none : x.more ≡ [] = none_begun now.framing.limit (after_all no_login h.messages) t.rest x.given rest x.more t.begun part x.reads x.bytes_are in

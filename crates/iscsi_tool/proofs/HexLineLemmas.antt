@@ -8,9 +8,9 @@ use Rattle.iscsi_stream.specs.declared.fault.StreamFault.TheVariants as stream
 use Rattle.iscsi_stream.specs.declared.fault.ToolFault.{ToolFault}
 use Rattle.iscsi_stream.specs.declared.fault.ToolFault.TheVariants as tool
 use Rattle.iscsi_stream.specs.declared.counts.Counts.{Counts}
-use Rattle.iscsi_stream.specs.Stream.{Message, StreamMeans, Splits, longest_segment}
+use Rattle.iscsi_stream.specs.Stream.{Message, StreamMeans, Reaches, Splits, longest_segment}
 use Rattle.iscsi_stream.specs.Canonical.{canon}
-use Rattle.iscsi_stream.specs.Normalising.{Parts, IsCanonical, Wrote, RestFails, AreCounts, AtEnd}
+use Rattle.iscsi_stream.specs.Normalising.{IsCanonical, WritesUntil, AreCounts, AtEnd}
 use Rattle.iscsi_stream.specs.Texts.{CanonicalOf, longest_text}
 use Rattle.iscsi_stream.proofs.OneMeaningLaw.{splits_more}
 use Rattle.iscsi_tool.specs.HexText.{hex_line}
@@ -33,45 +33,35 @@ stream_done source read rest out written line counts parts none same is m =
 
 pub stream_fails : (f : StreamFault) (source read rest out written line : List ℕ) → source ≡ read ++ rest →
     (let r : Result Counts ToolFault = Err (tool.Stream f) in AtEnd r (rest ≡ [])) → out ≡ written → line ≡ hex_line out
-    → Parts (λ ms given left. Wrote IsCanonical read ms given left written × RestFails f given left) → IsLine false source (Err (tool.Stream f)) line
-stream_fails stream.NoMemory source read rest out written line parts end same is m = absurd m.3.1
+    → WritesUntil IsCanonical (tool.Stream f) read written → IsLine false source (Err (tool.Stream f)) line
+stream_fails stream.NoMemory source read rest out written line parts end same is m = absurd m.4.2
 stream_fails (stream.Head f place) source read rest out written line parts end same is m =
-    let more = splits_more longest_segment read rest m.0 m.1 m.2 f m.3.0.splits m.3.1.0 m.3.1.1 in
+    let more = splits_more longest_segment read rest m.0 m.1 m.2 f (record { reaches = m.3; no_more = m.4.0 }) m.4.2.0 m.4.2.1 in
+    let s = subst (λ (x : List ℕ). Splits longest_segment x m.0 m.1 (m.2 ++ rest)) (sym parts) more.0 in
     record {
       due = written;
       is_due = (
         m.0,
         m.1,
         m.2 ++ rest,
-        (
-          record {
-            splits = subst (λ (x : List ℕ). Splits longest_segment x m.0 m.1 (m.2 ++ rest)) (sym parts) more.0;
-            due = m.3.0.due;
-          },
-          (more.1, more.2, m.3.1.2),
-        ),
+        s.reaches,
+        (s.no_more, m.4.1, (more.1, more.2, m.4.2.2)),
       );
       spelled = is ∙ ap hex_line same;
     }
-stream_fails (stream.OverLimit place) source read rest out written line parts end same is m = absurd m.3.1
+stream_fails (stream.OverLimit place) source read rest out written line parts end same is m = absurd m.4.2
 stream_fails (stream.Truncated place) source read rest out written line parts end same is m = record {
   due = written;
   is_due = (
     m.0,
     m.1,
     m.2,
-    (
-      record {
-        splits = subst (λ (x : List ℕ). Splits longest_segment x m.0 m.1 m.2)
-            (sym (all_read source read rest parts end)) m.3.0.splits;
-        due = m.3.0.due;
-      },
-      m.3.1,
-    ),
+    subst (λ (x : List ℕ). Reaches longest_segment x m.0 m.1 m.2) (sym (all_read source read rest parts end)) m.3,
+    m.4,
   );
   spelled = is ∙ ap hex_line same;
 }
-stream_fails stream.Failed source read rest out written line parts end same is m = absurd m.3.1
+stream_fails stream.Failed source read rest out written line parts end same is m = absurd m.4.2
 
 -- ---- texts
 

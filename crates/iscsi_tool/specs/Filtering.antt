@@ -7,7 +7,7 @@ use Rattle.iscsi_stream.specs.declared.fault.ToolFault.{ToolFault}
 use Rattle.iscsi_stream.specs.declared.fault.ToolFault.TheVariants as tool
 use Rattle.iscsi_stream.specs.Stream.{Message, StreamMeans}
 use Rattle.iscsi_stream.specs.Canonical.{canon}
-use Rattle.iscsi_stream.specs.Normalising.{Parts, IsCanonical, Wrote, RestFails, NormaliseFails, WritesUntil}
+use Rattle.iscsi_stream.specs.Normalising.{IsCanonical, WritesUntil}
 use Rattle.iscsi_stream.specs.Shown.{AreLines}
 use Rattle.iscsi_stream.specs.Texts.{CanonicalOf, NormalisesText, longest_text}
 use Rattle.iscsi_service.specs.Session.{target_settings, EndsWell}
@@ -33,7 +33,7 @@ Outcome = Result (Unit {0}) ToolFault
 abbrev pub NormalisesBytes : Outcome → List ℕ → List ℕ → Type 0
 NormalisesBytes (Ok done) read written =
     (ms : List Message) × StreamMeans read ms × (written ≡ canon ms)
-NormalisesBytes (Err fault) read written = NormaliseFails fault read written
+NormalisesBytes (Err fault) read written = WritesUntil IsCanonical fault read written
 
 -- A line for each PDU of what was read is written, or what showing leaves at a fault.
 abbrev pub ShowsBytes : Outcome → List ℕ → List ℕ → Type 0
@@ -47,8 +47,7 @@ ShowsBytes (Err fault) read written = WritesUntil AreLines fault read written
 -- fault.
 abbrev pub DueOfStream : List ℕ → Outcome → List ℕ → Type 0
 DueOfStream bytes (Ok done) due = (ms : List Message) × StreamMeans bytes ms × (due ≡ canon ms)
-DueOfStream bytes (Err (tool.Stream fault)) due =
-    Parts (λ ms given rest. Wrote IsCanonical bytes ms given rest due × RestFails fault given rest)
+DueOfStream bytes (Err (tool.Stream fault)) due = WritesUntil IsCanonical (tool.Stream fault) bytes due
 DueOfStream bytes (Err fault) due = ⊥
 
 -- What is due for the bytes of a text: its canonical text, or nothing where it is refused.
