@@ -1,33 +1,26 @@
 use Rattle.std.proofs.Common.{arith}
-use Rattle.std.proofs.KnownBytes.{Keeps-refl}
 use Rattle.iscsi_compare.proofs.SideLemmas.{at_end, at_piece, cannot_read, cannot_end}
 use Rattle.iscsi_compare.proofs.side.Side.fill.Goals as goal
 
-pub returns-then-self-eq-READS-clause-err : goal.returns-then-self-eq-READS-clause-err
-returns-then-self-eq-READS-clause-err g c =
-    let before = g.R.Read.remaining c.args.r.now in
-    cannot_read c.args.self.now before before c.requires.none (Keeps-refl before) c.requires.unready
-
-pub returns-in_default-clause-err : goal.returns-in_default-clause-err
-returns-in_default-clause-err g c =
-    cannot_read c.args.self.now (g.R.Read.remaining c.args.r.now) (g.R.Read.remaining c.read_piece.new.r) c.requires.none
-    (c.read_piece.ensures.none c.in_default.is) c.requires.unready
+pub returns-in-Err-clause-err : goal.returns-in-Err-clause-err
+returns-in-Err-clause-err g c =
+    cannot_read c.args.self.now (g.R.Read.remaining c.args.r.now) (g.R.Read.remaining c.next.new.r) c.requires.none
+    c.in-Err.ensures.err.0 c.requires.unready
 
 pub returns-in-Ok-clause-ok : goal.returns-in-Ok-clause-ok
 returns-in-Ok-clause-ok g c =
-    at_end c.args.self.now c.finish.new.self c.read_piece.new.piece (g.R.Read.remaining c.args.r.now)
-    (g.R.Read.remaining c.read_piece.new.r) c.requires.none (rw c.if-count-eq0.true at c.in-Some.ensures.some.1)
-    (c.in-Some.ensures.some.2 c.if-count-eq0.true) c.requires.unready c.in-Ok.ensures.ok.1 c.in-Ok.ensures.ok.2
+    let end = rw c.in-Ok-None.field-0-is at c.in-Ok-None.ensures.end in
+    rw end.2 (at_end c.args.self.now c.finish.new.self c.next.new.buffer (g.R.Read.remaining c.args.r.now) (g.R.Read.remaining c.next.new.r)
+    c.requires.none end.1 end.0 c.requires.unready c.in-Ok.ensures.ok.1 c.in-Ok.ensures.ok.2)
 
-pub returns-in-Err-clause-err : goal.returns-in-Err-clause-err
-returns-in-Err-clause-err g c =
-    rw c.compare_fault.ensures (cannot_end c.args.self.now c.in-Err.fault (g.R.Read.remaining c.args.r.now)
-    (g.R.Read.remaining c.read_piece.new.r) c.requires.none (rw c.if-count-eq0.true at c.in-Some.ensures.some.1)
-    (c.in-Some.ensures.some.2 c.if-count-eq0.true) c.in-Err.ensures.err)
+pub returns-in-Err-finish-clause-err : goal.returns-in-Err-finish-clause-err
+returns-in-Err-finish-clause-err g c =
+    let end = rw c.in-Ok-None.field-0-is at c.in-Ok-None.ensures.end in
+    rw c.compare_fault.ensures (cannot_end c.args.self.now c.in-Err-finish.fault (g.R.Read.remaining c.args.r.now)
+    (g.R.Read.remaining c.next.new.r) c.requires.none end.1 end.0 c.in-Err-finish.ensures.err)
 
-pub returns-clause-ok : goal.returns-clause-ok
-returns-clause-ok g c =
-    at_piece c.args.self.now c.read_piece.new.piece c.in-Some.count (g.R.Read.remaining c.args.r.now)
-    (g.R.Read.remaining c.read_piece.new.r) c.requires.none c.in-Some.ensures.some.1 c.read_piece.ensures.bytes
-    (omega (arith, c.in-Some.ensures.some.0, c.read_piece.ensures.length, c.requires.inside.piece))
-    (omega (arith, c.if-self-eq-READS.false, c.requires.inside.reads))
+pub returns-in-Ok-Some-clause-ok : goal.returns-in-Ok-Some-clause-ok
+returns-in-Ok-Some-clause-ok g c =
+    let piece = rw c.in-Ok-Some.field-0-is at c.in-Ok-Some.ensures.piece in
+    rw piece.3 (at_piece c.args.self.now c.next.new.buffer c.in-Ok-Some.count (g.R.Read.remaining c.args.r.now) (g.R.Read.remaining c.next.new.r)
+    c.requires.none piece.2 c.next.ensures.bytes (omega (arith, piece.1, c.next.ensures.length, c.requires.inside.piece)) c.in-Ok-Some.ensures.left)
