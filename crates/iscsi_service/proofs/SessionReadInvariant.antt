@@ -675,14 +675,6 @@ read_stops settings first now store r0 r1 r2 w0 w1 C up left live kept =
     }) left (λ read written a. a)
     (λ h. read_told settings first.disk up.stream now store.disk (up.served.sent ++ []) (read_stands settings first now store r0 r1 w0 w1 up h live) live)
 
--- there were too many reads
-pub reads_stop : (settings : Settings) (first : Store) (now : Connection) (store : Store) (r0 r1 w0 w1 : Option (List ℕ)) (C : List ℕ → Type 0) →
-    (up : ReadUpTo settings (outside first r0 w0) now (outside store r1 w1)) → C up.stream → is_closed now.machine ≡ false
-    → Leaves r0 r1 w0 w1 (Ended settings first store (Err session.Read)) C
-reads_stop settings first now store r0 r1 w0 w1 C up left live =
-    stops settings (Err session.Read) first now store r0 r1 w0 w1 C up left (λ read written a. a)
-    (λ h. read_told settings first.disk up.stream now store.disk (up.served.sent ++ []) (read_stands settings first now store r0 r1 w0 w1 up h live) live)
-
 -- a session that was closed
 pub over_stops : (settings : Settings) (first : Store) (now new : Connection) (store after : Store) (r0 r1 r2 w0 w1 w2 : Option (List ℕ)) (piece : List ℕ)
     (C : List ℕ → Type 0) → (up : ReadUpTo settings (outside first r0 w0) now (outside store r1 w1)) → C (up.stream ++ piece) → Consumes r1 r2 piece
