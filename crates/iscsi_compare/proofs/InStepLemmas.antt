@@ -51,7 +51,7 @@ abbrev pub next_of : (some : Bool) (v : Framing) (form : List ℕ) → FormIf so
 next_of true v form f = Some (message_of v f.0 f.1)
 next_of false v form f = None
 
-has_read : (some : Bool) (side : Side) (x : Input) (ms : List Message) → Stands some side x ms → HasRead x.read ms side
+pub has_read : (some : Bool) (side : Side) (x : Input) (ms : List Message) → Stands some side x ms → HasRead x.read ms side
 has_read true side x ms r = r
 has_read false side x ms r = r.0
 
@@ -62,7 +62,7 @@ goes_on true side x ms form r f =
     (pending side) side.reads x.left (read_given x.read ms side.framer (pending side) side.reads f.0 f.1 r f.2)
 goes_on false side x ms form r f = r.1
 
-begun : (some : Bool) (side : Side) (x : Input) (ms : List Message) → Stands some side x ms → BeginsWith x ms
+pub begun : (some : Bool) (side : Side) (x : Input) (ms : List Message) → Stands some side x ms → BeginsWith x ms
 begun some side x ms r = begins x.read ms side.framer (pending side) side.reads x.left (has_read some side x ms r)
 
 differ_next : (p q : Bool) (v w : Framing) (form other : List ℕ) (f : FormIf p v form) (g : FormIf q w other) → (p ≡ q → form ≡ other → ⊥) → next_of p v form f

@@ -16,18 +16,11 @@ use Rattle.iscsi_compare.specs.SameJobJudge.{Allows, IsSoundRenaming}
 use Rattle.iscsi_compare.proofs.RenamingLemmas.{apart}
 use Rattle.iscsi_compare.proofs.HeadNumberLemmas.{renumbered_is, numbers_of, same_numbers}
 use Rattle.iscsi_compare.proofs.HeadFitLemmas.{fits_renumbered}
+use Rattle.iscsi_stream.proofs.ReadyLemmas.{and_left, and_right}
 
 true_of : (b : Bool) → (b ≡ false → ⊥) → b ≡ true
 true_of true h = refl
 true_of false h = absurd (h refl)
-
-and_left : (a b : Bool) → (a && b) ≡ true → a ≡ true
-and_left true b e = refl
-and_left false b e = apart e refl
-
-pub and_second : (a b : Bool) → (a && b) ≡ true → b ≡ true
-and_second true b e = e
-and_second false b e = apart e refl
 
 -- whether each number could be learnt
 pub record Answers : Type 0 where
@@ -92,14 +85,14 @@ learns_nine mine other old new a answer n is =
       };
       said = λ e r l. same_numbers (renamed r mine) other
           (n.task.said (and_left _ _ (p2 e)) r.tasks (n.referenced_task.less r.tasks l.tasks_left))
-          (n.referenced_task.said (and_second _ _ (p2 e)) r.tasks l.tasks_left)
-          (n.transfer.said (and_second _ _ (p3 e)) r.transfers l.transfers_left)
-          (n.isid.said (and_second _ _ (p4 e)) r.isids l.isids_left)
-          (n.tsih.said (and_second _ _ (p5 e)) r.tsihs l.tsihs_left)
-          (n.command.said (and_second _ _ (p6 e)) r.commands (n.last_command.less r.commands (n.referenced_command.less r.commands l.commands_left)))
-          (n.last_command.said (and_second _ _ (p7 e)) r.commands (n.referenced_command.less r.commands l.commands_left))
-          (n.referenced_command.said (and_second _ _ (p8 e)) r.commands l.commands_left)
-          (n.status.said (and_second _ _ (sym is ∙ e)) r.statuses l.statuses_left);
+          (n.referenced_task.said (and_right _ _ (p2 e)) r.tasks l.tasks_left)
+          (n.transfer.said (and_right _ _ (p3 e)) r.transfers l.transfers_left)
+          (n.isid.said (and_right _ _ (p4 e)) r.isids l.isids_left)
+          (n.tsih.said (and_right _ _ (p5 e)) r.tsihs l.tsihs_left)
+          (n.command.said (and_right _ _ (p6 e)) r.commands (n.last_command.less r.commands (n.referenced_command.less r.commands l.commands_left)))
+          (n.last_command.said (and_right _ _ (p7 e)) r.commands (n.referenced_command.less r.commands l.commands_left))
+          (n.referenced_command.said (and_right _ _ (p8 e)) r.commands l.commands_left)
+          (n.status.said (and_right _ _ (sym is ∙ e)) r.statuses l.statuses_left);
       none = λ e r l x.
           let one = n.task.kept r.tasks l.tasks_left (ap (λ (x : Numbers). x.task) x) in
           let six = n.command.kept r.commands l.commands_left (ap (λ (x : Numbers). x.command) x) in

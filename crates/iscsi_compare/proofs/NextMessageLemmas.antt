@@ -22,7 +22,7 @@ pub unready_of : (b : Bool) → (b ≡ true → false ≡ true) → b ≡ false
 unready_of true h = sym (h refl)
 unready_of false h = refl
 
-inside : {A : Type 0} (x y : A) → Some x ≡ Some y → x ≡ y
+pub inside : {A : Type 0} (x y : A) → Some x ≡ Some y → x ≡ y
 inside x y e = cc
 
 learns_some : (Old New : Renumbering → Type 0) (m n : Message) (answer : Bool) → Learns Old New (λ r. renumbered_message r m ≡ n) answer →

@@ -27,7 +27,7 @@ use Rattle.std.proofs.Common.{
 use Rattle.std.specs.Prelude.{◌↔◌, not, map, option_map, option_to_list}
 use Rattle.std.specs.Io.KnownBytes.{Consumes}
 use Rattle.std.proofs.KnownBytes.{Consumes-nil, Consumes-trans}
-use Rattle.std.proofs.lemmas.List.{same_from_push, map_push, length_push, length-map, length-take, length-drop}
+use Rattle.std.proofs.lemmas.List.{same_from_push, map_push, length_push, length-take, length-drop}
 use Rattle.iscsi_pdu.specs.declared.head.Head.{Head}
 use Rattle.iscsi_pdu.specs.Meaning.{IsHeader}
 use Rattle.iscsi_stream.specs.Segment.{no_login, continues, segment_of}
@@ -35,7 +35,7 @@ use Rattle.iscsi_stream.specs.Stream.{pdu_len, Message, ReadsAs, after_all}
 use Rattle.iscsi_stream.specs.Framing.{Framing, length_at, is_whole, given_up, message_of, is_ready}
 use Rattle.iscsi_stream.proofs.HeadLemmas.{means_of}
 use Rattle.iscsi_stream.proofs.SettledBytesLemmas.{is_whole-settled}
-use Rattle.iscsi_stream.proofs.ReadyLemmas.{is_whole-is}
+use Rattle.iscsi_stream.proofs.ReadyLemmas.{is_whole-is, and_right}
 use Rattle.iscsi_stream.proofs.OneMeaningLaw.{reads_one_more}
 use Rattle.iscsi_compare.specs.declared.fault.Which.{Which}
 use Rattle.iscsi_compare.specs.declared.fault.Which.TheVariants.{First, Second}
@@ -50,9 +50,11 @@ use Rattle.iscsi_compare.specs.SameJobLearning.{Learns}
 use Rattle.iscsi_compare.specs.SameJobJudge.{Allows, IsSoundRenaming, NextIs, LearnsNext}
 use Rattle.iscsi_compare.specs.SameJobVerdict.{AgreeOnJob, PartFromJob, FailsInJob}
 use Rattle.iscsi_compare.proofs.SideLemmas.{read_given, begins, stands_at}
-use Rattle.iscsi_compare.proofs.InStepLemmas.{Compared, Streams, streams, GivesUp, gave}
-use Rattle.iscsi_compare.proofs.LearningLemmas.{some_left, and_second}
+use Rattle.iscsi_compare.proofs.InStepLemmas.{Compared, Streams, streams, GivesUp, gave, has_read, begun}
+use Rattle.iscsi_compare.proofs.LearningLemmas.{some_left}
 use Rattle.iscsi_compare.proofs.SameJobLaws.{same_self}
+use Rattle.iscsi_compare.proofs.NextMessageLemmas.{inside}
+use Rattle.iscsi_compare.proofs.WholeRunsLaw.{same_count}
 
 -- ---- what is known of two lists
 
@@ -62,9 +64,6 @@ Knows known ms ns = (r : Renumbering) → Allows known r ↔ (ns ≡ map (renumb
 
 pub same_job : (known : Renaming) (ms ns : List Message) → IsSoundRenaming known → Knows known ms ns → SameJob ms ns
 same_job known ms ns s k = let some = some_left known s in (some.0, (k some.0).0 some.1)
-
-inside : {A : Type 0} (x y : A) → Some x ≡ Some y → x ≡ y
-inside x y e = cc
 
 pub knows_more : (old new : Renaming) (ms ns : List Message) (m n : Message) → Knows old ms ns →
     Learns (Allows old) (Allows new) (λ r. option_map (renumbered_message r) (Some m) ≡ Some n) true
@@ -77,14 +76,11 @@ knows_more old new ms ns m n k l r = (
       l.kept r ((k r).1 both.0) (ap Some (sym both.1))),
 )
 
-same_length : (ms ns : List Message) → SameJob ms ns → length ns ≡ length ms
-same_length ms ns s = ap length s.1 ∙ length-map ms (renumbered_message s.0)
-
 too_long : (ms ns : List Message) (m : Message) → SameJob ms ns → SameJob (ms ++ m ∷ []) (ns ++ []) → ⊥
-too_long ms ns m s t = omega (arith, same_length ms ns s, same_length (ms ++ m ∷ []) (ns ++ []) t, length_push ms m, ap length (append-nil ns))
+too_long ms ns m s t = omega (arith, same_count ms ns s, same_count (ms ++ m ∷ []) (ns ++ []) t, length_push ms m, ap length (append-nil ns))
 
 too_short : (ms ns : List Message) (n : Message) → SameJob ms ns → SameJob (ms ++ []) (ns ++ n ∷ []) → ⊥
-too_short ms ns n s t = omega (arith, same_length ms ns s, same_length (ms ++ []) (ns ++ n ∷ []) t, length_push ns n, ap length (append-nil ms))
+too_short ms ns n s t = omega (arith, same_count ms ns s, same_count (ms ++ []) (ns ++ n ∷ []) t, length_push ns n, ap length (append-nil ms))
 
 pub no_job : (old new : Renaming) (ms ns : List Message) (next other : Option Message) → SameJob ms ns → Knows old ms ns
     → Learns (Allows old) (Allows new) (λ r. option_map (renumbered_message r) next ≡ other) false →
@@ -105,13 +101,6 @@ goes_on true side x ms next r f =
     (begins x.read (ms ++ message_of side.framer f.0 f.1 ∷ []) (given_up side.framer f.0)
     (pending side) side.reads x.left (read_given x.read ms side.framer (pending side) side.reads f.0 f.1 r f.2))
 goes_on false side x ms next r f = subst (GoesOn x ms) (sym f) r.1
-
-has_read : (some : Bool) (side : Side) (x : Input) (ms : List Message) → Stands some side x ms → HasRead x.read ms side
-has_read true side x ms r = r
-has_read false side x ms r = r.0
-
-begun : (some : Bool) (side : Side) (x : Input) (ms : List Message) → Stands some side x ms → BeginsWith x ms
-begun some side x ms r = begins x.read ms side.framer (pending side) side.reads x.left (has_read some side x ms r)
 
 -- ---- faults
 
@@ -135,7 +124,7 @@ ready_next : (read : List ℕ) (ms : List Message) (v : Framing) (rest : List �
     → (next : Option Message) × GoesOn (input_of read left) ms next
 ready_next read ms v rest k left r ready =
     let t = r.taken in
-    let is = is_whole-is t.rest (sym (ap is_whole t.held ∙ is_whole-settled t.rest) ∙ and_second (not v.failed) (is_whole v.held) ready) in
+    let is = is_whole-is t.rest (sym (ap is_whole t.held ∙ is_whole-settled t.rest) ∙ and_right (not v.failed) (is_whole v.held) ready) in
     let good = t.begun is.0 in
     let n = length_at t.rest in
     let segment = take n (drop 48 t.rest) in

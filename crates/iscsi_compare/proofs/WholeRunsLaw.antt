@@ -25,7 +25,7 @@ same_whole_runs s t ms ns x y a b p q agree =
 
 -- ---- where they part
 
-same_count : (ms ns : List Message) → SameJob ms ns → length ns ≡ length ms
+pub same_count : (ms ns : List Message) → SameJob ms ns → length ns ≡ length ms
 same_count ms ns s = ap length s.1 ∙ length-map ms (renumbered_message s.0)
 
 first_of : (m n : Message) (a b : List Message) → m ∷ a ≡ n ∷ b → m ≡ n

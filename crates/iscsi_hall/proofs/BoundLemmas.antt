@@ -38,7 +38,7 @@ use Rattle.iscsi_target.specs.Laws.{HasCmdSn, FitsNumber, cmd_sn_if, cmd_sn_of}
 use Rattle.iscsi_target_session.specs.Configured.{Settings}
 use Rattle.iscsi_target.proofs.StepPartLemmas.{Accepts, Immediately, InTurn, Parts, step_parts}
 use Rattle.iscsi_target.proofs.TurnLemmas.{Begins, Opens, Turns, Waits, Writes, begins, turns, with_tasks}
-use Rattle.iscsi_target.proofs.AcceptedOrderLaw.{found_tag}
+use Rattle.iscsi_target.proofs.AcceptedOrderLaw.{found_tag, same_tasks}
 use Rattle.iscsi_target.proofs.WindowLemmas.{few_more, has_room}
 use Rattle.iscsi_target.specs.declared.fault.TargetFault.{TargetFault}
 use Rattle.iscsi_target.specs.Feed.{Store}
@@ -48,6 +48,9 @@ use Rattle.iscsi_hall.specs.Company.{Group, HaveCount, answers_over}
 use Rattle.iscsi_hall.specs.Bounds.{ExecutesFew, HoldsFew, IsNumbered}
 use Rattle.iscsi_target.proofs.WriteTilingLaws.{IsSound}
 use Rattle.iscsi_hall.proofs.CompanyLemmas.{over_sound}
+use Rattle.iscsi_stream.proofs.ReadyLemmas.{and_left, and_right}
+use Rattle.iscsi_target.proofs.JoiningLemmas.{same_place}
+use Rattle.iscsi_target.proofs.TaskPlaceLemmas.{behind_some}
 
 -- at most eight take a place, and the first alone may take none
 pub record AreFew (tasks : List Task) : Type 0 where
@@ -64,15 +67,11 @@ more_waits : (task : Task) (more : List Task) (b : Bool) → takes_place task �
 more_waits task more true e = rw e (omega arith)
 more_waits task more false e = rw e (omega arith)
 
-behind_places : (tasks : List Task) → TakePlaces tasks → TakePlaces (behind tasks)
-behind_places [] p = tt
-behind_places (task ∷ more) p = p.1
-
 -- without the first
 tail_few : (task : Task) (more : List Task) → AreFew (task ∷ more) → AreFew more
 tail_few task more f = record {
   few = (let few = f.few in let le = more_waits task more (takes_place task) refl in omega (arith, few, le));
-  places = behind_places more f.places;
+  places = behind_some more f.places;
 }
 
 -- with another first, that takes a place only where the first did
@@ -280,14 +279,6 @@ waiting_with tasks task =
     let one = one_waits task (takes_place task) refl in
     omega (arith, sum, one)
 
-and_left : (a b : Bool) → (a && b) ≡ true → a ≡ true
-and_left true b e = refl
-and_left false b e = absurd cc
-
-and_right : (a b : Bool) → (a && b) ≡ true → b ≡ true
-and_right true b e = e
-and_right false b e = absurd cc
-
 room_for : (s : Machine) (n : ℕ) → is_within n s.session.exp_cmd_sn (max_cmd_sn s) ≡ true → s.session.exp_cmd_sn < 2 ^ 32 → waiting s.tasks ≤ 8 →
     waiting s.tasks ≤ 7
 room_for s n e lt few =
@@ -308,10 +299,6 @@ admitted_few s _ m count (InTurn n c w is) h f =
       places = places_with s.tasks (task_of count m) (new_place count n m m.head c) f.places;
     }
 
-still_tasks : (s t : Machine) (m : Message) → Accepts s m t → t.tasks ≡ s.tasks
-still_tasks s _ m (Immediately c none) = refl
-still_tasks s _ m (InTurn n c w is) = refl
-
 parts_few : (device : Device) (disk : Disk) → Parts device disk AtPdu
 parts_few device disk = record {
   nothing_ = λ s m c. record { keeps = λ h f. f; each = λ h f. omega arith };
@@ -323,7 +310,7 @@ parts_few device disk = record {
       (λ c f. taken_few s m h w v e t f) (done_few device s.session disk (with_write v s.tasks));
   refused_ = λ s t m rule a x. record {
     keeps = λ h f. left_few t.tasks (reject_and_close t.session (waiting t.tasks) rule m).session
-        (is_closed_phase (reject_and_close t.session (waiting t.tasks) rule m).session.phase) refl (subst AreFew (sym (still_tasks s t m x)) f);
+        (is_closed_phase (reject_and_close t.session (waiting t.tasks) rule m).session.phase) refl (subst AreFew (sym (same_tasks s t m x)) f);
     each = λ h f. omega arith;
   };
   admitted_ = λ s t m a x b. turns_at s m (m ∷ []) (t.tasks ++ task_of disk.count m ∷ [])
@@ -355,13 +342,9 @@ may_few s disk before after (m ∷ ms) r e all f =
 
 -- ---- a session in company
 
-joined_place : (task : Task) → takes_place (joined_task task) ≡ takes_place task
-joined_place (Request m) = refl
-joined_place (Data w) = refl
-
 joined_alike : (tasks : List Task) → AlikeIn tasks (map joined_task tasks)
 joined_alike [] = same_alike []
-joined_alike (task ∷ more) = cons_alike task (joined_task task) more (map joined_task more) (joined_place task) (joined_alike more)
+joined_alike (task ∷ more) = cons_alike task (joined_task task) more (map joined_task more) (same_place task) (joined_alike more)
 
 alike_few : (tasks after : List Task) → AlikeIn tasks after → AreFew tasks → AreFew after
 alike_few tasks after x f = record { few = subst (λ (n : ℕ). n ≤ 8) (sym x.waits) f.few; places = x.behind_ f.places }

@@ -10,16 +10,16 @@ use Rattle.iscsi_target_session.specs.Configured.{Settings}
 use Rattle.iscsi_target.specs.State.{Machine, Execution, Stepped, joined, opening}
 use Rattle.iscsi_target.specs.Execution.{reliable}
 use Rattle.iscsi_target.specs.Machine.{answers, is_closed, step, then_stepped}
-use Rattle.iscsi_target.specs.Tiles.{GiveTiles, TilesDataIn, bytes_given}
-use Rattle.iscsi_target.specs.Laws.{AreInOrder, Command, CountOn, given_number, joined_stepped, response_tag, response_tags, stat_sn_of, stat_sns, task_in}
+use Rattle.iscsi_target.specs.Tiles.{TilesDataIn}
+use Rattle.iscsi_target.specs.Laws.{AreInOrder, Command, CountOn, given_number, joined_stepped, response_tag, response_tags, stat_sn_of, stat_sns}
 use Rattle.iscsi_target.specs.Laws.{task_of, tasks_done, tasks_in, tasks_open}
 use Rattle.iscsi_target_session.proofs.CaseLemmas.{by_cases}
-use Rattle.iscsi_target.proofs.AcceptedOrderLaw.{Queues, answers_queue}
+use Rattle.iscsi_target.proofs.AcceptedOrderLaw.{Queues, answers_queue, tasks_append}
 use Rattle.iscsi_target.proofs.JoiningLemmas.{answers_joined, joined_then}
 use Rattle.iscsi_target.proofs.NumberLaws.{IsFit, answers_fit, answers_settings, answers_stat_sns, answers_tags, closed_answers, count_on}
-use Rattle.iscsi_target.proofs.ReachableLemmas.{reached_fit}
+use Rattle.iscsi_target.proofs.ReachableLemmas.{reached_fit, gives_tiles}
 use Rattle.iscsi_target.proofs.ReplyLemmas.{Count}
-use Rattle.iscsi_target.proofs.SendingLemmas.{Gives, StepTells, count_append, step_tells}
+use Rattle.iscsi_target.proofs.SendingLemmas.{StepTells, count_append, step_tells}
 use Rattle.iscsi_target.proofs.WriteTilingLaws.{KeepsWrites, answers_sound, step_goes}
 use Rattle.iscsi_target.proofs.WriteTilingLaws.{IsSound}
 use Rattle.iscsi_hall.specs.Turns.{Event, Comes, Takes, Ends, Goes, IsEnded, IsLeft, Session, executed_in}
@@ -68,9 +68,6 @@ over_closed s disk (g ∷ gs) e =
     (sym (closed_answers s g.0 g.1 e)) (over_closed s g.0 gs e)
 
 -- ---- the order
-
-tasks_append : (a b : List Message) → tasks_in (a ++ b) ≡ tasks_in a ++ tasks_in b
-tasks_append a b = flat_map-append (λ (m : Message). task_in m.head) a b
 
 end_queues : (tasks : _) (first later : Stepped) → Queues tasks first → is_closed first.machine ≡ true → later.accepted ≡ [] → later.executed ≡ [] →
     is_closed later.machine ≡ true → Queues tasks (then_stepped first later)
@@ -126,10 +123,6 @@ over_settings : (s : Machine) (disk : Disk) (gs : List Group) → (answers_over 
 unfolding answers_over
 over_settings s disk [] = refl
 over_settings s disk (g ∷ gs) = over_settings (answers s g.0 g.1).machine (answers s g.0 g.1).disk gs ∙ answers_settings s g.0 g.1
-
-gives_tiles : (answers : List Message) (es : List Execution) → Gives reliable answers es → GiveTiles bytes_given answers es
-gives_tiles answers [] g = g
-gives_tiles answers (e ∷ es) g = (g.0, g.1, g.2, g.3, gives_tiles g.1 es g.4)
 
 opening_fit : (settings : Settings) (n : ℕ) (disk : Disk) → IsFit (opening settings n)
 unfolding answers

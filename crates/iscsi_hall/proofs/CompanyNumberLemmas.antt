@@ -1,5 +1,5 @@
 -- One session in company: CmdSN counts on.
-use Rattle.std.proofs.Common.{◌≡◌, ◌<◌, ℕ, ◌^◌, true, false, List, [], ◌∷◌, ◌++◌, refl, sym, ap, subst, ◌∙◌, arith, append_assoc}
+use Rattle.std.proofs.Common.{◌≡◌, ◌<◌, ℕ, ◌^◌, true, List, [], ◌∷◌, ◌++◌, refl, sym, ap, subst, ◌∙◌, arith, append_assoc}
 use Rattle.std.specs.List.{AllByRecursion}
 use Rattle.std.proofs.lemmas.Grind.{flat_map-append}
 use Rattle.scsi_disk.specs.Disk.{Disk}
@@ -8,16 +8,16 @@ use Rattle.iscsi_pdu.specs.declared.head.Head.{Head}
 use Rattle.iscsi_pdu.specs.declared.head.Head.TheVariants.{LoginRequest}
 use Rattle.iscsi_pdu.specs.declared.head.login_request.LoginRequest.{LoginRequest as LoginPdu}
 use Rattle.iscsi_target_session.specs.Session.{opening_session}
-use Rattle.iscsi_target_session.specs.Login.{login_in, login_request, login_step, numbered}
+use Rattle.iscsi_target_session.specs.Login.{login_in, login_request, numbered}
 use Rattle.iscsi_target_session.specs.Configured.{Settings}
 use Rattle.iscsi_target.specs.State.{Machine, Stepped, on, opening, shut_down}
 use Rattle.iscsi_target.specs.Execution.{reliable}
 use Rattle.iscsi_target.specs.Machine.{answers, is_closed, is_over_limit, step, then_stepped}
 use Rattle.iscsi_target.specs.Laws.{CountOn, FitsNumber, HasCmdSn, login_cmd_sn, given_number, cmd_sn_of, cmd_sns}
 use Rattle.iscsi_target_session.proofs.CaseLemmas.{by_cases}
-use Rattle.iscsi_target.proofs.NumberLaws.{answers_cmd_sns, count_on}
-use Rattle.iscsi_target.proofs.ReplyLemmas.{Count, IsReply, request_reply}
-use Rattle.iscsi_target.proofs.SendingLemmas.{count_append, step_tells}
+use Rattle.iscsi_target.proofs.NumberLaws.{answers_cmd_sns, count_on, opening_over, opening_login}
+use Rattle.iscsi_target.proofs.ReplyLemmas.{IsReply, request_reply}
+use Rattle.iscsi_target.proofs.SendingLemmas.{CountsTo, counts_on, counts_out}
 use Rattle.iscsi_hall.specs.Company.{Group, answers_over, messages_in}
 use Rattle.iscsi_hall.proofs.CompanyLemmas.{over_closed}
 
@@ -70,14 +70,6 @@ closed_accepts : (s : Machine) (disk : Disk) (ms : List Message) (gs : List Grou
     (then_stepped (answers s disk ms) (answers_over (answers s disk ms).machine (answers s disk ms).disk gs)).accepted ≡ []
 unfolding answers_over
 closed_accepts s disk ms gs e = (over_closed s disk ((disk, ms) ∷ gs) e).0
-
-opening_over : (settings : Settings) (n : ℕ) (disk : Disk) (m : Message) → is_over_limit (opening settings n) m.segment ≡ true
-    → step (opening settings n) disk m ≡ shut_down (opening settings n) disk
-opening_over settings n disk m e = rw e refl
-
-opening_login : (settings : Settings) (n : ℕ) (disk : Disk) (m : Message) → is_over_limit (opening settings n) m.segment ≡ false
-    → step (opening settings n) disk m ≡ on disk [] (login_step (opening_session settings n) m)
-opening_login settings n disk m e = rw e refl
 
 -- behind the first PDU that came
 abbrev Behind : Disk → List Message → List Group → ℕ → Stepped → Type 0

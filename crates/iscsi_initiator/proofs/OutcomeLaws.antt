@@ -42,6 +42,7 @@ use Rattle.iscsi_initiator.specs.Submitted.{submitted, or_accepted, accepted as 
 use Rattle.iscsi_initiator.specs.declared.request.SubmitFault.TheVariants as refusals
 use Rattle.iscsi_initiator.specs.Laws.{Event, Starts, Meets, Comes, Asks, Takes, Ends, after, run, accepted, accepted_in, accepted_if, given, given_in, listed}
 use Rattle.iscsi_initiator.specs.Laws.{IsOutcomeOf, AreOutcomesOf, OutcomesInOrder}
+use Rattle.iscsi_stream.proofs.ReadyLemmas.{and_right}
 
 -- an outstanding request as it was handed in
 abbrev pub IsFor : Outstanding → Request → Type 0
@@ -88,10 +89,6 @@ same m n a b = stays (record { request = a; outcome = b })
 
 -- ---- in full feature phase
 
-abbrev IsNo : Bool → Type 0
-IsNo true = ⊥
-IsNo false = Unit {0}
-
 -- more data are received, within what is expected
 more_fits : (r : Reading) (bytes : List ℕ) (n : ℕ) → length r.received + length bytes ≤ r.expected → (q : Request) → IsFor (In r) q
     → IsFor (In (record r { received = r.received ++ bytes; next_data_sn = n })) q
@@ -112,10 +109,6 @@ read_fits r bytes sense response status (requests.Out lun cdb sent) o e le f res
 read_fits r bytes sense response status (requests.Ping sent) o e le f residual = absurd f
 read_fits r bytes sense response status (requests.Text sent) o e le f residual = absurd f
 read_fits r bytes sense response status requests.Logout o e le f residual = absurd f
-
-and_right : (a b : Bool) → (a && b) ≡ true → b ≡ true
-and_right true b e = e
-and_right false b e = absurd (subst (λ (x : Bool). IsNo x) e tt)
 
 data_turn : (b c : Bool) (m : Machine) (r : Reading) (h : DataIn) (bytes : List ℕ) → m.outstanding ≡ Some (In r) → fits_reading r h bytes ≡ b
     → Turn m (if not b then protocol_error m 3 else (if c then completes m (read_outcome (r.received ++ bytes) h) else quiet (has_received m r bytes))).machine

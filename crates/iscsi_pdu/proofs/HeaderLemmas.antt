@@ -56,7 +56,7 @@ IsHeader-unique b x y m n p q = (
 
 -- ---- the canonical header
 
-put_all-append : (xs ys : List Row) (b : List ℕ) → put_all (xs ++ ys) b ≡ put_all ys (put_all xs b)
+pub put_all-append : (xs ys : List Row) (b : List ℕ) → put_all (xs ++ ys) b ≡ put_all ys (put_all xs b)
 put_all-append [] ys b = refl
 put_all-append (x ∷ xs) ys b = put_all-append xs ys _
 
@@ -86,11 +86,11 @@ unfolding lib.Count.ones lib.Count.count_trailing_zeros
 rows-table (NopOut _) = refl
 rows-table _ = refl
 
-ones-room : (h : Head) → HaveRoom (ones h)
+pub ones-room : (h : Head) → HaveRoom (ones h)
 ones-room (NopOut _) = search rules
 ones-room _ = search rules
 
-opcode-small : (h : Head) → opcode h ≤ 63
+pub opcode-small : (h : Head) → opcode h ≤ 63
 opcode-small (NopOut _) = omega arith
 opcode-small _ = omega arith
 

@@ -3,19 +3,11 @@ use Rattle.std.proofs.Common.{◌≡◌, ℕ, List, [], ◌∷◌, refl, sym, su
 use Rattle.scsi_disk.specs.Disk.{Disk}
 use Rattle.iscsi_target.specs.declared.fault.TargetFault.{TargetFault}
 use Rattle.iscsi_target.specs.Feed.{Store}
-use Rattle.iscsi_target.specs.Laws.{Leads}
 use Rattle.iscsi_service.specs.Session.{HasExecuted}
 use Rattle.iscsi_hall.specs.Seats.{Hall}
 use Rattle.iscsi_hall.specs.Turns.{Event, Takes, TakesTurn, Runs, machines, executed_in}
 use Rattle.iscsi_hall.proofs.RunLemmas.{runs_lead}
-
-nothing_executed : (disk : Disk) → Leads disk [] disk
-unfolding Leads
-nothing_executed disk = refl
-
--- no command
-pub none_executed : (disk : Disk) → HasExecuted disk disk
-none_executed disk = ([], nothing_executed disk)
+use Rattle.iscsi_service.proofs.SessionReadInvariant.{none_executed}
 
 -- no command, on a disk that is as it was
 pub unchanged_executed : (before after : Disk) → after ≡ before → HasExecuted before after

@@ -14,9 +14,8 @@ use Rattle.iscsi_initiator.specs.Machine.{step, steps, then_steps}
 use Rattle.iscsi_initiator.specs.Submitted.{submitted, or_accepted, refusal}
 use Rattle.iscsi_initiator.specs.Calls.{Connection, Starts, Feeds, Submits, ReceivesAll, ClosesAt, after_taking}
 use Rattle.iscsi_initiator.specs.Laws.{Event, Meets, Comes, Asks, Takes, after, run, accepted, accepted_in, accepted_if, given, given_in, listed, AreOutcomesOf}
-use Rattle.iscsi_initiator.specs.Laws.{IsOutcomeOf}
 use Rattle.iscsi_initiator.specs.Laws as laws
-use Rattle.iscsi_initiator.proofs.OutcomeLaws.{outcomes_in_order}
+use Rattle.iscsi_initiator.proofs.OutcomeLaws.{outcomes_in_order, AllOutcomes}
 use Rattle.std.specs.Io.KnownBytes.{Appends, IsAtEnd}
 use Rattle.iscsi_stream.specs.Normalising.{WroteFront}
 use Rattle.std.proofs.KnownBytes.{Appends-trans, Appends-nil}
@@ -122,12 +121,6 @@ pub takes : (old : Connection) (outcome : Done) → old.machine.done ≡ Some ou
 takes old outcome is = record { events = Meets Takes ∷ []; reached = refl; requests = refl; outcomes = ap (λ (o : Option Done). listed o ++ []) is }
 
 -- ---- outcomes
-
--- each request has its outcome
-abbrev pub AllOutcomes : List Request → List Done → Type 0
-AllOutcomes [] [] = Unit {0}
-AllOutcomes (request ∷ requests) (outcome ∷ outcomes) = IsOutcomeOf request outcome × AllOutcomes requests outcomes
-AllOutcomes _ _ = ⊥
 
 all_of : (requests : List Request) (outcomes more : List Done) → length outcomes ≡ length requests → AreOutcomesOf requests (outcomes ++ more) →
     AllOutcomes requests outcomes

@@ -14,7 +14,7 @@ use Rattle.iscsi_initiator.specs.declared.request.Done.{Done}
 use Rattle.iscsi_initiator.specs.declared.request.Request.{Request}
 use Rattle.iscsi_initiator.specs.Calls as initiator
 use Rattle.iscsi_initiator.specs.Laws.{listed}
-use Rattle.iscsi_pair.specs.World.{World, Opening, Event, ToTarget, ToInitiator, Submits, Takes, TargetReceives, InitiatorReceives, InitiatorIsAsked}
+use Rattle.iscsi_pair.specs.World.{Opening, Event, ToTarget, ToInitiator, Submits, Takes, TargetReceives, InitiatorReceives, InitiatorIsAsked}
 use Rattle.iscsi_pair.specs.World.{MovesToTarget, MovesToInitiator, Happens, new_pair, store_of}
 use Rattle.iscsi_pair.specs.LocalDisk.{local_outcomes}
 use Rattle.iscsi_pair.specs.Served.{IsNormal, IsServed, IsAccepted, RunsServed, requests_of, disk_outcomes, given_in}
@@ -22,7 +22,7 @@ use Rattle.iscsi_pair.proofs.Lists.BlockLemmas.{HasBlocks}
 use Rattle.iscsi_pair.proofs.Request.OneRequestLaw.{outcomes_more}
 use Rattle.iscsi_pair.proofs.Run.OneDiskLaw.{idle_whole}
 use Rattle.iscsi_pair.proofs.Lists.ReadBackLaw.{standard_normal}
-use Rattle.iscsi_pair.proofs.Lists.StepLemmas.{requests_append, served_more}
+use Rattle.iscsi_pair.proofs.Lists.StepLemmas.{requests_append, served_more, moves_there, moves_here}
 use Rattle.iscsi_service.specs.Looping.{initiator_settings}
 use Rattle.iscsi_service.specs.Session.{target_settings}
 use Rattle.iscsi_service.specs.LoopPairs.{AreOneDisk, Ends, GoOn, HaveServed, Performs, ends_of, loop_opening, new_ends, outcome_on, outcomes_on, world_of}
@@ -90,14 +90,6 @@ quiet blocks requests outcomes new h =
     (subst (λ (x : List Done). HaveServed blocks (requests ++ []) x new) (append-nil outcomes) h)
 
 -- ---- bytes are carried
-
-moves_there : (moved : List ℕ) (old new : World) → 0 < length moved → TargetReceives moved old new → MovesToTarget None moved old new
-moves_there [] old new some h = absurd (omega (arith, some))
-moves_there (byte ∷ bytes) old new some h = h
-
-moves_here : (moved : List ℕ) (old new : World) → 0 < length moved → InitiatorReceives moved old new → MovesToInitiator None moved old new
-moves_here [] old new some h = absurd (omega (arith, some))
-moves_here (byte ∷ bytes) old new some h = h
 
 -- a store whose device doesn't fail
 abbrev pub stored : Disk → target.Store

@@ -116,7 +116,7 @@ stands_more settings disk bytes old before out piece result new after written s 
       bound = ap (λ (v : Framing). v.limit) kept ∙ f.answered.limit ∙ s.bound;
     }
 
-either : (b : Bool) → (b ≡ true) ⊎ (b ≡ false)
+pub either : (b : Bool) → (b ≡ true) ⊎ (b ≡ false)
 either true = inl refl
 either false = inr refl
 

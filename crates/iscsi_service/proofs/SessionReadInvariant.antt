@@ -1,5 +1,5 @@
 -- What a session keeps from read to read.
-use Rattle.std.proofs.Common.{◌≡◌, ◌⊎◌, inl, inr, drop, take-append-drop, ℕ, Bool, true, false, List, [], ◌∷◌, ◌++◌, length, ◌≤◌, ◌<◌, take, Option, Result, Ok}
+use Rattle.std.proofs.Common.{◌≡◌, inl, inr, drop, take-append-drop, ℕ, Bool, true, false, List, [], ◌∷◌, ◌++◌, length, ◌≤◌, ◌<◌, take, Option, Result, Ok}
 use Rattle.std.proofs.Common.{Err, refl, sym, ap, subst, ◌∙◌, arith, append-nil, append_assoc}
 use Rattle.std.specs.Io.KnownBytes.{Appends, Consumes, Keeps}
 use Rattle.std.proofs.KnownBytes.{Appends-trans, Appends-nil, Consumes-trans, Consumes-kept}
@@ -34,7 +34,7 @@ use Rattle.iscsi_service.specs.declared.session.SessionFault.TheVariants as sess
 use Rattle.iscsi_service.specs.Session.{target_settings, HasExecuted, ServesAll, ServesFirst, Serves, IsOver, EndsBy, EndsWell}
 use Rattle.iscsi_service.specs.SessionSteps.{ServedUpTo, Service, service, Goes, ClosesBy, Tells, Loses, RunsOut, Breaks, HoldsBack, Syncs}
 use Rattle.iscsi_service.specs.Serving.{session_fault, ServesOne}
-use Rattle.iscsi_service.proofs.SessionEndLemmas.{Stands, stands_first, stands_answered, read_told, end_told, finish_told, fault_told, first_told, over_told}
+use Rattle.iscsi_service.proofs.SessionEndLemmas.{Stands, stands_first, stands_answered, read_told, end_told, finish_told, fault_told, first_told, over_told, either}
 
 -- what a call has read and written
 abbrev pub Leaves : Option (List ℕ) → Option (List ℕ) → Option (List ℕ) → Option (List ℕ) → (List ℕ → List ℕ → Type 0) → (List ℕ → Type 0) → Type 0
@@ -342,10 +342,6 @@ feeds_live old new before after front piece out written result live f =
     (fed_behind (is_closed old.machine) old new before after front piece out written result f)
 
 -- ---- one PDU
-
-either : (b : Bool) → (b ≡ true) ⊎ (b ≡ false)
-either true = inl refl
-either false = inr refl
 
 pub next_is : (b : Bool) (old new : Connection) (before after : Store) (out piece written : List ℕ) (done : ℕ × Phase)
     → FedNextIf b (scene old before out) piece (Ok done) (scene new after written)

@@ -35,7 +35,7 @@ use Rattle.iscsi_text.proofs.ReadingLemmas.{read_means}
 use Rattle.iscsi_pdu.specs.declared.head.Head.{Head}
 use Rattle.iscsi_pdu.specs.declared.head.Head.TheVariants.{NopOut, ScsiCommand}
 use Rattle.iscsi_pdu.specs.Meaning.{AreBytes, opcode, rows, ones, blocks, frame, header, padding, whole, HasBlock, IsHeader, Means}
-use Rattle.iscsi_pdu.proofs.HeaderLemmas.{IsHeader-room, IsHeader-short}
+use Rattle.iscsi_pdu.proofs.HeaderLemmas.{IsHeader-room, IsHeader-short, put_all-append, ones-room, opcode-small}
 use Rattle.iscsi_stream.specs.declared.logins.Logins.{Logins}
 use Rattle.iscsi_stream.specs.Segment.{Segment, continues, after, is_last, text_or_bytes, segment_if, segment_of, segment_bytes}
 use Rattle.iscsi_stream.specs.Stream.{Message, ReadsAs}
@@ -43,12 +43,9 @@ use Rattle.iscsi_stream.specs.Canonical.{canon, canonical_bytes}
 use Rattle.iscsi_stream.proofs.HeadLemmas.{AreBytes-take, means-data}
 use Rattle.iscsi_stream.proofs.OneMeaningLaw.{AreBytes-front, AreBytes-back, segment-shorter}
 use Rattle.iscsi_stream.proofs.NormalisingLemmas.{AreBytes-append}
+use Rattle.iscsi_stream.proofs.ReadyLemmas.{both_true}
 
 -- ---- rows of a table
-
-both : (a b : Bool) → (a && b) ≡ true → (a ≡ true) × (b ≡ true)
-both true b e = (refl, e)
-both false b e = absurd cc
 
 -- the mask is one of a byte
 abbrev is_narrow : Row → Bool
@@ -72,7 +69,7 @@ byte_small : (i n : ℕ) → byte_at i n < 256
 byte_small zero n = mod-lt n (omega arith)
 byte_small (suc i) n = mod-lt (n / 256 ^ suc i) (omega arith)
 
-cons_bytes : (x : ℕ) (xs : List ℕ) → x < 256 → AreBytes xs → AreBytes (x ∷ xs)
+pub cons_bytes : (x : ℕ) (xs : List ℕ) → x < 256 → AreBytes xs → AreBytes (x ∷ xs)
 cons_bytes x xs lt h zero = lt
 cons_bytes x xs lt h (suc i) = h i
 
@@ -135,7 +132,7 @@ row_bytes (raw first last field) b narrow room raws h = raw_bytes first field.va
 pub put_all_bytes : (rows : List Row) (b : List ℕ) → are_narrow rows ≡ true → HaveRoom rows → AllByRecursion IsRaw rows → AreBytes b → AreBytes (put_all rows b)
 put_all_bytes [] b narrow room raws h = h
 put_all_bytes (r ∷ rows) b narrow room raws h =
-    let n = both (is_narrow r) (are_narrow rows) narrow in
+    let n = both_true (is_narrow r) (are_narrow rows) narrow in
     put_all_bytes rows (put r b) n.1 room.1 raws.1 (row_bytes r b n.0 room.0 raws.0 h)
 
 -- what stands in bytes are bytes
@@ -264,17 +261,9 @@ ones_narrow : (h : Head) → are_narrow (ones h) ≡ true
 ones_narrow (NopOut _) = refl
 ones_narrow _ = refl
 
-ones_room : (h : Head) → HaveRoom (ones h)
-ones_room (NopOut _) = search rules
-ones_room _ = search rules
-
 ones_raw : (h : Head) → AllByRecursion IsRaw (ones h)
 ones_raw (NopOut _) = search rules
 ones_raw _ = search rules
-
-opcode_small : (h : Head) → opcode h ≤ 63
-opcode_small (NopOut _) = omega arith
-opcode_small _ = omega arith
 
 block_narrow : (c : Cdb) → are_narrow (cdb.rows c) ≡ true
 block_narrow (Unknown _) = refl
@@ -289,16 +278,12 @@ unfolding put_raw
 with_block b (ScsiCommand h) x are has xs = put_part_bytes 32 (cdb.canonical h.cdb) x (block_bytes (part 32 47 b) h.cdb (part_bytes b 32 47 are) has) xs
 with_block b _ x are has xs = xs
 
-put_all-append : (xs ys : List Row) (b : List ℕ) → put_all (xs ++ ys) b ≡ put_all ys (put_all xs b)
-put_all-append [] ys b = refl
-put_all-append (x ∷ xs) ys b = put_all-append xs ys _
-
 header_bytes : (b : List ℕ) (h : Head) (n len : ℕ) → AreBytes b → IsHeader b h n → len < 2 ^ 24 → AreBytes (header h len)
 unfolding header
 header_bytes b h n len are r short =
-    let first = put_all_bytes (ones h) (replicate 48 0) (ones_narrow h) (ones_room h) (ones_raw h) (zeros_bytes 48) in
+    let first = put_all_bytes (ones h) (replicate 48 0) (ones_narrow h) (ones-room h) (ones_raw h) (zeros_bytes 48) in
     let framed = put_all_bytes (frame (opcode h) len) (put_all (ones h) (replicate 48 0)) refl (
-      (refl, opcode_small h),
+      (refl, opcode-small h),
       ((refl, omega arith), ((refl, short), tt)),
     ) (tt, (tt, (tt, tt))) first in
     let own = put_all_bytes (rows h) _ (head_narrow h) (IsHeader-room b h n are r) (held_raws b (rows h) are r.rows) framed in

@@ -1,5 +1,5 @@
 -- Where in the stream a PDU stands, and where the stream ends.
-use Rattle.std.proofs.Common.{◌≡◌, ℕ, ◌+◌, ◌<◌, min, Bool, true, false, List, [], ◌++◌, length, take, drop, refl, sym, ap, subst, ◌∙◌, arith, append-nil}
+use Rattle.std.proofs.Common.{◌≡◌, ℕ, ◌+◌, ◌<◌, min, true, false, List, [], ◌++◌, length, take, drop, refl, sym, ap, subst, ◌∙◌, arith, append-nil}
 use Rattle.std.proofs.lemmas.List.{length-append, length-take, length-drop, drop_at, take_at, drop-drop}
 use Rattle.iscsi_pdu.specs.declared.head.Head.{Head}
 use Rattle.iscsi_pdu.specs.Meaning.{IsHeader, Means}
@@ -10,7 +10,7 @@ use Rattle.iscsi_stream.specs.Stream.{pdu_len, Message, ReadsAs, after_all, Spli
 use Rattle.iscsi_stream.specs.Framing.{Framing, length_at, is_whole, HasTaken, FinishFails, last_place}
 use Rattle.iscsi_stream.proofs.HeadLemmas.{means-data, means_of}
 use Rattle.iscsi_stream.proofs.SettledBytesLemmas.{length-settled, is_whole-settled, Means-from_settled}
-use Rattle.iscsi_stream.proofs.ReadyLemmas.{is_whole-is}
+use Rattle.iscsi_stream.proofs.ReadyLemmas.{is_whole-is, false_if}
 use Rattle.iscsi_stream.proofs.OneMeaningLaw.{reads_one_more, longest, same_split}
 use Rattle.iscsi_stream.proofs.TakingLemmas.{splits_taken}
 
@@ -59,16 +59,12 @@ ready_not stream ms v t given rest s some whole =
     ∙ sym (append-nil (t.given ++ t.rest))) in
     omega (arith, all, some, ap length t.whole, ap length s.reaches.whole, length-append given rest)
 
-false_unless : (b : Bool) → (b ≡ true → ⊥) → b ≡ false
-false_unless true f = absurd (f refl)
-false_unless false f = refl
-
 pub is_end : (stream : List ℕ) (ms : List Message) (place : ℕ) (v : Framing) → HasTaken stream ms v → EndsWithin stream ms place v.limit →
     FinishFails v (faults.Truncated place)
 is_end stream ms place v t ends =
     let s = ends.2 in
     let part : is_whole v.held ≡ false = ap is_whole t.held ∙ is_whole-settled t.rest
-    ∙ false_unless (is_whole t.rest) (ready_not stream ms v t ends.0 ends.1 s ends.3) in
+    ∙ false_if (is_whole t.rest) (ready_not stream ms v t ends.0 ends.1 s ends.3) in
     let mine = splits_taken stream ms v t part in
     let same : t.given ≡ ends.0 = (same_split v.limit no_login t.given ms t.rest ends.0 ms ends.1 t.reads mine.no_more s.reaches.reads s.no_more (sym t.whole
     ∙ s.reaches.whole)).1 in

@@ -16,9 +16,15 @@ use Rattle.iscsi_stream.proofs.GatheringLemmas.{is_full, length-body, length_at-
 pub apart : {b : Bool} → b ≡ true → b ≡ false → ⊥
 apart p q = absurd cc
 
-both_true : (a b : Bool) → (a && b) ≡ true → (a ≡ true) × (b ≡ true)
+pub both_true : (a b : Bool) → (a && b) ≡ true → (a ≡ true) × (b ≡ true)
 both_true true b e = (refl, e)
 both_true false b e = absurd cc
+
+pub and_left : (a b : Bool) → (a && b) ≡ true → a ≡ true
+and_left a b e = (both_true a b e).0
+
+pub and_right : (a b : Bool) → (a && b) ≡ true → b ≡ true
+and_right a b e = (both_true a b e).1
 
 not_true : (a : Bool) → not a ≡ true → a ≡ false
 not_true true e = absurd cc
@@ -82,7 +88,7 @@ whole_of failed held e = (both_true (not failed) (is_whole held) e).1
 pub live_of : (failed : Bool) (held : List ℕ) → (not failed && is_whole held) ≡ true → failed ≡ false
 live_of failed held e = not_true failed (both_true (not failed) (is_whole held) e).0
 
-false_if : (b : Bool) → (b ≡ true → ⊥) → b ≡ false
+pub false_if : (b : Bool) → (b ≡ true → ⊥) → b ≡ false
 false_if true f = absurd (f refl)
 false_if false f = refl
 

@@ -30,7 +30,7 @@ begun_len-settled bytes =
     ]
 
 -- the length that a front says is that of the whole
-length_at-front : (front rest : List ℕ) → 48 ≤ length front → length_at (front ++ rest) ≡ length_at front
+pub length_at-front : (front rest : List ℕ) → 48 ≤ length front → length_at (front ++ rest) ≡ length_at front
 length_at-front front rest long = length_at-same (front ++ rest) front (take-append-le 48 front rest long)
 
 -- more bytes say no less

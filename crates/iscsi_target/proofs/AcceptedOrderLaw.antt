@@ -69,7 +69,7 @@ shut_queues s disk = record { more = tasks_open s.tasks; order = append-nil (tas
 
 -- ---- one after another
 
-tasks_append : (a b : List Message) → tasks_in (a ++ b) ≡ tasks_in a ++ tasks_in b
+pub tasks_append : (a b : List Message) → tasks_in (a ++ b) ≡ tasks_in a ++ tasks_in b
 tasks_append a b = flat_map-append (λ (m : Message). task_in m.head) a b
 
 closed_queues : (tasks : List Task) (first : Stepped) (disk : Disk) → Queues tasks first → is_closed first.machine ≡ true →
@@ -274,7 +274,7 @@ tasks_with tasks count m =
     flat_map-append task_open tasks (task_for count m ∷ [])
     ∙ ap (λ (ts : List Command). tasks_open tasks ++ (ts ++ [])) (task_is count m m.head refl)
 
-same_tasks : (s t : Machine) (m : Message) → Accepts s m t → t.tasks ≡ s.tasks
+pub same_tasks : (s t : Machine) (m : Message) → Accepts s m t → t.tasks ≡ s.tasks
 same_tasks s _ m (Immediately c none) = refl
 same_tasks s _ m (InTurn n c w is) = refl
 

@@ -70,7 +70,7 @@ waits_more false false t u ts us e f = f
 waits_more true false t u ts us e f = absurd cc
 waits_more false true t u ts us e f = absurd cc
 
-same_place : (task : Task) → takes_place (joined_task task) ≡ takes_place task
+pub same_place : (task : Task) → takes_place (joined_task task) ≡ takes_place task
 same_place (Request m) = refl
 same_place (Data w) = refl
 

@@ -110,11 +110,11 @@ answers_settings s disk (m ∷ ms) = answers_settings (step s disk m).machine (s
 
 -- ---- from the first login request
 
-opening_over : (settings : Settings) (n : ℕ) (disk : Disk) (m : Message) → is_over_limit (opening settings n) m.segment ≡ true
+pub opening_over : (settings : Settings) (n : ℕ) (disk : Disk) (m : Message) → is_over_limit (opening settings n) m.segment ≡ true
     → step (opening settings n) disk m ≡ shut_down (opening settings n) disk
 opening_over settings n disk m e = rw e refl
 
-opening_login : (settings : Settings) (n : ℕ) (disk : Disk) (m : Message) → is_over_limit (opening settings n) m.segment ≡ false
+pub opening_login : (settings : Settings) (n : ℕ) (disk : Disk) (m : Message) → is_over_limit (opening settings n) m.segment ≡ false
     → step (opening settings n) disk m ≡ on disk [] (login_step (opening_session settings n) m)
 opening_login settings n disk m e = rw e refl
 

@@ -16,7 +16,7 @@ use Rattle.iscsi_target.specs.declared.due.Due.TheVariants.{Nothing, Unsolicited
 use Rattle.iscsi_target.specs.Transfer.{received, with_piece, with_data, taken, is_in_sequence, is_next, is_unsolicited_piece, is_solicited_piece}
 use Rattle.iscsi_target.specs.Transfer.{unsolicited_end, continued, desired, with_r2t}
 use Rattle.iscsi_target.specs.Tiles.{Tiles, IsModest}
-use Rattle.iscsi_target_session.proofs.CaseLemmas.{and_left, and_right}
+use Rattle.iscsi_stream.proofs.ReadyLemmas.{and_left, and_right}
 
 -- What is due lies within what the write takes (section 11.8).
 abbrev pub DueFits : ℕ → Due → Type 0

@@ -75,7 +75,7 @@ order_keeps fb fa disk order bytes after x no_take =
 
 -- ---- no more bytes than are expected
 
-expected_by : (b : Bool) (n : ℕ) → (if b then n else 0) ≤ n
+pub expected_by : (b : Bool) (n : ℕ) → (if b then n else 0) ≤ n
 expected_by true n = omega arith
 expected_by false n = omega arith
 

@@ -63,7 +63,7 @@ reached_held settings n disk ms p =
 -- ---- Data-In
 
 -- what a store that doesn't fail gives
-gives_tiles : (answers : List Message) (es : List Execution) → Gives reliable answers es → GiveTiles bytes_given answers es
+pub gives_tiles : (answers : List Message) (es : List Execution) → Gives reliable answers es → GiveTiles bytes_given answers es
 gives_tiles answers [] g = g
 gives_tiles answers (e ∷ es) g = (g.0, g.1, g.2, g.3, gives_tiles g.1 es g.4)
 

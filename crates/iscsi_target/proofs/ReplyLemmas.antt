@@ -3,7 +3,6 @@ use Rattle.std.proofs.Common.{◌≡◌, not, ◌<◌, ◌≤◌, ◌⊎◌, inl
 use Rattle.std.proofs.Common.{unwrap_or}
 use Rattle.std.specs.Prelude.{◌==◌, nat_lt, nat_le, ◌||◌, ◌&&◌, if◌then◌else◌}
 use Rattle.std.specs.Option.{IfSome}
-use Rattle.std.specs.List.{AllByRecursion}
 use Rattle.iscsi_text.specs.Text.{Pairs}
 use Rattle.iscsi_text.specs.Canonical.{canonical_text}
 use Rattle.iscsi_text.specs.Reading.{text_in}
@@ -44,6 +43,7 @@ use Rattle.iscsi_stream.specs.Pieces.{data_pieces}
 use Rattle.iscsi_target.specs.Laws.{stat_sns, response_tags, FitsNumber, login_cmd_sn}
 use Rattle.iscsi_target_session.proofs.CaseLemmas.{by_cases}
 use Rattle.iscsi_target_session.proofs.DeclaredLengthLemmas.{declares_well, holds}
+use Rattle.scsi_disk.proofs.PlanLemmas.{all_false}
 
 -- each is the one after the one before, from the first on; the last argument is what comes then
 abbrev pub Count : ℕ → List ℕ → ℕ → Type 0
@@ -220,19 +220,9 @@ refused_reply : (A : Type 0) (s : Session) (r : LoginPdu) (why : Option Status) 
 refused_reply A s r None reply c = c refl
 refused_reply A s r (Some why) reply c = refuse_reply s r why
 
-row_of_none : {A : Type 0} (b : Bool) (a : A) (more : Option A) → (if b then Some a else more) ≡ None → (b ≡ false) × (more ≡ None)
-row_of_none true a more e = absurd cc
-row_of_none false a more e = (refl, e)
-
-none_holds : {A : Type 0} (rows : List (Bool × A)) → first_of rows ≡ None → AllByRecursion (λ row. row.0 ≡ false) rows
-none_holds [] e = tt
-none_holds (row ∷ rows) e =
-    let f = row_of_none row.0 row.1 (first_of rows) e in
-    (f.0, none_holds rows f.1)
-
 -- the seventh reason doesn't hold where none does
 no_bad_length : (s : Session) (pairs : Pairs) → first_of (text_refusals s pairs) ≡ None → is_bad_length (value_for max_recv_key pairs) ≡ false
-no_bad_length s pairs e = (none_holds (text_refusals s pairs) e).1.1.1.1.1.1.0
+no_bad_length s pairs e = (all_false (text_refusals s pairs) e).1.1.1.1.1.1.0
 
 declared_in : (s : Session) → IsInRange s.settings.preferences → IfSome (declared_length s) (IsWithin max_recv_range)
 declared_in s p = by_cases (is_operational s.stage && not s.has_operational_text) (λ e. rw e p.max_recv) (λ e. rw e tt)

@@ -80,7 +80,7 @@ ones_without (task ∷ more) (suc place) e =
     let rest : map joined_task more ≡ more = ap (λ (ts : List Task). drop 1 ts) e in
     λ i. first i ∷ ones_without more place rest i
 
-behind_some : (tasks : List Task) → TakePlaces tasks → TakePlaces (behind tasks)
+pub behind_some : (tasks : List Task) → TakePlaces tasks → TakePlaces (behind tasks)
 behind_some [] p = tt
 behind_some (task ∷ more) p = p.1
 

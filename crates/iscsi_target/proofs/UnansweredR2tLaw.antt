@@ -17,7 +17,7 @@ use Rattle.iscsi_pdu.specs.declared.head.scsi_command.ScsiCommand.{ScsiCommand a
 use Rattle.iscsi_pdu.specs.declared.head.data_out.DataOut.{DataOut as DataPdu}
 use Rattle.iscsi_stream.specs.Segment.{segment_bytes}
 use Rattle.iscsi_stream.specs.Stream.{Message}
-use Rattle.iscsi_stream.proofs.ReadyLemmas.{apart}
+use Rattle.iscsi_stream.proofs.ReadyLemmas.{apart, and_left, and_right}
 use Rattle.iscsi_login.specs.Held.{first_burst}
 use Rattle.iscsi_target_session.specs.Configured.{Settings}
 use Rattle.iscsi_target_session.specs.Session.{Session, Reply}
@@ -40,12 +40,11 @@ use Rattle.iscsi_target.specs.Tiles.{r2t_ranges, r2t_range, ends_r2t, data_answe
 use Rattle.iscsi_target.specs.Laws.{HasCmdSn}
 use Rattle.iscsi_target_session.proofs.CaseLemmas.{by_cases}
 use Rattle.iscsi_target.proofs.TurnLemmas.{Writes, Waits, Opens, Begins, begins, Turns, turns, with_tasks, stays_on}
-use Rattle.iscsi_target.proofs.StepPartLemmas.{Accepts, Immediately, InTurn, Parts, step_parts}
+use Rattle.iscsi_target.proofs.StepPartLemmas.{Parts, step_parts}
 use Rattle.iscsi_target.proofs.ReplyLemmas.{IsOver, on_ends, Logs, login_logs, request_answered_reply}
-use Rattle.iscsi_target.proofs.AcceptedOrderLaw.{still, found_tag, taken_same}
+use Rattle.iscsi_target.proofs.AcceptedOrderLaw.{still, found_tag, taken_same, same_tasks}
 use Rattle.iscsi_target.proofs.NumberLaws.{closed_answers}
 use Rattle.iscsi_target.proofs.OpenWriteLemmas.{DueFits, size_with}
-use Rattle.iscsi_target_session.proofs.CaseLemmas.{and_left, and_right}
 use Rattle.iscsi_target.proofs.PendingLemmas.{AreUnasked, none_kept, taken_unasked, found_unasked, written_unasked, behind_with, step_kept}
 use Rattle.iscsi_target.proofs.WriteTilingLaws.{IsSound, execute_ranges, step_goes, step_count}
 
@@ -360,10 +359,6 @@ with_fits : (tasks : List Task) (count : ℕ) (m : Message) → AreKept tasks �
 with_fits [] count m k = (task_fits count m m.head, tt)
 with_fits (Request x ∷ more) count m k = absurd k.pending
 with_fits (Data x ∷ more) count m k = (pending_fits x k.pending, behind_with (Data x ∷ more) count m k.unasked)
-
-same_tasks : (s t : Machine) (m : Message) → Accepts s m t → t.tasks ≡ s.tasks
-same_tasks s _ m (Immediately c none) = refl
-same_tasks s _ m (InTurn n c w is) = refl
 
 admitted_asks : (device : Device) (s : Machine) (session : Session) (m : Message) (disk : Disk) → AreKept s.tasks →
     Asks (unanswered s.tasks) 0 (done_in_turn device session disk (s.tasks ++ task_of disk.count m ∷ []))

@@ -14,7 +14,7 @@ use Rattle.iscsi_login.specs.Held.{Held, IsHeld}
 use Rattle.iscsi_login.specs.Answer.{DeclaresWell, IsLengthOrNone, max_recv_key, first_number, declared_max_recv, target_holds}
 use Rattle.iscsi_login.proofs.AgreementLaw.{allowed_after_offers, declared_within}
 use Rattle.iscsi_target_session.specs.LoginText.{is_bad_length, first_value, value_for, is_reject}
-use Rattle.iscsi_target_session.proofs.CaseLemmas.{and_left, and_right}
+use Rattle.iscsi_stream.proofs.ReadyLemmas.{and_left, and_right}
 
 within_by : (n : ℕ) (b : Bool) → (nat_le 512 n && nat_le n 16777215) ≡ b → is_reject (if b then Number n else Reject) ≡ false → IsWithin max_recv_range n
 within_by n true e f = (leb-true 512 n (and_left (nat_le 512 n) (nat_le n 16777215) e), leb-true n 16777215 (and_right (nat_le 512 n) (nat_le n 16777215) e))

@@ -1,6 +1,6 @@
 -- What is written is read, and two ends that suit each other.
 use Rattle.std.specs.Prelude.{All, bit_and, codes, min, nat_le, nat_lt, not, ◌&&◌, ◌==◌, ◌<◌}
-use Rattle.std.proofs.Common.{◌≡◌, ◌≤◌, inl, inr, ℕ, zero, suc, ◌+◌, ◌*◌, ◌/◌, Bool, true, false, List, [], ◌∷◌, length, take, refl, ap, ◌∙◌, subst, arith}
+use Rattle.std.proofs.Common.{◌≡◌, ◌≤◌, inl, inr, ℕ, ◌+◌, ◌*◌, ◌/◌, Bool, true, false, List, [], ◌∷◌, length, take, refl, ap, ◌∙◌, subst, arith}
 use Rattle.std.proofs.lemmas.Bool.{eq-eqb, le-ltb, leb-true, ltb-true, ne_eqb}
 use Rattle.std.proofs.lemmas.List.{take_all}
 use Rattle.std.proofs.lemmas.List.Elements.{All-cons, All-nil}
@@ -19,7 +19,6 @@ use Rattle.scsi_disk.specs.declared.order.Plan.TheVariants.{Take, Give}
 use Rattle.iscsi_pdu.specs.Meaning.{AreBytes}
 use Rattle.iscsi_login.specs.Name.{IsName}
 use Rattle.iscsi_login.specs.Negotiation.{IsInRange, standard}
-use Rattle.iscsi_target_session.proofs.CaseLemmas.{and_left, and_right}
 use Rattle.iscsi_initiator.specs.Block.{record_of}
 use Rattle.iscsi_initiator.specs.declared.request.Done.TheVariants as done
 use Rattle.iscsi_initiator.specs.declared.request.Request.{Request}
@@ -30,6 +29,8 @@ use Rattle.iscsi_pair.specs.Served.{IsNormal, SomeRunServes, disk_outcomes}
 use Rattle.iscsi_pair.specs.Example.{NameSame, first_read, first_written, good, standard_opening}
 use Rattle.iscsi_pair.proofs.Lists.BlockLemmas.{joined_back}
 use Rattle.iscsi_pair.proofs.Lists.ListsAreServedLaw.{serves_all}
+use Rattle.iscsi_stream.proofs.CanonBytesLaw.{cons_bytes}
+use Rattle.iscsi_stream.proofs.ReadyLemmas.{and_left, and_right}
 
 -- ---- the orders
 
@@ -143,13 +144,9 @@ abbrev are_bytes : List ℕ → Bool
 are_bytes [] = true
 are_bytes (x ∷ xs) = nat_lt x 256 && are_bytes xs
 
-byte_more : (x : ℕ) (xs : List ℕ) → x < 256 → AreBytes xs → AreBytes (x ∷ xs)
-byte_more x xs lt h zero = lt
-byte_more x xs lt h (suc i) = h i
-
 bytes_are : (b : List ℕ) → are_bytes b ≡ true → AreBytes b
 bytes_are [] e = λ i. omega arith
-bytes_are (x ∷ xs) e = byte_more x xs (ltb-true x 256 (and_left (nat_lt x 256) (are_bytes xs) e)) (bytes_are xs (and_right (nat_lt x 256) (are_bytes xs) e))
+bytes_are (x ∷ xs) e = cons_bytes x xs (ltb-true x 256 (and_left (nat_lt x 256) (are_bytes xs) e)) (bytes_are xs (and_right (nat_lt x 256) (are_bytes xs) e))
 
 abbrev first_block : Transfer10
 first_block = record { options = 0; logical_block_address = 0; group_number = 0; blocks = 1; control = 0 }

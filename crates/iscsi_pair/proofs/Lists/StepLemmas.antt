@@ -2,14 +2,14 @@
 use Rattle.std.proofs.Common.{◌≡◌, ◌<◌, ◌≤◌, ◌⊎◌, inl, inr, ℕ, ◌+◌, min, max, Bool, true, false, List, [], ◌∷◌, ◌++◌, length, take, drop, None, Ok, refl, sym}
 use Rattle.std.proofs.Common.{ap, ◌∙◌, subst, append_assoc, arith}
 use Rattle.std.proofs.Math.Seq.{drop-append_seam, drop-length}
-use Rattle.std.proofs.lemmas.List.{append-nil, drop_at, length-append, nil_from_length, take-append-le, take_all, take_at}
+use Rattle.std.proofs.lemmas.List.{append-nil, drop_at, length-append, nil_from_length, take_all, take_at}
 use Rattle.scsi_disk.specs.Disk.{Disk, disk_of}
 use Rattle.iscsi_stream.specs.declared.logins.Logins.{Logins}
 use Rattle.iscsi_stream.specs.Segment.{no_login, after}
 use Rattle.iscsi_stream.specs.Stream.{Message, ReadsAs, after_all, pdu_len}
 use Rattle.iscsi_stream.specs.Canonical.{canon, canonical_bytes}
 use Rattle.iscsi_stream.specs.Framing.{Framing, Moves, begun_len, is_ready, last_place, length_at, longest_of, settled}
-use Rattle.iscsi_stream.proofs.HeadLemmas.{length_at-same, means-length}
+use Rattle.iscsi_stream.proofs.HeadLemmas.{means-length}
 use Rattle.iscsi_stream.proofs.GatheringLemmas.{begun_len-short}
 use Rattle.iscsi_stream.proofs.SettledBytesLemmas.{settled-short, length-settled}
 use Rattle.iscsi_stream.proofs.ReadyLemmas.{not_whole-nil}
@@ -39,6 +39,7 @@ use Rattle.iscsi_pair.specs.World.{Happens, keeps_no_memory, store_of}
 use Rattle.iscsi_pair.specs.Served.{IsAccepted, RunsServed, requests_of, requests_in, given_in}
 use Rattle.iscsi_pair.proofs.Request.Invariant.{AreWritten, IsWritten}
 use Rattle.iscsi_pair.proofs.Run.QueueReading.{after_all_append, reads_joined, written_reads}
+use Rattle.iscsi_stream.proofs.TakingLemmas.{length_at-front}
 
 -- ---- framers that hold nothing
 
@@ -65,10 +66,6 @@ spot_after at ms = record {
 
 place_sum : (place given bytes last : ℕ) → place ≡ min given last → min (place + bytes) last ≡ min (given + bytes) last
 place_sum place given bytes last e = omega (arith, e)
-
--- the length that a front says is that of the whole
-length_at-front : (front rest : List ℕ) → 48 ≤ length front → length_at (front ++ rest) ≡ length_at front
-length_at-front front rest long = length_at-same (front ++ rest) front (take-append-le 48 front rest long)
 
 -- the longest segment of PDUs and of those behind them
 longest_more : (limit : ℕ) (logins : Logins) (given : List ℕ) (ms : List Message) (bytes : List ℕ) (more : List Message)
@@ -164,7 +161,7 @@ reliable_answers s disk (m ∷ ms) =
       refl,
     )
 
-moves_there : (moved : List ℕ) (old new : World) → 0 < length moved → TargetReceives moved old new → MovesToTarget None moved old new
+pub moves_there : (moved : List ℕ) (old new : World) → 0 < length moved → TargetReceives moved old new → MovesToTarget None moved old new
 moves_there [] old new some h = absurd (omega (arith, some))
 moves_there (byte ∷ bytes) old new some h = h
 
@@ -252,7 +249,7 @@ closed_is phases.Closed e = refl
 closed_is phases.Login e = absurd cc
 closed_is phases.Full e = absurd cc
 
-moves_here : (moved : List ℕ) (old new : World) → 0 < length moved → InitiatorReceives moved old new → MovesToInitiator None moved old new
+pub moves_here : (moved : List ℕ) (old new : World) → 0 < length moved → InitiatorReceives moved old new → MovesToInitiator None moved old new
 moves_here [] old new some h = absurd (omega (arith, some))
 moves_here (byte ∷ bytes) old new some h = h
 

@@ -63,6 +63,7 @@ use Rattle.iscsi_pair.proofs.Wire.WrittenPdus.{command_readable, data_in_readabl
 use Rattle.iscsi_pair.proofs.Wire.OutcomeRanges.{HasRoom, outcome_fits}
 use Rattle.iscsi_pair.proofs.Request.AnswersInOrder.{ArePlain, Begins, Ends, LeadsTo, heard_by, hears_quiet, plain_more, plain_one, short_message}
 use Rattle.iscsi_pair.proofs.Request.Invariant.{between}
+use Rattle.iscsi_target.proofs.OrderLemmas.{expected_by}
 
 -- ---- the initiator hears the data
 
@@ -408,17 +409,13 @@ given_by : (b : Bool) (count wanted most n : ℕ) → (if b then Take (512 * cou
 given_by true count wanted most n e = absurd cc
 given_by false count wanted most n e = (let is : min wanted most ≡ n = cc in omega (arith, is))
 
-within : (b : Bool) (n : ℕ) → (if b then n else 0) ≤ n
-within true n = omega arith
-within false n = omega arith
-
 gives_few : (f : Option Sense) (order : Order) (blocks n : ℕ) → plan_by f order blocks ≡ Give n → n ≤ order.expected
 gives_few (Some sense) order blocks n e = absurd cc
 gives_few None order blocks n e =
     omega (
       arith,
       given_by (is_write order.cdb) (transfer order.cdb).count (wanted_length order blocks) (expected_length order) n e,
-      within (order.read || (order.write && (is_write order.cdb || is_unknown order.cdb))) order.expected,
+      expected_by (order.read || (order.write && (is_write order.cdb || is_unknown order.cdb))) order.expected,
     )
 
 outcome_few : (p : Plan) (disk : Disk) (order : Order) (most : ℕ) → ((n : ℕ) → p ≡ Give n → n ≤ most) → length (outcome_by p disk order).bytes ≤ most
