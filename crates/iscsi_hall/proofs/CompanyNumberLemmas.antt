@@ -15,42 +15,32 @@ use Rattle.iscsi_target.specs.Execution.{reliable}
 use Rattle.iscsi_target.specs.Machine.{answers, is_closed, is_over_limit, step, then_stepped}
 use Rattle.iscsi_target.specs.Laws.{CountOn, FitsNumber, HasCmdSn, login_cmd_sn, given_number, cmd_sn_of, cmd_sns}
 use Rattle.iscsi_target_session.proofs.CaseLemmas.{by_cases}
-use Rattle.iscsi_target.proofs.NumberLaws.{answers_cmd_sns, count_on, opening_over, opening_login}
+use Rattle.iscsi_target.proofs.NumberLaws.{answers_cmd_sns, count_on}
 use Rattle.iscsi_target.proofs.ReplyLemmas.{IsReply, request_reply}
 use Rattle.iscsi_target.proofs.SendingLemmas.{CountsTo, counts_on, counts_out}
 use Rattle.iscsi_hall.specs.Company.{Group, answers_over, messages_in}
 use Rattle.iscsi_hall.proofs.CompanyLemmas.{over_closed}
-
-answers_begun : (s : Machine) (disk : Disk) (ms : List Message) → s.session.begun ≡ true → (answers s disk ms).machine.session.begun ≡ true
-unfolding answers
-answers_begun s disk [] b = b
-answers_begun s disk (m ∷ ms) b = answers_begun (step s disk m).machine (step s disk m).disk ms ((step_tells reliable disk s m).begun b)
-
-answers_fits : (s : Machine) (disk : Disk) (ms : List Message) → s.session.exp_cmd_sn < 2 ^ 32 → AllByRecursion HasCmdSn ms →
-    (answers s disk ms).machine.session.exp_cmd_sn < 2 ^ 32
-unfolding answers
-answers_fits s disk [] lt all = lt
-answers_fits s disk (m ∷ ms) lt all =
-    answers_fits (step s disk m).machine (step s disk m).disk ms ((step_tells reliable disk s m).fits lt all.0.login) all.1
 
 all_parts : (a b : List Message) → AllByRecursion HasCmdSn (a ++ b) → AllByRecursion HasCmdSn a × AllByRecursion HasCmdSn b
 all_parts [] b all = (tt, all)
 all_parts (m ∷ a) b all = let rest = all_parts a b all.1 in ((all.0, rest.0), rest.1)
 
 over_cmd_sns : (s : Machine) (disk : Disk) (gs : List Group) → s.session.begun ≡ true → s.session.exp_cmd_sn < 2 ^ 32 →
-    AllByRecursion HasCmdSn (messages_in gs) → Count s.session.exp_cmd_sn (cmd_sns (answers_over s disk gs).accepted)
-    (answers_over s disk gs).machine.session.exp_cmd_sn
+    AllByRecursion HasCmdSn (messages_in gs) → CountsTo s.session.exp_cmd_sn (cmd_sns (answers_over s disk gs).accepted) (answers_over s disk gs).machine
 unfolding answers_over
-over_cmd_sns s disk [] b lt all = refl
+over_cmd_sns s disk [] b lt all = record { next = s.session.exp_cmd_sn; count = refl; fits = lt; live = λ e. (b, refl) }
 over_cmd_sns s disk (g ∷ gs) b lt all =
     let first : Stepped = answers s g.0 g.1 in
     let later : Stepped = answers_over first.machine first.disk gs in
     let both = all_parts g.1 (messages_in gs) all in
-    subst (λ (ns : List ℕ). Count s.session.exp_cmd_sn ns later.machine.session.exp_cmd_sn)
+    let t : CountsTo s.session.exp_cmd_sn (cmd_sns first.accepted) first.machine = answers_cmd_sns s g.0 g.1 b lt both.0 in
+    subst (λ (ns : List ℕ). CountsTo s.session.exp_cmd_sn ns later.machine)
     (sym (flat_map-append (λ (x : Message). given_number (cmd_sn_of x.head)) first.accepted later.accepted))
-    (count_append s.session.exp_cmd_sn (cmd_sns first.accepted) (cmd_sns later.accepted) first.machine.session.exp_cmd_sn later.machine.session.exp_cmd_sn
-    (answers_cmd_sns s g.0 g.1 b lt both.0)
-    (over_cmd_sns first.machine first.disk gs (answers_begun s g.0 g.1 b) (answers_fits s g.0 g.1 lt both.0) both.1))
+    (by_cases (is_closed first.machine)
+    (λ e. let over = over_closed first.machine first.disk gs e in
+    counts_out s.session.exp_cmd_sn (cmd_sns first.accepted) (cmd_sns later.accepted) first.machine later.machine over.2 (ap cmd_sns over.0) t)
+    (λ e. counts_on s.session.exp_cmd_sn (cmd_sns first.accepted) (cmd_sns later.accepted) first.machine later.machine e t
+    (over_cmd_sns first.machine first.disk gs (t.live e).0 (subst (λ (k : ℕ). k < 2 ^ 32) (sym (t.live e).1) t.fits) both.1)))
 
 -- messages and then groups, as one
 behind_count : (s : Machine) (disk : Disk) (ms : List Message) (gs : List Group) (n : ℕ) → s.session.begun ≡ true → s.session.exp_cmd_sn ≡ n → n < 2 ^ 32 →
@@ -60,8 +50,9 @@ unfolding answers_over
 behind_count s disk ms gs n b same lt all =
     let r : Stepped = answers_over s disk ((disk, ms) ∷ gs) in
     let low : s.session.exp_cmd_sn < 2 ^ 32 = subst (λ (k : ℕ). k < 2 ^ 32) (sym same) lt in
-    count_on n (cmd_sns r.accepted) r.machine.session.exp_cmd_sn lt
-    (subst (λ (k : ℕ). Count k (cmd_sns r.accepted) r.machine.session.exp_cmd_sn) same (over_cmd_sns s disk ((disk, ms) ∷ gs) b low all))
+    let c : CountsTo n (cmd_sns r.accepted) r.machine = subst (λ (k : ℕ). CountsTo k (cmd_sns r.accepted) r.machine) same
+    (over_cmd_sns s disk ((disk, ms) ∷ gs) b low all) in
+    count_on n (cmd_sns r.accepted) c.next lt c.count
 
 nothing_counts : (n : ℕ) (ms : List Message) → ms ≡ [] → CountOn n (cmd_sns ms)
 nothing_counts n ms e = subst (λ (xs : List Message). CountOn n (cmd_sns xs)) (sym e) (λ k le. absurd (omega (arith, le)))
@@ -83,7 +74,9 @@ behind_login settings n disk m ms gs h head k lt all =
     let c : IsReply (numbered (opening_session settings n) h) (login_request (opening_session settings n) h m.segment) =
     request_reply (opening_session settings n) h m.segment in
     subst (λ (x : Head). Behind disk ms gs h.cmd_sn (on disk [] (login_in (opening_session settings n) x m.segment))) (sym k)
-    (behind_count (on disk [] (login_request (opening_session settings n) h m.segment)).machine disk ms gs h.cmd_sn c.begun c.exp_cmd_sn lt all)
+    (let after : Machine = (on disk [] (login_request (opening_session settings n) h m.segment)).machine in
+    by_cases (is_closed after) (λ e. nothing_counts h.cmd_sn _ (closed_accepts after disk ms gs e))
+    (λ e. behind_count after disk ms gs h.cmd_sn (c.live e).0 (c.live e).1 lt all))
 
 behind_first : (settings : Settings) (n : ℕ) (disk : Disk) (m : Message) (ms : List Message) (gs : List Group) (h : LoginPdu) →
     m.head ≡ LoginRequest h → h.cmd_sn < 2 ^ 32 → AllByRecursion HasCmdSn (ms ++ messages_in gs) →

@@ -15,12 +15,11 @@ use Rattle.iscsi_stream.specs.Segment.{segment_if, segment_of, segment_bytes, te
 use Rattle.iscsi_stream.specs.Stream.{Message, message}
 use Rattle.iscsi_login.specs.declared.phase.Phase.{Phase}
 use Rattle.iscsi_login.specs.declared.stage.Session.{Session as SessionType}
-use Rattle.iscsi_target_session.specs.Session.{Session, Reply, limit}
+use Rattle.iscsi_target_session.specs.Session.{Session, limit}
 use Rattle.iscsi_target.specs.State.{Machine, Stepped, on, unchanged, shut_down, waiting, max_cmd_sn}
 use Rattle.std.proofs.Common.{inl, inr, arith}
-use Rattle.std.specs.Prelude.{Ok, Err, OnOk, OnErr}
+use Rattle.std.specs.Prelude.{Ok, Err}
 use Rattle.iscsi_login.specs.declared.phase.Phase.TheVariants.{Login, Full}
-use Rattle.iscsi_target.specs.State.{closed}
 use Rattle.iscsi_target_session.specs.Login.{login_step}
 use Rattle.std.specs.Prelude.{◌+◌}
 use Rattle.iscsi_login.specs.Held.{first_burst}
@@ -30,7 +29,7 @@ use Rattle.iscsi_target.specs.Machine.{Next, followed, full_step, write_of, with
 use Rattle.iscsi_target.specs.Laws.{joined_stepped}
 use Rattle.iscsi_target.specs.Feed.{Store}
 use Rattle.iscsi_target_session.proofs.CaseLemmas.{by_cases}
-use Rattle.iscsi_target.proofs.ServingLemmas.{serves_same, leaves_serves, accepts_by, answered_follows}
+use Rattle.iscsi_target.proofs.ServingLemmas.{serves_same, leaves_serves, accepts_by}
 use Rattle.iscsi_target.specs.Inside.{moment, Leaves, refusal, Follows, Answers, store_of}
 use Rattle.iscsi_target_session.specs.Rejecting.{reject}
 use Rattle.iscsi_pdu.specs.Rules.{kind_not_due, segment_too_long, command_out_of_turn, too_many_immediate}
@@ -327,36 +326,11 @@ admitted_some s count m rule e =
     some_is : {a b : ℕ} → Some a ≡ Some b → a ≡ b
     some_is e = cc
 
--- a request that was refused behind its CmdSN: where memory runs out, the number is due again
-pub any_ok : {A E P : Type 0} (result : Result A E) → P → OnOk result P
-any_ok (Ok x) h = h
-any_ok (Err e) h = tt
-
-back_closed : (s b : Machine) → closed b ≡ closed (advanced s) → closed (record b { session = record b.session { exp_cmd_sn = s.session.exp_cmd_sn } })
-    ≡ closed s
-back_closed s b e = ap (λ (x : Machine). record x { session = record x.session { exp_cmd_sn = s.session.exp_cmd_sn } }) e
-
-pub turned_back : {E : Type 0} (result : Result (Option ℕ) E) (n : ℕ) (s mid new : Machine) (r : Reply) (next : Next) (disk : Disk) (before after : List ℕ) →
-    next ≡ Answered r → Leaves (on disk s.tasks r) result (advanced s) mid before after
-    → OnOk result (new ≡ mid) → OnErr result (new ≡ record mid { session = record mid.session { exp_cmd_sn = s.session.exp_cmd_sn } }) →
-    Follows next result (moment s (store_of disk n) before) (moment new (store_of disk n) after)
-turned_back (Ok rule) n s mid new r next disk before after is h ok err =
-    answered_follows (Ok rule) n s r next disk new before after is (record {
-      machine = ok ∙ h.machine;
-      output = h.output;
-      rule_is = h.rule_is;
-      err = tt;
-      unwritten = tt;
-    })
-turned_back (Err e) n s mid new r next disk before after is h ok err =
-    answered_follows (Err e) n s r next disk new before after is (record {
-      machine = tt;
-      output = tt;
-      rule_is = tt;
-      err = ap closed err
-          ∙ back_closed s mid h.err;
-      unwritten = h.unwritten;
-    })
+-- a request that was refused behind its CmdSN: where memory runs out, the session is closed, which forgets that it was taken
+pub before_its_turn : {E : Type 0} (result : Result (Option ℕ) E) (r : Stepped) (s new : Machine) (before after : List ℕ) →
+    Leaves r result (advanced s) new before after → Leaves r result s new before after
+before_its_turn result r s new before after h =
+    record { machine = h.machine; output = h.output; rule_is = h.rule_is; err = h.err; unwritten = h.unwritten }
 
 pub at_once : (s : Machine) (count : ℕ) (m : Message) → s.tasks ≡ [] → admitted s count m ≡ (immediate s count m).next
 at_once s count m none = room s count m (ap is_busy none)

@@ -19,7 +19,7 @@ use Rattle.iscsi_target.specs.Machine.{step, answers, then_stepped, is_closed, i
 use Rattle.iscsi_target.specs.Laws.{stat_sns, stat_sn_of, given_number, response_tags, response_tag, cmd_sns, cmd_sn_of, HasCmdSn, CountOn}
 use Rattle.iscsi_target_session.proofs.CaseLemmas.{by_cases}
 use Rattle.iscsi_target.proofs.ReplyLemmas.{Count, IsReply, request_reply}
-use Rattle.iscsi_target.proofs.SendingLemmas.{StepTells, step_tells, tags_done, count_append}
+use Rattle.iscsi_target.proofs.SendingLemmas.{CountsTo, StepTells, counts_on, counts_out, step_tells, tags_done, count_append}
 use Rattle.iscsi_target.specs.Execution.{reliable}
 
 pub count_on : (n : ℕ) (numbers : List ℕ) (after : ℕ) → n < 2 ^ 32 → Count n numbers after → CountOn n numbers
@@ -57,21 +57,6 @@ answers_tags s disk (m ∷ ms) =
     ∙ ap (λ (ts : List ℕ). tags_done first.executed ++ ts) (answers_tags first.machine first.disk ms)
     ∙ sym (map-append (λ (e : Execution). e.initiator_task_tag) first.executed later.executed)
 
--- ---- CmdSN
-
-pub answers_cmd_sns : (s : Machine) (disk : Disk) (ms : List Message) → s.session.begun ≡ true → s.session.exp_cmd_sn < 2 ^ 32 → AllByRecursion HasCmdSn ms
-    → Count s.session.exp_cmd_sn (cmd_sns (answers s disk ms).accepted) (answers s disk ms).machine.session.exp_cmd_sn
-unfolding answers
-answers_cmd_sns s disk [] b f all = refl
-answers_cmd_sns s disk (m ∷ ms) b f all =
-    let first : Stepped = step s disk m in
-    let later : Stepped = answers first.machine first.disk ms in
-    let t : StepTells reliable s m first = step_tells reliable disk s m in
-    subst (λ (ns : List ℕ). Count s.session.exp_cmd_sn ns later.machine.session.exp_cmd_sn)
-    (sym (flat_map-append (λ (x : Message). given_number (cmd_sn_of x.head)) first.accepted later.accepted))
-    (count_append s.session.exp_cmd_sn (cmd_sns first.accepted) (cmd_sns later.accepted) first.machine.session.exp_cmd_sn later.machine.session.exp_cmd_sn
-    (t.cmd_sns b f all.0) (answers_cmd_sns first.machine first.disk ms (t.begun b) (t.fits f all.0.login) all.1))
-
 -- ---- a closed session
 
 pub closed_step : (s : Machine) (disk : Disk) (m : Message) → is_closed s ≡ true → step s disk m ≡ unchanged s disk
@@ -83,6 +68,25 @@ closed_answers s disk [] e = refl
 closed_answers s disk (m ∷ ms) e =
     ap (λ (r : Stepped). then_stepped r (answers r.machine r.disk ms)) (closed_step s disk m e)
     ∙ ap (λ (r : Stepped). then_stepped (unchanged s disk) r) (closed_answers s disk ms e)
+
+-- ---- CmdSN
+
+pub answers_cmd_sns : (s : Machine) (disk : Disk) (ms : List Message) → s.session.begun ≡ true → s.session.exp_cmd_sn < 2 ^ 32 → AllByRecursion HasCmdSn ms
+    → CountsTo s.session.exp_cmd_sn (cmd_sns (answers s disk ms).accepted) (answers s disk ms).machine
+unfolding answers
+answers_cmd_sns s disk [] b f all = record { next = s.session.exp_cmd_sn; count = refl; fits = f; live = λ e. (b, refl) }
+answers_cmd_sns s disk (m ∷ ms) b f all =
+    let first : Stepped = step s disk m in
+    let later : Stepped = answers first.machine first.disk ms in
+    let t : CountsTo s.session.exp_cmd_sn (cmd_sns first.accepted) first.machine = (step_tells reliable disk s m).cmd_sns b f all.0 in
+    subst (λ (ns : List ℕ). CountsTo s.session.exp_cmd_sn ns later.machine)
+    (sym (flat_map-append (λ (x : Message). given_number (cmd_sn_of x.head)) first.accepted later.accepted))
+    (by_cases (is_closed first.machine)
+    (λ e. let same : later ≡ unchanged first.machine first.disk = closed_answers first.machine first.disk ms e in
+    counts_out s.session.exp_cmd_sn (cmd_sns first.accepted) (cmd_sns later.accepted) first.machine later.machine
+    (ap (λ (r : Stepped). is_closed r.machine) same ∙ e) (ap (λ (r : Stepped). cmd_sns r.accepted) same) t)
+    (λ e. counts_on s.session.exp_cmd_sn (cmd_sns first.accepted) (cmd_sns later.accepted) first.machine later.machine e t
+    (answers_cmd_sns first.machine first.disk ms (t.live e).0 (subst (λ (k : ℕ). k < 2 ^ 32) (sym (t.live e).1) t.fits) all.1)))
 
 -- ---- what is held
 
@@ -130,10 +134,10 @@ from_login : (s : Machine) (disk : Disk) (ms : List Message) (first : ℕ) → s
     AllByRecursion HasCmdSn ms
     → CountOn first (cmd_sns (answers s disk ms).accepted)
 from_login s disk ms first b e lt all =
-    let c : Count first (cmd_sns (answers s disk ms).accepted) (answers s disk ms).machine.session.exp_cmd_sn =
-    subst (λ (n : ℕ). Count n (cmd_sns (answers s disk ms).accepted) (answers s disk ms).machine.session.exp_cmd_sn) e
+    let c : CountsTo first (cmd_sns (answers s disk ms).accepted) (answers s disk ms).machine =
+    subst (λ (n : ℕ). CountsTo n (cmd_sns (answers s disk ms).accepted) (answers s disk ms).machine) e
     (answers_cmd_sns s disk ms b (subst (λ (n : ℕ). n < 2 ^ 32) (sym e) lt) all) in
-    count_on first (cmd_sns (answers s disk ms).accepted) (answers s disk ms).machine.session.exp_cmd_sn lt c
+    count_on first (cmd_sns (answers s disk ms).accepted) c.next lt c.count
 
 from_request : (settings : Settings) (n : ℕ) (disk : Disk) (m : Message) (ms : List Message) (h : LoginPdu) (head : Head) → head ≡ LoginRequest h → h.cmd_sn
     < 2 ^ 32
@@ -142,7 +146,8 @@ from_request settings n disk m ms h head k lt all =
     let c : IsReply (numbered (opening_session settings n) h) (login_request (opening_session settings n) h m.segment) =
     request_reply (opening_session settings n) h m.segment in
     subst (λ (x : Head). From disk ms h.cmd_sn (on disk [] (login_in (opening_session settings n) x m.segment))) (sym k)
-    (from_login (on disk [] (login_request (opening_session settings n) h m.segment)).machine disk ms h.cmd_sn c.begun c.exp_cmd_sn lt all)
+    (let after : Machine = (on disk [] (login_request (opening_session settings n) h m.segment)).machine in
+    by_cases (is_closed after) (from_closed disk ms h.cmd_sn after) (λ e. from_login after disk ms h.cmd_sn (c.live e).0 (c.live e).1 lt all))
 
 pub first_numbers : (settings : Settings) (n : ℕ) (disk : Disk) (m : Message) (ms : List Message) (h : LoginPdu) → m.head ≡ LoginRequest h → h.cmd_sn < 2 ^ 32
     → AllByRecursion HasCmdSn ms → CountOn h.cmd_sn (cmd_sns (answers (opening settings n) disk (m ∷ ms)).accepted)

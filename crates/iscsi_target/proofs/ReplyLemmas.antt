@@ -1,5 +1,5 @@
 -- What replies keep: those of a login, and those to requests that aren't commands.
-use Rattle.std.proofs.Common.{◌≡◌, not, ◌<◌, ◌≤◌, ◌⊎◌, inl, inr, ℕ, ◌+◌, ◌^◌, List, [], ◌∷◌, Bool, true, false, length, Option, Some, None, refl, subst, arith}
+use Rattle.std.proofs.Common.{◌≡◌, not, ◌≤◌, ◌⊎◌, inl, inr, ℕ, ◌+◌, List, [], ◌∷◌, Bool, true, false, length, Option, Some, None, refl, arith}
 use Rattle.std.proofs.Common.{unwrap_or}
 use Rattle.std.specs.Prelude.{◌==◌, nat_lt, nat_le, ◌||◌, ◌&&◌, if◌then◌else◌}
 use Rattle.std.specs.Option.{IfSome}
@@ -40,7 +40,7 @@ use Rattle.iscsi_target.specs.Machine.{is_closed}
 use Rattle.iscsi_target_session.specs.Requests.{request_answered}
 use Rattle.iscsi_target.specs.Tiles.{r2t_ranges}
 use Rattle.iscsi_stream.specs.Pieces.{data_pieces}
-use Rattle.iscsi_target.specs.Laws.{stat_sns, response_tags, FitsNumber, login_cmd_sn}
+use Rattle.iscsi_target.specs.Laws.{stat_sns, response_tags}
 use Rattle.iscsi_target_session.proofs.CaseLemmas.{by_cases}
 use Rattle.iscsi_target_session.proofs.DeclaredLengthLemmas.{declares_well, holds}
 use Rattle.scsi_disk.proofs.PlanLemmas.{all_false}
@@ -57,8 +57,8 @@ pub record IsReply (s : Session) (r : Reply) : Type 0 where
   pub tags : response_tags r.answers ≡ []
   pub data_ins : data_pieces r.answers ≡ []
   pub settings : r.session.settings ≡ s.settings
-  pub exp_cmd_sn : r.session.exp_cmd_sn ≡ s.exp_cmd_sn
-  pub begun : r.session.begun ≡ s.begun
+  -- while it goes on
+  pub live : is_closed_phase r.session.phase ≡ false → (r.session.begun ≡ s.begun) × (r.session.exp_cmd_sn ≡ s.exp_cmd_sn)
   pub held : IsInRange s.settings.preferences → IsHeld s.held → IsHeld r.session.held
   pub limit : s.held.target_max_recv ≤ limit s.settings → r.session.held.target_max_recv ≤ limit s.settings
 
@@ -72,8 +72,7 @@ nothing_reply s = record {
   tags = refl;
   data_ins = refl;
   settings = refl;
-  exp_cmd_sn = refl;
-  begun = refl;
+  live = λ e. (refl, refl);
   held = λ p h. h;
   limit = λ l. l;
 }
@@ -86,8 +85,7 @@ shut_reply s rule = record {
   tags = refl;
   data_ins = refl;
   settings = refl;
-  exp_cmd_sn = refl;
-  begun = refl;
+  live = λ e. absurd cc;
   held = λ p h. h;
   limit = λ l. l;
 }
@@ -100,8 +98,7 @@ reject_reply s waiting reason m = record {
   tags = refl;
   data_ins = refl;
   settings = refl;
-  exp_cmd_sn = refl;
-  begun = refl;
+  live = λ e. (refl, refl);
   held = λ p h. h;
   limit = λ l. l;
 }
@@ -114,8 +111,7 @@ reject_and_close_reply s waiting rule m = record {
   tags = refl;
   data_ins = refl;
   settings = refl;
-  exp_cmd_sn = refl;
-  begun = refl;
+  live = λ e. absurd cc;
   held = λ p h. h;
   limit = λ l. l;
 }
@@ -129,8 +125,7 @@ nop_reply s waiting h bytes = by_cases (h.initiator_task_tag == reserved_tag) (�
       tags = refl;
       data_ins = refl;
       settings = refl;
-      exp_cmd_sn = refl;
-      begun = refl;
+      live = λ e. (refl, refl);
       held = λ p h. h;
       limit = λ l. l;
     }))
@@ -143,8 +138,7 @@ task_reply s waiting h = record {
   tags = refl;
   data_ins = refl;
   settings = refl;
-  exp_cmd_sn = refl;
-  begun = refl;
+  live = λ e. (refl, refl);
   held = λ p h. h;
   limit = λ l. l;
 }
@@ -158,8 +152,7 @@ logout_reply s waiting m h = by_cases (nat_le h.reason 1)
       tags = refl;
       data_ins = refl;
       settings = refl;
-      exp_cmd_sn = refl;
-      begun = refl;
+      live = λ e. absurd cc;
       held = λ p h. h;
       limit = λ l. l;
     }))
@@ -170,8 +163,7 @@ logout_reply s waiting m h = by_cases (nat_le h.reason 1)
       tags = refl;
       data_ins = refl;
       settings = refl;
-      exp_cmd_sn = refl;
-      begun = refl;
+      live = λ e. absurd cc;
       held = λ p h. h;
       limit = λ l. l;
     }))
@@ -187,8 +179,7 @@ text_reply_in s waiting m h (Some pairs) =
       tags = refl;
       data_ins = refl;
       settings = refl;
-      exp_cmd_sn = refl;
-      begun = refl;
+      live = λ e. (refl, refl);
       held = λ p h. h;
       limit = λ l. l;
     }))
@@ -208,8 +199,7 @@ refuse_reply s r why = record {
   tags = refl;
   data_ins = refl;
   settings = refl;
-  exp_cmd_sn = refl;
-  begun = refl;
+  live = λ e. absurd cc;
   held = λ p h. h;
   limit = λ l. l;
 }
@@ -238,8 +228,7 @@ answered_reply s r pairs e = record {
   tags = refl;
   data_ins = refl;
   settings = refl;
-  exp_cmd_sn = refl;
-  begun = refl;
+  live = λ e. (refl, refl);
   held = λ p h. holds (session_for s pairs) s.settings.preferences (declared_length s) pairs s.held p (declares_well pairs e) (declared_in s p) h;
   limit = limit_after s;
 }
@@ -258,8 +247,7 @@ ungathered s r c = record {
   tags = c.tags;
   data_ins = c.data_ins;
   settings = c.settings;
-  exp_cmd_sn = c.exp_cmd_sn;
-  begun = c.begun;
+  live = c.live;
   held = c.held;
   limit = c.limit;
 }
@@ -273,8 +261,7 @@ segment_reply_by s r segment true = record {
   tags = refl;
   data_ins = refl;
   settings = refl;
-  exp_cmd_sn = refl;
-  begun = refl;
+  live = λ e. (refl, refl);
   held = λ p h. h;
   limit = λ l. l;
 }
@@ -294,8 +281,7 @@ staged s stage r c = record {
   tags = c.tags;
   data_ins = c.data_ins;
   settings = c.settings;
-  exp_cmd_sn = c.exp_cmd_sn;
-  begun = c.begun;
+  live = c.live;
   held = c.held;
   limit = c.limit;
 }
@@ -313,7 +299,6 @@ pub record Logs (s : Session) (m : Message) (r : Reply) : Type 0 where
   pub settings : from.settings ≡ s.settings
   pub held : from.held ≡ s.held
   pub begun : s.begun ≡ true → (from.begun ≡ true) × (from.exp_cmd_sn ≡ s.exp_cmd_sn)
-  pub fits : s.exp_cmd_sn < 2 ^ 32 → FitsNumber (login_cmd_sn m.head) → from.exp_cmd_sn < 2 ^ 32
 
 numbered_logs : (s : Session) (m : Message) (h : LoginPdu) (r : Reply) → m.head ≡ LoginRequest h → IsReply (numbered s h) r → Logs s m r
 numbered_logs s m h r k c = record {
@@ -323,11 +308,10 @@ numbered_logs s m h r k c = record {
   settings = by_cases s.begun (λ e. rw e refl) (λ e. rw e refl);
   held = by_cases s.begun (λ e. rw e refl) (λ e. rw e refl);
   begun = λ e. (rw e refl, rw e refl);
-  fits = λ f g. let n : h.cmd_sn < 2 ^ 32 = subst (λ (x : Head). FitsNumber (login_cmd_sn x)) k g in by_cases s.begun (λ e. rw e f) (λ e. rw e n);
 }
 
 same_logs : (s : Session) (m : Message) (r : Reply) → IsReply s r → Logs s m r
-same_logs s m r c = record { from = s; is = c; stat_sn = refl; settings = refl; held = refl; begun = λ e. (e, refl); fits = λ f g. f }
+same_logs s m r c = record { from = s; is = c; stat_sn = refl; settings = refl; held = refl; begun = λ e. (e, refl) }
 
 login_logs_in : (s : Session) (m : Message) (head : Head) → m.head ≡ head → Logs s m (login_in s head m.segment)
 login_logs_in s m (LoginRequest h) k = numbered_logs s m h (login_request s h m.segment) k (request_reply s h m.segment)

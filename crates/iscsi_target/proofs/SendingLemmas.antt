@@ -1,5 +1,5 @@
 -- What each step tells: numbers, tags, and what is held.
-use Rattle.std.proofs.Common.{◌≡◌, ◌<◌, ◌≤◌, ℕ, ◌+◌, ◌^◌, List, [], ◌∷◌, ◌++◌, Bool, true, length, Option, refl, sym, ap, ◌∙◌, subst, arith, map, append_assoc}
+use Rattle.std.proofs.Common.{◌≡◌, ◌<◌, ◌≤◌, ℕ, ◌+◌, ◌^◌, List, [], ◌∷◌, ◌++◌, Bool, true, false, length, Option, refl, sym, ap, ◌∙◌, subst, arith, map, append_assoc}
 use Rattle.std.specs.List.{AllByRecursion}
 use Rattle.std.proofs.lemmas.List.{append-nil, map-append}
 use Rattle.std.proofs.lemmas.Grind.{flat_map-append}
@@ -27,9 +27,9 @@ use Rattle.iscsi_target.specs.State.{breaks}
 use Rattle.iscsi_target_session.specs.Login.{login_step}
 use Rattle.iscsi_target.specs.Execution.{Device, device_next, device_after, execute, data_in_parts, data_ins, response_head, sense_segment}
 use Rattle.iscsi_target.specs.Command.{order_of}
-use Rattle.iscsi_target.specs.Machine.{step_on, begun, done_in_turn, having_accepted, then_stepped}
+use Rattle.iscsi_target.specs.Machine.{is_closed, step_on, begun, done_in_turn, having_accepted, then_stepped}
 use Rattle.iscsi_target.specs.Tiles.{TileBytes, GivesTiles, data_in_tag, data_in_tags}
-use Rattle.iscsi_target.specs.Laws.{stat_sns, stat_sn_of, response_tag, response_tags, cmd_sns, given_number, FitsNumber, login_cmd_sn, HasCmdSn}
+use Rattle.iscsi_target.specs.Laws.{stat_sns, stat_sn_of, response_tag, response_tags, cmd_sns, given_number, HasCmdSn}
 use Rattle.iscsi_target.proofs.TurnLemmas.{Begins, begins, Turns, turns}
 use Rattle.iscsi_target.proofs.StepPartLemmas.{Accepts, Immediately, InTurn, Parts, step_parts}
 use Rattle.iscsi_target.proofs.ReplyLemmas.{Count, IsReply, Logs, login_logs, reject_reply, reject_and_close_reply, request_answered_reply}
@@ -40,6 +40,31 @@ use Rattle.iscsi_target.proofs.DataInTilingLaw.{execute_tiled}
 pub count_append : (n : ℕ) (a b : List ℕ) (mid after : ℕ) → Count n a mid → Count mid b after → Count n (a ++ b) after
 count_append n [] b mid after e c = subst (λ (x : ℕ). Count x b after) e c
 count_append n (k ∷ a) b mid after e c = (e.0, count_append (next_sn n) a b mid after e.1 c)
+
+-- These count on from the first, and the one behind them is due while the session goes on.
+pub record CountsTo (n : ℕ) (numbers : List ℕ) (s : Machine) : Type 0 where
+  pub next : ℕ
+  pub count : Count n numbers next
+  pub fits : next < 2 ^ 32
+  pub live : is_closed s ≡ false → (s.session.begun ≡ true) × (s.session.exp_cmd_sn ≡ next)
+
+pub counts_on : (n : ℕ) (a b : List ℕ) (mid last : Machine) → is_closed mid ≡ false → (c : CountsTo n a mid) →
+    CountsTo mid.session.exp_cmd_sn b last → CountsTo n (a ++ b) last
+counts_on n a b mid last live c d = record {
+  next = d.next;
+  count = count_append n a b c.next d.next c.count (subst (λ (k : ℕ). Count k b d.next) (c.live live).1 d.count);
+  fits = d.fits;
+  live = d.live;
+}
+
+-- in a closed session no more come
+pub counts_out : (n : ℕ) (a b : List ℕ) (mid last : Machine) → is_closed last ≡ true → b ≡ [] → CountsTo n a mid → CountsTo n (a ++ b) last
+counts_out n a b mid last over none c = record {
+  next = c.next;
+  count = subst (λ (ks : List ℕ). Count n ks c.next) (sym (ap (λ (ks : List ℕ). a ++ ks) none ∙ append-nil a)) c.count;
+  fits = c.fits;
+  live = λ e. absurd (let apart : true ≡ false = sym over ∙ e in cc);
+}
 
 -- ---- data that commands give
 
@@ -124,8 +149,8 @@ pub record Tells (device : Device) (s : Session) (r : Stepped) : Type 0 where
   pub tags : response_tags r.answers ≡ tags_done r.executed
   pub gives : IsInRange s.settings.preferences → IsHeld s.held → Gives device r.answers r.executed
   pub settings : r.machine.session.settings ≡ s.settings
-  pub exp_cmd_sn : r.machine.session.exp_cmd_sn ≡ s.exp_cmd_sn
-  pub begun : r.machine.session.begun ≡ s.begun
+  -- while the session goes on
+  pub live : is_closed r.machine ≡ false → (r.machine.session.begun ≡ s.begun) × (r.machine.session.exp_cmd_sn ≡ s.exp_cmd_sn)
   pub held : IsInRange s.settings.preferences → IsHeld s.held → IsHeld r.machine.session.held
   pub limit : s.held.target_max_recv ≤ limit s.settings → r.machine.session.held.target_max_recv ≤ limit s.settings
 
@@ -135,8 +160,7 @@ of_reply device s tasks disk r c = record {
   tags = c.tags;
   gives = λ p h. c.data_ins;
   settings = c.settings;
-  exp_cmd_sn = c.exp_cmd_sn;
-  begun = c.begun;
+  live = c.live;
   held = c.held;
   limit = c.limit;
 }
@@ -147,8 +171,7 @@ stays_tells device s disk = record {
   tags = refl;
   gives = λ p h. refl;
   settings = refl;
-  exp_cmd_sn = refl;
-  begun = refl;
+  live = λ e. (refl, refl);
   held = λ p h. h;
   limit = λ l. l;
 }
@@ -159,16 +182,15 @@ shut_tells device s disk = record {
   tags = refl;
   gives = λ p h. refl;
   settings = refl;
-  exp_cmd_sn = refl;
-  begun = refl;
+  live = λ e. absurd cc;
   held = λ p h. h;
   limit = λ l. l;
 }
 
 -- one part and then another
-then_tells : (device : Device) (s : Session) (a b : Stepped) → Tells device s a → Tells (device_after a.executed device) a.machine.session b →
-    Tells device s (then_stepped a b)
-then_tells device s a b t u =
+then_tells : (device : Device) (s : Session) (a b : Stepped) → is_closed a.machine ≡ false → Tells device s a →
+    Tells (device_after a.executed device) a.machine.session b → Tells device s (then_stepped a b)
+then_tells device s a b live t u =
     let range : IsInRange s.settings.preferences → IsInRange a.machine.session.settings.preferences =
     λ p. subst (λ (x : Settings). IsInRange x.preferences) (sym t.settings) p in
     record {
@@ -181,8 +203,7 @@ then_tells device s a b t u =
           ∙ sym (map-append (λ (e : Execution). e.initiator_task_tag) a.executed b.executed);
       gives = λ p h. gives_append device a.answers b.answers a.executed b.executed (t.gives p h) (u.gives (range p) (t.held p h));
       settings = u.settings ∙ t.settings;
-      exp_cmd_sn = u.exp_cmd_sn ∙ t.exp_cmd_sn;
-      begun = u.begun ∙ t.begun;
+      live = λ e. ((u.live e).0 ∙ (t.live live).0, (u.live e).1 ∙ (t.live live).1);
       held = λ p h. u.held (range p) (t.held p h);
       limit = λ l. subst (λ (x : Settings). b.machine.session.held.target_max_recv ≤ limit x) t.settings
           (u.limit (subst (λ (x : Settings). a.machine.session.held.target_max_recv ≤ limit x) (sym t.settings) (t.limit l)));
@@ -225,8 +246,7 @@ execute_tells device s disk tag order pieces =
         refl,
       );
       settings = refl;
-      exp_cmd_sn = refl;
-      begun = refl;
+      live = λ e. (refl, refl);
       held = λ p h. h;
       limit = λ l. l;
     }
@@ -244,8 +264,7 @@ begins_tell = record {
     tags = refl;
     gives = λ p h. refl;
     settings = refl;
-    exp_cmd_sn = refl;
-    begun = refl;
+    live = λ e. (refl, refl);
     held = λ p h. h;
     limit = λ l. l;
   };
@@ -254,8 +273,7 @@ begins_tell = record {
     tags = refl;
     gives = λ p h. refl;
     settings = refl;
-    exp_cmd_sn = refl;
-    begun = refl;
+    live = λ e. (refl, refl);
     held = λ p h. h;
     limit = λ l. l;
   };
@@ -270,7 +288,7 @@ turns_tell : Turns (λ device s disk tasks r. Tells device s r)
 turns_tell = record {
   none_ = λ device s disk. stays_tells device (record { session = s; tasks = [] }) disk;
   stop_ = λ device s disk task more why. begun_tells device s disk task more;
-  then_ = λ device s disk task more b stays live u. then_tells device s (begun device (record { session = s; tasks = more }) disk task) b
+  then_ = λ device s disk task more b stays live u. then_tells device s (begun device (record { session = s; tasks = more }) disk task) b live
       (begun_tells device s disk task more) u;
 }
 
@@ -286,10 +304,8 @@ pub record StepTells (device : Device) (s : Machine) (m : Message) (r : Stepped)
   pub settings : r.machine.session.settings ≡ s.session.settings
   pub held : IsInRange s.session.settings.preferences → IsHeld s.session.held → IsHeld r.machine.session.held
   pub limit : s.session.held.target_max_recv ≤ limit s.session.settings → r.machine.session.held.target_max_recv ≤ limit s.session.settings
-  pub begun : s.session.begun ≡ true → r.machine.session.begun ≡ true
-  pub fits : s.session.exp_cmd_sn < 2 ^ 32 → FitsNumber (login_cmd_sn m.head) → r.machine.session.exp_cmd_sn < 2 ^ 32
   pub cmd_sns : s.session.begun ≡ true → s.session.exp_cmd_sn < 2 ^ 32 → HasCmdSn m →
-      Count s.session.exp_cmd_sn (cmd_sns r.accepted) r.machine.session.exp_cmd_sn
+      CountsTo s.session.exp_cmd_sn (cmd_sns r.accepted) r.machine
 
 -- nothing was accepted
 none_accepted : (device : Device) (s : Machine) (m : Message) (r : Stepped) → Tells device s.session r → StepTells device s m (having_accepted [] r)
@@ -300,9 +316,7 @@ none_accepted device s m r c = record {
   settings = c.settings;
   held = c.held;
   limit = c.limit;
-  begun = λ b. c.begun ∙ b;
-  fits = λ f g. subst (λ (n : ℕ). n < 2 ^ 32) (sym c.exp_cmd_sn) f;
-  cmd_sns = λ b f g. c.exp_cmd_sn;
+  cmd_sns = λ b f g. record { next = s.session.exp_cmd_sn; count = refl; fits = f; live = λ e. ((c.live e).0 ∙ b, (c.live e).1) };
 }
 
 plain_tells : (device : Device) (s : Machine) (m : Message) (disk : Disk) (r : Reply) → IsReply s.session r → StepTells device s m (on disk s.tasks r)
@@ -318,9 +332,12 @@ login_tells device s m disk r l = record {
   limit = λ e. subst (λ (x : Settings). r.session.held.target_max_recv ≤ limit x) l.settings
       (l.is.limit (subst (λ (x : Held). x.target_max_recv ≤ limit l.from.settings) (sym l.held)
       (subst (λ (x : Settings). s.session.held.target_max_recv ≤ limit x) (sym l.settings) e)));
-  begun = λ b. l.is.begun ∙ (l.begun b).0;
-  fits = λ f g. subst (λ (n : ℕ). n < 2 ^ 32) (sym l.is.exp_cmd_sn) (l.fits f g);
-  cmd_sns = λ b f g. l.is.exp_cmd_sn ∙ (l.begun b).1;
+  cmd_sns = λ b f g. record {
+    next = s.session.exp_cmd_sn;
+    count = refl;
+    fits = f;
+    live = λ e. ((l.is.live e).0 ∙ (l.begun b).0, (l.is.live e).1 ∙ (l.begun b).1);
+  };
 }
 
 -- a request was accepted
@@ -333,9 +350,12 @@ accepted_tells device s _ m r (Immediately c none) h = record {
   settings = h.settings;
   held = h.held;
   limit = h.limit;
-  begun = λ b. h.begun ∙ b;
-  fits = λ f g. subst (λ (k : ℕ). k < 2 ^ 32) (sym h.exp_cmd_sn) f;
-  cmd_sns = λ b f g. subst (λ (x : Option ℕ). Count s.session.exp_cmd_sn (given_number x ++ []) r.machine.session.exp_cmd_sn) (sym c) h.exp_cmd_sn;
+  cmd_sns = λ b f g. record {
+    next = s.session.exp_cmd_sn;
+    count = subst (λ (x : Option ℕ). Count s.session.exp_cmd_sn (given_number x ++ []) s.session.exp_cmd_sn) (sym c) refl;
+    fits = f;
+    live = λ e. ((h.live e).0 ∙ b, (h.live e).1);
+  };
 }
 accepted_tells device s _ m r (InTurn n c w is) h = record {
   stat_sn = h.stat_sn;
@@ -344,9 +364,12 @@ accepted_tells device s _ m r (InTurn n c w is) h = record {
   settings = h.settings;
   held = h.held;
   limit = h.limit;
-  begun = λ b. h.begun ∙ b;
-  fits = λ f g. subst (λ (k : ℕ). k < 2 ^ 32) (sym h.exp_cmd_sn) (omega arith);
-  cmd_sns = λ b f g. subst (λ (x : Option ℕ). Count s.session.exp_cmd_sn (given_number x ++ []) r.machine.session.exp_cmd_sn) (sym c) (is, h.exp_cmd_sn);
+  cmd_sns = λ b f g. record {
+    next = next_sn s.session.exp_cmd_sn;
+    count = subst (λ (x : Option ℕ). Count s.session.exp_cmd_sn (given_number x ++ []) (next_sn s.session.exp_cmd_sn)) (sym c) (is, refl);
+    fits = omega arith;
+    live = λ e. ((h.live e).0 ∙ b, (h.live e).1);
+  };
 }
 
 parts_tell : (device : Device) (disk : Disk) → Parts device disk (StepTells device)

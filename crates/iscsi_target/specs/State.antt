@@ -36,7 +36,8 @@ abbrev pub opening : Settings → ℕ → Machine
 opening settings first_stat_sn =
     record { session = opening_session settings first_stat_sn; tasks = [] }
 
--- The session is over; what was gathered is dropped, and so are the tasks.
+-- The session is over: what was gathered and the CmdSN that was due are dropped, and so are the
+-- tasks.
 abbrev pub closed : Machine → Machine
 closed s = record { session = ended s.session; tasks = [] }
 

@@ -128,7 +128,8 @@ impl Machine {
         self.session.count();
     }
 
-    /// Closes the session; what was gathered is dropped, and so are the tasks.
+    /// Closes the session; what was gathered and the CmdSN that was due are dropped, and so are the
+    /// tasks.
     pub fn close(&mut self)
         ensures { self.new ≡ closed self.old }
     {

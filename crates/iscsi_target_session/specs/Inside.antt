@@ -10,14 +10,10 @@ use Rattle.iscsi_target_session.specs.Login.{answered}
 
 -- ---- the login
 
--- What a request changes in the session before it is answered is rolled back.
+-- What a request changes in the session before it is answered, and a closed one shows, is rolled
+-- back.
 abbrev pub rolled_back : Session → Session → Session
-rolled_back old new = record new {
-  begun = old.begun;
-  exp_cmd_sn = old.exp_cmd_sn;
-  isid = old.isid;
-  stage = old.stage;
-}
+rolled_back old new = record new { isid = old.isid; stage = old.stage }
 
 -- An answer of class 0 with this text.
 abbrev pub login_answer : Session → LoginResponse → Pairs → Reply

@@ -62,9 +62,9 @@ opening_session settings first_stat_sn = record {
 abbrev pub limit : Settings → ℕ
 limit settings = longest_taken settings.preferences
 
--- A session that is over; what was gathered is dropped.
+-- A session that is over: what was gathered and the CmdSN that was due are dropped.
 abbrev pub ended : Session → Session
-ended s = record s { phase = phases.Closed; gathered = [] }
+ended s = record s { phase = phases.Closed; gathered = []; begun = false; exp_cmd_sn = 0 }
 
 -- ---- numbers
 

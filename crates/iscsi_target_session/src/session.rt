@@ -173,12 +173,14 @@ impl Session {
         self.exp_cmd_sn = cmd_sn;
     }
 
-    /// Closes the session; what was gathered is dropped.
+    /// Closes the session; what was gathered and the CmdSN that was due are dropped.
     pub fn close(&mut self)
         ensures { self.new ≡ ended self.old }
     {
         self.phase = Phase::Closed;
         self.gathered.clear();
+        self.begun = false;
+        self.exp_cmd_sn = 0;
     }
 
     // One answer that carries StatSN and advances it. No rule is broken.

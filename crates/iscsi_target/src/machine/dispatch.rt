@@ -208,14 +208,10 @@ impl Machine {
             return self.reject_and_close(COMMAND_OUT_OF_TURN, received, out);
         }
         self.advance();
-        let Some(rule) = self.refusal(received) else {
-            return self.admit(received, store, out);
-        };
-        let result = self.reject_and_close(rule, received, out);
-        if result.is_err() {
-            self.session.expect(cmd_sn);
+        match self.refusal(received) {
+            Some(rule) => self.reject_and_close(rule, received, out),
+            None => self.admit(received, store, out),
         }
-        result
     }
 
     // Whether a segment of `n` bytes is longer than the target declared.

@@ -76,12 +76,9 @@ impl Session {
         ensures { Attempts (login_request self.old request.now received.now.segment) result
             self.old self.new out.old.items out.new.items }
     {
-        let (begun, exp_cmd_sn) = (self.begun, self.exp_cmd_sn);
         let (isid, stage) = (self.isid, self.stage);
         let result = self.begin_stage(request, received, out);
         if result.is_err() {
-            self.begun = begun;
-            self.exp_cmd_sn = exp_cmd_sn;
             self.isid = isid;
             self.stage = stage;
         }
