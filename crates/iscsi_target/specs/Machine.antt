@@ -45,17 +45,7 @@ is_due_kind session (heads.LogoutRequest h) = true
 is_due_kind session (heads.ScsiCommand h) = is_normal session
 is_due_kind session (heads.DataOut h) = is_normal session
 is_due_kind session (heads.TaskRequest h) = is_normal session
-is_due_kind session (heads.LoginRequest h) = false
-is_due_kind session (heads.NopIn h) = false
-is_due_kind session (heads.ScsiResponse h) = false
-is_due_kind session (heads.TaskResponse h) = false
-is_due_kind session (heads.LoginResponse h) = false
-is_due_kind session (heads.TextResponse h) = false
-is_due_kind session (heads.DataIn h) = false
-is_due_kind session (heads.LogoutResponse h) = false
-is_due_kind session (heads.ReadyToTransfer h) = false
-is_due_kind session (heads.AsyncMessage h) = false
-is_due_kind session (heads.Reject h) = false
+is_due_kind session _ = false
 
 -- A request that is the first task, with those behind it (section 4.2.4).
 abbrev pub handled : Device → Machine → Disk → Message → Head → Stepped
@@ -194,18 +184,7 @@ tag_of (heads.ScsiCommand h) = Some h.initiator_task_tag
 tag_of (heads.TaskRequest h) = Some h.initiator_task_tag
 tag_of (heads.TextRequest h) = Some h.initiator_task_tag
 tag_of (heads.LogoutRequest h) = Some h.initiator_task_tag
-tag_of (heads.LoginRequest h) = None
-tag_of (heads.DataOut h) = None
-tag_of (heads.NopIn h) = None
-tag_of (heads.ScsiResponse h) = None
-tag_of (heads.TaskResponse h) = None
-tag_of (heads.LoginResponse h) = None
-tag_of (heads.TextResponse h) = None
-tag_of (heads.DataIn h) = None
-tag_of (heads.LogoutResponse h) = None
-tag_of (heads.ReadyToTransfer h) = None
-tag_of (heads.AsyncMessage h) = None
-tag_of (heads.Reject h) = None
+tag_of _ = None
 
 -- The tag of a task (section 11.2.1.8).
 abbrev pub task_tag : Task → Option ℕ
@@ -267,17 +246,7 @@ due_met s count m (heads.TaskRequest h) = request s count m h.immediate h.cmd_sn
 due_met s count m (heads.TextRequest h) = request s count m h.immediate h.cmd_sn
 due_met s count m (heads.LogoutRequest h) = request s count m h.immediate h.cmd_sn
 due_met s count m (heads.ScsiCommand h) = request s count m h.immediate h.cmd_sn
-due_met s count m (heads.LoginRequest h) = plainly (broken s kind_not_due m)
-due_met s count m (heads.NopIn h) = plainly (broken s kind_not_due m)
-due_met s count m (heads.ScsiResponse h) = plainly (broken s kind_not_due m)
-due_met s count m (heads.TaskResponse h) = plainly (broken s kind_not_due m)
-due_met s count m (heads.LoginResponse h) = plainly (broken s kind_not_due m)
-due_met s count m (heads.TextResponse h) = plainly (broken s kind_not_due m)
-due_met s count m (heads.DataIn h) = plainly (broken s kind_not_due m)
-due_met s count m (heads.LogoutResponse h) = plainly (broken s kind_not_due m)
-due_met s count m (heads.ReadyToTransfer h) = plainly (broken s kind_not_due m)
-due_met s count m (heads.AsyncMessage h) = plainly (broken s kind_not_due m)
-due_met s count m (heads.Reject h) = plainly (broken s kind_not_due m)
+due_met s count m _ = plainly (broken s kind_not_due m)
 
 -- The segment has more bytes than the target takes (section 13.12).
 abbrev pub is_too_long : Machine → Message → Bool

@@ -205,22 +205,7 @@ login_request s r segment =
 -- Before full feature phase any other PDU closes the session (section 6.3; own rule).
 abbrev pub login_in : Session → Head → Segment → Reply
 login_in s (heads.LoginRequest r) segment = login_request s r segment
-login_in s (heads.NopOut h) segment = shut s (Some kind_not_due)
-login_in s (heads.ScsiCommand h) segment = shut s (Some kind_not_due)
-login_in s (heads.TaskRequest h) segment = shut s (Some kind_not_due)
-login_in s (heads.TextRequest h) segment = shut s (Some kind_not_due)
-login_in s (heads.DataOut h) segment = shut s (Some kind_not_due)
-login_in s (heads.LogoutRequest h) segment = shut s (Some kind_not_due)
-login_in s (heads.NopIn h) segment = shut s (Some kind_not_due)
-login_in s (heads.ScsiResponse h) segment = shut s (Some kind_not_due)
-login_in s (heads.TaskResponse h) segment = shut s (Some kind_not_due)
-login_in s (heads.LoginResponse h) segment = shut s (Some kind_not_due)
-login_in s (heads.TextResponse h) segment = shut s (Some kind_not_due)
-login_in s (heads.DataIn h) segment = shut s (Some kind_not_due)
-login_in s (heads.LogoutResponse h) segment = shut s (Some kind_not_due)
-login_in s (heads.ReadyToTransfer h) segment = shut s (Some kind_not_due)
-login_in s (heads.AsyncMessage h) segment = shut s (Some kind_not_due)
-login_in s (heads.Reject h) segment = shut s (Some kind_not_due)
+login_in s _ segment = shut s (Some kind_not_due)
 
 -- A message before full feature phase (section 6.3).
 abbrev pub login_step : Session → Message → Reply

@@ -87,16 +87,4 @@ request_answered s waiting m (heads.TaskRequest h) = task_request s waiting h
 request_answered s waiting m (heads.TextRequest h) =
     text_request s waiting m h (segment_bytes m.segment)
 request_answered s waiting m (heads.LogoutRequest h) = logout_request s waiting m h
-request_answered s waiting m (heads.ScsiCommand h) = reject_and_close s waiting kind_not_due m
-request_answered s waiting m (heads.LoginRequest h) = reject_and_close s waiting kind_not_due m
-request_answered s waiting m (heads.DataOut h) = reject_and_close s waiting kind_not_due m
-request_answered s waiting m (heads.NopIn h) = reject_and_close s waiting kind_not_due m
-request_answered s waiting m (heads.ScsiResponse h) = reject_and_close s waiting kind_not_due m
-request_answered s waiting m (heads.TaskResponse h) = reject_and_close s waiting kind_not_due m
-request_answered s waiting m (heads.LoginResponse h) = reject_and_close s waiting kind_not_due m
-request_answered s waiting m (heads.TextResponse h) = reject_and_close s waiting kind_not_due m
-request_answered s waiting m (heads.DataIn h) = reject_and_close s waiting kind_not_due m
-request_answered s waiting m (heads.LogoutResponse h) = reject_and_close s waiting kind_not_due m
-request_answered s waiting m (heads.ReadyToTransfer h) = reject_and_close s waiting kind_not_due m
-request_answered s waiting m (heads.AsyncMessage h) = reject_and_close s waiting kind_not_due m
-request_answered s waiting m (heads.Reject h) = reject_and_close s waiting kind_not_due m
+request_answered s waiting m _ = reject_and_close s waiting kind_not_due m
