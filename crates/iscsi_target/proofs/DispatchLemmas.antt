@@ -1,5 +1,5 @@
 -- The steps of a session by the kind of PDU, case by case.
-use Rattle.std.proofs.Common.{◌≡◌, ◌<◌, ◌≤◌, ◌∙◌, ℕ, ◌^◌, List, Bool, true, false, not, length, Option, Some, None, refl, sym, ap, rules}
+use Rattle.std.proofs.Common.{◌≡◌, ◌<◌, ◌≤◌, ◌∙◌, ℕ, ◌^◌, List, Bool, true, false, not, length, Option, Some, None, refl, sym, ap, rules, subst}
 use Rattle.std.specs.Prelude.{◌==◌, ◌&&◌, nat_lt, if◌then◌else◌, ◌↔◌, IsTrue, Result}
 use Rattle.std.proofs.lemmas.Bool.{le-ltb}
 use Rattle.scsi_disk.specs.Disk.{Disk}
@@ -25,12 +25,15 @@ use Rattle.std.specs.Prelude.{◌+◌}
 use Rattle.iscsi_login.specs.Held.{first_burst}
 use Rattle.iscsi_target.specs.Write.{Write}
 use Rattle.iscsi_target.specs.Transfer.{received, is_in_sequence, taken, with_data}
-use Rattle.iscsi_target.specs.Machine.{Next, followed, full_step, write_of, with_write, data_taken, data_for}
+use Rattle.iscsi_target.specs.Machine.{Met, Next, followed, full_step, write_of, with_write, data_taken, data_for}
 use Rattle.iscsi_target.specs.Laws.{joined_stepped}
 use Rattle.iscsi_target.specs.Feed.{Store}
 use Rattle.iscsi_target_session.proofs.CaseLemmas.{by_cases}
-use Rattle.iscsi_target.proofs.ServingLemmas.{serves_same, leaves_serves, accepts_by}
-use Rattle.iscsi_target.specs.Inside.{moment, Leaves, refusal, Follows, Answers, store_of}
+use Rattle.iscsi_target.proofs.ServingLemmas.{serves_same, leaves_serves, accepts_by, works_follow}
+use Rattle.iscsi_target.specs.Inside.{Moment, moment, Leaves, Works, refusal, Follows, Answers, store_of, IsJudged, MayCome, comes_of}
+use Rattle.iscsi_target.specs.declared.verdict.Verdict.{Verdict}
+use Rattle.iscsi_target.specs.declared.verdict.Verdict.TheVariants as verdicts
+use Rattle.iscsi_target.proofs.TurnLemmas.{with_tasks}
 use Rattle.iscsi_target_session.specs.Rejecting.{reject}
 use Rattle.iscsi_pdu.specs.Rules.{kind_not_due, segment_too_long, command_out_of_turn, too_many_immediate}
 use Rattle.scsi_disk.specs.Plan.{plan_of}
@@ -108,12 +111,6 @@ pub inside : (s : Machine) (count : ℕ) (m : Message) (n : ℕ) (b : Bool) → 
 inside s count m n b is e f = sym (rw (within_by s n b is ∙ e, f) refl)
 
 -- ---- any PDU
-
-pub data_is_due : (s : Machine) (count : ℕ) (c : Bool) (hd : Head) (bytes : List ℕ) (m : Message) (is : message c hd bytes ≡ m) (h : DataPdu) → hd ≡ DataOut h
-    → data_out s m h bytes ≡ (due_met s count m m.head).next
-data_is_due s count c hd bytes m is h e =
-    sym (ap (λ (x : Head). (due_met s count m x).next) (head_of c hd bytes m is ∙ e)
-    ∙ ap (λ (b : List ℕ). data_out s m h b) (plain c hd bytes m is (ap is_last e)))
 
 due_plain : (session : SessionType) (hd : Head) → is_due_kind session hd ≡ true → is_last hd ≡ false
 due_plain session (heads.LoginRequest h) e = absurd cc
@@ -267,31 +264,6 @@ live_step d s disk m phase live within is =
     ∙ ap (if_over d s disk m) within
     ∙ ap (λ (p : Phase). phase_step d p s disk m) is
 
--- ---- which kinds are due
-
--- a kind that an initiator may send in full feature phase
-abbrev pub is_initiator_s : Head → Bool
-is_initiator_s (heads.NopOut h) = true
-is_initiator_s (heads.TaskRequest h) = true
-is_initiator_s (heads.TextRequest h) = true
-is_initiator_s (heads.LogoutRequest h) = true
-is_initiator_s (heads.ScsiCommand h) = true
-is_initiator_s (heads.DataOut h) = true
-is_initiator_s _ = false
-
-never_by : (s : Machine) (count : ℕ) (m : Message) (hd : Head) → is_initiator_s hd ≡ false → (due_met s count m hd).next ≡ broken s kind_not_due m
-never_by s count m (heads.NopOut h) e = absurd cc
-never_by s count m (heads.TaskRequest h) e = absurd cc
-never_by s count m (heads.TextRequest h) e = absurd cc
-never_by s count m (heads.LogoutRequest h) e = absurd cc
-never_by s count m (heads.ScsiCommand h) e = absurd cc
-never_by s count m (heads.DataOut h) e = absurd cc
-never_by s count m _ e = refl
-
-pub never_due : (s : Machine) (count : ℕ) (c : Bool) (hd : Head) (bytes : List ℕ) (m : Message) (is : message c hd bytes ≡ m) → is_initiator_s hd ≡ false →
-    (due_met s count m m.head).next ≡ broken s kind_not_due m
-never_due s count c hd bytes m is e = never_by s count m m.head (ap is_initiator_s (head_of c hd bytes m is) ∙ e)
-
 -- ---- a request that is accepted, or refused
 
 pub untagged : (s : Machine) (m : Message) → refusal s m ≡ None → is_tag_of s.tasks (tag_of m.head) ≡ false
@@ -326,14 +298,57 @@ admitted_some s count m rule e =
     some_is : {a b : ℕ} → Some a ≡ Some b → a ≡ b
     some_is e = cc
 
--- a request that was refused behind its CmdSN: where memory runs out, the session is closed, which forgets that it was taken
-pub before_its_turn : {E : Type 0} (result : Result (Option ℕ) E) (r : Stepped) (s new : Machine) (before after : List ℕ) →
-    Leaves r result (advanced s) new before after → Leaves r result s new before after
-before_its_turn result r s new before after h =
-    record { machine = h.machine; output = h.output; rule_is = h.rule_is; err = h.err; unwritten = h.unwritten }
-
 pub at_once : (s : Machine) (count : ℕ) (m : Message) → s.tasks ≡ [] → admitted s count m ≡ (immediate s count m).next
 at_once s count m none = room s count m (ap is_busy none)
+
+-- ---- what is judged of a PDU
+
+-- what comes of a PDU by what is judged of it
+pub judged : (s : Machine) (count : ℕ) (m : Message) (met : ℕ → Met) (v w : Verdict) → IsJudged s m met v → v ≡ w → (met count).next ≡ comes_of s count m w
+judged s count m met v w j e = j.comes count ∙ ap (comes_of s count m) e
+
+pub judged_data : (s : Machine) (count : ℕ) (c : Bool) (hd : Head) (bytes : List ℕ) (m : Message) (is : message c hd bytes ≡ m) (met : ℕ → Met) (v : Verdict)
+    (h : DataPdu) → IsJudged s m met v → v ≡ verdicts.Data h → data_out s m h bytes ≡ (met count).next
+judged_data s count c hd bytes m is met v h j e =
+    let head : hd ≡ DataOut h = sym (head_of c hd bytes m is) ∙ subst (MayCome s m) e j.may in
+    sym (judged s count m met v (verdicts.Data h) j e ∙ ap (λ (b : List ℕ). data_out s m h b) (plain c hd bytes m is (ap is_last head)))
+
+-- what is judged of a PDU that is due is judged of its head
+pub due_judged : (s : Machine) (c : Bool) (hd : Head) (bytes : List ℕ) (m : Message) (is : message c hd bytes ≡ m) (v : Verdict) (x : Head) → hd ≡ x →
+    (cmd_sn_of m.head ≡ cmd_sn_of x → IsJudged s m (λ count. due_met s count m x) v) → IsJudged s m (λ count. due_met s count m m.head) v
+due_judged s c hd bytes m is v x e j =
+    let same : m.head ≡ x = head_of c hd bytes m is ∙ e in
+    subst (λ (y : Head). IsJudged s m (λ count. due_met s count m y) v) (sym same) (j (ap cmd_sn_of same))
+
+-- a request that may be accepted isn't dropped
+not_dropped : (s : Machine) (count : ℕ) (m : Message) (rule : Option ℕ) → refusal s m ≡ rule → admitted s count m ≡ Dropped → ⊥
+not_dropped s count m None e d = let apart : Queued s.session (s.tasks ++ task_of count m ∷ []) ≡ Dropped = sym (admitted_none s count m e) ∙ d in cc
+not_dropped s count m (Some rule) e d = let apart : broken s rule m ≡ Dropped = sym (admitted_some s count m rule e) ∙ d in cc
+
+turn_follows : {E : Type 0} (result : Result (Option ℕ) E) (next : Next) (s : Machine) (before : Store) (output : List ℕ) (new : Moment) →
+    (next ≡ Dropped → ⊥) → Follows next result (moment (advanced s) before output) new → Follows next result (moment s before output) new
+turn_follows result Dropped s before output new never h = absurd (never refl)
+turn_follows (Ok rule) (Answered r) s before output new never h = record { ok = h.ok; err = tt }
+turn_follows (Err e) (Answered r) s before output new never h = record {
+  ok = tt;
+  err = record { machine = h.err.machine; rises = h.err.rises; disk_is = h.err.disk_is; unwritten = h.err.unwritten };
+}
+turn_follows result (Queued session tasks) s before output new never h = record { ok = h.ok; err = h.err }
+
+-- a request that took its CmdSN: where memory runs out, the session is closed, which forgets that it was taken
+pub in_its_turn : {E : Type 0} (result : Result (Option ℕ) E) (s : Machine) (count : ℕ) (m : Message) (before : Store) (output : List ℕ) (new : Moment) →
+    Follows (admitted (advanced s) count m) result (moment (advanced s) before output) new →
+    Follows (admitted (advanced s) count m) result (moment s before output) new
+in_its_turn result s count m before output new h =
+    turn_follows result (admitted (advanced s) count m) s before output new (not_dropped (advanced s) count m (refusal (advanced s) m) refl) h
+
+-- a request that breaks no rule, and becomes the last task
+pub admitted_follows : {E : Type 0} (result : Result (Option ℕ) E) (s : Machine) (count : ℕ) (m : Message) (before : Store) (output : List ℕ) (new : Machine)
+    (after : Store) (written : List ℕ) → refusal s m ≡ None
+    → Works result (moment (with_tasks s.session (s.tasks ++ task_of count m ∷ [])) before output) (moment new after written)
+    → Follows (admitted s count m) result (moment s before output) (moment new after written)
+admitted_follows result s count m before output new after written kept h =
+    works_follow result (admitted s count m) s.session (s.tasks ++ task_of count m ∷ []) s before output new after written (admitted_none s count m kept) h
 
 -- ---- a Data-Out
 

@@ -6,16 +6,21 @@ use Rattle.scsi_disk.specs.Disk.{Disk}
 use Rattle.iscsi_target.specs.Write.{Write}
 use Rattle.iscsi_target.specs.declared.tasks.Task.{Task}
 use Rattle.iscsi_target.specs.declared.tasks.Task.TheVariants.{Request, Data}
-use Rattle.iscsi_target.specs.State.{Machine, Stepped, closed, takes_place}
+use Rattle.iscsi_target.specs.State.{Machine, Stepped, closed, takes_place, waiting}
 use Rattle.iscsi_target.specs.Transfer.{is_whole, is_idle}
 use Rattle.iscsi_target.specs.State.{joined, joined_task}
 use Rattle.iscsi_target.specs.Execution.{Device, reliable}
-use Rattle.iscsi_pdu.specs.Rules.{kind_not_due, data_out_of_order}
+use Rattle.iscsi_pdu.specs.Rules.{kind_not_due, data_out_of_order, too_many_immediate}
+use Rattle.iscsi_target_session.specs.Rejecting.{reject}
 use Rattle.iscsi_stream.specs.Segment.{segment_bytes}
 use Rattle.iscsi_target.specs.Command.{breaks_rules}
-use Rattle.iscsi_target.specs.Machine.{is_tag_of, tag_of, RunsIn, Next, Queued, write_of, with_write, done_first, done_in_turn, followed, full_met, step_on, MayAnswer}
+use Rattle.iscsi_target.specs.Machine.{Met, Next, Dropped, Answered, Queued, is_tag_of, tag_of, admitted, advanced, broken, data_out, RunsIn, write_of, with_write, done_first, done_in_turn, followed, full_met, step_on, MayAnswer}
 use Rattle.iscsi_target.specs.Feed.{Connection, Store, Scene, scene}
+use Rattle.iscsi_target.specs.Laws.{cmd_sn_of}
+use Rattle.iscsi_target.specs.declared.verdict.Verdict.{Verdict}
+use Rattle.iscsi_target.specs.declared.verdict.Verdict.TheVariants as verdicts
 use Rattle.iscsi_pdu.specs.declared.head.Head.{Head}
+use Rattle.iscsi_pdu.specs.declared.head.Head.TheVariants as heads
 use Rattle.iscsi_stream.specs.Stream.{Message}
 use Rattle.iscsi_login.specs.declared.phase.Phase.TheVariants as phases
 use Rattle.iscsi_pdu.specs.Meaning.{Means}
@@ -83,6 +88,32 @@ refusal s m =
     else if breaks_rules s.session.held (length (segment_bytes m.segment)) m.head
     then Some data_out_of_order
     else None
+
+-- ---- what is judged of a PDU
+
+-- What comes of a PDU of which this is judged, on a disk of n blocks.
+abbrev pub comes_of : Machine → ℕ → Message → Verdict → Next
+comes_of s count m verdicts.Outside = Dropped
+comes_of s count m (verdicts.Breaks rule) = broken s rule m
+comes_of s count m verdicts.NoRoom =
+    Answered (reject s.session (waiting s.tasks) too_many_immediate m)
+comes_of s count m (verdicts.Data h) = data_out s m h (segment_bytes m.segment)
+comes_of s count m verdicts.AtOnce = admitted s count m
+comes_of s count m verdicts.InTurn = admitted (advanced s) count m
+
+-- What holds besides: the PDU is that Data-Out, there is no task, or a place of the window is free
+-- and the request has a CmdSN (section 4.2.2.1).
+abbrev pub MayCome : Machine → Message → Verdict → Type 0
+MayCome s m (verdicts.Data h) = m.head ≡ heads.DataOut h
+MayCome s m verdicts.AtOnce = s.tasks ≡ []
+MayCome s m verdicts.InTurn = (waiting s.tasks ≤ 7) × (cmd_sn_of m.head ≢ None)
+MayCome s m _ = Unit {0}
+
+-- The verdict stands for what comes of the PDU, however many blocks the disk has.
+pub record IsJudged (s : Machine) (m : Message) (met : ℕ → Met) (verdict : Verdict)
+    : Type 0 where
+  pub comes : (count : ℕ) → (met count).next ≡ comes_of s count m verdict
+  pub may : MayCome s m verdict
 
 -- ---- a step
 

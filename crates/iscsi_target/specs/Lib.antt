@@ -11,5 +11,5 @@ pub mod Sessions
 pub mod Feed
 pub mod Crash
 pub mod Reads
-pub mod Inside
 pub mod Laws
+pub mod Inside

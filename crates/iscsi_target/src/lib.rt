@@ -10,6 +10,7 @@ mod open_write;
 mod scsi_response;
 mod target;
 mod tasks;
+mod verdict;
 
 // (`Due` and `Status` stand in definitions that proofs above take apart: an open write, and why a
 // login is refused)

@@ -12,6 +12,7 @@ ghost use Rattle.iscsi_target.specs.Inside.{Leaves};
 
 mod data_in;
 mod dispatch;
+mod judging;
 mod reads;
 mod scsi_command;
 mod writes;

@@ -1,49 +1,101 @@
-use Rattle.std.proofs.Common.{sym, ap, ◌∙◌, subst}
-use Rattle.iscsi_pdu.specs.Rules.{kind_not_due, segment_too_long}
-use Rattle.iscsi_target.specs.State.{waiting}
-use Rattle.iscsi_target_session.specs.Rejecting.{reject_and_close}
-use Rattle.iscsi_target.specs.Machine.{Met, due_met, full_met}
-use Rattle.iscsi_target.specs.Inside.{store_of}
-use Rattle.iscsi_target.proofs.ServingLemmas.{answered_follows, follows_as}
-use Rattle.iscsi_target.proofs.DispatchLemmas.{not_due, due_too_long, due_served}
+use Rattle.std.proofs.Common.{◌≡◌, ℕ, [], inl, sym, ap, ◌∙◌, refl, subst, arith}
+use Rattle.iscsi_pdu.specs.Rules.{too_many_immediate}
+use Rattle.iscsi_target_session.specs.Rejecting.{reject, reject_and_close}
+use Rattle.iscsi_target.specs.State.{Machine, waiting}
+use Rattle.iscsi_target.specs.Machine.{Next, admitted, advanced, data_out, full_met}
 use Rattle.iscsi_target.specs.Crash.{Crashes, commands_by}
-use Rattle.iscsi_target.specs.Machine.{Next}
+use Rattle.iscsi_target.specs.Feed.{Store}
+use Rattle.iscsi_target.specs.Inside.{Follows, MayCome, moment, store_of}
+use Rattle.iscsi_target.proofs.ServingLemmas.{answered_follows, dropped_follows, follows_as}
+use Rattle.iscsi_target.proofs.DispatchLemmas.{judged, judged_data, in_its_turn}
 use Rattle.iscsi_target.proofs.machine.Machine.serve.Goals as goal
 
-pub returns-then-not-is_due_kind-clause-follows : goal.returns-then-not-is_due_kind-clause-follows
-returns-then-not-is_due_kind-clause-follows g c =
+pub returns-in-Outside-clause-follows : goal.returns-in-Outside-clause-follows
+returns-in-Outside-clause-follows g c =
+    let n : ℕ = (g.S.BlockStore.disk c.args.store.now).count in
+    dropped_follows (g.S.BlockStore.failures c.args.store.now) c.args.self.now (full_met c.args.self.now n c.args.received.now).next
+    (g.S.BlockStore.disk c.args.store.now) c.args.self.now c.args.out.now.items
+    (judged c.args.self.now n c.args.received.now _ c.judge.result _ c.judge.ensures c.in-Outside.is) refl
+
+pub returns-in-Breaks-clause-follows : goal.returns-in-Breaks-clause-follows
+returns-in-Breaks-clause-follows g c =
+    let n : ℕ = (g.S.BlockStore.disk c.args.store.now).count in
     answered_follows c.reject_and_close.result (g.S.BlockStore.failures c.args.store.now) c.args.self.now
-    (reject_and_close c.args.self.now.session (waiting c.args.self.now.tasks) kind_not_due c.args.received.now)
-    (full_met c.args.self.now (g.S.BlockStore.disk c.args.store.now).count c.args.received.now).next (g.S.BlockStore.disk c.args.store.now)
+    (reject_and_close c.args.self.now.session (waiting c.args.self.now.tasks) c.in-Breaks.rule c.args.received.now)
+    (full_met c.args.self.now n c.args.received.now).next (g.S.BlockStore.disk c.args.store.now)
     c.reject_and_close.new.self c.args.out.now.items c.reject_and_close.new.out.items
-    (not_due c.args.self.now (g.S.BlockStore.disk c.args.store.now).count c.received.inside.continued c.received.inside.pdu.head c.received.inside.pdu.bytes.now
-    c.args.received.now c.received.view_is (sym c.is_due_kind.ensures ∙ c.if-not-is_due_kind.true))
+    (judged c.args.self.now n c.args.received.now _ c.judge.result _ c.judge.ensures c.in-Breaks.is)
     (c.reject_and_close.ensures (g.S.BlockStore.disk c.args.store.now))
 
-pub returns-then-is_too_long-clause-follows : goal.returns-then-is_too_long-clause-follows
-returns-then-is_too_long-clause-follows g c =
-    answered_follows c.reject_and_close-then-is_too_long.result (g.S.BlockStore.failures c.args.store.now) c.args.self.now
-    (reject_and_close c.args.self.now.session (waiting c.args.self.now.tasks) segment_too_long c.args.received.now)
-    (full_met c.args.self.now (g.S.BlockStore.disk c.args.store.now).count c.args.received.now).next (g.S.BlockStore.disk c.args.store.now)
-    c.reject_and_close-then-is_too_long.new.self c.args.out.now.items c.reject_and_close-then-is_too_long.new.out.items
-    (due_too_long c.args.self.now (g.S.BlockStore.disk c.args.store.now).count c.received.inside.continued c.received.inside.pdu.head
-    c.received.inside.pdu.bytes.now c.args.received.now c.received.view_is (sym c.is_due_kind.ensures ∙ c.if-not-is_due_kind.false)
-    (sym c.is_too_long.ensures ∙ c.if-is_too_long.true)) (c.reject_and_close-then-is_too_long.ensures (g.S.BlockStore.disk c.args.store.now))
+pub returns-in-NoRoom-clause-follows : goal.returns-in-NoRoom-clause-follows
+returns-in-NoRoom-clause-follows g c =
+    let n : ℕ = (g.S.BlockStore.disk c.args.store.now).count in
+    answered_follows c.reject.result (g.S.BlockStore.failures c.args.store.now) c.args.self.now
+    (reject c.args.self.now.session (waiting c.args.self.now.tasks) too_many_immediate c.args.received.now)
+    (full_met c.args.self.now n c.args.received.now).next (g.S.BlockStore.disk c.args.store.now)
+    c.reject.new.self c.args.out.now.items c.reject.new.out.items
+    (judged c.args.self.now n c.args.received.now _ c.judge.result _ c.judge.ensures c.in-NoRoom.is)
+    (c.reject.ensures (g.S.BlockStore.disk c.args.store.now))
 
-pub returns-clause-follows : goal.returns-clause-follows
-returns-clause-follows g c =
-    follows_as c.serve_due.result (due_met c.args.self.now (g.S.BlockStore.disk c.args.store.now).count c.args.received.now c.args.received.now.head).next
-    (full_met c.args.self.now (g.S.BlockStore.disk c.args.store.now).count c.args.received.now).next c.args.self.now
-    (store_of (g.S.BlockStore.disk c.args.store.now) (g.S.BlockStore.failures c.args.store.now)) c.args.out.now.items c.serve_due.new.self
-    (store_of (g.S.BlockStore.disk c.serve_due.new.store) (g.S.BlockStore.failures c.serve_due.new.store)) c.serve_due.new.out.items
-    (ap (λ (x : Met). x.next) (due_served c.args.self.now (g.S.BlockStore.disk c.args.store.now).count c.received.inside.continued c.received.inside.pdu.head
-    c.received.inside.pdu.bytes.now c.args.received.now c.received.view_is (sym c.is_due_kind.ensures ∙ c.if-not-is_due_kind.false)
-    (sym c.is_too_long.ensures ∙ c.if-is_too_long.false))) c.serve_due.ensures.follows
+pub returns-in-Data-clause-follows : goal.returns-in-Data-clause-follows
+returns-in-Data-clause-follows g c =
+    let n : ℕ = (g.S.BlockStore.disk c.args.store.now).count in
+    follows_as c.data_out.result (data_out c.args.self.now c.args.received.now c.in-Data.head c.received.inside.pdu.bytes.now)
+    (full_met c.args.self.now n c.args.received.now).next c.args.self.now
+    (store_of (g.S.BlockStore.disk c.args.store.now) (g.S.BlockStore.failures c.args.store.now)) c.args.out.now.items c.data_out.new.self
+    (store_of (g.S.BlockStore.disk c.data_out.new.store) (g.S.BlockStore.failures c.data_out.new.store)) c.data_out.new.out.items
+    (judged_data c.args.self.now n c.received.inside.continued c.received.inside.pdu.head c.received.inside.pdu.bytes.now c.args.received.now
+    c.received.view_is _ c.judge.result c.in-Data.head c.judge.ensures c.in-Data.is) c.data_out.ensures.follows
 
-pub returns-clause-crash : goal.returns-clause-crash
-returns-clause-crash g c =
-    subst (λ (x : Next). Crashes (commands_by x) (g.S.BlockStore.disk c.args.store.now) (g.S.BlockStore.disk c.serve_due.new.store)
-    (g.S.BlockStore.kept c.args.store.now) (g.S.BlockStore.kept c.serve_due.new.store))
-    (ap (λ (x : Met). x.next) (due_served c.args.self.now (g.S.BlockStore.disk c.args.store.now).count c.received.inside.continued c.received.inside.pdu.head
-    c.received.inside.pdu.bytes.now c.args.received.now c.received.view_is (sym c.is_due_kind.ensures ∙ c.if-not-is_due_kind.false)
-    (sym c.is_too_long.ensures ∙ c.if-is_too_long.false))) c.serve_due.ensures.crash
+pub returns-in-Data-clause-crash : goal.returns-in-Data-clause-crash
+returns-in-Data-clause-crash g c =
+    subst (λ (x : Next). Crashes (commands_by x) (g.S.BlockStore.disk c.args.store.now) (g.S.BlockStore.disk c.data_out.new.store)
+    (g.S.BlockStore.kept c.args.store.now) (g.S.BlockStore.kept c.data_out.new.store))
+    (judged_data c.args.self.now (g.S.BlockStore.disk c.args.store.now).count c.received.inside.continued c.received.inside.pdu.head
+    c.received.inside.pdu.bytes.now c.args.received.now c.received.view_is _ c.judge.result c.in-Data.head c.judge.ensures c.in-Data.is)
+    c.data_out.ensures.crash
+
+pub admit-requires-clause-room : goal.admit-requires-clause-room
+admit-requires-clause-room g c =
+    let none : c.args.self.now.tasks ≡ [] = subst (MayCome c.args.self.now c.args.received.now) c.in-AtOnce.is c.judge.ensures.may in
+    let size = ap waiting none in
+    omega (arith, size)
+
+pub admit-requires-clause-turn : goal.admit-requires-clause-turn
+admit-requires-clause-turn g c = inl (subst (MayCome c.args.self.now c.args.received.now) c.in-AtOnce.is c.judge.ensures.may)
+
+pub returns-in-AtOnce-clause-follows : goal.returns-in-AtOnce-clause-follows
+returns-in-AtOnce-clause-follows g c =
+    let n : ℕ = (g.S.BlockStore.disk c.args.store.now).count in
+    follows_as c.admit.result (admitted c.args.self.now n c.args.received.now) (full_met c.args.self.now n c.args.received.now).next c.args.self.now
+    (store_of (g.S.BlockStore.disk c.args.store.now) (g.S.BlockStore.failures c.args.store.now)) c.args.out.now.items c.admit.new.self
+    (store_of (g.S.BlockStore.disk c.admit.new.store) (g.S.BlockStore.failures c.admit.new.store)) c.admit.new.out.items
+    (sym (judged c.args.self.now n c.args.received.now _ c.judge.result _ c.judge.ensures c.in-AtOnce.is)) c.admit.ensures.follows
+
+pub returns-in-AtOnce-clause-crash : goal.returns-in-AtOnce-clause-crash
+returns-in-AtOnce-clause-crash g c =
+    subst (λ (x : Next). Crashes (commands_by x) (g.S.BlockStore.disk c.args.store.now) (g.S.BlockStore.disk c.admit.new.store)
+    (g.S.BlockStore.kept c.args.store.now) (g.S.BlockStore.kept c.admit.new.store))
+    (sym (judged c.args.self.now (g.S.BlockStore.disk c.args.store.now).count c.args.received.now _ c.judge.result _ c.judge.ensures c.in-AtOnce.is))
+    c.admit.ensures.crash
+
+pub returns-in-InTurn-clause-follows : goal.returns-in-InTurn-clause-follows
+returns-in-InTurn-clause-follows g c =
+    let n : ℕ = (g.S.BlockStore.disk c.args.store.now).count in
+    let before : Store = store_of (g.S.BlockStore.disk c.args.store.now) (g.S.BlockStore.failures c.args.store.now) in
+    let after : Store = store_of (g.S.BlockStore.disk c.admit-in-InTurn.new.store) (g.S.BlockStore.failures c.admit-in-InTurn.new.store) in
+    follows_as c.admit-in-InTurn.result (admitted (advanced c.args.self.now) n c.args.received.now) (full_met c.args.self.now n c.args.received.now).next
+    c.args.self.now before c.args.out.now.items c.admit-in-InTurn.new.self after c.admit-in-InTurn.new.out.items
+    (sym (judged c.args.self.now n c.args.received.now _ c.judge.result _ c.judge.ensures c.in-InTurn.is))
+    (in_its_turn c.admit-in-InTurn.result c.args.self.now n c.args.received.now before c.args.out.now.items
+    (moment c.admit-in-InTurn.new.self after c.admit-in-InTurn.new.out.items)
+    (subst (λ (x : Machine). Follows (admitted x n c.args.received.now) c.admit-in-InTurn.result (moment x before c.args.out.now.items)
+    (moment c.admit-in-InTurn.new.self after c.admit-in-InTurn.new.out.items)) c.advance.ensures c.admit-in-InTurn.ensures.follows))
+
+pub returns-in-InTurn-clause-crash : goal.returns-in-InTurn-clause-crash
+returns-in-InTurn-clause-crash g c =
+    let n : ℕ = (g.S.BlockStore.disk c.args.store.now).count in
+    subst (λ (x : Next). Crashes (commands_by x) (g.S.BlockStore.disk c.args.store.now) (g.S.BlockStore.disk c.admit-in-InTurn.new.store)
+    (g.S.BlockStore.kept c.args.store.now) (g.S.BlockStore.kept c.admit-in-InTurn.new.store))
+    (ap (λ (x : Machine). admitted x n c.args.received.now) c.advance.ensures
+    ∙ sym (judged c.args.self.now n c.args.received.now _ c.judge.result _ c.judge.ensures c.in-InTurn.is)) c.admit-in-InTurn.ensures.crash
