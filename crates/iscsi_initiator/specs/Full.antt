@@ -66,17 +66,7 @@ tag_of (heads.ScsiResponse h) = h.initiator_task_tag
 tag_of (heads.ReadyToTransfer h) = h.initiator_task_tag
 tag_of (heads.TextResponse h) = h.initiator_task_tag
 tag_of (heads.LogoutResponse h) = h.initiator_task_tag
-tag_of (heads.NopOut h) = reserved_tag
-tag_of (heads.ScsiCommand h) = reserved_tag
-tag_of (heads.TaskRequest h) = reserved_tag
-tag_of (heads.LoginRequest h) = reserved_tag
-tag_of (heads.TextRequest h) = reserved_tag
-tag_of (heads.DataOut h) = reserved_tag
-tag_of (heads.LogoutRequest h) = reserved_tag
-tag_of (heads.TaskResponse h) = reserved_tag
-tag_of (heads.LoginResponse h) = reserved_tag
-tag_of (heads.AsyncMessage h) = reserved_tag
-tag_of (heads.Reject h) = reserved_tag
+tag_of _ = reserved_tag
 
 -- What answers the outstanding request has its tag (section 11.2.1.8).
 abbrev pub answer_due : Machine → Head → Option Due

@@ -149,22 +149,7 @@ answered m h segment =
 abbrev pub login_step : Machine → Head → Segment → Stepped
 login_step m (heads.LoginResponse h) segment =
     if h.initiator_task_tag == 0 then answered m h segment else protocol_error m kind_not_due
-login_step m (heads.NopOut h) segment = protocol_error m kind_not_due
-login_step m (heads.ScsiCommand h) segment = protocol_error m kind_not_due
-login_step m (heads.TaskRequest h) segment = protocol_error m kind_not_due
-login_step m (heads.LoginRequest h) segment = protocol_error m kind_not_due
-login_step m (heads.TextRequest h) segment = protocol_error m kind_not_due
-login_step m (heads.DataOut h) segment = protocol_error m kind_not_due
-login_step m (heads.LogoutRequest h) segment = protocol_error m kind_not_due
-login_step m (heads.NopIn h) segment = protocol_error m kind_not_due
-login_step m (heads.ScsiResponse h) segment = protocol_error m kind_not_due
-login_step m (heads.TaskResponse h) segment = protocol_error m kind_not_due
-login_step m (heads.TextResponse h) segment = protocol_error m kind_not_due
-login_step m (heads.DataIn h) segment = protocol_error m kind_not_due
-login_step m (heads.LogoutResponse h) segment = protocol_error m kind_not_due
-login_step m (heads.ReadyToTransfer h) segment = protocol_error m kind_not_due
-login_step m (heads.AsyncMessage h) segment = protocol_error m kind_not_due
-login_step m (heads.Reject h) segment = protocol_error m kind_not_due
+login_step m _ segment = protocol_error m kind_not_due
 
 -- The login is started; a second start breaks a rule (section 6.3; own rule).
 abbrev pub start_step : Machine → Stepped
