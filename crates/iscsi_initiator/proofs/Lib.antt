@@ -3,7 +3,6 @@ mod CommandRows
 pub mod HeldLaws
 pub mod SequenceLaws
 pub mod LoginSendLemmas
-pub mod CounterLemmas
 pub mod WritingLemmas
 pub mod StepLemmas
 pub mod FaultLemmas

@@ -22,7 +22,7 @@ use Rattle.iscsi_initiator.specs.Machine.{step}
 use Rattle.iscsi_initiator.specs.Calls.{Connection, Received, received_steps, Feeds}
 use Rattle.iscsi_initiator.specs.Submitted.{immediate}
 use Rattle.iscsi_initiator.specs.Full.{is_in_turn, stat_sn_after, on_data, on_r2t}
-use Rattle.iscsi_pdu.specs.Rules.{kind_not_due}
+use Rattle.iscsi_pdu.specs.Rules.{kind_not_due, segment_too_long, status_out_of_order}
 
 -- The step was taken: the session, the output and the fault are its own.
 pub record Did (stepped : Stepped) (fault : Option InitiatorFault) (new : Machine)
@@ -56,12 +56,13 @@ pub record Sends {E : Type 0} (stepped : Stepped) (result : Result (Unit {0}) E)
   pub err : OnErr result (new ≡ old)
   pub unwritten : OnErr result (after ≡ before)
 
--- The rule that a message breaks that is due, by the length of its segment and the StatSN that has
--- to be the expected one (sections 4.2.2.2 and 13.12).
-abbrev pub broken_rule : Machine → ℕ → Option ℕ → Option ℕ
-broken_rule m n stat_sn =
-    if nat_lt m.held.initiator_max_recv n then Some 2
-    else (if not (is_in_turn m.exp_stat_sn stat_sn) then Some 6 else None)
+-- The fault of a message that is due, if it breaks a rule, by the length of its segment, then by the
+-- StatSN that has to be the expected one (sections 4.2.2.2 and 13.12).
+abbrev pub fault_of : Machine → ℕ → Option ℕ → Option InitiatorFault
+fault_of m len stat_sn =
+    if nat_lt m.held.initiator_max_recv len then Some (faults.Protocol segment_too_long)
+    else (if not (is_in_turn m.exp_stat_sn stat_sn)
+    then Some (faults.Protocol status_out_of_order) else None)
 
 -- The session once these numbers of a message are counted (section 4.2.2).
 abbrev pub update_counters_by : Machine → Option ℕ → ℕ → ℕ → Machine

@@ -18,7 +18,6 @@ use std::alloc::{AllocError, Global};
 
 impl Session {
     // Data of a read; with a status they complete it.
-    #[tactic(auto, using(crate::proofs::CounterLemmas::takes_broken, crate::proofs::CounterLemmas::takes_updated))]
     pub(super) fn on_data(
         &mut self,
         head: &DataIn,
@@ -32,10 +31,10 @@ impl Session {
         let Some(Outstanding::In(_)) = &self.outstanding else {
             return Ok(self.protocol_error(KIND_NOT_DUE));
         };
-        if let Some(rule) = self.broken_rule(bytes.len(), head.stat_sn) {
-            return Ok(self.protocol_error(rule));
+        let fault = self.admit(bytes, head.stat_sn, head.exp_cmd_sn, head.max_cmd_sn);
+        if fault.is_some() {
+            return Ok(fault);
         }
-        self.update_counters(head.stat_sn, head.exp_cmd_sn, head.max_cmd_sn);
         self.receive(head, bytes, out)
     }
 

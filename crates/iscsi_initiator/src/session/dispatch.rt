@@ -1,10 +1,11 @@
 //! Full feature phase (RFC 7143, sections 4.2 and 11).
 
-ghost use Rattle.std.specs.Prelude.{◌≡◌, Some};
+ghost use Rattle.std.specs.Prelude.{◌≡◌, length, Some, is_some, if◌then◌else◌};
 ghost use Rattle.iscsi_pdu.specs.Meaning.{Fits};
 ghost use Rattle.iscsi_pdu.specs.declared.head.Head.TheVariants as heads;
-ghost use Rattle.iscsi_initiator.specs.Full.{UnsolicitedNopIn, Async, RejectPdu, tag_of, answer_due, nop_answer, takes, full_step};
-ghost use Rattle.iscsi_initiator.specs.Inside.{Handles, Counts, broken_rule, update_counters_by};
+ghost use Rattle.iscsi_initiator.specs.Full.{UnsolicitedNopIn, Async, RejectPdu, tag_of, answer_due, is_in_turn, nop_answer, takes, full_step};
+ghost use Rattle.iscsi_initiator.specs.Steps.{closed};
+ghost use Rattle.iscsi_initiator.specs.Inside.{Handles, Counts, fault_of, update_counters_by};
 
 use super::Session;
 use crate::fault::InitiatorFault;
@@ -87,7 +88,7 @@ impl Session {
     }
 
     // A NOP-In that answers no ping; one with a transfer tag is answered.
-    #[tactic(auto, using(crate::proofs::CounterLemmas::takes_broken, crate::proofs::CounterLemmas::takes_updated, crate::proofs::WritingLemmas::one_message))]
+    #[tactic(auto, using(crate::proofs::WritingLemmas::one_message))]
     fn on_nop_in(
         &mut self,
         head: &NopIn,
@@ -98,10 +99,10 @@ impl Session {
         ensures { Counts (takes (Some (UnsolicitedNopIn head.now)) self.old bytes.now)
             result self.old self.new out.old.items out.new.items }
     {
-        if let Some(rule) = self.broken_rule(bytes.len(), None) {
-            return Ok(self.protocol_error(rule));
+        let fault = self.admit(bytes, None, head.exp_cmd_sn, head.max_cmd_sn);
+        if fault.is_some() {
+            return Ok(fault);
         }
-        self.update_counters(None, head.exp_cmd_sn, head.max_cmd_sn);
         if head.target_transfer_tag == RESERVED_TAG {
             return Ok(None);
         }
@@ -126,7 +127,6 @@ impl Session {
     }
 
     // An asynchronous message is counted, and asks for nothing.
-    #[tactic(auto, using(crate::proofs::CounterLemmas::takes_broken, crate::proofs::CounterLemmas::takes_updated))]
     fn on_async(
         &mut self,
         head: &AsyncMessage,
@@ -136,15 +136,10 @@ impl Session {
         ensures { Counts (takes (Some (Async head.now)) self.old bytes.now)
             result self.old self.new out.old.items out.new.items }
     {
-        if let Some(rule) = self.broken_rule(bytes.len(), Some(head.stat_sn)) {
-            return Ok(self.protocol_error(rule));
-        }
-        self.update_counters(Some(head.stat_sn), head.exp_cmd_sn, head.max_cmd_sn);
-        Ok(None)
+        Ok(self.admit(bytes, Some(head.stat_sn), head.exp_cmd_sn, head.max_cmd_sn))
     }
 
     // A Reject breaks a rule.
-    #[tactic(auto, using(crate::proofs::CounterLemmas::takes_broken, crate::proofs::CounterLemmas::takes_updated))]
     fn on_reject(
         &mut self,
         head: &Reject,
@@ -154,24 +149,43 @@ impl Session {
         ensures { Counts (takes (Some (RejectPdu head.now)) self.old bytes.now)
             result self.old self.new out.old.items out.new.items }
     {
-        if let Some(rule) = self.broken_rule(bytes.len(), Some(head.stat_sn)) {
-            return Ok(self.protocol_error(rule));
+        let fault = self.admit(bytes, Some(head.stat_sn), head.exp_cmd_sn, head.max_cmd_sn);
+        if fault.is_some() {
+            return Ok(fault);
         }
-        self.update_counters(Some(head.stat_sn), head.exp_cmd_sn, head.max_cmd_sn);
         Ok(self.protocol_error(REJECTED))
     }
 
-    // The rule that a message breaks that is due: its segment is too long, or its StatSN, if it
-    // counts, is not the expected one.
-    pub(super) fn broken_rule(&self, len: usize, stat_sn: Option<u32>) -> Option<u8>
-        ensures { result ≡ broken_rule self.now len stat_sn }
+    // Judges a message that is due by the length of its segment, then by its StatSN, if it counts.
+    // The numbers of one that breaks no rule are counted.
+    pub(super) fn admit(
+        &mut self,
+        bytes: &[u8],
+        stat_sn: Option<u32>,
+        exp_cmd_sn: u32,
+        max_cmd_sn: u32,
+    ) -> Option<InitiatorFault>
+        ensures fault { result ≡ fault_of self.old (length bytes.now) stat_sn }
+        ensures machine { self.new ≡ if is_some result then closed self.old
+            else update_counters_by self.old stat_sn exp_cmd_sn max_cmd_sn }
     {
-        if len > self.held.initiator_max_recv as usize {
-            return Some(SEGMENT_TOO_LONG);
+        if bytes.len() > self.held.initiator_max_recv as usize {
+            return self.protocol_error(SEGMENT_TOO_LONG);
         }
+        if !self.is_in_turn(stat_sn) {
+            return self.protocol_error(STATUS_OUT_OF_ORDER);
+        }
+        self.update_counters(stat_sn, exp_cmd_sn, max_cmd_sn);
+        None
+    }
+
+    // Whether a StatSN, if it counts, is the expected one.
+    fn is_in_turn(&self, stat_sn: Option<u32>) -> bool
+        ensures { result ≡ is_in_turn self.now.exp_stat_sn stat_sn }
+    {
         match stat_sn {
-            Some(stat_sn) if !self.is_expected(stat_sn) => Some(STATUS_OUT_OF_ORDER),
-            Some(_) | None => None,
+            Some(stat_sn) => self.is_expected(stat_sn),
+            None => true,
         }
     }
 

@@ -14,7 +14,7 @@ use super::Session;
 use crate::fault::InitiatorFault;
 use iscsi_login::{Phase, Stage};
 use iscsi_pdu::rule::{KIND_NOT_DUE, LOGIN_OUT_OF_TURN, STATUS_OUT_OF_ORDER, TEXT_AT_FAULT};
-use iscsi_pdu::{Head, LoginRequest, LoginResponse, Pdu, Serial};
+use iscsi_pdu::{Head, LoginRequest, LoginResponse, Pdu};
 use iscsi_stream::{drop_front, text_of, write_pdu};
 use iscsi_text::Text;
 use std::alloc::AllocError;
@@ -188,9 +188,7 @@ impl Session {
         ensures { self.new ≡ counted self.old response.now }
     {
         let stat_sn = response.stat_sn.unwrap_or(0);
-        self.exp_stat_sn = Some(stat_sn.wrapping_add(1));
-        self.window
-            .update(Serial(response.exp_cmd_sn), Serial(response.max_cmd_sn));
+        self.update_counters(Some(stat_sn), response.exp_cmd_sn, response.max_cmd_sn);
     }
 
     // Whether the number is the expected one; the first sets it.

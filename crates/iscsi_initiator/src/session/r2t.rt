@@ -21,7 +21,6 @@ use std::alloc::AllocError;
 
 impl Session {
     // An R2T is answered with one sequence.
-    #[tactic(auto, using(crate::proofs::CounterLemmas::takes_broken, crate::proofs::CounterLemmas::takes_updated))]
     pub(super) fn on_r2t(
         &mut self,
         head: &ReadyToTransfer,
@@ -35,10 +34,10 @@ impl Session {
         let Some(Outstanding::Out(_)) = &self.outstanding else {
             return Ok(self.protocol_error(KIND_NOT_DUE));
         };
-        if let Some(rule) = self.broken_rule(bytes.len(), None) {
-            return Ok(self.protocol_error(rule));
+        let fault = self.admit(bytes, None, head.exp_cmd_sn, head.max_cmd_sn);
+        if fault.is_some() {
+            return Ok(fault);
         }
-        self.update_counters(None, head.exp_cmd_sn, head.max_cmd_sn);
         self.answer_r2t(head, out)
     }
 

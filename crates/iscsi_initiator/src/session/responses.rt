@@ -5,7 +5,7 @@ ghost use Rattle.std.specs.Prelude.{◌≡◌, None, Some};
 ghost use Rattle.std.specs.Option.{option_map};
 ghost use Rattle.iscsi_pdu.specs.Meaning.{Fits};
 ghost use Rattle.iscsi_pdu.specs.declared.head.Head.TheVariants as heads;
-ghost use Rattle.iscsi_initiator.specs.Full.{due_to, takes, residual, sense_of};
+ghost use Rattle.iscsi_initiator.specs.Full.{due_to, takes, residual, sense_of, outcome_with};
 ghost use Rattle.iscsi_initiator.specs.Inside.{Handles, Counts, received_by};
 
 use super::Session;
@@ -51,7 +51,6 @@ impl Session {
     }
 
     // The answer to a ping.
-    #[tactic(auto, using(crate::proofs::CounterLemmas::takes_broken, crate::proofs::CounterLemmas::takes_updated))]
     fn on_pong(
         &mut self,
         head: &NopIn,
@@ -65,10 +64,10 @@ impl Session {
         let Some(Outstanding::Ping) = self.outstanding else {
             return Ok(self.protocol_error(KIND_NOT_DUE));
         };
-        if let Some(rule) = self.broken_rule(bytes.len(), Some(head.stat_sn)) {
-            return Ok(self.protocol_error(rule));
+        let fault = self.admit(bytes, Some(head.stat_sn), head.exp_cmd_sn, head.max_cmd_sn);
+        if fault.is_some() {
+            return Ok(fault);
         }
-        self.update_counters(Some(head.stat_sn), head.exp_cmd_sn, head.max_cmd_sn);
         let bytes = Bytes::from_vec(bytes.to_vec(*out.allocator())?);
         self.complete(Done::Ping { bytes });
         Ok(None)
@@ -95,7 +94,6 @@ impl Session {
     }
 
     // A response completes its command, unless its sense is cut off.
-    #[tactic(auto, using(crate::proofs::CounterLemmas::takes_broken, crate::proofs::CounterLemmas::takes_updated))]
     fn on_response(
         &mut self,
         head: &ScsiResponse,
@@ -112,10 +110,24 @@ impl Session {
         ) {
             return Ok(self.protocol_error(KIND_NOT_DUE));
         }
-        if let Some(rule) = self.broken_rule(bytes.len(), Some(head.stat_sn)) {
-            return Ok(self.protocol_error(rule));
+        let fault = self.admit(bytes, Some(head.stat_sn), head.exp_cmd_sn, head.max_cmd_sn);
+        if fault.is_some() {
+            return Ok(fault);
         }
-        self.update_counters(Some(head.stat_sn), head.exp_cmd_sn, head.max_cmd_sn);
+        self.complete_command(head, bytes, out)
+    }
+
+    // The same for a response whose numbers are counted.
+    fn complete_command(
+        &mut self,
+        head: &ScsiResponse,
+        bytes: &[u8],
+        out: &mut Vec<u8>,
+    ) -> Result<Option<InitiatorFault>, AllocError>
+        ensures { Handles (outcome_with (sense_of bytes.now) self.old
+            (received_by self.old.outstanding) head.now)
+            result self.old self.new out.old.items out.new.items }
+    {
         let Some(sense) = sense_of(bytes) else {
             return Ok(self.protocol_error(DATA_OUT_OF_ORDER));
         };
@@ -132,7 +144,6 @@ impl Session {
     }
 
     // An answer to a text is to be whole.
-    #[tactic(auto, using(crate::proofs::CounterLemmas::takes_broken, crate::proofs::CounterLemmas::takes_updated))]
     fn on_text_answer(
         &mut self,
         head: &TextResponse,
@@ -146,10 +157,10 @@ impl Session {
         let Some(Outstanding::Text) = self.outstanding else {
             return Ok(self.protocol_error(KIND_NOT_DUE));
         };
-        if let Some(rule) = self.broken_rule(bytes.len(), Some(head.stat_sn)) {
-            return Ok(self.protocol_error(rule));
+        let fault = self.admit(bytes, Some(head.stat_sn), head.exp_cmd_sn, head.max_cmd_sn);
+        if fault.is_some() {
+            return Ok(fault);
         }
-        self.update_counters(Some(head.stat_sn), head.exp_cmd_sn, head.max_cmd_sn);
         if !head.is_final || head.continues {
             return Ok(self.protocol_error(TEXT_AT_FAULT));
         }
@@ -159,7 +170,6 @@ impl Session {
     }
 
     // The answer to a logout closes the session.
-    #[tactic(auto, using(crate::proofs::CounterLemmas::takes_broken, crate::proofs::CounterLemmas::takes_updated))]
     fn on_logout(
         &mut self,
         head: &LogoutResponse,
@@ -173,10 +183,10 @@ impl Session {
         let Some(Outstanding::Logout) = self.outstanding else {
             return Ok(self.protocol_error(KIND_NOT_DUE));
         };
-        if let Some(rule) = self.broken_rule(bytes.len(), Some(head.stat_sn)) {
-            return Ok(self.protocol_error(rule));
+        let fault = self.admit(bytes, Some(head.stat_sn), head.exp_cmd_sn, head.max_cmd_sn);
+        if fault.is_some() {
+            return Ok(fault);
         }
-        self.update_counters(Some(head.stat_sn), head.exp_cmd_sn, head.max_cmd_sn);
         self.close();
         self.complete(Done::Closed);
         Ok(None)
