@@ -7,7 +7,7 @@ ghost use Rattle.iscsi_initiator.specs.declared.fault.InitiatorFault.TheVariants
 ghost use Rattle.iscsi_initiator.specs.State.{opening, is_closed, sent_exp_stat_sn};
 ghost use Rattle.iscsi_initiator.specs.Steps.{closed};
 ghost use Rattle.iscsi_initiator.specs.Machine.{step, taken};
-ghost use Rattle.iscsi_initiator.specs.Inside.{Handles};
+ghost use Rattle.iscsi_initiator.specs.Inside.{Handles, Counts};
 
 mod data_in;
 mod data_out;
@@ -134,7 +134,6 @@ impl Session {
 
     /// Takes a message, which continues another login PDU or does not. Says which fault it led to, if
     /// it led to one; the session is closed then.
-    #[tactic(auto, using(crate::proofs::StepLemmas::full_bytes, crate::proofs::StepLemmas::step_is))]
     pub fn step(
         &mut self,
         pdu: &Pdu<'_>,
@@ -145,10 +144,31 @@ impl Session {
         ensures { Handles (step self.old (message continued pdu.now.head pdu.now.bytes.now))
             result self.old self.new out.old.items out.new.items }
     {
+        let (exp_stat_sn, window) = (self.exp_stat_sn, self.window);
+        let result = self.on_message(pdu, continued, out);
+        if result.is_err() {
+            self.exp_stat_sn = exp_stat_sn;
+            self.window = window;
+        }
+        result
+    }
+
+    // The same, but where memory runs out the message's numbers may be counted.
+    #[tactic(auto, using(crate::proofs::StepLemmas::full_bytes, crate::proofs::StepLemmas::step_is))]
+    fn on_message(
+        &mut self,
+        pdu: &Pdu<'_>,
+        continued: bool,
+        out: &mut Vec<u8>,
+    ) -> Result<Option<InitiatorFault>, AllocError>
+        requires fits { Fits pdu.now.head }
+        ensures { Counts (step self.old (message continued pdu.now.head pdu.now.bytes.now))
+            result self.old self.new out.old.items out.new.items }
+    {
         match self.phase {
             Phase::Login if !self.started => Ok(self.protocol_error(KIND_NOT_DUE)),
             Phase::Login => self.login_step(pdu, continued, out),
-            Phase::Full => self.full_step(pdu, out),
+            Phase::Full => self.full_step(&pdu.head, pdu.bytes, out),
             Phase::Closed => Ok(None),
         }
     }

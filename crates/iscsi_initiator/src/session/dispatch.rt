@@ -5,37 +5,18 @@ ghost use Rattle.iscsi_pdu.specs.Meaning.{Fits};
 ghost use Rattle.iscsi_pdu.specs.declared.head.Head.TheVariants as heads;
 ghost use Rattle.iscsi_initiator.specs.Full.{UnsolicitedNopIn, Async, RejectPdu, tag_of, answer_due, is_in_turn, nop_answer, takes, full_step};
 ghost use Rattle.iscsi_initiator.specs.Steps.{closed};
-ghost use Rattle.iscsi_initiator.specs.Inside.{Handles, Counts, fault_of, update_counters_by};
+ghost use Rattle.iscsi_initiator.specs.Inside.{Counts, fault_of, update_counters_by};
 
 use super::Session;
 use crate::fault::InitiatorFault;
 use iscsi_pdu::rule::{KIND_NOT_DUE, REJECTED, SEGMENT_TOO_LONG, STATUS_OUT_OF_ORDER};
-use iscsi_pdu::{AsyncMessage, Head, NopIn, NopOut, Pdu, RESERVED_TAG, Reject, Serial};
+use iscsi_pdu::{AsyncMessage, Head, NopIn, NopOut, RESERVED_TAG, Reject, Serial};
 use iscsi_stream::write_pdu;
 use std::alloc::AllocError;
 
 impl Session {
     /// Takes a message in full feature phase.
     pub(super) fn full_step(
-        &mut self,
-        pdu: &Pdu<'_>,
-        out: &mut Vec<u8>,
-    ) -> Result<Option<InitiatorFault>, AllocError>
-        requires fits { Fits pdu.now.head }
-        ensures { Handles (full_step self.old pdu.now.head pdu.now.bytes.now)
-            result self.old self.new out.old.items out.new.items }
-    {
-        let (exp_stat_sn, window) = (self.exp_stat_sn, self.window);
-        let result = self.on_message(&pdu.head, pdu.bytes, out);
-        if result.is_err() {
-            self.exp_stat_sn = exp_stat_sn;
-            self.window = window;
-        }
-        result
-    }
-
-    // The same, but where memory runs out the message's numbers are counted.
-    fn on_message(
         &mut self,
         head: &Head,
         bytes: &[u8],

@@ -8,7 +8,7 @@ ghost use Rattle.iscsi_pdu.specs.declared.head.Head.TheVariants as heads;
 ghost use Rattle.iscsi_stream.specs.Segment.{Text as Whole, segment_of, text_or_bytes};
 ghost use Rattle.iscsi_login.specs.Answer.{DeclaresWell, initiator_holds};
 ghost use Rattle.iscsi_initiator.specs.Login.{requested_stage, following_stage, login_request, fits_segment, sends_text, sends_more, is_expected, counted, begins_stage, text_answered, is_empty_segment, goes_on, moves_on, in_turn, answered, login_step, start_step};
-ghost use Rattle.iscsi_initiator.specs.Inside.{Handles, Sends};
+ghost use Rattle.iscsi_initiator.specs.Inside.{Handles, Counts, Sends};
 
 use super::Session;
 use crate::fault::InitiatorFault;
@@ -40,7 +40,7 @@ impl Session {
         continued: bool,
         out: &mut Vec<u8>,
     ) -> Result<Option<InitiatorFault>, AllocError>
-        ensures { Handles (login_step self.old pdu.now.head
+        ensures { Counts (login_step self.old pdu.now.head
             (segment_of continued pdu.now.head pdu.now.bytes.now))
             result self.old self.new out.old.items out.new.items }
     {
@@ -62,7 +62,7 @@ impl Session {
         bytes: &[u8],
         out: &mut Vec<u8>,
     ) -> Result<Option<InitiatorFault>, AllocError>
-        ensures { Handles (answered self.old response.now
+        ensures { Counts (answered self.old response.now
             (text_or_bytes (option_map (λ t. t.now) text.entry) bytes.now))
             result self.old self.new out.old.items out.new.items }
     {
@@ -91,20 +91,15 @@ impl Session {
         out: &mut Vec<u8>,
     ) -> Result<Option<InitiatorFault>, AllocError>
         requires { self.old.unsent_text ≢ [] }
-        ensures { Handles (in_turn self.old.unsent_text self.old response.now
+        ensures { Counts (in_turn self.old.unsent_text self.old response.now
             (text_or_bytes (option_map (λ t. t.now) text.entry) bytes.now))
             result self.old self.new out.old.items out.new.items }
     {
         if !self.goes_on(response, text, bytes) {
             return Ok(self.protocol_error(LOGIN_OUT_OF_TURN));
         }
-        let (exp_stat_sn, window) = (self.exp_stat_sn, self.window);
         self.count(response);
-        if let Err(error) = self.send_more(out) {
-            self.exp_stat_sn = exp_stat_sn;
-            self.window = window;
-            return Err(error);
-        }
+        self.send_more(out)?;
         Ok(None)
     }
 
@@ -116,7 +111,7 @@ impl Session {
         out: &mut Vec<u8>,
     ) -> Result<Option<InitiatorFault>, AllocError>
         requires { self.old.unsent_text ≡ [] }
-        ensures { (bytes : List ℕ) → Handles
+        ensures { (bytes : List ℕ) → Counts
             (in_turn self.old.unsent_text self.old response.now
             (text_or_bytes (option_map (λ t. t.now) text.entry) bytes))
             result self.old self.new out.old.items out.new.items }
@@ -137,20 +132,15 @@ impl Session {
         answer: &Text<'_>,
         out: &mut Vec<u8>,
     ) -> Result<Option<InitiatorFault>, AllocError>
-        ensures { Handles (text_answered self.old response.now (Whole answer.now))
+        ensures { Counts (text_answered self.old response.now (Whole answer.now))
             result self.old self.new out.old.items out.new.items }
     {
         if let Some(key) = self.config.bad_key(self.stage, answer) {
             return Ok(self.fails(InitiatorFault::BadAnswer(key)));
         }
         let next = following_stage(self.stage);
-        let (exp_stat_sn, window) = (self.exp_stat_sn, self.window);
         self.count(response);
-        if let Err(error) = self.begin_stage(next, out) {
-            self.exp_stat_sn = exp_stat_sn;
-            self.window = window;
-            return Err(error);
-        }
+        self.begin_stage(next, out)?;
         self.hold(answer);
         Ok(None)
     }

@@ -10,7 +10,7 @@ returns c =
     let none : bad_key (offered c.args.self.now) c.args.answer.now ≡ None = rw (← c.self.view_is) (sym c.bad_key.ensures.key ∙ c.in_default.is) in
     let next : c.following_stage-next.result ≡ requested_stage c.args.self.now = c.following_stage-next.ensures
     ∙ ap (λ (m : Machine). requested_stage m) c.self.view_is in
-    let did = rw (next, c.count.ensures) at c.in_default-begin_stage.ensures.ok in
+    let did = rw (next, c.count.ensures) at c.in_ok-begin_stage.ensures.ok in
     record {
       ok = rw (none, c.hold.ensures) (settled (requested_stage c.args.self.now) (counted c.args.self.now c.args.response.now) c.begin_stage.new.self
           c.args.answer.now _ _ _ did refl);

@@ -1,7 +1,7 @@
 use Rattle.std.proofs.Common.{sym, ap, ◌∙◌}
 use Rattle.iscsi_initiator.specs.State.{Machine}
 use Rattle.iscsi_initiator.proofs.StepLemmas.{drops, comes_early}
-use Rattle.iscsi_initiator.proofs.session.Session.step.Goals as goal
+use Rattle.iscsi_initiator.proofs.session.Session.on_message.Goals as goal
 
 pub returns-in-Login : goal.returns-in-Login
 returns-in-Login c = record {
