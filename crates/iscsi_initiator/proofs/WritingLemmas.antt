@@ -19,14 +19,15 @@ one_message head bytes = sym (append-nil (whole head bytes))
 
 -- a write's command and its unsolicited data as bytes
 pub write_sent : (m : Machine) (lun : ℕ) (cdb bytes old mid new : List ℕ)
-    → mid ≡ old ++ whole (heads.ScsiCommand (command m (not (has_more m bytes)) lun cdb
-    (record { read = false; write = not (length bytes == 0); expected = length bytes }))) (immediate m bytes)
+    → mid ≡ old ++ whole (heads.ScsiCommand (record (command m (not (has_more m bytes)) lun cdb)
+    { write = not (length bytes == 0); expected_data_transfer_length = length bytes })) (immediate m bytes)
     → new ≡ mid ++ canon (data_outs (unsolicited_head m bytes) (chunks m.held.target_max_recv (unsolicited m bytes))) → new ≡ old
     ++ canon (writes m lun cdb bytes).output
 unfolding segment_bytes
 write_sent m lun cdb bytes old mid new a b =
     b ∙ ap (λ (x : List ℕ). x ++ canon (data_outs (unsolicited_head m bytes) (chunks m.held.target_max_recv (unsolicited m bytes)))) a
     ∙ append_assoc old
-    (whole (heads.ScsiCommand (command m (not (has_more m bytes)) lun cdb (record { read = false; write = not (length bytes == 0); expected = length bytes })))
+    (whole (heads.ScsiCommand (record (command m (not (has_more m bytes)) lun cdb)
+    { write = not (length bytes == 0); expected_data_transfer_length = length bytes }))
     (immediate m bytes))
     (canon (data_outs (unsolicited_head m bytes) (chunks m.held.target_max_recv (unsolicited m bytes))))

@@ -58,20 +58,16 @@ pub record Stays (old new : Connection) (before after : List ℕ) : Type 0 where
   pub connection : new ≡ old
   pub output : after ≡ before
 
--- What a start leaves that failed (section 6.3).
-abbrev pub StartFails : InitiatorFault → Connection → Connection → List ℕ → List ℕ → Type 0
-StartFails faults.NoMemory old new before after = OutOfMemory old new before after
-StartFails faults.Closed old new before after = Stays old new before after
-StartFails fault old new before after =
-    (is_closed old.machine ≡ false) × StepDone (start_step old.machine) old new before after
-    × ((start_step old.machine).fault ≡ Some fault)
-
 -- What a call of start does (section 6.3).
 abbrev pub Starts : Result (Unit {0}) InitiatorFault → Connection → Connection → List ℕ → List ℕ → Type 0
 Starts (Ok _) old new before after =
     (is_closed old.machine ≡ false) × StepDone (start_step old.machine) old new before after
     × ((start_step old.machine).fault ≡ None)
-Starts (Err fault) old new before after = StartFails fault old new before after
+Starts (Err faults.NoMemory) old new before after = OutOfMemory old new before after
+Starts (Err faults.Closed) old new before after = Stays old new before after
+Starts (Err fault) old new before after =
+    (is_closed old.machine ≡ false) × StepDone (start_step old.machine) old new before after
+    × ((start_step old.machine).fault ≡ Some fault)
 
 -- ---- a call of feed
 
@@ -122,28 +118,19 @@ pub record MemoryEnds {old : Connection} {piece : List ℕ} (received : Received
   pub machine : new.machine ≡ closed (received_steps old piece received).machine
   pub output : after ≡ before
 
--- No fault of the stream is `NoMemory`.
-abbrev pub StreamFails : StreamFault → (old : Connection) (piece : List ℕ) → Connection → List ℕ → List ℕ → Type 0
-StreamFails stream.NoMemory old piece new before after = ⊥
-StreamFails fault old piece new before after =
-    (received : Received old piece) × StreamEnds received new before after fault
-
--- What a call of feed leaves that failed.
-abbrev pub FeedEnds : InitiatorFault → (old : Connection) (piece : List ℕ) → Connection → List ℕ → List ℕ → Type 0
-FeedEnds faults.NoMemory old piece new before after =
-    (received : Received old piece) × MemoryEnds received new before after
-FeedEnds (faults.Stream fault) old piece new before after =
-    StreamFails fault old piece new before after
-FeedEnds faults.Closed old piece new before after = Stays old new before after
-FeedEnds fault old piece new before after =
-    (received : Received old piece) × ClosesAt received new before after (Some fault)
-
--- What a call of feed does with a piece of the stream.
+-- What a call of feed does with a piece of the stream. No fault of the stream is `NoMemory`.
 abbrev pub Feeds : Result Phase InitiatorFault → (old : Connection) (piece : List ℕ) → Connection → List ℕ → List ℕ → Type 0
 Feeds (Ok phase) old piece new before after = (is_closed old.machine ≡ false)
     × ((received : Received old piece) × (ReceivesAll received new before after phase
     ⊎ (ClosesAt received new before after None × (phase ≡ phases.Closed))))
-Feeds (Err fault) old piece new before after = FeedEnds fault old piece new before after
+Feeds (Err faults.NoMemory) old piece new before after =
+    (received : Received old piece) × MemoryEnds received new before after
+Feeds (Err (faults.Stream stream.NoMemory)) old piece new before after = ⊥
+Feeds (Err (faults.Stream fault)) old piece new before after =
+    (received : Received old piece) × StreamEnds received new before after fault
+Feeds (Err faults.Closed) old piece new before after = Stays old new before after
+Feeds (Err fault) old piece new before after =
+    (received : Received old piece) × ClosesAt received new before after (Some fault)
 
 -- ---- a call of submit
 
@@ -174,19 +161,15 @@ Submits (Err refused) old request new before after = HandsBack old request new b
 
 -- ---- the other calls
 
--- What a call of finish leaves that failed.
-abbrev pub FinishEnds : InitiatorFault → Connection → Connection → Type 0
-FinishEnds faults.Closed old new = (is_closed old.machine ≡ true) × (new ≡ old)
-FinishEnds (faults.Stream fault) old new =
-    (is_closed old.machine ≡ false) × FinishFails old.framing fault
-    × (new.machine ≡ closed old.machine)
-FinishEnds _ old new = ⊥
-
 -- What a call of finish does: the stream ends between two PDUs, or within one.
 abbrev pub Finishes : Result (Unit {0}) InitiatorFault → Connection → Connection → Type 0
 Finishes (Ok _) old new =
     (is_closed old.machine ≡ false) × (old.framing.held ≡ []) × (new ≡ old)
-Finishes (Err fault) old new = FinishEnds fault old new
+Finishes (Err faults.Closed) old new = (is_closed old.machine ≡ true) × (new ≡ old)
+Finishes (Err (faults.Stream fault)) old new =
+    (is_closed old.machine ≡ false) × FinishFails old.framing fault
+    × (new.machine ≡ closed old.machine)
+Finishes (Err _) old new = ⊥
 
 -- The outcome is taken.
 abbrev pub after_taking : Connection → Connection

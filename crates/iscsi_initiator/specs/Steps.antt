@@ -24,10 +24,10 @@ fails m fault = record { machine = closed m; output = []; fault = Some fault }
 abbrev pub protocol_error : Machine → ℕ → Stepped
 protocol_error m rule = fails m (Protocol rule)
 
--- A step that sends nothing.
-abbrev pub quiet : Machine → Stepped
-quiet m = record { machine = m; output = []; fault = None }
-
 -- A step that sends these.
 abbrev pub sends : Machine → List Message → Stepped
 sends m messages = record { machine = m; output = messages; fault = None }
+
+-- A step that sends nothing.
+abbrev pub quiet : Machine → Stepped
+quiet m = sends m []

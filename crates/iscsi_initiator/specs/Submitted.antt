@@ -1,5 +1,6 @@
 -- A request is handed in (RFC 7143, sections 4.2 and 11.3).
 use Rattle.std.specs.Prelude.{ℕ, Bool, true, false, not, ◌+◌, ◌==◌, ◌&&◌, ◌||◌, nat_lt, if◌then◌else◌, List, [], ◌∷◌, length, take, drop, min, Option, Some, None, is_some}
+use Rattle.iscsi_pdu.specs.declared.head.Head.{Head}
 use Rattle.iscsi_pdu.specs.declared.head.Head.TheVariants as heads
 use Rattle.iscsi_pdu.specs.declared.head.scsi_command.ScsiCommand.{ScsiCommand}
 use Rattle.iscsi_pdu.specs.declared.head.nop_out.NopOut.{NopOut}
@@ -91,23 +92,22 @@ abbrev pub unsolicited : Machine → List ℕ → List ℕ
 unsolicited m bytes =
     if has_more m bytes then drop (length (immediate m bytes)) (take (unasked m.held (length bytes)) bytes) else []
 
--- What a command moves: R, W and the expected length (section 11.3).
-pub record Moves : Type 0 where
-  pub read : Bool
-  pub write : Bool
-  pub expected : ℕ
+-- A request is accepted: it is outstanding, and one PDU goes out (section 4.2.2.1).
+abbrev pub begins : Machine → Outstanding → Head → List ℕ → Submitted
+begins m request head bytes =
+    accepts (begun m request) (record { head = head; segment = Bytes bytes } ∷ [])
 
--- The head of a command of simple order (sections 11.3 and 11.3.1).
-abbrev pub command : Machine → Bool → ℕ → List ℕ → Moves → ScsiCommand
-command m is_final lun cdb moves = record {
+-- The head of a command of simple order that moves nothing (sections 11.3 and 11.3.1).
+abbrev pub command : Machine → Bool → ℕ → List ℕ → ScsiCommand
+command m is_final lun cdb = record {
   immediate = false;
   is_final = is_final;
-  read = moves.read;
-  write = moves.write;
+  read = false;
+  write = false;
   attribute = 1;
   lun = lun;
   initiator_task_tag = next_tag m.initiator_task_tag;
-  expected_data_transfer_length = moves.expected;
+  expected_data_transfer_length = 0;
   cmd_sn = m.cmd_sn;
   exp_stat_sn = sent_exp_stat_sn m;
   cdb = record_of cdb;
@@ -116,12 +116,11 @@ command m is_final lun cdb moves = record {
 -- A command that may read begins (section 11.3).
 abbrev pub reads : Machine → ℕ → List ℕ → ℕ → Submitted
 reads m lun cdb expected =
-    accepts (begun m (opens.In (record { expected = expected; received = []; next_data_sn = 0 })))
-    (record {
-      head = heads.ScsiCommand (command m true lun cdb
-          (record { read = not (expected == 0); write = false; expected = expected }));
-      segment = Bytes [];
-    } ∷ [])
+    begins m (opens.In (record { expected = expected; received = []; next_data_sn = 0 }))
+    (heads.ScsiCommand (record (command m true lun cdb) {
+      read = not (expected == 0);
+      expected_data_transfer_length = expected;
+    })) []
 
 -- The session with a new command that may write (section 11.3).
 abbrev pub write_begun : Machine → List ℕ → Machine
@@ -137,8 +136,10 @@ abbrev pub writes : Machine → ℕ → List ℕ → List ℕ → Submitted
 writes m lun cdb bytes =
     accepts (write_begun m bytes)
     (record {
-      head = heads.ScsiCommand (command m (not (has_more m bytes)) lun cdb
-          (record { read = false; write = not (length bytes == 0); expected = length bytes }));
+      head = heads.ScsiCommand (record (command m (not (has_more m bytes)) lun cdb) {
+        write = not (length bytes == 0);
+        expected_data_transfer_length = length bytes;
+      });
       segment = Bytes (immediate m bytes);
     } ∷ sequence (write_begun m bytes) None reserved_tag (length (immediate m bytes))
     (unsolicited m bytes))
@@ -178,40 +179,13 @@ logout_request m = record {
   exp_stat_sn = sent_exp_stat_sn m;
 }
 
--- A ping begins (section 11.18).
-abbrev pub pings : Machine → List ℕ → Submitted
-pings m bytes =
-    accepts (begun m opens.Ping)
-    (record {
-      head = heads.NopOut (ping m);
-      segment = Bytes bytes;
-    } ∷ [])
-
--- A text request begins (section 11.10).
-abbrev pub asks : Machine → List ℕ → Submitted
-asks m bytes =
-    accepts (begun m opens.Text)
-    (record {
-      head = heads.TextRequest (text_request m);
-      segment = Bytes bytes;
-    } ∷ [])
-
--- A logout begins, of the whole session (section 11.14).
-abbrev pub leaves : Machine → Submitted
-leaves m =
-    accepts (begun m opens.Logout)
-    (record {
-      head = heads.LogoutRequest (logout_request m);
-      segment = Bytes [];
-    } ∷ [])
-
 -- A request that is accepted begins (section 11).
 abbrev pub accepted : Machine → Request → Submitted
 accepted m (In lun cdb expected) = reads m lun cdb expected
 accepted m (Out lun cdb bytes) = writes m lun cdb bytes
-accepted m (Ping bytes) = pings m bytes
-accepted m (Text bytes) = asks m bytes
-accepted m Logout = leaves m
+accepted m (Ping bytes) = begins m opens.Ping (heads.NopOut (ping m)) bytes
+accepted m (Text bytes) = begins m opens.Text (heads.TextRequest (text_request m)) bytes
+accepted m Logout = begins m opens.Logout (heads.LogoutRequest (logout_request m)) []
 
 -- A refused request changes and sends nothing.
 abbrev pub or_accepted : Option SubmitFault → Machine → Request → Submitted

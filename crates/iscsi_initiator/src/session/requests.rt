@@ -156,8 +156,7 @@ impl Session {
 
     // The head of a command of simple order that moves nothing.
     fn command(&self, is_final: bool, lun: u64, cdb: &[u8; 16]) -> ScsiCommand
-        ensures value { result ≡ command self.now is_final lun cdb.now
-            (record { read = false; write = false; expected = 0 }) }
+        ensures value { result ≡ command self.now is_final lun cdb.now }
         ensures fits { FitsTable result.cdb }
     {
         ScsiCommand {

@@ -92,7 +92,7 @@ target_grows false old before output piece result new after written f =
     leaves_grow result output f.framing (drop f.count piece) f.stepped f.answered.failures new.machine after written f.leaves
 
 stream_grows : (fault : StreamFault) (old : initiator.Connection) (piece : List ℕ) (new : initiator.Connection) (before after : List ℕ)
-    → initiator.StreamFails fault old piece new before after → Grows before after
+    → initiator.Feeds (Err (faults.Stream fault)) old piece new before after → Grows before after
 stream_grows stream.NoMemory old piece new before after e = absurd e
 stream_grows (stream.Head fault place) old piece new before after e = record { more = canon (received_steps old piece e.0).output; is = e.1.output }
 stream_grows (stream.OverLimit place) old piece new before after e = record { more = canon (received_steps old piece e.0).output; is = e.1.output }

@@ -26,7 +26,7 @@ use Rattle.iscsi_text.specs.Canonical.{canonical_text}
 use Rattle.iscsi_initiator.specs.Login.{start_step, fits_segment, offered}
 use Rattle.iscsi_initiator.specs.Machine.{step, steps, taken}
 use Rattle.iscsi_initiator.specs.Submitted.{submitted, or_accepted, refusal, refusal_in}
-use Rattle.iscsi_initiator.specs.Calls.{Connection, Received, received_steps, Feeds, ReceivesAll, ClosesAt, StreamEnds, StreamFails, Stays, Submits, Accepts}
+use Rattle.iscsi_initiator.specs.Calls.{Connection, Received, received_steps, Feeds, ReceivesAll, ClosesAt, StreamEnds, Stays, Submits, Accepts}
 use Rattle.iscsi_initiator.specs.Calls.{after_taking, limit}
 use Rattle.iscsi_initiator.proofs.OneOutcomeLaw.{closed_step, no_fault, not_live}
 use Rattle.iscsi_login.specs.declared.stage.Stage.TheVariants as stages
@@ -557,7 +557,7 @@ failed_open false old bytes h fault is cause = is
 
 stream_fails : (fault : StreamFault) (past : List Input) (c : Opening) (acts : List Input) (moved prior before bytes after : List ℕ) (old new : Connection)
     → InitiatorSide past c acts (streams moved (prior ++ before)) old None
-    → StreamFails fault old bytes new before after → (kept : EndFault) → (InitiatorBroken fault c (moved ++ bytes) (prior ++ after) new
+    → Feeds (Err (faults.Stream fault)) old bytes new before after → (kept : EndFault) → (InitiatorBroken fault c (moved ++ bytes) (prior ++ after) new
     → InitiatorFailed (Some kept) c (moved ++ bytes) (prior ++ after) new)
     → InitiatorSide past c acts (streams (moved ++ bytes) (prior ++ after)) new (Some kept)
 stream_fails stream.NoMemory past c acts moved prior before bytes after old new s e kept why = absurd e

@@ -373,7 +373,7 @@ counted_on t = record t { session = target_session.counted t.session }
 -- what goes out for a read
 abbrev read_command : initiator.Machine → ℕ → List ℕ → ℕ → Message
 read_command m lun cdb expected = record {
-  head = heads.ScsiCommand (command m true lun cdb (record { read = not (expected == 0); write = false; expected = expected }));
+  head = heads.ScsiCommand (record (command m true lun cdb) { read = not (expected == 0); expected_data_transfer_length = expected });
   segment = Bytes [];
 }
 
@@ -431,7 +431,7 @@ read_taken : (m : initiator.Machine) (t : target.Machine) (disk : Disk) (lun : �
 unfolding segment_bytes
 read_taken m t disk lun cdb expected lt =
     let order : Order = reading_order lun cdb expected in
-    let h : ScsiCommand = command m true lun cdb (record { read = not (expected == 0); write = false; expected = expected }) in
+    let h : ScsiCommand = record (command m true lun cdb) { read = not (expected == 0); expected_data_transfer_length = expected } in
     request_alone reliable (ready t m.cmd_sn).session disk (read_command m lun cdb expected)
     (record {
       phase = refl;
@@ -574,7 +574,7 @@ local_read m t disk lun cdb expected on_ size are a e =
     } in
     let written : ArePlain m.held.target_max_recv (read_command m lun cdb expected ∷ []) =
     plain_one m.held.target_max_recv (read_command m lun cdb expected)
-    (λ logins. command_readable logins m true lun cdb [] (record { read = not (expected == 0); write = false; expected = expected }) on_ size are a.tag_fits
+    (λ logins. command_readable logins m true (not (expected == 0)) false lun cdb [] expected on_ size are a.tag_fits
     (omega (arith, few)) a.cmd_sn_fits (stat_sn_sent m t a) (omega arith))
     (short_message (read_command m lun cdb expected).head [] m.held.target_max_recv (omega arith)) in
     record {

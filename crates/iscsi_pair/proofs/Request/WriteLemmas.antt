@@ -657,7 +657,8 @@ announcement_by write false n unasked_ burst_ e =
 
 -- the command that goes out for a write
 abbrev write_head : initiator.Machine → ℕ → List ℕ → List ℕ → ScsiCommand
-write_head m lun cdb bytes = command m (not (has_more m bytes)) lun cdb (record { read = false; write = not (length bytes == 0); expected = length bytes })
+write_head m lun cdb bytes =
+    record (command m (not (has_more m bytes)) lun cdb) { write = not (length bytes == 0); expected_data_transfer_length = length bytes }
 
 burst_kept : (m : initiator.Machine) (lun : ℕ) (cdb bytes : List ℕ) → breaks_burst_rules m.held (write_head m lun cdb bytes) (length (immediate m bytes))
     ≡ false
@@ -1039,11 +1040,7 @@ local_write m t disk lun cdb bytes on_ size are a e =
     let short_ : length (immediate m bytes) ≤ most = subst (λ (h : Held). length (immediate m bytes) ≤ h.target_max_recv) a.held short in
     let written : ArePlain most (write_message m lun cdb bytes ∷ unasked_data m bytes) =
     plain_more most (write_message m lun cdb bytes) (unasked_data m bytes)
-    (λ logins. command_readable logins m (not (has_more m bytes)) lun cdb (immediate m bytes) (record {
-      read = false;
-      write = not (length bytes == 0);
-      expected = length bytes;
-    }) on_ size are a.tag_fits (omega (arith, few)) a.cmd_sn_fits
+    (λ logins. command_readable logins m (not (has_more m bytes)) false (not (length bytes == 0)) lun cdb (immediate m bytes) (length bytes) on_ size are a.tag_fits (omega (arith, few)) a.cmd_sn_fits
     (stat_sn_sent m t a) (omega (arith, short_, a.is_held.target_max_recv.1)))
     (short_message (write_message m lun cdb bytes).head (immediate m bytes) most short_)
     (sequence_written (begun_write m) None reserved_tag (length (immediate m bytes)) (initiator_writes.unsolicited m bytes) a.is_held all.tag_fits

@@ -202,7 +202,7 @@ Turns c P h old s moved = (f : calls.Received old.initiator moved)
 -- the framer refuses nothing
 stream_fails : (fault : StreamFault) (c : Opening) (P : Relation) (h : History) (old : World) (moved : List ℕ) (new : calls.Connection) (after : List ℕ)
     → (s : Stands c P h old) → Turns c P h old s moved
-    → calls.StreamFails fault old.initiator moved new old.to_target after → ⊥
+    → calls.Feeds (Err (faults.Stream fault)) old.initiator moved new old.to_target after → ⊥
 stream_fails stream.NoMemory c P h old moved new after s t e = e
 stream_fails (stream.Head f place) c P h old moved new after s t e = (t e.0).refuses (stream.Head f place) (λ bad. cc bad) e.1.refused
 stream_fails (stream.OverLimit place) c P h old moved new after s t e = (t e.0).refuses (stream.OverLimit place) (λ bad. cc bad) e.1.refused

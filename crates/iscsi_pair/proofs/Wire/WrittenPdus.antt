@@ -32,7 +32,7 @@ use Rattle.iscsi_target_session.specs.Requests.{nop_in_head, logout_head}
 use Rattle.iscsi_initiator.specs.State as initiator
 use Rattle.iscsi_initiator.specs.State.{sent_exp_stat_sn}
 use Rattle.iscsi_initiator.specs.Block.{record_of}
-use Rattle.iscsi_initiator.specs.Submitted.{Moves, command, ping, logout_request}
+use Rattle.iscsi_initiator.specs.Submitted.{command, ping, logout_request}
 use Rattle.iscsi_initiator.proofs.BlockLaws.{record_is}
 use Rattle.iscsi_pair.proofs.Wire.PrefixLemmas.{Readable}
 use Rattle.iscsi_pair.proofs.Wire.WindowLemmas.{tag_after}
@@ -72,12 +72,16 @@ tag_room : (tag : ℕ) → tag ≤ 0xffff_fffe → initiator.next_tag tag < 2 ^ 
 tag_room tag le = omega (arith, tag_after tag le)
 
 -- A command is read as it was written.
-pub command_readable : (logins : Logins) (m : initiator.Machine) (is_final : Bool) (lun : ℕ) (cdb bytes : List ℕ) (moves : Moves)
-    → lun < 2 ^ 64 → length cdb ≡ 16 → AreBytes cdb → m.initiator_task_tag ≤ 0xffff_fffe → moves.expected < 2 ^ 32 → m.cmd_sn < 2 ^ 32
+pub command_readable : (logins : Logins) (m : initiator.Machine) (is_final read write : Bool) (lun : ℕ) (cdb bytes : List ℕ) (expected : ℕ)
+    → lun < 2 ^ 64 → length cdb ≡ 16 → AreBytes cdb → m.initiator_task_tag ≤ 0xffff_fffe → expected < 2 ^ 32 → m.cmd_sn < 2 ^ 32
     → sent_exp_stat_sn m < 2 ^ 32 → length bytes < 2 ^ 24
-    → Readable logins (record { head = heads.ScsiCommand (command m is_final lun cdb moves); segment = Bytes bytes })
-command_readable logins m is_final lun cdb bytes moves on size are tag expected cmd_sn stat_sn lt =
-    plain_readable logins (heads.ScsiCommand (command m is_final lun cdb moves)) bytes refl (
+    → Readable logins (record {
+      head = heads.ScsiCommand (record (command m is_final lun cdb) { read = read; write = write; expected_data_transfer_length = expected });
+      segment = Bytes bytes;
+    })
+command_readable logins m is_final read write lun cdb bytes expected on size are tag fits cmd_sn stat_sn lt =
+    plain_readable logins (heads.ScsiCommand (record (command m is_final lun cdb) { read = read; write = write; expected_data_transfer_length = expected }))
+    bytes refl (
       refl,
       (
         refl,
@@ -91,7 +95,7 @@ command_readable logins m is_final lun cdb bytes moves on size are tag expected 
                 (refl, on),
                 (
                   (refl, tag_room m.initiator_task_tag tag),
-                  ((refl, expected), ((refl, cmd_sn), ((refl, stat_sn), tt))),
+                  ((refl, fits), ((refl, cmd_sn), ((refl, stat_sn), tt))),
                 ),
               ),
             ),
