@@ -21,7 +21,7 @@ use Rattle.iscsi_initiator.specs.declared.fault.InitiatorFault.{InitiatorFault}
 use Rattle.iscsi_initiator.specs.declared.fault.InitiatorFault.TheVariants as faults
 use Rattle.iscsi_initiator.specs.State.{Machine}
 use Rattle.iscsi_initiator.specs.Steps.{Stepped, fails, quiet, sends}
-use Rattle.iscsi_initiator.specs.Login.{offered, sends_text, fits_segment, requested_stage, begins_stage, judged, text_answered, moves_on, goes_on, in_turn}
+use Rattle.iscsi_initiator.specs.Login.{offered, sends_text, fits_segment, following_stage, begins_stage, judged, text_answered, moves_on, goes_on, in_turn}
 use Rattle.iscsi_initiator.specs.Login.{answered, login_step, is_expected}
 use Rattle.iscsi_initiator.specs.Full.{Due, UnsolicitedNopIn, Pong, Data, R2t, Response, TextAnswer, LogoutAnswer, Async, RejectPdu, due, takes, on_due}
 use Rattle.iscsi_initiator.specs.Full.{update_counters, checked_stat_sn, is_in_turn, fits_reading, fits_writing, outcome_with, sense_of}
@@ -62,7 +62,7 @@ entering stages.Full m = quietly _
 
 judging : (key : Option (List ℕ)) (m : Machine) (h : LoginResponse) (answer : Pairs) → Shuts (judged key m h answer)
 judging (Some key) m h answer = failing m (faults.BadAnswer key) tt
-judging None m h answer = entering (requested_stage m) _
+judging None m h answer = entering (following_stage m.stage) _
 
 answering : (m : Machine) (h : LoginResponse) (segment : Segment) → Shuts (text_answered m h segment)
 answering m h (Bytes bytes) = failing m (faults.Protocol 4) tt

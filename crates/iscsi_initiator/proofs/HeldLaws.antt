@@ -23,7 +23,7 @@ use Rattle.iscsi_initiator.specs.declared.request.SubmitFault.{SubmitFault}
 use Rattle.iscsi_initiator.specs.State.{Settings, Machine, opening, is_closed}
 use Rattle.iscsi_initiator.specs.Steps.{Stepped, closed, protocol_error}
 use Rattle.iscsi_initiator.specs.Login.{counted, fits_segment, moves_on, goes_on, is_expected, start_step, login_step, begins_stage, judged, offered}
-use Rattle.iscsi_initiator.specs.Login.{text_answered, in_turn, answered, requested_stage, sends_text}
+use Rattle.iscsi_initiator.specs.Login.{text_answered, in_turn, answered, following_stage, sends_text}
 use Rattle.iscsi_initiator.specs.Full.{Due, UnsolicitedNopIn, Pong, Data, R2t, Response, TextAnswer, LogoutAnswer, Async, RejectPdu, on_due, outcome_with}
 use Rattle.iscsi_initiator.specs.Full.{sense_of, takes, due, fits_reading, fits_writing, update_counters, is_in_turn, checked_stat_sn}
 use Rattle.iscsi_initiator.specs.Machine.{step, step_in, taken}
@@ -129,7 +129,9 @@ enters_sound stages.Operational m t =
 
 judged_sound : (o : Option (List ℕ)) (m : Machine) (h : LoginResponse) (answer : Pairs) → Sound m → m.started ≡ true → Sound (judged o m h answer).machine
 judged_sound (Some key) m h answer s t = closed_sound m s
-judged_sound None m h answer s t = let n : Machine = record (counted m h) { held = initiator_holds None answer m.held } in enters_sound (requested_stage m) n t
+judged_sound None m h answer s t =
+    let n : Machine = record (counted m h) { held = initiator_holds None answer m.held } in
+    enters_sound (following_stage m.stage) n t
 
 text_answered_sound : (m : Machine) (h : LoginResponse) (segment : Segment) → Sound m → m.started ≡ true → Sound (text_answered m h segment).machine
 text_answered_sound m h (Bytes bytes) s t = closed_sound m s

@@ -33,7 +33,7 @@ use Rattle.iscsi_initiator.specs.State.{Settings, Machine, opening, is_closed}
 use Rattle.iscsi_pdu.specs.Serial.{next_sn}
 use Rattle.iscsi_initiator.specs.Steps.{Stepped, closed, protocol_error, quiet}
 use Rattle.iscsi_initiator.specs.Login.{counted, fits_segment, moves_on, goes_on, is_expected, start_step, login_step, begins_stage, judged, offered}
-use Rattle.iscsi_initiator.specs.Login.{text_answered, in_turn, answered, requested_stage, sends_text}
+use Rattle.iscsi_initiator.specs.Login.{text_answered, in_turn, answered, following_stage, sends_text}
 use Rattle.iscsi_initiator.specs.Full.{Due, UnsolicitedNopIn, Pong, Data, R2t, Response, TextAnswer, LogoutAnswer, Async, RejectPdu, on_due, outcome_with}
 use Rattle.iscsi_initiator.specs.Full.{sense_of, takes, due, due_to, answer_due, tag_of, fits_reading, fits_writing, update_counters, is_in_turn}
 use Rattle.iscsi_initiator.specs.Full.{checked_stat_sn, completes, has_received, read_outcome, residual}
@@ -270,7 +270,7 @@ enters_turn stages.Operational m n a b = let x : Machine = record n { stage = st
 judged_turn : (o : Option (List ℕ)) (m : Machine) (h : LoginResponse) (answer : Pairs) → Turn m (judged o m h answer).machine
 judged_turn (Some key) m h answer = same m (closed m) refl refl
 judged_turn None m h answer = let n : Machine = record (counted m h) { held = initiator_holds None answer m.held } in
-    enters_turn (requested_stage m) m n refl refl
+    enters_turn (following_stage m.stage) m n refl refl
 
 text_answered_turn : (m : Machine) (h : LoginResponse) (segment : Segment) → Turn m (text_answered m h segment).machine
 text_answered_turn m h (Bytes bytes) = same m (closed m) refl refl

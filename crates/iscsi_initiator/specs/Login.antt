@@ -36,17 +36,13 @@ following_stage Security = Operational
 following_stage Operational = Full
 following_stage Full = Full
 
--- The next stage that the present text requests (section 11.12.3).
-abbrev pub requested_stage : Machine → Stage
-requested_stage m = following_stage m.stage
-
 -- The head of a login PDU, which is the last of its text or is not (section 11.12).
 abbrev pub login_request : Machine → Bool → LoginRequest
 login_request m is_last = record {
   transits = is_last;
   continues = not is_last;
   current_stage = stage_number m.stage;
-  next_stage = then_some is_last (stage_number (requested_stage m));
+  next_stage = then_some is_last (stage_number (following_stage m.stage));
   version_max = 0;
   version_min = 0;
   isid = m.settings.isid;
@@ -105,7 +101,7 @@ begins_stage stage m = sends_text (record m { stage = stage })
 abbrev pub judged : Option (List ℕ) → Machine → LoginResponse → Pairs → Stepped
 judged (Some key) m h answer = fails m (BadAnswer key)
 judged None m h answer =
-    begins_stage (requested_stage m)
+    begins_stage (following_stage m.stage)
     (record (counted m h) { held = initiator_holds None answer m.held })
 
 -- The text that answers the present one; bytes that are no text break a rule (section 6.1).
@@ -128,7 +124,7 @@ goes_on m h segment =
 abbrev pub moves_on : Machine → LoginResponse → Bool
 moves_on m h =
     h.transits && not h.continues && (h.current_stage == stage_number m.stage)
-    && (unwrap_or h.next_stage 0 == stage_number (requested_stage m))
+    && (unwrap_or h.next_stage 0 == stage_number (following_stage m.stage))
 
 -- An answer to a segment: with a part of the text left, it was not the last (section 11.13).
 abbrev pub in_turn : List ℕ → Machine → LoginResponse → Segment → Stepped

@@ -7,7 +7,7 @@ ghost use Rattle.iscsi_pdu.specs.Meaning.{Fits, whole};
 ghost use Rattle.iscsi_pdu.specs.declared.head.Head.TheVariants as heads;
 ghost use Rattle.iscsi_stream.specs.Segment.{Text as Whole, segment_of, text_or_bytes};
 ghost use Rattle.iscsi_login.specs.Answer.{DeclaresWell, initiator_holds};
-ghost use Rattle.iscsi_initiator.specs.Login.{requested_stage, following_stage, login_request, fits_segment, sends_text, sends_more, is_expected, counted, begins_stage, text_answered, is_empty_segment, goes_on, moves_on, in_turn, answered, login_step, start_step};
+ghost use Rattle.iscsi_initiator.specs.Login.{following_stage, login_request, fits_segment, sends_text, sends_more, is_expected, counted, begins_stage, text_answered, is_empty_segment, goes_on, moves_on, in_turn, answered, login_step, start_step};
 ghost use Rattle.iscsi_initiator.specs.Inside.{Handles, Counts, Sends};
 
 use super::Session;

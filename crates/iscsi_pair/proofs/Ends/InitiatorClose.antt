@@ -24,7 +24,7 @@ use Rattle.iscsi_initiator.specs.declared.request.SubmitFault.{SubmitFault}
 use Rattle.iscsi_initiator.specs.State.{Machine, is_closed}
 use Rattle.iscsi_login.specs.Stage.{is_closed_phase}
 use Rattle.iscsi_initiator.specs.Steps.{Stepped, fails, protocol_error, sends}
-use Rattle.iscsi_initiator.specs.Login.{login_step, answered, in_turn, is_expected, goes_on, moves_on, text_answered, judged, begins_stage, requested_stage}
+use Rattle.iscsi_initiator.specs.Login.{login_step, answered, in_turn, is_expected, goes_on, moves_on, text_answered, judged, begins_stage, following_stage}
 use Rattle.iscsi_initiator.specs.Login.{counted, sends_more, sends_text, sends_cut, offered, fits_segment, login_message}
 use Rattle.iscsi_initiator.specs.Full.{due}
 use Rattle.iscsi_initiator.specs.Machine.{step, step_in, steps}
@@ -70,7 +70,7 @@ enters_well stages.Full m p = record { full = λ e. refl; quiet_end = λ none ov
 
 judged_well : (o : Option (List ℕ)) (m : Machine) (h : LoginResponse) (pairs : Pairs) → m.phase ≡ phases.Login → EndsWell (judged o m h pairs)
 judged_well (Some key) m h pairs p = failed m _
-judged_well None m h pairs p = enters_well (requested_stage m) (record (counted m h) { held = initiator_holds None pairs m.held }) p
+judged_well None m h pairs p = enters_well (following_stage m.stage) (record (counted m h) { held = initiator_holds None pairs m.held }) p
 
 text_well : (m : Machine) (h : LoginResponse) (segment : Segment) → m.phase ≡ phases.Login → EndsWell (text_answered m h segment)
 text_well m h (Bytes bytes) p = failed m _

@@ -18,7 +18,7 @@ use Rattle.iscsi_target.proofs.ContinuationLemmas.{then_nothing}
 use Rattle.iscsi_initiator.specs.Configured.{IsStart}
 use Rattle.iscsi_initiator.specs.State as initiator
 use Rattle.iscsi_initiator.specs.Steps.{Stepped}
-use Rattle.iscsi_initiator.specs.Login.{requested_stage, following_stage, begins_stage, login_request, offered, start_step}
+use Rattle.iscsi_initiator.specs.Login.{following_stage, begins_stage, login_request, offered, start_step}
 use Rattle.iscsi_initiator.specs.Machine.{step}
 use Rattle.iscsi_pair.proofs.Lists.StepLemmas.{first_spot}
 use Rattle.iscsi_pair.specs.World.{Opening}
@@ -71,7 +71,7 @@ after_text i t =
 
 -- a text that ends leads to the second stage, or to the end of the login
 ends_text : (stage : Stage) (i w : initiator.Machine) (s : Stepped) → i.stage ≡ stage → IsStart i.stage → IsStart s.machine.stage
-    → s ≡ begins_stage (requested_stage i) w → IsNearer i s.machine
+    → s ≡ begins_stage (following_stage i.stage) w → IsNearer i s.machine
 ends_text stages.Security i w s is start on e =
     let m : initiator.Machine = record w { stage = stages.Operational } in
     let now : s ≡ begins_stage stages.Operational w = e ∙ ap (λ (x : Stage). begins_stage (following_stage x) w) is in

@@ -15,7 +15,7 @@ use Rattle.iscsi_login.specs.Check.{bad_key}
 use Rattle.iscsi_initiator.specs.declared.fault.InitiatorFault.TheVariants.{Refused}
 use Rattle.iscsi_initiator.specs.State.{Machine}
 use Rattle.iscsi_initiator.specs.Steps.{Stepped, fails, protocol_error}
-use Rattle.iscsi_initiator.specs.Login.{login_step, answered, in_turn, is_expected, goes_on, moves_on, text_answered, judged, begins_stage, requested_stage}
+use Rattle.iscsi_initiator.specs.Login.{login_step, answered, in_turn, is_expected, goes_on, moves_on, text_answered, judged, begins_stage, following_stage}
 use Rattle.iscsi_initiator.specs.Login.{counted, sends_more, offered}
 use Rattle.iscsi_initiator.specs.Machine.{step, step_in}
 use Rattle.iscsi_initiator.proofs.StepLemmas.{step_is}
@@ -70,15 +70,15 @@ abbrev pub with_answer : Machine → LoginResponse → Pairs → Machine
 with_answer m h pairs = record (counted m h) { held = initiator_holds None pairs m.held }
 
 judges : (o : Option (List ℕ)) (m : Machine) (h : LoginResponse) (pairs : Pairs)
-    → Closes m (judged o m h pairs) ⊎ (judged o m h pairs ≡ begins_stage (requested_stage m) (with_answer m h pairs))
+    → Closes m (judged o m h pairs) ⊎ (judged o m h pairs ≡ begins_stage (following_stage m.stage) (with_answer m h pairs))
 judges (Some key) m h pairs = inl (record { phase = refl; stage = refl })
 judges None m h pairs = inr refl
 
 -- an answer to a whole text is a fault, or the login enters the next stage
 pub hears_answer : (m : Machine) (h : LoginResponse) (pairs : Pairs) → m.phase ≡ phases.Login → m.started ≡ true → h.initiator_task_tag ≡ 0 → h.status_class ≡ 0
-    → m.unsent_text ≡ [] → Closes m (step m (answering h pairs)) ⊎ (step m (answering h pairs) ≡ begins_stage (requested_stage m) (with_answer m h pairs))
+    → m.unsent_text ≡ [] → Closes m (step m (answering h pairs)) ⊎ (step m (answering h pairs) ≡ begins_stage (following_stage m.stage) (with_answer m h pairs))
 hears_answer m h pairs p s tag class left =
-    let P : Stepped → Type 0 = λ r. Closes m r ⊎ (r ≡ begins_stage (requested_stage m) (with_answer m h pairs)) in
+    let P : Stepped → Type 0 = λ r. Closes m r ⊎ (r ≡ begins_stage (following_stage m.stage) (with_answer m h pairs)) in
     let shut : (r : ℕ) → P (protocol_error m r) = λ r. inl (record { phase = refl; stage = refl }) in
     let number : Bool = not (is_expected m.exp_stat_sn (unwrap_or h.stat_sn 0)) in
     let turn : P (in_turn m.unsent_text m h (Text pairs)) =

@@ -36,7 +36,7 @@ use Rattle.iscsi_initiator.specs.Configured.{IsStart}
 use Rattle.iscsi_initiator.specs.State as initiator
 use Rattle.iscsi_initiator.specs.State.{serial}
 use Rattle.iscsi_initiator.specs.Steps.{Stepped, sends}
-use Rattle.iscsi_initiator.specs.Login.{requested_stage, counted, begins_stage, fits_segment, login_message, login_request, offered, sends_cut, sends_more}
+use Rattle.iscsi_initiator.specs.Login.{following_stage, counted, begins_stage, fits_segment, login_message, login_request, offered, sends_cut, sends_more}
 use Rattle.iscsi_initiator.specs.Login.{sends_text, start_step}
 use Rattle.iscsi_initiator.specs.Machine.{step}
 use Rattle.iscsi_pair.specs.World.{Opening, IsOpening, Suits}
@@ -288,16 +288,16 @@ last_meets c i t logins next r disk o normal a s b turn q =
     begins t.session h c.initiator.first_cmd_sn (ap (λ (x : initiator.Settings). x.first_cmd_sn) a.settings) b.due in
     let w : initiator.Machine = with_answer i g (answer_pairs e (offered i)) in
     let u : target.Stepped = target.on disk t.tasks (text_answered e h (offered i)) in
-    let y : Steady c (begins_stage (requested_stage i) w).machine u.machine =
-    steady c i t e u.machine g w.held (begins_stage (requested_stage i) w).machine o a b (record { cmd_sn = k.cmd_sn; session_type = k.session_type })
+    let y : Steady c (begins_stage (following_stage i.stage) w).machine u.machine =
+    steady c i t e u.machine g w.held (begins_stage (following_stage i.stage) w).machine o a b (record { cmd_sn = k.cmd_sn; session_type = k.session_type })
     (record { settings = same.settings ∙ a.target_settings; stat_sn = refl; exp_cmd_sn = refl; told_sn = refl; told_exp = refl; told_max = refl })
     (none_left u.machine.session t.tasks b.no_task)
-    (enters_kept (requested_stage i) w) refl
+    (enters_kept (following_stage i.stage) w) refl
     (subst (λ (x : target.Stepped). IsFit x.machine) q.there (step_fit t disk r b.fit))
     (λ is. normal_for c i t e o normal a.settings same.has_text k.session_type b.session s.texts) in
     subst (λ (x : target.Stepped). Meets c i x (step i turn.answer) disk next) (sym q.there)
     (subst (λ (x : Stepped). Meets c i u x disk next) (sym q.now)
-    (meets_by c i u (begins_stage (requested_stage i) w) disk next o y (λ full. (enters_full (requested_stage i) w full, refl)) refl))
+    (meets_by c i u (begins_stage (following_stage i.stage) w) disk next o y (λ full. (enters_full (following_stage i.stage) w full, refl)) refl))
 
 -- ---- a request whose text goes on
 

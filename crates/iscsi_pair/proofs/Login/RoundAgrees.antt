@@ -33,7 +33,7 @@ use Rattle.iscsi_initiator.specs.Configured.{AreValid, IsStart}
 use Rattle.iscsi_initiator.specs.State as initiator
 use Rattle.iscsi_initiator.specs.State.{sent_exp_stat_sn}
 use Rattle.iscsi_initiator.specs.Steps.{Stepped, sends}
-use Rattle.iscsi_initiator.specs.Login.{offered, requested_stage, following_stage, login_request, login_message, counted, sends_cut, sends_more, sends_text}
+use Rattle.iscsi_initiator.specs.Login.{offered, following_stage, login_request, login_message, counted, sends_cut, sends_more, sends_text}
 use Rattle.iscsi_initiator.specs.Login.{begins_stage, fits_segment, start_step}
 use Rattle.iscsi_initiator.specs.Machine.{step}
 use Rattle.iscsi_target_session.specs.Configured as target_settings
@@ -108,8 +108,8 @@ pub request_fits : (c : Opening) (i : initiator.Machine) (last : Bool) → IsOpe
     → RequestFits (login_request i last)
 request_fits c i last o e n = record {
   current_stage = stage_fits i.stage;
-  has_next = some_then last (stage_number (requested_stage i));
-  next_stage = if_then last (stage_number (requested_stage i)) (stage_fits (requested_stage i));
+  has_next = some_then last (stage_number (following_stage i.stage));
+  next_stage = if_then last (stage_number (following_stage i.stage)) (stage_fits (following_stage i.stage));
   version_max = omega arith;
   version_min = omega arith;
   isid = ap (λ (s : initiator.Settings). length s.isid) e ∙ o.isid;

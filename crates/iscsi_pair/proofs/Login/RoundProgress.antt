@@ -33,7 +33,7 @@ use Rattle.iscsi_initiator.specs.Configured.{IsStart}
 use Rattle.iscsi_initiator.specs.State as initiator
 use Rattle.iscsi_initiator.specs.State.{is_closed}
 use Rattle.iscsi_initiator.specs.Steps.{Stepped, sends}
-use Rattle.iscsi_initiator.specs.Login.{offered, requested_stage, following_stage, login_request, login_message, is_expected, goes_on, moves_on, in_turn}
+use Rattle.iscsi_initiator.specs.Login.{offered, following_stage, login_request, login_message, is_expected, goes_on, moves_on, in_turn}
 use Rattle.iscsi_initiator.specs.Login.{judged, begins_stage, counted, sends_more, sends_text, sends_cut, fits_segment, start_step}
 use Rattle.iscsi_initiator.specs.Machine.{step}
 use Rattle.iscsi_target_session.specs.declared.status.Status.{Status}
@@ -240,7 +240,7 @@ hears_more_well m h byte bytes p s tag class number left on =
 hears_last_well : (m : initiator.Machine) (h : LoginResponse) (pairs : Pairs) → m.phase ≡ phases.Login → m.started ≡ true → h.initiator_task_tag ≡ 0
     → h.status_class ≡ 0
     → is_expected m.exp_stat_sn (unwrap_or h.stat_sn 0) ≡ true → m.unsent_text ≡ [] → moves_on m h ≡ true → bad_key (offered m) pairs ≡ None
-    → step m (answering h pairs) ≡ begins_stage (requested_stage m) (with_answer m h pairs)
+    → step m (answering h pairs) ≡ begins_stage (following_stage m.stage) (with_answer m h pairs)
 hears_last_well m h pairs p s tag class number left on good =
     hears m h pairs p s tag
     ∙ cond-false (not (h.status_class == 0)) _ _ (ap (λ (n : ℕ). not (n == 0)) class)
@@ -378,7 +378,7 @@ part_head e h = record (login.response e h) { stat_sn = Some e.stat_sn }
 pub record LastTurn (i : initiator.Machine) (t : target.Machine) (disk : Disk) (r answer : Message) : Type 0 where
   pub there : target_machine.step t disk r ≡ target.on disk t.tasks (text_answered (emptied t.session (login_request i true)) (login_request i true)
       (offered i))
-  pub now : step i answer ≡ begins_stage (requested_stage i) (with_answer i (text_head (emptied t.session (login_request i true)) (login_request i true))
+  pub now : step i answer ≡ begins_stage (following_stage i.stage) (with_answer i (text_head (emptied t.session (login_request i true)) (login_request i true))
       (answer_pairs (emptied t.session (login_request i true)) (offered i)))
 
 -- both ends behind a request whose text goes on
@@ -419,7 +419,7 @@ last_turn c i t logins next r disk segment o suits a s left fits read size turn 
       now = ap (step i) is ∙ hears_last_well i (text_head e h) (answer_pairs e given) a.phase a.started refl refl (ap (is_expected i.exp_stat_sn) same.stat_sn
           ∙ s.expected) left
           (and_from _ _ (eq-eqb (stage_number i.stage) (stage_number i.stage) refl)
-          (eq-eqb (stage_number (requested_stage i)) (stage_number (requested_stage i)) refl))
+          (eq-eqb (stage_number (following_stage i.stage)) (stage_number (following_stage i.stage)) refl))
           (takes c i e o a.settings a.stage (same.settings ∙ a.target_settings));
     }
 
@@ -549,7 +549,7 @@ last_well c i t logins next r disk a s turn q =
     let h : LoginRequest = login_request i true in
     let e : target_session.Session = emptied t.session h in
     let w : initiator.Machine = with_answer i (text_head e h) (answer_pairs e (offered i)) in
-    let on_ : GoesOn (begins_stage (requested_stage i) w) = enters_on (requested_stage i) w a.phase in
+    let on_ : GoesOn (begins_stage (following_stage i.stage) w) = enters_on (following_stage i.stage) w a.phase in
     let live : is_closed (step i turn.answer).machine ≡ false = ap (λ (x : Stepped). is_closed x.machine) q.now ∙ on_.live in
     record {
       on = leads_on c i (step i turn.answer) (target_machine.step t disk r).machine next turn.leads live (suited_by c i t logins next r turn.answer disk a s q
