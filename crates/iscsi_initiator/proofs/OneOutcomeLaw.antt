@@ -7,7 +7,8 @@ use Rattle.iscsi_stream.specs.declared.fault.StreamFault.TheVariants as broken
 use Rattle.iscsi_stream.specs.Stream.{Message}
 use Rattle.iscsi_stream.specs.Canonical.{canon}
 use Rattle.iscsi_stream.specs.Framing.{HasTaken}
-use Rattle.iscsi_stream.proofs.FrontLemmas.{Course, Sight, HearsUpTo, HearAlike, IsLeft, framer_hears, framer_leaves, framer_refuses, hear_alike, sight}
+use Rattle.iscsi_stream.proofs.FrontLemmas.{Receiver, Sight, ReceivesUpTo, ReceiveAlike, IsLeft}
+use Rattle.iscsi_stream.proofs.FrontLemmas.{framer_receives, framer_leaves, framer_refuses, receive_alike, sight}
 use Rattle.iscsi_stream.proofs.OneEndingLaw.{Outcome, Ended, Over, GoesOn, Breaks, Call, call, EndAlike, end_of, end_alike}
 use Rattle.iscsi_stream.proofs.ReadyLemmas.{apart}
 use Rattle.iscsi_login.specs.declared.phase.Phase.{Phase}
@@ -59,8 +60,8 @@ steps_stay m (x ∷ first) more over =
     let s : Stepped = step m x in
     next_stays (is_closed s.machine) s (steps s.machine first) (steps s.machine (first ++ more)) refl (steps_stay s.machine first more) over
 
-course : Machine → Course Stepped
-course m = record { to = steps m; over = λ s. is_closed s.machine; stays = steps_stay m }
+receiver : Machine → Receiver Stepped
+receiver m = record { to = steps m; over = λ s. is_closed s.machine; stays = steps_stay m }
 
 -- ---- what ended a call
 
@@ -85,7 +86,7 @@ leaves s = record {
 record Run (stream : List ℕ) (ms : List Message) (old : Connection) (now : Call Machine (Result Phase InitiatorFault)) (output written : List ℕ) : Type 0 where
   messages : List Message
   sight : Sight
-  receives : HearsUpTo (course old.machine) old.framing.limit stream ms messages sight
+  receives : ReceivesUpTo (receiver old.machine) old.framing.limit stream ms messages sight
   output_is : written ≡ output ++ canon (steps old.machine messages).output
   ended : Ended (leaves (steps old.machine messages)) sight now.result now.session now.framing
 
@@ -95,7 +96,7 @@ run_so : (stream : List ℕ) (ms : List Message) (old : Connection) (piece : Lis
     → Ended (leaves (steps old.machine h.messages)) (sight (stream ++ take h.count piece) (ms ++ h.messages) h.framing (h.moves stream ms t)
     (drop h.count piece)) result new.machine new.framing
     → Run (stream ++ piece) ms old (call result new.machine new.framing) output written
-unfolding course
+unfolding receiver
 run_so stream ms old piece result new output written t h out e =
     let s : List ℕ = stream ++ take h.count piece in
     let now : HasTaken s (ms ++ h.messages) h.framing = h.moves stream ms t in
@@ -105,7 +106,7 @@ run_so stream ms old piece result new output written t h out e =
     record {
       messages = h.messages;
       sight = x;
-      receives = framer_hears (course old.machine) old.framing.limit (stream ++ piece) s (drop h.count piece) ms h.messages h.framing now h.limit whole
+      receives = framer_receives (receiver old.machine) old.framing.limit (stream ++ piece) s (drop h.count piece) ms h.messages h.framing now h.limit whole
           (end_of (leaves (steps old.machine h.messages)) x result new.machine new.framing e);
       output_is = out;
       ended = e;
@@ -172,10 +173,10 @@ run_alike : (stream : List ℕ) (ms : List Message) (old : Connection) (result o
     (output written rewritten : List ℕ)
     → Run stream ms old (call result new.machine new.framing) output written → Run stream ms old (call other now.machine now.framing) output rewritten →
     CalledAlike result other new now written rewritten
-unfolding course
+unfolding receiver
 run_alike stream ms old result other new now output written rewritten a b =
-    let h : HearAlike (course old.machine) a.messages b.messages a.sight b.sight =
-    hear_alike (course old.machine) old.framing.limit stream ms a.messages b.messages a.sight b.sight a.receives b.receives in
+    let h : ReceiveAlike (receiver old.machine) a.messages b.messages a.sight b.sight =
+    receive_alike (receiver old.machine) old.framing.limit stream ms a.messages b.messages a.sight b.sight a.receives b.receives in
     let e : EndAlike is_closed (call result new.machine new.framing) (call other now.machine now.framing) =
     end_alike (leaves (steps old.machine a.messages)) a.sight b.sight result other new.machine now.machine new.framing now.framing h.sight a.ended
     (subst (λ (s : Stepped). Ended (leaves s) b.sight other now.machine now.framing) h.same b.ended) in

@@ -141,10 +141,10 @@ pub record Exchange : Type 0 where
 -- (section 4.2).
 abbrev pub after_answer : Exchange → Message → List Message → Exchange
 after_answer x m more =
-    let heard = step x.initiator m in
-    let answered = answers x.target x.disk heard.output in
+    let received = step x.initiator m in
+    let answered = answers x.target x.disk received.output in
     record {
-      initiator = heard.machine;
+      initiator = received.machine;
       target = answered.machine;
       disk = answered.disk;
       answers = more ++ answered.answers;

@@ -84,10 +84,10 @@ started old new before output s = record {
 quiet_step : (m : Machine) (message : Message) → Continues m [] [] (step m message).machine
 quiet_step m message = record { events = Meets (Comes message) ∷ []; reached = refl; requests = refl; outcomes = refl }
 
-heard : (m : Machine) (messages : List Message) → Continues m [] [] (steps m messages).machine
+received : (m : Machine) (messages : List Message) → Continues m [] [] (steps m messages).machine
 unfolding steps
-heard m [] = stays m
-heard m (message ∷ messages) = go (is_closed (step m message).machine) (heard (step m message).machine messages)
+received m [] = stays m
+received m (message ∷ messages) = go (is_closed (step m message).machine) (received (step m message).machine messages)
   where
     go : (b : Bool) → Continues (step m message).machine [] [] (steps (step m message).machine messages).machine
         → Continues m [] [] (if b then step m message else then_steps (step m message) (steps (step m message).machine messages)).machine
@@ -100,8 +100,8 @@ fed phase old new piece before output f = go f.1.1
   where
     go : ReceivesAll f.1.0 new before output phase ⊎ (ClosesAt f.1.0 new before output None × (phase ≡ phases.Closed)) →
         Continues old.machine [] [] new.machine
-    go (inl all) = subst (λ (c : Connection). Continues old.machine [] [] c.machine) (sym all.connection) (heard old.machine f.1.0.messages)
-    go (inr ends) = subst (λ (m : Machine). Continues old.machine [] [] m) (sym ends.0.machine) (heard old.machine f.1.0.messages)
+    go (inl all) = subst (λ (c : Connection). Continues old.machine [] [] c.machine) (sym all.connection) (received old.machine f.1.0.messages)
+    go (inr ends) = subst (λ (m : Machine). Continues old.machine [] [] m) (sym ends.0.machine) (received old.machine f.1.0.messages)
 
 pub submits : (old new : Connection) (request : Request) (before output : List ℕ) → Submits (Ok tt) old request new before output →
     Continues old.machine (request ∷ []) [] new.machine
@@ -145,14 +145,14 @@ each_outcome settings m requests outcomes c same =
 pub record DoneSoFar (all rest : List Command) (m : Machine) (contents_old contents_new : Option (List ℕ)) : Type 0 where
   pub front : List Command
   pub outcomes : List Done
-  pub course : Continues (opening initiator_settings) (map request_of front) outcomes m
+  pub continues : Continues (opening initiator_settings) (map request_of front) outcomes m
   pub same : length outcomes ≡ length front
   pub runs : up_to_logout all ≡ front ++ up_to_logout rest
   pub written : Appends contents_old contents_new (reports outcomes)
 
 pub done_none : (all : List Command) (m : Machine) (contents : Option (List ℕ)) → Continues (opening initiator_settings) [] [] m →
     DoneSoFar all all m contents contents
-done_none all m contents course = record { front = []; outcomes = []; course = course; same = refl; runs = refl; written = Appends-nil contents }
+done_none all m contents continues = record { front = []; outcomes = []; continues = continues; same = refl; runs = refl; written = Appends-nil contents }
 
 have_outcomes : (commands : List Command) (outcomes : List Done) → AllOutcomes (map request_of commands) outcomes → HaveOutcomes commands outcomes
 have_outcomes [] [] all = tt
@@ -166,7 +166,7 @@ pub done_all : (all rest : List Command) (m : Machine) (contents_old contents_ne
 done_all all rest m contents_old contents_new d none =
     let runs : up_to_logout all ≡ d.front = d.runs ∙ ap (λ (cs : List Command). d.front ++ cs) none ∙ append-nil d.front in
     let same : length d.outcomes ≡ length (map request_of d.front) = d.same ∙ sym (length-map d.front request_of) in
-    let each = each_outcome initiator_settings m (map request_of d.front) d.outcomes d.course same in
+    let each = each_outcome initiator_settings m (map request_of d.front) d.outcomes d.continues same in
     (d.outcomes, subst (λ (cs : List Command). HaveOutcomes cs d.outcomes) (sym runs) (have_outcomes d.front d.outcomes each), d.written)
 
 -- a command and its line
@@ -177,9 +177,9 @@ pub done_more : (all rest more : List Command) (command : Command) (m n : Machin
 done_more all rest more command m n done contents_old contents_now contents_new d is c line left first = record {
   front = d.front ++ command ∷ [];
   outcomes = d.outcomes ++ done ∷ [];
-  course = subst (λ (rs : List Request). Continues (opening initiator_settings) rs (d.outcomes ++ done ∷ []) n)
+  continues = subst (λ (rs : List Request). Continues (opening initiator_settings) rs (d.outcomes ++ done ∷ []) n)
       (sym (map-append request_of d.front (command ∷ [])))
-      (then_continues (opening initiator_settings) m n (map request_of d.front) (request_of command ∷ []) d.outcomes (done ∷ []) d.course c);
+      (then_continues (opening initiator_settings) m n (map request_of d.front) (request_of command ∷ []) d.outcomes (done ∷ []) d.continues c);
   same = omega (arith, d.same, length-append d.outcomes (done ∷ []), length-append d.front (command ∷ []));
   runs = d.runs ∙ ap (λ (cs : List Command). d.front ++ up_to_logout cs) is ∙ ap (λ (cs : List Command). d.front ++ cs) first
       ∙ sym (append_assoc d.front (command ∷ []) (up_to_logout left));
@@ -207,7 +207,7 @@ done_first : (all rest : List Command) (m : Machine) (contents_old contents_new 
     FirstHaveOutcomes (up_to_logout all) d.outcomes
 done_first all rest m contents_old contents_new d =
     let same : length d.outcomes ≡ length (map request_of d.front) = d.same ∙ sym (length-map d.front request_of) in
-    let each = each_outcome initiator_settings m (map request_of d.front) d.outcomes d.course same in
+    let each = each_outcome initiator_settings m (map request_of d.front) d.outcomes d.continues same in
     subst (λ (cs : List Command). FirstHaveOutcomes cs d.outcomes) (sym d.runs) (first_have d.front (up_to_logout rest) d.outcomes
     (have_outcomes d.front d.outcomes each))
 
@@ -254,7 +254,7 @@ write_stops all rest more command m n contents_old contents_now contents_new d i
     let unseen : DoneSoFar all rest m None None = record {
       front = d.front;
       outcomes = d.outcomes;
-      course = d.course;
+      continues = d.continues;
       same = d.same;
       runs = d.runs;
       written = tt;

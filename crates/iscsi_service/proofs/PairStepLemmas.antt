@@ -119,10 +119,10 @@ asks_on i old new before after out back written piece n phase fed is tells front
     quiet blocks requests outcomes there (more blocks requests outcomes here there b.bytes (ToTarget n) h happens tt b.is)
 
 -- a piece reaches the initiator
-pub hears_on : (old new : initiator.Connection) (t : target.Connection) (disk : Disk) (out back written piece : List ℕ) (n : ℕ) (phase : Phase)
+pub receives_on : (old new : initiator.Connection) (t : target.Connection) (disk : Disk) (out back written piece : List ℕ) (n : ℕ) (phase : Phase)
     → initiator.Feeds (Ok phase) old piece new out written → take n back ≡ piece → length piece ≡ n → 0 < n
     → GoOn (ends_of old t disk out back) (ends_of new t disk written (drop n back))
-hears_on old new t disk out back written piece n phase fed front size some = λ blocks requests outcomes h.
+receives_on old new t disk out back written piece n phase fed front size some = λ blocks requests outcomes h.
     let here : Ends = ends_of old t disk out back in
     let there : Ends = ends_of new t disk written (drop n back) in
     let receives : InitiatorReceives piece (world_of here h.bytes) (world_of there h.bytes) = record {
@@ -153,12 +153,12 @@ asks_more i old new before after rest back written read n phase fed is tells sam
     (asks_on i old new before after rest back written read n phase fed is tells (sym same) (ap length same ∙ length-take-le n rest within) some)
 
 -- the next piece of what goes to the initiator
-pub hears_more : (old new : initiator.Connection) (t : target.Connection) (disk : Disk) (out rest written read : List ℕ) (n : ℕ) (phase : Phase)
+pub receives_more : (old new : initiator.Connection) (t : target.Connection) (disk : Disk) (out rest written read : List ℕ) (n : ℕ) (phase : Phase)
     → initiator.Feeds (Ok phase) old read new out written → read ≡ take n rest → n ≤ length rest → 0 < n
     → GoOn (ends_of old t disk out rest) (ends_of new t disk written (take (length rest - n) (drop n rest)))
-hears_more old new t disk out rest written read n phase fed same within some =
+receives_more old new t disk out rest written read n phase fed same within some =
     subst (λ (x : List ℕ). GoOn (ends_of old t disk out rest) (ends_of new t disk written x)) (sym (left_of n rest))
-    (hears_on old new t disk out rest written read n phase fed (sym same) (ap length same ∙ length-take-le n rest within) some)
+    (receives_on old new t disk out rest written read n phase fed (sym same) (ap length same ∙ length-take-le n rest within) some)
 
 -- one after the other
 pub on_and_on : (a b c : Ends) → GoOn a b → GoOn b c → GoOn a c

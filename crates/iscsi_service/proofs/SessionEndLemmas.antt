@@ -192,9 +192,10 @@ rule_of settings disk taken old before out bytes framing more r after h live a w
     ap (λ (x : Stepped). x.rule) e ∙ sym (ap (λ (o : Option ℕ). first_rule o later.rule) none) ∙ ap (λ (x : Stepped). x.rule) (sym both)
 
 -- the PDUs that a framer gave up, and what follows them
-abbrev hears_of : (settings : Settings) (read bytes behind : List ℕ) (ms : List Message) (v : Framing) → HasTaken bytes ms v → v.limit ≡ limit settings → read
+abbrev receives_of : (settings : Settings) (read bytes behind : List ℕ) (ms : List Message) (v : Framing) → HasTaken bytes ms v → v.limit ≡ limit settings →
+    read
     ≡ bytes ++ behind → Receives settings read
-hears_of settings read bytes behind ms v t bound is = record {
+receives_of settings read bytes behind ms v t bound is = record {
   messages = ms;
   given = t.given;
   rest = t.rest ++ behind;
@@ -202,9 +203,9 @@ hears_of settings read bytes behind ms v t bound is = record {
   reads = subst (λ (n : ℕ). ReadsAs n no_login t.given ms) bound t.reads;
 }
 
-abbrev hears_all : (settings : Settings) (bytes : List ℕ) (ms : List Message) (v : Framing) → HasTaken bytes ms v → v.limit ≡ limit settings →
+abbrev receives_all : (settings : Settings) (bytes : List ℕ) (ms : List Message) (v : Framing) → HasTaken bytes ms v → v.limit ≡ limit settings →
     Receives settings bytes
-hears_all settings bytes ms v t bound = record {
+receives_all settings bytes ms v t bound = record {
   messages = ms;
   given = t.given;
   rest = t.rest;
@@ -254,7 +255,7 @@ rest_ends most bytes ms v stream.Failed t bound fails = absurd (apart fails t.li
 -- where it goes on
 stands_on : (settings : Settings) (disk : Disk) (bytes : List ℕ) (now : Connection) (disk_now : Disk) (written : List ℕ) →
     (s : Stands settings disk bytes now disk_now written) → is_closed now.machine ≡ false
-    → GoesOnBehind settings disk bytes (hears_all settings bytes s.has.messages now.framing s.has.taken s.bound)
+    → GoesOnBehind settings disk bytes (receives_all settings bytes s.has.messages now.framing s.has.taken s.bound)
 stands_on settings disk bytes now disk_now written s live =
     let open_ : is_closed (answers (opening settings 1) disk s.has.messages).machine ≡ false = sym (ap is_closed s.has.machine) ∙ live in
     (none_broken settings disk s.has.messages open_, open_)
@@ -267,7 +268,7 @@ read_told settings disk bytes now disk_now written s live =
     let t : HasTaken bytes s.has.messages v = s.has.taken in
     let part : is_whole t.rest ≡ false = sym (is_whole-settled t.rest) ∙ ap is_whole (sym t.held) ∙ unready_of v.failed v.held t.live s.ready in
     let begun : IsBegun (limit settings) t.rest = subst (λ (n : ℕ). IsBegun n t.rest) s.bound t.begun in (
-      hears_all settings bytes s.has.messages v t s.bound,
+      receives_all settings bytes s.has.messages v t s.bound,
       stands_on settings disk bytes now disk_now written s live,
       begun,
       no_pdu_begun (limit settings) t.rest begun part,
@@ -278,7 +279,7 @@ pub end_told : (settings : Settings) (disk : Disk) (bytes : List ℕ) (now new :
     → (receives : Receives settings bytes) × GoesOnBehind settings disk bytes receives × (receives.rest ≡ [])
 end_told settings disk bytes now new disk_now written s live done =
     let t : HasTaken bytes s.has.messages now.framing = s.has.taken in (
-      hears_all settings bytes s.has.messages now.framing t s.bound,
+      receives_all settings bytes s.has.messages now.framing t s.bound,
       stands_on settings disk bytes now disk_now written s live,
       nil_from_length t.rest (omega (arith, ap length done.2, ap length t.held, length-settled t.rest)),
     )
@@ -287,7 +288,7 @@ pub finish_told : (fault : TargetFault) (settings : Settings) (disk : Disk) (byt
     Stands settings disk bytes now disk_now written → is_closed now.machine ≡ false
     → Finishes now (Err fault) new → EndsBy settings disk (Err (session.Target fault)) bytes
 finish_told (faults.Stream fault) settings disk bytes now new disk_now written s live fails = (
-  hears_all settings bytes s.has.messages now.framing s.has.taken s.bound,
+  receives_all settings bytes s.has.messages now.framing s.has.taken s.bound,
   stands_on settings disk bytes now disk_now written s live,
   rest_ends (limit settings) bytes s.has.messages now.framing fault s.has.taken s.bound fails.1,
 )
@@ -296,11 +297,11 @@ finish_told (faults.Protocol rule) settings disk bytes now new disk_now written 
 finish_told faults.Closed settings disk bytes now new disk_now written s live fails = absurd (apart fails.0 live)
 
 -- what a call fed, behind what was answered
-abbrev fed_hears : (settings : Settings) (disk : Disk) (bytes piece : List ℕ) (old new : Connection) (before after : Store) (out written : List ℕ)
+abbrev fed_receives : (settings : Settings) (disk : Disk) (bytes piece : List ℕ) (old new : Connection) (before after : Store) (out written : List ℕ)
     (result : Result Phase TargetFault) → Stands settings disk bytes old before.disk out
     → Feeds (scene old before out) piece result (scene new after written) → Receives settings (bytes ++ piece)
-fed_hears settings disk bytes piece old new before after out written result s f =
-    hears_of settings (bytes ++ piece) (bytes ++ take f.count piece) (drop f.count piece)
+fed_receives settings disk bytes piece old new before after out written result s f =
+    receives_of settings (bytes ++ piece) (bytes ++ take f.count piece) (drop f.count piece)
     (s.has.messages ++ f.messages) f.framing (f.answered.taken bytes s.has.messages s.has.taken) (f.answered.limit ∙ s.bound) (whole_is bytes piece f.count)
 
 fed_told : (settings : Settings) (disk : Disk) (bytes piece : List ℕ) (old new : Connection) (before after : Store) (out written : List ℕ)
@@ -325,7 +326,7 @@ pub fault_told : (fault : TargetFault) (settings : Settings) (disk : Disk) (byte
 fault_told (faults.Stream fault) settings disk bytes piece old new before after out written s live f works =
     let result : Result Phase TargetFault = Err (faults.Stream fault) in
     let t = fed_told settings disk bytes piece old new before after out written result s f f.leaves works in (
-      fed_hears settings disk bytes piece old new before after out written result s f,
+      fed_receives settings disk bytes piece old new before after out written result s f,
       (fed_rule settings disk bytes piece old new before after out written result s live f works ∙ f.ends.0.rule, sym (ap is_closed t.machine) ∙ f.ends.0.live),
       rest_refused (limit settings) (bytes ++ take f.count piece) (s.has.messages
           ++ f.messages) f.framing (drop f.count piece) fault (f.answered.taken bytes s.has.messages s.has.taken)
@@ -333,7 +334,7 @@ fault_told (faults.Stream fault) settings disk bytes piece old new before after 
     )
 fault_told (faults.Protocol rule) settings disk bytes piece old new before after out written s live f works =
     let result : Result Phase TargetFault = Err (faults.Protocol rule) in (
-      fed_hears settings disk bytes piece old new before after out written result s f,
+      fed_receives settings disk bytes piece old new before after out written result s f,
       fed_rule settings disk bytes piece old new before after out written result s live f works ∙ f.ends.0,
     )
 fault_told faults.NoMemory settings disk bytes piece old new before after out written s live f works = tt
@@ -347,7 +348,7 @@ first_front : (settings : Settings) (disk : Disk) (read out : List ℕ) (framing
     → ((message : Message) (next : Framing) (n : ℕ) → Moves framing next (take n rest) (message ∷ []) → next.limit ≡ framing.limit →
     (more : Receives settings read) × (more.messages ≡ receives.messages ++ message ∷ []))
     → ServesFirst settings disk read after.disk written
-first_front settings disk read out framing rest r counted new after written receives t same l hear =
+first_front settings disk read out framing rest r counted new after written receives t same l receive =
     let all : Stepped = led settings disk read receives in
     let wrote : (q : Stepped) → joined_stepped l.front ≡ joined_stepped q → written ≡ canon (all.answers ++ q.answers) = λ q e.
     l.output_is ∙ ap (λ (x : List ℕ). out ++ x) (canon_append r.answers l.front.answers) ∙ sym (append_assoc out (canon r.answers) (canon l.front.answers))
@@ -360,7 +361,7 @@ first_front settings disk read out framing rest r counted new after written rece
           record { receives = receives; front = q; stops = inl refl; disk_is = l.disk ∙ ap (λ (x : Stepped). x.disk) e; output_is = wrote q e })
       | inr at ↦
           (let x = stop_as r.machine all.machine r.disk all.disk counted at.message l.front after.failures t.machine t.disk_is at.stops in
-          let m = hear at.message at.next at.count at.taken at.limit in
+          let m = receive at.message at.next at.count at.taken at.limit in
           record {
             receives = receives;
             front = x.0;
@@ -381,7 +382,7 @@ pub first_told : (settings : Settings) (disk : Disk) (bytes piece : List ℕ) (o
     → Feeds (scene old before out) piece (Err faults.NoMemory) (scene new after written) → after.failures ≡ before.failures →
     ServesFirst settings disk (bytes ++ piece) after.disk written
 first_told settings disk bytes piece old new before after out written s f works =
-    let receives : Receives settings (bytes ++ piece) = fed_hears settings disk bytes piece old new before after out written (Err faults.NoMemory) s f in
+    let receives : Receives settings (bytes ++ piece) = fed_receives settings disk bytes piece old new before after out written (Err faults.NoMemory) s f in
     let mid : Store = record { disk = f.stepped.disk; failures = after.failures } in
     let a : Answers old before (take f.count piece) (progress f.framing f.messages f.stepped) mid = record {
       taken = f.answered.taken;
@@ -400,7 +401,7 @@ first_told settings disk bytes piece old new before after out written s f works 
     first_front settings disk (bytes ++ piece) out f.framing (drop f.count piece) f.stepped f.answered.failures new.machine after written receives t
     (omega (arith, low, high, works)) f.leaves
     (λ message next n moves limit_. (
-      hears_of settings (bytes ++ piece) ((bytes ++ take f.count piece) ++ take n (drop f.count piece)) (drop n (drop f.count piece))
+      receives_of settings (bytes ++ piece) ((bytes ++ take f.count piece) ++ take n (drop f.count piece)) (drop n (drop f.count piece))
           ((s.has.messages ++ f.messages) ++ message ∷ []) next
           (moves (bytes ++ take f.count piece) (s.has.messages ++ f.messages) (f.answered.taken bytes s.has.messages s.has.taken))
           (limit_ ∙ f.answered.limit ∙ s.bound)
@@ -415,7 +416,7 @@ pub over_told : (phase : Phase) (settings : Settings) (disk : Disk) (bytes piece
     IsOver settings disk (bytes ++ piece)
 over_told phase settings disk bytes piece old new before after out written s live f over works =
     let t = fed_told settings disk bytes piece old new before after out written (Ok phase) s f f.leaves works in (
-      fed_hears settings disk bytes piece old new before after out written (Ok phase) s f,
+      fed_receives settings disk bytes piece old new before after out written (Ok phase) s f,
       fed_rule settings disk bytes piece old new before after out written (Ok phase) s live f works ∙ f.ends.0,
       sym (ap is_closed t.machine) ∙ sym (ap is_closed_phase f.ends.2) ∙ over,
     )

@@ -34,7 +34,8 @@ use Rattle.iscsi_service.specs.declared.session.SessionFault.TheVariants as sess
 use Rattle.iscsi_service.specs.Session.{target_settings, HasExecuted, ServesAll, ServesFirst, Serves, IsOver, EndsBy, EndsWell}
 use Rattle.iscsi_service.specs.SessionSteps.{ServedUpTo, Service, service, Goes, ClosesBy, Tells, Loses, RunsOut, Breaks, HoldsBack, Syncs}
 use Rattle.iscsi_service.specs.Serving.{session_fault, ServesOne}
-use Rattle.iscsi_service.proofs.SessionEndLemmas.{Stands, stands_first, stands_answered, read_told, end_told, finish_told, fault_told, first_told, over_told, either}
+use Rattle.iscsi_service.proofs.SessionEndLemmas.{Stands, stands_first, stands_answered, read_told, end_told}
+use Rattle.iscsi_service.proofs.SessionEndLemmas.{finish_told, fault_told, first_told, over_told, either}
 
 -- what a call has read and written
 abbrev pub Leaves : Option (List ℕ) → Option (List ℕ) → Option (List ℕ) → Option (List ℕ) → (List ℕ → List ℕ → Type 0) → (List ℕ → Type 0) → Type 0

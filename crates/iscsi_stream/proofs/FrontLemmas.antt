@@ -1,4 +1,4 @@
--- PDUs that were heard of one stream: those that are fewer are the front of the others.
+-- PDUs that were received of one stream: those that are fewer are the front of the others.
 use Rattle.std.proofs.Common.{◌≡◌, ◌⊎◌, inl, inr, ◌<◌, ◌≤◌, ℕ, Bool, true, false, List, [], ◌∷◌, ◌++◌, length, take, min, max, Some, refl, sym, ap, subst, ◌∙◌}
 use Rattle.std.proofs.Common.{arith, append_assoc}
 use Rattle.std.proofs.lemmas.List.{append-nil, append_cancel_left}
@@ -62,48 +62,48 @@ one_is_front limit logins given (m ∷ ms) rest given' (n ∷ ns) rest' p q e =
 -- ---- what they lead to
 
 -- What messages lead to, where some lead to an end behind which none counts.
-pub record Course (R : Type 0) : Type 0 where
+pub record Receiver (R : Type 0) : Type 0 where
   pub to : List Message → R
   pub over : R → Bool
   pub stays : (first more : List Message) → over (to first) ≡ true → to (first ++ more) ≡ to first
 
--- What was heard of a stream: the PDUs, the longest of their segments, where the next one stands, and the bytes from there
+-- What was received of a stream: the PDUs, the longest of their segments, where the next one stands, and the bytes from there
 -- on.
 pub record Sight : Type 0 where
   pub limit : ℕ
   pub place : ℕ
-  pub heard : List Message
+  pub received : List Message
   pub longest : ℕ
   pub rest : List ℕ
 
--- PDUs were heard of a stream, up to an end, or all that it has.
-pub record HearsUpTo {R : Type 0} (c : Course R) (limit : ℕ) (stream : List ℕ) (before more : List Message) (x : Sight) : Type 0 where
+-- PDUs were received of a stream, up to an end, or all that it has.
+pub record ReceivesUpTo {R : Type 0} (c : Receiver R) (limit : ℕ) (stream : List ℕ) (before more : List Message) (x : Sight) : Type 0 where
   pub given : List ℕ
   pub whole : stream ≡ given ++ x.rest
   pub limit_is : x.limit ≡ limit
   pub place_is : x.place ≡ min (length given) last_place
-  pub heard_is : x.heard ≡ before ++ more
+  pub received_is : x.received ≡ before ++ more
   pub longest_is : x.longest ≡ longest_of (before ++ more) given
   pub reads : ReadsAs limit no_login given (before ++ more)
   pub end : (c.over (c.to more) ≡ true) ⊎ NoPdu limit x.rest
 
--- Both heard the same, as far as it counts.
-pub record HearAlike {R : Type 0} (c : Course R) (ms ns : List Message) (x y : Sight) : Type 0 where
+-- Both received the same, as far as it counts.
+pub record ReceiveAlike {R : Type 0} (c : Receiver R) (ms ns : List Message) (x y : Sight) : Type 0 where
   pub same : c.to ns ≡ c.to ms
   pub sight : c.over (c.to ms) ≡ false → y ≡ x
 
 -- the fewer led to the end, so the others do
-front_leads : {R : Type 0} (c : Course R) (before ms ns : List Message) → IsFront (before ++ ms) (before ++ ns) → c.over (c.to ms) ≡ true → c.to ns ≡ c.to ms
+front_leads : {R : Type 0} (c : Receiver R) (before ms ns : List Message) → IsFront (before ++ ms) (before ++ ns) → c.over (c.to ms) ≡ true → c.to ns ≡ c.to ms
 front_leads c before ms ns f over =
     ap c.to (append_cancel_left before ns (ms ++ f.more) (f.whole ∙ append_assoc before ms f.more)) ∙ c.stays ms f.more over
 
-both_over : {R : Type 0} (c : Course R) (ms ns : List Message) (x y : Sight) → c.over (c.to ms) ≡ true → c.to ns ≡ c.to ms → HearAlike c ms ns x y
+both_over : {R : Type 0} (c : Receiver R) (ms ns : List Message) (x y : Sight) → c.over (c.to ms) ≡ true → c.to ns ≡ c.to ms → ReceiveAlike c ms ns x y
 both_over c ms ns x y over e = record { same = e; sight = λ live. absurd (apart over live) }
 
--- those that heard all have heard the same
-all_alike : {R : Type 0} (c : Course R) (limit : ℕ) (stream : List ℕ) (before ms ns : List Message) (x y : Sight) → HearsUpTo c limit stream before ms x →
-    HearsUpTo c limit stream before ns y
-    → NoPdu limit x.rest → NoPdu limit y.rest → HearAlike c ms ns x y
+-- those that received all have received the same
+all_alike : {R : Type 0} (c : Receiver R) (limit : ℕ) (stream : List ℕ) (before ms ns : List Message) (x y : Sight) → ReceivesUpTo c limit stream before ms x →
+    ReceivesUpTo c limit stream before ns y
+    → NoPdu limit x.rest → NoPdu limit y.rest → ReceiveAlike c ms ns x y
 all_alike c limit stream before ms ns x y a b none none' =
     let e : a.given ++ x.rest ≡ b.given ++ y.rest = sym a.whole ∙ b.whole in
     let same = same_split limit no_login a.given (before ++ ms) x.rest b.given (before ++ ns) y.rest a.reads none b.reads none' e in
@@ -114,17 +114,18 @@ all_alike c limit stream before ms ns x y a b none none' =
       sight = λ live i. record {
         limit = (b.limit_is ∙ sym a.limit_is) i;
         place = (b.place_is ∙ ap (λ (z : List ℕ). min (length z) last_place) (sym same.1) ∙ sym a.place_is) i;
-        heard = (b.heard_is ∙ ap (λ (z : List Message). before ++ z) messages ∙ sym a.heard_is) i;
+        received = (b.received_is ∙ ap (λ (z : List Message). before ++ z) messages ∙ sym a.received_is) i;
         longest = (b.longest_is ∙ ap (λ (z : List Message). longest_of (before ++ z) b.given) messages ∙ ap (longest_of (before ++ ms)) (sym same.1)
             ∙ sym a.longest_is) i;
         rest = rest i;
       };
     }
 
-pub hear_alike : {R : Type 0} (c : Course R) (limit : ℕ) (stream : List ℕ) (before ms ns : List Message) (x y : Sight) → HearsUpTo c limit stream before ms x →
-    HearsUpTo c limit stream before ns y
-    → HearAlike c ms ns x y
-hear_alike c limit stream before ms ns x y a b =
+pub receive_alike : {R : Type 0} (c : Receiver R) (limit : ℕ) (stream : List ℕ) (before ms ns : List Message) (x y : Sight) → ReceivesUpTo c limit stream
+    before ms x →
+    ReceivesUpTo c limit stream before ns y
+    → ReceiveAlike c ms ns x y
+receive_alike c limit stream before ms ns x y a b =
     let e : a.given ++ x.rest ≡ b.given ++ y.rest = sym a.whole ∙ b.whole in
     elim a.end [
       | inl over ↦
@@ -194,23 +195,23 @@ begun_or_refused x faults.NoMemory begun r = absurd r
 begun_or_refused x (faults.Truncated p) begun r = absurd r
 begun_or_refused x faults.Failed begun r = absurd r
 
--- ---- a framer that heard them
+-- ---- a framer that received them
 
 -- what it came to, before these bytes
 pub sight : (s : List ℕ) (ms : List Message) (v : Framing) → HasTaken s ms v → List ℕ → Sight
-sight s ms v t behind = record { limit = v.limit; place = v.place; heard = ms; longest = longest_of ms t.given; rest = t.rest ++ behind }
+sight s ms v t behind = record { limit = v.limit; place = v.place; received = ms; longest = longest_of ms t.given; rest = t.rest ++ behind }
 
-pub framer_hears : {R : Type 0} (c : Course R) (limit : ℕ) (stream s behind : List ℕ) (before more : List Message) (v : Framing)
+pub framer_receives : {R : Type 0} (c : Receiver R) (limit : ℕ) (stream s behind : List ℕ) (before more : List Message) (v : Framing)
     (t : HasTaken s (before ++ more) v)
     → v.limit ≡ limit → stream ≡ s ++ behind → (let x = sight s (before ++ more) v t behind in (c.over (c.to more) ≡ true) ⊎ NoPdu x.limit x.rest →
-    HearsUpTo c limit stream before more x)
+    ReceivesUpTo c limit stream before more x)
 unfolding sight
-framer_hears c limit stream s behind before more v t is whole end = record {
+framer_receives c limit stream s behind before more v t is whole end = record {
   given = t.given;
   whole = whole ∙ ap (λ (x : List ℕ). x ++ behind) t.whole ∙ append_assoc t.given t.rest behind;
   limit_is = is;
   place_is = t.place;
-  heard_is = refl;
+  received_is = refl;
   longest_is = refl;
   reads = subst (λ (n : ℕ). ReadsAs n no_login t.given (before ++ more)) is t.reads;
   end = subst (λ (n : ℕ). (c.over (c.to more) ≡ true) ⊎ NoPdu n (t.rest ++ behind)) is end;
@@ -249,7 +250,7 @@ pub framer : Sight → Framing
 framer x = record {
   limit = x.limit;
   place = x.place;
-  logins = after_all no_login x.heard;
+  logins = after_all no_login x.received;
   held = settled x.rest;
   room = max x.longest (begun_len x.rest);
   failed = false;

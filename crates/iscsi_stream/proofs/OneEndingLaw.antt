@@ -6,7 +6,7 @@ use Rattle.iscsi_stream.specs.Framing.{Framing, IsBegun}
 use Rattle.iscsi_stream.proofs.ReadyLemmas.{apart}
 use Rattle.iscsi_stream.proofs.FrontLemmas.{Sight, IsLeft, IsRefused, begun_or_refused, framer, refused_none, refused_once}
 
--- What a call leaves and answers behind the PDUs that it heard.
+-- What a call leaves and answers behind the PDUs that it received.
 pub record Outcome (M R : Type 0) : Type 0 where
   pub is_over : M → Bool
   -- the session, and the answers where they closed it and where it goes on
@@ -20,7 +20,7 @@ pub record Outcome (M R : Type 0) : Type 0 where
 
 -- How a call ended, before the rest of the stream.
 pub data Ended {M R : Type 0} (o : Outcome M R) (x : Sight) (result : R) (session : M) (framing : Framing) : Type 0 where
-  -- the session was closed by what was heard
+  -- the session was closed by what was received
   Over : o.is_over o.session ≡ true → result ≡ o.ended → session ≡ o.session → Ended o x result session framing
   -- it goes on, and nothing is wrong with the rest
   GoesOn : o.is_over o.session ≡ false → result ≡ o.going → session ≡ o.session → IsLeft x framing → Ended o x result session framing
@@ -28,7 +28,7 @@ pub data Ended {M R : Type 0} (o : Outcome M R) (x : Sight) (result : R) (sessio
   Breaks : (fault : StreamFault) → o.is_over o.session ≡ false → result ≡ o.broken fault → session ≡ o.shut → IsRefused x fault →
       Ended o x result session framing
 
--- It heard all that there is, or what it heard closed the session.
+-- It received all that there is, or what it received closed the session.
 pub end_of : {M R : Type 0} (o : Outcome M R) (x : Sight) (result : R) (session : M) (framing : Framing) → Ended o x result session framing
     → (o.is_over o.session ≡ true) ⊎ NoPdu x.limit x.rest
 end_of o x result session framing (Over over e m) = inl over

@@ -7,7 +7,8 @@ use Rattle.scsi_disk.specs.Disk.{Disk}
 use Rattle.iscsi_stream.specs.Stream.{Message}
 use Rattle.iscsi_stream.specs.Canonical.{canon}
 use Rattle.iscsi_stream.specs.Framing.{HasTaken}
-use Rattle.iscsi_stream.proofs.FrontLemmas.{Course, Sight, HearsUpTo, HearAlike, IsLeft, framer_hears, framer_leaves, framer_refuses, hear_alike, sight}
+use Rattle.iscsi_stream.proofs.FrontLemmas.{Receiver, Sight, ReceivesUpTo, ReceiveAlike, IsLeft}
+use Rattle.iscsi_stream.proofs.FrontLemmas.{framer_receives, framer_leaves, framer_refuses, receive_alike, sight}
 use Rattle.iscsi_stream.proofs.OneEndingLaw.{Outcome, Ended, Over, GoesOn, Breaks, call, EndAlike, end_of, end_alike}
 use Rattle.iscsi_stream.proofs.ReadyLemmas.{apart}
 use Rattle.iscsi_login.specs.declared.phase.Phase.{Phase}
@@ -24,8 +25,8 @@ use Rattle.iscsi_target.proofs.FeedingLemmas.{answers_close, stands}
 
 -- ---- what messages lead to
 
-course : Machine → Disk → Course Stepped
-course s disk = record {
+receiver : Machine → Disk → Receiver Stepped
+receiver s disk = record {
   to = answers s disk;
   over = λ r. is_closed r.machine;
   stays = λ first more over. (let r : Stepped = answers s disk first in
@@ -96,11 +97,11 @@ record CallEnd : Type 0 where
 abbrev call_end : Result Phase TargetFault → Connection → Disk → List ℕ → CallEnd
 call_end result connection disk written = record { result = result; connection = connection; disk = disk; written = written }
 
--- a call heard these PDUs of the stream, and ended so
+-- a call received these PDUs of the stream, and ended so
 record Run (stream : List ℕ) (ms : List Message) (old : Connection) (disk : Disk) (output : List ℕ) (end_ : CallEnd) : Type 0 where
   messages : List Message
   sight : Sight
-  hears : HearsUpTo (course old.machine disk) old.framing.limit stream ms messages sight
+  receives : ReceivesUpTo (receiver old.machine disk) old.framing.limit stream ms messages sight
   disk_is : end_.disk ≡ (answers old.machine disk messages).disk
   output_is : end_.written ≡ output ++ canon (answers old.machine disk messages).answers
   ended : Ended (leaves (answers old.machine disk messages)) sight end_.result end_.connection.machine end_.connection.framing
@@ -109,7 +110,7 @@ run_of : (stream : List ℕ) (ms : List Message) (old : Connection) (before : St
     (new : Connection) (after : Store) (written : List ℕ)
     → HasTaken stream ms old.framing → Feeds (scene old before output) piece result (scene new after written) → GoesWell result before after
     → Run (stream ++ piece) ms old before.disk output (call_end result new after.disk written)
-unfolding course
+unfolding receiver
 run_of stream ms old before output piece result new after written t f well =
     let s : List ℕ = stream ++ take f.count piece in
     let h : HasTaken s (ms ++ f.messages) f.framing = f.answered.taken stream ms t in
@@ -124,7 +125,7 @@ run_of stream ms old before output piece result new after written t f well =
     record {
       messages = f.messages;
       sight = x;
-      hears = framer_hears (course old.machine before.disk) old.framing.limit (stream
+      receives = framer_receives (receiver old.machine before.disk) old.framing.limit (stream
           ++ piece) s (drop f.count piece) ms f.messages f.framing h f.answered.limit whole
           (end_of (leaves (answers old.machine before.disk f.messages)) x result new.machine new.framing e);
       disk_is = stood.disk ∙ ap (λ (r : Stepped). r.disk) is;
@@ -136,10 +137,10 @@ run_alike : (stream : List ℕ) (ms : List Message) (old : Connection) (disk : D
     (new now : Connection) (first second : Store) (written rewritten : List ℕ)
     → Run stream ms old disk output (call_end result new first.disk written) → Run stream ms old disk output (call_end other now second.disk rewritten) →
     FedAlike result other (scene new first written) (scene now second rewritten)
-unfolding course
+unfolding receiver
 run_alike stream ms old disk output result other new now first second written rewritten a b =
-    let h : HearAlike (course old.machine disk) a.messages b.messages a.sight b.sight =
-    hear_alike (course old.machine disk) old.framing.limit stream ms a.messages b.messages a.sight b.sight a.hears b.hears in
+    let h : ReceiveAlike (receiver old.machine disk) a.messages b.messages a.sight b.sight =
+    receive_alike (receiver old.machine disk) old.framing.limit stream ms a.messages b.messages a.sight b.sight a.receives b.receives in
     let e : EndAlike is_closed (call result new.machine new.framing) (call other now.machine now.framing) =
     end_alike (leaves (answers old.machine disk a.messages)) a.sight b.sight result other new.machine now.machine new.framing now.framing h.sight a.ended
     (subst (λ (r : Stepped). Ended (leaves r) b.sight other now.machine now.framing) h.same b.ended) in

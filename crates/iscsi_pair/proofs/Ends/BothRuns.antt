@@ -26,9 +26,9 @@ use Rattle.iscsi_pair.specs.World.{World, Opening, Event, ToTarget, ToInitiator,
 use Rattle.iscsi_pair.specs.World.{MovesToInitiator, Asks, Happens, Runs, new_pair, store_of, feed_fault, submit_fault}
 use Rattle.iscsi_initiator.specs.Laws as inputs
 use Rattle.iscsi_pair.specs.Traffic.{Traffic, first_traffic, behind, traffic_after, Traces}
-use Rattle.iscsi_pair.proofs.Ends.TargetRun.{TargetSide, target_heard, opening_side as target_opening, front_drops as target_drops}
+use Rattle.iscsi_pair.proofs.Ends.TargetRun.{TargetSide, target_received, opening_side as target_opening, front_drops as target_drops}
 use Rattle.iscsi_pair.proofs.Ends.TargetRun.{failed_drops as target_failed}
-use Rattle.iscsi_pair.proofs.Ends.InitiatorRun.{InitiatorSide, streams, initiator_heard, initiator_asked, initiator_took_outcome, failed_drops, fault_drops}
+use Rattle.iscsi_pair.proofs.Ends.InitiatorRun.{InitiatorSide, streams, initiator_received, initiator_asked, initiator_took_outcome, failed_drops, fault_drops}
 use Rattle.iscsi_pair.proofs.Ends.InitiatorRun.{opening_side as initiator_opening, front_drops as initiator_drops}
 
 -- what holds of a world and of what went between its ends, where the initiator met these inputs first
@@ -158,16 +158,16 @@ to_initiator_none t w = λ i. record {
   demands = t.demands;
 }
 
-target_hears : (past : List inputs.Input) (c : Opening) (t : Traffic) (old new : World) (k : ℕ) (moved : List ℕ) → moved ≡ take k old.to_target
+target_receives : (past : List inputs.Input) (c : Opening) (t : Traffic) (old new : World) (k : ℕ) (moved : List ℕ) → moved ≡ take k old.to_target
     → old.target_fault ≡ None → SidesFrom past c t old → TargetReceives moved old new
     → SidesFrom past c (to_target_adds t old moved new) new
-target_hears past c t old new k moved m none s h =
+target_receives past c t old new k moved m none s h =
     let g : Grows old.to_initiator new.to_initiator = target_grows (target_machine.is_closed old.target.machine) old.target (store_of old.blocks)
     old.to_initiator moved h.result new.target (store_of new.blocks) new.to_initiator h.fed in
     let q : t.moved_to_initiator ++ new.to_initiator ≡ t.queued_for_initiator ++ behind old.to_initiator new.to_initiator =
     queued_more t.moved_to_initiator old.to_initiator new.to_initiator t.queued_for_initiator g s.to_initiator in
     let side : TargetSide c (t.moved_to_target ++ moved) (t.moved_to_initiator ++ new.to_initiator) new.target new.blocks (result_err h.result) =
-    target_heard c t.moved_to_target t.moved_to_initiator old.to_initiator moved old.target old.blocks h.result new.target new.blocks new.to_initiator
+    target_received c t.moved_to_target t.moved_to_initiator old.to_initiator moved old.target old.blocks h.result new.target new.blocks new.to_initiator
     (subst (λ (x : Option TargetFault). TargetSide c t.moved_to_target (t.moved_to_initiator ++ old.to_initiator) old.target old.blocks x) none
     (subst (λ (x : List ℕ). TargetSide c t.moved_to_target x old.target old.blocks old.target_fault) (sym s.to_initiator) s.target))
     h.fed in
@@ -192,7 +192,7 @@ moves_to_target : (fault : Option TargetFault) (moved : List ℕ) (past : List i
 moves_to_target fault [] past c t old new k f m s e =
     subst (λ (w : World). SidesFrom past c (to_target_adds t old [] w) w) (sym e) (same_traffic past c t (to_target_adds t old [] old) old
     (to_target_none t old) s)
-moves_to_target None (byte ∷ bytes) past c t old new k f m s e = target_hears past c t old new k (byte ∷ bytes) m f s e
+moves_to_target None (byte ∷ bytes) past c t old new k f m s e = target_receives past c t old new k (byte ∷ bytes) m f s e
 moves_to_target (Some fault) (byte ∷ bytes) past c t old new k f m s e =
     let moved : List ℕ = byte ∷ bytes in
     let w : World = record old { to_target = drop (length moved) old.to_target } in
@@ -213,16 +213,16 @@ moves_to_target (Some fault) (byte ∷ bytes) past c t old new k f m s e =
     } in
     subst (λ (x : World). SidesFrom past c (to_target_adds t old moved x) x) (sym e) there
 
-initiator_hears : (past : List inputs.Input) (c : Opening) (t : Traffic) (old new : World) (k : ℕ) (moved : List ℕ) → moved ≡ take k old.to_initiator
+initiator_receives : (past : List inputs.Input) (c : Opening) (t : Traffic) (old new : World) (k : ℕ) (moved : List ℕ) → moved ≡ take k old.to_initiator
     → old.initiator_fault ≡ None → SidesFrom past c t old → InitiatorReceives moved old new
     → SidesFrom past c (to_initiator_adds t old moved new) new
-initiator_hears past c t old new k moved m none s h =
+initiator_receives past c t old new k moved m none s h =
     let g : Grows old.to_target new.to_target = initiator_grows h.result old.initiator moved new.initiator old.to_target new.to_target h.fed in
     let q : t.moved_to_target ++ new.to_target ≡ t.queued_for_target ++ behind old.to_target new.to_target =
     queued_more t.moved_to_target old.to_target new.to_target t.queued_for_target g s.to_target in
     let side : InitiatorSide past c t.demands (streams (t.moved_to_initiator ++ moved) (t.moved_to_target ++ new.to_target)) new.initiator
     (feed_fault (result_err h.result)) =
-    initiator_heard h.result past c t.demands t.moved_to_initiator t.moved_to_target old.to_target moved new.to_target old.initiator new.initiator
+    initiator_received h.result past c t.demands t.moved_to_initiator t.moved_to_target old.to_target moved new.to_target old.initiator new.initiator
     (subst (λ (x : Option EndFault). InitiatorSide past c t.demands (streams t.moved_to_initiator (t.moved_to_target ++ old.to_target)) old.initiator x) none
     (subst (λ (x : List ℕ). InitiatorSide past c t.demands (streams t.moved_to_initiator x) old.initiator old.initiator_fault) (sym s.to_target) s.initiator))
     h.fed in
@@ -246,7 +246,7 @@ moves_to_initiator : (fault : Option EndFault) (moved : List ℕ) (past : List i
 moves_to_initiator fault [] past c t old new k f m s e =
     subst (λ (w : World). SidesFrom past c (to_initiator_adds t old [] w) w) (sym e) (same_traffic past c t (to_initiator_adds t old [] old) old
     (to_initiator_none t old) s)
-moves_to_initiator None (byte ∷ bytes) past c t old new k f m s e = initiator_hears past c t old new k (byte ∷ bytes) m f s e
+moves_to_initiator None (byte ∷ bytes) past c t old new k f m s e = initiator_receives past c t old new k (byte ∷ bytes) m f s e
 moves_to_initiator (Some fault) (byte ∷ bytes) past c t old new k f m s e =
     let moved : List ℕ = byte ∷ bytes in
     let w : World = record old { to_initiator = drop (length moved) old.to_initiator } in

@@ -393,12 +393,12 @@ come_on past c acts moved out more i l ms v moves =
     }
 
 -- what is left where a call received some messages, and wrote what they lead to but for what was lost
-heard_front : (past : List Input) (c : Opening) (acts : List Input) (moved prior before bytes after lost : List ℕ) (old new : Connection)
+received_front : (past : List Input) (c : Opening) (acts : List Input) (moved prior before bytes after lost : List ℕ) (old new : Connection)
     → InitiatorLives past c acts moved (prior ++ before) old → (h : Received old bytes)
     → after ++ lost ≡ before ++ canon (received_steps old bytes h).output → new.machine.stage ≡ (received_steps old bytes h).machine.stage
     → new.machine.held ≡ (received_steps old bytes h).machine.held
     → InitiatorFront c (moved ++ bytes) (prior ++ after) new
-heard_front past c acts moved prior before bytes after lost old new l h out stage held =
+received_front past c acts moved prior before bytes after lost old new l h out stage held =
     let o = come_on past c acts moved (prior ++ before) (take h.count bytes) old l h.messages h.framing h.moves in
     let all : (moved ++ take h.count bytes) ++ drop h.count bytes ≡ moved ++ bytes =
     append_assoc moved (take h.count bytes) (drop h.count bytes) ∙ ap (λ (x : List ℕ). moved ++ x) (take-append-drop h.count bytes) in
@@ -408,10 +408,10 @@ heard_front past c acts moved prior before bytes after lost old new l h out stag
     ∙ o.output)
     (stage ∙ ap (λ (m : Machine). m.stage) o.machine) (held ∙ ap (λ (m : Machine). m.held) o.machine))
 
-hears_all : (past : List Input) (c : Opening) (acts : List Input) (moved prior before bytes after : List ℕ) (old new : Connection) (phase : Phase)
+receives_all : (past : List Input) (c : Opening) (acts : List Input) (moved prior before bytes after : List ℕ) (old new : Connection) (phase : Phase)
     → InitiatorLives past c acts moved (prior ++ before) old → (h : Received old bytes)
     → ReceivesAll h new before after phase → InitiatorLives past c acts (moved ++ bytes) (prior ++ after) new
-hears_all past c acts moved prior before bytes after old new phase l h e =
+receives_all past c acts moved prior before bytes after old new phase l h e =
     let o = come_on past c acts moved (prior ++ before) (take h.count bytes) old l h.messages h.framing h.moves in
     let whole : take h.count bytes ≡ bytes = take_all h.count bytes (omega (arith, e.all)) in
     record {
@@ -477,7 +477,7 @@ closes_side : (past : List Input) (c : Opening) (acts : List Input) (moved prior
 closes_side past c acts moved prior before bytes after old new fault kept l h full why e = record {
   failed = why (closes_ended past c acts moved prior before bytes after old new fault l h e);
   over = λ none over. full none;
-  front = heard_front past c acts moved prior before bytes after [] old new l h (append-nil after ∙ e.output) (ap (λ (m : Machine). m.stage) e.machine)
+  front = received_front past c acts moved prior before bytes after [] old new l h (append-nil after ∙ e.output) (ap (λ (m : Machine). m.stage) e.machine)
       (ap (λ (m : Machine). m.held) e.machine);
   lives = λ none live. absurd (apart (ap is_closed e.machine ∙ e.closes) live);
 }
@@ -511,7 +511,7 @@ stream_side : (past : List Input) (c : Opening) (acts : List Input) (moved prior
 stream_side past c acts moved prior before bytes after old new fault kept l h some why e = record {
   failed = why (stream_broken past c acts moved prior before bytes after old new fault l h some e);
   over = λ none over. absurd (cc none);
-  front = heard_front past c acts moved prior before bytes after [] old new l h (append-nil after ∙ e.output) (ap (λ (m : Machine). m.stage) e.machine)
+  front = received_front past c acts moved prior before bytes after [] old new l h (append-nil after ∙ e.output) (ap (λ (m : Machine). m.stage) e.machine)
       (ap (λ (m : Machine). m.held) e.machine);
   lives = λ none live. absurd (cc none);
 }
@@ -584,12 +584,13 @@ closes_fails fault past c acts moved prior before bytes after old new s e kept w
     e.0 (λ none. absurd (cc none)) why e.1
 
 -- the initiator received these bytes
-pub initiator_heard : (result : Result Phase InitiatorFault) (past : List Input) (c : Opening) (acts : List Input) (moved prior before bytes after : List ℕ)
+pub initiator_received : (result : Result Phase InitiatorFault) (past : List Input) (c : Opening) (acts : List Input) (moved prior before bytes after : List ℕ)
     (old new : Connection) → InitiatorSide past c acts (streams moved (prior ++ before)) old None
     → Feeds result old bytes new before after → InitiatorSide past c acts (streams (moved ++ bytes) (prior ++ after)) new (feed_fault (result_err result))
-initiator_heard (Ok phase) past c acts moved prior before bytes after old new s e =
+initiator_received (Ok phase) past c acts moved prior before bytes after old new s e =
     elim e.1.1 [
-      | inl all ↦ (let l : InitiatorLives past c acts (moved ++ bytes) (prior ++ after) new = hears_all past c acts moved prior before bytes after old new phase
+      | inl all ↦ (let l : InitiatorLives past c acts (moved ++ bytes) (prior ++ after) new = receives_all past c acts moved prior before bytes after old new
+          phase
           (s.lives refl e.0) e.1.0 all in
           record {
             front = lives_front past c acts (moved ++ bytes) (prior ++ after) new l;
@@ -601,25 +602,26 @@ initiator_heard (Ok phase) past c acts moved prior before bytes after old new s 
       | inr over ↦ closes_side past c acts moved prior before bytes after old new None None (s.lives refl e.0) e.1.0
           (λ none. ends_full past c acts moved prior before bytes after old new (s.lives refl e.0) e.0 e.1.0 over.0) (λ x. tt) over.0
     ]
-initiator_heard (Err faults.NoMemory) past c acts moved prior before bytes after old new s e =
+initiator_received (Err faults.NoMemory) past c acts moved prior before bytes after old new s e =
     let l : InitiatorLives past c acts moved (prior ++ before) old = s.lives refl (was_open _ old bytes e.0 refl e.1.live) in
     record {
-      front = heard_front past c acts moved prior before bytes after (canon (received_steps old bytes e.0).output) old new l e.0
+      front = received_front past c acts moved prior before bytes after (canon (received_steps old bytes e.0).output) old new l e.0
           (ap (λ (x : List ℕ). x ++ canon (received_steps old bytes e.0).output) e.1.output)
           (ap (λ (m : Machine). m.stage) e.1.machine) (ap (λ (m : Machine). m.held) e.1.machine);
       failed = tt;
       over = λ none over. absurd (cc none);
       lives = λ none live. absurd (cc none);
     }
-initiator_heard (Err (faults.Stream fault)) past c acts moved prior before bytes after old new s e =
+initiator_received (Err (faults.Stream fault)) past c acts moved prior before bytes after old new s e =
     stream_fails fault past c acts moved prior before bytes after old new s e _ (λ x. x)
-initiator_heard (Err (faults.Protocol rule)) past c acts moved prior before bytes after old new s e =
+initiator_received (Err (faults.Protocol rule)) past c acts moved prior before bytes after old new s e =
     closes_fails (faults.Protocol rule) past c acts moved prior before bytes after old new s e _ (λ x. x)
-initiator_heard (Err (faults.Refused class detail)) past c acts moved prior before bytes after old new s e =
+initiator_received (Err (faults.Refused class detail)) past c acts moved prior before bytes after old new s e =
     closes_fails (faults.Refused class detail) past c acts moved prior before bytes after old new s e _ (λ x. x)
-initiator_heard (Err (faults.BadAnswer key)) past c acts moved prior before bytes after old new s e =
+initiator_received (Err (faults.BadAnswer key)) past c acts moved prior before bytes after old new s e =
     closes_fails (faults.BadAnswer key) past c acts moved prior before bytes after old new s e _ (λ x. x)
-initiator_heard (Err faults.Closed) past c acts moved prior before bytes after old new s e = stays_side past c acts moved prior before bytes after old new _ s
+initiator_received (Err faults.Closed) past c acts moved prior before bytes after old new s e = stays_side past c acts moved prior before bytes after old new
+    _ s
     (λ x. x) e
 
 -- ---- a request, and the taking of an outcome

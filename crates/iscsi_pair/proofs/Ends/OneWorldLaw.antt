@@ -33,7 +33,7 @@ use Rattle.iscsi_pair.proofs.Ends.BothRuns.{Sides, happens_sides, opening_sides}
 same_worlds : (old same new now : World) → LooksAlike old same → new ≡ old → now ≡ same → LooksAlike new now
 same_worlds old same new now l e f = subst (λ (w : World). LooksAlike w now) (sym e) (subst (λ (w : World). LooksAlike old w) (sym f) l)
 
--- ---- the target hears
+-- ---- the target receives
 
 -- messages that an open target has received
 record TargetTook (stream : List ℕ) (t : target.Connection) : Type 0 where
@@ -48,10 +48,10 @@ target_took false c t w s live none = (let h = (s.target.lives none live).has in
 target_memory : (result : Result Phase TargetFault) → target_ran_out (result_err result) ≡ false → result ≡ Err target_faults.NoMemory → ⊥
 target_memory result calm e = (let bad : true ≡ false = ap (λ (r : Result Phase TargetFault). target_ran_out (result_err r)) (sym e) ∙ calm in absurd cc)
 
-target_hears : (c : Opening) (t : Traffic) (old same new now : World) (moved : List ℕ) → Sides c t old → LooksAlike old same → old.target_fault ≡ None
+target_receives : (c : Opening) (t : Traffic) (old same new now : World) (moved : List ℕ) → Sides c t old → LooksAlike old same → old.target_fault ≡ None
     → TargetReceives moved old new → TargetReceives moved same now
     → target_ran_out new.target_fault ≡ false → target_ran_out now.target_fault ≡ false → LooksAlike new now
-target_hears c t old same new now moved s l none a b calm calm' =
+target_receives c t old same new now moved s l none a b calm calm' =
     let took : TargetTook t.moved_to_target old.target = target_took (target_machine.is_closed old.target.machine) c t old s refl none in
     let x : target.FedAlike a.result b.result (target.scene new.target (store_of new.blocks) new.to_initiator)
     (target.scene now.target (store_of now.blocks) now.to_initiator) =
@@ -91,13 +91,13 @@ to_target : (fault : Option TargetFault) (moved : List ℕ) (c : Opening) (t : T
     → MovesToTarget fault moved old new → MovesToTarget fault moved same now → target_ran_out new.target_fault ≡ false → target_ran_out now.target_fault ≡ false
     → LooksAlike new now
 to_target fault [] c t old same new now s l f a b calm calm' = same_worlds old same new now l a b
-to_target None (byte ∷ bytes) c t old same new now s l f a b calm calm' = target_hears c t old same new now (byte ∷ bytes) s l f a b calm calm'
+to_target None (byte ∷ bytes) c t old same new now s l f a b calm calm' = target_receives c t old same new now (byte ∷ bytes) s l f a b calm calm'
 to_target (Some fault) (byte ∷ bytes) c t old same new now s l f a b calm calm' =
     same_worlds (record old { to_target = drop (length (byte ∷ bytes)) old.to_target })
     (record same { to_target = drop (length (byte ∷ bytes)) same.to_target }) new now
     (target_drops old same (length (byte ∷ bytes)) l) a b
 
--- ---- the initiator hears
+-- ---- the initiator receives
 
 record InitiatorTook (stream : List ℕ) (i : initiator.Connection) : Type 0 where
   messages : List Message
@@ -112,10 +112,10 @@ feed_memory : (result : Result Phase InitiatorFault) → initiator_ran_out (feed
 feed_memory result calm e = (let bad : true ≡ false = ap (λ (r : Result Phase InitiatorFault). initiator_ran_out (feed_fault (result_err r))) (sym e) ∙ calm in
     absurd cc)
 
-initiator_hears : (c : Opening) (t : Traffic) (old same new now : World) (moved : List ℕ) → Sides c t old → LooksAlike old same → old.initiator_fault ≡ None
+initiator_receives : (c : Opening) (t : Traffic) (old same new now : World) (moved : List ℕ) → Sides c t old → LooksAlike old same → old.initiator_fault ≡ None
     → InitiatorReceives moved old new → InitiatorReceives moved same now
     → initiator_ran_out new.initiator_fault ≡ false → initiator_ran_out now.initiator_fault ≡ false → LooksAlike new now
-initiator_hears c t old same new now moved s l none a b calm calm' =
+initiator_receives c t old same new now moved s l none a b calm calm' =
     let took : InitiatorTook t.moved_to_initiator old.initiator = initiator_took (is_closed old.initiator.machine) c t old s refl none in
     let x : initiator.CalledAlike a.result b.result new.initiator now.initiator new.to_target now.to_target =
     one_feed t.moved_to_initiator moved old.to_target new.to_target now.to_target took.messages old.initiator same.initiator new.initiator now.initiator
@@ -151,7 +151,7 @@ to_initiator : (fault : Option EndFault) (moved : List ℕ) (c : Opening) (t : T
     → MovesToInitiator fault moved old new → MovesToInitiator fault moved same now → initiator_ran_out new.initiator_fault ≡ false
     → initiator_ran_out now.initiator_fault ≡ false → LooksAlike new now
 to_initiator fault [] c t old same new now s l f a b calm calm' = same_worlds old same new now l a b
-to_initiator None (byte ∷ bytes) c t old same new now s l f a b calm calm' = initiator_hears c t old same new now (byte ∷ bytes) s l f a b calm calm'
+to_initiator None (byte ∷ bytes) c t old same new now s l f a b calm calm' = initiator_receives c t old same new now (byte ∷ bytes) s l f a b calm calm'
 to_initiator (Some fault) (byte ∷ bytes) c t old same new now s l f a b calm calm' =
     same_worlds (record old { to_initiator = drop (length (byte ∷ bytes)) old.to_initiator })
     (record same { to_initiator = drop (length (byte ∷ bytes)) same.to_initiator }) new now

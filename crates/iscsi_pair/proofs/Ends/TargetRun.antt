@@ -486,9 +486,10 @@ fed_if false c moved prior before bytes old blocks result new after written is s
     (feeds_behind prior old (store_of blocks) before bytes result new (store_of after) written f)
 
 -- the target received these bytes
-pub target_heard : (c : Opening) (moved prior before bytes : List ℕ) (old : Connection) (blocks : List ℕ) (result : Result Phase TargetFault) (new : Connection)
+pub target_received : (c : Opening) (moved prior before bytes : List ℕ) (old : Connection) (blocks : List ℕ) (result : Result Phase TargetFault) (new :
+    Connection)
     (after written : List ℕ)
     → TargetSide c moved (prior ++ before) old blocks None → Fed (scene old (store_of blocks) before) bytes result (scene new (store_of after) written)
     → TargetSide c (moved ++ bytes) (prior ++ written) new after (result_err result)
-target_heard c moved prior before bytes old blocks result new after written s f =
+target_received c moved prior before bytes old blocks result new after written s f =
     fed_if (is_closed old.machine) c moved prior before bytes old blocks result new after written refl s f

@@ -25,9 +25,9 @@ use Rattle.iscsi_pair.proofs.Request.AnswersInOrder.{Begins}
 use Rattle.iscsi_pair.proofs.Request.Invariant.{History, between, so_far}
 use Rattle.iscsi_pair.proofs.Request.OneRequestLaw.{accepts, begins, disk_more, outcomes_more}
 use Rattle.iscsi_pair.proofs.Lists.LoginIsServed.{HasLoggedIn, logs_in}
-use Rattle.iscsi_pair.proofs.Run.DiskInvariant.{HaveAgreed, hears_well, is_logout, most_out, pinged, written_within}
+use Rattle.iscsi_pair.proofs.Run.DiskInvariant.{HaveAgreed, receives_well, is_logout, most_out, pinged, written_within}
 use Rattle.iscsi_pair.proofs.Lists.StepLemmas.{level}
-use Rattle.iscsi_pair.proofs.Lists.RoundLemmas.{Arrives, Stays, arrives, gives_out, hands_in, heard_all}
+use Rattle.iscsi_pair.proofs.Lists.RoundLemmas.{Arrives, Stays, arrives, gives_out, hands_in, received_all}
 
 -- a run has come to two ends that are in step, with the outcomes of one local disk taken
 record Rests (c : Opening) (asked_ : List Request) : Type 0 where
@@ -120,13 +120,13 @@ one_done c past request r served short =
     let s : target.Stepped = answers t disk out in
     let sent : Stays c (between (submitted i request).machine t disk []) out (so_far r.there r.here g) = hands_in c h i t disk r.there r.here request r.stays
     served none in
-    let heard : Stays c (between (submitted i request).machine s.machine s.disk s.answers) [] (so_far (after_all r.there out) r.here g) =
-    heard_all out c g (submitted i request).machine t disk [] r.there r.here sent
-    (written_within i.held.target_max_recv (most_out c) r.there out now.out (b.heard.written r.there))
-    (hears_well c i.held t disk r.here out now b.heard) in
+    let received : Stays c (between (submitted i request).machine s.machine s.disk s.answers) [] (so_far (after_all r.there out) r.here g) =
+    received_all out c g (submitted i request).machine t disk [] r.there r.here sent
+    (written_within i.held.target_max_recv (most_out c) r.there out now.out (b.received.written r.there))
+    (receives_well c i.held t disk r.here out now b.received) in
     let last : Exchange = b.ends.last in
     let come : Arrives c g last = arrives b.ends.leads.0 c g i.held (submitted i request).machine s.machine s.disk s.answers
-    (after_all r.there out) r.here last now heard b.ends.leads.1 in
+    (after_all r.there out) r.here last now received b.ends.leads.1 in
     let quiet : Stays c (between last.initiator last.target last.disk []) [] (so_far come.there come.here g) =
     subst (λ (ms : List Message). Stays c (between last.initiator last.target last.disk ms) [] (so_far come.there come.here g)) b.ends.ended.silent come.stays
     in

@@ -30,7 +30,7 @@ use Rattle.iscsi_pair.proofs.Login.InitiatorStep.{with_answer}
 use Rattle.iscsi_pair.proofs.Ends.InitiatorRun.{begun}
 use Rattle.iscsi_pair.proofs.Request.Invariant.{Sends, between, so_far, limits_of}
 use Rattle.iscsi_pair.proofs.Run.DiskInvariant.{Serves, login_sends, none_asked}
-use Rattle.iscsi_pair.proofs.Lists.RoundLemmas.{Stays, heard_all, heard_one}
+use Rattle.iscsi_pair.proofs.Lists.RoundLemmas.{Stays, received_all, received_one}
 
 -- a login request is on its way
 record Waits (c : Opening) (i : initiator.Machine) (t : target.Machine) (there here : Logins) (r : Message) : Type 0 where
@@ -115,16 +115,16 @@ one_round c i t there here r o p =
     let meet : Meets c i now s disk next = meets c i t there next r disk o.opening o.suits o.session p.asking p.suited p.numbered turn in
     let sends : Sends (limits_of c) (Serves c) (between i t disk []) (r ∷ []) (so_far there here none_asked) =
     login_sends c i (r ∷ []) t there here r o refl p.asking p.suited p.numbered p.whole in
-    let heard : Stays c (between i (answers t disk (r ∷ [])).machine (answers t disk (r ∷ [])).disk (answers t disk (r ∷ [])).answers) []
+    let received : Stays c (between i (answers t disk (r ∷ [])).machine (answers t disk (r ∷ [])).disk (answers t disk (r ∷ [])).answers) []
     (so_far next here none_asked) =
-    heard_all (r ∷ []) c none_asked i t disk [] there here p.stays sends.written sends.heard in
+    received_all (r ∷ []) c none_asked i t disk [] there here p.stays sends.written sends.received in
     let all : answers t disk (r ∷ []) ≡ now = one_step t disk r in
     let answered : Stays c (between i now.machine disk (turn.answer ∷ [])) [] (so_far next here none_asked) =
     subst (λ (d : Disk). Stays c (between i now.machine d (turn.answer ∷ [])) [] (so_far next here none_asked)) meet.disk_is
     (subst (λ (ms : List Message). Stays c (between i now.machine now.disk ms) [] (so_far next here none_asked)) turn.is
-    (subst (λ (x : target.Stepped). Stays c (between i x.machine x.disk x.answers) [] (so_far next here none_asked)) all heard)) in
+    (subst (λ (x : target.Stepped). Stays c (between i x.machine x.disk x.answers) [] (so_far next here none_asked)) all received)) in
     let on : Stays c (between s.machine now.machine disk []) s.output (so_far next (after here turn.answer.head) none_asked) =
-    heard_one c none_asked i now.machine disk turn.answer [] next here answered (ap is_closed_phase p.asking.phase) w.fault in
+    received_one c none_asked i now.machine disk turn.answer [] next here answered (ap is_closed_phase p.asking.phase) w.fault in
     elim w.on [
       | inl agreed ↦ inl (record {
         initiator = s.machine;

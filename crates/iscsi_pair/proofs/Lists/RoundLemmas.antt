@@ -24,9 +24,9 @@ use Rattle.iscsi_pair.specs.Served.{IsServed, RunsServed, requests_of}
 use Rattle.iscsi_pair.specs.LocalDisk.{Exchange}
 use Rattle.iscsi_pair.proofs.Lists.BlockLemmas.{HasBlocks, answers_blocks}
 use Rattle.iscsi_pair.proofs.Request.AnswersInOrder.{Leads}
-use Rattle.iscsi_pair.proofs.Request.Invariant.{AreWritten, HearsWell, History, written_append, between, so_far, SoFar}
-use Rattle.iscsi_pair.proofs.Run.DiskInvariant.{HaveAgreed, hears_well, most_back, most_out, written_within}
-use Rattle.iscsi_pair.proofs.Lists.StepLemmas.{requests_append, initiator_asked, initiator_hears, level, served_more, Spot, spot_after, target_hears}
+use Rattle.iscsi_pair.proofs.Request.Invariant.{AreWritten, ReceivesWell, History, written_append, between, so_far, SoFar}
+use Rattle.iscsi_pair.proofs.Run.DiskInvariant.{HaveAgreed, receives_well, most_back, most_out, written_within}
+use Rattle.iscsi_pair.proofs.Lists.StepLemmas.{requests_append, initiator_asked, initiator_receives, level, served_more, Spot, spot_after, target_receives}
 
 -- A run that was served has come to a world with these ends, in which no PDU is begun, and with these messages on their way to
 -- the target and to the initiator.
@@ -42,15 +42,15 @@ pub record Stays (c : Opening) (x : Exchange) (out : List Message) (s : SoFar) :
   pub sound : IsSound x.disk.count x.target.tasks
   pub written : AreWritten (most_back c) s.here x.answers
 
--- ---- the target hears what was sent
+-- ---- the target receives what was sent
 
-some_heard : (c : Opening) (h : History) (i : initiator.Machine) (t : target.Machine) (m : Message) (ms back : List Message) (there here : Logins)
+some_received : (c : Opening) (h : History) (i : initiator.Machine) (t : target.Machine) (m : Message) (ms back : List Message) (there here : Logins)
     (events : List Event) (blocks : List ℕ) (place place_back : Spot)
     → requests_of events ≡ h.requests → RunsServed (new_pair c) events (level c i t blocks place place_back there here (canon (m ∷ ms)) (canon back)) h.outcomes
     → IsSound (disk_of blocks).count t.tasks → AreWritten (most_back c) here back
-    → AreWritten (most_out c) there (m ∷ ms) → HearsWell (most_back c) t (disk_of blocks) (after_all here back) (m ∷ ms)
+    → AreWritten (most_out c) there (m ∷ ms) → ReceivesWell (most_back c) t (disk_of blocks) (after_all here back) (m ∷ ms)
     → (let r = answers t (disk_of blocks) (m ∷ ms) in Stays c (between i r.machine r.disk (back ++ r.answers)) [] (so_far (after_all there (m ∷ ms)) here h))
-some_heard c h i t m ms back there here events blocks place place_back requests_are runs sound written sent heard =
+some_received c h i t m ms back there here events blocks place place_back requests_are runs sound written sent received =
     let out : List Message = m ∷ ms in
     let d : Disk = disk_of blocks in
     let r : target.Stepped = answers t d out in
@@ -60,7 +60,7 @@ some_heard c h i t m ms back there here events blocks place place_back requests_
     let new : World = level c i r.machine b.bytes (spot_after place out) place_back (after_all there out) here [] (canon back ++ canon r.answers) in
     let on : RunsServed (new_pair c) (events ++ event ∷ []) new (h.outcomes ++ []) =
     served_more (new_pair c) events old h.outcomes event new runs
-    (target_hears c i t blocks place place_back there here m ms (canon back) b.bytes heard.open_.0 sent heard.rule b.is) tt refl in
+    (target_receives c i t blocks place place_back there here m ms (canon back) b.bytes received.open_.0 sent received.rule b.is) tt refl in
     record {
       events = events ++ event ∷ [];
       blocks = b.bytes;
@@ -74,36 +74,36 @@ some_heard c h i t m ms back there here events blocks place place_back requests_
           (subst (λ (x : List Done). RunsServed (new_pair c) (events ++ event ∷ []) new x) (append-nil h.outcomes) on);
       disk_is = b.is;
       sound = subst (λ (n : ℕ). IsSound n r.machine.tasks) (sym (answers_count t d out)) (answers_sound t d out sound);
-      written = written_append (most_back c) here back r.answers written heard.answered;
+      written = written_append (most_back c) here back r.answers written received.answered;
     }
 
-pub heard_all : (out : List Message) (c : Opening) (h : History) (i : initiator.Machine) (t : target.Machine) (disk : Disk) (back : List Message)
+pub received_all : (out : List Message) (c : Opening) (h : History) (i : initiator.Machine) (t : target.Machine) (disk : Disk) (back : List Message)
     (there here : Logins) → Stays c (between i t disk back) out (so_far there here h)
-    → AreWritten (most_out c) there out → HearsWell (most_back c) t disk (after_all here back) out
+    → AreWritten (most_out c) there out → ReceivesWell (most_back c) t disk (after_all here back) out
     → (let r = answers t disk out in Stays c (between i r.machine r.disk (back ++ r.answers)) [] (so_far (after_all there out) here h))
 unfolding answers
-heard_all [] c h i t disk back there here s sent heard =
+received_all [] c h i t disk back there here s sent received =
     subst (λ (x : List Message). Stays c (between i t disk x) [] (so_far there here h)) (sym (append-nil back)) s
-heard_all (m ∷ ms) c h i t disk back there here s sent heard =
+received_all (m ∷ ms) c h i t disk back there here s sent received =
     subst (λ (d : Disk). (let r = answers t d (m ∷ ms) in Stays c (between i r.machine r.disk (back ++ r.answers)) []
     (so_far (after_all there (m ∷ ms)) here h))) s.disk_is
-    (some_heard c h i t m ms back there here s.events s.blocks s.place s.place_back s.requests_are s.runs
+    (some_received c h i t m ms back there here s.events s.blocks s.place s.place_back s.requests_are s.runs
     (subst (λ (d : Disk). IsSound d.count t.tasks) (sym s.disk_is) s.sound) s.written sent
-    (subst (λ (d : Disk). HearsWell (most_back c) t d (after_all here back) (m ∷ ms)) (sym s.disk_is) heard))
+    (subst (λ (d : Disk). ReceivesWell (most_back c) t d (after_all here back) (m ∷ ms)) (sym s.disk_is) received))
 
--- ---- the initiator hears an answer
+-- ---- the initiator receives an answer
 
-pub heard_one : (c : Opening) (h : History) (i : initiator.Machine) (t : target.Machine) (disk : Disk) (m : Message) (more : List Message)
+pub received_one : (c : Opening) (h : History) (i : initiator.Machine) (t : target.Machine) (disk : Disk) (m : Message) (more : List Message)
     (there here : Logins) → Stays c (between i t disk (m ∷ more)) [] (so_far there here h)
     → is_closed i ≡ false → (step i m).fault ≡ None → Stays c (between (step i m).machine t disk more) (step i m).output (so_far there (after here m.head) h)
-heard_one c h i t disk m more there here s live well =
+received_one c h i t disk m more there here s live well =
     let event : Event = ToInitiator (length (canon (m ∷ []))) in
     let old : World = level c i t s.blocks s.place s.place_back there here [] (canon (m ∷ more)) in
     let new : World = level c (step i m).machine t s.blocks s.place (spot_after s.place_back (m ∷ [])) there (after here m.head) (canon (step i m).output)
     (canon more) in
     let on : RunsServed (new_pair c) (s.events ++ event ∷ []) new (h.outcomes ++ []) =
     served_more (new_pair c) s.events old h.outcomes event new s.runs
-    (initiator_hears c i t s.blocks s.place s.place_back there here [] m more live well s.written.0) tt refl in
+    (initiator_receives c i t s.blocks s.place s.place_back there here [] m more live well s.written.0) tt refl in
     record {
       events = s.events ++ event ∷ [];
       blocks = s.blocks;
@@ -179,9 +179,9 @@ arrives (suc n) c h held i t disk (m ∷ more) there here x a s l =
     let out : List Message = (step i m).output in
     let r : target.Stepped = answers t disk out in
     let one : Stays c (between (step i m).machine t disk more) out (so_far there (after here m.head) h) =
-    heard_one c h i t disk m more there here s (ap is_closed_phase l.0.full) l.0.fault in
+    received_one c h i t disk m more there here s (ap is_closed_phase l.0.full) l.0.fault in
     let on : Stays c (between (step i m).machine r.machine r.disk (more ++ r.answers)) [] (so_far (after_all there out) (after here m.head) h) =
-    heard_all out c h (step i m).machine t disk more there (after here m.head) one
+    received_all out c h (step i m).machine t disk more there (after here m.head) one
     (written_within held.target_max_recv (most_out c) there out a.out (l.0.sends_.written there))
-    (hears_well c held t disk (after_all (after here m.head) more) out a l.0.sends_) in
+    (receives_well c held t disk (after_all (after here m.head) more) out a l.0.sends_) in
     arrives n c h held (step i m).machine r.machine r.disk (more ++ r.answers) (after_all there out) (after here m.head) x a on l.1

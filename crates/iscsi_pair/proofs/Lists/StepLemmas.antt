@@ -99,7 +99,7 @@ none_rests rest e = nil_from_length rest (sym (ap length e ∙ length-settled re
 -- it takes whole PDUs, and holds nothing then
 clean_moves : (limit : ℕ) (at : Spot) (logins : Logins) (ms : List Message) → ReadsAs limit logins (canon ms) ms
     → Moves (clean limit at logins) (clean limit (spot_after at ms) (after_all logins ms)) (canon ms) ms
-clean_moves limit at logins ms r = λ stream heard t.
+clean_moves limit at logins ms r = λ stream received t.
     let bytes : List ℕ = canon ms in
     let none : t.rest ≡ [] = none_rests t.rest t.held in
     let all : stream ≡ t.given = t.whole ∙ ap (λ (x : List ℕ). t.given ++ x) none ∙ append-nil t.given in
@@ -108,11 +108,11 @@ clean_moves limit at logins ms r = λ stream heard t.
       given = t.given ++ bytes;
       rest = [];
       whole = ap (λ (x : List ℕ). x ++ bytes) all ∙ sym (append-nil (t.given ++ bytes));
-      reads = reads_joined limit no_login t.given heard bytes ms t.reads (subst (λ (l : Logins). ReadsAs limit l bytes ms) t.logins r);
+      reads = reads_joined limit no_login t.given received bytes ms t.reads (subst (λ (l : Logins). ReadsAs limit l bytes ms) t.logins r);
       place = place_sum at.place (length t.given) (length bytes) last_place t.place ∙ ap (λ (n : ℕ). min n last_place) (sym (length-append t.given bytes));
-      logins = ap (λ (l : Logins). after_all l ms) t.logins ∙ sym (after_all_append no_login heard ms);
+      logins = ap (λ (l : Logins). after_all l ms) t.logins ∙ sym (after_all_append no_login received ms);
       held = sym (settled-short [] (omega arith));
-      room = omega (arith, t.room, ap begun_len none, nothing, longest_more limit no_login t.given heard bytes ms t.reads);
+      room = omega (arith, t.room, ap begun_len none, nothing, longest_more limit no_login t.given received bytes ms t.reads);
       begun = λ long. absurd (omega (arith, long));
       live = refl;
     }
@@ -172,14 +172,14 @@ ends_by true bytes v r new is same = inl is
 ends_by false bytes v r new is same = inr (record { live = is; all = refl; framing_is = same })
 
 -- all that is queued for it comes at once
-pub target_hears : (c : Opening) (i : initiator.Machine) (t : target.Machine) (blocks : List ℕ) (place place_back : Spot) (there here : Logins)
+pub target_receives : (c : Opening) (i : initiator.Machine) (t : target.Machine) (blocks : List ℕ) (place place_back : Spot) (there here : Logins)
     (m : Message) (ms : List Message) (back after_blocks : List ℕ)
     → target_machine.is_closed t ≡ false → AreWritten (target_session.limit c.target) there (m ∷ ms) → (answers t (disk_of blocks) (m ∷ ms)).rule ≡ None
     → disk_of after_blocks ≡ (answers t (disk_of blocks) (m ∷ ms)).disk
     → Happens (level c i t blocks place place_back there here (canon (m ∷ ms)) back) (ToTarget (length (canon (m ∷ ms))))
     (level c i (answers t (disk_of blocks) (m ∷ ms)).machine after_blocks (spot_after place (m ∷ ms)) place_back (after_all there (m ∷ ms)) here []
     (back ++ canon (answers t (disk_of blocks) (m ∷ ms)).answers))
-target_hears c i t blocks place place_back there here m ms back after_blocks open_ written rule disk =
+target_receives c i t blocks place place_back there here m ms back after_blocks open_ written rule disk =
     let limit : ℕ = target_session.limit c.target in
     let out : List Message = m ∷ ms in
     let bytes : List ℕ = canon out in
@@ -219,7 +219,7 @@ target_hears c i t blocks place place_back there here m ms back after_blocks ope
         ends_by (target_machine.is_closed r.machine) bytes v r new.target refl refl,
       );
     } in
-    let hears : TargetReceives bytes old new = record {
+    let receives : TargetReceives bytes old new = record {
       result = Ok r.machine.session.phase;
       fed = subst
           (λ (b : Bool). target_calls.FedIf b (target_calls.scene old.target (store_of blocks) back) bytes (Ok r.machine.session.phase)
@@ -229,7 +229,7 @@ target_hears c i t blocks place place_back there here m ms back after_blocks ope
       fault = refl;
       other_fault = refl;
     } in
-    subst (λ (x : List ℕ). MovesToTarget None x old new) (sym all) (moves_there bytes old new (long_messages limit there m ms written.0) hears)
+    subst (λ (x : List ℕ). MovesToTarget None x old new) (sym all) (moves_there bytes old new (long_messages limit there m ms written.0) receives)
 
 -- ---- a message reaches the initiator
 
@@ -275,13 +275,13 @@ initiator_ends false old new bytes h before written is count ready machine frami
     })
 
 -- the next of those that are queued for it
-pub initiator_hears : (c : Opening) (i : initiator.Machine) (t : target.Machine) (blocks : List ℕ) (place place_back : Spot) (there here : Logins)
+pub initiator_receives : (c : Opening) (i : initiator.Machine) (t : target.Machine) (blocks : List ℕ) (place place_back : Spot) (there here : Logins)
     (out : List ℕ) (m : Message) (more : List Message)
     → is_closed i ≡ false → (step i m).fault ≡ None → IsWritten (calls.limit c.initiator) here m
     → Happens (level c i t blocks place place_back there here out (canon (m ∷ more))) (ToInitiator (length (canon (m ∷ []))))
     (level c (step i m).machine t blocks place (spot_after place_back (m ∷ [])) there (after here m.head) (out ++ canon (step i m).output)
     (canon more))
-initiator_hears c i t blocks place place_back there here out m more live well written =
+initiator_receives c i t blocks place place_back there here out m more live well written =
     let limit : ℕ = calls.limit c.initiator in
     let bytes : List ℕ = canon (m ∷ []) in
     let old : World = level c i t blocks place place_back there here out (canon (m ∷ more)) in
@@ -301,7 +301,7 @@ initiator_hears c i t blocks place place_back there here out m more live well wr
       limit = refl;
     } in
     let output : out ++ canon (step i m).output ≡ out ++ canon (steps i (m ∷ [])).output = ap (λ (x : List Message). out ++ canon x) (sym one.output) in
-    let hears : InitiatorReceives bytes old new = record {
+    let receives : InitiatorReceives bytes old new = record {
       result = Ok (steps i (m ∷ [])).machine.phase;
       fed = (
         live,
@@ -317,7 +317,7 @@ initiator_hears c i t blocks place place_back there here out m more live well wr
       fault = refl;
       other_fault = refl;
     } in
-    subst (λ (x : List ℕ). MovesToInitiator None x old new) (sym first) (moves_here bytes old new (long_messages limit here m [] written) hears)
+    subst (λ (x : List ℕ). MovesToInitiator None x old new) (sym first) (moves_here bytes old new (long_messages limit here m [] written) receives)
 
 -- ---- a request is handed in
 

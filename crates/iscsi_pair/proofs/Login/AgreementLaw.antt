@@ -72,8 +72,8 @@ world_agrees c u w o s full =
       given = t.given;
       reads = t.reads;
       sends = whole;
-      heard = i.given;
-      hears = i.reads;
+      received = i.given;
+      receives = i.reads;
       answered = back;
       only = only;
     })) (sym i.stage ∙ full) in

@@ -139,9 +139,9 @@ pub record LoginExchange (w : Way) (inputs : List Input) (i : initiator.Machine)
   pub given : List ℕ
   pub reads : ReadsAs w.target_limit there given ms
   pub sends : given ++ w.left_there ≡ canonical_bytes request ++ canon (sent i inputs)
-  pub heard : List ℕ
-  pub hears : ReadsAs w.initiator_limit here heard (coming inputs)
-  pub answered : heard ++ w.left_here ≡ canon ((answers t disk ms).answers ++ w.extra)
+  pub received : List ℕ
+  pub receives : ReadsAs w.initiator_limit here received (coming inputs)
+  pub answered : received ++ w.left_here ≡ canon ((answers t disk ms).answers ++ w.extra)
   pub only : OnlyLater w.extra (answers t disk ms)
 
 -- what both ends keep from request to request
@@ -178,8 +178,8 @@ skipped w input inputs i t disk ms x come same = record {
   given = x.given;
   reads = x.reads;
   sends = x.sends ∙ ap (λ (xs : List ℕ). canonical_bytes x.request ++ xs) same;
-  heard = x.heard;
-  hears = subst (ReadsAs w.initiator_limit x.here x.heard) come x.hears;
+  received = x.received;
+  receives = subst (ReadsAs w.initiator_limit x.here x.received) come x.receives;
   answered = x.answered;
   only = x.only;
 }
@@ -201,7 +201,7 @@ exchange_ends (Asks request ∷ inputs) w MayClose P i t disk ms o turns p x =
     (exchange_ends inputs w MayClose P i t disk ms o turns p
     (skipped w (Asks request) inputs i t disk ms x refl (ap (λ (m : Submitted). canon (m.output ++ sent m.machine inputs)) s)))
 exchange_ends (Comes m ∷ inputs) w MayClose P i t disk [] o turns p x =
-    absurd (none_said w.initiator_limit x.here x.heard w.left_here m (coming inputs) w.extra t x.asking.logs_in.phase x.only x.hears x.answered)
+    absurd (none_said w.initiator_limit x.here x.received w.left_here m (coming inputs) w.extra t x.asking.logs_in.phase x.only x.receives x.answered)
 exchange_ends (Comes m ∷ inputs) w MayClose P i t disk (n ∷ ms) o turns p x =
     let c : Opening = w.opening in
     let r : Message = x.request in
@@ -215,8 +215,8 @@ exchange_ends (Comes m ∷ inputs) w MayClose P i t disk (n ∷ ms) o turns p x 
     ap (λ (v : Message). canon ((answers t disk (v ∷ ms)).answers ++ w.extra)) one.0
     ∙ ap (λ (xs : List Message). canon ((xs ++ later.answers) ++ w.extra)) turn.is in
     let two : (m ≡ turn.answer) × IsFirst w.initiator_limit x.here w.left_here (canon (later.answers ++ w.extra)) turn.answer (coming inputs) =
-    first_is w.initiator_limit x.here x.heard w.left_here (canon (later.answers ++ w.extra)) m turn.answer (coming inputs)
-    (turn.readable x.here x.first) x.hears (x.answered ∙ said) in
+    first_is w.initiator_limit x.here x.received w.left_here (canon (later.answers ++ w.extra)) m turn.answer (coming inputs)
+    (turn.readable x.here x.first) x.receives (x.answered ∙ said) in
     let only : OnlyLater w.extra later = subst (λ (v : Message). OnlyLater w.extra (answers t disk (v ∷ ms))) one.0 x.only in
     let s : Stepped = step i turn.answer in
     let sent_is : one.1.given ++ w.left_there ≡ canon (s.output ++ sent s.machine inputs) =
@@ -239,8 +239,8 @@ exchange_ends (Comes m ∷ inputs) w MayClose P i t disk (n ∷ ms) o turns p x 
           given = one.1.given;
           reads = one.1.reads;
           sends = sent_is ∙ ap (λ (xs : List Message). canon (xs ++ sent s.machine inputs)) next.0.is;
-          heard = two.1.given;
-          hears = two.1.reads;
+          received = two.1.given;
+          receives = two.1.reads;
           answered = two.1.rest;
           only = only;
         })

@@ -60,7 +60,7 @@ none_waits (n ∷ ms) w i t disk o x here there =
     ap (λ (v : Message). canon ((answers t disk (v ∷ ms)).answers ++ w.extra)) one.0
     ∙ ap (λ (xs : List Message). canon ((xs ++ later.answers) ++ w.extra)) turn.is in
     not_waiting w.initiator_limit x.here w.left_here (canon (later.answers ++ w.extra)) turn.answer there (turn.readable x.here x.first) turn.short
-    (ap (λ (z : List ℕ). z ++ w.left_here) (sym (nothing_read w.initiator_limit x.here x.heard x.hears)) ∙ x.answered ∙ said_)
+    (ap (λ (z : List ℕ). z ++ w.left_here) (sym (nothing_read w.initiator_limit x.here x.received x.receives)) ∙ x.answered ∙ said_)
 
 -- an exchange that has ended so
 ended_idle : (w : Way) (r : target.Machine) (m : initiator.Machine) → IsOpening w.opening → Ended w (Unit {0}) anything r m
@@ -120,8 +120,8 @@ idle_open c u w l ms given rest o s none_out none_back i live p whole here out =
       given = given;
       reads = p;
       sends = e;
-      heard = i.taken.given;
-      hears = i.taken.reads;
+      received = i.taken.given;
+      receives = i.taken.reads;
       answered = f ∙ ap canon (sym (append-nil (answers (target.opening c.target c.first_stat_sn) (disk_of c.blocks) ms).answers));
       only = inl refl;
     })) here (holds_none u.moved_to_initiator (coming i.inputs) w.initiator.framing i.taken i.unready limit_)

@@ -34,32 +34,32 @@ started_in : (m : Machine) (message : Message) (b : Bool) → m.started ≡ b �
 started_in m message true is t = rw is refl
 started_in m message false is t = absurd (cc t)
 
-pub hears : (m : Machine) (h : LoginResponse) (pairs : Pairs) → m.phase ≡ phases.Login → m.started ≡ true → h.initiator_task_tag ≡ 0
+pub receives : (m : Machine) (h : LoginResponse) (pairs : Pairs) → m.phase ≡ phases.Login → m.started ≡ true → h.initiator_task_tag ≡ 0
     → step m (answering h pairs) ≡ answered m h (Text pairs)
-hears m h pairs p s tag =
+receives m h pairs p s tag =
     step_is m (answering h pairs) ∙ ap (λ (x : Phase). step_in x m (answering h pairs)) p
     ∙ started_in m (answering h pairs) m.started refl s
     ∙ rw tag refl
 
 -- an answer of another class refuses the login
-pub hears_refusal : (m : Machine) (h : LoginResponse) (pairs : Pairs) → m.phase ≡ phases.Login → m.started ≡ true → h.initiator_task_tag ≡ 0
+pub receives_refusal : (m : Machine) (h : LoginResponse) (pairs : Pairs) → m.phase ≡ phases.Login → m.started ≡ true → h.initiator_task_tag ≡ 0
     → (h.status_class == 0) ≡ false
     → Closes m (step m (answering h pairs))
-hears_refusal m h pairs p s tag class =
-    subst (Closes m) (sym (hears m h pairs p s tag)) (rw class (record { phase = refl; stage = refl }))
+receives_refusal m h pairs p s tag class =
+    subst (Closes m) (sym (receives m h pairs p s tag)) (rw class (record { phase = refl; stage = refl }))
 
 -- an answer in the midst of a text is a fault, or the next part goes
-pub hears_more : (m : Machine) (h : LoginResponse) (pairs : Pairs) (byte : ℕ) (bytes : List ℕ) → m.phase ≡ phases.Login → m.started ≡ true
+pub receives_more : (m : Machine) (h : LoginResponse) (pairs : Pairs) (byte : ℕ) (bytes : List ℕ) → m.phase ≡ phases.Login → m.started ≡ true
     → h.initiator_task_tag ≡ 0 → h.status_class ≡ 0
     → m.unsent_text ≡ byte ∷ bytes → Closes m (step m (answering h pairs)) ⊎ (step m (answering h pairs) ≡ sends_more (counted m h))
-hears_more m h pairs byte bytes p s tag class left =
+receives_more m h pairs byte bytes p s tag class left =
     let P : Stepped → Type 0 = λ r. Closes m r ⊎ (r ≡ sends_more (counted m h)) in
     let shut : (r : ℕ) → P (protocol_error m r) = λ r. inl (record { phase = refl; stage = refl }) in
     let number : Bool = not (is_expected m.exp_stat_sn (unwrap_or h.stat_sn 0)) in
     let turn : P (in_turn m.unsent_text m h (Text pairs)) =
     subst (λ (l : List ℕ). P (in_turn l m h (Text pairs))) (sym left) (cond_both (goes_on m h (Text pairs)) (sends_more (counted m h)) (protocol_error m 7) P
     (λ is. inr refl) (λ is. shut 7)) in
-    subst P (sym (hears m h pairs p s tag))
+    subst P (sym (receives m h pairs p s tag))
     (cond_both (not (h.status_class == 0)) (fails m (Refused h.status_class h.status_detail))
     (if number then protocol_error m 6 else in_turn m.unsent_text m h (Text pairs)) P
     (λ is. absurd (apart is (ap (λ (n : ℕ). not (n == 0)) class)))
@@ -75,16 +75,17 @@ judges (Some key) m h pairs = inl (record { phase = refl; stage = refl })
 judges None m h pairs = inr refl
 
 -- an answer to a whole text is a fault, or the login enters the next stage
-pub hears_answer : (m : Machine) (h : LoginResponse) (pairs : Pairs) → m.phase ≡ phases.Login → m.started ≡ true → h.initiator_task_tag ≡ 0 → h.status_class ≡ 0
+pub receives_answer : (m : Machine) (h : LoginResponse) (pairs : Pairs) → m.phase ≡ phases.Login → m.started ≡ true → h.initiator_task_tag ≡ 0 →
+    h.status_class ≡ 0
     → m.unsent_text ≡ [] → Closes m (step m (answering h pairs)) ⊎ (step m (answering h pairs) ≡ begins_stage (following_stage m.stage) (with_answer m h pairs))
-hears_answer m h pairs p s tag class left =
+receives_answer m h pairs p s tag class left =
     let P : Stepped → Type 0 = λ r. Closes m r ⊎ (r ≡ begins_stage (following_stage m.stage) (with_answer m h pairs)) in
     let shut : (r : ℕ) → P (protocol_error m r) = λ r. inl (record { phase = refl; stage = refl }) in
     let number : Bool = not (is_expected m.exp_stat_sn (unwrap_or h.stat_sn 0)) in
     let turn : P (in_turn m.unsent_text m h (Text pairs)) =
     subst (λ (l : List ℕ). P (in_turn l m h (Text pairs))) (sym left) (cond_both (moves_on m h) (text_answered m h (Text pairs)) (protocol_error m 7) P
     (λ is. judges (bad_key (offered m) pairs) m h pairs) (λ is. shut 7)) in
-    subst P (sym (hears m h pairs p s tag))
+    subst P (sym (receives m h pairs p s tag))
     (cond_both (not (h.status_class == 0)) (fails m (Refused h.status_class h.status_detail))
     (if number then protocol_error m 6 else in_turn m.unsent_text m h (Text pairs)) P
     (λ is. absurd (apart is (ap (λ (n : ℕ). not (n == 0)) class)))

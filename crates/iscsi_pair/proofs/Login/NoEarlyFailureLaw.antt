@@ -115,8 +115,8 @@ all_well c inputs ms l k given x taken_ y o suits p e q f =
       given = given;
       reads = p;
       sends = e ∙ ap (λ (m : List Message). canon (m ++ sent (begun c) inputs)) a.is;
-      heard = taken_;
-      hears = q;
+      received = taken_;
+      receives = q;
       answered = f ∙ ap canon (sym (append-nil (said c ms).answers));
       only = inl refl;
     })

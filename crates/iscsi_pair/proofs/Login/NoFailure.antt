@@ -50,12 +50,12 @@ none_read limit logins given [] p e = refl
 none_read limit logins given (m ∷ ms) p e = absurd (not_empty limit logins given [] m ms p (append-nil given ∙ e))
 
 -- the last message that came, as far as the initiator has received
-last_heard : (ms : List Message) (c : Opening) (i : initiator.Machine) (t : target.Machine) (out back : Logins) (r : Message) (disk : Disk) (l : ℕ)
+last_received : (ms : List Message) (c : Opening) (i : initiator.Machine) (t : target.Machine) (out back : Logins) (r : Message) (disk : Disk) (l : ℕ)
     (given x y : List ℕ)
     → IsOpening c → Suits c → Asking c i t out r → Suited c i t → back.response ≡ false → ReadsAs l out given ms → given ++ x ≡ canonical_bytes r ++ []
     → y ≡ canon (answers t disk ms).answers → AreWell i (answers t disk ms) x y
 unfolding answers
-last_heard [] c i t out back r disk l given x y o suits a s b p e f = record {
+last_received [] c i t out back r disk l given x y o suits a s b p e f = record {
   target = inr (
     ap is_closed_phase a.logs_in.phase,
     inr (record {
@@ -69,7 +69,7 @@ last_heard [] c i t out back r disk l given x y o suits a s b p e f = record {
   );
   initiator = inr (ap is_closed_phase a.phase, inl f);
 }
-last_heard (n ∷ ms) c i t out back r disk l given x y o suits a s b p e f =
+last_received (n ∷ ms) c i t out back r disk l given x y o suits a s b p e f =
     let one : (n ≡ r) × IsFirst l out x [] r ms = first_is l out given x [] n r ms (asking_readable c i t out r o a) p e in
     let none = both_none one.1.given x one.1.rest in
     let last : ms ≡ [] = none_read l (logins_after out r.head) one.1.given ms one.1.reads none.0 in
@@ -111,8 +111,8 @@ ended_well : (w : Way) (r : target.Stepped) (m : initiator.Machine) → IsOpenin
     → Ended w ⊥ (Suited w.opening) r.machine m → AreWell m r w.left_there w.left_here
 ended_well w r m o suits none (Waiting t disk ms s x is) =
     let q : AreWell m (answers t disk ms) w.left_there w.left_here =
-    last_heard ms w.opening m t x.there x.here x.request disk w.target_limit x.given w.left_there w.left_here o suits x.asking s x.first x.reads x.sends
-    (ap (λ (z : List ℕ). z ++ w.left_here) (sym (nothing_read w.initiator_limit x.here x.heard x.hears)) ∙ x.answered
+    last_received ms w.opening m t x.there x.here x.request disk w.target_limit x.given w.left_there w.left_here o suits x.asking s x.first x.reads x.sends
+    (ap (λ (z : List ℕ). z ++ w.left_here) (sym (nothing_read w.initiator_limit x.here x.received x.receives)) ∙ x.answered
     ∙ ap (λ (e : List Message). canon ((answers t disk ms).answers ++ e)) none ∙ ap canon (append-nil (answers t disk ms).answers)) in
     record {
       target = subst

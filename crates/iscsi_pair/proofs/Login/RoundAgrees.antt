@@ -46,7 +46,7 @@ use Rattle.iscsi_pair.specs.World.{Opening, IsOpening}
 use Rattle.iscsi_pair.proofs.Wire.PrefixLemmas.{RequestFits, Readable, response_readable, request_readable, part_readable}
 use Rattle.iscsi_pair.proofs.Wire.OfferedTexts.{offers_read, offers_mean, declares}
 use Rattle.iscsi_pair.proofs.Login.TargetStep.{LogsIn, SettingsFit, Refuses, Gathers, Tells, login_step_is, gathers_more, tells_text}
-use Rattle.iscsi_pair.proofs.Login.InitiatorStep.{Closes, answering, with_answer, hears_refusal, hears_more, hears_answer}
+use Rattle.iscsi_pair.proofs.Login.InitiatorStep.{Closes, answering, with_answer, receives_refusal, receives_more, receives_answer}
 
 -- ---- where the login is
 
@@ -302,7 +302,7 @@ refused_round c i t logins next r disk last reply a q = record {
   readable = λ back first. response_readable back q.answer [] first q.last q.fits (omega arith) empty_read;
   last = λ back first. response_last back q.answer [] q.last;
   short = short_text [] (omega arith);
-  leads = inl (hears_refusal i q.answer [] a.phase a.started q.tag q.class);
+  leads = inl (receives_refusal i q.answer [] a.phase a.started q.tag q.class);
 }
 
 -- the login goes on with the next part of the text
@@ -316,7 +316,7 @@ gathered_round c i t logins next r disk bytes byte more reply o a left text requ
   readable = λ back first. response_readable back q.answer [] first q.last q.fits (omega arith) empty_read;
   last = λ back first. response_last back q.answer [] q.last;
   short = short_text [] (omega arith);
-  leads = elim (hears_more i q.answer [] byte more a.phase a.started q.tag q.class left) [
+  leads = elim (receives_more i q.answer [] byte more a.phase a.started q.tag q.class left) [
     | inl closes ↦ inl closes
     | inr e ↦ inr (inr (subst (λ (s : Stepped). Asks_on c s (behind t reply) next) (sym e) goes))
   ];
@@ -426,7 +426,7 @@ told_round c i t logins next r disk reply o a left first q = record {
   readable = λ back start. response_readable back q.answer answer start q.last q.fits q.short read;
   last = λ back start. response_last back q.answer answer q.last;
   short = short_text answer q.short;
-  leads = elim (hears_answer i q.answer answer a.phase a.started q.tag q.class left) [
+  leads = elim (receives_answer i q.answer answer a.phase a.started q.tag q.class left) [
     | inl closes ↦ inl closes
     | inr e ↦ subst (λ (s : Stepped). Leads c i s (behind t reply) next) (sym e) (told_to i.stage c i t logins next r reply o a refl first q)
   ];

@@ -49,7 +49,7 @@ use Rattle.iscsi_pair.specs.World.{Opening, IsOpening, Suits}
 use Rattle.iscsi_target.specs.Machine as target_machine
 use Rattle.iscsi_target.specs.Machine.{is_over_limit}
 use Rattle.iscsi_pair.proofs.Login.TargetStep.{login_step_is, some_if}
-use Rattle.iscsi_pair.proofs.Login.InitiatorStep.{answering, with_answer, hears}
+use Rattle.iscsi_pair.proofs.Login.InitiatorStep.{answering, with_answer, receives}
 use Rattle.iscsi_pair.proofs.Login.RoundAgrees.{Agreed, Asking, Asks_on, Leads, Round, IsWhole, IsPart, is_sent, fits_limit, offered_read}
 use Rattle.iscsi_pair.proofs.Wire.TextSizes.{answer_is_short}
 use Rattle.iscsi_pair.proofs.Login.Compatible.{IsFew, offers_few, few_fits, none_of, says_security, says_single, second_gives, security_auth, operational_auth}
@@ -226,23 +226,24 @@ answers_well t h segment pairs none short last read good =
 
 -- ---- what the initiator does
 
-hears_more_well : (m : initiator.Machine) (h : LoginResponse) (byte : ℕ) (bytes : List ℕ) → m.phase ≡ phases.Login → m.started ≡ true → h.initiator_task_tag ≡ 0
+receives_more_well : (m : initiator.Machine) (h : LoginResponse) (byte : ℕ) (bytes : List ℕ) → m.phase ≡ phases.Login → m.started ≡ true →
+    h.initiator_task_tag ≡ 0
     → h.status_class ≡ 0
     → is_expected m.exp_stat_sn (unwrap_or h.stat_sn 0) ≡ true → m.unsent_text ≡ byte ∷ bytes → goes_on m h (Text []) ≡ true
     → step m (answering h []) ≡ sends_more (counted m h)
-hears_more_well m h byte bytes p s tag class number left on =
-    hears m h [] p s tag
+receives_more_well m h byte bytes p s tag class number left on =
+    receives m h [] p s tag
     ∙ cond-false (not (h.status_class == 0)) _ _ (ap (λ (n : ℕ). not (n == 0)) class)
     ∙ cond-false (not (is_expected m.exp_stat_sn (unwrap_or h.stat_sn 0))) _ _ (ap not number)
     ∙ ap (λ (l : List ℕ). in_turn l m h (Text [])) left
     ∙ cond-true (goes_on m h (Text [])) _ _ on
 
-hears_last_well : (m : initiator.Machine) (h : LoginResponse) (pairs : Pairs) → m.phase ≡ phases.Login → m.started ≡ true → h.initiator_task_tag ≡ 0
+receives_last_well : (m : initiator.Machine) (h : LoginResponse) (pairs : Pairs) → m.phase ≡ phases.Login → m.started ≡ true → h.initiator_task_tag ≡ 0
     → h.status_class ≡ 0
     → is_expected m.exp_stat_sn (unwrap_or h.stat_sn 0) ≡ true → m.unsent_text ≡ [] → moves_on m h ≡ true → bad_key (offered m) pairs ≡ None
     → step m (answering h pairs) ≡ begins_stage (following_stage m.stage) (with_answer m h pairs)
-hears_last_well m h pairs p s tag class number left on good =
-    hears m h pairs p s tag
+receives_last_well m h pairs p s tag class number left on good =
+    receives m h pairs p s tag
     ∙ cond-false (not (h.status_class == 0)) _ _ (ap (λ (n : ℕ). not (n == 0)) class)
     ∙ cond-false (not (is_expected m.exp_stat_sn (unwrap_or h.stat_sn 0))) _ _ (ap not number)
     ∙ ap (λ (l : List ℕ). in_turn l m h (Text pairs)) left
@@ -416,7 +417,8 @@ last_turn c i t logins next r disk segment o suits a s left fits read size turn 
     one_answer turn.answer (answering (text_head e h) (answer_pairs e given)) (sym turn.is ∙ ap (λ (x : target.Stepped). x.answers) there) in
     record {
       there = there;
-      now = ap (step i) is ∙ hears_last_well i (text_head e h) (answer_pairs e given) a.phase a.started refl refl (ap (is_expected i.exp_stat_sn) same.stat_sn
+      now = ap (step i) is ∙ receives_last_well i (text_head e h) (answer_pairs e given) a.phase a.started refl refl (ap (is_expected i.exp_stat_sn)
+          same.stat_sn
           ∙ s.expected) left
           (and_from _ _ (eq-eqb (stage_number i.stage) (stage_number i.stage) refl)
           (eq-eqb (stage_number (following_stage i.stage)) (stage_number (following_stage i.stage)) refl))
@@ -443,7 +445,8 @@ part_turn c i t logins next r disk segment bytes byte more a s left part fits si
       some = subst (λ (x : List ℕ). 0 < length x) (sym left) (omega arith);
       bytes = bytes;
       there = there;
-      now = ap (step i) is ∙ hears_more_well i (part_head e h) byte more a.phase a.started refl refl (ap (is_expected i.exp_stat_sn) same.stat_sn ∙ s.expected)
+      now = ap (step i) is ∙ receives_more_well i (part_head e h) byte more a.phase a.started refl refl (ap (is_expected i.exp_stat_sn) same.stat_sn ∙
+          s.expected)
           left (and_from _ _ (eq-eqb (stage_number i.stage) (stage_number i.stage) refl) refl);
     }
 

@@ -42,7 +42,7 @@ pub short_message : (head : Head) (bytes : List ℕ) (most : ℕ) → length byt
 unfolding segment_bytes
 short_message head bytes most le = le
 
--- ---- what the target hears
+-- ---- what the target receives
 
 was_open : (b : Bool) (t : target.Machine) (disk : Disk) (ms : List Message) → target_machine.is_closed t ≡ b
     → target_machine.is_closed (answers t disk ms).machine ≡ false → b ≡ false
@@ -59,43 +59,43 @@ open_all t disk (m ∷ ms) live =
 
 -- These go out and are received: both they and the answers are read as they were written, the session is open when each comes, and
 -- none breaks a rule.
-pub record AreHeard (held : Held) (t : target.Machine) (disk : Disk) (out : List Message) : Type 0 where
+pub record AreReceived (held : Held) (t : target.Machine) (disk : Disk) (out : List Message) : Type 0 where
   pub written : ArePlain held.target_max_recv out
   pub open_ : IsOpenFor t disk out
   pub rule : (answers t disk out).rule ≡ None
   pub answered : ArePlain held.initiator_max_recv (answers t disk out).answers
 
 -- by where they lead
-pub heard_by : (held : Held) (t : target.Machine) (disk : Disk) (out : List Message) (r : target.Stepped) → answers t disk out ≡ r
+pub received_by : (held : Held) (t : target.Machine) (disk : Disk) (out : List Message) (r : target.Stepped) → answers t disk out ≡ r
     → ArePlain held.target_max_recv out
-    → target_machine.is_closed r.machine ≡ false → r.rule ≡ None → ArePlain held.initiator_max_recv r.answers → AreHeard held t disk out
-heard_by held t disk out r e written live rule answered = record {
+    → target_machine.is_closed r.machine ≡ false → r.rule ≡ None → ArePlain held.initiator_max_recv r.answers → AreReceived held t disk out
+received_by held t disk out r e written live rule answered = record {
   written = written;
   open_ = open_all t disk out (ap (λ (x : target.Stepped). target_machine.is_closed x.machine) e ∙ live);
   rule = ap (λ (x : target.Stepped). x.rule) e ∙ rule;
   answered = subst (λ (x : target.Stepped). ArePlain held.initiator_max_recv x.answers) (sym e) answered;
 }
 
-none_heard : (held : Held) (t : target.Machine) (disk : Disk) → AreHeard held t disk []
+none_received : (held : Held) (t : target.Machine) (disk : Disk) → AreReceived held t disk []
 unfolding answers
-none_heard held t disk = record { written = λ logins. tt; open_ = tt; rule = refl; answered = λ logins. tt }
+none_received held t disk = record { written = λ logins. tt; open_ = tt; rule = refl; answered = λ logins. tt }
 
--- ---- what the initiator hears
+-- ---- what the initiator receives
 
 -- the initiator has a request open when it receives this answer, finds no fault in it, and what it sends then is received
-pub record HearsOne (held : Held) (i : initiator.Machine) (t : target.Machine) (disk : Disk) (m : Message) : Type 0 where
+pub record ReceivesOne (held : Held) (i : initiator.Machine) (t : target.Machine) (disk : Disk) (m : Message) : Type 0 where
   pub full : i.phase ≡ phases.Full
   pub busy : is_some i.outstanding ≡ true
   pub none_done : i.done ≡ None
   pub fault : (step i m).fault ≡ None
-  pub sends_ : AreHeard held t disk (step i m).output
+  pub sends_ : AreReceived held t disk (step i m).output
 
 -- n answers are received, and then both ends stand so
 abbrev pub Leads : Held → ℕ → Exchange → Exchange → Type 0
 Leads held zero from x = from ≡ x
 Leads held (suc n) from x = elim from.answers [
   | [] ↦ ⊥
-  | m ∷ more ↦ HearsOne held from.initiator from.target from.disk m
+  | m ∷ more ↦ ReceivesOne held from.initiator from.target from.disk m
       × (let s = step from.initiator m in
       let r = answers from.target from.disk s.output in
       Leads held n (between s.machine r.machine r.disk (more ++ r.answers)) x)
@@ -106,11 +106,11 @@ abbrev pub LeadsTo : Held → Exchange → Exchange → Type 0
 LeadsTo held from x = (n : ℕ) × Leads held n from x
 
 -- an answer that is received, and to which nothing is said
-pub hears_quiet : (held : Held) (i n : initiator.Machine) (t : target.Machine) (disk : Disk) (m : Message) (more : List Message) (x : Exchange)
+pub receives_quiet : (held : Held) (i n : initiator.Machine) (t : target.Machine) (disk : Disk) (m : Message) (more : List Message) (x : Exchange)
     → step i m ≡ quiet n → i.phase ≡ phases.Full → is_some i.outstanding ≡ true → i.done ≡ None
     → LeadsTo held (between n t disk more) x → LeadsTo held (between i t disk (m ∷ more)) x
 unfolding answers
-hears_quiet held i n t disk m more x e full busy none l = (
+receives_quiet held i n t disk m more x e full busy none l = (
   suc l.0,
   (
     record {
@@ -118,7 +118,7 @@ hears_quiet held i n t disk m more x e full busy none l = (
       busy = busy;
       none_done = none;
       fault = ap (λ (s : Stepped). s.fault) e;
-      sends_ = subst (λ (s : Stepped). AreHeard held t disk s.output) (sym e) (none_heard held t disk);
+      sends_ = subst (λ (s : Stepped). AreReceived held t disk s.output) (sym e) (none_received held t disk);
     },
     subst (λ (s : Stepped). let r = answers t disk s.output in Leads held l.0 (between s.machine r.machine r.disk (more ++ r.answers)) x) (sym e)
         (subst (λ (ms : List Message). Leads held l.0 (between n t disk ms) x) (sym (append-nil more)) l.1),
@@ -126,12 +126,12 @@ hears_quiet held i n t disk m more x e full busy none l = (
 )
 
 -- the last answer on its way, to which these are said
-pub hears_sends : (held : Held) (i n : initiator.Machine) (t : target.Machine) (disk : Disk) (m : Message) (out : List Message) (r : target.Stepped)
+pub receives_sends : (held : Held) (i n : initiator.Machine) (t : target.Machine) (disk : Disk) (m : Message) (out : List Message) (r : target.Stepped)
     (x : Exchange)
     → step i m ≡ sends n out → i.phase ≡ phases.Full → is_some i.outstanding ≡ true
-    → i.done ≡ None → AreHeard held t disk out → answers t disk out ≡ r → LeadsTo held (between n r.machine r.disk r.answers) x
+    → i.done ≡ None → AreReceived held t disk out → answers t disk out ≡ r → LeadsTo held (between n r.machine r.disk r.answers) x
     → LeadsTo held (between i t disk (m ∷ [])) x
-hears_sends held i n t disk m out r x e full busy none heard is l = (
+receives_sends held i n t disk m out r x e full busy none received is l = (
   suc l.0,
   (
     record {
@@ -139,7 +139,7 @@ hears_sends held i n t disk m out r x e full busy none heard is l = (
       busy = busy;
       none_done = none;
       fault = ap (λ (s : Stepped). s.fault) e;
-      sends_ = subst (λ (s : Stepped). AreHeard held t disk s.output) (sym e) heard;
+      sends_ = subst (λ (s : Stepped). AreReceived held t disk s.output) (sym e) received;
     },
     subst (λ (s : Stepped). let r' = answers t disk s.output in Leads held l.0 (between s.machine r'.machine r'.disk ([] ++ r'.answers)) x) (sym e)
         (subst (λ (r' : target.Stepped). Leads held l.0 (between n r'.machine r'.disk ([] ++ r'.answers)) x) (sym is) l.1),
@@ -156,7 +156,7 @@ pub record Ends (held : Held) (i : initiator.Machine) (r : target.Stepped) (here
 
 -- What a request that is handed in sends is received, and it comes to this outcome.
 pub record Begins (held : Held) (m : initiator.Machine) (t : target.Machine) (disk : Disk) (request : Request) (here : Local) : Type 0 where
-  pub heard : AreHeard held t disk (submitted m request).output
+  pub received : AreReceived held t disk (submitted m request).output
   pub ends : Ends held (submitted m request).machine (answers t disk (submitted m request).output) here
 
 -- where answers lead is where they lead one by one

@@ -46,7 +46,7 @@ IsOpenFor t disk (m ∷ ms) =
 
 -- The target receives these well: its session is open when each comes, none breaks a rule, and the answers are read as they
 -- were written.
-pub record HearsWell (most : ℕ) (t : target.Machine) (disk : Disk) (logins : Logins) (ms : List Message) : Type 0 where
+pub record ReceivesWell (most : ℕ) (t : target.Machine) (disk : Disk) (logins : Logins) (ms : List Message) : Type 0 where
   pub open_ : IsOpenFor t disk ms
   pub rule : (answers t disk ms).rule ≡ None
   pub answered : AreWritten most logins (answers t disk ms).answers
@@ -92,7 +92,7 @@ Relation = Exchange → SoFar → Type 0
 -- The initiator sends these: they are read as they were written, the target receives them well, and the relation holds then.
 pub record Sends (most : Limits) (P : Relation) (x : Exchange) (out : List Message) (s : SoFar) : Type 0 where
   pub written : AreWritten most.out s.there out
-  pub heard : HearsWell most.back x.target x.disk s.here out
+  pub received : ReceivesWell most.back x.target x.disk s.here out
   pub kept : (let r = answers x.target x.disk out in
       P (between x.initiator r.machine r.disk (x.answers ++ r.answers)) (so_far (after_all s.there out) (after_all s.here r.answers) s.history))
 
@@ -105,7 +105,7 @@ pub record Goes (most : Limits) (P : Relation) (x : Exchange) (m : Message) (s :
 -- The relation is kept by all that can happen.
 pub record IsKept (most : Limits) (P : Relation) : Type 1 where
   -- the next answer comes
-  pub hears : (i : initiator.Machine) (t : target.Machine) (disk : Disk) (m : Message) (back : List Message) (there here : Logins) (h : History)
+  pub receives : (i : initiator.Machine) (t : target.Machine) (disk : Disk) (m : Message) (back : List Message) (there here : Logins) (h : History)
       → P (between i t disk (m ∷ back)) (so_far there here h) → Goes most P (between i t disk back) m (so_far there here h)
   -- a request is accepted
   pub asks : (i : initiator.Machine) (t : target.Machine) (disk : Disk) (back : List Message) (there here : Logins) (h : History) (request : Request)

@@ -34,7 +34,7 @@ use Rattle.iscsi_pair.specs.LocalDisk.{AreInStep, Exchange, window_of_eight}
 use Rattle.iscsi_pair.proofs.Wire.WindowLemmas.{near_next, tells_eight, tag_after}
 use Rattle.iscsi_pair.proofs.Wire.WrittenPdus.{left_readable, logout_readable, ping_readable, pong_readable}
 use Rattle.iscsi_pair.proofs.Request.Invariant.{IsOpenFor}
-use Rattle.iscsi_pair.proofs.Request.AnswersInOrder.{ArePlain, Begins, Ends, heard_by, hears_quiet, plain_one, short_message}
+use Rattle.iscsi_pair.proofs.Request.AnswersInOrder.{ArePlain, Begins, Ends, received_by, receives_quiet, plain_one, short_message}
 use Rattle.iscsi_pair.proofs.Request.ReadLemmas.{counted_on, in_step_again, not_long, ready, stat_sn_sent, submitted_is, told_window, unrefused, window_now}
 use Rattle.iscsi_target.specs.Execution.{reliable}
 use Rattle.iscsi_login.specs.Stage.{is_closed_phase}
@@ -80,12 +80,12 @@ pinged m t window bytes = record m {
 }
 
 -- the initiator receives the answer
-pong_heard : (m before : initiator.Machine) (t : target.Machine) (window : Window) (bytes : List ℕ) → m.exp_stat_sn ≡ Some t.session.stat_sn
+pong_received : (m before : initiator.Machine) (t : target.Machine) (window : Window) (bytes : List ℕ) → m.exp_stat_sn ≡ Some t.session.stat_sn
     → m.initiator_task_tag ≡ next_tag before.initiator_task_tag
     → m.initiator_task_tag ≤ 0xffff_fffe → length bytes ≤ m.held.initiator_max_recv
     → step (pinging m window) (target_session.message (nop_in_head t.session (target.waiting t.tasks) (ping before)) bytes) ≡ quiet (pinged m t window bytes)
 unfolding step segment_bytes
-pong_heard m before t window bytes e same tag short =
+pong_received m before t window bytes e same tag short =
     rw (
       sym same,
       names_task m.initiator_task_tag tag,
@@ -142,12 +142,13 @@ local_ping m t disk bytes a e =
     (subst (λ (h : Held). h.target_max_recv ≤ target_session.limit t.session.settings) (sym a.held) a.segment)
     ∙ ap (λ (h : Held). having_accepted (ping_message m bytes ∷ []) (on disk [] (send_response t'.session (nop_in_head t'.session 0 (ping m))
     (take h.initiator_max_recv bytes)))) a.held in
-    let one : step (pinging begun_ m.window) answer ≡ quiet (pinged begun_ t' m.window given) = pong_heard begun_ m t' m.window given a.stat_sn refl tag few in
+    let one : step (pinging begun_ m.window) answer ≡ quiet (pinged begun_ t' m.window given) = pong_received begun_ m t' m.window given a.stat_sn refl tag
+        few in
     let told_ : told_window m.window t' ≡ window_of_eight n = tells_eight n m.window fits (near_next n m.cmd_sn m.window a.cmd_sn_fits refl a.window) in
     let last : Exchange = record { initiator = pinged begun_ t' m.window given; target = counted_on t'; disk = disk; answers = [] } in
     let ends_ : Ends m.held (pinging begun_ m.window) executed (record { outcome = done.Ping given; disk = disk }) = record {
       last = last;
-      leads = hears_quiet m.held (pinging begun_ m.window) (pinged begun_ t' m.window given) (counted_on t') disk answer [] last one refl refl a.none_done (
+      leads = receives_quiet m.held (pinging begun_ m.window) (pinged begun_ t' m.window given) (counted_on t') disk answer [] last one refl refl a.none_done (
         0,
         refl,
       );
@@ -163,7 +164,8 @@ local_ping m t disk bytes a e =
     (λ logins. ping_readable logins m bytes a.tag_fits a.cmd_sn_fits (stat_sn_sent m t a) (omega (arith, short, a.is_held.target_max_recv.1)))
     (short_message (ping_message m bytes).head bytes m.held.target_max_recv short) in
     record {
-      heard = heard_by m.held t disk (submitted m request).output executed r (subst (λ (s : Submitted). ArePlain m.held.target_max_recv s.output) (sym sent)
+      received = received_by m.held t disk (submitted m request).output executed r (subst (λ (s : Submitted). ArePlain m.held.target_max_recv s.output) (sym
+          sent)
           written) refl refl
           (plain_one m.held.initiator_max_recv answer
           (λ logins. pong_readable logins t' (ping m) given (omega (arith, tag)) a.stat_sn_fits fits (omega (arith, few, a.is_held.initiator_max_recv.1)))
@@ -205,11 +207,11 @@ left m t window = record m {
   done = Some done.Closed;
 }
 
-logout_heard : (m before : initiator.Machine) (t : target.Machine) (window : Window) → m.exp_stat_sn ≡ Some t.session.stat_sn
+logout_received : (m before : initiator.Machine) (t : target.Machine) (window : Window) → m.exp_stat_sn ≡ Some t.session.stat_sn
     → m.initiator_task_tag ≡ next_tag before.initiator_task_tag
     → step (leaving m window) (target_session.message (logout_head t.session (target.waiting t.tasks) (logout_request before)) []) ≡ quiet (left m t window)
 unfolding step segment_bytes
-logout_heard m before t window e same =
+logout_received m before t window e same =
     rw (
       sym same,
       eq-eqb m.initiator_task_tag m.initiator_task_tag refl,
@@ -249,8 +251,8 @@ local_logout m t disk a e =
     let last : Exchange = record { initiator = left begun_ t' m.window; target = executed.machine; disk = disk; answers = [] } in
     let ends_ : Ends m.held (leaving begun_ m.window) executed (record { outcome = done.Closed; disk = disk }) = record {
       last = last;
-      leads = hears_quiet m.held (leaving begun_ m.window) (left begun_ t' m.window) executed.machine disk answer [] last
-          (logout_heard begun_ m t' m.window a.stat_sn refl) refl refl a.none_done (0, refl);
+      leads = receives_quiet m.held (leaving begun_ m.window) (left begun_ t' m.window) executed.machine disk answer [] last
+          (logout_received begun_ m t' m.window a.stat_sn refl) refl refl a.none_done (0, refl);
       ended = record {
         done_is = refl;
         silent = refl;
@@ -267,7 +269,7 @@ local_logout m t disk a e =
     let open_ : IsOpenFor t disk (submitted m request).output =
     subst (λ (s : Submitted). IsOpenFor t disk s.output) (sym sent) (ap is_closed_phase a.target_phase, tt) in
     record {
-      heard = record {
+      received = record {
         written = subst (λ (s : Submitted). ArePlain m.held.target_max_recv s.output) (sym sent) written;
         open_ = open_;
         rule = ap (λ (x : target.Stepped). x.rule) r;

@@ -61,11 +61,11 @@ use Rattle.iscsi_pair.specs.LocalDisk.{AreInStep, Exchange, reading_order, repor
 use Rattle.iscsi_pair.proofs.Wire.WindowLemmas.{IsNear, near_next, near_now, tag_after, tells_eight}
 use Rattle.iscsi_pair.proofs.Wire.WrittenPdus.{command_readable, data_in_readable, outcome_readable}
 use Rattle.iscsi_pair.proofs.Wire.OutcomeRanges.{HasRoom, outcome_fits}
-use Rattle.iscsi_pair.proofs.Request.AnswersInOrder.{ArePlain, Begins, Ends, LeadsTo, heard_by, hears_quiet, plain_more, plain_one, short_message}
+use Rattle.iscsi_pair.proofs.Request.AnswersInOrder.{ArePlain, Begins, Ends, LeadsTo, received_by, receives_quiet, plain_more, plain_one, short_message}
 use Rattle.iscsi_pair.proofs.Request.Invariant.{between}
 use Rattle.iscsi_target.proofs.OrderLemmas.{expected_by}
 
--- ---- the initiator hears the data
+-- ---- the initiator receives the data
 
 -- an initiator that has an outstanding read, and was told this window
 abbrev reading : initiator.Machine → Reading → Window → initiator.Machine
@@ -76,13 +76,13 @@ abbrev pub told_window : Window → target.Machine → Window
 told_window window t = moved window (serial t.session.exp_cmd_sn) (serial (max_cmd_sn t))
 
 -- one part that is due
-part_heard : (m : initiator.Machine) (t : target.Machine) (r : Reading) (window : Window) (part : List ℕ × Bool)
+part_received : (m : initiator.Machine) (t : target.Machine) (r : Reading) (window : Window) (part : List ℕ × Bool)
     → length part.0 ≤ m.held.initiator_max_recv → length r.received + length part.0 ≤ r.expected
     → step (reading m r window) (message (data_in_head t.session (target.waiting t.tasks) m.initiator_task_tag r.next_data_sn (length r.received) part.1)
     part.0)
     ≡ quiet (reading m (record r { received = r.received ++ part.0; next_data_sn = next_sn r.next_data_sn }) (told_window window t))
 unfolding step segment_bytes
-part_heard m t r window part short room =
+part_received m t r window part short room =
     rw (
       eq-eqb m.initiator_task_tag m.initiator_task_tag refl,
       le-ltb m.held.initiator_max_recv (length part.0) short,
@@ -96,7 +96,7 @@ pub next_small : (n : ℕ) → n + 1 < 2 ^ 32 → next_sn n ≡ n + 1
 next_small n lt = mod-eq_of_lt lt
 
 -- parts that are due, one behind the other
-record PartsHeard (m : initiator.Machine) (t : target.Machine) (r : Reading) (window : Window) (given : Parts) (more : List Message) : Type 0 where
+record PartsReceived (m : initiator.Machine) (t : target.Machine) (r : Reading) (window : Window) (given : Parts) (more : List Message) : Type 0 where
   told : Window
   -- what each told window keeps is kept
   kept : (n : ℕ) → ((w : Window) → IsNear n w → IsNear n (told_window w t)) → IsNear n window → IsNear n told
@@ -110,11 +110,11 @@ record PartsHeard (m : initiator.Machine) (t : target.Machine) (r : Reading) (wi
 abbrev AreShort : ℕ → Parts → Type 0
 AreShort most given = AllByRecursion (λ part. length part.0 ≤ most) given
 
-parts_heard : (m : initiator.Machine) (t : target.Machine) (r : Reading) (window : Window) (given : Parts) (more : List Message)
+parts_received : (m : initiator.Machine) (t : target.Machine) (r : Reading) (window : Window) (given : Parts) (more : List Message)
     → m.done ≡ None → AreShort m.held.initiator_max_recv given → length r.received + length (bytes_of given) ≤ r.expected
     → r.next_data_sn + length given < 2 ^ 32
-    → PartsHeard m t r window given more
-parts_heard m t r window [] more none short room few =
+    → PartsReceived m t r window given more
+parts_received m t r window [] more none short room few =
     let same : r ≡ record { expected = r.expected; received = r.received ++ []; next_data_sn = r.next_data_sn + 0 } =
     λ i. record {
       expected = r.expected;
@@ -127,12 +127,12 @@ parts_heard m t r window [] more none short room few =
       kept = λ n keeps near. near;
       leads = λ held s disk x l. subst (λ (y : Reading). LeadsTo held (between (reading m y window) s disk more) x) (sym same) l;
     }
-parts_heard m t r window (part ∷ given) more none short room few =
+parts_received m t r window (part ∷ given) more none short room few =
     let r' : Reading = record { expected = r.expected; received = r.received ++ part.0; next_data_sn = r.next_data_sn + 1 } in
     let room' : length r.received + length part.0 ≤ r.expected = omega (arith, room, length-append part.0 (bytes_of given)) in
     let sn : next_sn r.next_data_sn ≡ r.next_data_sn + 1 = next_small r.next_data_sn (omega (arith, few)) in
-    let h : PartsHeard m t r' (told_window window t) given more =
-    parts_heard m t r' (told_window window t) given more none short.1 (omega (
+    let h : PartsReceived m t r' (told_window window t) given more =
+    parts_received m t r' (told_window window t) given more none short.1 (omega (
       arith,
       room,
       length-append part.0 (bytes_of given),
@@ -140,7 +140,7 @@ parts_heard m t r window (part ∷ given) more none short room few =
     )) (omega (arith, few)) in
     let one : step (reading m r window) (message (data_in_head t.session (target.waiting t.tasks) m.initiator_task_tag r.next_data_sn (length r.received)
     part.1) part.0) ≡ quiet (reading m r' (told_window window t)) =
-    part_heard m t r window part short.0 room'
+    part_received m t r window part short.0 room'
     ∙ ap (λ (n : ℕ). quiet (reading m (record r { received = r.received ++ part.0; next_data_sn = n }) (told_window window t))) sn in
     let same : record r' { received = r'.received ++ bytes_of given; next_data_sn = r'.next_data_sn + length given } ≡ record r {
       received =
@@ -155,7 +155,7 @@ parts_heard m t r window (part ∷ given) more none short room few =
     record {
       told = h.told;
       kept = λ n keeps near. h.kept n keeps (keeps window near);
-      leads = λ held s disk x l. hears_quiet held (reading m r window) (reading m r' (told_window window t)) s disk
+      leads = λ held s disk x l. receives_quiet held (reading m r window) (reading m r' (told_window window t)) s disk
           (message (data_in_head t.session (target.waiting t.tasks) m.initiator_task_tag r.next_data_sn (length r.received) part.1) part.0)
           (data_ins t.session (target.waiting t.tasks) m.initiator_task_tag (r.next_data_sn + 1) (length r.received + length part.0) given ++ more) x one refl
           refl none
@@ -213,7 +213,7 @@ given_few : (held : Held) (bytes : List ℕ) → 0 < max_burst held → 0 < held
 given_few held bytes burst most =
     omega (arith, runs_few held (chunks (max_burst held) bytes) most, ap (λ (x : List ℕ). length x) (joined_chunks (max_burst held) bytes burst))
 
--- ---- the initiator hears the response
+-- ---- the initiator receives the response
 
 -- an initiator whose command has this outcome
 abbrev pub finished : initiator.Machine → target.Machine → Window → Outcome → List ℕ → initiator.Machine
@@ -233,14 +233,15 @@ waiting m open_ window = record m { phase = phases.Full; outstanding = Some open
 abbrev pub Awaits : Outstanding → List ℕ → Type 0
 Awaits open_ received = (h : ScsiResponse) → due_to (Some open_) (heads.ScsiResponse h) ≡ Some (Response received h)
 
-pub outcome_heard : (m : initiator.Machine) (t : target.Machine) (open_ : Outstanding) (received : List ℕ) (window : Window) (status : ℕ) (sense : Option Sense)
+pub outcome_received : (m : initiator.Machine) (t : target.Machine) (open_ : Outstanding) (received : List ℕ) (window : Window) (status : ℕ) (sense : Option
+    Sense)
     (bytes : List ℕ) (residual : Residual) (count : ℕ)
     → Awaits open_ received → m.exp_stat_sn ≡ Some t.session.stat_sn → 20 ≤ m.held.initiator_max_recv
     → (let outcome : Outcome = record { status = status; sense = sense; bytes = bytes; residual = residual } in
     step (waiting m open_ window) (message (response_head t.session (target.waiting t.tasks) m.initiator_task_tag outcome count) (sense_segment sense))
     ≡ quiet (finished m t window outcome received))
 unfolding step segment_bytes
-outcome_heard m t open_ received window status None bytes Exact count d e le =
+outcome_received m t open_ received window status None bytes Exact count d e le =
     rw (
       eq-eqb m.initiator_task_tag m.initiator_task_tag refl,
       d _,
@@ -248,7 +249,7 @@ outcome_heard m t open_ received window status None bytes Exact count d e le =
       e,
       eq-eqb t.session.stat_sn t.session.stat_sn refl,
     ) refl
-outcome_heard m t open_ received window status None bytes (Under n) count d e le =
+outcome_received m t open_ received window status None bytes (Under n) count d e le =
     rw (
       eq-eqb m.initiator_task_tag m.initiator_task_tag refl,
       d _,
@@ -256,7 +257,7 @@ outcome_heard m t open_ received window status None bytes (Under n) count d e le
       e,
       eq-eqb t.session.stat_sn t.session.stat_sn refl,
     ) refl
-outcome_heard m t open_ received window status None bytes (Over n) count d e le =
+outcome_received m t open_ received window status None bytes (Over n) count d e le =
     rw (
       eq-eqb m.initiator_task_tag m.initiator_task_tag refl,
       d _,
@@ -264,18 +265,18 @@ outcome_heard m t open_ received window status None bytes (Over n) count d e le 
       e,
       eq-eqb t.session.stat_sn t.session.stat_sn refl,
     ) refl
-outcome_heard m t open_ received window status (Some sense) bytes Exact count d e le =
+outcome_received m t open_ received window status (Some sense) bytes Exact count d e le =
     rw (eq-eqb m.initiator_task_tag m.initiator_task_tag refl, d _, le-ltb m.held.initiator_max_recv 20 le, e, eq-eqb t.session.stat_sn t.session.stat_sn refl)
     refl
-outcome_heard m t open_ received window status (Some sense) bytes (Under n) count d e le =
+outcome_received m t open_ received window status (Some sense) bytes (Under n) count d e le =
     rw (eq-eqb m.initiator_task_tag m.initiator_task_tag refl, d _, le-ltb m.held.initiator_max_recv 20 le, e, eq-eqb t.session.stat_sn t.session.stat_sn refl)
     refl
-outcome_heard m t open_ received window status (Some sense) bytes (Over n) count d e le =
+outcome_received m t open_ received window status (Some sense) bytes (Over n) count d e le =
     rw (eq-eqb m.initiator_task_tag m.initiator_task_tag refl, d _, le-ltb m.held.initiator_max_recv 20 le, e, eq-eqb t.session.stat_sn t.session.stat_sn refl)
     refl
 
 -- what the target answers to a read
-record ReadHeard (m : initiator.Machine) (t : target.Machine) (r : Reading) (window : Window) (outcome : Outcome) : Type 0 where
+record ReadReceived (m : initiator.Machine) (t : target.Machine) (r : Reading) (window : Window) (outcome : Outcome) : Type 0 where
   told : Window
   kept : (n : ℕ) → ((w : Window) → IsNear n w → IsNear n (told_window w t)) → IsNear n window → IsNear n told
   leads : (held : Held) (s : target.Machine) (disk : Disk) (x : Exchange) → LeadsTo held (between (finished m t told outcome outcome.bytes) s disk []) x
@@ -297,25 +298,26 @@ are_given held bytes is =
       few = given_few held bytes (can_give held is).burst most;
     }
 
-read_heard : (m : initiator.Machine) (t : target.Machine) (window : Window) (outcome : Outcome) (expected : ℕ) → t.session.held ≡ m.held → IsHeld m.held
+read_received : (m : initiator.Machine) (t : target.Machine) (window : Window) (outcome : Outcome) (expected : ℕ) → t.session.held ≡ m.held → IsHeld m.held
     → m.exp_stat_sn ≡ Some t.session.stat_sn → m.done ≡ None
-    → length outcome.bytes ≤ expected → expected < 2 ^ 32 → ReadHeard m t (record { expected = expected; received = []; next_data_sn = 0 }) window outcome
-read_heard m t window outcome expected held is_held stat_sn none room small =
+    → length outcome.bytes ≤ expected → expected < 2 ^ 32 → ReadReceived m t (record { expected = expected; received = []; next_data_sn = 0 }) window outcome
+read_received m t window outcome expected held is_held stat_sn none room small =
     let r : Reading = record { expected = expected; received = []; next_data_sn = 0 } in
     let g : AreGiven t.session.held outcome.bytes = are_given t.session.held outcome.bytes (subst IsHeld (sym held) is_held) in
     let given : Parts = data_in_parts t.session.held outcome.bytes in
     let last : Message = message (response_head t.session (target.waiting t.tasks) m.initiator_task_tag outcome (length given)) (sense_segment outcome.sense) in
-    let h : PartsHeard m t r window given (last ∷ []) =
-    parts_heard m t r window given (last ∷ []) none (subst (λ (k : Held). AreShort k.initiator_max_recv given) held g.short)
+    let h : PartsReceived m t r window given (last ∷ []) =
+    parts_received m t r window given (last ∷ []) none (subst (λ (k : Held). AreShort k.initiator_max_recv given) held g.short)
     (omega (arith, room, ap (λ (x : List ℕ). length x) g.all)) (omega (arith, g.few, room, small)) in
     let r' : Reading = record { expected = expected; received = bytes_of given; next_data_sn = 0 + length given } in
-    let one = outcome_heard m t (opens.In r') r'.received h.told outcome.status outcome.sense outcome.bytes outcome.residual (length given) (λ h. refl) stat_sn
+    let one = outcome_received m t (opens.In r') r'.received h.told outcome.status outcome.sense outcome.bytes outcome.residual (length given) (λ h. refl)
+        stat_sn
     (omega (arith, is_held.initiator_max_recv.0)) in
     record {
       told = h.told;
       kept = h.kept;
       leads = λ k s disk x l. h.leads k s disk x
-          (hears_quiet k (reading m r' h.told) (finished m t h.told outcome (bytes_of given)) s disk last [] x one refl refl none
+          (receives_quiet k (reading m r' h.told) (finished m t h.told outcome (bytes_of given)) s disk last [] x one refl refl none
           (subst (λ (y : List ℕ). LeadsTo k (between (finished m t h.told outcome y) s disk []) x) (sym g.all) l));
     }
 
@@ -550,7 +552,8 @@ local_read m t disk lun cdb expected on_ size are a e =
     let tag : next_tag m.initiator_task_tag ≤ 0xffff_fffe = tag_after m.initiator_task_tag a.tag_fits in
     let room : length after.outcome.bytes ≤ expected = outcome_few (plan_of order disk.count) disk order expected
     (λ n. gives_few (first_refusal order disk.count) order disk.count n) in
-    let h : ReadHeard begun_ t' r0 m.window after.outcome = read_heard begun_ t' m.window after.outcome expected a.held a.is_held a.stat_sn a.none_done room
+    let h : ReadReceived begun_ t' r0 m.window after.outcome = read_received begun_ t' m.window after.outcome expected a.held a.is_held a.stat_sn a.none_done
+        room
     (omega (arith, few)) in
     let last : Exchange = record {
       initiator = finished begun_ t' h.told after.outcome after.outcome.bytes;
@@ -578,7 +581,8 @@ local_read m t disk lun cdb expected on_ size are a e =
     (omega (arith, few)) a.cmd_sn_fits (stat_sn_sent m t a) (omega arith))
     (short_message (read_command m lun cdb expected).head [] m.held.target_max_recv (omega arith)) in
     record {
-      heard = heard_by m.held t disk (submitted m request).output executed r (subst (λ (s : Submitted). ArePlain m.held.target_max_recv s.output) (sym sent)
+      received = received_by m.held t disk (submitted m request).output executed r (subst (λ (s : Submitted). ArePlain m.held.target_max_recv s.output) (sym
+          sent)
           written) refl refl
           (subst (λ (k : Held). ArePlain k.initiator_max_recv executed.answers) a.held
           (command_written t' (next_tag m.initiator_task_tag) after.outcome (subst IsHeld (sym a.held) a.is_held) (omega (arith, tag)) fits a.stat_sn_fits

@@ -67,9 +67,10 @@ use Rattle.iscsi_pair.proofs.Wire.WindowLemmas.{IsNear, last_with, near_next, te
 use Rattle.iscsi_pair.proofs.Login.RoundAgrees.{some_then}
 use Rattle.iscsi_pair.proofs.Wire.WrittenPdus.{command_readable, data_out_readable, ready_readable}
 use Rattle.iscsi_pair.proofs.Wire.OutcomeRanges.{outcome_fits}
-use Rattle.iscsi_pair.proofs.Request.AnswersInOrder.{AreHeard, ArePlain, Begins, Ends, LeadsTo, heard_by, hears_quiet, hears_sends, plain_more, plain_one}
+use Rattle.iscsi_pair.proofs.Request.AnswersInOrder.{AreReceived, ArePlain, Begins, Ends, LeadsTo}
+use Rattle.iscsi_pair.proofs.Request.AnswersInOrder.{received_by, receives_quiet, receives_sends, plain_more, plain_one}
 use Rattle.iscsi_pair.proofs.Request.AnswersInOrder.{short_message}
-use Rattle.iscsi_pair.proofs.Request.ReadLemmas.{counted_on, Awaits, command_written, finished, in_step_again, next_small, not_long, outcome_heard, ready}
+use Rattle.iscsi_pair.proofs.Request.ReadLemmas.{counted_on, Awaits, command_written, finished, in_step_again, next_small, not_long, outcome_received, ready}
 use Rattle.iscsi_pair.proofs.Request.ReadLemmas.{stat_sn_sent, submitted_is, told_window, unrefused, waiting, window_now}
 use Rattle.std.proofs.Math.Bool.{and-false}
 use Rattle.iscsi_pair.proofs.Request.Invariant.{between}
@@ -331,7 +332,7 @@ batch_taken t cmd_sn w disk h (b ∷ bytes) end due s is_due at tag lt limit som
     (pieces_are (length (b ∷ bytes)) most (b ∷ bytes) lt) limit
     (ap (λ (x : List ℕ). received w + length x) whole ∙ up) room)
 
--- ---- the initiator hears an R2T
+-- ---- the initiator receives an R2T
 
 abbrev writing : initiator.Machine → Writing → Window → initiator.Machine
 writing m v window = waiting m (opens.Out v) window
@@ -340,14 +341,14 @@ writing m v window = waiting m (opens.Out v) window
 abbrev asked_for : initiator.Machine → Writing → Write → ℕ → List Message
 asked_for m v w n = sequence m (then_some (is_tag w.r2t_count) w.order.lun) w.r2t_count v.sent (take n (drop v.sent v.bytes))
 
-ready_heard : (m : initiator.Machine) (t : target.Machine) (v : Writing) (w : Write) (window : Window) → w.initiator_task_tag ≡ m.initiator_task_tag
+ready_received : (m : initiator.Machine) (t : target.Machine) (v : Writing) (w : Write) (window : Window) → w.initiator_task_tag ≡ m.initiator_task_tag
     → w.r2t_count ≡ v.next_r2t_sn → received w ≡ v.sent
     → 1 ≤ desired t.session.held w → desired t.session.held w ≤ max_burst m.held → v.sent + desired t.session.held w ≤ length v.bytes
     → step (writing m v window) (message (r2t_head t.session (target.waiting t.tasks) w) [])
     ≡ sends (writing m (record v { sent = v.sent + desired t.session.held w; next_r2t_sn = next_sn v.next_r2t_sn }) (told_window window t))
     (asked_for m v w (desired t.session.held w))
 unfolding step segment_bytes
-ready_heard m t v w window tag r2t_count at some most room =
+ready_received m t v w window tag r2t_count at some most room =
     rw (
       eq-eqb w.initiator_task_tag m.initiator_task_tag tag,
       le-ltb m.held.initiator_max_recv 0 (omega arith),
@@ -428,7 +429,7 @@ response_ends m t cmd_sn open_ window bytes order disk tag pieces_ a near d same
     let ended_ : initiator.Machine = finished m s window after.outcome [] in
     let last : Exchange = record { initiator = ended_; target = counted_on s; disk = after.disk; answers = [] } in
     let one : step (waiting m open_ window) response ≡ quiet ended_ =
-    outcome_heard m s open_ [] window after.outcome.status after.outcome.sense after.outcome.bytes after.outcome.residual 0 d a.stat_sn
+    outcome_received m s open_ [] window after.outcome.status after.outcome.sense after.outcome.bytes after.outcome.residual 0 d a.stat_sn
     (omega (arith, a.is_held.initiator_max_recv.0)) in
     let is : (execute reliable s disk tag order pieces_).answers ≡ response ∷ [] =
     ap (λ (x : Effect). command_answers s.session (target.waiting s.tasks) tag x.outcome (data_in_parts s.session.held x.outcome.bytes)) data_
@@ -445,7 +446,7 @@ response_ends m t cmd_sn open_ window bytes order disk tag pieces_ a near d same
           last)
           (sym is)
           (subst (λ (x : Disk). LeadsTo m.held (between (waiting m open_ window) (counted_on s) x (response ∷ [])) last) (sym disk_is)
-          (hears_quiet m.held (waiting m open_ window) ended_ (counted_on s) after.disk response [] last one refl refl a.none_done (0, refl)));
+          (receives_quiet m.held (waiting m open_ window) ended_ (counted_on s) after.disk response [] last one refl refl a.none_done (0, refl)));
       ended = record {
         done_is = ap (λ (x : List ℕ). Some (done.Command 0 after.outcome.status (reported_sense after.outcome.sense) x after.outcome.residual))
             (sym a.none_given);
@@ -459,18 +460,18 @@ response_ends m t cmd_sn open_ window bytes order disk tag pieces_ a near d same
     }
 
 -- what stays throughout a write: both ends as they were, the command's number and order, and the disk
-record Course : Type 0 where
+record WriteExchange : Type 0 where
   initiator : initiator.Machine
   target : target.Machine
   cmd_sn : ℕ
   order : Order
   disk : Disk
 
-abbrev course : initiator.Machine → target.Machine → ℕ → Order → Disk → Course
-course m t cmd_sn order disk = record { initiator = m; target = t; cmd_sn = cmd_sn; order = order; disk = disk }
+abbrev write_exchange : initiator.Machine → target.Machine → ℕ → Order → Disk → WriteExchange
+write_exchange m t cmd_sn order disk = record { initiator = m; target = t; cmd_sn = cmd_sn; order = order; disk = disk }
 
 -- the write goes on from where all that was due came
-abbrev GoesOn : Course → Writing → Write → Window → Type 0
+abbrev GoesOn : WriteExchange → Writing → Write → Window → Type 0
 GoesOn c v w window =
     Ends c.initiator.held (writing c.initiator v window) (proceed reliable (ready c.target c.cmd_sn) c.disk w)
     (local_command (effect c.disk c.order v.bytes))
@@ -511,7 +512,7 @@ proceed_written m t cmd_sn v w order disk a i false part =
 
 all_came : (m : initiator.Machine) (t : target.Machine) (cmd_sn : ℕ) (v : Writing) (w : Write) (window : Window) (order : Order) (disk : Disk)
     → Throughout m t cmd_sn v.bytes order disk → IsNear cmd_sn window → InHand m v w order
-    → is_whole w ≡ true → GoesOn (course m t cmd_sn order disk) v w window
+    → is_whole w ≡ true → GoesOn (write_exchange m t cmd_sn order disk) v w window
 all_came m t cmd_sn v w window order disk a near i whole =
     let all : v.sent ≡ length v.bytes = sym (received_is m v w order i) ∙ sym (eqb-true w.total (received w) whole) ∙ i.total in
     let bytes : data_of w.pieces ≡ v.bytes = i.came ∙ take_all v.sent v.bytes (omega (arith, all)) in
@@ -534,7 +535,7 @@ abbrev more_came : target.Machine → Write → Pieces → Write
 more_came t w came = record (with_r2t t.session.held w) { pieces = came; due = Nothing }
 
 -- where one turn leads
-record Turned (c : Course) (v : Writing) (w : Write) (window : Window) : Type 0 where
+record Turned (c : WriteExchange) (v : Writing) (w : Write) (window : Window) : Type 0 where
   window_now : Window
   near : IsNear c.cmd_sn window → IsNear c.cmd_sn window_now
   came : Pieces
@@ -548,7 +549,7 @@ record Turned (c : Course) (v : Writing) (w : Write) (window : Window) : Type 0 
 
 turn : (m : initiator.Machine) (t : target.Machine) (cmd_sn : ℕ) (v : Writing) (w : Write) (window : Window) (order : Order) (disk : Disk)
     → Throughout m t cmd_sn v.bytes order disk → InHand m v w order
-    → is_whole w ≡ false → Turned (course m t cmd_sn order disk) v w window
+    → is_whole w ≡ false → Turned (write_exchange m t cmd_sn order disk) v w window
 turn m t cmd_sn v w window order disk a i part =
     let at : received w ≡ v.sent = received_is m v w order i in
     let left : v.sent < length v.bytes = (let lt = below (received w) w.total part (omega (arith, at, i.total, i.sent)) in omega (arith, lt, at, i.total)) in
@@ -562,7 +563,7 @@ turn m t cmd_sn v w window order disk a i part =
     let size : length batch ≡ n = omega (arith, length-take n (drop v.sent v.bytes), length-drop v.sent v.bytes, room) in
     let out : List Message = asked_for m v w n in
     let one : step (writing m v window) (message (r2t_head s.session (target.waiting s.tasks) w) []) ≡ sends (writing m (more_sent v n) (told_window window s))
-    out = ready_heard m s v w window i.tag i.r2t_count at some most room in
+    out = ready_received m s v w window i.tag i.r2t_count at some most room in
     let h : DataOut = record {
       is_final = false;
       lun = then_some (is_tag w.r2t_count) w.order.lun;
@@ -598,8 +599,8 @@ turn m t cmd_sn v w window order disk a i part =
     let now : Stepped = proceed reliable (ready t cmd_sn) disk (more_came t w r.came) in
     let then_ : IsAnswered m.held now = proceed_written m t cmd_sn (more_sent v n) (more_came t w r.came) order disk a hand_ (is_whole (more_came t w r.came))
     refl in
-    let heard : AreHeard m.held (writer t cmd_sn (with_r2t t.session.held w)) disk out =
-    heard_by m.held (writer t cmd_sn (with_r2t t.session.held w)) disk out now sent_ written then_.live then_.rule then_.answered in
+    let are_received : AreReceived m.held (writer t cmd_sn (with_r2t t.session.held w)) disk out =
+    received_by m.held (writer t cmd_sn (with_r2t t.session.held w)) disk out now sent_ written then_.live then_.rule then_.answered in
     record {
       window_now = told_window window s;
       near = λ near. subst (λ (x : ℕ). IsNear cmd_sn (moved window (serial cmd_sn) (serial (last_with cmd_sn x)))) (sym (one_waits w i.waits))
@@ -610,21 +611,21 @@ turn m t cmd_sn v w window order disk a i part =
       hand = hand_;
       leads = λ x l. subst (λ (y : Stepped). LeadsTo m.held (between (writing m v window) y.machine y.disk y.answers) x)
           (sym (part_is m t cmd_sn v w order disk i part))
-          (hears_sends m.held (writing m v window) (writing m (more_sent v n) (told_window window s)) (writer t cmd_sn (with_r2t t.session.held w)) disk
-          (message (r2t_head s.session (target.waiting s.tasks) w) []) out now x one refl refl a.none_done heard sent_ l);
+          (receives_sends m.held (writing m v window) (writing m (more_sent v n) (told_window window s)) (writer t cmd_sn (with_r2t t.session.held w)) disk
+          (message (r2t_head s.session (target.waiting s.tasks) w) []) out now x one refl refl a.none_done are_received sent_ l);
     }
 
 -- from turn to turn until all came
 goes_on : (fuel : ℕ) (m : initiator.Machine) (t : target.Machine) (cmd_sn : ℕ) (v : Writing) (w : Write) (window : Window) (order : Order) (disk : Disk)
     → Throughout m t cmd_sn v.bytes order disk → IsNear cmd_sn window → InHand m v w order
-    → length v.bytes ≤ v.sent + fuel → (whole : Bool) → is_whole w ≡ whole → GoesOn (course m t cmd_sn order disk) v w window
+    → length v.bytes ≤ v.sent + fuel → (whole : Bool) → is_whole w ≡ whole → GoesOn (write_exchange m t cmd_sn order disk) v w window
 goes_on fuel m t cmd_sn v w window order disk a near i le true whole = all_came m t cmd_sn v w window order disk a near i whole
 goes_on zero m t cmd_sn v w window order disk a near i le false part =
     absurd (eqb-false w.total (received w) part (omega (arith, i.total, received_is m v w order i, i.sent, le)))
 goes_on (suc fuel) m t cmd_sn v w window order disk a near i le false part =
-    let x : Turned (course m t cmd_sn order disk) v w window = turn m t cmd_sn v w window order disk a i part in
+    let x : Turned (write_exchange m t cmd_sn order disk) v w window = turn m t cmd_sn v w window order disk a i part in
     let w' : Write = more_came t w x.came in
-    let e : GoesOn (course m t cmd_sn order disk) (more_sent v x.n) w' x.window_now =
+    let e : GoesOn (write_exchange m t cmd_sn order disk) (more_sent v x.n) w' x.window_now =
     goes_on fuel m t cmd_sn (more_sent v x.n) w' x.window_now order disk a (x.near near) x.hand (omega (arith, le, x.some)) (is_whole w') refl in
     record {
       last = e.last;
@@ -1040,7 +1041,8 @@ local_write m t disk lun cdb bytes on_ size are a e =
     let short_ : length (immediate m bytes) ≤ most = subst (λ (h : Held). length (immediate m bytes) ≤ h.target_max_recv) a.held short in
     let written : ArePlain most (write_message m lun cdb bytes ∷ unasked_data m bytes) =
     plain_more most (write_message m lun cdb bytes) (unasked_data m bytes)
-    (λ logins. command_readable logins m (not (has_more m bytes)) false (not (length bytes == 0)) lun cdb (immediate m bytes) (length bytes) on_ size are a.tag_fits (omega (arith, few)) a.cmd_sn_fits
+    (λ logins. command_readable logins m (not (has_more m bytes)) false (not (length bytes == 0)) lun cdb (immediate m bytes) (length bytes) on_ size are
+        a.tag_fits (omega (arith, few)) a.cmd_sn_fits
     (stat_sn_sent m t a) (omega (arith, short_, a.is_held.target_max_recv.1)))
     (short_message (write_message m lun cdb bytes).head (immediate m bytes) most short_)
     (sequence_written (begun_write m) None reserved_tag (length (immediate m bytes)) (initiator_writes.unsolicited m bytes) a.is_held all.tag_fits
@@ -1048,7 +1050,8 @@ local_write m t disk lun cdb bytes on_ size are a e =
     (omega (arith, first_few m bytes, few))) in
     let ends_ : Ends m.held i r (local_command after) = record { last = x.1.last; leads = x.1.leads; ended = x.1.ended } in
     record {
-      heard = heard_by m.held t disk (submitted m request).output r is (subst (λ (s : Submitted). ArePlain most s.output) (sym sent) written) x.0.live x.0.rule
+      received = received_by m.held t disk (submitted m request).output r is (subst (λ (s : Submitted). ArePlain most s.output) (sym sent) written) x.0.live
+          x.0.rule
           x.0.answered;
       ends = subst (λ (s : Submitted). Ends m.held s.machine (answers t disk (submitted m request).output) (local_command after)) (sym sent)
           (subst (λ (k : initiator.Machine). Ends m.held k (answers t disk (submitted m request).output) (local_command after)) (sym is_m)

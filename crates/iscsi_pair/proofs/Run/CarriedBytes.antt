@@ -32,7 +32,7 @@ use Rattle.iscsi_initiator.specs.Steps as initiator_steps
 use Rattle.iscsi_initiator.specs.Machine.{step, steps}
 use Rattle.iscsi_initiator.specs.Calls as calls
 use Rattle.iscsi_pair.specs.World.{World, Opening, TargetReceives, MovesToTarget, store_of, target_ran_out}
-use Rattle.iscsi_pair.proofs.Request.Invariant.{AreWritten, IsOpenFor, HearsWell, History, Relation, Sends, Goes, IsKept, written_append, between, so_far}
+use Rattle.iscsi_pair.proofs.Request.Invariant.{AreWritten, IsOpenFor, ReceivesWell, History, Relation, Sends, Goes, IsKept, written_append, between, so_far}
 use Rattle.iscsi_pair.proofs.Request.Invariant.{SoFar, limits, limits_of, Limits}
 use Rattle.iscsi_pair.proofs.Login.NoFailure.{both_none}
 use Rattle.iscsi_pair.proofs.Run.QueueReading.{after_all_append, written_parts, refuses_nothing, Unread, Way, MovesOn, moves_on, still_unread, none_more}
@@ -72,26 +72,26 @@ open_none t disk (m ∷ ms) p over = absurd (apart over p.0)
 
 -- What both ends keep, where the target has yet to receive these messages and the initiator those.
 pub record Talks (most : ℕ) (P : Relation) (x : Exchange) (out : List Message) (s : SoFar) : Type 0 where
-  pub heard : HearsWell most x.target x.disk s.here out
+  pub received : ReceivesWell most x.target x.disk s.here out
   pub kept : (let r = answers x.target x.disk out in
       P (between x.initiator r.machine r.disk (x.answers ++ r.answers)) (record s { here = after_all s.here r.answers }))
 
 -- the initiator sends more
 pub talk_on : (most_out most : ℕ) (P : Relation) (i : initiator.Machine) (t : target.Machine) (disk : Disk) (out more back : List Message) (there here : Logins)
-    (h : History) → HearsWell most t disk here out
+    (h : History) → ReceivesWell most t disk here out
     → Sends (limits most_out most) P (between i (answers t disk out).machine (answers t disk out).disk (back ++ (answers t disk out).answers)) more
     (so_far there (after_all here (answers t disk out).answers) h)
     → Talks most P (between i t disk back) (out ++ more) (so_far (after_all there more) here h)
-talk_on most_out most P i t disk out more back there here h heard s =
+talk_on most_out most P i t disk out more back there here h received s =
     let a : target.Stepped = answers t disk out in
     let b : target.Stepped = answers a.machine a.disk more in
     let e : answers t disk (out ++ more) ≡ then_stepped a b = answers_append t disk out more in
     record {
-      heard = record {
-        open_ = open_joined t disk out more heard.open_ s.heard.open_;
-        rule = ap (λ (r : target.Stepped). r.rule) e ∙ rules_none a.rule b.rule heard.rule s.heard.rule;
-        answered = subst (λ (r : target.Stepped). AreWritten most here r.answers) (sym e) (written_append most here a.answers b.answers heard.answered
-            s.heard.answered);
+      received = record {
+        open_ = open_joined t disk out more received.open_ s.received.open_;
+        rule = ap (λ (r : target.Stepped). r.rule) e ∙ rules_none a.rule b.rule received.rule s.received.rule;
+        answered = subst (λ (r : target.Stepped). AreWritten most here r.answers) (sym e) (written_append most here a.answers b.answers received.answered
+            s.received.answered);
       };
       kept = subst (λ (r : target.Stepped). P (between i r.machine r.disk (back ++ r.answers)) (so_far (after_all there more) (after_all here r.answers) h))
           (sym e)
@@ -102,27 +102,27 @@ talk_on most_out most P i t disk out more back there here h heard s =
     }
 
 -- what holds where the target has received the first of them, and answered so
-record HasHeard (most : ℕ) (P : Relation) (x : Exchange) (r : target.Stepped) (left : List Message) (s : SoFar) : Type 0 where
+record HasReceived (most : ℕ) (P : Relation) (x : Exchange) (r : target.Stepped) (left : List Message) (s : SoFar) : Type 0 where
   rule : r.rule ≡ None
   written : AreWritten most s.here r.answers
   talks : Talks most P (between x.initiator r.machine r.disk (x.answers ++ r.answers)) left (record s { here = after_all s.here r.answers })
 
 -- the target receives the first of them
-target_heard : (most : ℕ) (P : Relation) (i : initiator.Machine) (t : target.Machine) (disk : Disk) (new left back : List Message) (there here : Logins)
+target_received : (most : ℕ) (P : Relation) (i : initiator.Machine) (t : target.Machine) (disk : Disk) (new left back : List Message) (there here : Logins)
     (h : History)
     → Talks most P (between i t disk back) (new ++ left) (so_far there here h)
-    → HasHeard most P (between i t disk back) (answers t disk new) left (so_far there here h)
-target_heard most P i t disk new left back there here h s =
+    → HasReceived most P (between i t disk back) (answers t disk new) left (so_far there here h)
+target_received most P i t disk new left back there here h s =
     let a : target.Stepped = answers t disk new in
     let b : target.Stepped = answers a.machine a.disk left in
     let e : answers t disk (new ++ left) ≡ then_stepped a b = answers_append t disk new left in
-    let rule = rule_parts a.rule b.rule (ap (λ (r : target.Stepped). r.rule) (sym e) ∙ s.heard.rule) in
-    let written = written_parts most here a.answers b.answers (subst (λ (r : target.Stepped). AreWritten most here r.answers) e s.heard.answered) in
+    let rule = rule_parts a.rule b.rule (ap (λ (r : target.Stepped). r.rule) (sym e) ∙ s.received.rule) in
+    let written = written_parts most here a.answers b.answers (subst (λ (r : target.Stepped). AreWritten most here r.answers) e s.received.answered) in
     record {
       rule = rule.0;
       written = written.0;
       talks = record {
-        heard = record { open_ = open_later t disk new left s.heard.open_; rule = rule.1; answered = written.1 };
+        received = record { open_ = open_later t disk new left s.received.open_; rule = rule.1; answered = written.1 };
         kept = subst (λ (l : Logins). P (between i b.machine b.disk ((back ++ a.answers) ++ b.answers)) (so_far there l h))
             (after_all_append here a.answers b.answers)
             (subst (λ (x : List Message). P (between i b.machine b.disk x) (so_far there (after_all here (a.answers ++ b.answers)) h))
@@ -136,7 +136,7 @@ none_comes : (most_out most : ℕ) (P : Relation) → IsKept (limits most_out mo
     → (i : initiator.Machine) (t : target.Machine) (disk : Disk) (back : List Message) (there here : Logins) (h : History)
     → P (between i t disk back) (so_far there here h) → is_closed i ≡ true → back ≡ []
 none_comes most_out most P k i t disk [] there here h p over = refl
-none_comes most_out most P k i t disk (m ∷ back) there here h p over = absurd (apart over (k.hears i t disk m back there here h p).live)
+none_comes most_out most P k i t disk (m ∷ back) there here h p over = absurd (apart over (k.receives i t disk m back there here h p).live)
 
 -- nothing is on its way to an initiator whose session is over, nor will be
 pub over_none : (most_out most : ℕ) (P : Relation) → IsKept (limits most_out most) P
@@ -147,22 +147,22 @@ over_none most_out most P k i t disk out back there here h s over =
     (both_none back a.answers (none_comes most_out most P k i a.machine a.disk (back ++ a.answers) there (after_all here a.answers) h s.kept over)).0
 
 -- what holds where the initiator has received some of them, and is there
-pub record HearsOn (most : Limits) (P : Relation) (x : Exchange) (r : initiator_steps.Stepped) (out : List Message) (s : SoFar) : Type 0 where
+pub record ReceivesOn (most : Limits) (P : Relation) (x : Exchange) (r : initiator_steps.Stepped) (out : List Message) (s : SoFar) : Type 0 where
   pub fault : r.fault ≡ None
   pub written : AreWritten most.out s.there r.output
   pub talks : Talks most.back P (record x { initiator = r.machine }) (out ++ r.output) (record s { there = after_all s.there r.output })
 
 -- one message more in front, by whether it closes the session
-hears_if : (over : Bool) (most_out most : ℕ) (P : Relation) → IsKept (limits most_out most) P
+receives_if : (over : Bool) (most_out most : ℕ) (P : Relation) → IsKept (limits most_out most) P
     → (i : initiator.Machine) (t : target.Machine) (disk : Disk) (out : List Message) (m : Message) (new left : List Message) (there here : Logins)
     (h : History)
     → is_closed (step i m).machine ≡ over → (step i m).fault ≡ None → AreWritten most_out there (step i m).output
     → Talks most P (between (step i m).machine t disk (new ++ left)) (out ++ (step i m).output) (so_far (after_all there (step i m).output) here h)
-    → HearsOn (limits most_out most) P (between (step i m).machine t disk left) (steps (step i m).machine new) (out ++ (step i m).output)
+    → ReceivesOn (limits most_out most) P (between (step i m).machine t disk left) (steps (step i m).machine new) (out ++ (step i m).output)
     (so_far (after_all there (step i m).output) here h)
-    → HearsOn (limits most_out most) P (between i t disk left) (steps i (m ∷ new)) out (so_far there here h)
+    → ReceivesOn (limits most_out most) P (between i t disk left) (steps i (m ∷ new)) out (so_far there here h)
 unfolding steps
-hears_if true most_out most P k i t disk out m new left there here h is fault written one r =
+receives_if true most_out most P k i t disk out m new left there here h is fault written one r =
     let none : new ++ left ≡ [] = over_none most_out most P k (step i m).machine t disk (out ++ (step i m).output) (new ++ left)
     (after_all there (step i m).output) here h one is in
     rw is (record {
@@ -172,7 +172,7 @@ hears_if true most_out most P k i t disk out m new left there here h is fault wr
           (so_far (after_all there (step i m).output) here h))
           (none ∙ sym (both_none new left none).1) one;
     })
-hears_if false most_out most P k i t disk out m new left there here h is fault written one r =
+receives_if false most_out most P k i t disk out m new left there here h is fault written one r =
     let first : List Message = (step i m).output in
     let s : initiator_steps.Stepped = steps (step i m).machine new in
     rw is (record {
@@ -186,26 +186,26 @@ hears_if false most_out most P k i t disk out m new left there here h is fault w
     })
 
 -- the initiator receives the first of them
-pub initiator_heard : (most_out most : ℕ) (P : Relation) → IsKept (limits most_out most) P
+pub initiator_received : (most_out most : ℕ) (P : Relation) → IsKept (limits most_out most) P
     → (i : initiator.Machine) (t : target.Machine) (disk : Disk) (out new left : List Message) (there here : Logins) (h : History)
     → Talks most P (between i t disk (new ++ left)) out (so_far there here h)
-    → HearsOn (limits most_out most) P (between i t disk left) (steps i new) out (so_far there here h)
+    → ReceivesOn (limits most_out most) P (between i t disk left) (steps i new) out (so_far there here h)
 unfolding steps
-initiator_heard most_out most P k i t disk out [] left there here h s =
+initiator_received most_out most P k i t disk out [] left there here h s =
     record {
       fault = refl;
       written = tt;
       talks = subst (λ (x : List Message). Talks most P (between i t disk left) x (so_far there here h))
           (sym (append-nil out)) s;
     }
-initiator_heard most_out most P k i t disk out (m ∷ new) left there here h s =
+initiator_received most_out most P k i t disk out (m ∷ new) left there here h s =
     let a : target.Stepped = answers t disk out in
     let g : Goes (limits most_out most) P (between i a.machine a.disk ((new ++ left) ++ a.answers)) m (so_far there (after_all here a.answers) h) =
-    k.hears i a.machine a.disk m ((new ++ left) ++ a.answers) there (after_all here a.answers) h s.kept in
+    k.receives i a.machine a.disk m ((new ++ left) ++ a.answers) there (after_all here a.answers) h s.kept in
     let one : Talks most P (between (step i m).machine t disk (new ++ left)) (out ++ (step i m).output) (so_far (after_all there (step i m).output) here h) =
-    talk_on most_out most P (step i m).machine t disk out (step i m).output (new ++ left) there here h s.heard g.sends in
-    hears_if (is_closed (step i m).machine) most_out most P k i t disk out m new left there here h refl g.fault g.sends.written one
-    (initiator_heard most_out most P k (step i m).machine t disk (out ++ (step i m).output) new left (after_all there (step i m).output) here h one)
+    talk_on most_out most P (step i m).machine t disk out (step i m).output (new ++ left) there here h s.received g.sends in
+    receives_if (is_closed (step i m).machine) most_out most P k i t disk out m new left there here h refl g.fault g.sends.written one
+    (initiator_received most_out most P k (step i m).machine t disk (out ++ (step i m).output) new left (after_all there (step i m).output) here h one)
 
 -- ---- worlds
 
@@ -226,7 +226,7 @@ pub record Stands (c : Opening) (P : Relation) (h : History) (w : World) : Type 
   pub disk_is : disk_of w.blocks ≡ disk
   pub to_target : Way (target_machine.is_closed session) (target_session.limit c.target) w.target.framing w.to_target out there
   pub to_initiator : Way (is_closed w.initiator.machine) (calls.limit c.initiator) w.initiator.framing w.to_initiator back here
-  pub heard : HearsWell (calls.limit c.initiator) session disk here out
+  pub received : ReceivesWell (calls.limit c.initiator) session disk here out
   pub kept : P (between w.initiator.machine (answers session disk out).machine (answers session disk out).disk (back ++ (answers session disk out).answers))
       (so_far there (after_all here (answers session disk out).answers) h)
 
@@ -237,7 +237,7 @@ Keeps c P = IsKept (limits_of c) P
 -- what both ends keep in such a world
 pub talks_of : (c : Opening) (P : Relation) (h : History) (w : World) → (s : Stands c P h w)
     → Talks (calls.limit c.initiator) P (between w.initiator.machine s.session s.disk s.back) s.out (so_far s.there s.here h)
-talks_of c P h w s = record { heard = s.heard; kept = s.kept }
+talks_of c P h w s = record { received = s.received; kept = s.kept }
 
 -- all bytes that moved were read
 pub no_bytes : (n : ℕ) (moved behind : List ℕ) → n ≡ length moved → drop n moved ++ behind ≡ behind
@@ -258,7 +258,7 @@ some_moves k queue moved e none = nil_from_length moved (let n = ap length e in 
 -- ---- bytes reach the target
 
 -- what a call of the target read, and how the rest stands
-record TargetTurn {c : Opening} {P : Relation} {h : History} {old : World} (s : Stands c P h old) (v : Framing) (unheard more : List ℕ) (r : target.Stepped)
+record TargetTurn {c : Opening} {P : Relation} {h : History} {old : World} (s : Stands c P h old) (v : Framing) (unreceived more : List ℕ) (r : target.Stepped)
     : Type 0 where
   now : target.Stepped
   same : joined_stepped r ≡ joined_stepped now
@@ -268,9 +268,9 @@ record TargetTurn {c : Opening} {P : Relation} {h : History} {old : World} (s : 
   there : Logins
   here : Logins
   talks : Talks (calls.limit c.initiator) P (between old.initiator.machine now.machine now.disk back) left (so_far there here h)
-  unread : Unread (target_session.limit c.target) v (unheard ++ more) left there
-  none : left ≡ [] → unheard ++ more ≡ []
-  refuses : (fault : StreamFault) → fault ≢ stream.NoMemory → FeedFails v unheard fault → ⊥
+  unread : Unread (target_session.limit c.target) v (unreceived ++ more) left there
+  none : left ≡ [] → unreceived ++ more ≡ []
+  refuses : (fault : StreamFault) → fault ≢ stream.NoMemory → FeedFails v unreceived fault → ⊥
   to_initiator : Way (is_closed old.initiator.machine) (calls.limit c.initiator) old.initiator.framing (old.to_initiator ++ canon now.answers) back here
 
 -- a call of the target is such a turn
@@ -285,15 +285,15 @@ target_turn c P h old new k moved result kept s u m f =
     let piece : List ℕ = take f.count moved in
     let more : List ℕ = drop f.count moved ++ drop (length moved) old.to_target in
     let q : old.to_target ≡ piece ++ more = front_moves k f.count old.to_target moved m in
-    let t : HasTaken (u.stream ++ piece) (u.heard ++ f.messages) f.framing = f.answered.taken u.stream u.heard u.taken in
+    let t : HasTaken (u.stream ++ piece) (u.received ++ f.messages) f.framing = f.answered.taken u.stream u.received u.taken in
     let bound : f.framing.limit ≡ target_session.limit c.target = f.answered.limit ∙ u.limit_is in
-    let on : MovesOn (target_session.limit c.target) u.heard s.out f.messages t.rest more =
+    let on : MovesOn (target_session.limit c.target) u.received s.out f.messages t.rest more =
     moves_on (target_session.limit c.target) old.target.framing old.to_target s.out s.there piece more f.messages f.framing u q t bound in
     let talks : Talks (calls.limit c.initiator) P (between old.initiator.machine s.session s.disk s.back) (f.messages ++ on.left) (so_far s.there s.here h) =
     subst (λ (x : List Message). Talks (calls.limit c.initiator) P (between old.initiator.machine s.session s.disk s.back) x (so_far s.there s.here h)) on.whole
     (talks_of c P h old s) in
-    let has : HasHeard (calls.limit c.initiator) P (between old.initiator.machine s.session s.disk s.back) a on.left (so_far s.there s.here h) =
-    target_heard (calls.limit c.initiator) P old.initiator.machine s.session s.disk f.messages on.left s.back s.there s.here h talks in
+    let has : HasReceived (calls.limit c.initiator) P (between old.initiator.machine s.session s.disk s.back) a on.left (so_far s.there s.here h) =
+    target_received (calls.limit c.initiator) P old.initiator.machine s.session s.disk f.messages on.left s.back s.there s.here h talks in
     record {
       now = a;
       same = ap joined_stepped (f.answered.works refl) ∙ ap (λ (x : target.Machine). joined_stepped (answers x (disk_of old.blocks) f.messages)) s.machine
@@ -306,11 +306,11 @@ target_turn c P h old new k moved result kept s u m f =
       talks = has.talks;
       unread = still_unread (target_session.limit c.target) old.target.framing old.to_target s.out s.there piece more f.messages on.left f.framing u q t bound
           f.answered.ready on.whole;
-      none = none_more (target_session.limit c.target) u.heard s.out f.messages t.rest more on;
-      refuses = λ fault some fails. refuses_nothing fault f.framing (u.stream ++ piece) (u.heard ++ f.messages) (drop f.count moved) (t.rest ++ more)
+      none = none_more (target_session.limit c.target) u.received s.out f.messages t.rest more on;
+      refuses = λ fault some fails. refuses_nothing fault f.framing (u.stream ++ piece) (u.received ++ f.messages) (drop f.count moved) (t.rest ++ more)
           (drop (length moved) old.to_target)
-          (after_all no_login (u.heard ++ f.messages)) on.left t some fails refl
-          (subst (λ (n : ℕ). ReadsAs n (after_all no_login (u.heard ++ f.messages)) (t.rest ++ more) on.left) (sym bound) on.reads);
+          (after_all no_login (u.received ++ f.messages)) on.left t some fails refl
+          (subst (λ (n : ℕ). ReadsAs n (after_all no_login (u.received ++ f.messages)) (t.rest ++ more) on.left) (sym bound) on.reads);
       to_initiator = way_sends (is_closed old.initiator.machine) (calls.limit c.initiator) old.initiator.framing old.to_initiator s.back s.here a.answers
           s.to_initiator has.written
           (λ over. (both_none s.back a.answers (over_none (target_session.limit c.target) (calls.limit c.initiator) P kept old.initiator.machine a.machine
@@ -319,12 +319,13 @@ target_turn c P h old new k moved result kept s u m f =
     }
 
 -- the target's session is where its turn has led
-target_stands : (c : Opening) (P : Relation) (h : History) (old new : World) (s : Stands c P h old) (v : Framing) (unheard more : List ℕ) (r : target.Stepped)
-    → (t : TargetTurn s v unheard more r)
+target_stands : (c : Opening) (P : Relation) (h : History) (old new : World) (s : Stands c P h old) (v : Framing) (unreceived more : List ℕ) (r :
+    target.Stepped)
+    → (t : TargetTurn s v unreceived more r)
     → new.target_fault ≡ None → new.initiator_fault ≡ None → new.target.machine ≡ joined r.machine → disk_of new.blocks ≡ r.disk → new.initiator ≡ old.initiator
     → new.to_initiator ≡ old.to_initiator ++ canon r.answers
     → Way (target_machine.is_closed t.now.machine) (target_session.limit c.target) new.target.framing new.to_target t.left t.there → Stands c P h new
-target_stands c P h old new s v unheard more r t well other machine disk initiator_ output way = record {
+target_stands c P h old new s v unreceived more r t well other machine disk initiator_ output way = record {
   target_well = well;
   initiator_well = other;
   session = t.now.machine;
@@ -339,7 +340,7 @@ target_stands c P h old new s v unheard more r t well other machine disk initiat
   to_initiator = subst (λ (i : calls.Connection). Way (is_closed i.machine) (calls.limit c.initiator) i.framing new.to_initiator t.back t.here) (sym initiator_)
       (subst (λ (x : List ℕ). Way (is_closed old.initiator.machine) (calls.limit c.initiator) old.initiator.framing x t.back t.here)
       (ap (λ (x : target.Stepped). old.to_initiator ++ canon x.answers) (sym t.same) ∙ sym output) t.to_initiator);
-  heard = t.talks.heard;
+  received = t.talks.received;
   kept = subst (λ (i : calls.Connection). P (between i.machine (answers t.now.machine t.now.disk t.left).machine (answers t.now.machine t.now.disk t.left).disk
       (t.back ++ (answers t.now.machine t.now.disk t.left).answers)) (so_far t.there (after_all t.here (answers t.now.machine t.now.disk t.left).answers) h))
       (sym initiator_) t.talks.kept;
@@ -358,7 +359,7 @@ target_ends (Ok phase) c P h old new s v n moved more r t e fault memory other d
     (elim e.3 [
       | inl closes ↦
           (let over : target_machine.is_closed t.now.machine ≡ true = sym (ap (λ (x : target.Stepped). target_machine.is_closed x.machine) t.same) ∙ closes in
-          let left : t.left ≡ [] = open_none t.now.machine t.now.disk t.left t.talks.heard.open_ over in
+          let left : t.left ≡ [] = open_none t.now.machine t.now.disk t.left t.talks.received.open_ over in
           inr (over, dropped ∙ (both_none (drop n moved) more (t.none left)).1, left))
       | inr on ↦
           inl (
@@ -375,10 +376,10 @@ target_ends (Err (target_faults.Protocol rule)) c P h old new s v n moved more r
 target_ends (Err target_faults.Closed) c P h old new s v n moved more r t e fault memory other disk initiator_ output dropped = absurd e
 
 -- bytes reached the target
-target_hears : (c : Opening) (P : Relation) (h : History) (old new : World) (k : ℕ) (byte : ℕ) (bytes : List ℕ) → Keeps c P → Stands c P h old
+target_receives : (c : Opening) (P : Relation) (h : History) (old new : World) (k : ℕ) (byte : ℕ) (bytes : List ℕ) → Keeps c P → Stands c P h old
     → byte ∷ bytes ≡ take k old.to_target
     → TargetReceives (byte ∷ bytes) old new → target_ran_out new.target_fault ≡ false → Stands c P h new
-target_hears c P h old new k byte bytes kept s m e memory =
+target_receives c P h old new k byte bytes kept s m e memory =
     elim s.to_target [
       | inl on ↦
           (let f : target_calls.Feeds (target_calls.scene old.target (store_of old.blocks) old.to_initiator) (byte ∷ bytes) e.result
@@ -401,5 +402,5 @@ pub to_target : (fault : Option TargetFault) (moved : List ℕ) (c : Opening) (P
     → Stands c P h old → fault ≡ None → moved ≡ take k old.to_target
     → MovesToTarget fault moved old new → target_ran_out new.target_fault ≡ false → Stands c P h new
 to_target fault [] c P h old new k kept s none m e memory = subst (Stands c P h) (sym e) s
-to_target None (byte ∷ bytes) c P h old new k kept s none m e memory = target_hears c P h old new k byte bytes kept s m e memory
+to_target None (byte ∷ bytes) c P h old new k kept s none m e memory = target_receives c P h old new k byte bytes kept s m e memory
 to_target (Some fault) (byte ∷ bytes) c P h old new k kept s none m e memory = absurd (cc none)

@@ -34,8 +34,8 @@ use Rattle.iscsi_pair.proofs.Login.RoundAgrees.{Asking, Asks_on, Round, asking_r
 use Rattle.iscsi_pair.proofs.Login.RoundProgress.{Suited, Well, first_suited, goes_well}
 use Rattle.iscsi_pair.proofs.Login.LoginEndsInStep.{HasMet, Meets, Numbered, first_numbered, meets}
 use Rattle.iscsi_pair.proofs.Ends.InitiatorRun.{begun}
-use Rattle.iscsi_pair.proofs.Request.Invariant.{AreWritten, Goes, HearsWell, History, IsKept, Sends, between, so_far, SoFar, limits_of}
-use Rattle.iscsi_pair.proofs.Request.AnswersInOrder.{AreHeard, Begins, Leads, LeadsTo}
+use Rattle.iscsi_pair.proofs.Request.Invariant.{AreWritten, Goes, ReceivesWell, History, IsKept, Sends, between, so_far, SoFar, limits_of}
+use Rattle.iscsi_pair.proofs.Request.AnswersInOrder.{AreReceived, Begins, Leads, LeadsTo}
 use Rattle.iscsi_pair.proofs.Request.OneRequestLaw.{begins, disk_more, is_free, outcomes_more}
 
 -- the most bytes of a segment that each end takes
@@ -117,9 +117,9 @@ written_within most more logins (m ∷ ms) le w = (
   written_within most more (after logins m.head) ms le w.1,
 )
 
-pub hears_well : (c : Opening) (held : Held) (t : target.Machine) (disk : Disk) (here : Logins) (out : List Message) → HaveAgreed c held
-    → AreHeard held t disk out → HearsWell (most_back c) t disk here out
-hears_well c held t disk here out a h = record {
+pub receives_well : (c : Opening) (held : Held) (t : target.Machine) (disk : Disk) (here : Logins) (out : List Message) → HaveAgreed c held
+    → AreReceived held t disk out → ReceivesWell (most_back c) t disk here out
+receives_well c held t disk here out a h = record {
   open_ = h.open_;
   rule = h.rule;
   answered = written_within held.initiator_max_recv (most_back c) here (answers t disk out).answers a.back_ (h.answered here);
@@ -152,7 +152,7 @@ login_sends c i out t there here r o is a s n whole =
         record { readable = asking_readable c i t there r o.opening a; short = (let short = asking_short c i t there r a in omega (arith, short)) },
         tt,
       );
-      heard = record {
+      received = record {
         open_ = (ap is_closed_phase a.logs_in.phase, tt);
         rule = ap (λ (x : target.Stepped). x.rule) all ∙ w.rule;
         answered = subst (AreWritten (most_back c) here) (sym said) (
@@ -195,7 +195,7 @@ unfolding answers local_disk local_outcomes
 full_sends c i out t there here o is met =
     subst (λ (ms : List Message). Sends (limits_of c) (Serves c) (between i t (disk_of c.blocks) []) ms (so_far there here none_asked)) (sym is) (record {
       written = tt;
-      heard = record { open_ = tt; rule = refl; answered = tt };
+      received = record { open_ = tt; rule = refl; answered = tt };
       kept = Rest (record {
         held = i.held;
         agreed = record {
@@ -251,7 +251,7 @@ serving_goes (suc n) c i t disk m back there here h v l =
       fault = l.0.fault;
       sends = record {
         written = written_within v.held.target_max_recv (most_out c) there s.output v.agreed.out (l.0.sends_.written there);
-        heard = hears_well c v.held t disk here s.output v.agreed l.0.sends_;
+        received = receives_well c v.held t disk here s.output v.agreed l.0.sends_;
         kept = Serve (record {
           held = v.held;
           agreed = v.agreed;
@@ -278,8 +278,8 @@ rest_sends c i t disk there here h request held agreed a same disk_is outcomes_a
     let b : Begins i.held i t disk request (local (pinged c) disk request) =
     subst (λ (n : ℕ). Begins i.held i t disk request (local n disk request)) most (begins i t disk request served a e) in
     record {
-      written = written_within i.held.target_max_recv (most_out c) there (submitted i request).output now.out (b.heard.written there);
-      heard = hears_well c i.held t disk here (submitted i request).output now b.heard;
+      written = written_within i.held.target_max_recv (most_out c) there (submitted i request).output now.out (b.received.written there);
+      received = receives_well c i.held t disk here (submitted i request).output now b.received;
       kept = Serve (record {
         held = i.held;
         agreed = now;
@@ -352,12 +352,13 @@ serving_done (suc n) c i t disk (m ∷ back) h d v l is = absurd (let bad : None
 
 -- ---- the relation is kept
 
-serves_hears : (c : Opening) (i : initiator.Machine) (t : target.Machine) (disk : Disk) (m : Message) (back : List Message) (there here : Logins) (h : History)
+serves_receives : (c : Opening) (i : initiator.Machine) (t : target.Machine) (disk : Disk) (m : Message) (back : List Message) (there here : Logins) (h :
+    History)
     → IsNormal c → Serves c (between i t disk (m ∷ back)) (so_far there here h)
     → Goes (limits_of c) (Serves c) (between i t disk back) m (so_far there here h)
-serves_hears c i t disk m back there here h o (Logs l) = login_goes c i t disk m back there here h o l
-serves_hears c i t disk m back there here h o (Rest r) = absurd (let bad : m ∷ back ≡ [] = r.none_back in cc)
-serves_hears c i t disk m back there here h o (Serve v) = serving_goes v.leads.0 c i t disk m back there here h v v.leads.1
+serves_receives c i t disk m back there here h o (Logs l) = login_goes c i t disk m back there here h o l
+serves_receives c i t disk m back there here h o (Rest r) = absurd (let bad : m ∷ back ≡ [] = r.none_back in cc)
+serves_receives c i t disk m back there here h o (Serve v) = serving_goes v.leads.0 c i t disk m back there here h v v.leads.1
 
 serves_asks : (c : Opening) (i : initiator.Machine) (t : target.Machine) (disk : Disk) (back : List Message) (there here : Logins) (h : History)
     (request : Request) → Serves c (between i t disk back) (so_far there here h) → IsServed request → (submitted i request).refusal ≡ None
@@ -393,7 +394,7 @@ serves_takes c i t disk back there here h d (Serve v) is =
 
 pub serves_kept : (c : Opening) → IsNormal c → IsKept (limits_of c) (Serves c)
 serves_kept c o = record {
-  hears = λ i t disk m back there here h. serves_hears c i t disk m back there here h o;
+  receives = λ i t disk m back there here h. serves_receives c i t disk m back there here h o;
   asks = λ i t disk back there here h request. serves_asks c i t disk back there here h request;
   takes = λ i t disk back there here h d. serves_takes c i t disk back there here h d;
 }

@@ -46,20 +46,21 @@ use Rattle.iscsi_pair.proofs.Login.NoFailure.{both_none}
 use Rattle.iscsi_pair.proofs.Ends.InitiatorRun.{begun, begun_open}
 use Rattle.iscsi_pair.proofs.Request.Invariant.{AreWritten, History, Relation, Sends, IsKept, between, so_far, limits_of}
 use Rattle.iscsi_pair.proofs.Run.QueueReading.{written_reads, refuses_nothing, Unread, Way, MovesOn, moves_on, still_unread, none_more, way_sends, way_none}
-use Rattle.iscsi_pair.proofs.Run.CarriedBytes.{open_none, Talks, talk_on, HearsOn, initiator_heard, over_none, Stands, Keeps, talks_of, no_bytes, front_moves}
+use Rattle.iscsi_pair.proofs.Run.CarriedBytes.{open_none, Talks, talk_on, ReceivesOn, initiator_received}
+use Rattle.iscsi_pair.proofs.Run.CarriedBytes.{over_none, Stands, Keeps, talks_of, no_bytes, front_moves}
 use Rattle.iscsi_pair.proofs.Run.CarriedBytes.{some_moves, to_target}
 
 -- ---- bytes reach the initiator
 
 -- what a call of the initiator read, and how the rest stands
-record InitiatorTurn {c : Opening} {P : Relation} {h : History} {old : World} (s : Stands c P h old) (v : Framing) (unheard more : List ℕ)
+record InitiatorTurn {c : Opening} {P : Relation} {h : History} {old : World} (s : Stands c P h old) (v : Framing) (unreceived more : List ℕ)
     (r : initiator_steps.Stepped) : Type 0 where
   fault : r.fault ≡ None
   left : List Message
   talks : Talks (calls.limit c.initiator) P (between r.machine s.session s.disk left) (s.out ++ r.output) (so_far (after_all s.there r.output) s.here h)
-  unread : is_ready v ≡ false → Unread (calls.limit c.initiator) v (unheard ++ more) left s.here
-  none : is_closed r.machine ≡ true → (left ≡ []) × (unheard ++ more ≡ [])
-  refuses : (f : StreamFault) → f ≢ stream.NoMemory → FeedFails v unheard f → ⊥
+  unread : is_ready v ≡ false → Unread (calls.limit c.initiator) v (unreceived ++ more) left s.here
+  none : is_closed r.machine ≡ true → (left ≡ []) × (unreceived ++ more ≡ [])
+  refuses : (f : StreamFault) → f ≢ stream.NoMemory → FeedFails v unreceived f → ⊥
   to_target : Way (target_machine.is_closed s.session) (target_session.limit c.target) old.target.framing (old.to_target ++ canon r.output) (s.out ++ r.output)
       (after_all s.there r.output)
 
@@ -71,7 +72,7 @@ target_way : (c : Opening) (P : Relation) (h : History) (old : World) (s : Stand
     (after_all s.there more)
 target_way c P h old s most i more back there here g talks written =
     way_sends (target_machine.is_closed s.session) (target_session.limit c.target) old.target.framing old.to_target s.out s.there more s.to_target written
-    (λ over. (both_none s.out more (open_none s.session s.disk (s.out ++ more) talks.heard.open_ over)).1)
+    (λ over. (both_none s.out more (open_none s.session s.disk (s.out ++ more) talks.received.open_ over)).1)
 
 -- a call of the initiator is such a turn
 initiator_turn : (c : Opening) (P : Relation) (h : History) (old : World) (k : ℕ) (moved : List ℕ) → Keeps c P → (s : Stands c P h old)
@@ -83,15 +84,15 @@ initiator_turn c P h old k moved kept s u m f =
     let piece : List ℕ = take f.count moved in
     let more : List ℕ = drop f.count moved ++ drop (length moved) old.to_initiator in
     let q : old.to_initiator ≡ piece ++ more = front_moves k f.count old.to_initiator moved m in
-    let t : HasTaken (u.stream ++ piece) (u.heard ++ f.messages) f.framing = f.moves u.stream u.heard u.taken in
+    let t : HasTaken (u.stream ++ piece) (u.received ++ f.messages) f.framing = f.moves u.stream u.received u.taken in
     let bound : f.framing.limit ≡ calls.limit c.initiator = f.limit ∙ u.limit_is in
-    let on : MovesOn (calls.limit c.initiator) u.heard s.back f.messages t.rest more =
+    let on : MovesOn (calls.limit c.initiator) u.received s.back f.messages t.rest more =
     moves_on (calls.limit c.initiator) old.initiator.framing old.to_initiator s.back s.here piece more f.messages f.framing u q t bound in
     let talks : Talks (calls.limit c.initiator) P (between old.initiator.machine s.session s.disk (f.messages ++ on.left)) s.out (so_far s.there s.here h) =
     subst (λ (x : List Message). Talks (calls.limit c.initiator) P (between old.initiator.machine s.session s.disk x) s.out (so_far s.there s.here h)) on.whole
     (talks_of c P h old s) in
-    let has : HearsOn (limits_of c) P (between old.initiator.machine s.session s.disk on.left) r s.out (so_far s.there s.here h) =
-    initiator_heard (target_session.limit c.target) (calls.limit c.initiator) P kept old.initiator.machine s.session s.disk s.out f.messages on.left s.there
+    let has : ReceivesOn (limits_of c) P (between old.initiator.machine s.session s.disk on.left) r s.out (so_far s.there s.here h) =
+    initiator_received (target_session.limit c.target) (calls.limit c.initiator) P kept old.initiator.machine s.session s.disk s.out f.messages on.left s.there
     s.here h talks in
     record {
       fault = has.fault;
@@ -102,11 +103,11 @@ initiator_turn c P h old k moved kept s u m f =
       none = λ over.
           let left = over_none (target_session.limit c.target) (calls.limit c.initiator) P kept r.machine s.session s.disk (s.out ++ r.output) on.left
           (after_all s.there r.output) s.here h has.talks over in
-          (left, none_more (calls.limit c.initiator) u.heard s.back f.messages t.rest more on left);
-      refuses = λ fault some fails. refuses_nothing fault f.framing (u.stream ++ piece) (u.heard ++ f.messages) (drop f.count moved) (t.rest ++ more)
+          (left, none_more (calls.limit c.initiator) u.received s.back f.messages t.rest more on left);
+      refuses = λ fault some fails. refuses_nothing fault f.framing (u.stream ++ piece) (u.received ++ f.messages) (drop f.count moved) (t.rest ++ more)
           (drop (length moved) old.to_initiator)
-          (after_all no_login (u.heard ++ f.messages)) on.left t some fails refl
-          (subst (λ (n : ℕ). ReadsAs n (after_all no_login (u.heard ++ f.messages)) (t.rest ++ more) on.left) (sym bound) on.reads);
+          (after_all no_login (u.received ++ f.messages)) on.left t some fails refl
+          (subst (λ (n : ℕ). ReadsAs n (after_all no_login (u.received ++ f.messages)) (t.rest ++ more) on.left) (sym bound) on.reads);
       to_target = target_way c P h old s (calls.limit c.initiator) r.machine r.output on.left (after_all s.there r.output) s.here h has.talks has.written;
     }
 
@@ -142,7 +143,7 @@ initiator_stands c P h g old new s i output left e talks there back = record {
       (subst (λ (x : List ℕ). Way (target_machine.is_closed s.session) (target_session.limit c.target) old.target.framing x (s.out ++ output)
       (after_all s.there output)) (sym e.queue) there);
   to_initiator = back;
-  heard = talks.heard;
+  received = talks.received;
   kept = subst (λ (x : initiator.Machine). P (between x (answers s.session s.disk (s.out ++ output)).machine (answers s.session s.disk (s.out ++ output)).disk
       (left ++ (answers s.session s.disk (s.out ++ output)).answers))
       (so_far (after_all s.there output) (after_all s.here (answers s.session s.disk (s.out ++ output)).answers) g)) (sym e.initiator) talks.kept;
@@ -233,10 +234,10 @@ initiator_ends (Err (faults.BadAnswer key)) c P h old new moved s t live e fault
 initiator_ends (Err faults.Closed) c P h old new moved s t live e fault memory there target_ blocks dropped = absurd (apart e.closed live)
 
 -- bytes reached the initiator
-initiator_hears : (c : Opening) (P : Relation) (h : History) (old new : World) (k : ℕ) (byte : ℕ) (bytes : List ℕ) → Keeps c P → Stands c P h old
+initiator_receives : (c : Opening) (P : Relation) (h : History) (old new : World) (k : ℕ) (byte : ℕ) (bytes : List ℕ) → Keeps c P → Stands c P h old
     → byte ∷ bytes ≡ take k old.to_initiator
     → InitiatorReceives (byte ∷ bytes) old new → initiator_ran_out new.initiator_fault ≡ false → Stands c P h new
-initiator_hears c P h old new k byte bytes kept s m e memory =
+initiator_receives c P h old new k byte bytes kept s m e memory =
     elim s.to_initiator [
       | inl on ↦
           initiator_ends e.result c P h old new (byte ∷ bytes) s (λ f. initiator_turn c P h old k (byte ∷ bytes) kept s on.1 m f) on.0 e.fed e.fault memory
@@ -249,7 +250,7 @@ to_initiator : (fault : Option EndFault) (moved : List ℕ) (c : Opening) (P : R
     → fault ≡ None → moved ≡ take k old.to_initiator
     → MovesToInitiator fault moved old new → initiator_ran_out new.initiator_fault ≡ false → Stands c P h new
 to_initiator fault [] c P h old new k kept s none m e memory = subst (Stands c P h) (sym e) s
-to_initiator None (byte ∷ bytes) c P h old new k kept s none m e memory = initiator_hears c P h old new k byte bytes kept s m e memory
+to_initiator None (byte ∷ bytes) c P h old new k kept s none m e memory = initiator_receives c P h old new k byte bytes kept s m e memory
 to_initiator (Some fault) (byte ∷ bytes) c P h old new k kept s none m e memory = absurd (cc none)
 
 -- ---- requests and outcomes
@@ -291,7 +292,7 @@ accepts c P h old new request kept s served e there well target_ blocks queue =
     let talks : Talks (calls.limit c.initiator) P (between (submitted i request).machine s.session s.disk s.back) (s.out ++ out)
     (so_far (after_all s.there out) s.here (requested h request)) =
     talk_on (target_session.limit c.target) (calls.limit c.initiator) P (submitted i request).machine s.session s.disk s.out out s.back s.there s.here
-    (requested h request) s.heard sends in
+    (requested h request) s.received sends in
     initiator_stands c P h (requested h request) old new s (submitted i request).machine out s.back
     (record {
       target_well = there;
@@ -370,7 +371,7 @@ takes c P h old k s =
       disk_is = s.disk_is;
       to_target = s.to_target;
       to_initiator = s.to_initiator;
-      heard = s.heard;
+      received = s.received;
       kept = takes_one old.initiator.machine.done c P k old.initiator.machine a.machine a.disk (s.back ++ a.answers) s.there (after_all s.here a.answers) h refl
           s.kept;
     }
@@ -450,7 +451,7 @@ opening_stands c P s =
         refl,
         record {
           stream = [];
-          heard = [];
+          received = [];
           taken = at_opening (target_session.limit c.target);
           limit_is = refl;
           unready = not_whole-nil;
@@ -462,7 +463,7 @@ opening_stands c P s =
         begun_open c,
         record {
           stream = [];
-          heard = [];
+          received = [];
           taken = at_opening (calls.limit c.initiator);
           limit_is = refl;
           unready = not_whole-nil;
@@ -471,7 +472,7 @@ opening_stands c P s =
               refl;
         },
       );
-      heard = s.heard;
+      received = s.received;
       kept = s.kept;
     }
 

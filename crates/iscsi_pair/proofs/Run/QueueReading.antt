@@ -118,15 +118,15 @@ has_header limit logins bytes (m ∷ ms) p long =
     record { head = m.head; len = length p.0.segment; header = (starts bytes p.0.bytes p.0.rest m.head p.0.segment p.0.whole p.0.means).0; within = p.0.within }
 
 -- a framer refuses nothing of what reads as messages
-pub refuses_nothing : (fault : StreamFault) (v : Framing) (front : List ℕ) (heard : List Message) (piece bytes behind : List ℕ) (logins : Logins)
-    (ms : List Message) → (h : HasTaken front heard v) → fault ≢ stream.NoMemory
+pub refuses_nothing : (fault : StreamFault) (v : Framing) (front : List ℕ) (received : List Message) (piece bytes behind : List ℕ) (logins : Logins)
+    (ms : List Message) → (h : HasTaken front received v) → fault ≢ stream.NoMemory
     → FeedFails v piece fault → bytes ≡ h.rest ++ (piece ++ behind) → ReadsAs v.limit logins bytes ms → ⊥
-refuses_nothing stream.NoMemory v front heard piece bytes behind logins ms h some f b p = some refl
-refuses_nothing (stream.Head fault place) v front heard piece bytes behind logins ms h some f b p =
+refuses_nothing stream.NoMemory v front received piece bytes behind logins ms h some f b p = some refl
+refuses_nothing (stream.Head fault place) v front received piece bytes behind logins ms h some f b p =
     let e = front_of v.held h.rest piece bytes behind h.held f.1.before f.1.reached b in
     let g : HasHeader v.limit bytes = has_header v.limit logins bytes ms p e.1 in
     bad_header (take 48 bytes) g.head g.len fault g.header (ap fault_of e.0 ∙ f.2)
-refuses_nothing (stream.OverLimit place) v front heard piece bytes behind logins ms h some f b p =
+refuses_nothing (stream.OverLimit place) v front received piece bytes behind logins ms h some f b p =
     let head : Head = f.1.0 in
     let len : ℕ = f.1.1 in
     let c = f.1.2 in
@@ -136,69 +136,72 @@ refuses_nothing (stream.OverLimit place) v front heard piece bytes behind logins
     let u = (IsHeader-unique (take 48 bytes) g.head head g.len len g.header (subst (λ (x : List ℕ). IsHeader x head len) (sym e.0) c.header)).1 in
     let within = g.within in
     omega (arith, u, over, within)
-refuses_nothing (stream.Truncated place) v front heard piece bytes behind logins ms h some f b p = f
-refuses_nothing stream.Failed v front heard piece bytes behind logins ms h some f b p = apart f h.live
+refuses_nothing (stream.Truncated place) v front received piece bytes behind logins ms h some f b p = f
+refuses_nothing stream.Failed v front received piece bytes behind logins ms h some f b p = apart f h.live
 
 -- ---- what is on its way to one end
 
 -- what is on its way to one end: what was read so far, and what still comes
 pub record Unread (limit : ℕ) (framing : Framing) (queue : List ℕ) (waits : List Message) (logins : Logins) : Type 0 where
   pub stream : List ℕ
-  pub heard : List Message
-  pub taken : HasTaken stream heard framing
+  pub received : List Message
+  pub taken : HasTaken stream received framing
   pub limit_is : framing.limit ≡ limit
   pub unready : is_ready framing ≡ false
-  pub reads : ReadsAs limit no_login (stream ++ queue) (heard ++ waits)
-  pub logins_is : logins ≡ after_all no_login (heard ++ waits)
+  pub reads : ReadsAs limit no_login (stream ++ queue) (received ++ waits)
+  pub logins_is : logins ≡ after_all no_login (received ++ waits)
 
 -- an end whose session is over has nothing on its way to it
 abbrev pub Way : Bool → ℕ → Framing → List ℕ → List Message → Logins → Type 0
 Way over limit framing queue waits logins = ((over ≡ false) × Unread limit framing queue waits logins) ⊎ ((over ≡ true) × (queue ≡ []) × (waits ≡ []))
 
 -- what is left on its way behind what a call read
-pub record MovesOn (limit : ℕ) (heard waits new : List Message) (rest more : List ℕ) : Type 0 where
+pub record MovesOn (limit : ℕ) (received waits new : List Message) (rest more : List ℕ) : Type 0 where
   pub left : List Message
   pub whole : waits ≡ new ++ left
-  pub reads : ReadsAs limit (after_all no_login (heard ++ new)) (rest ++ more) left
+  pub reads : ReadsAs limit (after_all no_login (received ++ new)) (rest ++ more) left
 
 -- a call that read some messages leaves the others
 pub moves_on : (limit : ℕ) (v : Framing) (queue : List ℕ) (waits : List Message) (logins : Logins) (piece more : List ℕ) (new : List Message) (w : Framing)
-    → (u : Unread limit v queue waits logins) → queue ≡ piece ++ more → (t : HasTaken (u.stream ++ piece) (u.heard ++ new) w) → w.limit ≡ limit
-    → MovesOn limit u.heard waits new t.rest more
+    → (u : Unread limit v queue waits logins) → queue ≡ piece ++ more → (t : HasTaken (u.stream ++ piece) (u.received ++ new) w) → w.limit ≡ limit
+    → MovesOn limit u.received waits new t.rest more
 moves_on limit v queue waits logins piece more new w u q t bound =
-    let r : ReadsBehind limit no_login (u.heard ++ new) (u.heard ++ waits) (t.rest ++ more) =
-    reads_behind limit no_login t.given (u.heard ++ new) (t.rest ++ more) (u.stream ++ queue) (u.heard ++ waits)
-    (subst (λ (n : ℕ). ReadsAs n no_login t.given (u.heard ++ new)) bound t.reads) u.reads
+    let r : ReadsBehind limit no_login (u.received ++ new) (u.received ++ waits) (t.rest ++ more) =
+    reads_behind limit no_login t.given (u.received ++ new) (t.rest ++ more) (u.stream ++ queue) (u.received ++ waits)
+    (subst (λ (n : ℕ). ReadsAs n no_login t.given (u.received ++ new)) bound t.reads) u.reads
     (ap (λ (x : List ℕ). u.stream ++ x) q ∙ sym (append_assoc u.stream piece more) ∙ ap (λ (x : List ℕ). x ++ more) t.whole
     ∙ append_assoc t.given t.rest more) in
-    record { left = r.more; whole = append_cancel_left u.heard waits (new ++ r.more) (r.whole ∙ append_assoc u.heard new r.more); reads = r.reads }
+    record { left = r.more; whole = append_cancel_left u.received waits (new ++ r.more) (r.whole ∙ append_assoc u.received new r.more); reads = r.reads }
 
 -- the end waits for what is left
 pub still_unread : (limit : ℕ) (v : Framing) (queue : List ℕ) (waits : List Message) (logins : Logins) (piece more : List ℕ) (new left : List Message)
     (w : Framing)
-    → (u : Unread limit v queue waits logins) → queue ≡ piece ++ more → HasTaken (u.stream ++ piece) (u.heard ++ new) w → w.limit ≡ limit → is_ready w ≡ false
+    → (u : Unread limit v queue waits logins) → queue ≡ piece ++ more → HasTaken (u.stream ++ piece) (u.received ++ new) w → w.limit ≡ limit → is_ready w ≡
+        false
     → waits ≡ new ++ left
     → Unread limit w more left logins
 still_unread limit v queue waits logins piece more new left w u q t bound ready whole =
     let bytes : u.stream ++ queue ≡ (u.stream ++ piece) ++ more = ap (λ (x : List ℕ). u.stream ++ x) q ∙ sym (append_assoc u.stream piece more) in
-    let messages : u.heard ++ waits ≡ (u.heard ++ new) ++ left = ap (λ (x : List Message). u.heard ++ x) whole ∙ sym (append_assoc u.heard new left) in
+    let messages : u.received ++ waits ≡ (u.received ++ new) ++ left = ap (λ (x : List Message). u.received ++ x) whole ∙ sym (append_assoc u.received new
+        left) in
     record {
       stream = u.stream ++ piece;
-      heard = u.heard ++ new;
+      received = u.received ++ new;
       taken = t;
       limit_is = bound;
       unready = ready;
-      reads = subst (λ (x : List ℕ). ReadsAs limit no_login x ((u.heard ++ new) ++ left)) bytes
+      reads = subst (λ (x : List ℕ). ReadsAs limit no_login x ((u.received ++ new) ++ left)) bytes
           (subst (λ (x : List Message). ReadsAs limit no_login (u.stream ++ queue) x) messages u.reads);
       logins_is = u.logins_is ∙ ap (after_all no_login) messages;
     }
 
 -- where no message is left there are no bytes
-pub none_more : (limit : ℕ) (heard waits new : List Message) (rest more : List ℕ) → (m : MovesOn limit heard waits new rest more) → m.left ≡ [] → more ≡ []
+pub none_more : (limit : ℕ) (received waits new : List Message) (rest more : List ℕ) → (m : MovesOn limit received waits new rest more) → m.left ≡ [] → more ≡
+    []
 unfolding ReadsAs
-none_more limit heard waits new rest more m e =
-    let none : ReadsAs limit (after_all no_login (heard ++ new)) (rest ++ more) [] =
-    subst (λ (x : List Message). ReadsAs limit (after_all no_login (heard ++ new)) (rest ++ more) x) e m.reads in
+none_more limit received waits new rest more m e =
+    let none : ReadsAs limit (after_all no_login (received ++ new)) (rest ++ more) [] =
+    subst (λ (x : List Message). ReadsAs limit (after_all no_login (received ++ new)) (rest ++ more) x) e m.reads in
     (both_none rest more none).1
 
 -- more is sent behind what is on its way
@@ -209,21 +212,21 @@ way_sends over limit v queue waits logins ms way w none =
     elim way [
       | inl on ↦
           (let u : Unread limit v queue waits logins = on.1 in
-          let here : AreWritten limit (after_all no_login (u.heard ++ waits)) ms = subst (λ (l : Logins). AreWritten limit l ms) u.logins_is w in
+          let here : AreWritten limit (after_all no_login (u.received ++ waits)) ms = subst (λ (l : Logins). AreWritten limit l ms) u.logins_is w in
           inl (
             on.0,
             record {
               stream = u.stream;
-              heard = u.heard;
+              received = u.received;
               taken = u.taken;
               limit_is = u.limit_is;
               unready = u.unready;
-              reads = subst (λ (x : List ℕ). ReadsAs limit no_login x (u.heard ++ (waits ++ ms))) (append_assoc u.stream queue (canon ms))
-                  (subst (λ (x : List Message). ReadsAs limit no_login ((u.stream ++ queue) ++ canon ms) x) (append_assoc u.heard waits ms)
-                  (reads_joined limit no_login (u.stream ++ queue) (u.heard ++ waits) (canon ms) ms u.reads
-                  (written_reads limit (after_all no_login (u.heard ++ waits)) ms here)));
-              logins_is = ap (λ (l : Logins). after_all l ms) u.logins_is ∙ sym (after_all_append no_login (u.heard ++ waits) ms)
-                  ∙ ap (after_all no_login) (append_assoc u.heard waits ms);
+              reads = subst (λ (x : List ℕ). ReadsAs limit no_login x (u.received ++ (waits ++ ms))) (append_assoc u.stream queue (canon ms))
+                  (subst (λ (x : List Message). ReadsAs limit no_login ((u.stream ++ queue) ++ canon ms) x) (append_assoc u.received waits ms)
+                  (reads_joined limit no_login (u.stream ++ queue) (u.received ++ waits) (canon ms) ms u.reads
+                  (written_reads limit (after_all no_login (u.received ++ waits)) ms here)));
+              logins_is = ap (λ (l : Logins). after_all l ms) u.logins_is ∙ sym (after_all_append no_login (u.received ++ waits) ms)
+                  ∙ ap (after_all no_login) (append_assoc u.received waits ms);
             },
           ))
       | inr ended ↦
@@ -243,11 +246,11 @@ nothing_behind limit rest more logins (m ∷ ms) none nil p =
 unread_none : (limit : ℕ) (v : Framing) (queue : List ℕ) (waits : List Message) (logins : Logins) → Unread limit v queue waits logins → queue ≡ [] → waits ≡ []
 unread_none limit v queue waits logins u none =
     let bytes : u.stream ≡ u.stream ++ [] = sym (append-nil u.stream) in
-    let messages : u.heard ≡ u.heard ++ [] = sym (append-nil u.heard) in
-    let t : HasTaken (u.stream ++ []) (u.heard ++ []) v = taken_at u.stream (u.stream ++ []) u.heard (u.heard ++ []) v bytes messages u.taken in
-    let m : MovesOn limit u.heard waits [] t.rest queue = moves_on limit v queue waits logins [] queue [] v u refl t u.limit_is in
-    m.whole ∙ nothing_behind limit t.rest queue (after_all no_login (u.heard ++ [])) m.left
-    (subst (λ (n : ℕ). NoPdu n t.rest) u.limit_is (splits_taken (u.stream ++ []) (u.heard ++ []) v t (unready_of v.failed v.held t.live u.unready)).no_more)
+    let messages : u.received ≡ u.received ++ [] = sym (append-nil u.received) in
+    let t : HasTaken (u.stream ++ []) (u.received ++ []) v = taken_at u.stream (u.stream ++ []) u.received (u.received ++ []) v bytes messages u.taken in
+    let m : MovesOn limit u.received waits [] t.rest queue = moves_on limit v queue waits logins [] queue [] v u refl t u.limit_is in
+    m.whole ∙ nothing_behind limit t.rest queue (after_all no_login (u.received ++ [])) m.left
+    (subst (λ (n : ℕ). NoPdu n t.rest) u.limit_is (splits_taken (u.stream ++ []) (u.received ++ []) v t (unready_of v.failed v.held t.live u.unready)).no_more)
     none m.reads
 
 -- where nothing is queued nothing waits

@@ -61,7 +61,8 @@ returns-in_err-close g c =
     let after = g.W.Write.contents c.run_commands.new.w in
     let line = c.in_ok-write_line.ensures.ok in
     record {
-      loops = λ script left is end. rw (p.1, p.2) (commands_end (Err c.in_err-close.field-0.0) script commands before between after left c.in_err-close.ensures.err is end line
+      loops = λ script left is end. rw (p.1, p.2) (commands_end (Err c.in_err-close.field-0.0) script commands before between after left
+          c.in_err-close.ensures.err is end line
           c.in_ok-run_commands.ensures.runs);
       on_disk = λ faithful blocks script new is.
           let one = c.in_ok-log_in.ensures.served faithful blocks new in

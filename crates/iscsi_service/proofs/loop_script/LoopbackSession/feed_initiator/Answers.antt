@@ -2,7 +2,7 @@ use Rattle.std.proofs.Common.{◌<◌, [], length, arith}
 use Rattle.std.proofs.lemmas.Bool.Decides.{nat_tests}
 use Rattle.scsi_disk.specs.Sparse.{disk_in}
 use Rattle.iscsi_service.proofs.HistoryLemmas.{fed, then_continues}
-use Rattle.iscsi_service.proofs.PairStepLemmas.{hears_more, on_and_on}
+use Rattle.iscsi_service.proofs.PairStepLemmas.{receives_more, on_and_on}
 use Rattle.iscsi_service.proofs.loop_script.LoopbackSession.feed_initiator.Goals as goal
 
 pub loop-rest-preserved : goal.loop-rest-preserved
@@ -15,7 +15,7 @@ loop-rest-preserved g c =
       then_continues _ at.self.initiator.machine _ [] [] [] [] at.invariant.0 (fed c.in_ok-feed.field-0 at.self.initiator c.feed.new.self _ _ _
           c.in_ok-feed.ensures.feeds),
       λ faithful. on_and_on _ _ _ (at.invariant.1 faithful)
-          (hears_more at.self.initiator c.feed.new.self at.self.target (disk_in at.self.store) at.requests.items at.rest.now c.feed.new.out.items
+          (receives_more at.self.initiator c.feed.new.self at.self.target (disk_in at.self.store) at.requests.items at.rest.now c.feed.new.out.items
           c.to_initiator.new.read n c.in_ok-feed.field-0 c.in_ok-feed.ensures.feeds (faithful _ _ c.in_ok-to_initiator.ensures.carried) (omega (arith, least))
           (omega (arith, least, some, moves))),
     )
