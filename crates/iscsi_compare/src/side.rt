@@ -10,13 +10,10 @@ ghost use Rattle.iscsi_compare.specs.Comparing.{input_of};
 ghost use Rattle.iscsi_compare.specs.Inside.{compare_fault, fuel, IsOpen, HasRead, ReadsOn, Stands, SideFails, FormIf};
 
 use crate::fault::{CompareFault, Which};
-use iscsi_stream::{Framer, PIECE, Reads, StreamFault, canonical, show_line};
+use iscsi_stream::{Framer, LONGEST_SEGMENT, PIECE, Reads, StreamFault, canonical, show_line};
 use itoa::Buffer;
 use std::alloc::{AllocError, Global};
 use std::io::Read;
-
-/// The longest segment that a header can say.
-const LONGEST_SEGMENT: u32 = 16_777_215;
 
 /// A stream that is read PDU by PDU: its framer, the piece that was read last, of which the framer
 /// has not taken the bytes from `from` to `to`, and its reads.

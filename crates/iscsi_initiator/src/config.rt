@@ -10,6 +10,7 @@ ghost use Rattle.iscsi_initiator.specs.Configured.{Configures};
 
 use crate::fault::Key;
 use iscsi_login::{Auth, ConfigFault, Offers, Preferences, Session, Stage, is_name};
+use iscsi_pdu::LOGIN_SEGMENT;
 use iscsi_text::Text;
 use std::alloc::{AllocError, Global};
 use std::marker::Model;
@@ -92,7 +93,7 @@ impl Config {
         if !offers.prefs.in_range()
             || start == Stage::Full
             || login_segment < 64
-            || login_segment > 8192
+            || login_segment > LOGIN_SEGMENT
         {
             return Err(ConfigFault::OutOfRange);
         }

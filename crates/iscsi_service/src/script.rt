@@ -14,13 +14,12 @@ use hex::{FromHex, FromHexError};
 use iscsi_stream::{ToolFault, read_within};
 use iscsi_text::split_at_byte;
 use scsi_cdb::Bytes;
+use scsi_disk::LONGEST_TRANSFER;
 use std::alloc::{AllocError, Global};
 use std::io::Read;
 
 /// The longest script, in bytes.
 const LONGEST_SCRIPT: usize = 1_048_576;
-/// The most blocks that one command reads or writes.
-const MOST_BLOCKS: u64 = 8192;
 /// The longest ping, in bytes.
 const LONGEST_PING: usize = 8192;
 
@@ -228,7 +227,7 @@ fn read(words: &[u8]) -> Option<Command>
 {
     let (first, others) = parted(words, b' ');
     let logical_block_address = number(first, u64::MAX)?;
-    let blocks = number(others?, MOST_BLOCKS)? as u16;
+    let blocks = number(others?, u64::from(LONGEST_TRANSFER))? as u16;
     Some(Command::Read {
         logical_block_address,
         blocks,
@@ -242,7 +241,7 @@ fn write(words: &[u8]) -> Option<Command>
     let (first, others) = parted(words, b' ');
     let logical_block_address = number(first, u64::MAX)?;
     let (blocks, last) = parted(others?, b' ');
-    let blocks = number(blocks, MOST_BLOCKS)? as u16;
+    let blocks = number(blocks, u64::from(LONGEST_TRANSFER))? as u16;
     let byte = byte_of(last?)?;
     Some(Command::Write {
         logical_block_address,

@@ -19,8 +19,8 @@ use iscsi_pdu::Pdu;
 use std::alloc::{AllocError, Global};
 use std::io::{Read, Write};
 
-/// The longest segment that a header can say.
-const LONGEST_SEGMENT: u32 = 16_777_215;
+/// The longest segment that a header can say (RFC 7143, section 11.2.1.6).
+pub const LONGEST_SEGMENT: u32 = 16_777_215;
 
 /// What stands for a PDU.
 #[derive(Clone, Copy)]

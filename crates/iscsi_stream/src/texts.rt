@@ -10,8 +10,9 @@ use iscsi_text::{Text, TextFault};
 use std::alloc::Global;
 use std::io::{Read, Write};
 
-/// The longest text that is read, in bytes.
-const LONGEST_TEXT: usize = 16_384;
+/// The longest text, in bytes: of one that is read, and of one that comes in several segments of a
+/// login (own rule).
+pub const LONGEST_TEXT: usize = 16_384;
 
 impl From<TextFault> for ToolFault {
     ghost use Rattle.std.specs.Prelude.{◌≡◌};

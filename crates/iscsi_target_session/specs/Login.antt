@@ -9,6 +9,7 @@ use Rattle.iscsi_pdu.specs.declared.head.Head.{Head}
 use Rattle.iscsi_pdu.specs.declared.head.Head.TheVariants as heads
 use Rattle.iscsi_stream.specs.Segment.{Segment, Bytes, Text, segment_bytes}
 use Rattle.iscsi_stream.specs.Stream.{Message}
+use Rattle.iscsi_stream.specs.Texts.{longest_text}
 use Rattle.iscsi_login.specs.declared.phase.Phase.{Phase}
 use Rattle.iscsi_login.specs.declared.phase.Phase.TheVariants as phases
 use Rattle.iscsi_login.specs.declared.stage.Stage.{Stage}
@@ -170,7 +171,7 @@ gather s r bytes = record {
 -- 11.12.2; the limit is own rule).
 abbrev pub segment_taken : Session → LoginRequest → Segment → Reply
 segment_taken s r segment =
-    if nat_lt 16384 (length s.gathered + length (segment_bytes segment))
+    if nat_lt longest_text (length s.gathered + length (segment_bytes segment))
     then refuse s r out_of_resources
     else if r.continues then gather s r (segment_bytes segment)
     else whole_text (record s { gathered = [] }) r (text_ending s.gathered segment)

@@ -18,7 +18,7 @@ pub use fail_at::FailAt;
 pub use laws::run_without_failures;
 pub use memory::{MemoryStore, read_blocks, write_blocks};
 pub use order::{Order, Outcome, Plan};
-pub use planning::plan;
+pub use planning::{LONGEST_TRANSFER, plan};
 pub use reading::{BlockRange, failed_read, read_outcome, whole_blocks};
 pub use running::run_orders;
 pub use sparse::{MOST_BLOCKS, SparseStore};

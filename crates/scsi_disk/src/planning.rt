@@ -8,7 +8,7 @@ use arrayvec::ArrayVec;
 use scsi_cdb::{Cdb, Sense, capacity10, capacity16, inquiry_bytes, report_luns, vpd_bytes};
 
 /// The most blocks of one READ or WRITE (own rule).
-const MOST_BLOCKS: u32 = 8192;
+pub const LONGEST_TRANSFER: u32 = 8192;
 
 /// RDPROTECT or WRPROTECT, in the options of a READ or WRITE (SBC-3).
 const PROTECTION: u8 = 0xe0;
@@ -198,7 +198,7 @@ fn refusal(order: &Order, blocks: u64) -> Option<Sense>
     }
     if transfer.options & PROTECTION != 0
         || parameter_data(order, blocks).is_none()
-        || transfer.count > MOST_BLOCKS
+        || transfer.count > LONGEST_TRANSFER
     {
         return Some(Sense::InvalidField);
     }

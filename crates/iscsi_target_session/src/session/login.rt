@@ -23,12 +23,9 @@ use crate::status::Status;
 use iscsi_login::{Phase, Stage, answer_text};
 use iscsi_pdu::rule::KIND_NOT_DUE;
 use iscsi_pdu::{Head, LoginRequest, LoginResponse};
-use iscsi_stream::{text_of, write_pdu};
+use iscsi_stream::{LONGEST_TEXT, text_of, write_pdu};
 use iscsi_text::{Text, read_text};
 use std::alloc::{AllocError, Global};
-
-/// The most bytes of a text that comes in several segments (own rule).
-const LONGEST_TEXT: usize = 16_384;
 
 impl Session {
     /// Answers a PDU before full feature phase, where any but a Login Request closes the session.

@@ -15,11 +15,9 @@ ghost use Rattle.iscsi_target_session.specs.LoginText.{known_keys, repeats_key, 
 use super::Session;
 use crate::status::Status;
 use iscsi_login::{Answered, NegKey, Session as SessionType, Stage, declares_well, result};
+use iscsi_pdu::LOGIN_SEGMENT;
 use iscsi_text::{Text, Value};
 use std::alloc::{AllocError, Global};
-
-/// The most bytes of an answer (own rule).
-const LONGEST_ANSWER: usize = 8192;
 
 impl Session {
     // Why a text is refused that has this answer, if it is.
@@ -51,7 +49,8 @@ impl Session {
         if has_bad_length(text) {
             return Some(Status::INITIATOR_ERROR);
         }
-        if answer.len() > LONGEST_ANSWER {
+        // The answer has to fit into one segment (own rule).
+        if answer.len() > LOGIN_SEGMENT as usize {
             return Some(Status::OUT_OF_RESOURCES);
         }
         None
