@@ -7,7 +7,7 @@ use Rattle.iscsi_service.specs.Session.{HasExecuted}
 use Rattle.iscsi_hall.specs.Seats.{Hall}
 use Rattle.iscsi_hall.specs.Turns.{Event, Takes, TakesTurn, Runs, machines, executed_in}
 use Rattle.iscsi_hall.proofs.RunLemmas.{runs_lead}
-use Rattle.iscsi_service.proofs.SessionReadInvariant.{none_executed}
+pub use Rattle.iscsi_service.proofs.SessionReadInvariant.{none_executed}
 
 -- no command, on a disk that is as it was
 pub unchanged_executed : (before after : Disk) → after ≡ before → HasExecuted before after
