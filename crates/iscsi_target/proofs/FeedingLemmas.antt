@@ -676,7 +676,7 @@ live_leads settings n disk taken now disk_now written ms given rest le open_ liv
     let t : HasTaken taken h.messages now.framing = h.taken in
     let x : Leaves no_login h.messages ms t.rest rest =
     prefix_split now.framing.limit no_login t.given h.messages t.rest given ms rest (omega (arith, le, live.bound)) t.reads s.reaches.reads s.no_more (sym
-        t.whole
+    t.whole
     ∙ s.reaches.whole) in
     let part : is_whole t.rest ≡ false = sym (is_whole-settled t.rest) ∙ ap is_whole (sym t.held)
     ∙ unready_of now.framing.failed now.framing.held t.live live.ready in

@@ -143,7 +143,7 @@ local_ping m t disk bytes a e =
     ∙ ap (λ (h : Held). having_accepted (ping_message m bytes ∷ []) (on disk [] (send_response t'.session (nop_in_head t'.session 0 (ping m))
     (take h.initiator_max_recv bytes)))) a.held in
     let one : step (pinging begun_ m.window) answer ≡ quiet (pinged begun_ t' m.window given) = pong_received begun_ m t' m.window given a.stat_sn refl tag
-        few in
+    few in
     let told_ : told_window m.window t' ≡ window_of_eight n = tells_eight n m.window fits (near_next n m.cmd_sn m.window a.cmd_sn_fits refl a.window) in
     let last : Exchange = record { initiator = pinged begun_ t' m.window given; target = counted_on t'; disk = disk; answers = [] } in
     let ends_ : Ends m.held (pinging begun_ m.window) executed (record { outcome = done.Ping given; disk = disk }) = record {

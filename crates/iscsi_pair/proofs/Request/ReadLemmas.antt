@@ -311,7 +311,7 @@ read_received m t window outcome expected held is_held stat_sn none room small =
     (omega (arith, room, ap (λ (x : List ℕ). length x) g.all)) (omega (arith, g.few, room, small)) in
     let r' : Reading = record { expected = expected; received = bytes_of given; next_data_sn = 0 + length given } in
     let one = outcome_received m t (opens.In r') r'.received h.told outcome.status outcome.sense outcome.bytes outcome.residual (length given) (λ h. refl)
-        stat_sn
+    stat_sn
     (omega (arith, is_held.initiator_max_recv.0)) in
     record {
       told = h.told;
@@ -553,7 +553,7 @@ local_read m t disk lun cdb expected on_ size are a e =
     let room : length after.outcome.bytes ≤ expected = outcome_few (plan_of order disk.count) disk order expected
     (λ n. gives_few (first_refusal order disk.count) order disk.count n) in
     let h : ReadReceived begun_ t' r0 m.window after.outcome = read_received begun_ t' m.window after.outcome expected a.held a.is_held a.stat_sn a.none_done
-        room
+    room
     (omega (arith, few)) in
     let last : Exchange = record {
       initiator = finished begun_ t' h.told after.outcome after.outcome.bytes;

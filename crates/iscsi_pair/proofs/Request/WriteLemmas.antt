@@ -1042,7 +1042,7 @@ local_write m t disk lun cdb bytes on_ size are a e =
     let written : ArePlain most (write_message m lun cdb bytes ∷ unasked_data m bytes) =
     plain_more most (write_message m lun cdb bytes) (unasked_data m bytes)
     (λ logins. command_readable logins m (not (has_more m bytes)) false (not (length bytes == 0)) lun cdb (immediate m bytes) (length bytes) on_ size are
-        a.tag_fits (omega (arith, few)) a.cmd_sn_fits
+    a.tag_fits (omega (arith, few)) a.cmd_sn_fits
     (stat_sn_sent m t a) (omega (arith, short_, a.is_held.target_max_recv.1)))
     (short_message (write_message m lun cdb bytes).head (immediate m bytes) most short_)
     (sequence_written (begun_write m) None reserved_tag (length (immediate m bytes)) (initiator_writes.unsolicited m bytes) a.is_held all.tag_fits

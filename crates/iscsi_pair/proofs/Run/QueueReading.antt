@@ -177,13 +177,13 @@ moves_on limit v queue waits logins piece more new w u q t bound =
 pub still_unread : (limit : ℕ) (v : Framing) (queue : List ℕ) (waits : List Message) (logins : Logins) (piece more : List ℕ) (new left : List Message)
     (w : Framing)
     → (u : Unread limit v queue waits logins) → queue ≡ piece ++ more → HasTaken (u.stream ++ piece) (u.received ++ new) w → w.limit ≡ limit → is_ready w ≡
-        false
+    false
     → waits ≡ new ++ left
     → Unread limit w more left logins
 still_unread limit v queue waits logins piece more new left w u q t bound ready whole =
     let bytes : u.stream ++ queue ≡ (u.stream ++ piece) ++ more = ap (λ (x : List ℕ). u.stream ++ x) q ∙ sym (append_assoc u.stream piece more) in
     let messages : u.received ++ waits ≡ (u.received ++ new) ++ left = ap (λ (x : List Message). u.received ++ x) whole ∙ sym (append_assoc u.received new
-        left) in
+    left) in
     record {
       stream = u.stream ++ piece;
       received = u.received ++ new;

@@ -127,7 +127,7 @@ returns-then-branch-clause-blocks g c =
     let piece : List ℕ = take c.in-Some.n c.next.new.buffer in
     let more : ReadUpTo c.args.config (outside first r0 w0) c.serve_piece.new.target (outside after r2 w2) =
     read_more c.args.config first c.loop-out.target c.serve_piece.new.target store after r0 r1 r2 w0 w1 w2 piece c.loop-out.invariant.1.read (rw c.in-Some.is
-        at c.in_ok-n.ensures.piece).2
+    at c.in_ok-n.ensures.piece).2
     c.in_ok-serve_piece.ensures.goes in
     more.served.executed
 
@@ -162,7 +162,7 @@ loop-out-preserved g c =
       c.serve_piece.ensures.open open_,
       session_more c.args.config first c.loop-out.target c.serve_piece.new.target store after r0 r1 r2 w0 w1 w2 (g.S.BlockStore.kept c.args.store.now)
           (g.S.BlockStore.kept c.loop-out.store) (g.S.BlockStore.kept c.serve_piece.new.store) piece c.loop-out.invariant.1 (rw c.in-Some.is at
-              c.in_ok-n.ensures.piece).2
+          c.in_ok-n.ensures.piece).2
           c.in_ok-serve_piece.ensures.goes (c.serve_piece.ensures.advances open_) c.serve_piece.ensures.crash,
       λ synced. c.in_ok-serve_piece.ensures.synced (λ e. cc),
     )

@@ -34,7 +34,7 @@ returns-in_err-write_fully-clause-writes g c =
     let piece = rw c.in-Some.is at c.in_ok-n.ensures.piece in
     let p = err_from_is_err_and c.from_residual-in_err-write_fully.result c.from_residual-in_err-write_fully.ensures.1 in
     rw (p.1, p.2) (write_stops _ c.args.form c.loop-out.framer c.loop-out.counts c.loop-out.reads (g.R.Read.remaining c.args.r.now) (g.R.Read.remaining
-        c.loop-out.r)
+    c.loop-out.r)
     (g.R.Read.remaining c.next.new.r) (g.W.Write.contents c.args.w.now) (g.W.Write.contents c.loop-out.w) (g.W.Write.contents c.write_fully.new.w)
     (take c.in-Some.n c.next.new.buffer) c.pass_on-passed.new.out.items c.pass_on-passed.ensures.bytes c.loop-out.invariant piece.2
     (rw c.clear.ensures.items at c.pass_on-passed.ensures.appended) c.in_err-write_fully.ensures.err.0
@@ -49,7 +49,7 @@ returns-in_err-passed-clause-writes g c =
     (g.W.Write.contents c.write_fully.new.w)
     (take c.in-Some.n c.next.new.buffer) c.pass_on-passed.new.out.items c.in_ok-n.ensures.left
     (omega (arith, length-take c.in-Some.n c.next.new.buffer, piece.1, c.next.ensures.length, c.next.auto.buffer)) c.pass_on-passed.ensures.bytes
-        c.loop-out.invariant
+    c.loop-out.invariant
     piece.2
     (rw c.clear.ensures.items at c.pass_on-passed.ensures.appended) (rw c.clear.ensures.items at c.in_err-passed.ensures.err)
     (rw c.deref.ensures.value at c.in_ok-write_fully.ensures.ok))
@@ -58,19 +58,19 @@ pub returns-in_err-passed-clause-end : goal.returns-in_err-passed-clause-end
 returns-in_err-passed-clause-end g c =
     let p = err_from_is_err_and c.from_residual-in_err-passed.result c.from_residual-in_err-passed.ensures.1 in
     rw (p.1, p.2) (not_truncated c.in_err-passed.field-0.0 c.args.form c.loop-out.framer (take c.in-Some.n c.next.new.buffer) []
-        c.pass_on-passed.new.out.items _
+    c.pass_on-passed.new.out.items _
     (rw c.clear.ensures.items at c.in_err-passed.ensures.err))
 
 pub loop-out-preserved : goal.loop-out-preserved
 loop-out-preserved g c =
     let piece = rw c.in-Some.is at c.in_ok-n.ensures.piece in
     rw piece.3 (read_more c.args.form c.loop-out.framer c.pass_on-passed.new.framer c.loop-out.counts c.pass_on-passed.new.counts c.loop-out.reads
-        c.saturating_add.result
+    c.saturating_add.result
     (g.R.Read.remaining c.args.r.now) (g.R.Read.remaining c.loop-out.r) (g.R.Read.remaining c.next.new.r) (g.W.Write.contents c.args.w.now)
     (g.W.Write.contents c.loop-out.w) (g.W.Write.contents c.write_fully.new.w)
     (take c.in-Some.n c.next.new.buffer) c.pass_on-passed.new.out.items c.in_ok-passed.ensures.ok.0 c.in_ok-n.ensures.left
     (omega (arith, length-take c.in-Some.n c.next.new.buffer, piece.1, c.next.ensures.length, c.next.auto.buffer)) c.pass_on-passed.ensures.bytes
-        c.loop-out.invariant
+    c.loop-out.invariant
     piece.2
     (omega (arith, c.saturating_add.ensures, length-take c.in-Some.n c.next.new.buffer, piece.1)) (rw c.clear.ensures.items at c.in_ok-passed.ensures.ok.1)
     (rw c.deref.ensures.value at c.in_ok-write_fully.ensures.ok))
