@@ -15,7 +15,7 @@ use Rattle.iscsi_target.specs.Execution.{reliable}
 use Rattle.iscsi_target.specs.Machine.{answers, is_closed, is_over_limit, step, then_stepped}
 use Rattle.iscsi_target.specs.Laws.{CountOn, FitsNumber, HasCmdSn, login_cmd_sn, given_number, cmd_sn_of, cmd_sns}
 use Rattle.iscsi_target_session.proofs.CaseLemmas.{by_cases}
-use Rattle.iscsi_target.proofs.NumberLaws.{answers_cmd_sns, count_on}
+use Rattle.iscsi_target.proofs.NumberLaws.{answers_cmd_sns, count_on, opening_over, opening_login}
 use Rattle.iscsi_target.proofs.ReplyLemmas.{IsReply, request_reply}
 use Rattle.iscsi_target.proofs.SendingLemmas.{CountsTo, counts_on, counts_out}
 use Rattle.iscsi_hall.specs.Company.{Group, answers_over, messages_in}
