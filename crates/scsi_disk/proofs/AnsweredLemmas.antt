@@ -17,7 +17,7 @@ use Rattle.scsi_disk.specs.Effect.{Effect, Executes, FailsBy, HasOtherData, effe
 -- a failure was counted and not told, so that the store does not tell each
 pub does_not_tell : {T : Type 0} (tells : Bool) (before after ub ua : ℕ) (result : Result T StoreFault) → Tells tells before after ub ua result → before < after
     → (IsErrOf result Device → ⊥) → tells ≡ false
-does_not_tell true before after ub ua result t rose not = absurd (not (t.told (t.honest refl) rose))
+does_not_tell true before after ub ua result t rose not = (let none = t.honest refl in absurd (not (t.told (omega (arith, none, rose)))))
 does_not_tell false before after ub ua result t rose not = refl
 
 pub not_err : {T : Type 0} (x : T) → IsErrOf (Ok x) Device → ⊥
@@ -53,7 +53,7 @@ module _ (before after ub ua : ℕ) (disk now : Disk) (order : Order) (bytes : L
         })
     gave (Err Device) (Ok x) works other read tells is device none = record {
       rises = tells.rises;
-      works = λ e. absurd (omega (arith, tells.only refl, e));
+      works = λ e. absurd (omega (arith, tells.only refl, tells.untold, e));
       fails = λ rose. failed x (inl (device refl), read refl, same);
     }
     gave (Err NoMemory) (Ok x) works other read tells is device none = absurd (false≢true (none refl))
@@ -85,7 +85,7 @@ module _ (before after ub ua : ℕ) (disk now : Disk) (order : Order) (bytes : L
         })
     took (Err Device) (Ok x) works same each tells is device none = record {
       rises = tells.rises;
-      works = λ e. absurd (omega (arith, tells.only refl, e));
+      works = λ e. absurd (omega (arith, tells.only refl, tells.untold, e));
       fails = λ rose. missed x (inl (device refl), each);
     }
     took (Err NoMemory) (Ok x) works same each tells is device none = absurd (false≢true (none refl))

@@ -76,14 +76,14 @@ pub record AreBlocks (bytes : List ℕ) : Type 0 where
   pub some : 0 < length bytes
   pub few : length bytes ≤ 33554432
 
--- A store tells a failure of its device only where its count of failures rose, and wherever it rose,
--- unless the count of those that no code can tell rose too, which a store that tells each failure
--- has none of. Want of memory is no failure.
+-- A store returns `Device` exactly where the count that it tells rose: that of all failures without
+-- those that no code can tell, of which a store that tells each failure has none. Want of memory is
+-- no failure.
 pub record Tells {T : Type 0} (tells : Bool) (before after untold_before untold_after : ℕ)
     (result : Result T StoreFault) : Type 0 where
   pub rises : before ≤ after
   pub untold : untold_before ≤ untold_after
   pub honest : tells ≡ true → untold_after ≡ untold_before
-  pub told : untold_after ≡ untold_before → before < after → IsErrOf result Device
-  pub only : IsErrOf result Device → before < after
+  pub told : before + untold_after < after + untold_before → IsErrOf result Device
+  pub only : IsErrOf result Device → before + untold_after < after + untold_before
   pub memory : IsErrOf result NoMemory → after ≡ before

@@ -1,7 +1,7 @@
 //! A store of which one call fails, for trying out what a failure does.
 
-ghost use Rattle.std.specs.Prelude.{◌≡◌, refl, ◌+◌, ◌*◌, ◌/◌, ◌%◌, ◌≤◌, true, false, length, take, Some, OnOk, IsOk, IsErrOf};
-ghost use Rattle.scsi_disk.specs.Disk.{disk_of, blocks_from, written, IsOldOrNew, Tells};
+ghost use Rattle.std.specs.Prelude.{◌≡◌, refl, ◌+◌, ◌*◌, ◌/◌, ◌%◌, ◌≤◌, ◌++◌, true, false, length, take, Some, OnOk, OnErr, IsOk, IsErrOf};
+ghost use Rattle.scsi_disk.specs.Disk.{Appends, disk_of, blocks_from, written, IsOldOrNew, Tells};
 ghost use Rattle.scsi_disk.specs.FailAt.{disk_in, failures_in, is_next, later, passed};
 
 use crate::memory::MemoryStore;
@@ -95,6 +95,26 @@ impl BlockStore for FailAt {
             return Err(StoreFault::Device);
         }
         self.store.read(lba, out)
+    }
+
+    fn read_onto(&mut self, lba: u64, blocks: u32, out: &mut Vec<u8>) -> Result<(), StoreFault>
+        requires inside { lba + blocks ≤ (disk_in self.old).count }
+        ensures ok { OnOk result
+            (out.new.items ≡ out.old.items ++ blocks_from (disk_in self.old) lba blocks) }
+        ensures appends { OnOk result (Appends (512 * blocks) out.old.items out.new.items) }
+        ensures err { OnErr result (out.new.items ≡ out.old.items) }
+        ensures disk { disk_in self.new ≡ disk_in self.old }
+        ensures tells { Tells true (failures_in self.old) (failures_in self.new) 0 0 result }
+        // It fails where it is the call that fails, and else works unless memory runs out.
+        ensures later { self.new.before ≡ later self.old.before }
+        ensures fails { is_next self.old.before ≡ true → IsErrOf result StoreFault.Device }
+        ensures works { is_next self.old.before ≡ false → IsErrOf result StoreFault.Device → ⊥ }
+    {
+        let fails = self.fails();
+        if fails {
+            return Err(StoreFault::Device);
+        }
+        self.store.read_onto(lba, blocks, out)
     }
 
     fn write(&mut self, lba: u64, bytes: &[u8]) -> Result<(), StoreFault>

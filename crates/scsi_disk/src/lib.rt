@@ -4,7 +4,7 @@
 
 mod execution;
 mod fail_at;
-mod laws;
+pub mod laws;
 mod memory;
 mod order;
 mod planning;
@@ -15,7 +15,6 @@ mod store;
 
 pub use execution::{execute, execute_planned};
 pub use fail_at::FailAt;
-pub use laws::run_without_failures;
 pub use memory::{MemoryStore, read_blocks, write_blocks};
 pub use order::{Order, Outcome, Plan};
 pub use planning::{LONGEST_TRANSFER, plan};

@@ -61,8 +61,7 @@ pub trait BlockStore {
         ensures { result + untold self.now ≡ failures self.now };
 
     /// Reads the whole blocks that `out` has room for, from block `lba` on. They lie inside the
-    /// store. `Device` comes exactly where `failures` rose, but for a failure that no code can
-    /// tell. No block changes.
+    /// store. `Device` is returned exactly if the count of `failures()` rose. No block changes.
     fn read(&mut self, lba: u64, out: &mut [u8]) -> Result<(), StoreFault>
         requires whole { length out.old % 512 ≡ 0 }
         requires inside { 512 * lba + length out.old ≤ 512 * (disk self.old).count }
@@ -106,9 +105,9 @@ pub trait BlockStore {
 
     /// Writes whole blocks, from block `lba` on. They lie inside the store.
     ///
-    /// After `NoMemory` no block has changed. `Device` comes exactly where `failures` rose, but for
-    /// a failure that no code can tell; then each block in range is old or new, and no other has
-    /// changed. What was written may have to be synced before it lasts.
+    /// After `NoMemory` no block has changed. `Device` is returned exactly if the count of
+    /// `failures()` rose; then each block in range is old or new, and no other has changed. What was
+    /// written may have to be synced before it lasts.
     fn write(&mut self, lba: u64, bytes: &[u8]) -> Result<(), StoreFault>
         requires whole { length bytes.now % 512 ≡ 0 }
         requires inside { 512 * lba + length bytes.now ≤ 512 * (disk self.old).count }

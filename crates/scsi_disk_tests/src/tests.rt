@@ -930,10 +930,11 @@ fn whole_blocks_of_reads(rt: HostRuntime) {
 #[test]
 fn outcomes_of_read_blocks(rt: HostRuntime) {
     let order = order_of(READ_8, Data::Reads(8192));
-    if let Plan::Give(_) = plan(&order, 2048) {
-        let done = read_outcome(rt.alloc(), &order, 2048);
-        check_outcome(&rt, "read", &done, None, b"", Residual::Under(4096));
-    }
+    let Plan::Give(_) = plan(&order, 2048) else {
+        panic!(&rt; "a read of 8 blocks has data")
+    };
+    let done = read_outcome(rt.alloc(), &order, 2048);
+    check_outcome(&rt, "read", &done, None, b"", Residual::Under(4096));
     let failed = failed_read(rt.alloc(), &order, StoreFault::Device).expect(&rt, "an outcome");
     let sense = Some(Sense::ReadError);
     check_outcome(&rt, "failed", &failed, sense, b"", Residual::Under(8192));

@@ -13,9 +13,12 @@ use scsi_disk::{MOST_BLOCKS, StoreFault};
 use std::fs::{self, File, OpenOptions, TryLockError};
 use std::io::{self, ErrorKind, Seek, SeekFrom};
 use std::os::fd::AsRawFd;
-use std::os::unix::fs::{FileExt, FileTypeExt};
+use std::os::unix::fs::{FileExt, FileTypeExt, OpenOptionsExt};
 use std::rt::Files;
 use thiserror::Error;
+
+/// The permissions of an image that is made: its owner may read and write it, nobody else.
+const OWNER_ALONE: u32 = 0o600;
 
 /// Why an image is not served.
 #[derive(Clone, Copy, Debug, PartialEq, Eq, Error)]
@@ -67,8 +70,12 @@ impl HostFile {
 
     /// Opens an image that is there, cuts nothing, and takes it for this process alone. What an
     /// earlier process left is synced, and the system's copies are dropped, since after a sync
-    /// that failed they may differ from the disk.
+    /// that failed they may differ from the disk. A pipe or a device of characters is refused before
+    /// it is opened, since that alone may have an effect.
     pub fn open(rt: &HostRuntime, path: &str) -> Result<HostFile, OpenFault> {
+        if is_stream(rt, path) {
+            return Err(OpenFault::NoImage);
+        }
         let mut how = File::options();
         let file = match how.read(true).write(true).open(rt, path) {
             Ok(file) => own(file)?,
@@ -80,21 +87,39 @@ impl HostFile {
     }
 
     /// Makes an image of `n` blocks of 00, from 1 to 2^40, at its full size, where there is no
-    /// file; it and its name last.
+    /// file; it and its name last. Its owner alone may read and write it. After an error there is no
+    /// file, unless it was there already.
     pub fn create(rt: &HostRuntime, path: &str, blocks: u64) -> Result<HostFile, OpenFault>
         requires some { 0 < blocks }
         requires few { blocks ≤ most_blocks }
         ensures size { IfOk result (λ file. blocks_of file ≡ blocks) }
     {
         let mut how = File::options();
-        let file = match how.read(true).write(true).create_new(true).open(rt, path) {
-            Ok(file) => own(file)?,
+        how.read(true)
+            .write(true)
+            .create_new(true)
+            .mode(OWNER_ALONE);
+        let file = match how.open(rt, path) {
+            Ok(file) => file,
             Err(error) if error.kind() == ErrorKind::AlreadyExists => return Err(OpenFault::Exists),
             Err(error) => return Err(not_opened(error)),
         };
-        if file.set_len(512 * blocks).is_err() {
-            // An empty file would be in the way of the next try.
+        let made = HostFile::make(rt, file, path, blocks);
+        if made.is_err() {
+            // What was begun would be in the way of the next try.
             let _ = fs::remove_file(rt, path);
+        }
+        made
+    }
+
+    // Makes an image of a new file.
+    fn make(rt: &HostRuntime, file: File, path: &str, blocks: u64) -> Result<HostFile, OpenFault>
+        requires some { 0 < blocks }
+        requires few { blocks ≤ most_blocks }
+        ensures size { IfOk result (λ file. blocks_of file ≡ blocks) }
+    {
+        let file = own(file)?;
+        if file.set_len(512 * blocks).is_err() {
             return Err(OpenFault::NotMade);
         }
         settle(&file)?;
@@ -125,6 +150,15 @@ impl HostFile {
         })
     }
 
+    // Whether the file ends before the image does, since somebody cut it. A write behind its end would
+    // be taken, and what was there before it would read as 00.
+    fn is_cut(&self) -> bool {
+        match self.file.metadata() {
+            Ok(about) => about.is_file() && about.len() < 512 * self.blocks,
+            Err(_) => true,
+        }
+    }
+
     // Counts a call; after 2^64 of them there are none.
     fn count(&mut self) -> Result<(), StoreFault>
         ensures counted { OnOk result (self.old.calls < self.new.calls) }
@@ -147,6 +181,14 @@ fn own(file: File) -> Result<File, OpenFault> {
         Ok(()) => Ok(file),
         Err(TryLockError::WouldBlock) => Err(OpenFault::InUse),
         Err(TryLockError::Error(_)) => Err(OpenFault::NotOpened),
+    }
+}
+
+// Whether there is a pipe or a device of characters of this name.
+fn is_stream(rt: &HostRuntime, path: &str) -> bool {
+    match fs::metadata(rt, path) {
+        Ok(about) => about.file_type().is_fifo() || about.file_type().is_char_device(),
+        Err(_) => false,
     }
 }
 
@@ -230,6 +272,9 @@ impl Medium for HostFile {
 
     fn write_at(&mut self, lba: u64, bytes: &[u8]) -> Result<(), StoreFault> {
         self.count()?;
+        if self.is_cut() {
+            return Err(StoreFault::Device);
+        }
         told(self.file.write_all_at(bytes, 512 * lba))
     }
 

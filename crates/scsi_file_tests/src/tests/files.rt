@@ -3,6 +3,7 @@
 use super::{read, same, spelled, write};
 use scsi_disk::{BlockStore, StoreFault};
 use scsi_file::{FileStore, HostFile, OpenFault};
+use std::os::unix::fs::PermissionsExt;
 use std::test::Fail;
 
 /// What a file has, and why it is no image.
@@ -126,5 +127,39 @@ fn blocks_of_an_image_are_appended(rt: HostRuntime) -> Result<(), Fail> {
     appended?;
     assert!(rt; out.len() == 1542 && out.starts_with(b"before"));
     same(&rt, &spelled(&out[6..]), b"\0yz\0\0\0\0\0", &"appended");
+    Ok(())
+}
+
+#[test]
+fn a_new_image_is_its_owner_s_alone(rt: HostRuntime) -> Result<(), Fail> {
+    let path = "private.img";
+    let _ = std::fs::remove_file(&rt, path);
+    assert!(rt; HostFile::create(&rt, path, 8).is_ok());
+    let mode = std::fs::metadata(&rt, path)?.permissions().mode();
+    let _ = std::fs::remove_file(&rt, path);
+    same(&rt, &(mode & 0o777), &0o600, &"its permissions");
+    Ok(())
+}
+
+#[test]
+fn a_write_behind_the_end_of_a_cut_image_fails(rt: HostRuntime) -> Result<(), Fail> {
+    let path = "cut.img";
+    let _ = std::fs::remove_file(&rt, path);
+    assert!(rt; HostFile::create(&rt, path, 8).is_ok());
+    let Ok(medium) = HostFile::open(&rt, path) else {
+        return Err(Fail::from("not opened"));
+    };
+    let Ok(mut store) = FileStore::new(medium) else {
+        return Err(Fail::from("not synced"));
+    };
+    let whole = write(&mut store, 6, b"yz");
+    let cut = std::fs::File::options().write(true).open(&rt, path)?;
+    cut.set_len(1024)?;
+    let answer = write(&mut store, 6, b"yz");
+    let len = std::fs::metadata(&rt, path)?.len();
+    let _ = std::fs::remove_file(&rt, path);
+    same(&rt, &whole, &Ok(()), &"while it is whole");
+    same(&rt, &answer, &Err(StoreFault::Device), &"behind its end");
+    same(&rt, &len, &1024, &"its length");
     Ok(())
 }
