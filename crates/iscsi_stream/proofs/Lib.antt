@@ -19,3 +19,4 @@ pub mod SegmentLemmas
 pub mod SettledBytesLemmas
 pub mod TakingLemmas
 pub mod WritingLemmas
+pub mod MeaningPartsLemmas

@@ -55,9 +55,10 @@ Writes Due (Err fault) read written = WritesUntil Due fault read written
 abbrev pub IsCanonical : List Message → List ℕ → Type 0
 IsCanonical ms written = written ≡ canon ms
 
--- What normalise has read and written where it answers.
-abbrev pub Normalises : Result Counts ToolFault → List ℕ → List ℕ → Type 0
-Normalises result read written = Writes IsCanonical result read written
+-- What normalise has read and written where it answers Ok: the canonical stream.
+abbrev pub IsNormalised : Counts → List ℕ → List ℕ → Type 0
+IsNormalised counts read written = (ms : List Message) × StreamMeans read ms
+    × IsCanonical ms written × AreCounts counts ms read written
 
 -- What show has read and written where it answers.
 abbrev pub Shows : Result Counts ToolFault → List ℕ → List ℕ → Type 0

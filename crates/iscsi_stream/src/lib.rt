@@ -21,5 +21,5 @@ pub use framer::Framer;
 pub use io::{PIECE, Reads, drop_front, read_within, write_fully};
 pub use lines::show_line;
 pub use logins::Logins;
-pub use normalising::{LONGEST_SEGMENT, normalise, show};
+pub use normalising::{LONGEST_SEGMENT, have_one_meaning, normalise, show};
 pub use texts::{LONGEST_TEXT, normalise_text};

@@ -1,12 +1,12 @@
 //! What is written for the stream that a reader gives: its canonical stream, or a line for each
 //! PDU.
 
-ghost use Rattle.std.specs.Prelude.{◌≡◌, ◌<◌, ◌^◌, ◌++◌, ◌∷◌, ℕ, List, [], length, IfErr, OnOk, OnErr, false};
+ghost use Rattle.std.specs.Prelude.{◌≡◌, ◌<◌, ◌^◌, ◌++◌, ◌∷◌, ℕ, List, [], length, IfOk, IfErr, OnOk, OnErr, IsTrue, ◌↔◌, false};
 ghost use Rattle.std.specs.Io.KnownBytes.{Appends, Consumes, IsAtEnd};
 ghost use Rattle.iscsi_pdu.specs.Meaning.{AreBytes, Fits};
-ghost use Rattle.iscsi_stream.specs.Stream.{Message, message, longest_segment};
+ghost use Rattle.iscsi_stream.specs.Stream.{Message, StreamMeans, message, longest_segment};
 ghost use Rattle.iscsi_stream.specs.Framing.{is_ready};
-ghost use Rattle.iscsi_stream.specs.Normalising.{Normalises, Shows, Writes, AtEnd};
+ghost use Rattle.iscsi_stream.specs.Normalising.{IsCanonical, IsNormalised, Shows, Writes, WritesUntil, AtEnd};
 ghost use Rattle.iscsi_stream.specs.Passing.{IsDue, progress, PassesOn, Appended, PassFails};
 
 use crate::canonical_form::canonical;
@@ -44,12 +44,45 @@ pub fn normalise<R: Read, W: Write>(
     r: &mut R,
     w: &mut W,
 ) -> Result<Counts, ToolFault>
-    ensures writes { (read : List ℕ) × (written : List ℕ) × AreBytes read
+    ensures ok { IfOk result (λ counts. (read : List ℕ) × (written : List ℕ) × AreBytes read
         × Consumes (R.remaining r.old) (R.remaining r.new) read
-        × Appends (W.contents w.old) (W.contents w.new) written × Normalises result read written }
+        × Appends (W.contents w.old) (W.contents w.new) written
+        × IsNormalised counts read written) }
+    ensures fault { IfErr result (λ fault. (read : List ℕ) × (written : List ℕ) × AreBytes read
+        × Consumes (R.remaining r.old) (R.remaining r.new) read
+        × Appends (W.contents w.old) (W.contents w.new) written
+        × WritesUntil IsCanonical fault read written) }
     ensures end { AtEnd result (IsAtEnd (R.remaining r.new)) }
 {
     write_stream(alloc, Form::Canonical, r, w)
+}
+
+/// Reads two streams to their ends, and says whether both mean the same. Returns the fault of
+/// `normalise` of the first that has one. Both canonical streams are held.
+pub fn have_one_meaning<R: Read, Q: Read>(
+    alloc: Global,
+    r: &mut R,
+    q: &mut Q,
+) -> Result<bool, ToolFault>
+    ensures same { IfOk result (λ same. (s : List ℕ) × (t : List ℕ)
+        × (ms : List Message) × (ns : List Message)
+        × Consumes (R.remaining r.old) (R.remaining r.new) s
+        × Consumes (Q.remaining q.old) (Q.remaining q.new) t
+        × StreamMeans s ms × StreamMeans t ns × (IsTrue same ↔ (ms ≡ ns))) }
+    ensures end { OnOk result (IsAtEnd (R.remaining r.new) × IsAtEnd (Q.remaining q.new)) }
+{
+    let mut first = Vec::new(alloc);
+    let mut second = Vec::new(alloc);
+    normalise(alloc, r, &mut first)?;
+    normalise(alloc, q, &mut second)?;
+    Ok(are_equal(&first, &second))
+}
+
+// Whether these bytes are those.
+fn are_equal(first: &[u8], second: &[u8]) -> bool
+    ensures { IsTrue result ↔ (first.now ≡ second.now) }
+{
+    first == second
 }
 
 /// Reads a stream to its end and writes a line for each PDU; the lines of the PDUs of one read go

@@ -139,24 +139,32 @@ fn streams_that_end_early(rt: HostRuntime) {
     }
 }
 
-// The line of a fault without its place, the fault, and the header that has it.
-const FAULTY: &str = "stream: additional header at = Additional\n\
+// The line of a fault without its place, the fault, and the header that has it. Rows have words of 12 or
+// 13: an unknown opcode and a long login are refused with the 48th byte, whatever comes behind it. The
+// last rows end within a PDU: within its header, and within its segment.
+const FAULTY: &str = "stream: additional header at = Head(Additional\n\
     > 40800000 01000003 00000000 00000000 00000000 00000000 00000000 00000000 00000000 00000000 00000000 00000000\n\
     \n\
-    stream: unknown opcode at = UnknownOpcode\n\
+    stream: unknown opcode at = Head(UnknownOpcode\n\
     > 10800000 01000000 00000000 00000000 00000000 00000000 00000000 00000000 00000000 00000000 00000000 00000000\n\
     \n\
-    stream: unknown opcode at = UnknownOpcode\n\
+    stream: unknown opcode at = Head(UnknownOpcode\n\
     > 07800000 00000000 00000000 00000000 00000000 00000000 00000000 00000000 00000000 00000000 00000000 00000000 00000000\n\
     \n\
-    stream: login segment too long at = TooLong\n\
+    stream: login segment too long at = Head(TooLong\n\
     > 43810000 00002001 00000000 00000000 00000000 00000000 00000000 00000000 00000000 00000000 00000000 00000000\n\
     \n\
-    stream: login segment too long at = TooLong\n\
-    > 23810000 00002001 00000000 00000000 00000000 00000000 00000000 00000000 00000000 00000000 00000000 00000000 00000000";
+    stream: login segment too long at = Head(TooLong\n\
+    > 23810000 00002001 00000000 00000000 00000000 00000000 00000000 00000000 00000000 00000000 00000000 00000000 00000000\n\
+    \n\
+    stream: truncated at = Truncated(\n\
+    > 40800000 00000003 00000000 00000000 00000001 ffffffff 00000005 00000002 00000000 00000000 00000000 000000\n\
+    \n\
+    stream: truncated at = Truncated(\n\
+    > 40800000 00000005 00000000 00000000 00000001 ffffffff 00000005 00000002 00000000 00000000 00000000 00000000 61626364";
 
 // How many faulty rows there are.
-const FAULTY_COUNT: usize = 5;
+const FAULTY_COUNT: usize = 7;
 
 // A front and the lines of a header, one behind the other, in reads of so many bytes each: how the stream ends,
 // and what is written.
@@ -178,7 +186,11 @@ fn normal_in_reads(
 // What is said of the fault that a row's words name, at a place: its line, and the fault.
 fn due_of(rt: &impl Abort, alloc: Global, words: &str, place: u64) -> String {
     let (line, name) = split_at_mark(rt, words, " = ");
-    format!(in alloc; "{line} {place} = Stream(Head({name}, {place}))").expect(rt, "text")
+    match name.strip_prefix("Head(") {
+        Some(name) => format!(in alloc; "{line} {place} = Stream(Head({name}, {place}))"),
+        None => format!(in alloc; "{line} {place} = Stream({name}{place}))"),
+    }
+    .expect(rt, "text")
 }
 
 // A fault is said so: its line, and the fault.
@@ -197,9 +209,42 @@ fn check_fault(rt: &impl Abort, alloc: Global, front: &str, place: u64, row: &st
     check_said(rt, alloc, fault, &due_of(rt, alloc, words, place));
 }
 
+// Feeds a piece up to the first fault.
+fn feed_to_fault(framer: &mut Framer, piece: &[u8]) -> Result<(), StreamFault> {
+    let mut rest = piece;
+    for _ in 0..1000 {
+        if rest.is_empty() {
+            return Ok(());
+        }
+        let taken = framer.feed(rest)?;
+        rest = rest.get(taken..).unwrap_or(&[]);
+        framer.take();
+    }
+    Ok(())
+}
+
+// How the framing of a stream ends that comes in pieces of this length.
+fn framed(framer: &mut Framer, stream: &[u8], len: usize) -> Result<(), StreamFault> {
+    for piece in stream.chunks(len.max(1)) {
+        feed_to_fault(framer, piece)?;
+    }
+    framer.finish()
+}
+
+// A framer that met a row's fault, in pieces of this length, refuses all that comes behind it.
+fn check_failed(rt: &impl Abort, alloc: Global, row: &str, len: usize) {
+    let (_, header) = parts_of(row);
+    let stream = came_of(rt, alloc, header);
+    let mut framer = Framer::new(alloc, 16_777_215);
+    same(rt, &framed(&mut framer, &stream, len).is_err(), &true, &row);
+    same(rt, &framer.feed(&stream), &Err(StreamFault::Failed), &row);
+    same(rt, &framer.finish(), &Err(StreamFault::Failed), &row);
+}
+
 // A row alone, and behind a whole PDU, in reads of each length.
 fn check_faulty(rt: &impl Abort, alloc: Global, row: &str) {
     for step in 1..102usize {
+        check_failed(rt, alloc, row, step);
         check_fault(rt, alloc, "", 0, row, step);
         check_fault(rt, alloc, lines_of(rt, NOP_OUT), 52, row, step);
     }

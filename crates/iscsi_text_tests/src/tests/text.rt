@@ -276,10 +276,7 @@ const READ: &[(&[u8], Option<usize>)] = &[
 ];
 
 fn check_read(rt: &impl Abort, alloc: Global, bytes: &[u8], pairs: Option<usize>) {
-    let Ok(text) = read_text(alloc, bytes) else {
-        return;
-    };
-    let count = match text {
+    let count = match read_text(alloc, bytes).expect(rt, "memory") {
         Some(text) => Some(text.len()),
         None => None,
     };
