@@ -11,3 +11,4 @@ pub mod SerialStepLemmas
 pub mod SideLemmas
 pub mod WholeRunsLaw
 pub mod WholeStreamsLaw
+pub mod VerdictLemmas

@@ -1,7 +1,7 @@
 //! Two streams in step.
 
-ghost use Rattle.std.specs.Prelude.{◌≡◌, ◌++◌, ℕ, List, true, false, OnOk, OnErr};
-ghost use Rattle.iscsi_compare.specs.Comparing.{Input, Gave, Compares, Tells};
+ghost use Rattle.std.specs.Prelude.{◌≡◌, ◌++◌, ℕ, List, true, false, Ok, IfErr, OnOk, OnErr};
+ghost use Rattle.iscsi_compare.specs.Comparing.{Input, Gave, Agree, Part, Fails, Compares, Tells};
 ghost use Rattle.iscsi_compare.specs.declared.verdict.Verdict.TheVariants as verdict;
 ghost use Rattle.iscsi_stream.specs.Shown.{IsLine};
 
@@ -21,6 +21,32 @@ use std::io::Read;
 /// where a read fails or 16,777,216 of them did not reach the next PDU, `NoMemory` where memory runs
 /// out. One PDU of each stream is held, and its canonical form, however long the streams are.
 pub fn compare<R: Read, Q: Read>(
+    alloc: Global,
+    mine: &mut R,
+    other: &mut Q,
+    out: &mut Vec<u8>,
+) -> Result<Verdict, CompareFault>
+    // The same: both streams were read to their ends, and have one meaning.
+    ensures same { result ≡ Ok verdict.Same → (first : Input) × (second : Input)
+        × Gave (R.remaining mine.old) (R.remaining mine.new) first
+        × Gave (Q.remaining other.old) (Q.remaining other.new) second × Agree first second }
+    // They part at these places, and so have no meaning in common.
+    ensures differ { (place other_place : ℕ) → result ≡ Ok (verdict.Differ place other_place)
+        → (first : Input) × (second : Input)
+        × Gave (R.remaining mine.old) (R.remaining mine.new) first
+        × Gave (Q.remaining other.old) (Q.remaining other.new) second
+        × Part first second place other_place }
+    ensures fault { IfErr result (λ fault. (first : Input) × (second : Input)
+        × Gave (R.remaining mine.old) (R.remaining mine.new) first
+        × Gave (Q.remaining other.old) (Q.remaining other.new) second
+        × Fails fault first second) }
+    ensures tells { Tells result out.old.items out.new.items }
+{
+    compare_streams(alloc, mine, other, out)
+}
+
+// Compares two streams, PDU by PDU.
+fn compare_streams<R: Read, Q: Read>(
     alloc: Global,
     mine: &mut R,
     other: &mut Q,

@@ -351,14 +351,39 @@ fn ample(rt: &impl Abort, alloc: Global, mark: &str) -> Vec<u8> {
     }
 }
 
-/// For `rt try --test --fail-alloc`: nothing but the want of memory may come in place of a verdict.
+// What is said of two streams. Where memory runs out no line is left, and it is said then.
+fn said_twice(
+    rt: &impl Abort,
+    alloc: Global,
+    first: &[u8],
+    second: &[u8],
+    lines: &mut Vec<u8>,
+) -> Result<Verdict, CompareFault> {
+    let (mut mine, mut other) = (first, second);
+    let said = compare_jobs(alloc, &mut mine, &mut other, lines);
+    if said != Err(CompareFault::NoMemory) {
+        return said;
+    }
+    same(rt, &lines.len(), &0, &"no line");
+    let (mut mine, mut other) = (first, second);
+    compare_jobs(alloc, &mut mine, &mut other, lines)
+}
+
+/// For `rt try --test --fail-alloc`: nothing but the want of memory may come in place of a verdict,
+/// and it leaves no line.
 #[test]
 fn refused_memory_changes_no_verdict(rt: HostRuntime) {
     let first = ample(&rt, rt.alloc(), "> ");
     let second = ample(&rt, rt.alloc(), "< ");
-    let mut said = said_of(rt.alloc(), &first, &second, (3, 3));
-    if said == Err(CompareFault::NoMemory) {
-        said = said_of(rt.alloc(), &first, &second, (3, 3));
-    }
+    let mut lines = Vec::new(rt.alloc());
+    let said = said_twice(&rt, rt.alloc(), &first, &second, &mut lines);
     same(&rt, &said, &Ok(Verdict::Same), &"at last");
+    let said = said_twice(&rt, rt.alloc(), &first, &[], &mut lines);
+    let parted = Verdict::Differ {
+        place: 0,
+        other_place: 0,
+    };
+    same(&rt, &said, &Ok(parted), &"a stream and nothing");
+    let ends = lines.ends_with(b"\n0 end\n");
+    same(&rt, &ends, &true, &"two lines");
 }

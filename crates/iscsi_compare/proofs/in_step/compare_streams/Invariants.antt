@@ -1,6 +1,6 @@
 use Rattle.iscsi_compare.specs.Inside.{fuel}
 use Rattle.iscsi_compare.proofs.InStepLemmas.{streams, InStep}
-use Rattle.iscsi_compare.proofs.in_step.compare.Given as goal
+use Rattle.iscsi_compare.proofs.in_step.compare_streams.Given as goal
 
 abbrev pub invariant-loop-other_form : goal.invariant-loop-other_form
 invariant-loop-other_form g l =
