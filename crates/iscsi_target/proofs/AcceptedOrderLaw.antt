@@ -2,7 +2,6 @@
 use Rattle.std.proofs.Common.{◌≡◌, ◌⊎◌, inl, inr, ℕ, ◌+◌, List, [], ◌∷◌, ◌++◌, Bool, true, false, length, Some, None, refl, sym, ap, ◌∙◌, subst, map}
 use Rattle.std.proofs.Common.{append_assoc}
 use Rattle.std.specs.Prelude.{◌==◌, nat_lt, if◌then◌else◌}
-use Rattle.std.specs.List.{AllByRecursion}
 use Rattle.std.proofs.lemmas.Bool.{eqb-true}
 use Rattle.std.proofs.lemmas.List.{append-nil, map-append}
 use Rattle.std.proofs.lemmas.Grind.{flat_map-append}
@@ -31,7 +30,7 @@ use Rattle.iscsi_target.specs.Transfer.{taken, with_data, is_in_sequence, receiv
 use Rattle.iscsi_target.specs.Execution.{Device, reliable, execute}
 use Rattle.iscsi_target.specs.Command.{order_of, led_by, send_r2t, task_of as task_for, task_by, task_planned}
 use Rattle.iscsi_target.specs.Machine.{begun, stays, step, step_on, answers, then_stepped, is_closed, done_in_turn, having_accepted, write_of, with_write}
-use Rattle.iscsi_target.specs.Laws.{Command, task_in, tasks_in, task_of, tasks_done, task_open, tasks_open, HasCmdSn, AreInOrder}
+use Rattle.iscsi_target.specs.Laws.{Command, task_in, tasks_in, task_of, tasks_done, task_open, tasks_open, AreInOrder}
 use Rattle.iscsi_target.proofs.TurnLemmas.{Writes, Waits, Opens, Begins, begins, Turns, turns, with_tasks, stays_on}
 use Rattle.iscsi_target_session.proofs.CaseLemmas.{by_cases}
 use Rattle.iscsi_target.proofs.StepPartLemmas.{Accepts, Immediately, InTurn, Parts, step_parts}
@@ -327,9 +326,9 @@ answers_queue s disk (m ∷ ms) =
     (closed_queues s.tasks first first.disk q e))
     (λ e. open_queues s.tasks first (answers first.machine first.disk ms) q e (answers_queue first.machine first.disk ms))
 
-pub opening_in_order : (settings : Settings) (n : ℕ) (disk : Disk) (ms : List Message) → AllByRecursion HasCmdSn ms →
+pub opening_in_order : (settings : Settings) (n : ℕ) (disk : Disk) (ms : List Message) →
     AreInOrder (answers (opening settings n) disk ms)
-opening_in_order settings n disk ms all =
+opening_in_order settings n disk ms =
     let q : Queues [] (answers (opening settings n) disk ms) = answers_queue (opening settings n) disk ms in
     record { more = q.more; order = q.order; open_ = q.open_ }
 

@@ -8,6 +8,8 @@ use Rattle.scsi_disk.specs.Disk.{Disk}
 use Rattle.iscsi_stream.specs.Stream.{Message}
 use Rattle.iscsi_stream.specs.Canonical.{canon, canonical_bytes}
 use Rattle.iscsi_stream.specs.Framing.{Framing, Takes, Moves, FeedFails, is_ready, given_up, message_of, settled, holding}
+use Rattle.iscsi_stream.proofs.ReadyLemmas.{apart, ready_of}
+use Rattle.iscsi_stream.specs.declared.fault.StreamFault.TheVariants as stream
 use Rattle.iscsi_stream.proofs.TakingLemmas.{moves_none, moves_gave, moves_then, taken_more, moves_taken}
 use Rattle.iscsi_stream.proofs.PassingLemmas.{unready_after, takes_some}
 use Rattle.iscsi_login.specs.declared.phase.Phase.{Phase}
@@ -22,14 +24,16 @@ use Rattle.iscsi_target.specs.Execution.{Device, reliable}
 use Rattle.iscsi_target.specs.Machine.{Next, Dropped, Answered, Queued, full_met, done_first, step_on, answers, then_stepped, first_rule, MayAnswer, MayStop}
 use Rattle.iscsi_target.specs.Machine.{RunsIn, is_closed}
 use Rattle.iscsi_target.specs.Laws.{joined_stepped}
-use Rattle.iscsi_target.specs.Feed.{Scene, scene, progress, remainder, Connection, Store, Answers, StopsShort, LeavesBy, IsShut, Ends, Feeds, FeedsOne, IsLive}
+use Rattle.iscsi_target.specs.Feed.{AsksForMemory, Scene, scene, progress, remainder, Connection, Store, Answers, StopsShort, LeavesBy, IsShut, Ends, Feeds, FeedsOne, IsLive}
 use Rattle.iscsi_target.specs.Inside.{Moment, store_of, moment, connection, GivesUp, Stops, Halts, HaltsAt}
 use Rattle.iscsi_target.specs.Inside.{IsAnswered, AnswersReady, ShutsReady, RestFails, TakesOne, FailsOne}
 use Rattle.iscsi_target.proofs.JoiningLemmas.{ones, SameNext, next_then, next_back, met_same, first_same, step_joined}
 use Rattle.iscsi_target.proofs.AppendLemmas.{answers_append, may_append}
 use Rattle.iscsi_target.proofs.ServingLemmas.{runs_as, runs_rise}
 use Rattle.iscsi_target.proofs.TurnLemmas.{with_tasks}
-use Rattle.iscsi_target.proofs.KeepingLemmas.{step_settings}
+use Rattle.iscsi_login.specs.Stage.{is_closed_phase}
+use Rattle.iscsi_target.proofs.KeepingLemmas.{step_settings, queued_phase}
+use Rattle.iscsi_target.proofs.ClosingLemmas.{may_close}
 
 -- the bytes of the piece before the rest were taken, and their PDUs answered
 pub record FedUpTo (old : Scene) (piece rest : List ℕ) (new : Scene) : Type 0 where
@@ -51,11 +55,12 @@ pub record GoesUpTo (old : Scene) (piece rest : List ℕ) (new : Scene) : Type 0
   pub rule : fed.stepped.rule ≡ None
   pub live : is_closed new.connection.machine ≡ false
 
--- the last PDU broke this rule, or none; n were answered at most
-pub record FedAs (old : Scene) (piece rest : List ℕ) (new : Scene) (broken : Option ℕ) (most : ℕ) : Type 0 where
+-- the last PDU broke this rule, or none; n were answered at most, and n if one was ready
+pub record FedAs (old : Scene) (piece rest : List ℕ) (new : Scene) (broken : Option ℕ) (most : ℕ) (ready : Bool) : Type 0 where
   pub fed : FedUpTo old piece rest new
   pub rule : fed.stepped.rule ≡ broken
   pub few : length fed.messages ≤ most
+  pub full : ready ≡ true → length fed.messages ≡ most
 
 pub fed_none : (old : Connection) (before : Store) (output piece : List ℕ) → is_ready old.framing ≡ false → is_closed old.machine ≡ false →
     GoesUpTo (scene old before output) piece piece (scene old before output)
@@ -84,10 +89,11 @@ pub fed_bytes : (old : Connection) (before : Store) (output piece rest after_res
     (framing : Framing)
     → (g : GoesUpTo (scene old before output) piece rest (scene now after written)) → Takes now.framing rest n framing → is_ready framing ≡ false
     → after_rest ≡ drop n rest
-    → FedAs (scene old before output) piece after_rest (scene (connection now.machine framing) after written) None (length g.fed.messages + 1)
+    → FedAs (scene old before output) piece after_rest (scene (connection now.machine framing) after written) None (length g.fed.messages + 1) (is_ready framing)
 fed_bytes old before output piece rest after_rest now after written n framing g t unready is = let f = g.fed in record {
   rule = g.rule;
   few = omega arith;
+  full = λ e. absurd (apart e unready);
   fed = record {
     front = f.front ++ take n rest;
     parts = taken_more piece f.front rest n f.parts ∙ ap (λ (x : List ℕ). (f.front ++ take n rest) ++ x) (sym is);
@@ -146,7 +152,7 @@ pub fed_pdu : (old : Connection) (before : Store) (output piece rest after_rest 
     (framing : Framing) (broken : Option ℕ) (new : Connection) (after : Store) (more : List ℕ)
     → (g : GoesUpTo (scene old before output) piece rest (scene now mid written)) → Takes now.framing rest n framing →
     IsAnswered (scene (connection now.machine framing) mid written) broken (scene new after more) → after_rest ≡ drop n rest
-    → FedAs (scene old before output) piece after_rest (scene new after more) broken (length g.fed.messages + 1)
+    → FedAs (scene old before output) piece after_rest (scene new after more) broken (length g.fed.messages + 1) (is_ready framing)
 fed_pdu old before output piece rest after_rest now mid written n framing broken new after more g t a is =
     let f = g.fed in
     let m : Message = message_of framing a.head a.segment in
@@ -202,6 +208,7 @@ fed_pdu old before output piece rest after_rest now mid written n framing broken
             ∙ f.settings_is;
       };
       few = omega (arith, length-append f.messages (m ∷ []));
+      full = λ e. length-append f.messages (m ∷ []);
       rule = rule_last f.stepped.rule one.rule g.rule ∙ sym (a.serves.rule_is ∙ ap (λ (x : Stepped). x.rule) same);
     }
 
@@ -209,22 +216,23 @@ fed_ready : (old : Connection) (before : Store) (output piece rest after_rest : 
     (framing : Framing) (broken : Option ℕ) (new : Connection) (after : Store) (more : List ℕ)
     → (g : GoesUpTo (scene old before output) piece rest (scene now mid written)) → Takes now.framing rest n framing →
     AnswersReady (scene (connection now.machine framing) mid written) broken (scene new after more) → after_rest ≡ drop n rest
-    → FedAs (scene old before output) piece after_rest (scene new after more) broken (length g.fed.messages + 1)
+    → FedAs (scene old before output) piece after_rest (scene new after more) broken (length g.fed.messages + 1) (is_ready framing)
 fed_ready old before output piece rest after_rest now mid written n framing broken new after more g t (inl u) is =
     let most : ℕ = length g.fed.messages + 1 in
-    subst (λ (b : Option ℕ). FedAs (scene old before output) piece after_rest (scene new after more) b most) (sym u.rule_is)
-    (subst (λ (c : Connection). FedAs (scene old before output) piece after_rest (scene c after more) None most) (sym u.connection_is)
-    (subst (λ (s : Store). FedAs (scene old before output) piece after_rest (scene (connection now.machine framing) s more) None most) (sym u.store_is)
-    (subst (λ (x : List ℕ). FedAs (scene old before output) piece after_rest (scene (connection now.machine framing) mid x) None most) (sym u.output_is)
+    let ready : Bool = is_ready framing in
+    subst (λ (b : Option ℕ). FedAs (scene old before output) piece after_rest (scene new after more) b most ready) (sym u.rule_is)
+    (subst (λ (c : Connection). FedAs (scene old before output) piece after_rest (scene c after more) None most ready) (sym u.connection_is)
+    (subst (λ (s : Store). FedAs (scene old before output) piece after_rest (scene (connection now.machine framing) s more) None most ready) (sym u.store_is)
+    (subst (λ (x : List ℕ). FedAs (scene old before output) piece after_rest (scene (connection now.machine framing) mid x) None most ready) (sym u.output_is)
     (fed_bytes old before output piece rest after_rest now mid written n framing g t u.unready is))))
 fed_ready old before output piece rest after_rest now mid written n framing broken new after more g t (inr a) is =
     fed_pdu old before output piece rest after_rest now mid written n framing broken new after more g t a is
 
 pub fed_one : (old : Connection) (before : Store) (output piece rest after_rest : List ℕ) (now : Connection) (mid : Store) (written : List ℕ) (n : ℕ)
     (broken : Option ℕ) (new : Connection) (after : Store) (more : List ℕ)
-    → (g : GoesUpTo (scene old before output) piece rest (scene now mid written)) → TakesOne (scene now mid written) rest n broken (scene new after more)
-    → after_rest ≡ drop n rest
-    → FedAs (scene old before output) piece after_rest (scene new after more) broken (length g.fed.messages + 1)
+    → (g : GoesUpTo (scene old before output) piece rest (scene now mid written))
+    → (t : TakesOne (scene now mid written) rest n broken (scene new after more)) → after_rest ≡ drop n rest
+    → FedAs (scene old before output) piece after_rest (scene new after more) broken (length g.fed.messages + 1) (is_ready t.framing)
 fed_one old before output piece rest after_rest now mid written n broken new after more g t is =
     fed_ready old before output piece rest after_rest now mid written n t.framing broken new after more g t.takes t.answers is
 
@@ -258,13 +266,13 @@ rest_is piece front rest e =
 -- what stands of the PDUs that were answered
 leaves_to : (old : Connection) (before : Store) (output piece rest : List ℕ) (now : Connection) (after : Store) (written : List ℕ)
     (result : Result Phase TargetFault) (new : Machine)
-    → (f : FedUpTo (scene old before output) piece rest (scene now after written)) → (result ≡ Err faults.NoMemory → IsShut f.stepped.machine new)
+    → (f : FedUpTo (scene old before output) piece rest (scene now after written)) → (result ≡ Err faults.NoMemory → IsShut f.stepped.machine new × AsksForMemory now.framing (drop (count_of piece rest) piece))
     → LeavesBy result output (remainder now.framing (drop (count_of piece rest) piece) f.stepped f.answered.failures) new after written
 leaves_to old before output piece rest now after written (Ok phase) new f shut = record { failures = f.counted; disk = f.disk; output_is = f.output_is }
 leaves_to old before output piece rest now after written (Err faults.NoMemory) new f shut = record {
   front = unchanged f.stepped.machine f.stepped.disk;
-  stops = inl (refl, (let e = f.counted in omega (arith, e)));
-  shut = shut refl;
+  stops = inl (refl, (let e = f.counted in omega (arith, e)), (shut refl).1);
+  shut = (shut refl).0;
   disk = f.disk;
   output_is = f.output_is ∙ ap (λ (ms : List Message). output ++ canon ms) (sym (append-nil f.stepped.answers));
 }
@@ -277,7 +285,7 @@ leaves_to old before output piece rest now after written (Err faults.Closed) new
 
 abbrev feeds_to : (old : Connection) (before : Store) (output piece rest : List ℕ) (now : Connection) (after : Store) (written : List ℕ)
     (result : Result Phase TargetFault) (new : Connection)
-    → (f : FedUpTo (scene old before output) piece rest (scene now after written)) → (result ≡ Err faults.NoMemory → IsShut f.stepped.machine new.machine)
+    → (f : FedUpTo (scene old before output) piece rest (scene now after written)) → (result ≡ Err faults.NoMemory → IsShut f.stepped.machine new.machine × AsksForMemory now.framing (drop (count_of piece rest) piece))
     → Ends piece result now.framing (count_of piece rest) f.stepped new → Feeds (scene old before output) piece result (scene new after written)
 feeds_to old before output piece rest now after written result new f shut ends = record {
   framing = now.framing;
@@ -309,8 +317,10 @@ ends_refused : (old : Connection) (before : Store) (output piece rest : List ℕ
     → GoesUpTo (scene old before output) piece rest (scene now after written) → RestFails now.framing rest fault → new.machine ≡ closed now.machine →
     Feeds (scene old before output) piece (Err fault) (scene new after written)
 ends_refused old before output piece rest now after written faults.NoMemory new g fails is =
-    feeds_to old before output piece rest now after written (Err faults.NoMemory) new g.fed (λ _. is
-    ∙ shut_as now.machine g.fed.stepped.machine g.fed.machine_is)
+    feeds_to old before output piece rest now after written (Err faults.NoMemory) new g.fed (λ _. (
+      is ∙ shut_as now.machine g.fed.stepped.machine g.fed.machine_is,
+      inl (subst (λ (x : List ℕ). FeedFails now.framing x stream.NoMemory) (sym (rest_is piece g.fed.front rest g.fed.parts)) fails),
+    ))
     (live_stepped old before output piece rest now after written g)
 ends_refused old before output piece rest now after written (faults.Stream fault) new g fails is =
     feeds_to old before output piece rest now after written (Err (faults.Stream fault)) new g.fed (λ e. absurd cc) (
@@ -385,6 +395,8 @@ stops_front r m old new disk now fb fa before after session tasks e d full queue
         done = h.done;
         device = h.device;
         is = refl;
+        live = ap (λ (x : Stepped). is_closed x.machine) (sym same)
+            ∙ h.live (ap is_closed_phase (queued_phase old disk.count m session tasks queued ∙ full));
         failures = h.failures;
         runs = runs_as h.device fb h.failures a b same h.runs;
         rises = h.rises;
@@ -416,6 +428,7 @@ stop_as s t disk now before m r after e d h =
         done = h.done;
         device = h.device;
         is = refl;
+        live = ap (λ (x : Stepped). is_closed x.machine) (sym (ap joined_stepped h.is ∙ same)) ∙ h.live;
         failures = h.failures;
         runs = runs_as h.device before h.failures a b same (subst (λ (x : Stepped). RunsIn h.device before x.executed h.failures) h.is h.runs);
         rises = h.rises;
@@ -467,6 +480,8 @@ ends_shut old before output piece rest now mid written n framing new after more 
     let counted : mid.failures ≡ f.answered.failures = f.counted in
     let moves : Moves now.framing (given_up framing s.head) (take n rest) (m ∷ []) =
     rest_moves old.framing now.framing framing rest n m (given_up framing s.head) t (moves_gave framing s.head s.segment s.means) in
+    let next : Moves now.framing (given_up framing s.head) (take n (drop (count_of piece rest) piece)) (m ∷ []) =
+    subst (λ (y : List ℕ). Moves now.framing (given_up framing s.head) (take n y) (m ∷ [])) (sym (rest_is piece f.front rest f.parts)) moves in
     let last : Answers old before f.front (progress now.framing f.messages f.stepped) after = record {
       taken = f.answered.taken;
       ready = f.answered.ready;
@@ -486,13 +501,13 @@ ends_shut old before output piece rest now mid written n framing new after more 
       leaves = record {
         front = x.front;
         stops = elim x.stops [
-          | inl h ↦ inl (h.0, omega (arith, counted, h.1))
+          | inl h ↦ inl (h.0, omega (arith, counted, h.1), inr (m, given_up framing s.head, n, next))
           | inr h ↦ inr (record {
             message = m;
             next = given_up framing s.head;
             limit = ap (λ (v : Framing). v.limit) t.gathered;
             count = n;
-            taken = subst (λ (y : List ℕ). Moves now.framing (given_up framing s.head) (take n y) (m ∷ [])) (sym (rest_is piece f.front rest f.parts)) moves;
+            taken = next;
             stops = subst (λ (k : ℕ). MayStop f.stepped.machine f.stepped.disk k m x.front after.failures) counted h;
           })
         ];
@@ -509,7 +524,11 @@ pub ends_broken : (old : Connection) (before : Store) (output piece rest : List 
     → (f : FedUpTo (scene old before output) piece rest (scene now after written)) → f.stepped.rule ≡ Some rule → joined now.machine ≡ now.machine →
     Feeds (scene old before output) piece (Err (faults.Protocol rule)) (scene now after written)
 ends_broken old before output piece rest now after written rule f broken whole =
-    feeds_to old before output piece rest now after written (Err (faults.Protocol rule)) now f (λ e. absurd cc) (broken, sym whole ∙ f.machine_is)
+    feeds_to old before output piece rest now after written (Err (faults.Protocol rule)) now f (λ e. absurd cc) (
+      broken,
+      sym whole ∙ f.machine_is,
+      may_close old.machine before.disk before.failures f.messages f.stepped f.answered.failures rule f.answered.may broken,
+    )
 
 pub ends_closed : (old : Connection) (before : Store) (output piece rest : List ℕ) (now : Connection) (after : Store) (written : List ℕ) (phase : Phase)
     → (f : FedUpTo (scene old before output) piece rest (scene now after written)) → f.stepped.rule ≡ None → joined now.machine ≡ now.machine → phase
@@ -579,12 +598,13 @@ front_taken v w piece n t =
     }
 
 feeds_one : (old : Connection) (before : Store) (output piece : List ℕ) (n : ℕ) (phase : Phase) (new : Connection) (after : Store) (written : List ℕ)
-    → n ≤ length piece → (0 < length piece → 0 < n) → (f : FedUpTo (scene old before output) (take n piece) [] (scene new after written))
+    → n ≤ length piece → (0 < length piece → 0 < n)
+    → (f : FedUpTo (scene old before output) (take n piece) [] (scene new after written))
     → f.stepped.rule ≡ None →
     length f.messages ≤ 1
-    → joined new.machine ≡ new.machine → phase ≡ new.machine.session.phase → (over : Bool) → is_closed new.machine ≡ over →
+    → (n < length piece → length f.messages ≡ 1) → joined new.machine ≡ new.machine → phase ≡ new.machine.session.phase → (over : Bool) → is_closed new.machine ≡ over →
     FeedsOne (scene old before output) piece n phase (scene new after written)
-feeds_one old before output piece n phase new after written bound some f rule few whole is true over = record {
+feeds_one old before output piece n phase new after written bound some f rule few stops whole is true over = record {
   bound = bound;
   some = some;
   fed = feeds_to old before output (take n piece) [] new after written (Ok phase) new f (λ e. absurd cc) (
@@ -594,8 +614,9 @@ feeds_one old before output piece n phase new after written bound some f rule fe
     inl (sym (closed_as new.machine f.stepped.machine f.machine_is) ∙ over),
   );
   one = few;
+  stops = stops;
 }
-feeds_one old before output piece n phase new after written bound some f rule few whole is false live = record {
+feeds_one old before output piece n phase new after written bound some f rule few stops whole is false live = record {
   bound = bound;
   some = some;
   fed = feeds_to old before output (take n piece) [] new after written (Ok phase) new f (λ e. absurd cc) (
@@ -605,6 +626,7 @@ feeds_one old before output piece n phase new after written bound some f rule fe
     inr (record { live = sym (closed_as new.machine f.stepped.machine f.machine_is) ∙ live; all = omega arith; framing_is = refl }),
   );
   one = few;
+  stops = stops;
 }
 
 pub next_fed : (old : Connection) (before : Store) (output piece : List ℕ) (n : ℕ) (phase : Phase) (new : Connection) (after : Store) (written : List ℕ)
@@ -618,4 +640,4 @@ next_fed old before output piece n phase new after written unready live t whole 
     let f = fed_one old before output (take n piece) (take n piece) [] old before output n None new after written
     (fed_none old before output (take n piece) unready live) front none in
     feeds_one old before output piece n phase new after written t.takes.bound (takes_some old.framing piece n t.framing unready t.takes) f.fed f.rule f.few
-    whole is (is_closed new.machine) refl
+    (λ lt. f.full (ready_of t.framing.failed t.framing.held (ap (λ (v : Framing). v.failed) t.takes.gathered ∙ t.takes.live) (t.takes.stops lt))) whole is (is_closed new.machine) refl

@@ -1,7 +1,7 @@
 -- A stream that is fed in pieces.
-use Rattle.std.proofs.Common.{◌≡◌, ◌<◌, ◌≤◌, ◌⊎◌, inl, inr, ℕ, Bool, true, false, List, [], ◌∷◌, ◌++◌, length, take, drop, Option, Some, None, Result, Ok, Err}
+use Rattle.std.proofs.Common.{◌≡◌, ◌<◌, ◌≤◌, ◌⊎◌, inl, inr, ℕ, Bool, true, false, List, [], ◌∷◌, ◌++◌, length, take, drop, Some, Result, Ok, Err}
 use Rattle.std.proofs.Common.{refl, sym, ap, subst, ◌∙◌, arith, append_assoc}
-use Rattle.std.specs.Prelude.{nat_lt}
+use Rattle.std.specs.Prelude.{◌↔◌, nat_lt}
 use Rattle.std.specs.List.{flat_map}
 use Rattle.std.proofs.lemmas.Bool.{lt-ltb}
 use Rattle.std.proofs.lemmas.List.{append-nil, take-append-drop, take_all, take-append-le, length-append}
@@ -24,99 +24,24 @@ use Rattle.iscsi_login.specs.declared.phase.Phase.TheVariants as phases
 use Rattle.iscsi_target.specs.declared.fault.TargetFault.{TargetFault}
 use Rattle.iscsi_target.specs.declared.fault.TargetFault.TheVariants as faults
 use Rattle.iscsi_target_session.specs.Configured.{Settings}
-use Rattle.iscsi_target_session.specs.Session.{Session, Reply, limit}
-use Rattle.iscsi_target.specs.declared.tasks.Task.{Task}
-use Rattle.iscsi_target.specs.State.{Machine, Stepped, closed, opening, on, unchanged, shut_down, waiting}
+use Rattle.iscsi_target_session.specs.Session.{limit}
+use Rattle.iscsi_target.specs.State.{Machine, Stepped, closed, opening, unchanged, shut_down}
 use Rattle.iscsi_target.specs.State.{joined}
-use Rattle.iscsi_target_session.specs.Login.{login_step}
-use Rattle.iscsi_target.specs.Execution.{Device, reliable}
-use Rattle.iscsi_pdu.specs.Rules.{data_out_of_order}
-use Rattle.iscsi_target.specs.Machine.{is_closed, is_over_limit, step, answers, begun, done_in_turn, then_stepped, first_rule}
+use Rattle.iscsi_target.specs.Machine.{is_closed, is_over_limit, step, answers, begun, then_stepped}
 use Rattle.iscsi_target.specs.Laws.{joined_stepped}
 use Rattle.iscsi_target.specs.Feed.{Connection, Store, Answers, Stands, LeavesBy, Ends, Feeds, Fed, HasAnswered, GoesWell, FedAll, FedIf, Stays, Meets}
 use Rattle.iscsi_target.specs.Feed.{Beginning, answers_from, beginning, opening_connection, progress, remainder, scene, Writes, Holds, Refuses, SameSession}
 use Rattle.iscsi_target_session.proofs.CaseLemmas.{by_cases}
-use Rattle.iscsi_target.proofs.TurnLemmas.{Begins, begins, Turns, turns, with_tasks}
-use Rattle.iscsi_target.proofs.StepPartLemmas.{Parts, step_parts}
-use Rattle.iscsi_target.proofs.ReplyLemmas.{login_logs, reject_reply, reject_and_close_reply, request_answered_reply}
 use Rattle.iscsi_login.specs.Stage.{is_closed_phase}
 use Rattle.iscsi_target.proofs.NumberLaws.{closed_answers, answers_settings}
 use Rattle.iscsi_target.proofs.AppendLemmas.{answers_append}
+use Rattle.iscsi_target.proofs.ClosingLemmas.{answers_close}
 use Rattle.iscsi_target.proofs.JoiningLemmas.{answers_joined}
 use Rattle.iscsi_target.proofs.PrefixLemmas.{Rests, Heads, prefix_of, begins_with, no_bad_header, none_whole, long_bytes, Leaves, prefix_split, header_or_none}
 use Rattle.iscsi_target.proofs.PrefixLemmas.{none_begun}
 use Rattle.iscsi_stream.proofs.WritingLemmas.{canon_append}
 use Rattle.iscsi_stream.specs.declared.logins.Logins.{Logins}
 use Rattle.iscsi_login.specs.Stage.{is_closed_phase}
-
--- ---- a broken rule closes the session
-
-record Closes (r : Stepped) : Type 0 where
-  is : (k : ℕ) → r.rule ≡ Some k → is_closed r.machine ≡ true
-
-reply_closes : (tasks : List Task) (disk : Disk) (r : Reply) → ((k : ℕ) → r.rule ≡ Some k → is_closed_phase r.session.phase ≡ true) → Closes (on disk tasks r)
-reply_closes tasks disk r c = record { is = c }
-
-begins_close : Begins (λ device s disk task r. Closes r)
-begins_close = record {
-  request_ = λ device s disk m none. reply_closes s.tasks disk _ (request_answered_reply s.session (waiting s.tasks) m m.head).rule;
-  refused_ = λ device s disk m h k broke. reply_closes s.tasks disk _ (reject_and_close_reply s.session (waiting s.tasks) data_out_of_order m).rule;
-  command_ = λ device s disk m h k none. record { is = λ n e. absurd cc };
-  write_ = λ device s disk task w is whole. record { is = λ n e. absurd cc };
-  send_r2t_ = λ device s disk task w is whole idle. record { is = λ n e. absurd cc };
-  wait_ = λ device s disk task w is whole idle. record { is = λ n e. absurd cc };
-}
-
-begun_closes : (device : Device) (s : Session) (disk : Disk) (task : Task) (more : List Task) → Closes (begun device (with_tasks s more) disk task)
-begun_closes device s disk task more = begins (λ device s disk task r. Closes r) begins_close device (with_tasks s more) disk task
-
-rule_case : (first later : Option ℕ) (k : ℕ) → first_rule first later ≡ Some k → (first ≡ Some k) ⊎ (later ≡ Some k)
-rule_case None later k e = inr e
-rule_case (Some rule) later k e = inl e
-
--- a task that leaves the session open breaks no rule
-turns_close : Turns (λ device s disk tasks r. Closes r)
-turns_close = record {
-  none_ = λ device s disk. record { is = λ k e. absurd cc };
-  stop_ = λ device s disk task more why. begun_closes device s disk task more;
-  then_ = λ device s disk task more b stay live later.
-      (let a : Stepped = begun device (with_tasks s more) disk task in
-      record {
-        is = λ k e. elim (rule_case a.rule b.rule k e) [
-          | inl x ↦ absurd (apart ((begun_closes device s disk task more).is k x) live)
-          | inr x ↦ later.is k x
-        ];
-      });
-}
-
-done_closes : (device : Device) (s : Session) (disk : Disk) (tasks : List Task) → Closes (done_in_turn device s disk tasks)
-done_closes device s disk tasks = turns (λ device s disk tasks r. Closes r) turns_close device s disk tasks
-
-parts_close : (device : Device) (disk : Disk) → Parts device disk (λ s m r. Closes r)
-parts_close device disk = record {
-  nothing_ = λ s m c. record { is = λ k e. absurd cc };
-  shut_ = λ s m. record { is = λ k e. refl };
-  reject_ = λ s reason m a. reply_closes s.tasks disk _ (reject_reply s.session (waiting s.tasks) reason m).rule;
-  reject_and_close_ = λ s rule m. reply_closes s.tasks disk _ (reject_and_close_reply s.session (waiting s.tasks) rule m).rule;
-  login_ = λ s m k. reply_closes s.tasks disk (login_step s.session m) (login_logs s.session m).is.rule;
-  taken_ = λ s m h w v k e f. record { is = (done_closes device s.session disk _).is };
-  refused_ = λ s t m rule a x. record { is = (reject_and_close_reply t.session (waiting t.tasks) rule m).rule };
-  admitted_ = λ s t m a x f. record { is = (done_closes device t.session disk _).is };
-}
-
-step_closes : (s : Machine) (disk : Disk) (m : Message) → Closes (step s disk m)
-step_closes s disk m = step_parts reliable disk (λ s m r. Closes r) (parts_close reliable disk) s m
-
-pub answers_close : (s : Machine) (disk : Disk) (ms : List Message) (k : ℕ) → (answers s disk ms).rule ≡ Some k → is_closed (answers s disk ms).machine ≡ true
-unfolding answers
-answers_close s disk [] k e = absurd cc
-answers_close s disk (m ∷ ms) k e =
-    let first : Stepped = step s disk m in
-    let later : Stepped = answers first.machine first.disk ms in
-    elim (rule_case first.rule later.rule k e) [
-      | inl a ↦ let c = (step_closes s disk m).is k a in ap (λ (r : Stepped). is_closed r.machine) (closed_answers first.machine first.disk ms c) ∙ c
-      | inr b ↦ answers_close first.machine first.disk ms k b
-    ]
 
 -- ---- what was taken so far
 
@@ -752,28 +677,36 @@ closed_in phases.Login e = absurd cc
 closed_in phases.Full e = absurd cc
 closed_in phases.Closed e = refl
 
-both_live : (settings : Settings) (n : ℕ) (disk : Disk) (ms : List Message) (rest : List ℕ) (a b : Machine) → Holds (beginning settings n disk) ms rest a →
-    Holds (beginning settings n disk) ms rest b
-    → is_closed a ≡ false → is_closed b ≡ false
-both_live settings n disk ms rest a b x y live = by_cases (is_closed b)
+both_live : (settings : Settings) (n : ℕ) (disk : Disk) (ms : List Message) (rest other : List ℕ) (a b : Machine)
+    → (Refuses (limit settings) other → Refuses (limit settings) rest) → Holds (beginning settings n disk) ms rest a
+    → Holds (beginning settings n disk) ms other b → is_closed a ≡ false → is_closed b ≡ false
+both_live settings n disk ms rest other a b refused x y live = by_cases (is_closed b)
     (λ over. absurd (elim (y.ends over) [
       | inl done ↦ apart done (sym (ap is_closed (x.goes_on live)) ∙ live)
-      | inr r ↦ apart (x.refuses r) live
+      | inr r ↦ apart (x.refuses (refused r)) live
     ]))
     (λ e. e)
 
-pub same_session : (settings : Settings) (n : ℕ) (disk : Disk) (ms : List Message) (rest : List ℕ) (a b : Machine)
-    → Holds (beginning settings n disk) ms rest a →
-    Holds (beginning settings n disk) ms rest b → SameSession a b
-same_session settings n disk ms rest a b x y =
+-- whatever follows, the values and the stage are those of what was taken
+pub same_values : (settings : Settings) (n : ℕ) (disk : Disk) (ms : List Message) (rest other : List ℕ) (a b : Machine)
+    → Holds (beginning settings n disk) ms rest a → Holds (beginning settings n disk) ms other b
+    → (b.session.held ≡ a.session.held) × (b.session.stage ≡ a.session.stage)
+same_values settings n disk ms rest other a b x y =
     let same : closed b ≡ closed a = y.machine ∙ sym x.machine in
-    let goes_on : is_closed a ≡ false → b ≡ a = λ live. y.goes_on (both_live settings n disk ms rest a b x y live) ∙ sym (x.goes_on live) in
+    (ap (λ (s : Machine). s.session.held) same, ap (λ (s : Machine). s.session.stage) same)
+
+pub same_session : (settings : Settings) (n : ℕ) (disk : Disk) (ms : List Message) (rest other : List ℕ) (a b : Machine)
+    → (Refuses (limit settings) rest ↔ Refuses (limit settings) other)
+    → Holds (beginning settings n disk) ms rest a → Holds (beginning settings n disk) ms other b → SameSession a b
+same_session settings n disk ms rest other a b refused x y =
+    let same = same_values settings n disk ms rest other a b x y in
+    let goes_on : is_closed a ≡ false → b ≡ a = λ live. y.goes_on (both_live settings n disk ms rest other a b refused.1 x y live) ∙ sym (x.goes_on live) in
     record {
-      held = ap (λ (s : Machine). s.session.held) same;
-      stage = ap (λ (s : Machine). s.session.stage) same;
+      held = same.0;
+      stage = same.1;
       phase = by_cases (is_closed a)
           (λ over. by_cases (is_closed b) (λ e. closed_in b.session.phase e ∙ sym (closed_in a.session.phase over))
-          (λ live. absurd (apart over (both_live settings n disk ms rest b a y x live))))
+          (λ live. absurd (apart over (both_live settings n disk ms other rest b a refused.0 y x live))))
           (λ live. ap (λ (s : Machine). s.session.phase) (goes_on live));
       goes_on = goes_on;
     }

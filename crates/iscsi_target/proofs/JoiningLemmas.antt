@@ -407,8 +407,8 @@ taken_by s w m h bytes true true e = (
   refl,
   written_same (with_data (joined_write w) h bytes) (with_data w h bytes) s.tasks refl
       (ap (λ (x : List ℕ). record (with_data w h bytes) { pieces = with_piece [] 0 x })
-      (data_with (joined_write w).pieces (received (joined_write w)) bytes
-      ∙ ap (λ (front : List ℕ). front ++ bytes) (data_of_one (data_of w.pieces)) ∙ sym (data_with w.pieces (received w) bytes))),
+      (data_with (joined_write w).pieces h.buffer_offset bytes
+      ∙ ap (λ (front : List ℕ). front ++ bytes) (data_of_one (data_of w.pieces)) ∙ sym (data_with w.pieces h.buffer_offset bytes))),
 )
 taken_by s w m h bytes true false e = absurd cc
 taken_by s w m h bytes false true e = absurd cc

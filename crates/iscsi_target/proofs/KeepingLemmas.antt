@@ -245,27 +245,27 @@ parts_keep device disk = record {
 
 -- tasks are done in a session that has what there was
 abbrev NextKeeps : Session → Next → Type 0
-NextKeeps s (Queued t tasks) = KeptSession s t
+NextKeeps s (Queued t tasks) = KeptSession s t × (t.phase ≡ s.phase)
 NextKeeps s _ = Unit {0}
 
-admitted_next : (s : Session) (t : Machine) (count : ℕ) (m : Message) → KeptSession s t.session → NextKeeps s (admitted t count m)
-admitted_next s t count m k =
+admitted_next : (s : Session) (t : Machine) (count : ℕ) (m : Message) → KeptSession s t.session → t.session.phase ≡ s.phase → NextKeeps s (admitted t count m)
+admitted_next s t count m k same =
     by_cases (is_tag_of t.tasks (tag_of m.head)) (λ e. rw e tt)
-    (λ e. by_cases (breaks_rules t.session.held (length (segment_bytes m.segment)) m.head) (λ f. rw (e, f) tt) (λ f. rw (e, f) k))
+    (λ e. by_cases (breaks_rules t.session.held (length (segment_bytes m.segment)) m.head) (λ f. rw (e, f) tt) (λ f. rw (e, f) (k, same)))
 
 advances : (s : Machine) → KeptSession s.session (advanced s).session
 advances s = record { settings = refl; stays = λ l. record { stage = refl; held = refl; later = λ l. l } }
 
 request_next : (s : Machine) (count : ℕ) (m : Message) (i : Bool) (cmd_sn : ℕ) → NextKeeps s.session (request s count m i cmd_sn).next
-request_next s count m true cmd_sn = by_cases (is_busy s.tasks) (λ e. rw e tt) (λ e. rw e (admitted_next s.session s count m (same_session s.session)))
+request_next s count m true cmd_sn = by_cases (is_busy s.tasks) (λ e. rw e tt) (λ e. rw e (admitted_next s.session s count m (same_session s.session) refl))
 request_next s count m false cmd_sn =
     by_cases (is_within cmd_sn s.session.exp_cmd_sn (max_cmd_sn s))
-    (λ e. by_cases (cmd_sn == s.session.exp_cmd_sn) (λ f. rw (e, f) (admitted_next s.session (advanced s) count m (advances s))) (λ f. rw (e, f) tt))
+    (λ e. by_cases (cmd_sn == s.session.exp_cmd_sn) (λ f. rw (e, f) (admitted_next s.session (advanced s) count m (advances s) refl)) (λ f. rw (e, f) tt))
     (λ e. rw e tt)
 
 taken_next : (s : Machine) (m : Message) (w : Option Write) → NextKeeps s.session (data_taken s m w)
 taken_next s m None = tt
-taken_next s m (Some w) = same_session s.session
+taken_next s m (Some w) = (same_session s.session, refl)
 
 data_next : (s : Machine) (m : Message) (h : DataPdu) (bytes : List ℕ) (w : Option Write) → NextKeeps s.session (data_for s m h bytes w)
 data_next s m h bytes None = tt
@@ -285,6 +285,11 @@ full_next s count m =
     by_cases (is_due_kind s.session.session_type m.head)
     (λ e. by_cases (is_too_long s m) (λ f. rw (e, f) tt) (λ f. rw (e, f) (due_next s count m m.head)))
     (λ e. rw e tt)
+
+-- the phase in which tasks are done
+pub queued_phase : (s : Machine) (count : ℕ) (m : Message) (session : Session) (tasks : List Task) → (full_met s count m).next ≡ Queued session tasks →
+    session.phase ≡ s.session.phase
+queued_phase s count m session tasks e = (subst (NextKeeps s.session) e (full_next s count m)).1
 
 -- ---- a message
 
@@ -307,7 +312,7 @@ step_stays device s disk m = (step_keeps device s disk m).stays
 -- also where memory ran out at one of its tasks
 pub stop_stays : (s : Machine) (disk : Disk) (before : ℕ) (m : Message) (r : Stepped) (after : ℕ) → MayStop s disk before m r after → Stays s r.machine
 stop_stays s disk before m r after h =
-    let x : KeptSession s.session h.session = subst (NextKeeps s.session) h.queued (full_next s disk.count m) in
+    let x : KeptSession s.session h.session = (subst (NextKeeps s.session) h.queued (full_next s disk.count m)).0 in
     let y : Keeps (with_tasks h.session []) r = subst (Keeps (with_tasks h.session [])) (sym h.is) (first_keeps h.done h.device h.session disk h.tasks) in
     let l : IsLater s.session.phase = subst IsLater (sym h.full) tt in
     let a = x.stays l in

@@ -21,7 +21,8 @@ use Rattle.iscsi_target.specs.Feed.{Alike, Connection, Ends, Fed, FedAlike, FedI
 use Rattle.iscsi_target.proofs.NumberLaws.{closed_answers}
 use Rattle.iscsi_target.proofs.ContinuationLemmas.{then_nothing}
 use Rattle.iscsi_target.proofs.AppendLemmas.{answers_append}
-use Rattle.iscsi_target.proofs.FeedingLemmas.{answers_close, stands}
+use Rattle.iscsi_target.proofs.ClosingLemmas.{answers_close}
+use Rattle.iscsi_target.proofs.FeedingLemmas.{stands}
 
 -- ---- what messages lead to
 

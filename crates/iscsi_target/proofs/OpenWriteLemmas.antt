@@ -92,14 +92,27 @@ pub due_after : (total : ℕ) (due : Due) (last : Bool) → DueFits total due �
 due_after total due true fits = tt
 due_after total due false fits = continued_fits total due fits
 
--- a piece that is taken leaves the write open
+-- a piece that is taken begins where those before it end
+offset_is : (first : ℕ) (w : Write) (h : DataPdu) (reached : ℕ) (due : Due) → is_in_sequence first w h reached due ≡ true → h.buffer_offset ≡ received w
+offset_is first w h reached Nothing e = absurd cc
+offset_is first w h reached (Unsolicited data_sn) e =
+    let next = and_left (is_next w h data_sn)
+    ((h.target_transfer_tag == reserved_tag) && is_unsolicited_piece reached (unsolicited_end first w) h.is_final) e in
+    eqb-true h.buffer_offset (received w) (and_right (h.data_sn == data_sn) (h.buffer_offset == received w) next)
+offset_is first w h reached (Solicited tag data_sn end) e =
+    let next = and_left (is_next w h data_sn) ((h.target_transfer_tag == tag) && is_solicited_piece reached end h.is_final) e in
+    eqb-true h.buffer_offset (received w) (and_right (h.data_sn == data_sn) (h.buffer_offset == received w) next)
+
+-- and leaves the write open
 with_data_open : (count : ℕ) (first : ℕ) (w : Write) (h : DataPdu) (bytes : List ℕ) → IsOpen count w
     → is_in_sequence first w h (received w + length bytes) w.due ≡ true → IsOpen count (with_data w h bytes)
 with_data_open count first w h bytes o e =
-    let size : received (with_data w h bytes) ≡ received w + length bytes = size_with w.pieces (received w) bytes in
+    let size : received (with_data w h bytes) ≡ received w + length bytes = size_with w.pieces h.buffer_offset bytes in
+    let at : received w ≡ h.buffer_offset = sym (offset_is first w h (received w + length bytes) w.due e) in
     record {
       plan = o.plan;
-      tiles = subst (λ (n : ℕ). Tiles (with_piece w.pieces (received w) bytes) n) (sym size) (tiles_with w.pieces (received w) bytes o.tiles);
+      tiles = subst (λ (n : ℕ). Tiles (with_piece w.pieces h.buffer_offset bytes) n) (sym size) (subst (λ (at : ℕ).
+          Tiles (with_piece w.pieces at bytes) (received w + length bytes)) at (tiles_with w.pieces (received w) bytes o.tiles));
       fits = omega (arith, size, sequence_bound first w h (received w + length bytes) w.due o.due e);
       due = due_after w.total w.due h.is_final o.due;
     }

@@ -30,6 +30,7 @@ next_closed (Answered r) old new h = gives_closed old new h
 next_closed (Queued session tasks) old new h = record {
   done = h.done;
   device = h.device;
+  live = h.live;
   failures = h.failures;
   runs = h.runs;
   rises = h.rises;

@@ -32,7 +32,8 @@ use Rattle.iscsi_target.specs.Transfer.{is_whole, is_idle, with_r2t, taken, with
 use Rattle.iscsi_target.specs.Execution.{Device, execute}
 use Rattle.iscsi_target.specs.Command.{order_of, led_by, send_r2t, task_of, task_by, task_planned}
 use Rattle.iscsi_target.specs.Machine.{begun, stays, is_closed, done_in_turn, write_of, with_write, step_on}
-use Rattle.iscsi_target.specs.Inside.{is_unasked, IsUnasked, behind, AreKept}
+use Rattle.iscsi_target.specs.Queue.{is_unasked, IsUnasked, behind}
+use Rattle.iscsi_target.specs.Inside.{AreKept}
 use Rattle.iscsi_target_session.proofs.CaseLemmas.{by_cases}
 use Rattle.iscsi_target.proofs.TurnLemmas.{Begins, begins, Turns, turns, with_tasks, stays_on}
 use Rattle.iscsi_target.proofs.StepPartLemmas.{Accepts, Immediately, InTurn, Parts, step_parts}

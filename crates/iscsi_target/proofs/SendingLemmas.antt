@@ -293,7 +293,7 @@ turns_tell = record {
       (begun_tells device s disk task more) u;
 }
 
-done_tells : (device : Device) (s : Session) (disk : Disk) (tasks : List Task) → Tells device s (done_in_turn device s disk tasks)
+pub done_tells : (device : Device) (s : Session) (disk : Disk) (tasks : List Task) → Tells device s (done_in_turn device s disk tasks)
 done_tells device s disk tasks = turns (λ device s disk tasks r. Tells device s r) turns_tell device s disk tasks
 
 -- ---- what a whole step tells

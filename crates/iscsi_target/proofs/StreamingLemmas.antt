@@ -13,7 +13,8 @@ use Rattle.iscsi_target.specs.State.{Stepped}
 use Rattle.iscsi_target.specs.State.{joined}
 use Rattle.iscsi_target.specs.Machine.{is_closed, answers}
 use Rattle.iscsi_target.specs.Feed.{Stands, Connection, Store, Feeds, Ends, HasAnswered, beginning, scene}
-use Rattle.iscsi_target.proofs.FeedingLemmas.{answers_close, told}
+use Rattle.iscsi_target.proofs.ClosingLemmas.{answers_close}
+use Rattle.iscsi_target.proofs.FeedingLemmas.{told}
 
 -- the session goes on, and the whole piece was taken
 went_on : (settings : Settings) (n : ℕ) (disk : Disk) (stream : List ℕ) (old : Connection) (before : Store) (out piece : List ℕ)

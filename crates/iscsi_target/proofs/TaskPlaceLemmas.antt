@@ -9,7 +9,8 @@ use Rattle.iscsi_target.specs.Write.{Write}
 use Rattle.iscsi_target.specs.declared.tasks.Task.{Task}
 use Rattle.iscsi_target.specs.declared.tasks.Task.TheVariants.{Request, Data}
 use Rattle.iscsi_target.specs.Machine.{is_write_with, write_of, with_write, is_same_tag, task_tag, is_tag_of}
-use Rattle.iscsi_target.specs.Inside.{IsWriteAt, TakePlaces, AreInPlace, behind}
+use Rattle.iscsi_target.specs.Queue.{TakePlaces, behind}
+use Rattle.iscsi_target.specs.Inside.{IsWriteAt, AreInPlace}
 use Rattle.iscsi_target_session.proofs.CaseLemmas.{by_cases}
 
 -- none of the first n tasks is a write with the tag

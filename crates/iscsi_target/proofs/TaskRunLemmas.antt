@@ -212,7 +212,7 @@ serves_by fb fa f d x broken new now before after is rises works runs machine di
 }
 
 -- a task that is done, and those behind it
-turn_on : (d : Device) (s : Session) (disk : Disk) (task : Task) (more : List Task) → stays more (begun d (with_tasks s more) disk task) ≡ false →
+pub turn_on : (d : Device) (s : Session) (disk : Disk) (task : Task) (more : List Task) → stays more (begun d (with_tasks s more) disk task) ≡ false →
     is_closed (begun d (with_tasks s more) disk task).machine ≡ false
     → (begun d (with_tasks s more) disk task).machine.tasks ≡ more
     → (let r : Stepped = begun d (with_tasks s more) disk task in done_in_turn d s disk (task ∷ more)
@@ -227,7 +227,7 @@ turn_on d s disk task (x ∷ more) stay live tasks =
     stay
     ∙ ap (λ (b : Bool). if b then r else then_stepped r (done_in_turn (device_after r.executed d) r.machine.session r.disk (x ∷ more))) live
 
-first_on : (k : ℕ) (d : Device) (s : Session) (disk : Disk) (task : Task) (more : List Task) → stays more (begun d (with_tasks s more) disk task) ≡ false →
+pub first_on : (k : ℕ) (d : Device) (s : Session) (disk : Disk) (task : Task) (more : List Task) → stays more (begun d (with_tasks s more) disk task) ≡ false →
     is_closed (begun d (with_tasks s more) disk task).machine ≡ false
     → (let r : Stepped = begun d (with_tasks s more) disk task in done_first (suc k) d s disk (task ∷ more)
     ≡ then_stepped r (done_first k (device_after r.executed d) r.machine.session r.disk more))
@@ -330,6 +330,8 @@ then_stops fb fm fa s disk task more rule mid mid_disk before out new now after 
     record {
       done = suc e.done;
       device = j.0;
+      live = λ _. ap (λ (x : Stepped). is_closed x.machine) is
+          ∙ ap (λ (x : Stepped). is_closed x.machine) (sym same) ∙ e.live g.live;
       failures = e.failures;
       runs = subst (λ (x : Stepped). RunsIn j.0 fb x.executed e.failures) (sym is) runs;
       rises = e.rises;
@@ -348,6 +350,7 @@ unfolding done_first
 first_stops fb fa s disk tasks more new now before after h = record {
   done = 0;
   device = reliable;
+  live = λ e. e;
   failures = fb;
   runs = refl;
   rises = h.rises;
@@ -357,7 +360,7 @@ first_stops fb fa s disk tasks more new now before after h = record {
 }
 
 -- the first task ends the session, or stays
-stop_at : (d : Device) (s : Session) (disk : Disk) (task : Task) (more : List Task) →
+pub stop_at : (d : Device) (s : Session) (disk : Disk) (task : Task) (more : List Task) →
     (stays more (begun d (with_tasks s more) disk task) || is_closed (begun d (with_tasks s more) disk task).machine) ≡ true
     → done_in_turn d s disk (task ∷ more) ≡ begun d (with_tasks s more) disk task
 unfolding done_in_turn
@@ -525,6 +528,7 @@ works_same (Err x) session ts us before output new after written e h =
       err = record {
         done = q.done;
         device = q.device;
+        live = λ e. ap (λ (y : Stepped). is_closed y.machine) (sym same) ∙ q.live e;
         failures = q.failures;
         runs = runs_as q.device before.failures q.failures (done_first q.done q.device session before.disk ts)
             (done_first q.done q.device session before.disk us) same q.runs;

@@ -117,7 +117,7 @@ stops_by more stay over e = elim (or_of (not (is_busy more)) (stay || over) e) [
   | inr b ↦ inr (or_of stay over b)
 ]
 
-neither : (a b : Bool) → (a || b) ≡ false → (a ≡ false) × (b ≡ false)
+pub neither : (a b : Bool) → (a || b) ≡ false → (a ≡ false) × (b ≡ false)
 neither false b e = (refl, e)
 neither true b e = absurd cc
 

@@ -2,7 +2,6 @@
 use Rattle.std.proofs.Common.{◌≡◌, not, ◌≤◌, ◌⊎◌, inl, inr, ℕ, ◌+◌, List, [], ◌∷◌, ◌++◌, Bool, true, false, length, Option, Some, None, refl, sym, ap, ◌∙◌}
 use Rattle.std.proofs.Common.{subst, arith}
 use Rattle.std.specs.Prelude.{◌==◌, nat_lt, ◌&&◌, if◌then◌else◌, is_some}
-use Rattle.std.specs.List.{AllByRecursion}
 use Rattle.std.proofs.lemmas.Bool.{eqb-true, ltb-true, or_cases}
 use Rattle.std.proofs.lemmas.List.{length-append}
 use Rattle.std.proofs.lemmas.Grind.{flat_map-append}
@@ -35,9 +34,9 @@ use Rattle.iscsi_target.specs.Execution.{Device, execute, reliable}
 use Rattle.iscsi_target.specs.Command.{order_of, opened, task_of, task_by, task_planned}
 use Rattle.iscsi_target_session.specs.Requests.{request_answered}
 use Rattle.iscsi_target.specs.Machine.{step, step_on, answers, then_stepped, is_closed, begun, stays, done_in_turn, having_accepted, write_of, with_write}
-use Rattle.iscsi_target.specs.Inside.{is_unasked, AreKept}
+use Rattle.iscsi_target.specs.Queue.{is_unasked}
+use Rattle.iscsi_target.specs.Inside.{AreKept}
 use Rattle.iscsi_target.specs.Tiles.{r2t_ranges, r2t_range, ends_r2t, data_answers, pdu_answers, r2ts_answered}
-use Rattle.iscsi_target.specs.Laws.{HasCmdSn}
 use Rattle.iscsi_target_session.proofs.CaseLemmas.{by_cases}
 use Rattle.iscsi_target.proofs.TurnLemmas.{Writes, Waits, Opens, Begins, begins, Turns, turns, with_tasks, stays_on}
 use Rattle.iscsi_target.proofs.StepPartLemmas.{Parts, step_parts}
@@ -289,7 +288,7 @@ taken_fits : (first : ℕ) (w v : Write) (h : DataPdu) (bytes : List ℕ) → Du
 taken_fits first w v h bytes fits e =
     let x : Write = with_data w h bytes in
     let t = taken_if x v (is_in_sequence first w h (received w + length bytes) w.due) e in
-    let size : received x ≡ received w + length bytes = size_with w.pieces (received w) bytes in
+    let size : received x ≡ received w + length bytes = size_with w.pieces h.buffer_offset bytes in
     subst (λ (y : Write). FitsWrite y (due_open w.due) (ends_r2t w.due h.is_final)) t.1 (record {
       whole = λ g. last_taken first w h bytes w.due fits t.0 (eqb-true w.total (received x) g ∙ size);
       idle = λ g. idle_taken first w h (received w + length bytes) w.due h.is_final t.0 g;
@@ -411,6 +410,6 @@ answers_asks s disk (m ∷ ms) o k =
     let rest = answers_asks first.machine first.disk ms sound (step_kept reliable s disk m k) in
     omega (arith, c.open_ e, rest, size))
 
-pub opening_asks : (settings : Settings) (n : ℕ) (disk : Disk) (ms : List Message) → AllByRecursion HasCmdSn ms
+pub opening_asks : (settings : Settings) (n : ℕ) (disk : Disk) (ms : List Message)
     → length (r2t_ranges (answers (opening settings n) disk ms).answers) ≤ r2ts_answered (opening settings n) disk ms + 1
-opening_asks settings n disk ms all = omega (arith, answers_asks (opening settings n) disk ms tt none_kept)
+opening_asks settings n disk ms = omega (arith, answers_asks (opening settings n) disk ms tt none_kept)

@@ -5,7 +5,7 @@ use Rattle.iscsi_pdu.specs.Serial.{distance}
 use Rattle.iscsi_target.specs.declared.tasks.Task.{Task}
 use Rattle.iscsi_target.specs.State.{Machine, takes_place, waiting, max_cmd_sn}
 use Rattle.iscsi_target.specs.Machine.{is_busy}
-use Rattle.iscsi_target.specs.Inside.{TakePlaces, behind}
+use Rattle.iscsi_target.specs.Queue.{TakePlaces, behind}
 
 -- a number within the window leaves a place free
 pub has_room : (exp waits : ℕ) → exp < 2 ^ 32 → waits ≤ 9 → distance exp ((exp + (2 ^ 32 + 7 - waits)) % 2 ^ 32) < 2 ^ 31 → waits ≤ 7

@@ -237,7 +237,7 @@ begun_goes device s disk task more e o =
     Goes s disk r) begins_go device (with_tasks s more) disk task e o.0 o.1
 
 -- what is left of a store that doesn't fail
-still_reliable : (es : List Execution) → device_after es reliable ≡ reliable
+pub still_reliable : (es : List Execution) → device_after es reliable ≡ reliable
 still_reliable [] = refl
 still_reliable (e ∷ es) = still_reliable es
 

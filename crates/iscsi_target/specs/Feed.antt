@@ -128,9 +128,9 @@ Ends piece (Err faults.NoMemory) framing n r new = IsLive r
 Ends piece (Err (faults.Stream fault)) framing n r new =
     IsLive r × (fault ≢ stream.NoMemory) × FeedFails framing (drop n piece) fault
     × IsShut r.machine new.machine
--- the last PDU broke a rule
+-- the last PDU broke a rule, which closed the session
 Ends piece (Err (faults.Protocol rule)) framing n r new =
-    (r.rule ≡ Some rule) × (new.machine ≡ joined r.machine)
+    (r.rule ≡ Some rule) × (new.machine ≡ joined r.machine) × (is_closed r.machine ≡ true)
 Ends piece (Err faults.Closed) framing n r new = ⊥
 
 -- The blocks and what was written are those of the PDUs that were answered; no failure was counted
@@ -168,13 +168,21 @@ remainder framing rest stepped counted = record {
   counted = counted;
 }
 
--- Memory ran out behind the PDUs that were answered: nothing more was done, or some tasks of the
--- next PDU. The session is closed.
+-- What follows asks for memory: a header is whole, for its segment, or a PDU is.
+abbrev pub AsksForMemory : Framing → List ℕ → Type 0
+AsksForMemory framing rest =
+    FeedFails framing rest stream.NoMemory
+    ⊎ ((message : Message) × (next : Framing) × (count : ℕ)
+    × Moves framing next (take count rest) (message ∷ []))
+
+-- Memory ran out behind the PDUs that were answered, where what follows asks for it: nothing more
+-- was done, or some tasks of the next PDU. The session is closed.
 pub record StopsShort (output : List ℕ) (at : Remainder) (new : Machine) (after : Store)
     (written : List ℕ) : Type 0 where
   pub front : Stepped
   pub stops :
-      ((front ≡ unchanged at.stepped.machine at.stepped.disk) × (at.counted ≤ after.failures))
+      ((front ≡ unchanged at.stepped.machine at.stepped.disk) × (at.counted ≤ after.failures)
+      × AsksForMemory at.framing at.rest)
       ⊎ StopsAt at.framing at.rest at.stepped at.counted front after.failures
   pub shut : IsShut front.machine new
   pub disk : after.disk ≡ front.disk
@@ -222,13 +230,14 @@ Fed old piece result new = FedIf (is_closed old.connection.machine) old piece re
 -- ---- a call of feed_next
 
 -- A call in a session that isn't closed took the first n bytes, did with them what feed does, and
--- answered one PDU at most.
+-- answered one PDU at most: it took up to the end of that one, or the whole piece.
 pub record FeedsOne (old : Scene) (piece : List ℕ) (n : ℕ) (phase : Phase)
     (new : Scene) : Type 0 where
   pub bound : n ≤ length piece
   pub some : 0 < length piece → 0 < n
   pub fed : Feeds old (take n piece) (Ok phase) new
   pub one : length fed.messages ≤ 1
+  pub stops : n < length piece → length fed.messages ≡ 1
 
 -- A call that fails is one of feed with the piece.
 abbrev pub FeedsNext : Scene → List ℕ → Result (ℕ × Phase) TargetFault → Scene → Type 0

@@ -1,20 +1,20 @@
 -- What the parts of a session do. No reader of its contract needs these.
-use Rattle.std.specs.Prelude.{◌≡◌, ◌≢◌, ◌⊎◌, ℕ, ◌<◌, ◌≤◌, Option, Some, None, Bool, true, false, if◌then◌else◌, List, [], ◌∷◌, ◌++◌, length, map, insert, remove, slice_index_or, Result, IfOk, OnOk, OnErr}
+use Rattle.std.specs.Prelude.{◌≡◌, ◌≢◌, ◌⊎◌, ℕ, ◌<◌, ◌≤◌, Option, Some, None, false, if◌then◌else◌, List, [], ◌++◌, length, map, insert, remove, slice_index_or, Result, IfOk, OnOk, OnErr}
 use Rattle.std.specs.List.{AllByRecursion}
 use Rattle.iscsi_stream.specs.Canonical.{canon}
 use Rattle.scsi_disk.specs.Disk.{Disk}
 use Rattle.iscsi_target.specs.Write.{Write}
 use Rattle.iscsi_target.specs.declared.tasks.Task.{Task}
-use Rattle.iscsi_target.specs.declared.tasks.Task.TheVariants.{Request, Data}
-use Rattle.iscsi_target.specs.State.{Machine, Stepped, closed, takes_place, waiting}
-use Rattle.iscsi_target.specs.Transfer.{is_whole, is_idle}
+use Rattle.iscsi_target.specs.declared.tasks.Task.TheVariants.{Data}
+use Rattle.iscsi_target.specs.State.{Machine, Stepped, closed, waiting}
+use Rattle.iscsi_target.specs.Queue.{behind, TakePlaces, IsPending, IsUnasked}
 use Rattle.iscsi_target.specs.State.{joined, joined_task}
 use Rattle.iscsi_target.specs.Execution.{Device, reliable}
 use Rattle.iscsi_pdu.specs.Rules.{kind_not_due, data_out_of_order, too_many_immediate}
 use Rattle.iscsi_target_session.specs.Rejecting.{reject}
 use Rattle.iscsi_stream.specs.Segment.{segment_bytes}
 use Rattle.iscsi_target.specs.Command.{breaks_rules}
-use Rattle.iscsi_target.specs.Machine.{Met, Next, Dropped, Answered, Queued, is_tag_of, tag_of, admitted, advanced, broken, data_out, RunsIn, write_of, with_write, done_first, done_in_turn, followed, full_met, step_on, MayAnswer}
+use Rattle.iscsi_target.specs.Machine.{Met, Next, Dropped, Answered, Queued, is_tag_of, tag_of, admitted, advanced, broken, data_out, RunsIn, write_of, with_write, done_first, done_in_turn, followed, full_met, is_closed, step_on, MayAnswer}
 use Rattle.iscsi_target.specs.Feed.{Connection, Store, Scene, scene}
 use Rattle.iscsi_target.specs.Laws.{cmd_sn_of}
 use Rattle.iscsi_target.specs.declared.verdict.Verdict.{Verdict}
@@ -29,19 +29,8 @@ use Rattle.iscsi_stream.specs.declared.fault.StreamFault.TheVariants as stream
 use Rattle.iscsi_stream.specs.Framing.{Framing, Takes, Moves, FeedFails, is_ready, given_up, message_of}
 use Rattle.iscsi_target.specs.declared.fault.TargetFault.{TargetFault}
 use Rattle.iscsi_target.specs.declared.fault.TargetFault.TheVariants as faults
-use Rattle.iscsi_target.specs.declared.due.Due.{Due}
-use Rattle.iscsi_target.specs.declared.due.Due.TheVariants.{Solicited}
 
 -- ---- tasks as a program keeps them
-
--- The tasks behind the first.
-abbrev pub behind : List Task → List Task
-behind [] = []
-behind (task ∷ more) = more
-
--- Each of these takes a place of the window (section 4.2.2.1).
-abbrev pub TakePlaces : List Task → Type 0
-TakePlaces tasks = AllByRecursion (λ task. takes_place task ≡ true) tasks
 
 -- The first alone may be an immediate one, and the bytes of each write stand as one piece.
 pub record AreInPlace (tasks : List Task) : Type 0 where
@@ -58,22 +47,6 @@ pub record IsWriteAt (tag : ℕ) (tasks : List Task) (place : ℕ) : Type 0 wher
       → insert (remove tasks place) place (Data v) ≡ with_write v tasks
 
 -- ---- tasks between two PDUs
-
--- The first task is a write that waits for data.
-abbrev pub IsPending : List Task → Type 0
-IsPending [] = Unit {0}
-IsPending (Request m ∷ more) = ⊥
-IsPending (Data w ∷ more) = (is_whole w ≡ false) × (is_idle w.due ≡ false)
-
--- No R2T was sent for what is due (section 11.8).
-abbrev pub is_unasked : Due → Bool
-is_unasked (Solicited tag data_sn end) = false
-is_unasked _ = true
-
--- No R2T was sent for the task (section 11.8).
-abbrev pub IsUnasked : Task → Type 0
-IsUnasked (Request m) = Unit {0}
-IsUnasked (Data w) = is_unasked w.due ≡ true
 
 -- The first task is a write that waits for data, and no R2T was sent for one behind it (section
 -- 11.8).
@@ -169,10 +142,13 @@ abbrev pub first_done : ℕ → Device → Moment → Stepped
 first_done done device old =
     done_first done device old.machine.session old.store.disk old.machine.tasks
 
--- Memory ran out at one of its tasks: those before it were done, and it changed nothing.
+-- Memory ran out at one of its tasks: those before it were done, and it changed nothing. None of
+-- them ended the session.
 pub record Stops (old new : Moment) : Type 0 where
   pub done : ℕ
   pub device : Device
+  pub live : is_closed old.machine ≡ false
+      → is_closed (first_done done device old).machine ≡ false
   -- the failures that were counted behind the last of them
   pub failures : ℕ
   pub runs : RunsIn device old.store.failures (first_done done device old).executed failures
@@ -265,7 +241,7 @@ pub record ShutsReady (old new : Scene) : Type 0 where
 
 -- The rest of a stream is refused so.
 abbrev pub RestFails : Framing → List ℕ → TargetFault → Type 0
-RestFails framing rest faults.NoMemory = Unit {0}
+RestFails framing rest faults.NoMemory = FeedFails framing rest stream.NoMemory
 RestFails framing rest (faults.Stream fault) =
     (fault ≢ stream.NoMemory) × FeedFails framing rest fault
 RestFails framing rest (faults.Protocol rule) = ⊥

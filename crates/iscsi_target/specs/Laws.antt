@@ -7,8 +7,10 @@ use Rattle.scsi_disk.specs.Effect.{Effect, effect, FailsBy}
 use Rattle.scsi_disk.specs.Plan.{plan_of}
 use Rattle.scsi_disk.specs.Runs.{Supplied}
 use Rattle.scsi_disk.specs.declared.order.Order.{Order}
+use Rattle.scsi_disk.specs.declared.order.Outcome.{Outcome}
 use Rattle.iscsi_pdu.specs.declared.head.Head.{Head}
 use Rattle.iscsi_pdu.specs.declared.head.Head.TheVariants as heads
+use Rattle.iscsi_stream.specs.Segment.{segment_bytes}
 use Rattle.iscsi_stream.specs.Stream.{Message}
 use Rattle.iscsi_login.specs.declared.phase.Phase.TheVariants as phases
 use Rattle.iscsi_target.specs.declared.tasks.Task.{Task}
@@ -18,6 +20,7 @@ use Rattle.iscsi_stream.specs.Pieces.{data_of}
 use Rattle.iscsi_pdu.specs.Serial.{is_within}
 use Rattle.iscsi_target.specs.Transfer.{with_piece}
 use Rattle.iscsi_target.specs.State.{joined}
+use Rattle.iscsi_target.specs.Execution.{is_over, is_under, residual_count, sense_segment}
 use Rattle.iscsi_target.specs.Command.{order_of}
 use Rattle.iscsi_target.specs.Machine.{is_closed, is_due_kind, is_too_long}
 
@@ -139,12 +142,62 @@ response_tag _ = []
 abbrev pub response_tags : List Message → List ℕ
 response_tags ms = flat_map (λ m. response_tag m.head) ms
 
+-- What the response to a command says: the command's tag, its status, by how many bytes it had more
+-- or fewer than were expected, and the sense data behind their length (section 11.4).
+pub record Told : Type 0 where
+  pub initiator_task_tag : ℕ
+  pub status : Option ℕ
+  pub overflow : Bool
+  pub underflow : Bool
+  pub residual : Option ℕ
+  pub sense : List ℕ
+
+-- What an answer says, if it is the response to a command (section 11.4).
+abbrev pub told_by : Head → List ℕ → List Told
+told_by (heads.ScsiResponse h) segment = record {
+  initiator_task_tag = h.initiator_task_tag;
+  status = h.status;
+  overflow = h.overflow;
+  underflow = h.underflow;
+  residual = h.residual;
+  sense = segment;
+} ∷ []
+told_by _ segment = []
+
+-- What the responses among answers say (section 11.4).
+abbrev pub told_in : List Message → List Told
+told_in ms = flat_map (λ m. told_by m.head (segment_bytes m.segment)) ms
+
+-- What is to be told of this outcome (section 11.4).
+abbrev pub told_of : ℕ → Outcome → Told
+told_of tag outcome = record {
+  initiator_task_tag = tag;
+  status = Some outcome.status;
+  overflow = is_over outcome.residual;
+  underflow = is_under outcome.residual;
+  residual = residual_count outcome.residual;
+  sense = sense_segment outcome.sense;
+}
+
+-- What is to be told of what was executed, over a store that doesn't fail (section 11.4).
+abbrev pub due_for : Execution → Told
+due_for e = told_of e.initiator_task_tag (effect e.disk e.order (data_of e.pieces)).outcome
+
 -- The commands that were accepted are those that were executed, in their order, and then those of
 -- the tasks that there are, unless the session is closed (section 4.2.2.1).
 pub record AreInOrder (r : Stepped) : Type 0 where
   pub more : List Command
   pub order : tasks_in r.accepted ≡ tasks_done r.executed ++ more
   pub open_ : is_closed r.machine ≡ false → more ≡ tasks_open r.machine.tasks
+
+-- ---- tasks in their turn
+
+-- What the first has answered and executed, the second has first.
+pub record BeginsAs (first all : Stepped) : Type 0 where
+  pub answers : List Message
+  pub wrote : all.answers ≡ first.answers ++ answers
+  pub executed : List Execution
+  pub did : all.executed ≡ first.executed ++ executed
 
 -- ---- the window
 

@@ -2,6 +2,7 @@ pub mod Write
 pub mod Transfer
 pub mod Staged
 pub mod State
+pub mod Queue
 pub mod Execution
 pub mod Command
 pub mod Machine
@@ -13,3 +14,4 @@ pub mod Crash
 pub mod Reads
 pub mod Laws
 pub mod Inside
+pub mod Alike

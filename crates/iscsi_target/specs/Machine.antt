@@ -329,7 +329,8 @@ pub record MayStep (s : Machine) (disk : Disk) (before : ℕ) (m : Message) (r :
   pub runs : RunsIn device before r.executed after
 
 -- One message at which memory ran out, over a store that may fail: some of the tasks were done, in
--- their order, and the one at which it ran out changed nothing.
+-- their order, and the one at which it ran out changed nothing. None before it ended the session, as
+-- a broken rule and a logout do.
 pub record MayStop (s : Machine) (disk : Disk) (before : ℕ) (m : Message) (r : Stepped)
     (after : ℕ) : Type 0 where
   pub full : s.session.phase ≡ phases.Full
@@ -339,6 +340,7 @@ pub record MayStop (s : Machine) (disk : Disk) (before : ℕ) (m : Message) (r :
   pub done : ℕ
   pub device : Device
   pub is : r ≡ done_first done device session disk tasks
+  pub live : is_closed r.machine ≡ false
   -- the failures that were counted behind the last of them
   pub failures : ℕ
   pub runs : RunsIn device before r.executed failures

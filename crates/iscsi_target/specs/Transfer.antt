@@ -63,10 +63,10 @@ continued Nothing = Nothing
 continued (Unsolicited data_sn) = Unsolicited (next_sn data_sn)
 continued (Solicited tag data_sn end) = Solicited tag (next_sn data_sn) end
 
--- The write with the bytes of a Data-Out (section 11.7).
+-- The write with the bytes of a Data-Out, at the Buffer Offset that came (section 11.7.5).
 abbrev pub with_data : Write → DataOut → List ℕ → Write
 with_data w h bytes = record w {
-  pieces = with_piece w.pieces (received w) bytes;
+  pieces = with_piece w.pieces h.buffer_offset bytes;
   due = if h.is_final then Nothing else continued w.due;
 }
 

@@ -16,15 +16,19 @@ ghost use Rattle.iscsi_login.specs.Negotiation.{IsInRange};
 ghost use Rattle.iscsi_login.specs.Held.{IsHeld};
 ghost use Rattle.iscsi_target.specs.declared.fault.TargetFault.{TargetFault};
 ghost use Rattle.iscsi_target_session.specs.Configured.{Settings};
-ghost use Rattle.iscsi_target_session.specs.Session.{limit};
-ghost use Rattle.iscsi_target.specs.State.{Machine, Stepped, opening, unchanged};
+ghost use Rattle.iscsi_target_session.specs.Session.{limit, Session};
+ghost use Rattle.iscsi_target.specs.State.{Machine, Stepped, closed, opening, unchanged, max_cmd_sn, waiting};
 ghost use Rattle.iscsi_target.specs.State.{joined};
 ghost use Rattle.iscsi_target.specs.Execution.{Device};
-ghost use Rattle.iscsi_target.specs.Machine.{is_closed, step, step_on, answers, then_stepped, MayStep, MayAnswer};
+ghost use Rattle.iscsi_target.specs.Machine.{is_closed, step, step_on, answers, then_stepped, done_first, done_in_turn, MayStep, MayAnswer};
+ghost use Rattle.iscsi_target.specs.Queue.{IsNotBefore, IsQueue};
+ghost use Rattle.iscsi_target.specs.declared.tasks.Task.{Task};
+ghost use Rattle.iscsi_login.specs.declared.phase.Phase.TheVariants.{Full};
+ghost use Rattle.iscsi_login.specs.declared.stage.Stage.TheVariants as stages;
 ghost use Rattle.iscsi_target.specs.Feed.{Alike, Connection, Fed, FedAlike, FedAll, GoesWell, Holds, Meets, SameSession, Store, Writes, beginning, opening_connection, scene, stream_of};
 ghost use Rattle.iscsi_target.specs.Tiles.{TilesDataIn, IsTiled, IsModest, total_of, r2t_ranges, r2ts_answered};
 ghost use Rattle.iscsi_target.specs.Sessions.{LoginIsAnswered, LoginLeads, WriteIsAnswered};
-ghost use Rattle.iscsi_target.specs.Laws.{CountOn, stat_sns, cmd_sns, HasCmdSn, supplied, Leads, tasks_done, response_tags, AreInOrder, IsOutside, joined_stepped};
+ghost use Rattle.iscsi_target.specs.Laws.{BeginsAs, CountOn, stat_sns, cmd_sns, HasCmdSn, supplied, due_for, told_in, Leads, tasks_done, response_tags, AreInOrder, IsOutside, joined_stepped};
 
 /// Worked sessions: a login, where it leads, and a write, to the last byte. Others are computed
 /// where this is proved.
@@ -46,8 +50,46 @@ pub fn one_disk()
     ensures answered { (s : Machine) (disk : Disk) (ms : List Message)
         → response_tags (answers s disk ms).answers
         ≡ map (λ task. task.0) (tasks_done (answers s disk ms).executed) }
+    // A response says of its command what came of it: status, residual and sense data.
+    ensures told { (s : Machine) (disk : Disk) (ms : List Message)
+        → told_in (answers s disk ms).answers ≡ map due_for (answers s disk ms).executed }
     ensures order { (settings : Settings) (n : ℕ) (disk : Disk) (ms : List Message)
-        → AllByRecursion HasCmdSn ms → AreInOrder (answers (opening settings n) disk ms) }
+        → AreInOrder (answers (opening settings n) disk ms) }
+{}
+
+/// Tasks in their turn, told twice: the first k of them, for where memory runs out, and all. As many
+/// as there are, they are all; and what fewer answered and executed comes first of what all do.
+pub fn tasks_in_turn()
+    ensures whole { (device : Device) (s : Session) (disk : Disk) (tasks : List Task)
+        → done_first (length tasks) device s disk tasks ≡ done_in_turn device s disk tasks }
+    ensures front { (k : ℕ) (device : Device) (s : Session) (disk : Disk) (tasks : List Task)
+        → BeginsAs (done_first k device s disk tasks) (done_in_turn device s disk tasks) }
+{}
+
+/// The queue: between two PDUs at most eight tasks take a place of the window, and the first alone
+/// may be an immediate one, which takes none. The first is a write that waits for data, if there is
+/// a task, and no R2T was sent for one behind it. MaxCmdSN does not go back while a session is in
+/// full feature phase.
+pub fn queue()
+    ensures tasks { (settings : Settings) (n : ℕ) (disk : Disk) (ms : List Message)
+        → AllByRecursion HasCmdSn ms
+        → IsQueue (answers (opening settings n) disk ms).machine.tasks }
+    ensures rises { (s : Machine) (disk : Disk) (m : Message) → s.session.exp_cmd_sn < 2 ^ 32
+        → waiting s.tasks ≤ 8 → s.session.phase ≡ Full → is_closed (step s disk m).machine ≡ false
+        → IsNotBefore (max_cmd_sn s) (max_cmd_sn (step s disk m).machine) }
+{}
+
+/// Once a login is complete, its stage and the values that it agreed on stay, whatever comes, also
+/// where the session is closed.
+pub fn held_stays()
+    ensures stays { (settings : Settings) (n : ℕ) (disk : Disk) (ms more : List Message)
+        → (answers (opening settings n) disk ms).machine.session.stage ≡ stages.Full
+        → ((answers (opening settings n) disk (ms ++ more)).machine.session.stage ≡ stages.Full)
+        × ((answers (opening settings n) disk (ms ++ more)).machine.session.held
+        ≡ (answers (opening settings n) disk ms).machine.session.held) }
+    // So does a fault that closes it.
+    ensures closed { (s : Machine) → ((closed s).session.stage ≡ s.session.stage)
+        × ((closed s).session.held ≡ s.session.held) }
 {}
 
 /// The order of acceptance is that of CmdSN: the requests that were accepted and aren't immediate
@@ -92,7 +134,6 @@ pub fn ready_to_transfer_bounds()
         → let r = answers (opening settings n) disk ms in let t = step r.machine r.disk m in
         AllByRecursion (IsModest t.machine.session.held (total_of t.machine.tasks)) (r2t_ranges t.answers) }
     ensures one { (settings : Settings) (n : ℕ) (disk : Disk) (ms : List Message)
-        → AllByRecursion HasCmdSn ms
         → length (r2t_ranges (answers (opening settings n) disk ms).answers)
         ≤ r2ts_answered (opening settings n) disk ms + 1 }
 {}

@@ -1,6 +1,7 @@
 //! A target's session: its login, and its full feature phase (RFC 7143).
 #![tactic(auto)]
 
+mod alike;
 mod due;
 mod fault;
 mod kept;
@@ -14,6 +15,7 @@ mod verdict;
 
 // (`Due` and `Status` stand in definitions that proofs above take apart: an open write, and why a
 // login is refused)
+pub use alike::{Answered, answer_pieces, answers_alike};
 pub use due::Due;
 pub use fault::TargetFault;
 pub use iscsi_target_session::{Config, Status};

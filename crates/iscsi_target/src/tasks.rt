@@ -7,7 +7,8 @@ ghost use Rattle.iscsi_target.specs.Transfer.{joined_write};
 ghost use Rattle.iscsi_target.specs.State.{joined_task};
 ghost use Rattle.iscsi_target.specs.Machine.{is_tag_of, tag_of, is_write_with, write_of, with_write, task_tag, is_same_tag};
 ghost use Rattle.iscsi_target.specs.declared.tasks.Task.TheVariants.{Data};
-ghost use Rattle.iscsi_target.specs.Inside.{AreInPlace, TakePlaces, IsWriteAt};
+ghost use Rattle.iscsi_target.specs.Inside.{AreInPlace, IsWriteAt};
+ghost use Rattle.iscsi_target.specs.Queue.{TakePlaces};
 
 use crate::kept::Kept;
 use crate::open_write::OpenWrite;

@@ -1,13 +1,15 @@
 //! What another program does with `iscsi_target`.
 
-ghost use Rattle.std.specs.Prelude.{◌≡◌, ◌++◌, ℕ, List, IsTrue};
+ghost use Rattle.std.specs.Prelude.{◌≡◌, ◌++◌, ℕ, List, map, IfOk, IsTrue};
 ghost use Rattle.scsi_disk.specs.Disk.{Disk};
 ghost use Rattle.iscsi_target_session.specs.Configured.{Settings};
-ghost use Rattle.iscsi_target.specs.Feed.{HasAnswered, beginning};
+ghost use Rattle.iscsi_stream.specs.Stream.{Message, StreamMeans};
+ghost use Rattle.iscsi_target.specs.Feed.{HasAnswered, beginning, stream_of};
 
 use iscsi_login::Phase;
-use iscsi_target::Target;
+use iscsi_target::{Config, Target, TargetFault, answers_alike};
 use scsi_disk::BlockStore;
+use std::alloc::Global;
 
 /// Appends the answers to what came over a connection, and says whether the session goes on. However
 /// the stream was cut, its answers are those to its PDUs.
@@ -29,4 +31,25 @@ pub fn answer<S: BlockStore>(
         Phase::Login | Phase::Full => true,
         Phase::Closed => false,
     }
+}
+
+/// Whether two captures are answered with the same bytes. They are where both mean the same.
+pub fn are_answered_alike<S: BlockStore>(
+    alloc: Global,
+    configs: (Config, Config),
+    captures: (&[Vec<u8>], &[Vec<u8>]),
+    store: &mut S,
+    other: &mut S,
+) -> Result<bool, TargetFault>
+    requires config { configs.1 ≡ configs.0 }
+    requires disk { S.disk other.old ≡ S.disk store.old }
+    ensures alike { IfOk result (λ alike. (ms : List Message)
+        → S.failures store.new ≡ S.failures store.old
+        → S.failures other.new ≡ S.failures other.old
+        → StreamMeans (stream_of (map (λ piece. piece.items) captures.entry.0.now)) ms
+        → StreamMeans (stream_of (map (λ piece. piece.items) captures.entry.1.now)) ms
+        → IsTrue alike) }
+{
+    let (first, second) = answers_alike(alloc, configs, 1, captures, store, other)?;
+    Ok(first.output == second.output)
 }

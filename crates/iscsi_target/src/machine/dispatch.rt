@@ -9,7 +9,8 @@ ghost use Rattle.iscsi_target.specs.Machine.{admitted, advanced, handled, begun,
 ghost use Rattle.iscsi_target_session.specs.Requests.{request_answered};
 ghost use Rattle.iscsi_target.specs.Laws.{cmd_sn_of};
 ghost use Rattle.iscsi_target.specs.Crash.{Crashes, command_in, command_of, commands_at, commands_by, commands_of};
-ghost use Rattle.iscsi_target.specs.Inside.{Leaves, Handles, Works, Follows, Answers, TakePlaces, moment, store_of};
+ghost use Rattle.iscsi_target.specs.Inside.{Leaves, Handles, Works, Follows, Answers, moment, store_of};
+ghost use Rattle.iscsi_target.specs.Queue.{TakePlaces};
 
 use super::Machine;
 use crate::tasks::Task;

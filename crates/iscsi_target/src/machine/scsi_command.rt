@@ -9,7 +9,8 @@ ghost use Rattle.iscsi_target.specs.State.{waiting};
 ghost use Rattle.iscsi_target.specs.Execution.{data_in_parts, sequence_parts, data_in_head, data_ins, command_answers, execute};
 ghost use Rattle.iscsi_target.specs.Command.{order_of, breaks_burst_rules, scsi_command};
 ghost use Rattle.iscsi_target.specs.Crash.{Crashes};
-ghost use Rattle.iscsi_target.specs.Inside.{Handles, TakePlaces, moment, store_of};
+ghost use Rattle.iscsi_target.specs.Inside.{Handles, moment, store_of};
+ghost use Rattle.iscsi_target.specs.Queue.{TakePlaces};
 
 use super::Machine;
 use crate::scsi_response::{append_response, response_head};

@@ -12,7 +12,8 @@ ghost use Rattle.iscsi_target.specs.Transfer.{is_whole, is_idle, desired};
 ghost use Rattle.iscsi_target.specs.Command.{order_of, r2t_head, led_by, send_r2t, proceed, opened, breaks_rules, task_of};
 ghost use Rattle.iscsi_target.specs.Machine.{data_out};
 ghost use Rattle.iscsi_target.specs.Crash.{Crashes, commands_by};
-ghost use Rattle.iscsi_target.specs.Inside.{Leaves, Handles, Follows, TakePlaces, moment, store_of};
+ghost use Rattle.iscsi_target.specs.Inside.{Leaves, Handles, Follows, moment, store_of};
+ghost use Rattle.iscsi_target.specs.Queue.{TakePlaces};
 
 use super::Machine;
 use super::scsi_command::order_of;

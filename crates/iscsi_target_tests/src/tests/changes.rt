@@ -1,24 +1,25 @@
 //! A PDU and its canonical form are answered alike, also where a byte of its header is another one.
 
+use super::rows::LOGIN;
 use super::{pdu_of, target_of};
 use crate::asserts::same;
 use iscsi_login::Phase;
 use iscsi_stream::normalise;
 use iscsi_target::TargetFault;
-use scsi_disk::SparseStore;
+use scsi_disk::{BlockStore, SparseStore};
 use std::alloc::Global;
 use std::process::Abort;
 
-/// A login in one request, as a line of a dialogue.
-const LOGIN: &str =
-    "43870000 0000004b 40000001 00000000 00000000 00000000 00000001 00000000 00000000 00000000 00000000 00000000 'InitiatorName=iqn.2026-01.example:host|TargetName=iqn.2026-01.example:disk|";
-
-// PDUs behind the login. If each byte of the header in turn has each value, so many have a canonical form:
+// PDUs behind the login of the dialogues: without InitialR2T, so that a write whose bit F is cleared
+// waits for data of its own. If each byte of the header in turn has each value, so many have a canonical form:
 // any value of a byte is taken but for bytes 0 and 4 to 7: 43 * 256 PDUs. Byte 0 has one of the 17 opcodes
 // below two bits that refuse nothing: 17 * 4. Byte 4 has to be 00. Bytes 5 to 7 have to say the length of
 // the segment: a longer one is not whole, and what a shorter one leaves over is no PDU. So each of the
 // four has one value, but byte 7 of the ping four: segments of 1 to 4 bytes fill the same word with their
 // padding.
+
+/// How many blocks the disk has.
+const BLOCKS: u64 = 2048;
 
 const PING: &str =
     "c0800000 00000003 11111111 11111111 00000001 ffffffff 00000005 00000002 00000000 00000000 00000000 00000000 616263ff";
@@ -33,7 +34,8 @@ const WRITE: &str =
 
 const OTHERS: u64 = 11_080;
 
-// What a target answers to a PDU behind the login. All that it writes is appended.
+// What a target answers to a PDU behind the login. All that it writes is appended, and behind it the
+// first blocks of its disk.
 fn answers_to(
     rt: &impl Abort,
     alloc: Global,
@@ -41,11 +43,21 @@ fn answers_to(
     pdu: &[u8],
     out: &mut Vec<u8>,
 ) -> Result<Phase, TargetFault> {
-    let mut store = SparseStore::new(alloc, 2048);
+    let mut store = SparseStore::new(alloc, BLOCKS);
     let mut target = target_of(rt, alloc);
     let phase = target.feed(login, &mut store, out);
     same(rt, &phase, &Ok(Phase::Full), &"login");
-    target.feed(pdu, &mut store, out)
+    let answer = target.feed(pdu, &mut store, out);
+    append_blocks(rt, &mut store, out);
+    answer
+}
+
+// Appends the first blocks, as many as a write has that is changed.
+fn append_blocks(rt: &impl Abort, store: &mut SparseStore, out: &mut Vec<u8>) {
+    assert!(rt; 8 <= store.blocks());
+    let mut blocks = [0xffu8; 4096];
+    store.read(0, &mut blocks).expect(rt, "blocks");
+    out.extend_from_slice(&blocks).expect(rt, "blocks");
 }
 
 // A PDU and its canonical form are answered alike.
@@ -102,9 +114,20 @@ fn bytes_of(rt: &impl Abort, alloc: Global, line: &str) -> Vec<u8> {
     bytes
 }
 
+// What the initiator sends in the login of the dialogues.
+fn login_of(rt: &impl Abort, alloc: Global) -> Vec<u8> {
+    let mut login = Vec::new(alloc);
+    for line in LOGIN.lines() {
+        if let Some(line) = line.strip_prefix("I> ") {
+            pdu_of(rt, alloc, line, &mut login);
+        }
+    }
+    login
+}
+
 // A PDU whose header is changed so is answered as its canonical form, wherever it has one.
 fn check_changes(rt: &impl Abort, alloc: Global, line: &str, want: u64) {
-    let login = bytes_of(rt, alloc, LOGIN);
+    let login = login_of(rt, alloc);
     let mut pdu = bytes_of(rt, alloc, line);
     let mut count = 0u64;
     for place in 0..48usize {

@@ -16,7 +16,7 @@ returns c = record {
       let two = fed_any settings n store others b second rewritten ms given rest (omega (arith, p.max_recv.1)) g t in (
         two.output_is ∙ sym one.output_is,
         two.disk_is ∙ sym one.disk_is,
-        same_session settings n store.disk ms rest a.machine b.machine
+        same_session settings n store.disk ms rest rest a.machine b.machine (λ r. r, λ r. r)
             (fed_holds settings n store pieces a first written ms given rest (omega (arith, p.max_recv.1)) f s)
             (fed_holds settings n store others b second rewritten ms given rest (omega (arith, p.max_recv.1)) g t),
       );

@@ -4,6 +4,7 @@ use Rattle.iscsi_target.proofs.DiskFoldLemmas.{answers_fold}
 use Rattle.iscsi_target.proofs.NumberLaws.{answers_tags}
 use Rattle.iscsi_target.proofs.FailingDiskLemmas.{may_leads}
 use Rattle.iscsi_target.proofs.AcceptedOrderLaw.{opening_in_order, tags_of_tasks}
+use Rattle.iscsi_target.proofs.ResponseLaw.{answers_tell}
 use Rattle.iscsi_target.proofs.laws.one_disk.Goals as goal
 
 pub returns : goal.returns
@@ -11,5 +12,6 @@ returns c = record {
   fold = answers_fold;
   may = may_leads;
   answered = λ s disk ms. answers_tags s disk ms ∙ sym (tags_of_tasks (answers s disk ms).executed);
+  told = answers_tell;
   order = opening_in_order;
 }

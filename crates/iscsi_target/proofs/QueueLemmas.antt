@@ -1,0 +1,489 @@
+-- The queue of a target between two PDUs: what takes a place of the window, and how MaxCmdSN goes.
+use Rattle.std.proofs.Common.{◌≡◌, ◌≤◌, ◌<◌, ◌⊎◌, inl, inr, ℕ, suc, ◌+◌, ◌-◌, ◌^◌, ◌%◌, Bool, true, false, List, [], ◌∷◌, ◌++◌, length, Some, None, refl, sym, ap}
+use Rattle.std.proofs.Common.{subst, ◌∙◌, ◌*◌, arith, length-append}
+use Rattle.std.specs.Prelude.{◌==◌, nat_lt, nat_le, not, filter, if◌then◌else◌}
+use Rattle.std.specs.List.{AllByRecursion}
+use Rattle.std.proofs.lemmas.Bool.{ltb-true}
+use Rattle.std.proofs.lemmas.List.Elements.{filter-append}
+use Rattle.scsi_disk.specs.Disk.{Disk}
+use Rattle.scsi_disk.specs.Plan.{plan_of}
+use Rattle.scsi_disk.specs.declared.order.Plan.{Plan}
+use Rattle.scsi_disk.specs.declared.order.Plan.TheVariants as plans
+use Rattle.iscsi_pdu.specs.declared.head.Head.{Head}
+use Rattle.iscsi_pdu.specs.declared.head.Head.TheVariants as heads
+use Rattle.iscsi_pdu.specs.declared.head.scsi_command.ScsiCommand.{ScsiCommand as CommandPdu}
+use Rattle.iscsi_pdu.specs.declared.head.data_out.DataOut.{DataOut as DataPdu}
+use Rattle.iscsi_pdu.specs.Serial.{distance, is_within, next_sn}
+use Rattle.iscsi_stream.specs.Segment.{segment_bytes}
+use Rattle.iscsi_stream.specs.Stream.{Message}
+use Rattle.iscsi_login.specs.declared.phase.Phase.TheVariants as phases
+use Rattle.iscsi_login.specs.Held.{first_burst}
+use Rattle.iscsi_login.specs.Stage.{is_closed_phase}
+use Rattle.iscsi_target_session.specs.Configured.{Settings}
+use Rattle.iscsi_target_session.specs.Session.{Session as SessionState, Reply}
+use Rattle.iscsi_target_session.specs.Rejecting.{reject_and_close, reject}
+use Rattle.iscsi_target_session.specs.Login.{login_step}
+use Rattle.iscsi_target_session.specs.Requests.{request_answered}
+use Rattle.iscsi_target_session.proofs.CaseLemmas.{by_cases}
+use Rattle.iscsi_target.specs.Write.{Write}
+use Rattle.iscsi_target.specs.declared.tasks.Task.{Task}
+use Rattle.iscsi_target.specs.declared.tasks.Task.TheVariants.{Request, Data}
+use Rattle.iscsi_target.specs.State.{Machine, Execution, Stepped, left, max_cmd_sn, on, opening, takes_place, unchanged, waiting}
+use Rattle.iscsi_target.specs.Transfer.{is_in_sequence, received, taken, with_data, with_r2t}
+use Rattle.iscsi_target.specs.Execution.{Device, execute, reliable}
+use Rattle.iscsi_target.specs.Command.{led_by, order_of, send_r2t, task_by, task_of, task_planned}
+use Rattle.iscsi_target.specs.Machine.{MayAnswer, advanced, answers, begun, done_in_turn, having_accepted, is_closed, step, step_on, then_stepped, with_write, write_of}
+use Rattle.iscsi_target.specs.Queue.{TakePlaces, behind, IsQueue, IsNotBefore}
+use Rattle.iscsi_target.specs.Inside.{AreKept}
+use Rattle.iscsi_target.specs.Laws.{HasCmdSn, FitsNumber, cmd_sn_if, cmd_sn_of}
+use Rattle.iscsi_stream.proofs.ReadyLemmas.{and_left}
+use Rattle.iscsi_target.proofs.StepPartLemmas.{Accepts, Immediately, InTurn, Parts, step_parts}
+use Rattle.iscsi_target.proofs.TurnLemmas.{Begins, Opens, Turns, Waits, Writes, begins, turns, with_tasks, done_alone}
+use Rattle.iscsi_target.proofs.AcceptedOrderLaw.{found_tag, same_tasks}
+use Rattle.iscsi_target.proofs.WindowLemmas.{few_more, has_room}
+use Rattle.iscsi_target.proofs.TaskPlaceLemmas.{behind_some}
+use Rattle.iscsi_target.proofs.PendingLemmas.{none_kept, step_kept}
+use Rattle.iscsi_target.proofs.SendingLemmas.{done_tells}
+
+-- at most eight take a place, and the first alone may take none
+pub record AreFew (tasks : List Task) : Type 0 where
+  pub few : waiting tasks ≤ 8
+  pub places : TakePlaces (behind tasks)
+
+pub nine : (tasks : List Task) → AreFew tasks → length tasks ≤ 9
+nine tasks f = let few = f.few in let more = few_more tasks f.places in omega (arith, few, more)
+
+pub no_few : AreFew []
+no_few = record { few = omega arith; places = tt }
+
+more_waits : (task : Task) (more : List Task) (b : Bool) → takes_place task ≡ b → waiting more ≤ waiting (task ∷ more)
+more_waits task more true e = rw e (omega arith)
+more_waits task more false e = rw e (omega arith)
+
+-- without the first
+tail_few : (task : Task) (more : List Task) → AreFew (task ∷ more) → AreFew more
+tail_few task more f = record {
+  few = (let few = f.few in let le = more_waits task more (takes_place task) refl in omega (arith, few, le));
+  places = behind_some more f.places;
+}
+
+-- with another first, that takes a place only where the first did
+head_waits : (v task : Task) (more : List Task) (a b : Bool) → takes_place v ≡ a → takes_place task ≡ b → (a ≡ true → b ≡ true) →
+    waiting (v ∷ more) ≤ waiting (task ∷ more)
+head_waits v task more true true e f h = rw (e, f) (omega arith)
+head_waits v task more true false e f h = absurd (let x : false ≡ true = h refl in cc)
+head_waits v task more false true e f h = rw (e, f) (omega arith)
+head_waits v task more false false e f h = rw (e, f) (omega arith)
+
+head_few : (v task : Task) (more : List Task) → (takes_place v ≡ true → takes_place task ≡ true) → AreFew (task ∷ more) → AreFew (v ∷ more)
+head_few v task more h f = record {
+  few = (let few = f.few in let le = head_waits v task more (takes_place v) (takes_place task) refl refl h in omega (arith, few, le));
+  places = f.places;
+}
+
+left_few : (tasks : List Task) (s : SessionState) (b : Bool) → is_closed_phase s.phase ≡ b → AreFew tasks → AreFew (left s tasks)
+left_few tasks s true e f = rw e no_few
+left_few tasks s false e f = rw e f
+
+left_waits : (tasks : List Task) (s : SessionState) (b : Bool) → is_closed_phase s.phase ≡ b → waiting (left s tasks) ≤ waiting tasks
+left_waits tasks s true e = rw e (omega arith)
+left_waits tasks s false e = rw e (omega arith)
+
+-- ---- the first task
+
+-- what the first task does
+record First (s : Machine) (task : Task) (r : Stepped) : Type 0 where
+  pub one : length r.executed ≤ 1
+  pub keeps : AreFew (task ∷ s.tasks) → AreFew r.machine.tasks
+  pub waits : waiting r.machine.tasks ≤ waiting (task ∷ s.tasks)
+
+on_first : (s : Machine) (disk : Disk) (task : Task) (r : Reply) → First s task (on disk s.tasks r)
+on_first s disk task r = record {
+  one = omega arith;
+  keeps = λ f. left_few s.tasks r.session (is_closed_phase r.session.phase) refl (tail_few task s.tasks f);
+  waits = (let a = left_waits s.tasks r.session (is_closed_phase r.session.phase) refl in
+      let b = more_waits task s.tasks (takes_place task) refl in omega (arith, a, b));
+}
+
+-- a write that stays first
+takes_as : (s : Machine) (disk : Disk) (task : Task) (w v : Write) → Writes s disk task w → v.immediate ≡ w.immediate →
+    takes_place (Data v) ≡ true → takes_place task ≡ true
+takes_as s disk _ _ v (Waits w) same e = ap not (sym same) ∙ e
+takes_as s disk _ _ v (Opens m h total k b p) same e = refl
+
+waits_first : (s : Machine) (disk : Disk) (task : Task) (w v : Write) (r : Stepped) → Writes s disk task w → v.immediate ≡ w.immediate → r.executed ≡ [] →
+    r.machine.tasks ≡ Data v ∷ s.tasks → First s task r
+waits_first s disk task w v r is same none tasks = record {
+  one = subst (λ (es : List Execution). length es ≤ 1) (sym none) (omega arith);
+  keeps = λ f. subst AreFew (sym tasks) (head_few (Data v) task s.tasks (takes_as s disk task w v is same) f);
+  waits = subst (λ (ts : List Task). waiting ts ≤ waiting (task ∷ s.tasks)) (sym tasks)
+      (head_waits (Data v) task s.tasks (takes_place (Data v)) (takes_place task) refl refl (takes_as s disk task w v is same));
+}
+
+done_first_of : (s : Machine) (task : Task) (r : Stepped) → length r.executed ≤ 1 → r.machine.tasks ≡ s.tasks → First s task r
+done_first_of s task r one tasks = record {
+  one = one;
+  keeps = λ f. subst AreFew (sym tasks) (tail_few task s.tasks f);
+  waits = subst (λ (ts : List Task). waiting ts ≤ waiting (task ∷ s.tasks)) (sym tasks) (more_waits task s.tasks (takes_place task) refl);
+}
+
+begins_few : Begins (λ device s disk task r. First s task r)
+begins_few = record {
+  request_ = λ device s disk m none. on_first s disk (Request m) _;
+  refused_ = λ device s disk m h k broke. on_first s disk (Request m) _;
+  command_ = λ device s disk m h k none. done_first_of s (Request m) (execute device s disk h.initiator_task_tag (order_of h) []) (omega arith) refl;
+  write_ = λ device s disk task w is h. done_first_of s task (execute device s disk w.initiator_task_tag w.order w.pieces) (omega arith) refl;
+  send_r2t_ = λ device s disk task w is h g. waits_first s disk task w (with_r2t s.session.held w) (send_r2t s disk w) is refl refl refl;
+  wait_ = λ device s disk task w is h g. waits_first s disk task w w (unchanged (led_by w s) disk) is refl refl refl;
+}
+
+begun_few : (device : Device) (s : SessionState) (disk : Disk) (task : Task) (more : List Task) →
+    First (with_tasks s more) task (begun device (with_tasks s more) disk task)
+begun_few device s disk task more = begins (λ device s disk task r. First s task r) begins_few device (with_tasks s more) disk task
+
+-- ---- tasks in their turn
+
+record InTurns (tasks : List Task) (r : Stepped) : Type 0 where
+  pub each : length r.executed ≤ length tasks
+  pub keeps : AreFew tasks → AreFew r.machine.tasks
+  pub waits : waiting r.machine.tasks ≤ waiting tasks
+
+then_few : (task : Task) (more : List Task) (first later : Stepped) → length first.executed ≤ 1 → InTurns more later →
+    InTurns (task ∷ more) (then_stepped first later)
+then_few task more first later one u = record {
+  each = (let each = u.each in let sum = length-append first.executed later.executed in omega (arith, each, sum, one));
+  keeps = λ f. u.keeps (tail_few task more f);
+  waits = (let a = u.waits in let b = more_waits task more (takes_place task) refl in omega (arith, a, b));
+}
+
+turns_few : Turns (λ device s disk tasks r. InTurns tasks r)
+turns_few = record {
+  none_ = λ device s disk. record { each = omega arith; keeps = λ f. f; waits = omega arith };
+  stop_ = λ device s disk task more why.
+      (let b = begun_few device s disk task more in record { each = (let one = b.one in omega (arith, one)); keeps = b.keeps; waits = b.waits });
+  then_ = λ device s disk task more b stays live u.
+      (let first = begun_few device s disk task more in then_few task more (begun device (with_tasks s more) disk task) b first.one u);
+}
+
+done_few : (device : Device) (s : SessionState) (disk : Disk) (tasks : List Task) → InTurns tasks (done_in_turn device s disk tasks)
+done_few device s disk tasks = turns (λ device s disk tasks r. InTurns tasks r) turns_few device s disk tasks
+
+-- ---- a Data-Out
+
+taken_by : (w v more : Write) (b : Bool) → v.immediate ≡ w.immediate → (if b then Some v else None) ≡ Some more → more.immediate ≡ w.immediate
+taken_by w v more true same f = let is : v ≡ more = cc in ap (λ (x : Write). x.immediate) (sym is) ∙ same
+taken_by w v more false same f = absurd cc
+
+taken_immediate : (first : ℕ) (w v : Write) (h : DataPdu) (bytes : List ℕ) → taken first w h bytes ≡ Some v → v.immediate ≡ w.immediate
+taken_immediate first w v h bytes e = taken_by w (with_data w h bytes) v (is_in_sequence first w h (received w + length bytes) w.due) refl e
+
+taken_tag_by : (w v more : Write) (b : Bool) → v.initiator_task_tag ≡ w.initiator_task_tag → (if b then Some v else None) ≡ Some more
+    → more.initiator_task_tag ≡ w.initiator_task_tag
+taken_tag_by w v more true same f = let is : v ≡ more = cc in ap (λ (x : Write). x.initiator_task_tag) (sym is) ∙ same
+taken_tag_by w v more false same f = absurd cc
+
+taken_tag : (first : ℕ) (w v : Write) (h : DataPdu) (bytes : List ℕ) → taken first w h bytes ≡ Some v → v.initiator_task_tag ≡ w.initiator_task_tag
+taken_tag first w v h bytes e = taken_tag_by w (with_data w h bytes) v (is_in_sequence first w h (received w + length bytes) w.due) refl e
+
+-- the tasks take places as before
+pub record AlikeIn (tasks after : List Task) : Type 0 where
+  pub size : length after ≡ length tasks
+  pub waits : waiting after ≡ waiting tasks
+  pub places : TakePlaces tasks → TakePlaces after
+  pub behind_ : TakePlaces (behind tasks) → TakePlaces (behind after)
+
+cons_waits : (a b : Task) (more after : List Task) (t : Bool) → takes_place a ≡ t → takes_place b ≡ t → waiting after ≡ waiting more →
+    waiting (b ∷ after) ≡ waiting (a ∷ more)
+cons_waits a b more after true e f same = rw (e, f) (ap (λ (n : ℕ). suc n) same)
+cons_waits a b more after false e f same = rw (e, f) same
+
+pub cons_alike : (a b : Task) (more after : List Task) → takes_place b ≡ takes_place a → AlikeIn more after → AlikeIn (a ∷ more) (b ∷ after)
+cons_alike a b more after same x = record {
+  size = ap (λ (n : ℕ). suc n) x.size;
+  waits = cons_waits a b more after (takes_place a) refl same x.waits;
+  places = λ p. (same ∙ p.0, x.places p.1);
+  behind_ = x.places;
+}
+
+pub same_alike : (tasks : List Task) → AlikeIn tasks tasks
+same_alike tasks = record { size = refl; waits = refl; places = λ p. p; behind_ = λ p. p }
+
+written_alike : (tasks : List Task) (w v : Write) → write_of tasks v.initiator_task_tag ≡ Some w → v.immediate ≡ w.immediate →
+    AlikeIn tasks (with_write v tasks)
+written_alike [] w v e same = same_alike []
+written_alike (Request m ∷ more) w v e same = cons_alike (Request m) (Request m) more (with_write v more) refl (written_alike more w v e same)
+written_alike (Data x ∷ more) w v e same =
+    by_cases (x.initiator_task_tag == v.initiator_task_tag)
+    (λ f.
+    let is : x ≡ w = (let g : Some x ≡ Some w = rw f at e in cc) in
+    let imm : v.immediate ≡ x.immediate = same ∙ ap (λ (y : Write). y.immediate) (sym is) in
+    rw f (cons_alike (Data x) (Data v) more more (ap not imm) (same_alike more)))
+    (λ f. rw f (cons_alike (Data x) (Data x) more (with_write v more) refl (written_alike more w v (rw f at e) same)))
+
+-- ---- one PDU
+
+record AtPdu (s : Machine) (m : Message) (r : Stepped) : Type 0 where
+  pub keeps : HasCmdSn m → AreFew s.tasks → AreFew r.machine.tasks
+  pub each : HasCmdSn m → AreFew s.tasks → length r.executed ≤ 9
+
+reply_at : (s : Machine) (m : Message) (disk : Disk) (r : Reply) → AtPdu s m (on disk s.tasks r)
+reply_at s m disk r = record {
+  keeps = λ h f. left_few s.tasks r.session (is_closed_phase r.session.phase) refl f;
+  each = λ h f. omega arith;
+}
+
+-- tasks that are few are done in their turn
+turns_at : (s : Machine) (m : Message) (accepted : List Message) (tasks : List Task) (r : Stepped) → (HasCmdSn m → AreFew s.tasks → AreFew tasks) →
+    InTurns tasks r → AtPdu s m (having_accepted accepted r)
+turns_at s m accepted tasks r are u = record {
+  keeps = λ h f. u.keeps (are h f);
+  each = λ h f. (let each = u.each in let most = nine tasks (are h f) in omega (arith, each, most));
+}
+
+taken_few : (s : Machine) (m : Message) (h : DataPdu) (w v : Write) → write_of s.tasks h.initiator_task_tag ≡ Some w
+    → taken (first_burst s.session.held) w h (segment_bytes m.segment) ≡ Some v → AreFew s.tasks → AreFew (with_write v s.tasks)
+taken_few s m h w v e t f =
+    let tag : h.initiator_task_tag ≡ v.initiator_task_tag = sym (found_tag s.tasks h.initiator_task_tag w e)
+    ∙ sym (taken_tag (first_burst s.session.held) w v h (segment_bytes m.segment) t) in
+    let x : AlikeIn s.tasks (with_write v s.tasks) = written_alike s.tasks w v (subst (λ (n : ℕ). write_of s.tasks n ≡ Some w) tag e)
+    (taken_immediate (first_burst s.session.held) w v h (segment_bytes m.segment) t) in
+    record { few = subst (λ (n : ℕ). n ≤ 8) (sym x.waits) f.few; places = x.behind_ f.places }
+
+taken_waits : (s : Machine) (m : Message) (h : DataPdu) (w v : Write) → write_of s.tasks h.initiator_task_tag ≡ Some w
+    → taken (first_burst s.session.held) w h (segment_bytes m.segment) ≡ Some v → waiting (with_write v s.tasks) ≡ waiting s.tasks
+taken_waits s m h w v e t =
+    let tag : h.initiator_task_tag ≡ v.initiator_task_tag = sym (found_tag s.tasks h.initiator_task_tag w e)
+    ∙ sym (taken_tag (first_burst s.session.held) w v h (segment_bytes m.segment) t) in
+    let x : AlikeIn s.tasks (with_write v s.tasks) = written_alike s.tasks w v (subst (λ (n : ℕ). write_of s.tasks n ≡ Some w) tag e)
+    (taken_immediate (first_burst s.session.held) w v h (segment_bytes m.segment) t) in
+    x.waits
+
+-- a request that isn't immediate takes a place
+not_immediate : (b : Bool) (n k : ℕ) → cmd_sn_if b k ≡ Some n → not b ≡ true
+not_immediate false n k e = refl
+not_immediate true n k e = absurd cc
+
+planned_place : (m : Message) (h : CommandPdu) (bytes : List ℕ) (plan : Plan) → not h.immediate ≡ true → takes_place (task_planned m h bytes plan) ≡ true
+planned_place m h bytes (plans.Take total) e = e
+planned_place m h bytes (plans.Refuse sense) e = refl
+planned_place m h bytes (plans.Give given) e = refl
+
+new_place : (count n : ℕ) (m : Message) (head : Head) → cmd_sn_of head ≡ Some n → takes_place (task_by count m head) ≡ true
+new_place count n m (heads.ScsiCommand h) e =
+    planned_place m h (segment_bytes m.segment) (plan_of (order_of h) count) (not_immediate h.immediate n h.cmd_sn e)
+new_place count n m head e = refl
+
+one_waits : (task : Task) (b : Bool) → takes_place task ≡ b → waiting (task ∷ []) ≤ 1
+one_waits task true e = rw e (omega arith)
+one_waits task false e = rw e (omega arith)
+
+one_few : (task : Task) → AreFew (task ∷ [])
+one_few task = record { few = (let one = one_waits task (takes_place task) refl in omega (arith, one)); places = tt }
+
+all_with : (tasks : List Task) (task : Task) → takes_place task ≡ true → TakePlaces tasks → TakePlaces (tasks ++ task ∷ [])
+all_with [] task e p = (e, tt)
+all_with (first ∷ more) task e p = (p.0, all_with more task e p.1)
+
+places_with : (tasks : List Task) (task : Task) → takes_place task ≡ true → TakePlaces (behind tasks) → TakePlaces (behind (tasks ++ task ∷ []))
+places_with [] task e p = tt
+places_with (first ∷ more) task e p = all_with more task e p
+
+waiting_with : (tasks : List Task) (task : Task) → waiting (tasks ++ task ∷ []) ≤ waiting tasks + 1
+waiting_with tasks task =
+    let sum : waiting (tasks ++ task ∷ []) ≡ waiting tasks + waiting (task ∷ []) =
+    ap (λ (ts : List Task). length ts) (filter-append takes_place tasks (task ∷ []))
+    ∙ length-append (filter takes_place tasks) (filter takes_place (task ∷ [])) in
+    let one = one_waits task (takes_place task) refl in
+    omega (arith, sum, one)
+
+room_for : (s : Machine) (n : ℕ) → is_within n s.session.exp_cmd_sn (max_cmd_sn s) ≡ true → s.session.exp_cmd_sn < 2 ^ 32 → waiting s.tasks ≤ 8 →
+    waiting s.tasks ≤ 7
+room_for s n e lt few =
+    let near : nat_lt (distance s.session.exp_cmd_sn (max_cmd_sn s)) (2 ^ 31) ≡ true =
+    and_left (nat_lt (distance s.session.exp_cmd_sn (max_cmd_sn s)) (2 ^ 31))
+    (nat_le (distance s.session.exp_cmd_sn n) (distance s.session.exp_cmd_sn (max_cmd_sn s))) e in
+    has_room s.session.exp_cmd_sn (waiting s.tasks) lt (omega (arith, few))
+    (ltb-true (distance s.session.exp_cmd_sn (max_cmd_sn s)) (2 ^ 31) near)
+
+admitted_few : (s t : Machine) (m : Message) (count : ℕ) → Accepts s m t → HasCmdSn m → AreFew s.tasks → AreFew (t.tasks ++ task_of count m ∷ [])
+admitted_few s _ m count (Immediately c none) h f = subst (λ (ts : List Task). AreFew (ts ++ task_of count m ∷ [])) (sym none) (one_few (task_of count m))
+admitted_few s _ m count (InTurn n c w is) h f =
+    let fits : FitsNumber (Some n) = subst FitsNumber c h.request in
+    let lt : s.session.exp_cmd_sn < 2 ^ 32 = subst (λ (k : ℕ). k < 2 ^ 32) is fits in
+    let room : waiting s.tasks ≤ 7 = room_for s n w lt f.few in
+    record {
+      few = (let le = waiting_with s.tasks (task_of count m) in omega (arith, le, room));
+      places = places_with s.tasks (task_of count m) (new_place count n m m.head c) f.places;
+    }
+
+parts_few : (device : Device) (disk : Disk) → Parts device disk AtPdu
+parts_few device disk = record {
+  nothing_ = λ s m c. record { keeps = λ h f. f; each = λ h f. omega arith };
+  shut_ = λ s m. record { keeps = λ h f. no_few; each = λ h f. omega arith };
+  reject_ = λ s reason m a. reply_at s m disk (reject s.session (waiting s.tasks) reason m);
+  reject_and_close_ = λ s rule m. reply_at s m disk (reject_and_close s.session (waiting s.tasks) rule m);
+  login_ = λ s m k. reply_at s m disk (login_step s.session m);
+  taken_ = λ s m h w v k e t. turns_at s m [] (with_write v s.tasks) (done_in_turn device s.session disk (with_write v s.tasks))
+      (λ c f. taken_few s m h w v e t f) (done_few device s.session disk (with_write v s.tasks));
+  refused_ = λ s t m rule a x. record {
+    keeps = λ h f. left_few t.tasks (reject_and_close t.session (waiting t.tasks) rule m).session
+        (is_closed_phase (reject_and_close t.session (waiting t.tasks) rule m).session.phase) refl (subst AreFew (sym (same_tasks s t m x)) f);
+    each = λ h f. omega arith;
+  };
+  admitted_ = λ s t m a x b. turns_at s m (m ∷ []) (t.tasks ++ task_of disk.count m ∷ [])
+      (done_in_turn device t.session disk (t.tasks ++ task_of disk.count m ∷ [])) (λ h f. admitted_few s t m disk.count x h f)
+      (done_few device t.session disk (t.tasks ++ task_of disk.count m ∷ []));
+}
+
+step_few : (device : Device) (disk : Disk) (s : Machine) (m : Message) → AtPdu s m (step_on device s disk m)
+step_few device disk s m = step_parts device disk AtPdu (parts_few device disk) s m
+
+-- ---- PDUs one after another
+
+pub record AtPdus (ms : List Message) (r : Stepped) : Type 0 where
+  pub keeps : AreFew r.machine.tasks
+  pub each : length r.executed ≤ 9 * length ms
+
+pub may_few : (s : Machine) (disk : Disk) (before after : ℕ) (ms : List Message) (r : Stepped) → MayAnswer s disk before ms r after →
+    AllByRecursion HasCmdSn ms → AreFew s.tasks → AtPdus ms r
+unfolding MayAnswer
+may_few s disk before after [] r e all f =
+    subst (λ (x : Stepped). AtPdus [] x) (sym e.0) (record { keeps = f; each = omega arith })
+may_few s disk before after (m ∷ ms) r e all f =
+    let first : AtPdu s m e.0 = subst (λ (x : Stepped). AtPdu s m x) (sym e.3.is) (step_few e.3.device disk s m) in
+    let later : AtPdus ms e.1 = may_few e.0.machine e.0.disk e.2 after ms e.1 e.4 all.1 (first.keeps all.0 f) in
+    subst (λ (x : Stepped). AtPdus (m ∷ ms) x) (sym e.5) (record {
+      keeps = later.keeps;
+      each = (let one = first.each all.0 f in let more = later.each in let sum = length-append e.0.executed e.1.executed in omega (arith, one, more, sum));
+    })
+
+-- ---- what messages leave
+
+pub queue_of : (s : Machine) (disk : Disk) (ms : List Message) → AllByRecursion HasCmdSn ms → AreFew s.tasks → AreKept s.tasks →
+    IsQueue (answers s disk ms).machine.tasks
+unfolding answers
+queue_of s disk [] all f k = record { few = f.few; places = f.places; pending = k.pending; unasked = k.unasked }
+queue_of s disk (m ∷ ms) all f k =
+    queue_of (step s disk m).machine (step s disk m).disk ms all.1 ((step_few reliable disk s m).keeps all.0 f) (step_kept reliable s disk m k)
+
+pub opening_queue : (settings : Settings) (n : ℕ) (disk : Disk) (ms : List Message) → AllByRecursion HasCmdSn ms →
+    IsQueue (answers (opening settings n) disk ms).machine.tasks
+opening_queue settings n disk ms all = queue_of (opening settings n) disk ms all no_few none_kept
+
+-- ---- MaxCmdSN
+
+-- ExpCmdSN stays, and no more wait; or it goes on by one, and one more waits at most
+record Rises (s : Machine) (r : Stepped) : Type 0 where
+  live : is_closed r.machine ≡ false → s.session.phase ≡ phases.Full →
+      ((r.machine.session.exp_cmd_sn ≡ s.session.exp_cmd_sn) × (waiting r.machine.tasks ≤ waiting s.tasks))
+      ⊎ ((r.machine.session.exp_cmd_sn ≡ next_sn s.session.exp_cmd_sn) × (waiting r.machine.tasks ≤ waiting s.tasks + 1))
+
+-- the only task is of an immediate request, which takes no place
+abbrev IsImmediate : Task → Type 0
+IsImmediate (Request m) = cmd_sn_of m.head ≡ None
+IsImmediate (Data w) = w.immediate ≡ true
+
+immediate_if : (b : Bool) (n : ℕ) → cmd_sn_if b n ≡ None → b ≡ true
+immediate_if true n e = refl
+immediate_if false n e = absurd cc
+
+no_place : (w : Write) → w.immediate ≡ true → waiting (Data w ∷ []) ≡ 0
+no_place w e = rw e refl
+
+opens_immediate : (s : Machine) (disk : Disk) (task : Task) (w : Write) → Writes s disk task w → IsImmediate task → w.immediate ≡ true
+opens_immediate s disk _ _ (Waits w) i = i
+opens_immediate s disk _ _ (Opens m h total k b p) i =
+    immediate_if h.immediate h.cmd_sn (subst (λ (x : Head). cmd_sn_of x ≡ None) k i)
+
+none_waits : (tasks : List Task) → tasks ≡ [] → waiting tasks ≡ 0
+none_waits tasks e = ap waiting e
+
+left_none : (tasks : List Task) (s : SessionState) (b : Bool) → is_closed_phase s.phase ≡ b → tasks ≡ [] → waiting (left s tasks) ≡ 0
+left_none tasks s true e none = rw e refl
+left_none tasks s false e none = rw e (none_waits tasks none)
+
+stays_first : (w : Write) (tasks : List Task) → tasks ≡ [] → w.immediate ≡ true → waiting (Data w ∷ tasks) ≡ 0
+stays_first w tasks none i = ap (λ (ts : List Task). waiting (Data w ∷ ts)) none ∙ no_place w i
+
+begins_alone : Begins (λ device s disk task r. s.tasks ≡ [] → IsImmediate task → waiting r.machine.tasks ≡ 0)
+begins_alone = record {
+  request_ = λ device s disk m none e i.
+      (let r : Reply = request_answered s.session (waiting s.tasks) m m.head in left_none s.tasks r.session (is_closed_phase r.session.phase) refl e);
+  refused_ = λ device s disk m h k broke e i. refl;
+  command_ = λ device s disk m h k none e i. none_waits s.tasks e;
+  write_ = λ device s disk task w is h e i. none_waits s.tasks e;
+  send_r2t_ = λ device s disk task w is h g e i. stays_first (with_r2t s.session.held w) s.tasks e (opens_immediate s disk task w is i);
+  wait_ = λ device s disk task w is h g e i. stays_first w s.tasks e (opens_immediate s disk task w is i);
+}
+
+planned_immediate : (m : Message) (h : CommandPdu) (bytes : List ℕ) (plan : Plan) → cmd_sn_of m.head ≡ None → h.immediate ≡ true →
+    IsImmediate (task_planned m h bytes plan)
+planned_immediate m h bytes (plans.Take total) e i = i
+planned_immediate m h bytes (plans.Refuse sense) e i = e
+planned_immediate m h bytes (plans.Give given) e i = e
+
+task_immediate : (count : ℕ) (m : Message) (head : Head) → m.head ≡ head → cmd_sn_of m.head ≡ None → IsImmediate (task_by count m head)
+task_immediate count m (heads.ScsiCommand h) k e =
+    planned_immediate m h (segment_bytes m.segment) (plan_of (order_of h) count) e
+    (immediate_if h.immediate h.cmd_sn (subst (λ (x : Head). cmd_sn_of x ≡ None) k e))
+task_immediate count m head k e = e
+
+alone_waits : (device : Device) (s : SessionState) (disk : Disk) (tasks : List Task) (task : Task) → tasks ≡ [] → IsImmediate task →
+    waiting (done_in_turn device s disk (tasks ++ task ∷ [])).machine.tasks ≡ 0
+alone_waits device s disk tasks task none i =
+    ap (λ (ts : List Task). waiting (done_in_turn device s disk (ts ++ task ∷ [])).machine.tasks) none
+    ∙ ap (λ (r : Stepped). waiting r.machine.tasks) (done_alone device s disk task)
+    ∙ begins (λ device s disk task r. s.tasks ≡ [] → IsImmediate task → waiting r.machine.tasks ≡ 0) begins_alone device (with_tasks s []) disk task refl i
+
+reply_rises : (s : Machine) (disk : Disk) (r : Reply) → (is_closed_phase r.session.phase ≡ false → r.session.exp_cmd_sn ≡ s.session.exp_cmd_sn) →
+    Rises s (on disk s.tasks r)
+reply_rises s disk r same = record {
+  live = λ open_ full. inl (same open_, left_waits s.tasks r.session (is_closed_phase r.session.phase) refl);
+}
+
+admitted_rises : (device : Device) (s t : Machine) (m : Message) (disk : Disk) → Accepts s m t →
+    Rises s (having_accepted (m ∷ []) (done_in_turn device t.session disk (t.tasks ++ task_of disk.count m ∷ [])))
+admitted_rises device s _ m disk (Immediately c none) = record {
+  live = λ open_ full. inl (
+    ((done_tells device s.session disk (s.tasks ++ task_of disk.count m ∷ [])).live open_).1,
+    (let none_ = alone_waits device s.session disk s.tasks (task_of disk.count m) none (task_immediate disk.count m m.head refl c) in
+        omega (arith, none_)),
+  );
+}
+admitted_rises device s _ m disk (InTurn n c w is) = record {
+  live = λ open_ full. inr (
+    ((done_tells device (advanced s).session disk (s.tasks ++ task_of disk.count m ∷ [])).live open_).1,
+    (let a = (done_few device (advanced s).session disk (s.tasks ++ task_of disk.count m ∷ [])).waits in
+        let b = waiting_with s.tasks (task_of disk.count m) in omega (arith, a, b)),
+  );
+}
+
+parts_rise : (device : Device) (disk : Disk) → Parts device disk (λ s m r. Rises s r)
+parts_rise device disk = record {
+  nothing_ = λ s m c. record { live = λ open_ full. inl (refl, omega arith) };
+  shut_ = λ s m. record { live = λ open_ full. absurd cc };
+  reject_ = λ s reason m a. reply_rises s disk (reject s.session (waiting s.tasks) reason m) (λ _. refl);
+  reject_and_close_ = λ s rule m. record { live = λ open_ full. absurd cc };
+  login_ = λ s m k. record { live = λ open_ full. absurd (let e : phases.Login ≡ phases.Full = sym k ∙ full in cc) };
+  taken_ = λ s m h w v k e t. record {
+    live = λ open_ full. inl (
+      ((done_tells device s.session disk (with_write v s.tasks)).live open_).1,
+      (let a = (done_few device s.session disk (with_write v s.tasks)).waits in let b = taken_waits s m h w v e t in omega (arith, a, b)),
+    );
+  };
+  refused_ = λ s t m rule a x. record { live = λ open_ full. absurd cc };
+  admitted_ = λ s t m a x b. admitted_rises device s t m disk x;
+}
+
+-- the window, one step and another
+window_rises : (exp now waits after : ℕ) → exp < 2 ^ 32 → waits ≤ 8 → ((now ≡ exp) × (after ≤ waits)) ⊎ ((now ≡ next_sn exp) × (after ≤ waits + 1))
+    → distance ((exp + (2 ^ 32 + 7 - waits)) % 2 ^ 32) ((now + (2 ^ 32 + 7 - after)) % 2 ^ 32) < 2 ^ 31
+window_rises exp now waits after lt few (inl h) = let e = h.0 in let le = h.1 in omega (arith, lt, few, e, le)
+window_rises exp now waits after lt few (inr h) = let e = h.0 in let le = h.1 in omega (arith, lt, few, e, le)
+
+pub step_rises : (s : Machine) (disk : Disk) (m : Message) → s.session.exp_cmd_sn < 2 ^ 32 → waiting s.tasks ≤ 8 → s.session.phase ≡ phases.Full →
+    is_closed (step s disk m).machine ≡ false → IsNotBefore (max_cmd_sn s) (max_cmd_sn (step s disk m).machine)
+step_rises s disk m lt f full open_ =
+    let r : Rises s (step s disk m) = step_parts reliable disk (λ s m r. Rises s r) (parts_rise reliable disk) s m in
+    window_rises s.session.exp_cmd_sn (step s disk m).machine.session.exp_cmd_sn (waiting s.tasks) (waiting (step s disk m).machine.tasks) lt f
+    (r.live open_ full)

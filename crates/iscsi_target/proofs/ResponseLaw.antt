@@ -1,0 +1,135 @@
+-- What responses say is what was executed, in their order.
+use Rattle.std.proofs.Common.{◌≡◌, ◌∙◌, ℕ, ◌+◌, List, [], ◌∷◌, ◌++◌, Bool, length, refl, sym, ap, map}
+use Rattle.std.proofs.lemmas.List.{map-append}
+use Rattle.std.proofs.lemmas.Grind.{flat_map-append}
+use Rattle.scsi_disk.specs.Disk.{Disk}
+use Rattle.scsi_disk.specs.Effect.{Effect}
+use Rattle.scsi_disk.specs.declared.order.Order.{Order}
+use Rattle.iscsi_pdu.specs.Rules.{data_out_of_order}
+use Rattle.iscsi_pdu.specs.declared.head.Head.{Head}
+use Rattle.iscsi_pdu.specs.declared.head.Head.TheVariants.{ScsiResponse}
+use Rattle.iscsi_stream.specs.Pieces.{Pieces, data_of}
+use Rattle.iscsi_stream.specs.Segment.{segment_bytes}
+use Rattle.iscsi_stream.specs.Stream.{Message}
+use Rattle.iscsi_target_session.specs.Session.{Session, Reply, message}
+use Rattle.iscsi_target_session.specs.Login.{login_step}
+use Rattle.iscsi_target_session.specs.Rejecting.{reject_and_close}
+use Rattle.iscsi_target.specs.declared.tasks.Task.{Task}
+use Rattle.iscsi_target.specs.State.{Machine, Execution, Stepped, on, waiting}
+use Rattle.iscsi_target.specs.Execution.{Device, reliable, device_after, execute, data_in_parts, data_ins, response_head, sense_segment}
+use Rattle.iscsi_target.specs.Command.{order_of}
+use Rattle.iscsi_target.specs.Machine.{step, answers, begun, done_in_turn}
+use Rattle.iscsi_target.specs.Laws.{Told, told_by, told_in, told_of, due_for, response_tag, response_tags}
+use Rattle.iscsi_target.proofs.TurnLemmas.{Begins, begins, Turns, turns, with_tasks}
+use Rattle.iscsi_target.proofs.StepPartLemmas.{Parts, step_parts}
+use Rattle.iscsi_target.proofs.ReplyLemmas.{login_logs, reject_reply, reject_and_close_reply, request_answered_reply}
+use Rattle.iscsi_target.proofs.WriteTilingLaws.{still_reliable}
+
+record Tells (r : Stepped) : Type 0 where
+  is : told_in r.answers ≡ map due_for r.executed
+
+none_left : {A : Type 0} (a b : List A) → a ++ b ≡ [] → a ≡ []
+none_left [] b e = refl
+none_left (x ∷ a) b e = absurd cc
+
+none_right : {A : Type 0} (a b : List A) → a ++ b ≡ [] → b ≡ []
+none_right [] b e = e
+none_right (x ∷ a) b e = absurd cc
+
+no_response : (head : Head) (bytes : List ℕ) → response_tag head ≡ [] → told_by head bytes ≡ []
+no_response (ScsiResponse h) bytes e = absurd cc
+no_response _ bytes e = refl
+
+-- answers with no tag of a response have no response
+none_told : (ms : List Message) → response_tags ms ≡ [] → told_in ms ≡ []
+none_told [] e = refl
+none_told (m ∷ ms) e =
+    ap (λ (ts : List Told). ts ++ told_in ms)
+    (no_response m.head (segment_bytes m.segment) (none_left (response_tag m.head) (response_tags ms) e))
+    ∙ none_told ms (none_right (response_tag m.head) (response_tags ms) e)
+
+reply_tells : (tasks : List Task) (disk : Disk) (r : Reply) → response_tags r.answers ≡ [] → Tells (on disk tasks r)
+reply_tells tasks disk r e = record { is = none_told r.answers e }
+
+told_append : (a b : List Message) → told_in (a ++ b) ≡ told_in a ++ told_in b
+told_append a b = flat_map-append (λ (m : Message). told_by m.head (segment_bytes m.segment)) a b
+
+-- ---- one order
+
+ins_told : (s : Session) (waits tag data_sn at : ℕ) (given : List (List ℕ × Bool)) (more : List Message) →
+    told_in (data_ins s waits tag data_sn at given ++ more) ≡ told_in more
+ins_told s waits tag data_sn at [] more = refl
+ins_told s waits tag data_sn at (part ∷ given) more = ins_told s waits tag (data_sn + 1) (at + length part.0) given more
+
+execute_tells : (device : Device) (s : Machine) (disk : Disk) (tag : ℕ) (order : Order) (pieces : Pieces) → device ≡ reliable →
+    Tells (execute device s disk tag order pieces)
+unfolding segment_bytes
+execute_tells device s disk tag order pieces e =
+    let f : Effect = device 0 disk order (data_of pieces) in
+    let given : List (List ℕ × Bool) = data_in_parts s.session.held f.outcome.bytes in
+    record {
+      is = ins_told s.session (waiting s.tasks) tag 0 0 given
+          (message (response_head s.session (waiting s.tasks) tag f.outcome (length given)) (sense_segment f.outcome.sense) ∷ [])
+          ∙ ap (λ (d : Device). told_of tag (d 0 disk order (data_of pieces)).outcome ∷ []) e;
+    }
+
+-- ---- tasks
+
+begins_tell : Begins (λ device s disk task r. device ≡ reliable → Tells r)
+begins_tell = record {
+  request_ = λ device s disk m none e. reply_tells s.tasks disk _ (request_answered_reply s.session (waiting s.tasks) m m.head).tags;
+  refused_ = λ device s disk m h k broke e. reply_tells s.tasks disk _ (reject_and_close_reply s.session (waiting s.tasks) data_out_of_order m).tags;
+  command_ = λ device s disk m h k none e. execute_tells device s disk h.initiator_task_tag (order_of h) [] e;
+  write_ = λ device s disk task w is whole e. execute_tells device s disk w.initiator_task_tag w.order w.pieces e;
+  send_r2t_ = λ device s disk task w is whole idle e. record { is = refl };
+  wait_ = λ device s disk task w is whole idle e. record { is = refl };
+}
+
+begun_tells : (device : Device) (s : Session) (disk : Disk) (task : Task) (more : List Task) → device ≡ reliable →
+    Tells (begun device (with_tasks s more) disk task)
+begun_tells device s disk task more e =
+    begins (λ device s disk task r. device ≡ reliable → Tells r) begins_tell device (with_tasks s more) disk task e
+
+both_tell : (answers : List Message) (executed : List Execution) (more : List Message) (later : List Execution) → told_in answers ≡ map due_for executed →
+    told_in more ≡ map due_for later → told_in (answers ++ more) ≡ map due_for (executed ++ later)
+both_tell answers executed more later e f =
+    told_append answers more ∙ ap (λ (ts : List Told). ts ++ told_in more) e ∙ ap (λ (ts : List Told). map due_for executed ++ ts) f
+    ∙ sym (map-append due_for executed later)
+
+turns_tell : Turns (λ device s disk tasks r. device ≡ reliable → Tells r)
+turns_tell = record {
+  none_ = λ device s disk e. record { is = refl };
+  stop_ = λ device s disk task more why e. begun_tells device s disk task more e;
+  then_ = λ device s disk task more b stays live u e.
+      (let a : Stepped = begun device (with_tasks s more) disk task in
+      let later : Tells b = u (ap (device_after a.executed) e ∙ still_reliable a.executed) in
+      record { is = both_tell a.answers a.executed b.answers b.executed (begun_tells device s disk task more e).is later.is });
+}
+
+done_tells : (s : Session) (disk : Disk) (tasks : List Task) → Tells (done_in_turn reliable s disk tasks)
+done_tells s disk tasks = turns (λ device s disk tasks r. device ≡ reliable → Tells r) turns_tell reliable s disk tasks refl
+
+-- ---- all parts
+
+parts_tell : (disk : Disk) → Parts reliable disk (λ s m r. Tells r)
+parts_tell disk = record {
+  nothing_ = λ s m c. record { is = refl };
+  shut_ = λ s m. record { is = refl };
+  reject_ = λ s reason m a. reply_tells s.tasks disk _ (reject_reply s.session (waiting s.tasks) reason m).tags;
+  reject_and_close_ = λ s rule m. reply_tells s.tasks disk _ (reject_and_close_reply s.session (waiting s.tasks) rule m).tags;
+  login_ = λ s m k. reply_tells s.tasks disk (login_step s.session m) (login_logs s.session m).is.tags;
+  taken_ = λ s m h w v k e f. record { is = (done_tells s.session disk _).is };
+  refused_ = λ s t m rule a x. record { is = (reply_tells t.tasks disk (reject_and_close t.session (waiting t.tasks) rule m) (reject_and_close_reply t.session (waiting t.tasks) rule m).tags).is };
+  admitted_ = λ s t m a x f. record { is = (done_tells t.session disk _).is };
+}
+
+step_tells : (disk : Disk) (s : Machine) (m : Message) → Tells (step s disk m)
+step_tells disk s m = step_parts reliable disk (λ s m r. Tells r) (parts_tell disk) s m
+
+pub answers_tell : (s : Machine) (disk : Disk) (ms : List Message) → told_in (answers s disk ms).answers ≡ map due_for (answers s disk ms).executed
+unfolding answers
+answers_tell s disk [] = refl
+answers_tell s disk (m ∷ ms) =
+    let first : Stepped = step s disk m in
+    let later : Stepped = answers first.machine first.disk ms in
+    both_tell first.answers first.executed later.answers later.executed (step_tells disk s m).is (answers_tell first.machine first.disk ms)

@@ -1,0 +1,17 @@
+use Rattle.std.proofs.Common.{◌≡◌, ◌≤◌, [], map, take}
+use Rattle.iscsi_target.specs.Feed.{FedAll, opening_connection, scene}
+use Rattle.iscsi_target.specs.Inside.{store_of}
+use Rattle.iscsi_target.proofs.alike.answer_pieces.Given as goal
+
+-- The pieces so far were fed, if no failure was counted.
+abbrev pub invariant-loop-piece : goal.invariant-loop-piece
+invariant-loop-piece g l =
+    let disk = g.S.BlockStore.disk in
+    let failures = g.S.BlockStore.failures in
+    record {
+      rises : failures l.fn.store ≤ failures l.store;
+      fed : failures l.store ≡ failures l.fn.store
+          → FedAll (scene (opening_connection l.fn.config l.first_statsn) (store_of (disk l.fn.store) (failures l.fn.store)) [])
+          (map (λ piece. piece.items) (take l.piece-index l.pieces))
+          (scene l.target (store_of (disk l.store) (failures l.store)) l.output.items);
+    }

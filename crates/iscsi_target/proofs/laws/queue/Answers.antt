@@ -1,0 +1,5 @@
+use Rattle.iscsi_target.proofs.QueueLemmas.{opening_queue, step_rises}
+use Rattle.iscsi_target.proofs.laws.queue.Goals as goal
+
+pub returns : goal.returns
+returns c = record { tasks = opening_queue; rises = step_rises }

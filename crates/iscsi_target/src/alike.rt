@@ -1,0 +1,124 @@
+//! Whole streams, each with a target of its own: streams of one meaning are answered alike.
+
+ghost use Rattle.std.specs.Prelude.{◌≡◌, ◌↔◌, [], ℕ, List, map, IfOk};
+ghost use Rattle.scsi_disk.specs.Disk.{Disk};
+ghost use Rattle.iscsi_stream.specs.Stream.{Message, Splits, StreamMeans, longest_segment};
+ghost use Rattle.iscsi_login.specs.Negotiation.{IsInRange};
+ghost use Rattle.iscsi_target_session.specs.Session.{limit};
+ghost use Rattle.iscsi_target.specs.Feed.{FedAll, Refuses, opening_connection, scene, stream_of};
+ghost use Rattle.iscsi_target.specs.Alike.{ran_out};
+ghost use Rattle.iscsi_target.specs.Inside.{store_of};
+
+use crate::fault::TargetFault;
+use crate::target::Target;
+use iscsi_login::Phase;
+use iscsi_target_session::Config;
+use scsi_disk::BlockStore;
+use std::alloc::Global;
+
+/// A target, and all that it has written.
+#[derive(Drop)]
+pub struct Answered {
+    /// The target, behind the last piece.
+    pub target: Target,
+    /// The bytes of its answers.
+    pub output: Vec<u8>,
+}
+
+/// Answers a stream that comes in these pieces. Returns `NoMemory` where memory ran out; after
+/// another fault the session is closed, and what follows is dropped.
+pub fn answer_pieces<S: BlockStore>(
+    alloc: Global,
+    config: Config,
+    first_statsn: u32,
+    pieces: &[Vec<u8>],
+    store: &mut S,
+) -> Result<Answered, TargetFault>
+    ensures in_range { IsInRange config.preferences }
+    ensures fed { IfOk result (λ now. S.failures store.new ≡ S.failures store.old
+        → FedAll (scene (opening_connection config first_statsn)
+        (store_of (S.disk store.old) (S.failures store.old)) [])
+        (map (λ piece. piece.items) pieces.now)
+        (scene now.target (store_of (S.disk store.new) (S.failures store.new)) now.output.items)) }
+{
+    let mut target = Target::new(alloc, config, first_statsn);
+    let mut output = Vec::new(alloc);
+    for piece in pieces {
+        let fed = target.feed(piece, store, &mut output);
+        if has_run_out(&fed) {
+            return Err(TargetFault::NoMemory);
+        }
+    }
+    Ok(Answered { target, output })
+}
+
+/// Answers two streams, each by a new target over a store of its own, whose first blocks, settings
+/// and StatSN are the same. Where both mean the same, and no failure was counted at a store, both
+/// targets have written the same bytes, left the same blocks, and are in the same state: they hold
+/// the same values, stage and phase (RFC 7143, sections 6 and 11). Returns `NoMemory` where memory
+/// ran out, and no other fault.
+pub fn answers_alike<S: BlockStore>(
+    alloc: Global,
+    configs: (Config, Config),
+    first_statsn: u32,
+    streams: (&[Vec<u8>], &[Vec<u8>]),
+    store: &mut S,
+    other: &mut S,
+) -> Result<(Answered, Answered), TargetFault>
+    requires config { configs.1 ≡ configs.0 }
+    requires disk { S.disk other.old ≡ S.disk store.old }
+    // Each target was fed its own stream.
+    ensures first { IfOk result (λ both. S.failures store.new ≡ S.failures store.old
+        → FedAll (scene (opening_connection configs.0 first_statsn)
+        (store_of (S.disk store.old) (S.failures store.old)) [])
+        (map (λ piece. piece.items) streams.entry.0.now)
+        (scene both.0.target (store_of (S.disk store.new) (S.failures store.new))
+        both.0.output.items)) }
+    ensures second { IfOk result (λ both. S.failures other.new ≡ S.failures other.old
+        → FedAll (scene (opening_connection configs.1 first_statsn)
+        (store_of (S.disk other.old) (S.failures other.old)) [])
+        (map (λ piece. piece.items) streams.entry.1.now)
+        (scene both.1.target (store_of (S.disk other.new) (S.failures other.new))
+        both.1.output.items)) }
+    ensures alike { IfOk result (λ both. (ms : List Message)
+        → S.failures store.new ≡ S.failures store.old
+        → S.failures other.new ≡ S.failures other.old
+        → StreamMeans (stream_of (map (λ piece. piece.items) streams.entry.0.now)) ms
+        → StreamMeans (stream_of (map (λ piece. piece.items) streams.entry.1.now)) ms
+        → (both.1.output.items ≡ both.0.output.items) × (S.disk other.new ≡ S.disk store.new)
+        × (both.1.target.machine ≡ both.0.target.machine)) }
+    // Of streams that leave the profile, the PDUs before that place alone matter: to what is written,
+    // to the blocks, and to the values and the stage that are held.
+    ensures front { IfOk result (λ both. (ms : List Message) (given first_rest same second_rest : List ℕ)
+        → S.failures store.new ≡ S.failures store.old
+        → S.failures other.new ≡ S.failures other.old
+        → Splits longest_segment (stream_of (map (λ piece. piece.items) streams.entry.0.now)) ms
+        given first_rest
+        → Splits longest_segment (stream_of (map (λ piece. piece.items) streams.entry.1.now)) ms
+        same second_rest
+        → (both.1.output.items ≡ both.0.output.items)
+        × (S.disk other.new ≡ S.disk store.new)
+        × (both.1.target.machine.session.held ≡ both.0.target.machine.session.held)
+        × (both.1.target.machine.session.stage ≡ both.0.target.machine.session.stage)) }
+    // Where both rests begin with a header that is refused, or neither does, so is the phase.
+    ensures phase { IfOk result (λ both. (ms : List Message) (given first_rest same second_rest : List ℕ)
+        → S.failures store.new ≡ S.failures store.old
+        → S.failures other.new ≡ S.failures other.old
+        → Splits longest_segment (stream_of (map (λ piece. piece.items) streams.entry.0.now)) ms
+        given first_rest
+        → Splits longest_segment (stream_of (map (λ piece. piece.items) streams.entry.1.now)) ms
+        same second_rest
+        → (Refuses (limit configs.0) first_rest ↔ Refuses (limit configs.0) second_rest)
+        → both.1.target.machine.session.phase ≡ both.0.target.machine.session.phase) }
+{
+    let first = answer_pieces(alloc, configs.0, first_statsn, streams.0, store)?;
+    let second = answer_pieces(alloc, configs.1, first_statsn, streams.1, other)?;
+    Ok((first, second))
+}
+
+// Whether memory ran out in a call of `feed`.
+fn has_run_out(fed: &Result<Phase, TargetFault>) -> bool
+    ensures { result ≡ ran_out fed.now }
+{
+    matches!(fed, Err(TargetFault::NoMemory))
+}
