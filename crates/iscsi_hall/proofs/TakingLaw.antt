@@ -3,12 +3,13 @@ use Rattle.std.proofs.Common.{◌≡◌, ◌≤◌, ◌<◌, ◌⊎◌, inl, inr
 use Rattle.std.proofs.Common.{arith, append-nil}
 use Rattle.std.specs.Prelude.{Result, Ok, Err, OnOk}
 use Rattle.iscsi_stream.specs.Canonical.{canon}
+use Rattle.iscsi_stream.specs.Framing.{Framing}
 use Rattle.iscsi_login.specs.declared.phase.Phase.{Phase}
 use Rattle.iscsi_target.specs.declared.fault.TargetFault.{TargetFault}
 use Rattle.iscsi_target.specs.declared.fault.TargetFault.TheVariants as faults
 use Rattle.iscsi_target.specs.State.{Stepped, unchanged}
 use Rattle.iscsi_target.specs.Machine.{is_closed}
-use Rattle.iscsi_target.specs.Feed.{Answers, Progress, Scene, Store, FedNextIf, Stands, StopsShort, StopsAt, remainder, scene}
+use Rattle.iscsi_target.specs.Feed.{AsksForMemory, Answers, Progress, Scene, Store, FedNextIf, Stands, StopsShort, StopsAt, remainder, scene}
 use Rattle.iscsi_hall.specs.Seats.{Seat, Hall, phase_of, seat_at, waiting_at, with_phase, Takes, has_room, may_take, may_take_at}
 use Rattle.iscsi_hall.specs.Turns.{Turn, IsFront, IsOwn, IsLeft, TakesTurn, answers_of, machines, machine_in}
 use Rattle.iscsi_hall.proofs.SeatLemmas.{some_within, changed_same, others_stay}
@@ -53,9 +54,9 @@ acts_whole seat old new bytes most now a open_ few s l = record {
   answers_are = s.output_is ∙ ap (λ ms. old.output ++ canon ms) (sym (append-nil now.stepped.answers));
 }
 
-front_of : (framing : _) (rest : List ℕ) (r : Stepped) (counted : ℕ) (front : Stepped) (after : ℕ) →
-    ((front ≡ unchanged r.machine r.disk) × (counted ≤ after)) ⊎ StopsAt framing rest r counted front after → IsFront r counted front after
-front_of framing rest r counted front after (inl none) = inl none
+front_of : (framing : Framing) (rest : List ℕ) (r : Stepped) (counted : ℕ) (front : Stepped) (after : ℕ) →
+    ((front ≡ unchanged r.machine r.disk) × (counted ≤ after) × AsksForMemory framing rest) ⊎ StopsAt framing rest r counted front after → IsFront r counted front after
+front_of framing rest r counted front after (inl none) = inl (none.0, none.1)
 front_of framing rest r counted front after (inr at) = inr (at.message, at.stops)
 
 -- memory ran out

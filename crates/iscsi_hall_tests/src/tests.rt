@@ -12,7 +12,6 @@ use std::fmt::Debug;
 use std::process::Abort;
 
 mod interleaved;
-mod memory;
 mod places;
 mod reinstated;
 

@@ -1,5 +1,6 @@
 //! An initiator by example.
 
+use crate::asserts::same;
 use hex::FromHex;
 use iscsi_examples::{append_pdu, segment_of};
 use iscsi_initiator::{Config, Initiator, InitiatorFault, Request};
@@ -16,8 +17,19 @@ mod preludes;
 mod requests;
 mod words;
 
+/// The set-ups of dialogues, as `offers_of`, `numbers_of` and `config_of` know them.
+const SETUPS: &[&str] = &[
+    "standard",
+    "single",
+    "segments",
+    "short",
+    "discovery",
+    "captured",
+    "wrapping",
+];
+
 // The lines that go before.
-fn lines_before(before: &str) -> &'static str {
+fn lines_before(rt: &impl Abort, before: &str) -> &'static str {
     match before {
         "begun" => preludes::BEGUN,
         "logged in" => preludes::LOGIN,
@@ -28,7 +40,8 @@ fn lines_before(before: &str) -> &'static str {
         "shut" => preludes::SHUT,
         "wrapping" => preludes::WRAPPING,
         "short" => preludes::SHORT,
-        _ => "",
+        "nothing" => "",
+        _ => panic!(rt; "no such lines: {before}"),
     }
 }
 
@@ -80,6 +93,7 @@ fn config_of(alloc: Global, setup: &str) -> Result<Config, ConfigFault> {
 
 // The initiator of a dialogue. It stands in a box: a function that owns it is then proved much sooner.
 fn initiator_of(rt: &impl Abort, alloc: Global, setup: &str) -> Box<Initiator> {
+    same(rt, &SETUPS.contains(&setup), &true, &setup);
     let config = config_of(alloc, setup).expect(rt, setup);
     Box::new(alloc, Initiator::new(alloc, config)).expect(rt, "an initiator")
 }

@@ -14,7 +14,7 @@ pub const BREACHES: &str = "# standard, logged in: a reject\n\
     = was closed\n\
     ? closed, full\n\
     # standard, logged in: a reject with a wrong status number\n\
-    T> 3f800400 00000030 00000000 00000000 ffffffff 00000000 00000004 00000001 00000001 00000000 00000000 00000000 00*48\n\
+    T> 3f800400 00000000 00000000 00000000 ffffffff 00000000 00000004 00000001 00000001 00000000 00000000 00000000\n\
     = failed, protocol: rule 6\n\
     ? closed, full\n\
     # standard, logged in: a reject while a request is open\n\

@@ -164,25 +164,34 @@ fn check(
             _ => turn.take(rt, alloc, mark, rest),
         }
     }
-    same(rt, &turn.came.len(), &0, &name);
+    let left = (turn.call.as_str(), turn.came.len(), turn.want.len());
+    same(rt, &left, &("", 0, 0), &name);
 }
 
 // Goes through a session in pieces of each length. Its first line says how it is configured, what goes
 // before, and its name.
 fn check_dialogue(rt: &impl Abort, alloc: Global, dialogue: &str) {
-    let (first, lines) = dialogue.split_once('\n').unwrap_or(("", ""));
-    let (setup, rest) = first.split_once(", ").unwrap_or(("", ""));
-    let (before, name) = rest.split_once(": ").unwrap_or(("", ""));
+    let (first, lines) = dialogue.split_once('\n').expect(rt, dialogue);
+    let (setup, rest) = first.split_once(", ").expect(rt, first);
+    let (before, name) = rest.split_once(": ").expect(rt, first);
     for len in [1usize, 47, 48, 100_000] {
         let mut initiator = initiator_of(rt, alloc, setup);
-        check(rt, alloc, name, len, &mut initiator, lines_before(before));
+        check(
+            rt,
+            alloc,
+            name,
+            len,
+            &mut initiator,
+            lines_before(rt, before),
+        );
         check(rt, alloc, name, len, &mut initiator, lines);
     }
 }
 
 // Goes through sessions.
 fn check_all(rt: &impl Abort, alloc: Global, dialogues: &str) {
-    for dialogue in dialogues.split("# ") {
+    let dialogues = dialogues.strip_prefix("# ").expect(rt, "a dialogue");
+    for dialogue in dialogues.split("\n# ") {
         check_dialogue(rt, alloc, dialogue);
     }
 }
