@@ -1,5 +1,6 @@
 -- Every run in which all requests are accepted: its outcomes are those of one disk.
 pub mod MoveLemmas
+pub mod ComesLemmas
 pub mod MemoryLemmas
 pub mod QueueReading
 pub mod DiskInvariant
@@ -7,3 +8,4 @@ pub mod CarriedBytes
 pub mod InvariantHolds
 pub mod OneDiskLaw
 pub mod ServedRunsLaw
+pub mod GivingLemmas

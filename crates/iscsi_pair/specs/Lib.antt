@@ -2,4 +2,5 @@ pub mod World
 pub mod Traffic
 pub mod LocalDisk
 pub mod Served
+pub mod Outcomes
 pub mod Example

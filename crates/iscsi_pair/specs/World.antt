@@ -230,3 +230,12 @@ pub record LooksAlike (v w : World) : Type 0 where
   pub to_initiator : w.to_initiator ≡ v.to_initiator
   pub target_fault : w.target_fault ≡ v.target_fault
   pub initiator_fault : w.initiator_fault ≡ v.initiator_fault
+
+-- ---- what every pair keeps
+
+-- A pair of these is one that came here by some events from a new pair that may be.
+pub record HasCome (w : World) : Type 0 where
+  pub opening : Opening
+  pub events : List Event
+  pub is_opening : IsOpening opening
+  pub reached : Reached opening events w

@@ -5,5 +5,5 @@ pub mod laws;
 mod pair;
 mod step;
 
-pub use pair::Pair;
-pub use step::{EndFault, Step};
+pub use pair::{Pair, outcomes_over};
+pub use step::{EndFault, RunFault, Step};

@@ -1,16 +1,24 @@
 //! A target and an initiator, and the bytes between them.
 
-ghost use Rattle.std.specs.Prelude.{◌≡◌, ◌≤◌, false, Some, None, length, drop, map, IfOk, IfErr, MatchOption};
+ghost use Rattle.std.specs.Prelude.{◌≡◌, ◌≤◌, false, Some, None, [], ◌++◌, ◌↔◌, IsTrue, IsSome, OnOk, IfSome, length, drop, map, IfOk, IfErr, MatchOption};
 ghost use Rattle.iscsi_initiator.specs.declared.fault.InitiatorFault.TheVariants as faults;
-ghost use Rattle.iscsi_pair.specs.World.{IsOpening, new_pair, Happens, Runs, RunsCalmly, event_of, keeps_no_memory};
+ghost use Rattle.iscsi_pair.specs.World.{IsOpening, Suits, new_pair, Happens, Runs, RunsCalmly, event_of, keeps_no_memory};
 ghost use Rattle.iscsi_pair.specs.World as worlds;
+ghost use Rattle.std.specs.List.{AllByRecursion};
+ghost use Rattle.scsi_disk.specs.Disk.{disk_of};
+ghost use Rattle.iscsi_initiator.specs.Laws.{listed};
+ghost use Rattle.iscsi_pair.specs.Served.{IsServed, disk_after, disk_outcomes};
+ghost use Rattle.iscsi_pair.specs.Outcomes.{opening_of, requests_among};
+ghost use Rattle.iscsi_login.specs.declared.stage.Session.TheVariants as sessions;
+ghost use Rattle.iscsi_login.specs.declared.stage.Stage.TheVariants as stages;
 
-use crate::step::{EndFault, Step, feed_fault, submit_fault};
+use crate::step::{EndFault, RunFault, Step, feed_fault, submit_fault};
 use iscsi_initiator::{Done, Initiator, InitiatorFault, Request};
+use iscsi_login::{Params, Stage};
 use iscsi_stream::drop_front;
 use iscsi_target::{Target, TargetFault};
 use scsi_disk::MemoryStore;
-use std::alloc::Global;
+use std::alloc::{AllocError, Global};
 use std::marker::Model;
 
 /// A target and an initiator of one session, with the bytes that are on their way between them.
@@ -20,29 +28,17 @@ use std::marker::Model;
 /// drops what is moved to it.
 #[derive(Drop)]
 pub struct Pair {
-    target: Target,
-    store: MemoryStore,
-    initiator: Initiator,
-    to_target: Vec<u8>,
-    to_initiator: Vec<u8>,
-    target_fault: Option<TargetFault>,
-    initiator_fault: Option<EndFault>,
+    ends: Ends,
 }
 
 impl Model for Pair {
-    ghost use Rattle.iscsi_pair.specs.World.{World};
+    ghost use Rattle.iscsi_pair.specs.World.{World, HasCome};
 
     ghost Value = { World };
 
-    ghost view = { λ p. record {
-      target = p.target;
-      blocks = p.store;
-      initiator = p.initiator;
-      to_target = p.to_target.items;
-      to_initiator = p.to_initiator.items;
-      target_fault = p.target_fault;
-      initiator_fault = p.initiator_fault;
-    } };
+    ghost view = { λ p. p.ends };
+
+    ghost invariant = { λ p. HasCome p.ends };
 }
 
 impl Pair {
@@ -70,10 +66,226 @@ impl Pair {
         }) }
         ensures memory { IfErr result (λ fault. fault ≡ faults.NoMemory) }
     {
+        let ends = Ends::new(alloc, initiator, target, first_statsn, store)?;
+        Ok(Pair { ends })
+    }
+
+    /// The target's end.
+    pub fn target(&self) -> &Target
+        ensures target { result.now ≡ self.now.target }
+    {
+        &self.ends.target
+    }
+
+    /// The initiator's end.
+    pub fn initiator(&self) -> &Initiator
+        ensures initiator { result.now ≡ self.now.initiator }
+    {
+        &self.ends.initiator
+    }
+
+    /// The target's first fault.
+    pub fn target_fault(&self) -> Option<&TargetFault>
+        ensures fault { MatchOption result (self.now.target_fault ≡ None)
+            (λ fault. self.now.target_fault ≡ Some fault.now) }
+    {
+        self.ends.target_fault.as_ref()
+    }
+
+    /// The initiator's first fault, or its first refusal of a request.
+    pub fn initiator_fault(&self) -> Option<&EndFault>
+        ensures fault { MatchOption result (self.now.initiator_fault ≡ None)
+            (λ fault. self.now.initiator_fault ≡ Some fault.now) }
+    {
+        self.ends.initiator_fault.as_ref()
+    }
+
+    /// What the target holds of the login, and what the initiator holds, once the initiator has
+    /// completed its login: both hold the same, whatever came since (RFC 7143, section 6.3).
+    #[tactic(auto, using(crate::proofs::Run::ComesLemmas::agreed, crate::proofs::Run::ComesLemmas::both_full))]
+    pub fn params(&self) -> Option<(&Params, &Params)>
+        ensures equal { IfSome result (λ both. both.1.now ≡ both.0.now) }
+        ensures ends { IfSome result (λ both. (both.0.now ≡ self.now.target.machine.session.held)
+            × (both.1.now ≡ self.now.initiator.machine.held)) }
+        ensures some { IsSome result ↔ (self.now.initiator.machine.stage ≡ stages.Full) }
+        ensures both { IsSome result → self.now.target.machine.session.stage ≡ stages.Full }
+    {
+        match self.ends.initiator.stage() {
+            Stage::Full => Some((self.ends.target.params(), self.ends.initiator.params())),
+            Stage::Security | Stage::Operational => None,
+        }
+    }
+
+    /// How many bytes are queued for the target, and how many for the initiator.
+    pub fn queued(&self) -> (usize, usize)
+        ensures target { result.0 ≡ length self.now.to_target }
+        ensures initiator { result.1 ≡ length self.now.to_initiator }
+    {
+        (self.ends.to_target.len(), self.ends.to_initiator.len())
+    }
+
+    /// Whether no end has failed, and nothing is on its way.
+    pub fn is_idle(&self) -> bool
+        ensures { IsTrue result → (self.now.target_fault ≡ None) × (self.now.initiator_fault ≡ None)
+            × (self.now.to_target ≡ []) × (self.now.to_initiator ≡ []) }
+    {
+        self.ends.is_idle()
+    }
+
+    /// The target's blocks.
+    pub fn into_store(self) -> MemoryStore
+        ensures store { result ≡ self.blocks }
+    {
+        self.ends.into_store()
+    }
+
+    /// Takes the initiator's outcome, once it is there.
+    pub fn outcome(&mut self) -> Option<Done>
+        ensures outcome { result ≡ self.old.initiator.machine.done }
+        ensures taken { Happens self.old worlds.Takes self.new }
+    {
+        self.ends.outcome()
+    }
+
+    fn step(&mut self, step: Step)
+        ensures { Happens self.old (event_of step) self.new }
+    {
+        self.ends.step(step);
+    }
+
+    /// Takes these steps, one after another. Where memory runs out in a step, its end keeps that.
+    #[tactic(auto, using(crate::proofs::Run::MemoryLemmas::calm))]
+    pub fn run(&mut self, steps: Vec<Step>)
+        ensures ran { Runs self.old (map event_of steps.items) self.new }
+        // Where no end keeps that memory ran out, no growth was refused: then the steps alone
+        // determine to which world they lead (`laws::one_world`).
+        ensures calm { keeps_no_memory self.new ≡ false
+            → RunsCalmly self.old (map event_of steps.items) self.new }
+    {
+        for step in steps {
+            self.step(step);
+        }
+    }
+}
+
+/// A new pair takes these steps, one after another, and behind each the outcome is taken, if one is
+/// there. Returns the outcomes and what the target's store has then; `NotServed` where an end failed,
+/// a request was refused, or bytes are on their way still.
+///
+/// However the steps cut and mix what is on its way, the outcomes are those of one local disk.
+pub fn outcomes_over(
+    alloc: Global,
+    configs: (iscsi_initiator::Config, iscsi_target::Config),
+    first_statsn: u32,
+    store: MemoryStore,
+    steps: Vec<Step>,
+) -> Result<(Vec<Done>, MemoryStore), RunFault>
+    ensures on_disk { IfOk result (λ served.
+        let c = opening_of configs.0 configs.1 first_statsn store in
+        let requests = requests_among steps.items in
+        Suits c → c.initiator.proposal.session ≡ sessions.Normal → AllByRecursion IsServed requests
+        → (served.0.items ≡ disk_outcomes c requests) × (disk_of served.1 ≡ disk_after c requests)) }
+{
+    let Ok(mut pair) = Pair::new(alloc, configs.0, configs.1, first_statsn, store) else {
+        return Err(RunFault::NoMemory);
+    };
+    let mut outcomes = Vec::new(alloc);
+    for step in steps {
+        pair.step(step);
+        let outcome = pair.outcome();
+        let Ok(()) = push_some(&mut outcomes, outcome) else {
+            return Err(RunFault::NoMemory);
+        };
+    }
+    if !pair.is_idle() {
+        return Err(RunFault::NotServed);
+    }
+    Ok((outcomes, pair.into_store()))
+}
+
+// Appends an outcome, if there is one.
+fn push_some(outcomes: &mut Vec<Done>, outcome: Option<Done>) -> Result<(), AllocError>
+    ensures ok { OnOk result (outcomes.new.items ≡ outcomes.old.items ++ listed outcome) }
+{
+    if let Some(outcome) = outcome {
+        outcomes.push(outcome)?;
+    }
+    Ok(())
+}
+
+// What a pair is, wherever it came from.
+#[derive(Drop)]
+struct Ends {
+    target: Target,
+    store: MemoryStore,
+    initiator: Initiator,
+    to_target: Vec<u8>,
+    to_initiator: Vec<u8>,
+    target_fault: Option<TargetFault>,
+    initiator_fault: Option<EndFault>,
+}
+
+impl Model for Ends {
+    ghost use Rattle.iscsi_pair.specs.World.{World};
+
+    ghost Value = { World };
+
+    ghost view = { λ p. record {
+      target = p.target;
+      blocks = p.store;
+      initiator = p.initiator;
+      to_target = p.to_target.items;
+      to_initiator = p.to_initiator.items;
+      target_fault = p.target_fault;
+      initiator_fault = p.initiator_fault;
+    } };
+}
+
+impl Ends {
+    // The target's blocks.
+    fn into_store(self) -> MemoryStore
+        ensures store { result ≡ self.blocks }
+    {
+        self.store
+    }
+
+    // Whether no end has failed, and nothing is on its way.
+    fn is_idle(&self) -> bool
+        ensures { IsTrue result → (self.now.target_fault ≡ None) × (self.now.initiator_fault ≡ None)
+            × (self.now.to_target ≡ []) × (self.now.to_initiator ≡ []) }
+    {
+        self.target_fault.is_none()
+            && self.initiator_fault.is_none()
+            && self.to_target.is_empty()
+            && self.to_initiator.is_empty()
+    }
+
+    // Those of a new pair, whose initiator has started its login.
+    fn new(
+        alloc: Global,
+        initiator: iscsi_initiator::Config,
+        target: iscsi_target::Config,
+        first_statsn: u32,
+        store: MemoryStore,
+    ) -> Result<Ends, InitiatorFault>
+        ensures opening { IfOk result (λ ends. ends ≡ new_pair (record {
+          initiator = initiator;
+          target = target;
+          first_stat_sn = first_statsn;
+          blocks = store;
+        })) }
+        ensures in_range { IsOpening (record {
+          initiator = initiator;
+          target = target;
+          first_stat_sn = first_statsn;
+          blocks = store;
+        }) }
+        ensures memory { IfErr result (λ fault. fault ≡ faults.NoMemory) }
+    {
         let mut to_target = Vec::new(alloc);
         let mut initiator = Initiator::new(alloc, initiator);
         initiator.start(&mut to_target)?;
-        Ok(Pair {
+        Ok(Ends {
             target: Target::new(alloc, target, first_statsn),
             store,
             initiator,
@@ -84,46 +296,8 @@ impl Pair {
         })
     }
 
-    /// The target's end.
-    pub fn target(&self) -> &Target
-        ensures target { result.now ≡ self.now.target }
-    {
-        &self.target
-    }
-
-    /// The initiator's end.
-    pub fn initiator(&self) -> &Initiator
-        ensures initiator { result.now ≡ self.now.initiator }
-    {
-        &self.initiator
-    }
-
-    /// The target's first fault.
-    pub fn target_fault(&self) -> Option<&TargetFault>
-        ensures fault { MatchOption result (self.now.target_fault ≡ None)
-            (λ fault. self.now.target_fault ≡ Some fault.now) }
-    {
-        self.target_fault.as_ref()
-    }
-
-    /// The initiator's first fault, or its first refusal of a request.
-    pub fn initiator_fault(&self) -> Option<&EndFault>
-        ensures fault { MatchOption result (self.now.initiator_fault ≡ None)
-            (λ fault. self.now.initiator_fault ≡ Some fault.now) }
-    {
-        self.initiator_fault.as_ref()
-    }
-
-    /// How many bytes are queued for the target, and how many for the initiator.
-    pub fn queued(&self) -> (usize, usize)
-        ensures target { result.0 ≡ length self.now.to_target }
-        ensures initiator { result.1 ≡ length self.now.to_initiator }
-    {
-        (self.to_target.len(), self.to_initiator.len())
-    }
-
-    /// Takes the initiator's outcome, once it is there.
-    pub fn outcome(&mut self) -> Option<Done>
+    // Takes the initiator's outcome, once it is there.
+    fn outcome(&mut self) -> Option<Done>
         ensures outcome { result ≡ self.old.initiator.machine.done }
         ensures taken { Happens self.old worlds.Takes self.new }
     {
@@ -188,20 +362,6 @@ impl Pair {
             Step::ToTarget(k) => self.move_to_target(k),
             Step::ToInitiator(k) => self.move_to_initiator(k),
             Step::Submit(request) => self.submit(request),
-        }
-    }
-
-    /// Takes these steps, one after another. Where memory runs out in a step, its end keeps that.
-    #[tactic(auto, using(crate::proofs::Run::MemoryLemmas::calm))]
-    pub fn run(&mut self, steps: Vec<Step>)
-        ensures ran { Runs self.old (map event_of steps.items) self.new }
-        // Where no end keeps that memory ran out, no growth was refused: then the steps alone
-        // determine to which world they lead (`laws::one_world`).
-        ensures calm { keeps_no_memory self.new ≡ false
-            → RunsCalmly self.old (map event_of steps.items) self.new }
-    {
-        for step in steps {
-            self.step(step);
         }
     }
 }

@@ -30,6 +30,17 @@ pub enum EndFault {
     Submit(SubmitFault),
 }
 
+/// Why a pair did not serve all that it was asked.
+#[derive(Clone, Copy, Debug, Drop, Error)]
+pub enum RunFault {
+    /// Memory ran out.
+    #[error("memory")]
+    NoMemory,
+    /// An end failed or refused a request, or bytes are still on their way.
+    #[error("not served")]
+    NotServed,
+}
+
 // The fault that a piece led to, if it led to one.
 pub(crate) fn feed_fault(fed: Result<Phase, InitiatorFault>) -> Option<EndFault>
     ensures { result ≡ feed_fault (result_err fed) }

@@ -68,40 +68,60 @@ fn standard_offers() -> Offers<'static> {
     }
 }
 
+/// What differs from a login of two standard ends in two stages.
+#[derive(Clone, Copy, Debug, PartialEq, Eq)]
+enum Setup {
+    Standard,
+    /// Login Requests of at most 64 bytes of text.
+    ShortSegments,
+    /// The initiator begins in the operational stage.
+    OneStage,
+    /// The target prefers bursts of 1,024 bytes in segments of 512.
+    ShortBursts,
+    ChapOrNone,
+    Discovery,
+    /// The initiator asks for another target.
+    AnotherName,
+    /// The initiator wants CHAP.
+    Chap,
+}
+
 // What the initiator of a test offers.
-fn offers_of(setup: &str) -> Offers<'static> {
+fn offers_of(setup: Setup) -> Offers<'static> {
     let mut offers = standard_offers();
     match setup {
-        "another name" => offers.target = b"x",
-        "chap" => offers.auth = Auth::Chap,
-        "chap or none" => offers.auth = Auth::ChapOrNone,
-        "discovery" => {
+        Setup::AnotherName => offers.target = b"x",
+        Setup::Chap => offers.auth = Auth::Chap,
+        Setup::ChapOrNone => offers.auth = Auth::ChapOrNone,
+        Setup::Discovery => {
             offers.session = Session::Discovery;
             offers.target = b"x";
         }
-        _ => {}
+        Setup::Standard | Setup::ShortSegments | Setup::OneStage | Setup::ShortBursts => {}
     }
     offers
 }
 
 // The initiator of a test.
-fn initiator_of(alloc: Global, setup: &str) -> Result<iscsi_initiator::Config, ConfigFault> {
-    let start = match setup {
-        "single" => Stage::Operational,
-        _ => Stage::Security,
+fn initiator_of(alloc: Global, setup: Setup) -> Result<iscsi_initiator::Config, ConfigFault> {
+    let start = if setup == Setup::OneStage {
+        Stage::Operational
+    } else {
+        Stage::Security
     };
-    let segment = match setup {
-        "segments" => 64,
-        _ => 8192,
+    let segment = if setup == Setup::ShortSegments {
+        64
+    } else {
+        8192
     };
     let isid = [0x40, 0, 0, 1, 0, 0];
     iscsi_initiator::Config::new(alloc, offers_of(setup), start, isid, 1, segment)
 }
 
 // The target of a test.
-fn target_of(alloc: Global, setup: &str) -> Result<iscsi_target::Config, ConfigFault> {
+fn target_of(alloc: Global, setup: Setup) -> Result<iscsi_target::Config, ConfigFault> {
     let mut prefs = Preferences::standard();
-    if setup == "bursts" {
+    if setup == Setup::ShortBursts {
         prefs.max_burst = 1024;
         prefs.max_recv = 512;
     }
@@ -110,9 +130,9 @@ fn target_of(alloc: Global, setup: &str) -> Result<iscsi_target::Config, ConfigF
 
 // A new pair, with a disk of 2,048 blocks. It stands in a box: a function that owns it is then proved
 // much sooner.
-fn pair_of(rt: &impl Abort, alloc: Global, setup: &str) -> Box<Pair> {
-    let initiator = initiator_of(alloc, setup).expect(rt, setup);
-    let target = target_of(alloc, setup).expect(rt, setup);
+fn pair_of(rt: &impl Abort, alloc: Global, setup: Setup) -> Box<Pair> {
+    let initiator = initiator_of(alloc, setup).expect(rt, "an initiator");
+    let target = target_of(alloc, setup).expect(rt, "a target");
     let store = MemoryStore::new(alloc, 2048).expect(rt, "a disk");
     let pair = Pair::new(alloc, initiator, target, 1, store).expect(rt, "a pair");
     Box::new(alloc, pair).expect(rt, "a pair")

@@ -1,10 +1,17 @@
 //! What another program does with `iscsi_pair`.
 
-ghost use Rattle.std.specs.Prelude.{◌≡◌, map};
-ghost use Rattle.iscsi_pair.specs.World.{World, Happens, Runs, Takes, event_of};
+ghost use Rattle.std.specs.Prelude.{◌≡◌, map, IfOk, IsTrue};
+ghost use Rattle.std.specs.List.{AllByRecursion};
+ghost use Rattle.iscsi_login.specs.declared.stage.Session.TheVariants as sessions;
+ghost use Rattle.iscsi_pair.specs.Outcomes.{opening_of, requests_among};
+ghost use Rattle.iscsi_pair.specs.Served.{IsServed, disk_outcomes};
+ghost use Rattle.iscsi_pair.specs.World.{World, Happens, Runs, Suits, Takes, event_of};
 
 use iscsi_initiator::Done;
-use iscsi_pair::{Pair, Step};
+use iscsi_login::NegKey;
+use iscsi_pair::{Pair, RunFault, Step, outcomes_over};
+use scsi_disk::MemoryStore;
+use std::alloc::Global;
 
 /// Takes the outcome of the last request after these steps, if it is there.
 pub fn outcome_after(pair: &mut Pair, steps: Vec<Step>) -> Option<Done>
@@ -13,4 +20,31 @@ pub fn outcome_after(pair: &mut Pair, steps: Vec<Step>) -> Option<Done>
 {
     pair.run(steps);
     pair.outcome()
+}
+
+/// Whether both ends hold one value of this key, if both have logged in. They do.
+pub fn agree_on(pair: &Pair, key: NegKey) -> bool
+    ensures agree { IsTrue result }
+{
+    match pair.params() {
+        Some((target, initiator)) => target.get(key) == initiator.get(key),
+        None => true,
+    }
+}
+
+/// What comes of requests that reach a target in these steps: what one local disk gives.
+pub fn outcomes_in_steps(
+    alloc: Global,
+    configs: (iscsi_initiator::Config, iscsi_target::Config),
+    store: MemoryStore,
+    steps: Vec<Step>,
+) -> Result<Vec<Done>, RunFault>
+    ensures outcomes { IfOk result (λ outcomes.
+        let c = opening_of configs.0 configs.1 1 store in
+        let requests = requests_among steps.items in
+        Suits c → c.initiator.proposal.session ≡ sessions.Normal → AllByRecursion IsServed requests
+        → outcomes.items ≡ disk_outcomes c requests) }
+{
+    let (outcomes, _) = outcomes_over(alloc, configs, 1, store, steps)?;
+    Ok(outcomes)
 }

@@ -23,7 +23,8 @@ use Rattle.iscsi_target.specs.State.{joined}
 use Rattle.iscsi_target.specs.Machine.{answers, is_closed}
 use Rattle.iscsi_target.specs.Feed.{Connection, Store, Feeds, Fed, FedIf, Ends, IsShut, LeavesBy, Stands, StopsShort, HasAnswered, opening_connection, scene}
 use Rattle.iscsi_target.specs.Feed.{remainder, beginning}
-use Rattle.iscsi_target.proofs.FeedingLemmas.{Told, told, answers_close, stands}
+use Rattle.iscsi_target.proofs.FeedingLemmas.{Told, told, stands}
+use Rattle.iscsi_target.proofs.ClosingLemmas.{answers_close}
 use Rattle.iscsi_target.proofs.KeepingLemmas.{Stays, stop_stays}
 use Rattle.iscsi_target.proofs.StreamingLemmas.{goes_on}
 use Rattle.iscsi_pair.specs.World.{Opening, store_of, target_ran_out}

@@ -179,20 +179,20 @@ piece_taken : (t : target.Machine) (cmd_sn : ℕ) (w : Write) (disk : Disk) (h :
     → length piece ≤ t.session.held.target_max_recv
     → t.session.held.target_max_recv ≤ target_session.limit t.session.settings → received w + length piece < end → end ≤ w.total
     → step_on reliable (writer t cmd_sn w) disk (data_message h piece)
-    ≡ unchanged (writer t cmd_sn (record w { pieces = with_piece w.pieces (received w) piece; due = due (next_sn h.data_sn) })) disk
+    ≡ unchanged (writer t cmd_sn (record w { pieces = with_piece w.pieces h.buffer_offset piece; due = due (next_sn h.data_sn) })) disk
 piece_taken t cmd_sn w disk h piece end due s is_due final at tag some short limit before_ room =
-    let v : Write = record w { pieces = with_piece w.pieces (received w) piece; due = due (next_sn h.data_sn) } in
+    let v : Write = record w { pieces = with_piece w.pieces h.buffer_offset piece; due = due (next_sn h.data_sn) } in
     let here : is_in_sequence (first_burst t.session.held) w h (received w + length piece) w.due ≡ true =
     ap (is_in_sequence (first_burst t.session.held) w h (received w + length piece)) is_due ∙ s.takes w h (received w + length piece) refl at refl
     (inl (final, before_)) in
     let is : with_data w h piece ≡ v =
-    ap (λ (b : Bool). record w { pieces = with_piece w.pieces (received w) piece; due = if b then Nothing else continued w.due }) final
-    ∙ ap (λ (d : Due). record w { pieces = with_piece w.pieces (received w) piece; due = d }) (ap continued is_due ∙ s.goes_on h.data_sn) in
+    ap (λ (b : Bool). record w { pieces = with_piece w.pieces h.buffer_offset piece; due = if b then Nothing else continued w.due }) final
+    ∙ ap (λ (d : Due). record w { pieces = with_piece w.pieces h.buffer_offset piece; due = d }) (ap continued is_due ∙ s.goes_on h.data_sn) in
     let part : is_whole v ≡ false =
     ne_eqb w.total (received v) (λ e. omega (
       arith,
       e,
-      ap (λ (x : List ℕ). length x) (received_more w (received w) piece some),
+      ap (λ (x : List ℕ). length x) (received_more w h.buffer_offset piece some),
       length-append (data_of w.pieces) piece,
       before_,
       room,
@@ -220,24 +220,24 @@ sequence_taken t cmd_sn w disk h piece [] end due s is_due at tag all limit up r
     ap (is_in_sequence (first_burst t.session.held) w h' (received w + length piece)) is_due
     ∙ s.takes w h' (received w + length piece) refl at refl (inr (refl, (let e = length-append piece [] in omega (arith, e, up)))) in
     record {
-      came = with_piece w.pieces (received w) piece;
-      whole = received_more w (received w) piece all.0.0 ∙ ap (λ (x : List ℕ). data_of w.pieces ++ x) (sym (append-nil piece));
+      came = with_piece w.pieces h.buffer_offset piece;
+      whole = received_more w h.buffer_offset piece all.0.0 ∙ ap (λ (x : List ℕ). data_of w.pieces ++ x) (sym (append-nil piece));
       is = then_nothing (step_on reliable (writer t cmd_sn w) disk (data_message h' piece)) ∙ data_taken t cmd_sn w disk h' piece all.0.1 limit tag here;
     }
 sequence_taken t cmd_sn w disk h piece (second ∷ more) end due s is_due at tag all limit up room =
     let h' : DataOut = record h { is_final = false } in
-    let v : Write = record w { pieces = with_piece w.pieces (received w) piece; due = due (next_sn h.data_sn) } in
+    let v : Write = record w { pieces = with_piece w.pieces h.buffer_offset piece; due = due (next_sn h.data_sn) } in
     let h2 : DataOut = record h { data_sn = next_sn h.data_sn; buffer_offset = h.buffer_offset + length piece } in
     let len = length-append piece (joined (second ∷ more)) in
     let len2 = length-append second (joined more) in
-    let now = ap (λ (x : List ℕ). length x) (received_more w (received w) piece all.0.0) ∙ length-append (data_of w.pieces) piece in
+    let now = ap (λ (x : List ℕ). length x) (received_more w h.buffer_offset piece all.0.0) ∙ length-append (data_of w.pieces) piece in
     let one : step_on reliable (writer t cmd_sn w) disk (data_message h' piece) ≡ unchanged (writer t cmd_sn v) disk =
     piece_taken t cmd_sn w disk h' piece end due s is_due refl at tag all.0.0 all.0.1 limit (omega (arith, up, len, len2, all.1.0.0)) room in
     let r : SequenceTaken t cmd_sn v disk (data_outs h2 (second ∷ more)) (joined (second ∷ more)) =
     sequence_taken t cmd_sn v disk h2 second more end due s refl (omega (arith, at, now)) tag all.1 limit (omega (arith, up, len, now)) room in
     record {
       came = r.came;
-      whole = r.whole ∙ ap (λ (x : List ℕ). x ++ joined (second ∷ more)) (received_more w (received w) piece all.0.0) ∙ append_assoc (data_of w.pieces) piece
+      whole = r.whole ∙ ap (λ (x : List ℕ). x ++ joined (second ∷ more)) (received_more w h.buffer_offset piece all.0.0) ∙ append_assoc (data_of w.pieces) piece
           (joined (second ∷ more));
       is = ap (λ (x : Stepped). then_stepped x (answers x.machine x.disk (data_outs h2 (second ∷ more)))) one ∙ r.is;
     }

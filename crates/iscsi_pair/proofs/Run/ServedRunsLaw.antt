@@ -39,7 +39,7 @@ none_before old (ToInitiator k) new e none = to_initiator old.initiator_fault (t
 none_before old (Submits request) new e none = asks old.initiator_fault request old new refl e none
 none_before old Takes new e none = ap (λ (w : World). w.initiator_fault) (sym e) ∙ none
 
-none_first : (old : World) (events : List Event) (new : World) → Runs old events new → new.initiator_fault ≡ None → old.initiator_fault ≡ None
+pub none_first : (old : World) (events : List Event) (new : World) → Runs old events new → new.initiator_fault ≡ None → old.initiator_fault ≡ None
 unfolding Runs
 none_first old [] new r none = ap (λ (w : World). w.initiator_fault) (sym r) ∙ none
 none_first old (event ∷ events) new r none = none_before old event r.0 r.1 (none_first r.0 events new r.2 none)
@@ -57,7 +57,7 @@ accepted_so : (fault : Option EndFault) (request : Request) (old new : World) �
 accepted_so None request old new is e none = accepted_by e.result request old new e.submitted e.fault none
 accepted_so (Some fault) request old new is e none = absurd (let bad : None ≡ Some fault = sym none ∙ ap (λ (w : World). w.initiator_fault) e ∙ is in cc)
 
-was_accepted : (old : World) (event : Event) (new : World) → Happens old event new → AllByRecursion IsServed (requests_in event) → new.initiator_fault ≡ None
+pub was_accepted : (old : World) (event : Event) (new : World) → Happens old event new → AllByRecursion IsServed (requests_in event) → new.initiator_fault ≡ None
     → IsAccepted event old
 was_accepted old (ToTarget k) new e served none = tt
 was_accepted old (ToInitiator k) new e served none = tt
@@ -65,7 +65,7 @@ was_accepted old (Submits request) new e served none = (served.0, accepted_so ol
 was_accepted old Takes new e served none = tt
 
 -- what all of two lists are, all of each are
-all_parts : {A : Type 0} (P : A → Type 0) (xs ys : List A) → AllByRecursion P (xs ++ ys) → AllByRecursion P xs × AllByRecursion P ys
+pub all_parts : {A : Type 0} (P : A → Type 0) (xs ys : List A) → AllByRecursion P (xs ++ ys) → AllByRecursion P xs × AllByRecursion P ys
 all_parts P [] ys p = (tt, p)
 all_parts P (x ∷ xs) ys p = (let q = all_parts P xs ys p.1 in ((p.0, q.0), q.1))
 

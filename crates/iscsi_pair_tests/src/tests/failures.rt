@@ -1,6 +1,6 @@
 //! Requests that come at the wrong time, and what a failed end does.
 
-use super::{Schedule, deliver, pair_of, submit};
+use super::{Schedule, Setup, deliver, pair_of, submit};
 use crate::asserts::same;
 use iscsi_initiator::{Request, SubmitFault};
 use iscsi_login::Stage;
@@ -11,7 +11,7 @@ use std::process::Abort;
 
 // A pair after its login.
 fn logged_in(rt: &impl Abort, alloc: Global) -> Box<Pair> {
-    let mut pair = pair_of(rt, alloc, "");
+    let mut pair = pair_of(rt, alloc, Setup::Standard);
     deliver(rt, alloc, &mut pair, &mut Schedule::always(4096));
     pair
 }
@@ -65,7 +65,7 @@ fn check_stages(rt: &impl Abort, pair: &Pair, initiator: Stage, target: Stage) {
 
 #[test]
 fn before_login(rt: HostRuntime) {
-    let mut pair = pair_of(&rt, rt.alloc(), "");
+    let mut pair = pair_of(&rt, rt.alloc(), Setup::Standard);
     let before = pair.queued();
     submit(&rt, rt.alloc(), &mut pair, Request::Logout);
     let not_ready = Some(SubmitFault::NotReady);
@@ -92,7 +92,7 @@ fn too_long(rt: HostRuntime) {
 
 #[test]
 fn no_bytes(rt: HostRuntime) {
-    let mut pair = pair_of(&rt, rt.alloc(), "");
+    let mut pair = pair_of(&rt, rt.alloc(), Setup::Standard);
     let before = pair.queued();
     pair.run(no_steps(rt.alloc()).expect(&rt, "moves"));
     same(&rt, &pair.queued(), &before, &"no bytes");

@@ -1,6 +1,6 @@
 //! Logins of a pair.
 
-use super::{Schedule, deliver, pair_of};
+use super::{Schedule, Setup, deliver, pair_of};
 use crate::asserts::same;
 use iscsi_initiator::InitiatorFault;
 use iscsi_login::{Answered, NegKey, Phase, Stage};
@@ -40,19 +40,36 @@ pub(super) fn hold_the_same(pair: &Pair) -> bool {
             .all(|(key, _)| there.get(*key) == here.get(*key))
 }
 
-// The target holds what two ends of the standard preferences agree on.
-fn holds_the_standard(pair: &Pair) -> bool {
+/// Keys whose values are not those of two ends of the standard preferences, with their values.
+type Others = &'static [(NegKey, Answered)];
+
+// What is due for a key of which these are other ones.
+fn due_of(key: NegKey, standard: Answered, others: Others) -> Answered {
+    for (other, value) in others {
+        if *other == key {
+            return *value;
+        }
+    }
+    standard
+}
+
+// The target holds what two ends of the standard preferences agree on, but for these keys; and an
+// initiator sends segments of this length.
+fn check_held(rt: &impl Abort, pair: &Pair, others: Others, segment: u32, row: (Setup, usize)) {
     let there = pair.target().params();
-    there.initiator_max_recv == 8192
-        && there.target_max_recv == 8192
-        && KEYS.iter().all(|(key, due)| there.get(*key) == *due)
+    for (key, standard) in KEYS {
+        let due = due_of(*key, *standard, others);
+        same(rt, &there.get(*key), &due, &(row, key));
+    }
+    let longest = (there.initiator_max_recv, there.target_max_recv);
+    same(rt, &longest, &(8192, segment), &row);
 }
 
 /// The lengths of pieces: a byte, less than a header, a header, and all.
 const PIECES: &[usize] = &[1, 47, 48, 100_000];
 
 // A pair that went through its login in pieces of this length.
-fn run_login(rt: &impl Abort, alloc: Global, setup: &str, piece: usize) -> Box<Pair> {
+fn run_login(rt: &impl Abort, alloc: Global, setup: Setup, piece: usize) -> Box<Pair> {
     let mut pair = pair_of(rt, alloc, setup);
     deliver(rt, alloc, &mut pair, &mut Schedule::always(piece));
     pair
@@ -66,34 +83,39 @@ fn refused_detail(pair: &Pair) -> Option<u8> {
     }
 }
 
-// Logins after which both ends hold the same: what the standard preferences agree on, or not.
-const AGREED: &[(&str, bool)] = &[
-    ("", true),
-    ("segments", true),
-    ("single", true),
-    ("bursts", false),
-    ("chap or none", true),
-    ("discovery", false),
+/// Logins after which both ends hold the same, with what is not that of the standard preferences, and
+/// the longest segment that the target takes.
+const AGREED: &[(Setup, Others, u32)] = &[
+    (Setup::Standard, &[], 8192),
+    (Setup::ShortSegments, &[], 8192),
+    (Setup::OneStage, &[], 8192),
+    (
+        Setup::ShortBursts,
+        &[(NegKey::MaxBurstLength, Answered::Number(1024))],
+        512,
+    ),
+    (Setup::ChapOrNone, &[], 8192),
+    // Where no data go either way the default stands (RFC 7143, section 13.10).
+    (
+        Setup::Discovery,
+        &[(NegKey::InitialR2T, Answered::Flag(true))],
+        8192,
+    ),
 ];
-
-// Both ends hold the same, and that is the standard or not.
-fn check_agreed(rt: &impl Abort, pair: &Pair, is_standard: bool, row: (&str, usize)) {
-    same(rt, &hold_the_same(pair), &true, &row);
-    same(rt, &holds_the_standard(pair), &is_standard, &row);
-}
 
 #[test]
 fn agree(rt: HostRuntime) {
-    for (setup, is_standard) in AGREED {
+    for (setup, others, segment) in AGREED {
         for piece in PIECES {
-            let pair = run_login(&rt, rt.alloc(), setup, *piece);
-            check_agreed(&rt, &pair, *is_standard, (setup, *piece));
+            let pair = run_login(&rt, rt.alloc(), *setup, *piece);
+            same(&rt, &hold_the_same(&pair), &true, &(*setup, *piece));
+            check_held(&rt, &pair, others, *segment, (*setup, *piece));
         }
     }
 }
 
 // The login is refused with this detail, and the session closed without a fault of the target.
-fn check_refused(rt: &impl Abort, pair: &Pair, detail: u8, row: (&str, usize)) {
+fn check_refused(rt: &impl Abort, pair: &Pair, detail: u8, row: (Setup, usize)) {
     same(rt, &refused_detail(pair), &Some(detail), &row);
     let end = (pair.target_fault().is_none(), pair.target().phase());
     same(rt, &end, &(true, Phase::Closed), &row);
@@ -102,9 +124,9 @@ fn check_refused(rt: &impl Abort, pair: &Pair, detail: u8, row: (&str, usize)) {
 #[test]
 fn are_refused(rt: HostRuntime) {
     for piece in PIECES {
-        let pair = run_login(&rt, rt.alloc(), "another name", *piece);
-        check_refused(&rt, &pair, 3, ("another name", *piece));
-        let pair = run_login(&rt, rt.alloc(), "chap", *piece);
-        check_refused(&rt, &pair, 1, ("chap", *piece));
+        let pair = run_login(&rt, rt.alloc(), Setup::AnotherName, *piece);
+        check_refused(&rt, &pair, 3, (Setup::AnotherName, *piece));
+        let pair = run_login(&rt, rt.alloc(), Setup::Chap, *piece);
+        check_refused(&rt, &pair, 1, (Setup::Chap, *piece));
     }
 }

@@ -1,6 +1,6 @@
 //! Commands over every kind of schedule.
 
-use super::{Schedule, deliver, logins, pair_of, submit};
+use super::{Schedule, Setup, deliver, logins, pair_of, submit};
 use crate::asserts::same;
 use hex::encode;
 use iscsi_examples::segment_of;
@@ -174,7 +174,7 @@ fn check_line(
 fn check_script(
     rt: &impl Abort,
     alloc: Global,
-    setup: &str,
+    setup: Setup,
     schedule: &mut Schedule,
     script: &str,
     number: usize,
@@ -190,7 +190,7 @@ fn check_script(
 }
 
 // Runs a script in pieces of each length to 100, and of 4,096 bytes.
-fn check_pieces(rt: &impl Abort, alloc: Global, setup: &str, script: &str) {
+fn check_pieces(rt: &impl Abort, alloc: Global, setup: Setup, script: &str) {
     for number in 1..102 {
         let piece = if number == 101 { 4096 } else { number };
         check_script(
@@ -206,12 +206,12 @@ fn check_pieces(rt: &impl Abort, alloc: Global, setup: &str, script: &str) {
 
 #[test]
 fn in_pieces_of_one_length(rt: HostRuntime) {
-    check_pieces(&rt, rt.alloc(), "", COMMANDS);
+    check_pieces(&rt, rt.alloc(), Setup::Standard, COMMANDS);
 }
 
 #[test]
 fn small_bursts(rt: HostRuntime) {
-    check_pieces(&rt, rt.alloc(), "bursts", BURSTS);
+    check_pieces(&rt, rt.alloc(), Setup::ShortBursts, BURSTS);
 }
 
 #[test]
@@ -221,7 +221,7 @@ fn over_two_hundred_schedules(rt: HostRuntime) {
         check_script(
             &rt,
             rt.alloc(),
-            "",
+            Setup::Standard,
             &mut schedule,
             COMMANDS,
             number as usize,

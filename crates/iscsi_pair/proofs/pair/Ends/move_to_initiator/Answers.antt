@@ -1,9 +1,9 @@
 use Rattle.std.proofs.Common.{◌≡◌, ℕ, min, length, drop, sym, ap, ◌∙◌, subst, refl, arith}
 use Rattle.std.proofs.lemmas.List.{length-take-le}
 use Rattle.iscsi_pair.specs.World.{World, Happens, ToInitiator}
-use Rattle.iscsi_pair.specs.contracts.pair.Pair.{the_view}
+use Rattle.iscsi_pair.specs.contracts.pair.Ends.{the_view}
 use Rattle.iscsi_pair.proofs.Run.MoveLemmas.{initiator_took, is_none}
-use Rattle.iscsi_pair.proofs.pair.Pair.move_to_initiator.Goals as goal
+use Rattle.iscsi_pair.proofs.pair.Ends.move_to_initiator.Goals as goal
 
 pub returns : goal.returns
 returns c =

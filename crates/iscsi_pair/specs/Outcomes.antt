@@ -1,0 +1,27 @@
+-- A list of steps, and the requests among them.
+use Rattle.std.specs.Prelude.{ℕ, List, [], ◌∷◌}
+use Rattle.std.specs.List.{flat_map}
+use Rattle.iscsi_target_session.specs.Configured as target_settings
+use Rattle.iscsi_initiator.specs.State as initiator_state
+use Rattle.iscsi_initiator.specs.declared.request.Request.{Request}
+use Rattle.iscsi_pair.specs.declared.step.Step.{Step}
+use Rattle.iscsi_pair.specs.declared.step.Step.TheVariants as steps
+use Rattle.iscsi_pair.specs.World.{Opening}
+
+-- What a pair of these is made of.
+abbrev pub opening_of : initiator_state.Settings → target_settings.Settings → ℕ → List ℕ → Opening
+opening_of initiator target first_stat_sn blocks = record {
+  initiator = initiator;
+  target = target;
+  first_stat_sn = first_stat_sn;
+  blocks = blocks;
+}
+
+-- The request that a step hands in, if it hands one in.
+abbrev pub request_of : Step → List Request
+request_of (steps.Submit request) = request ∷ []
+request_of _ = []
+
+-- The requests that steps hand in, in their order.
+abbrev pub requests_among : List Step → List Request
+requests_among steps = flat_map request_of steps
