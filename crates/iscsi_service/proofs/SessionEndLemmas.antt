@@ -37,7 +37,8 @@ use Rattle.iscsi_target.specs.Feed.{scene, progress, remainder, beginning}
 use Rattle.iscsi_target.specs.Feed.{stream_of}
 use Rattle.iscsi_target.proofs.AppendLemmas.{answers_append}
 use Rattle.iscsi_target.proofs.JoiningLemmas.{answers_joined}
-use Rattle.iscsi_target.proofs.FeedingLemmas.{Told, told, answers_close}
+use Rattle.iscsi_target.proofs.FeedingLemmas.{Told, told}
+use Rattle.iscsi_target.proofs.ClosingLemmas.{answers_close}
 use Rattle.iscsi_target.proofs.StreamingLemmas.{goes_on}
 use Rattle.iscsi_service.specs.Session.{Receives, ServesFirst, IsOver, GoesOnBehind, RestFails, EndsBy}
 use Rattle.iscsi_service.specs.declared.session.SessionFault.TheVariants as session

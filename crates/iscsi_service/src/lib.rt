@@ -15,5 +15,5 @@ mod socket_pair;
 pub use carrier::{Carrier, Channel};
 pub use fault::ServeFault;
 pub use loop_script::{LONGEST_PIECE, run_loop, run_over};
-pub use serving::{serve, serve_one};
+pub use serving::{serve, serve_connections, serve_one};
 pub use session::{SessionFault, configuration, serve_stream};

@@ -112,7 +112,7 @@ pub fn serve<S: BlockStore>(
     ensures ends { IfErr result (λ fault. EndsService fault ⊎ (fault ≡ ServeFault.Write)) }
 {
     let listener = listen(rt, port)?;
-    serve_all(rt, &listener, store, sessions)
+    serve_connections(rt, &listener, store, sessions)
 }
 
 // A listener, which is announced. It alone returns Write.
@@ -129,9 +129,14 @@ fn listen(rt: &HostRuntime, port: u16) -> Result<TcpListener, ServeFault>
     Ok(listener)
 }
 
-// `n` sessions, over one store.
+/// Serves `n` connections of a listener, one after another, over one store.
+///
+/// A session that ends with a fault has the fault's line on standard error, and the next one is
+/// served. Only being out of memory and a fault of the network end the service.
+///
+/// Each session is that of `serve_one`, with the target of the programs (`configuration`).
 #[tactic(auto, using(crate::proofs::SessionReadInvariant::none_executed))]
-fn serve_all<S: BlockStore>(
+pub fn serve_connections<S: BlockStore>(
     rt: &HostRuntime,
     listener: &TcpListener,
     store: &mut S,

@@ -11,7 +11,7 @@ ghost use Rattle.iscsi_target.specs.Machine.{is_closed};
 ghost use Rattle.iscsi_target.specs.Feed.{opening_connection};
 ghost use Rattle.iscsi_target.specs.Crash.{CrashesFed};
 ghost use Rattle.iscsi_target.specs.Inside.{store_of};
-ghost use Rattle.iscsi_service.specs.Session.{target_settings, Comes, EndsBy, EndsWell, HasExecuted, SentBefore, Serves, exchange};
+ghost use Rattle.iscsi_service.specs.Session.{target_settings, Comes, EndsBy, EndsWell, HasExecuted, SentBefore, Serves, ServesAll, exchange};
 ghost use Rattle.iscsi_service.specs.SessionSteps.{Goes, ClosesBy, Breaks, HoldsBack, LeftLast, Syncs, service};
 
 use iscsi_login::{Phase, Preferences};
@@ -106,6 +106,13 @@ pub fn serve_stream<S: BlockStore, R: Read, W: Write>(
         × CrashesFed (opening_connection config 1)
         (store_of (S.disk store.old) (S.failures store.old)) read
         (store_of (S.disk store.new) (S.failures store.new)) (S.kept store.old) (S.kept store.new) }
+    // What was written and what is stored are what the PDUs before the first fault lead to: a function
+    // of the settings, the blocks and their meanings alone.
+    ensures answered { IsInRange config.preferences → S.failures store.new ≡ S.failures store.old
+        → OnOk result ((read : List ℕ) × (written : List ℕ)
+        × Consumes (R.remaining r.old) (R.remaining r.new) read
+        × Appends (W.contents w.old) (W.contents w.new) written
+        × ServesAll config (S.disk store.old) read (S.disk store.new) written) }
     // Whatever comes of it, the blocks are those that commands left.
     ensures blocks { HasExecuted (S.disk store.old) (S.disk store.new) }
     // A crash leaves these blocks, and no others, once they are synced.

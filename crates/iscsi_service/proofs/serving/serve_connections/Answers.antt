@@ -1,5 +1,5 @@
 use Rattle.iscsi_service.proofs.ExecutedLemmas.{executed_then}
-use Rattle.iscsi_service.proofs.serving.serve_all.Goals as goal
+use Rattle.iscsi_service.proofs.serving.serve_connections.Goals as goal
 
 pub returns-in-Err-NoMemory-clause-blocks : goal.returns-in-Err-NoMemory-clause-blocks
 returns-in-Err-NoMemory-clause-blocks g c = executed_then (g.S.BlockStore.disk c.args.store.now) (g.S.BlockStore.disk c.loop.store)

@@ -1,5 +1,5 @@
 use Rattle.iscsi_service.specs.Session.{HasExecuted}
-use Rattle.iscsi_service.proofs.serving.serve_all.Given as goal
+use Rattle.iscsi_service.proofs.serving.serve_connections.Given as goal
 
 abbrev pub invariant-loop : goal.invariant-loop
 invariant-loop g l = HasExecuted (g.S.BlockStore.disk l.fn.store) (g.S.BlockStore.disk l.store)
