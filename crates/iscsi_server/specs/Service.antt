@@ -1,10 +1,31 @@
 -- What a service of several sessions at a time is asked for.
-use Rattle.std.specs.Prelude.{◌<◌, ◌≤◌}
+use Rattle.std.specs.Prelude.{◌<◌, ◌≤◌, ℕ, IfSome}
 use Rattle.iscsi_login.specs.Name.{IsName}
+use Rattle.iscsi_login.specs.Negotiation.{IsInRange}
+use Rattle.iscsi_login.specs.declared.preferences.Preferences.{Preferences}
+use Rattle.iscsi_server.specs.declared.limits.Limits.{Limits}
 use Rattle.iscsi_server.specs.declared.options.Options.{Options}
+
+-- the longest segment and burst that may be asked for, in bytes (own rule)
+abbrev pub longest_asked : ℕ
+longest_asked = 1048576
+
+-- Each preference is in its key's range (RFC 7143, sections 13.12 to 13.16), and no segment or burst
+-- is longer than may be asked for.
+pub record AreOffered (preferences : Preferences) : Type 0 where
+  pub range : IsInRange preferences
+  pub segment : preferences.max_recv ≤ longest_asked
+  pub burst : preferences.max_burst ≤ longest_asked
+  pub first_burst : preferences.first_burst ≤ preferences.max_burst
+
+-- A limit of time is 1 second at least.
+abbrev pub AreLimits : Limits → Type 0
+AreLimits limits = IfSome limits.idle (λ s. 0 < s) × IfSome limits.login_within (λ s. 0 < s)
 
 -- 1 to 64 sessions at a time (own rule), and a target's name (RFC 7143, section 4.2.7).
 pub record IsService (options : Options) : Type 0 where
   pub some_seats : 0 < options.at_once
   pub few_seats : options.at_once ≤ 64
   pub name : IsName options.name.now
+  pub limits : AreLimits options.limits
+  pub preferences : AreOffered options.preferences

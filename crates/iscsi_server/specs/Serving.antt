@@ -1,6 +1,6 @@
 -- A service of several sessions at a time: what it has, and when it is done.
 use Rattle.std.specs.Prelude.{◌≡◌, ℕ, ◌<◌, ◌≤◌, false, List, length, is_some}
-use Rattle.iscsi_login.specs.Negotiation.{standard}
+use Rattle.iscsi_login.specs.declared.preferences.Preferences.{Preferences}
 use Rattle.iscsi_target_session.specs.Configured.{Settings}
 use Rattle.iscsi_hall.specs.Seats.{Hall, seat_at}
 
@@ -21,10 +21,10 @@ IsDone service = (service.sessions ≤ service.accepted) × IsEmpty service.hall
 
 -- What the target is configured with for the session of a number: portal group 1, and the number as
 -- its TSIH (RFC 7143, section 11.12.6; own rule).
-abbrev pub settings_of : List ℕ → ℕ → Settings
-settings_of name number = record {
+abbrev pub settings_of : List ℕ → ℕ → Preferences → Settings
+settings_of name number preferences = record {
   name = name;
   group = 1;
   tsih = number;
-  preferences = standard;
+  preferences = preferences;
 }

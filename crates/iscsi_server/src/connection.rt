@@ -30,6 +30,8 @@ pub struct Connection {
     is_writable: bool,
     // the peer sends no more: no event comes for that again
     is_half_closed: bool,
+    // urgent data came: a read stops at its mark, and more may be there behind it
+    has_mark: bool,
     accepted: Instant,
     moved: Instant,
 }
@@ -42,6 +44,7 @@ impl Connection {
             is_readable: true,
             is_writable: true,
             is_half_closed: false,
+            has_mark: false,
             accepted: now,
             moved: now,
         }
@@ -51,6 +54,7 @@ impl Connection {
     pub fn note(&mut self, event: &Event) {
         let is_broken = event.is_error();
         self.is_half_closed |= is_broken || event.is_read_closed();
+        self.has_mark |= event.is_priority();
         self.is_readable |= event.is_readable() || self.is_half_closed;
         self.is_writable |= event.is_writable() || event.is_write_closed() || is_broken;
     }
@@ -72,9 +76,10 @@ impl Connection {
         match self.stream.read(buffer) {
             Ok(0) => Moved::End,
             Ok(count) => {
-                // A short read has emptied the socket; only the peer's end may follow without an
-                // event of its own.
-                self.is_readable = self.is_half_closed || count == buffer.len();
+                // A short read has emptied the socket, unless it stopped at a mark; only the peer's
+                // end may follow without an event of its own.
+                let is_emptied = count < buffer.len() && !self.has_mark;
+                self.is_readable = self.is_half_closed || !is_emptied;
                 self.moved = now;
                 Moved::Bytes(count)
             }
@@ -102,6 +107,11 @@ impl Connection {
                 unmoved(&error)
             }
         }
+    }
+
+    /// When it was accepted.
+    pub fn accepted(&self) -> Instant {
+        self.accepted
     }
 
     /// How long ago it was accepted.

@@ -1,6 +1,8 @@
 //! A target's service for several sessions at a time, in one thread, over one disk (RFC 7143).
 #![tactic(auto)]
 
+mod accepting;
+mod budget;
 mod configuration;
 mod connection;
 mod limits;
@@ -11,8 +13,8 @@ mod service;
 mod session_end;
 mod system;
 
-pub use limits::{LAST_WRITE, Limits};
-pub use options::{MOST_AT_ONCE, Options};
+pub use limits::{LAST_WRITE, LOGIN_WITHIN, Limits};
+pub use options::{LONGEST_ASKED, MOST_AT_ONCE, Options, SHORTEST_ASKED};
 pub use server::Server;
 pub use service::serve_at_once;
 pub use session_end::SessionEnd;

@@ -11,6 +11,9 @@ use std::time::Duration;
 /// For how many seconds a peer may take none of the last answers of a closed session.
 pub const LAST_WRITE: u64 = 30;
 
+/// For how many seconds a connection may keep its seat without a login, if no other time is asked for.
+pub const LOGIN_WITHIN: u16 = 30;
+
 /// How long a peer may keep its seat, in seconds; RFC 7143 leaves that to the target.
 #[derive(Clone, Copy, Debug, PartialEq, Eq)]
 pub struct Limits {

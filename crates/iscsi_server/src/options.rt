@@ -1,10 +1,18 @@
 //! What a service of several sessions at a time is asked for.
 
 use crate::limits::Limits;
+use iscsi_login::Preferences;
 use std::net::IpAddr;
 
 /// The most sessions at a time.
 pub const MOST_AT_ONCE: u16 = 64;
+
+/// The shortest segment and burst that a key can say, in bytes (RFC 7143, sections 13.12 to 13.14).
+pub const SHORTEST_ASKED: u32 = 512;
+
+/// The longest segment and burst that may be asked for, in bytes (own rule): 64 seats then hold
+/// segments of 64 MiB at most.
+pub const LONGEST_ASKED: u32 = 1_048_576;
 
 /// What a service of several sessions at a time is asked for.
 #[derive(Clone, Copy, Debug, PartialEq, Eq)]
@@ -21,6 +29,9 @@ pub struct Options<'a> {
     pub name: &'a [u8],
     /// How long a peer may keep its seat.
     pub limits: Limits,
+    /// What the target prefers in a login. `max_recv` and `max_burst` are 512 to 1048576 bytes, and
+    /// `first_burst` is no longer than `max_burst`.
+    pub preferences: Preferences,
     /// Whether the port is printed.
     pub print_port: bool,
 }

@@ -4,6 +4,7 @@ ghost use Rattle.std.specs.Prelude.{◌≡◌, ◌<◌, length, is_some, true};
 ghost use Rattle.iscsi_service.specs.Session.{HasExecuted};
 ghost use Rattle.iscsi_hall.specs.Seats.{may_read_at, may_take_at, seat_at, waiting_at};
 
+use crate::budget::Budget;
 use crate::connection::{Connection, Moved};
 use crate::limits::Limits;
 use crate::session_end::SessionEnd;
@@ -14,10 +15,8 @@ use scsi_disk::BlockStore;
 use std::alloc::{AllocError, Global};
 use std::time::Instant;
 
-/// How many reads, PDUs and writes a seat has in a turn, before the others have theirs.
+/// How many reads, PDUs and writes a seat has in a turn at most.
 const STEPS: usize = 64;
-/// How long a write is that ends a turn, too.
-const LONG_WRITE: usize = 262_144;
 
 /// The peer of a seat.
 #[derive(Drop)]
@@ -61,9 +60,9 @@ impl Peer {
         }
     }
 
-    /// A turn of its session: at most 64 reads, PDUs and writes, and no more behind a write of 262,144
-    /// bytes. What is read goes through `buffer`. Says whether the session is over; where that is
-    /// for a fault, it is kept as its end.
+    /// A turn of its session: at most 64 reads, PDUs and writes, and no more once the budget is spent.
+    /// What is read goes through `buffer`. Says whether the session is over; where that is for a
+    /// fault, it is kept as its end.
     #[tactic(auto, using(crate::proofs::ExecutedLemmas::none_executed))]
     pub fn turn<S: BlockStore>(
         &mut self,
@@ -72,12 +71,17 @@ impl Peer {
         seat: usize,
         now: Instant,
         buffer: &mut [u8; MOST_READ],
+        budget: Budget,
     ) -> bool
         ensures blocks { HasExecuted (S.disk store.old) (S.disk store.new) }
         ensures seats { length hall.new.seats ≡ length hall.old.seats }
     {
+        let mut left = budget;
         for _ in 0..STEPS {
-            match self.step(hall, store, seat, now, buffer) {
+            if left.is_spent() {
+                return false;
+            }
+            match self.step(hall, store, seat, now, buffer, &mut left) {
                 Step::Went => {}
                 Step::Rests => return false,
                 Step::Over => return true,
@@ -115,14 +119,15 @@ impl Peer {
         seat: usize,
         now: Instant,
         buffer: &mut [u8; MOST_READ],
+        left: &mut Budget,
     ) -> Step
         ensures blocks { HasExecuted (S.disk store.old) (S.disk store.new) }
         ensures seats { length hall.new.seats ≡ length hall.old.seats }
     {
         if hall.may_take(seat) {
-            self.take(hall, store, seat)
+            self.take(hall, store, seat, left)
         } else if !hall.waiting(seat).is_empty() {
-            self.write(hall, store, seat, now)
+            self.write(hall, store, seat, now, left)
         } else if hall.may_read(seat) {
             self.read(hall, seat, now, buffer)
         } else {
@@ -138,6 +143,7 @@ impl Peer {
         store: &mut S,
         seat: usize,
         now: Instant,
+        left: &mut Budget,
     ) -> Step
         requires some { 0 < length (waiting_at (seat_at hall.old seat)) }
         ensures blocks { HasExecuted (S.disk store.old) (S.disk store.new) }
@@ -153,11 +159,8 @@ impl Peer {
         match self.connection.write(bytes, now) {
             Moved::Bytes(count) => {
                 hall.sent(seat, count);
-                if count < LONG_WRITE {
-                    Step::Went
-                } else {
-                    Step::Rests
-                }
+                left.give(count);
+                Step::Went
             }
             Moved::Nothing => {
                 hall.sent(seat, 0);
@@ -169,13 +172,19 @@ impl Peer {
 
     // Takes a PDU. Where the login is completed the turn ends, so that an older session of the same
     // port can leave first.
-    fn take<S: BlockStore>(&mut self, hall: &mut Hall, store: &mut S, seat: usize) -> Step
+    fn take<S: BlockStore>(
+        &mut self,
+        hall: &mut Hall,
+        store: &mut S,
+        seat: usize,
+        left: &mut Budget,
+    ) -> Step
         requires may { may_take_at (seat_at hall.old seat) ≡ true }
         ensures blocks { HasExecuted (S.disk store.old) (S.disk store.new) }
         ensures seats { length hall.new.seats ≡ length hall.old.seats }
     {
         let was = hall.phase(seat);
-        self.take_pdu(hall, store, seat);
+        self.take_pdu(hall, store, seat, left);
         if was == hall.phase(seat) {
             Step::Went
         } else {
@@ -185,13 +194,20 @@ impl Peer {
 
     // Takes a PDU. A fault closes the session, and its last answers are still written.
     #[tactic(auto, using(crate::proofs::ExecutedLemmas::turn_executed))]
-    fn take_pdu<S: BlockStore>(&mut self, hall: &mut Hall, store: &mut S, seat: usize)
+    fn take_pdu<S: BlockStore>(
+        &mut self,
+        hall: &mut Hall,
+        store: &mut S,
+        seat: usize,
+        left: &mut Budget,
+    )
         requires may { may_take_at (seat_at hall.old seat) ≡ true }
         ensures blocks { HasExecuted (S.disk store.old) (S.disk store.new) }
         ensures seats { length hall.new.seats ≡ length hall.old.seats }
     {
-        if let Err(fault) = hall.take(seat, store) {
-            self.end_by(SessionEnd::Target(fault));
+        match hall.take(seat, store) {
+            Ok(count) => left.take(count),
+            Err(fault) => self.end_by(SessionEnd::Target(fault)),
         }
     }
 

@@ -1,12 +1,16 @@
 //! A listening socket, and the sessions of those who came there. Long, since all of it is what a turn
 //! of the service does.
 
-ghost use Rattle.std.specs.Prelude.{◌≡◌, ◌≤◌, ◌↔◌, ◌+◌, ◌<◌, length, true, IsTrue, IfOk, IfErr};
+ghost use Rattle.std.specs.Prelude.{◌≡◌, ◌≤◌, ◌↔◌, ◌+◌, ◌<◌, length, option_map, true, Some, IsTrue, IfSome, IfOk, IfErr};
 ghost use Rattle.iscsi_service.specs.Session.{HasExecuted};
 ghost use Rattle.iscsi_service.specs.Serving.{EndsService};
 ghost use Rattle.iscsi_service.specs.declared.fault.ServeFault.TheVariants as serve;
+ghost use Rattle.iscsi_login.specs.declared.phase.Phase.TheVariants as phases;
+ghost use Rattle.iscsi_hall.specs.Seats.{phase_of, seat_at};
 ghost use Rattle.iscsi_server.specs.Serving.{IsDone, IsEmpty};
 
+use crate::accepting::{AcceptError, Accepting};
+use crate::budget::Budget;
 use crate::configuration::configuration;
 use crate::connection::Connection;
 use crate::limits::sooner;
@@ -21,10 +25,13 @@ use mio::net::{TcpListener, TcpStream};
 use mio::{Events, Poll};
 use scsi_disk::BlockStore;
 use std::alloc::Global;
-use std::io::ErrorKind;
+use std::io;
 use std::marker::Model;
 use std::net::SocketAddr;
 use std::time::{Duration, Instant};
+
+/// What is told if the system has no room for a connection.
+const NO_ROOM: &str = "accept failed: nobody is accepted until a seat is free or a second is over";
 
 /// A listening socket, and the sessions of those who came there, some at a time, by calls of `turn`.
 #[derive(Drop)]
@@ -33,8 +40,7 @@ pub struct Server<'a> {
     poll: Poll,
     events: Events,
     listener: TcpListener,
-    // whether a connection may wait to be accepted
-    is_asked: bool,
+    accepting: Accepting,
     // how many connections were accepted
     accepted: u16,
     hall: Hall,
@@ -81,7 +87,7 @@ impl<'a> Server<'a> {
             poll,
             events,
             listener,
-            is_asked: true,
+            accepting: Accepting::new(),
             accepted: 0,
             hall,
             peers,
@@ -111,8 +117,9 @@ impl<'a> Server<'a> {
     /// all connections were accepted, and gives each seat a turn.
     ///
     /// The line of a session that ends with a fault goes to the standard error, and the others go
-    /// on. Only being out of memory outside of sessions (`NoMemory`), and the system's refusing to
-    /// wait, to accept or to tell the time (`Network`) are returned.
+    /// on. A connection that the system does not watch, or for which there is no memory, is closed.
+    /// If the system has no room for connections, nobody is accepted until a seat gets free or a
+    /// second is over. Only the system's refusing to wait or to tell the time (`Network`) is returned.
     #[tactic(auto, using(crate::proofs::ExecutedLemmas::none_executed))]
     pub fn turn<S: BlockStore>(&mut self, rt: &HostRuntime, store: &mut S) -> Result<(), ServeFault>
         // Whatever comes of it, the blocks are those that commands left.
@@ -124,7 +131,7 @@ impl<'a> Server<'a> {
     {
         self.wait(now(rt)?)?;
         let now = now(rt)?;
-        self.admit(rt.alloc(), now)?;
+        self.admit(rt, now);
         self.serve_peers(rt, store, now);
         Ok(())
     }
@@ -134,17 +141,17 @@ impl<'a> Server<'a> {
         ensures same { self.new ≡ self.old }
         ensures ends { IfErr result EndsService }
     {
-        let timeout = if self.is_busy() {
+        let timeout = if self.is_busy(now) {
             Some(Duration::ZERO)
         } else {
-            self.time_left(now)
+            sooner(self.time_left(now), self.rest_left(now))
         };
         if self.poll.poll(&mut self.events, timeout).is_err() {
             return Err(ServeFault::Network);
         }
         for event in self.events.iter() {
             if event.token() == LISTENER {
-                self.is_asked = true;
+                self.accepting.ask();
             } else if let Some(Some(peer)) = self.peers.get_mut(event.token().0) {
                 peer.connection.note(event);
             }
@@ -153,8 +160,8 @@ impl<'a> Server<'a> {
     }
 
     // Whether there is something to do of which the system will not tell again.
-    fn is_busy(&self) -> bool {
-        if self.may_admit() {
+    fn is_busy(&self, now: Instant) -> bool {
+        if self.may_admit(now) {
             return true;
         }
         for (seat, peer) in self.peers.iter().enumerate() {
@@ -168,12 +175,81 @@ impl<'a> Server<'a> {
     }
 
     // Whether a connection is to be accepted, if one waits.
-    fn may_admit(&self) -> bool
+    fn may_admit(&self, now: Instant) -> bool
+        ensures open { result ≡ true → self.now.accepted < self.now.sessions }
+    {
+        self.has_place() && self.accepting.is_due(now)
+    }
+
+    // Whether one more connection is to be accepted, and has a seat that is free or can be.
+    fn has_place(&self) -> bool
         ensures open { result ≡ true → self.now.accepted < self.now.sessions }
     {
         self.accepted < self.options.sessions
-            && self.is_asked
-            && self.peers.iter().any(|peer| peer.is_none())
+            && (self.peers.iter().any(|peer| peer.is_none()) || self.oldest_guest().is_some())
+    }
+
+    // The seat that makes room: that of the oldest connection, if none has logged in.
+    fn oldest_guest(&self) -> Option<usize>
+        ensures guest { IfSome result (λ seat.
+            option_map phase_of (seat_at self.now.hall seat) ≡ Some phases.Login) }
+    {
+        if !self.has_guests_alone() {
+            return None;
+        }
+        let seat = self.oldest()?;
+        match self.hall.phase(seat) {
+            Some(Phase::Login) => Some(seat),
+            Some(Phase::Full | Phase::Closed) | None => None,
+        }
+    }
+
+    // Whether no connection has logged in.
+    fn has_guests_alone(&self) -> bool {
+        for seat in 0..self.peers.len() {
+            if self.hall.is_taken(seat) && self.hall.phase(seat) != Some(Phase::Login) {
+                return false;
+            }
+        }
+        true
+    }
+
+    // The seat whose connection was accepted first.
+    fn oldest(&self) -> Option<usize> {
+        let mut oldest: Option<(usize, Instant)> = None;
+        for (seat, peer) in self.peers.iter().enumerate() {
+            if let Some(peer) = peer {
+                let accepted = peer.connection.accepted();
+                match oldest {
+                    Some((_, before)) if before <= accepted => {}
+                    _ => oldest = Some((seat, accepted)),
+                }
+            }
+        }
+        oldest.map(|(seat, _)| seat)
+    }
+
+    // Frees the seat of the oldest connection, if all seats are taken by such that have not logged in.
+    fn make_room(&mut self, rt: &HostRuntime)
+        ensures seats { length self.new.hall.seats ≡ length self.old.hall.seats }
+        ensures sessions { self.new.sessions ≡ self.old.sessions }
+        ensures accepted { self.new.accepted ≡ self.old.accepted }
+    {
+        if self.peers.iter().any(|peer| peer.is_none()) {
+            return;
+        }
+        if let Some(seat) = self.oldest_guest() {
+            self.dismiss(rt, seat, Some(SessionEnd::MadeRoom));
+        }
+    }
+
+    // How long until connections are accepted again; none: nobody is waited for.
+    fn rest_left(&self, now: Instant) -> Option<Duration> {
+        if self.has_place() {
+            self.accepting.left(now)
+        } else {
+            None
+        }
     }
 
     // How long until the time of a session is over; none: for ever.
@@ -192,56 +268,65 @@ impl<'a> Server<'a> {
     }
 
     // Accepts those who wait, as far as there are seats.
-    fn admit(&mut self, alloc: Global, now: Instant) -> Result<(), ServeFault>
+    fn admit(&mut self, rt: &HostRuntime, now: Instant)
         ensures seats { length self.new.hall.seats ≡ length self.old.hall.seats }
         ensures sessions { self.new.sessions ≡ self.old.sessions }
         ensures accepted { self.old.accepted ≤ self.new.accepted }
-        ensures ends { IfErr result EndsService }
     {
         for _ in 0..self.peers.len() {
-            if !self.may_admit() {
-                return Ok(());
+            if !self.may_admit(now) {
+                return;
             }
             match self.listener.accept() {
-                Ok((stream, _)) => self.welcome(alloc, stream, now)?,
-                Err(error) if error.kind() == ErrorKind::WouldBlock => {
-                    self.is_asked = false;
-                    return Ok(());
+                Ok((stream, _)) => {
+                    self.make_room(rt);
+                    self.welcome(rt.alloc(), stream, now);
                 }
-                Err(_) => return Err(ServeFault::Network),
+                Err(error) => self.pass_over(rt, &error, now),
             }
         }
-        Ok(())
     }
 
-    // Gives a connection a seat. Its number, counted from 1, is the TSIH of its session.
-    fn welcome(
-        &mut self,
-        alloc: Global,
-        mut stream: TcpStream,
-        now: Instant,
-    ) -> Result<(), ServeFault>
+    // Does what an error of accept asks for.
+    fn pass_over(&mut self, rt: &HostRuntime, error: &io::Error, now: Instant)
+        ensures same { self.new ≡ self.old }
+    {
+        match AcceptError::of(error) {
+            AcceptError::Nobody => self.accepting.nobody(),
+            AcceptError::Gone => {}
+            AcceptError::NoRoom => {
+                if self.accepting.rest(now) {
+                    let _ = eprintln!(rt; "{NO_ROOM}");
+                }
+            }
+        }
+    }
+
+    // Gives a connection a seat. Its number, counted from 1, is the TSIH of its session. One for which
+    // there is no memory, or that the system does not watch, is closed.
+    fn welcome(&mut self, alloc: Global, mut stream: TcpStream, now: Instant)
         requires open { self.old.accepted < self.old.sessions }
         ensures seats { length self.new.hall.seats ≡ length self.old.hall.seats }
         ensures sessions { self.new.sessions ≡ self.old.sessions }
         ensures accepted { self.new.accepted ≡ self.old.accepted + 1 }
-        ensures ends { IfErr result EndsService }
     {
         self.accepted += 1;
-        let config = configuration(alloc, self.options.name, self.accepted)?;
+        self.accepting.accepted();
+        let options = self.options;
+        let Ok(config) = configuration(alloc, options.name, self.accepted, options.preferences)
+        else {
+            return;
+        };
         let Some(seat) = self.hall.seat(config) else {
-            return Ok(());
+            return;
         };
         if !watch(&self.poll, &mut stream, seat) {
-            return Err(ServeFault::Network);
+            self.hall.leave(seat);
+            return;
         }
-        // Answers are not to wait for those before them to be acknowledged; where that can't be had
-        // they do.
-        let _ = stream.set_nodelay(true);
         if let Some(place) = self.peers.get_mut(seat) {
             *place = Some(Peer::new(Connection::new(stream, now)));
         }
-        Ok(())
     }
 
     // A turn for each peer.
@@ -252,8 +337,10 @@ impl<'a> Server<'a> {
         ensures sessions { self.new.sessions ≡ self.old.sessions }
         ensures accepted { self.new.accepted ≡ self.old.accepted }
     {
+        let taken = self.peers.iter().filter(|peer| peer.is_some()).count();
+        let budget = Budget::of(taken);
         for seat in 0..self.peers.len() {
-            self.serve_peer(rt, store, seat, now);
+            self.serve_peer(rt, store, seat, now, budget);
         }
     }
 
@@ -265,6 +352,7 @@ impl<'a> Server<'a> {
         store: &mut S,
         seat: usize,
         now: Instant,
+        budget: Budget,
     )
         ensures blocks { HasExecuted (S.disk store.old) (S.disk store.new) }
         ensures seats { length self.new.hall.seats ≡ length self.old.hall.seats }
@@ -275,7 +363,7 @@ impl<'a> Server<'a> {
             return;
         };
         let was = self.hall.phase(seat);
-        let is_over = peer.turn(&mut self.hall, store, seat, now, &mut self.buffer)
+        let is_over = peer.turn(&mut self.hall, store, seat, now, &mut self.buffer, budget)
             || peer.is_late(&self.options.limits, self.hall.phase(seat), now);
         if is_over {
             let end = peer.end;
@@ -323,6 +411,7 @@ impl<'a> Server<'a> {
             let _ = eprintln!(rt; "{end}");
         }
         self.hall.leave(seat);
+        self.accepting.resume();
         if let Some(place) = self.peers.get_mut(seat) {
             *place = None;
         }

@@ -29,4 +29,8 @@ pub enum SessionEnd {
     /// 7143, section 6.3.5).
     #[error("session: taken over")]
     TakenOver,
+    /// All seats were taken by connections that had not logged in, and another one came. This one was
+    /// the oldest.
+    #[error("session: made room")]
+    MadeRoom,
 }

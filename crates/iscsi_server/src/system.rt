@@ -29,12 +29,12 @@ pub fn listen(rt: &HostRuntime, address: SocketAddr) -> Result<(Poll, TcpListene
     }
 }
 
-/// Has the system tell when a connection may be read again, or written again, under the number of its
-/// seat. Says whether it will.
+/// Has the system tell when a connection may be read again, or written again, or has urgent data,
+/// under the number of its seat. Says whether it will.
 pub fn watch(poll: &Poll, stream: &mut TcpStream, seat: usize) -> bool {
     // An answer waits for no other one; where the system refuses this, it is only slower.
     let _ = stream.set_nodelay(true);
-    let interest = Interest::READABLE | Interest::WRITABLE;
+    let interest = Interest::READABLE | Interest::WRITABLE | Interest::PRIORITY;
     poll.registry()
         .register(stream, Token(seat), interest)
         .is_ok()

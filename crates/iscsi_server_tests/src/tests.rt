@@ -4,6 +4,7 @@
 
 use crate::asserts::same;
 use iscsi_examples::{PING, pdus_of};
+use iscsi_login::Preferences;
 use iscsi_server::{Limits, Options, Server};
 use scsi_disk::SparseStore;
 use std::io::{ErrorKind, Read, Write};
@@ -76,6 +77,7 @@ fn options(sessions: u16, at_once: u16, idle: u16) -> Options<'static> {
             idle: Some(idle),
             login_within: None,
         },
+        preferences: Preferences::standard(),
         print_port: false,
     }
 }
