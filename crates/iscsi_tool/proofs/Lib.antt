@@ -1,3 +1,4 @@
 pub mod AnsweredLemmas
 pub mod HexLineLemmas
 pub mod SpellingLemmas
+pub mod RunningLemmas

@@ -4,3 +4,4 @@ pub mod Spelling
 pub mod Storage
 pub mod Filtering
 pub mod Comparisons
+pub mod Running

@@ -1,5 +1,5 @@
 -- What a served disk is kept in, and what an image has that was opened.
-use Rattle.std.specs.Prelude.{◌≡◌, ◌≢◌, ◌≤◌, ◌<◌, ℕ, Some, None}
+use Rattle.std.specs.Prelude.{◌≡◌, ◌≢◌, ◌≤◌, ◌<◌, ℕ, Some, None, IfSome}
 use Rattle.scsi_disk.specs.Disk.{most_blocks}
 use Rattle.iscsi_tool.specs.declared.storage.Origin.{Origin}
 use Rattle.iscsi_tool.specs.declared.storage.Origin.TheVariants as origin
@@ -8,12 +8,12 @@ use Rattle.iscsi_tool.specs.declared.storage.Storage.TheVariants as storage
 use Rattle.iscsi_tool.specs.declared.storage.ImageFault.{ImageFault}
 use Rattle.iscsi_tool.specs.declared.storage.ImageFault.TheVariants as image
 
--- An image that is made has 1 to 2^40 blocks.
+-- An image that is made has 1 to 2^40 blocks, and so has one that is found, if a number is said.
 abbrev pub IsOrigin : Origin → Type 0
-IsOrigin (origin.Found blocks) = Unit {0}
+IsOrigin (origin.Found blocks) = IfSome blocks (λ n. (0 < n) × (n ≤ most_blocks))
 IsOrigin (origin.New blocks) = (0 < blocks) × (blocks ≤ most_blocks)
 
--- A disk in memory and an image that is made have 1 to 2^40 blocks.
+-- A disk in memory and an image have 1 to 2^40 blocks.
 abbrev pub IsStorage : Storage → Type 0
 IsStorage (storage.Memory blocks) = (0 < blocks) × (blocks ≤ most_blocks)
 IsStorage (storage.Image image) = IsOrigin image.origin

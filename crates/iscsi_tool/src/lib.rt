@@ -6,11 +6,13 @@ mod comparing;
 mod filter;
 mod hex_text;
 mod hex_writer;
+mod running;
 mod serve_words;
 mod storage;
 mod words;
 
 pub use comparing::{ComparisonFault, Sameness, compare_bytes, compare_hex};
 pub use filter::{Filter, Work, run_filter, status};
+pub use running::{Outcome, run_program, run_words};
 pub use storage::{Image, ImageFault, Origin, Storage};
 pub use words::{Comparison, Job, LineFault, Service, read_words};

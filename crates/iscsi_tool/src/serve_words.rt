@@ -4,6 +4,7 @@
 ghost use Rattle.std.specs.Prelude.{◌≡◌, ◌<◌, ◌≤◌, IfOk, IfSome};
 ghost use Rattle.scsi_disk.specs.Disk.{most_blocks};
 ghost use Rattle.iscsi_login.specs.Name.{IsName};
+ghost use Rattle.iscsi_server.specs.Service.{AreOffered, longest_asked};
 ghost use Rattle.iscsi_tool.specs.Filtering.{IsJob};
 ghost use Rattle.iscsi_tool.specs.Storage.{IsStorage};
 
@@ -13,8 +14,8 @@ use crate::words::{
     with_word,
 };
 use clap::{Arg, ArgMatches, Command};
-use iscsi_login::is_name;
-use iscsi_server::{Limits, MOST_AT_ONCE, Options};
+use iscsi_login::{Preferences, is_name};
+use iscsi_server::{LOGIN_WITHIN, LONGEST_ASKED, Limits, MOST_AT_ONCE, Options, SHORTEST_ASKED};
 use std::alloc::{AllocError, Global};
 use std::convert::AsStr;
 use std::net::{IpAddr, Ipv4Addr};
@@ -35,6 +36,15 @@ const BAD_NAME: &str = "'--name <IQN>' has 1 to 223 bytes, each of '!' to '~'";
 const BAD_IDLE: &str = "'--idle <S>' is a number from 1 to 65535";
 
 const BAD_LOGIN: &str = "'--login-within <S>' is a number from 1 to 65535";
+
+const BAD_LOGIN_LIMIT: &str = "'--no-login-limit' cannot be used with '--login-within <S>'";
+
+const BAD_SEGMENT: &str = "'--segment <N>' is a number from 512 to 1048576";
+
+const BAD_BURST: &str = "'--burst <N>' is a number from 512 to 1048576";
+
+const BAD_FIRST_BURST: &str =
+    "'--first-burst <N>' is a number from 512 to 1048576, and at most that of '--burst'";
 
 /// Whether words name an image.
 pub(crate) fn names_image<S: AsStr>(words: &[S]) -> bool {
@@ -111,13 +121,42 @@ fn with_options<'a>(alloc: Global, program: Command<'a>) -> Result<Command<'a>, 
         "the IPv4 or IPv6 address to listen at, if not 127.0.0.1; who reaches it has the disk";
     let name_help = "the target's name, if not iqn.2026-01.example:disk";
     let idle_help = "ends a session after so many seconds without a byte, 1 to 65535";
-    let login_help = "ends a session that has not logged in after so many seconds, 1 to 65535";
+    let login_help =
+        "ends a connection that has not logged in after S seconds, 1 to 65535; 30 if left out";
     let program = program.arg(at_once)?;
     let program = with_word(program, option(alloc, "listen", "ADDR", listen_help))?;
     let program = with_word(program, option(alloc, "name", "IQN", name_help))?;
     let program = with_word(program, option(alloc, "idle", "S", idle_help))?;
     let program = with_word(program, option(alloc, "login-within", "S", login_help))?;
+    let program = with_word(program, no_login_limit(alloc))?;
+    let program = with_lengths(alloc, program)?;
     with_word(program, print_port(alloc))
+}
+
+// With the words for what a session may move at once.
+fn with_lengths<'a>(alloc: Global, program: Command<'a>) -> Result<Command<'a>, AllocError> {
+    let segment_help =
+        "the longest data segment that the target takes, in bytes, 512 to 1048576; 8192 if \
+        left out";
+    let burst_help =
+        "the most data that go on one request, in bytes, 512 to 1048576; 262144 if left \
+        out";
+    let first_help =
+        "the most data that a write may send unasked, in bytes, 512 to the burst; 65536 if \
+        left out, or the burst if that is shorter";
+    let program = with_word(program, option(alloc, "segment", "N", segment_help))?;
+    let program = with_word(program, option(alloc, "burst", "N", burst_help))?;
+    with_word(program, option(alloc, "first-burst", "N", first_help))
+}
+
+// `--no-login-limit`, which wants `--at-once`.
+fn no_login_limit<'a>(alloc: Global) -> Result<Arg<'a>, AllocError> {
+    flag(
+        alloc,
+        "no-login-limit",
+        "lets a connection keep its seat without a login",
+    )
+    .requires_arg("at-once")
 }
 
 // `--print-port`, which wants `--at-once`.
@@ -163,8 +202,9 @@ pub(crate) fn service_of<'a>(alloc: Global, asked: &ArgMatches<'a>) -> Result<Jo
     let (listen, name) = place_of(alloc, asked)?;
     let limits = Limits {
         idle: seconds_of(alloc, asked, "idle", BAD_IDLE)?,
-        login_within: seconds_of(alloc, asked, "login-within", BAD_LOGIN)?,
+        login_within: login_within_of(alloc, asked)?,
     };
+    let preferences = preferences_of(alloc, asked)?;
     let options = Options {
         listen,
         port,
@@ -172,6 +212,7 @@ pub(crate) fn service_of<'a>(alloc: Global, asked: &ArgMatches<'a>) -> Result<Jo
         at_once,
         name,
         limits,
+        preferences,
         print_port: asked.get_flag("print-port"),
     };
     Ok(Job::Serve {
@@ -236,13 +277,81 @@ fn seconds_of(
     asked: &ArgMatches<'_>,
     name: &str,
     refused: &str,
-) -> Result<Option<u16>, LineFault> {
+) -> Result<Option<u16>, LineFault>
+    ensures some { IfOk result (λ seconds. IfSome seconds (λ n. 0 < n)) }
+{
     let Some(digits) = asked.get_str(name) else {
         return Ok(None);
     };
     match number_of(digits) {
         Some(seconds) if 0 < seconds => Ok(Some(seconds)),
         _ => Err(refusal(alloc, asked, refused)),
+    }
+}
+
+// How many seconds a login may take: those that are said, or else 30, or any number of them.
+fn login_within_of(alloc: Global, asked: &ArgMatches<'_>) -> Result<Option<u16>, LineFault>
+    ensures some { IfOk result (λ seconds. IfSome seconds (λ n. 0 < n)) }
+{
+    let said = seconds_of(alloc, asked, "login-within", BAD_LOGIN)?;
+    match (said, asked.get_flag("no-login-limit")) {
+        (Some(_), true) => Err(refusal(alloc, asked, BAD_LOGIN_LIMIT)),
+        (None, true) => Ok(None),
+        (said, false) => Ok(Some(said.unwrap_or(LOGIN_WITHIN))),
+    }
+}
+
+// What the target prefers: the standard preferences, with the lengths that are asked for.
+fn preferences_of(alloc: Global, asked: &ArgMatches<'_>) -> Result<Preferences, LineFault>
+    ensures offered { IfOk result AreOffered }
+{
+    let standard = Preferences::standard();
+    let segment = length_of(alloc, asked, "segment", BAD_SEGMENT)?.unwrap_or(standard.max_recv);
+    let burst = length_of(alloc, asked, "burst", BAD_BURST)?.unwrap_or(standard.max_burst);
+    let first = match length_of(alloc, asked, "first-burst", BAD_FIRST_BURST)? {
+        Some(first) => first,
+        None => standard.first_burst.min(burst),
+    };
+    if burst < first {
+        return Err(refusal(alloc, asked, BAD_FIRST_BURST));
+    }
+    Ok(Preferences {
+        max_burst: burst,
+        first_burst: first,
+        max_recv: segment,
+        ..standard
+    })
+}
+
+// The number of bytes, 512 to 1048576, that a word has, if it stands there.
+fn length_of(
+    alloc: Global,
+    asked: &ArgMatches<'_>,
+    name: &str,
+    refused: &str,
+) -> Result<Option<u32>, LineFault>
+    ensures range { IfOk result
+        (λ length. IfSome length (λ n. (512 ≤ n) × (n ≤ longest_asked))) }
+{
+    let Some(digits) = asked.get_str(name) else {
+        return Ok(None);
+    };
+    match bytes_of(digits) {
+        Some(length) => Ok(Some(length)),
+        None => Err(refusal(alloc, asked, refused)),
+    }
+}
+
+// The number of bytes that digits spell, from 512 to 1048576.
+fn bytes_of(digits: &str) -> Option<u32>
+    ensures range { IfSome result (λ n. (512 ≤ n) × (n ≤ longest_asked)) }
+{
+    if !digits.bytes().all(|c| c.is_ascii_digit()) {
+        return None;
+    }
+    match digits.parse::<u32>() {
+        Ok(n) if SHORTEST_ASKED <= n && n <= LONGEST_ASKED => Some(n),
+        _ => None,
     }
 }
 

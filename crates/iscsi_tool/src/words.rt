@@ -94,6 +94,32 @@ impl<T: Drop> From<AllocFailed<T>> for LineFault {
     }
 }
 
+/// The word of a job.
+#[derive(Clone, Copy, Debug, PartialEq, Eq)]
+enum JobWord {
+    Show,
+    Normalise,
+    Compare,
+    Answer,
+    Serve,
+    Loop,
+}
+
+impl JobWord {
+    // The job that a word names.
+    fn of(word: &str) -> Option<JobWord> {
+        match word {
+            "show" => Some(JobWord::Show),
+            "normalise" => Some(JobWord::Normalise),
+            "compare" => Some(JobWord::Compare),
+            "answer" => Some(JobWord::Answer),
+            "serve" => Some(JobWord::Serve),
+            "loop" => Some(JobWord::Loop),
+            _ => None,
+        }
+    }
+}
+
 /// What is done with no words.
 const UNASKED: Job<'static> = Job::Filter(Filter {
     work: Work::Normalise,
@@ -277,44 +303,57 @@ pub fn read_words<'a, S: AsStr>(alloc: Global, words: &'a [S]) -> Result<Job<'a>
     job_of(alloc, &matches)
 }
 
-// The job that words which were read ask for.
+// The job that words which were read ask for. Words that name none are refused, though the reader
+// of the words lets none of those through.
 fn job_of<'a>(alloc: Global, matches: &ArgMatches<'a>) -> Result<Job<'a>, LineFault>
     ensures disk { IfOk result IsJob }
 {
-    let Some((name, asked)) = matches.subcommand() else {
-        return Ok(UNASKED);
+    let Some((word, asked)) = matches.subcommand() else {
+        return Err(no_job(alloc));
     };
-    if name == "serve" {
-        return service_of(alloc, asked);
+    match JobWord::of(word) {
+        Some(JobWord::Show) => Ok(filter_of(Work::Show, asked)),
+        Some(JobWord::Normalise) => Ok(filter_of(normal_work(asked), asked)),
+        Some(JobWord::Compare) => Ok(comparison_of(asked)),
+        Some(JobWord::Answer) => answer_of(alloc, asked),
+        Some(JobWord::Serve) => service_of(alloc, asked),
+        Some(JobWord::Loop) => loop_of(alloc, asked),
+        None => Err(no_job(alloc)),
     }
-    if name == "loop" {
-        return loop_of(alloc, asked);
-    }
-    if name == "compare" {
-        return Ok(comparison_of(asked));
-    }
-    Ok(Job::Filter(Filter {
-        work: work_of(alloc, name, asked)?,
-        hex: asked.get_flag("hex"),
-    }))
 }
 
-fn work_of(alloc: Global, name: &str, asked: &ArgMatches<'_>) -> Result<Work, LineFault>
-    ensures disk { IfOk result HasDisk }
+// The refusal of words that name no job.
+fn no_job(alloc: Global) -> LineFault {
+    bad_number(alloc, bare_command(alloc), "the words name no job")
+}
+
+// A filter, of hex text if that is asked.
+fn filter_of<'a>(work: Work, asked: &ArgMatches<'_>) -> Job<'a>
+    requires disk { HasDisk work }
+    ensures disk { IsJob result }
 {
-    if name == "show" {
-        return Ok(Work::Show);
-    }
-    if name == "answer" {
-        return match asked.get_str("blocks").and_then(blocks_of) {
-            Some(blocks) => Ok(Work::Answer(blocks)),
-            None => Err(bad_number(alloc, answer_program(alloc), BAD_BLOCKS)),
-        };
-    }
+    let hex = asked.get_flag("hex");
+    Job::Filter(Filter { work, hex })
+}
+
+// Whether a stream or a text is normalised.
+fn normal_work(asked: &ArgMatches<'_>) -> Work
+    ensures disk { HasDisk result }
+{
     if asked.get_flag("text") {
-        return Ok(Work::Text);
+        Work::Text
+    } else {
+        Work::Normalise
     }
-    Ok(Work::Normalise)
+}
+
+fn answer_of<'a>(alloc: Global, asked: &ArgMatches<'_>) -> Result<Job<'a>, LineFault>
+    ensures disk { IfOk result IsJob }
+{
+    match asked.get_str("blocks").and_then(blocks_of) {
+        Some(blocks) => Ok(filter_of(Work::Answer(blocks), asked)),
+        None => Err(bad_number(alloc, answer_program(alloc), BAD_BLOCKS)),
+    }
 }
 
 fn comparison_of<'a>(asked: &ArgMatches<'a>) -> Job<'a>

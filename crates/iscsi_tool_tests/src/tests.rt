@@ -4,6 +4,7 @@
 mod answers;
 mod digits;
 mod images;
+mod running;
 mod session;
 mod words;
 

@@ -69,7 +69,19 @@ const JOBS: &[(&str, &str)] = &[
     ),
     (
         "serve --port 1 --sessions 2 --file d --at-once 3",
-        "Serve { storage: Image(Image { path: \"d\", origin: Found { blocks: None } }), service: AtOnce(Options { listen: 127.0.0.1, port: 1, sessions: 2, at_once: 3, name: [105, 113, 110, 46, 50, 48, 50, 54, 45, 48, 49, 46, 101, 120, 97, 109, 112, 108, 101, 58, 100, 105, 115, 107], limits: Limits { idle: None, login_within: None }, print_port: false }) }",
+        "Serve { storage: Image(Image { path: \"d\", origin: Found { blocks: None } }), service: AtOnce(Options { listen: 127.0.0.1, port: 1, sessions: 2, at_once: 3, name: [105, 113, 110, 46, 50, 48, 50, 54, 45, 48, 49, 46, 101, 120, 97, 109, 112, 108, 101, 58, 100, 105, 115, 107], limits: Limits { idle: None, login_within: Some(30) }, preferences: Preferences { initial_r2t: false, immediate_data: true, max_burst: 262144, first_burst: 65536, time2wait: 2, time2retain: 20, max_recv: 8192 }, print_port: false }) }",
+    ),
+    (
+        "serve --port 1 --sessions 2 --file d --at-once 3 --name n --segment 131072 --burst 131072",
+        "Serve { storage: Image(Image { path: \"d\", origin: Found { blocks: None } }), service: AtOnce(Options { listen: 127.0.0.1, port: 1, sessions: 2, at_once: 3, name: [110], limits: Limits { idle: None, login_within: Some(30) }, preferences: Preferences { initial_r2t: false, immediate_data: true, max_burst: 131072, first_burst: 65536, time2wait: 2, time2retain: 20, max_recv: 131072 }, print_port: false }) }",
+    ),
+    (
+        "serve --port 1 --sessions 2 --file d --at-once 3 --name n --burst 512 --segment 1048576 --idle 1 --login-within 65535",
+        "Serve { storage: Image(Image { path: \"d\", origin: Found { blocks: None } }), service: AtOnce(Options { listen: 127.0.0.1, port: 1, sessions: 2, at_once: 3, name: [110], limits: Limits { idle: Some(1), login_within: Some(65535) }, preferences: Preferences { initial_r2t: false, immediate_data: true, max_burst: 512, first_burst: 512, time2wait: 2, time2retain: 20, max_recv: 1048576 }, print_port: false }) }",
+    ),
+    (
+        "serve --port 1 --sessions 2 --file d --at-once 3 --name n --first-burst 262144 --no-login-limit",
+        "Serve { storage: Image(Image { path: \"d\", origin: Found { blocks: None } }), service: AtOnce(Options { listen: 127.0.0.1, port: 1, sessions: 2, at_once: 3, name: [110], limits: Limits { idle: None, login_within: None }, preferences: Preferences { initial_r2t: false, immediate_data: true, max_burst: 262144, first_burst: 262144, time2wait: 2, time2retain: 20, max_recv: 8192 }, print_port: false }) }",
     ),
     (
         "loop --blocks 2048 --piece 48",
@@ -97,6 +109,16 @@ const PORT: &str = "error: '--port <P>' is a number from 0 to 65535\n\nUsage: la
 
 const SESSIONS: &str =
     "error: '--sessions <n>' is a number from 0 to 65535\n\nUsage: lanthovur serve";
+
+const SEGMENT: &str =
+    "error: '--segment <N>' is a number from 512 to 1048576\n\nUsage: lanthovur serve";
+
+const BURST: &str =
+    "error: '--burst <N>' is a number from 512 to 1048576\n\nUsage: lanthovur serve";
+
+const FIRST_BURST: &str =
+    "error: '--first-burst <N>' is a number from 512 to 1048576, and at most that of '--burst'\n\n\
+    Usage: lanthovur serve";
 
 const PIECE: &str = "error: '--piece <k>' is a number from 1 to 4096\n\nUsage: lanthovur loop";
 
@@ -256,6 +278,46 @@ const REFUSED: &[(&str, &str)] = &[
         "error: unexpected argument '--file' found\n",
     ),
     (
+        "serve --port 0 --blocks 1 --sessions 1 --segment 8192",
+        "error: the following required arguments were not provided:\n  --at-once <k>\n",
+    ),
+    (
+        "serve --port 0 --blocks 1 --sessions 1 --at-once 1 --segment 511",
+        SEGMENT,
+    ),
+    (
+        "serve --port 0 --blocks 1 --sessions 1 --at-once 1 --segment 1048577",
+        SEGMENT,
+    ),
+    (
+        "serve --port 0 --blocks 1 --sessions 1 --at-once 1 --segment 64k",
+        SEGMENT,
+    ),
+    (
+        "serve --port 0 --blocks 1 --sessions 1 --at-once 1 --burst 511",
+        BURST,
+    ),
+    (
+        "serve --port 0 --blocks 1 --sessions 1 --at-once 1 --burst 1048577",
+        BURST,
+    ),
+    (
+        "serve --port 0 --blocks 1 --sessions 1 --at-once 1 --first-burst 511",
+        FIRST_BURST,
+    ),
+    (
+        "serve --port 0 --blocks 1 --sessions 1 --at-once 1 --first-burst 262145",
+        FIRST_BURST,
+    ),
+    (
+        "serve --port 0 --blocks 1 --sessions 1 --at-once 1 --first-burst 1025 --burst 1024",
+        FIRST_BURST,
+    ),
+    (
+        "serve --port 0 --blocks 1 --sessions 1 --at-once 1 --no-login-limit --login-within 1",
+        "error: '--no-login-limit' cannot be used with '--login-within <S>'\n\nUsage: lanthovur serve",
+    ),
+    (
         "serve --blocks 1 --piece 1",
         "error: unexpected argument '--piece' found\n",
     ),
@@ -302,6 +364,7 @@ const HELP: &[&str] = &[
     "Usage: lanthovur <COMMAND>",
     "\n  show       Writes a line for each PDU",
     "\n  normalise  Writes the canonical stream or text",
+    "\n  compare    Says where two streams differ in meaning",
     "\n  answer     Writes a target's answers",
     "\n  serve      Serves a target's disk on 127.0.0.1",
     "\n  loop       Does what a script on the standard input says",

@@ -1,0 +1,14 @@
+use Rattle.std.proofs.Common.{[], refl}
+use Rattle.std.proofs.KnownBytes.{Appends-nil, Consumes-nil}
+use Rattle.iscsi_tool.proofs.running.run_job.Goals as goal
+
+pub returns-in-Serve : goal.returns-in-Serve
+returns-in-Serve g c = record {
+  runs = (
+    [],
+    [],
+    Consumes-nil (g.R.Read.remaining c.args.r.now),
+    Appends-nil (g.W.Write.contents c.args.w.now),
+    rw c.in-Serve.is (c.serve_storage.ensures.ends, refl, refl),
+  );
+}

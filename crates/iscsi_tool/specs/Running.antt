@@ -1,0 +1,103 @@
+-- How a run of the program ends, and with which exit status.
+use Rattle.std.specs.Prelude.{◌≡◌, ◌⊎◌, ℕ, true, List, [], Result, Ok, Err}
+use Rattle.iscsi_stream.specs.declared.fault.ToolFault.{ToolFault}
+use Rattle.iscsi_compare.specs.declared.verdict.Verdict.{Verdict}
+use Rattle.iscsi_compare.specs.declared.verdict.Verdict.TheVariants as verdict
+use Rattle.iscsi_service.specs.declared.fault.ServeFault.{ServeFault}
+use Rattle.iscsi_service.specs.Serving.{exit_status as session_status}
+use Rattle.iscsi_service.specs.Looping.{Loops}
+use Rattle.iscsi_tool.specs.declared.comparing.ComparisonFault.{ComparisonFault}
+use Rattle.iscsi_tool.specs.declared.filter.Filter.{Filter}
+use Rattle.iscsi_tool.specs.declared.filter.Work.TheVariants.{Normalise}
+use Rattle.iscsi_tool.specs.declared.running.Outcome.{Outcome}
+use Rattle.iscsi_tool.specs.declared.running.Outcome.TheVariants as outcome
+use Rattle.iscsi_tool.specs.declared.storage.ImageFault.{ImageFault}
+use Rattle.iscsi_tool.specs.declared.storage.Storage.{Storage}
+use Rattle.iscsi_tool.specs.declared.storage.Storage.TheVariants as storage
+use Rattle.iscsi_tool.specs.declared.words.Comparison.{Comparison}
+use Rattle.iscsi_tool.specs.declared.words.Job.{Job}
+use Rattle.iscsi_tool.specs.declared.words.Job.TheVariants as job
+use Rattle.iscsi_tool.specs.declared.words.LineFault.{LineFault}
+use Rattle.iscsi_tool.specs.declared.words.LineFault.TheVariants as line
+use Rattle.iscsi_tool.specs.Comparisons.{fault_status}
+use Rattle.iscsi_tool.specs.Filtering.{exit_status, Filters, IsJob}
+
+-- The exit status of words that ask for no job: 2, and 3 for memory.
+abbrev pub words_status : LineFault → ℕ
+words_status line.NoMemory = 3
+words_status (line.Usage text) = 2
+
+-- The exit status of an outcome: 0 if the job is done, 1 if two streams differ, else that of the
+-- fault.
+abbrev pub outcome_status : Outcome → ℕ
+outcome_status outcome.Done = 0
+outcome_status outcome.Differ = 1
+outcome_status (outcome.Words fault) = words_status fault
+outcome_status (outcome.Filter fault) = exit_status fault
+outcome_status (outcome.Session fault) = session_status fault
+outcome_status (outcome.Image image fault) = 4
+outcome_status (outcome.Comparison comparison fault) = fault_status fault
+
+-- The outcome of a filter.
+abbrev pub of_filter : Result (Unit {0}) ToolFault → Outcome
+of_filter (Ok done) = outcome.Done
+of_filter (Err fault) = outcome.Filter fault
+
+-- The outcome of a service or of a loop.
+abbrev pub of_session : Result (Unit {0}) ServeFault → Outcome
+of_session (Ok done) = outcome.Done
+of_session (Err fault) = outcome.Session fault
+
+-- The outcome of a comparison.
+abbrev pub of_comparison : Comparison → Result Verdict ComparisonFault → Outcome
+of_comparison comparison (Ok verdict.Same) = outcome.Done
+of_comparison comparison (Ok (verdict.Differ place other)) = outcome.Differ
+of_comparison comparison (Err fault) = outcome.Comparison comparison fault
+
+-- A filter ran, and that is how it ended.
+abbrev pub EndsFilter : Filter → Outcome → List ℕ → List ℕ → Type 0
+EndsFilter filter ends read written =
+    (said : Result (Unit {0}) ToolFault) × Filters filter said read written × (ends ≡ of_filter said)
+
+-- A loop ran, and that is how it ended.
+abbrev pub EndsLoop : Outcome → List ℕ → List ℕ → Type 0
+EndsLoop ends script written =
+    (said : Result (Unit {0}) ServeFault) × Loops said script written × (ends ≡ of_session said)
+
+-- A comparison ended so.
+abbrev pub EndsComparison : Comparison → Outcome → Type 0
+EndsComparison comparison ends =
+    (said : Result Verdict ComparisonFault) × (ends ≡ of_comparison comparison said)
+
+-- A service ended so: as its sessions did, or since this very image could not be served.
+abbrev pub EndsService : Storage → Outcome → Type 0
+EndsService (storage.Memory blocks) ends =
+    (said : Result (Unit {0}) ServeFault) × (ends ≡ of_session said)
+EndsService (storage.Image image) ends =
+    ((said : Result (Unit {0}) ServeFault) × (ends ≡ of_session said))
+    ⊎ ((fault : ImageFault) × (ends ≡ outcome.Image image fault))
+
+-- A job ended so, with this read from the standard input and this written to the standard output.
+-- A service touches neither by itself.
+abbrev pub Runs : Job → Outcome → List ℕ → List ℕ → Type 0
+Runs (job.Filter filter) ends read written = EndsFilter filter ends read written
+Runs (job.Serve storage service) ends read written =
+    EndsService storage ends × (read ≡ []) × (written ≡ [])
+Runs (job.Loop blocks piece) ends read written = EndsLoop ends read written
+Runs (job.Compare comparison) ends read written = EndsComparison comparison ends
+
+-- What the words ask for; with no words the hex text of a stream is normalised.
+abbrev pub AsksFor : {S : Type 0} → List S → Result Job LineFault → Type 0
+AsksFor words asked =
+    words ≡ [] → asked ≡ Ok (job.Filter (record { work = Normalise; hex = true }))
+
+-- What was asked for ended so: the job ran, or nothing was read and written.
+abbrev pub RunsAsked : Result Job LineFault → Outcome → List ℕ → List ℕ → Type 0
+RunsAsked (Ok asked) ends read written = IsJob asked × Runs asked ends read written
+RunsAsked (Err fault) ends read written =
+    (ends ≡ outcome.Words fault) × (read ≡ []) × (written ≡ [])
+
+-- A command line ended so.
+abbrev pub RunsWords : {S : Type 0} → List S → Outcome → List ℕ → List ℕ → Type 0
+RunsWords words ends read written =
+    (asked : Result Job LineFault) × AsksFor words asked × RunsAsked asked ends read written

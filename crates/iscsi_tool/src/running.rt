@@ -1,0 +1,327 @@
+//! The body of the program: it runs the job that words ask for. One file, since each job ends in
+//! one of the same outcomes.
+
+ghost use Rattle.std.specs.Prelude.{◌≡◌, ℕ, List};
+ghost use Rattle.std.specs.Io.KnownBytes.{Appends, Consumes};
+ghost use Rattle.iscsi_tool.specs.declared.running.Outcome.{Outcome};
+ghost use Rattle.iscsi_tool.specs.Filtering.{CanServe, IsJob};
+ghost use Rattle.iscsi_tool.specs.Storage.{IsStorage};
+ghost use Rattle.iscsi_tool.specs.Running.{EndsComparison, EndsService, Runs, RunsWords, of_comparison, of_filter, of_session, outcome_status};
+
+use crate::comparing::{ComparisonFault, compare_bytes, compare_hex};
+use crate::filter::{run_filter, status};
+use crate::storage::{Image, ImageFault, Storage};
+use crate::words::{Comparison, Job, LineFault, Service, read_words};
+use iscsi_compare::{Verdict, Which};
+use iscsi_server::serve_at_once;
+use iscsi_service::{ServeFault, run_loop, serve};
+use iscsi_stream::ToolFault;
+use scsi_disk::{BlockStore, SparseStore};
+use std::alloc::Global;
+use std::convert::AsStr;
+use std::io::{ErrorKind, Read, Write};
+use std::process::ExitCode;
+use std::{fs, io};
+
+/// The line for words that are not UTF-8.
+const NOT_UTF8: &str =
+    "error: the words are not all UTF-8\n\nFor more information, try '--help'.\n";
+
+/// The faults of a file that cannot be opened.
+const UNREAD_FIRST: ComparisonFault = ComparisonFault::Input(Which::First, ToolFault::Read);
+
+const UNREAD_SECOND: ComparisonFault = ComparisonFault::Input(Which::Second, ToolFault::Read);
+
+/// How a run of the program ends.
+#[derive(Debug, Drop)]
+pub enum Outcome<'a> {
+    /// The job is done. Two streams that were compared are the same.
+    Done,
+    /// The two streams differ.
+    Differ,
+    /// The words ask for no job, or for help.
+    Words(LineFault),
+    /// A filter stopped.
+    Filter(ToolFault),
+    /// A service or a loop stopped.
+    Session(ServeFault),
+    /// The image could not be served.
+    Image(Image<'a>, ImageFault),
+    /// A comparison stopped.
+    Comparison(Comparison<'a>, ComparisonFault),
+}
+
+impl Outcome<'_> {
+    /// The exit status: 0 if the job is done, 1 if input is refused or two streams differ, 2 for
+    /// words that ask for no job or for help, 3 for memory, and 4 for reading, writing, files and
+    /// the network.
+    pub fn status(&self) -> u8
+        ensures status { result ≡ outcome_status self.now }
+    {
+        match self {
+            Outcome::Done => 0,
+            Outcome::Differ => 1,
+            Outcome::Words(LineFault::Usage(_)) => 2,
+            Outcome::Words(LineFault::NoMemory) => 3,
+            Outcome::Filter(fault) => status(fault),
+            Outcome::Session(fault) => fault.status(),
+            Outcome::Image(_, fault) => fault.status(),
+            Outcome::Comparison(_, fault) => fault.status(),
+        }
+    }
+
+    // Writes what there is to say: the usage, or the fault's line. The line of a fault of an input
+    // or of an image names the file.
+    fn tell<E: Write>(&self, w: &mut E) -> io::Result<()> {
+        match self {
+            Outcome::Done | Outcome::Differ => Ok(()),
+            Outcome::Words(LineFault::NoMemory) => writeln!(w, "memory"),
+            Outcome::Words(LineFault::Usage(text)) => write!(w, "{text}"),
+            Outcome::Filter(fault) => writeln!(w, "{fault}"),
+            Outcome::Session(fault) => writeln!(w, "{fault}"),
+            Outcome::Image(image, fault) => {
+                let name = image.path;
+                writeln!(w, "{name}: {fault}")
+            }
+            Outcome::Comparison(comparison, fault) => tell_comparison(*comparison, *fault, w),
+        }
+    }
+}
+
+// Writes the line of a comparison that stopped.
+fn tell_comparison<E: Write>(
+    comparison: Comparison<'_>,
+    fault: ComparisonFault,
+    w: &mut E,
+) -> io::Result<()> {
+    match fault {
+        ComparisonFault::Input(Which::First, reason) => {
+            let name = comparison.first;
+            writeln!(w, "{name}: {reason}")
+        }
+        ComparisonFault::Input(Which::Second, reason) => {
+            let name = comparison.second.unwrap_or("standard input");
+            writeln!(w, "{name}: {reason}")
+        }
+        ComparisonFault::Own(reason) => writeln!(w, "{reason}"),
+    }
+}
+
+/// Runs the program: the words of the command line, over the standard streams. It ends as
+/// `run_words` does, and words that are not UTF-8 ask for no job.
+pub fn run_program(rt: &HostRuntime) -> ExitCode {
+    let mut errors = rt.stderr();
+    match words_of(rt) {
+        Ok(words) => {
+            let mut input = rt.stdin();
+            let mut output = rt.stdout();
+            let words = words.as_slice();
+            ExitCode::from(run_words(rt, words, &mut input, &mut output, &mut errors))
+        }
+        Err(fault) => ExitCode::from(concluded(&Outcome::Words(fault), &mut errors)),
+    }
+}
+
+// The words of the command line, without the program's name.
+fn words_of(rt: &HostRuntime) -> Result<Vec<String>, LineFault> {
+    let alloc = rt.alloc();
+    let words = match std::env::args(rt) {
+        Ok(words) => words,
+        Err(error) => return Err(unread_words(alloc, &error)),
+    };
+    Ok(words.skip(1).collect(alloc)?)
+}
+
+// Why there are no words to judge: memory ran out, or one of them is not UTF-8.
+fn unread_words(alloc: Global, error: &io::Error) -> LineFault {
+    if matches!(error.kind(), ErrorKind::OutOfMemory) {
+        return LineFault::NoMemory;
+    }
+    match String::from_str(alloc, NOT_UTF8) {
+        Ok(text) => LineFault::Usage(text),
+        Err(_) => LineFault::NoMemory,
+    }
+}
+
+/// Runs the job that words ask for, from a reader to a writer, and returns the exit status. The
+/// lines of faults, usage and help go to the third stream; a write there that fails changes
+/// nothing.
+///
+/// A service prints `listening`, and the lines of its sessions' faults, to the standard streams of
+/// the process. Files are those of the process, too.
+pub fn run_words<S: AsStr, R: Read, W: Write, E: Write>(
+    rt: &HostRuntime,
+    words: &[S],
+    r: &mut R,
+    w: &mut W,
+    errors: &mut E,
+) -> u8
+    // The status is that of the outcome of the job that the words ask for.
+    ensures runs { (outcome : Outcome) × (read : List ℕ) × (written : List ℕ)
+        × Consumes (R.remaining r.old) (R.remaining r.new) read
+        × Appends (W.contents w.old) (W.contents w.new) written
+        × RunsWords words.now outcome read written
+        × (result ≡ outcome_status outcome) }
+{
+    let outcome = run(rt, words, r, w);
+    concluded(&outcome, errors)
+}
+
+// Tells an outcome, and returns its status.
+fn concluded<E: Write>(outcome: &Outcome<'_>, errors: &mut E) -> u8
+    ensures status { result ≡ outcome_status outcome.now }
+{
+    let _ = outcome.tell(errors);
+    outcome.status()
+}
+
+// How the run of a command line ends.
+#[tactic(auto, using(crate::proofs::RunningLemmas::reads_nothing, crate::proofs::RunningLemmas::writes_nothing))]
+fn run<'a, S: AsStr, R: Read, W: Write>(
+    rt: &HostRuntime,
+    words: &'a [S],
+    r: &mut R,
+    w: &mut W,
+) -> Outcome<'a>
+    ensures runs { (read : List ℕ) × (written : List ℕ)
+        × Consumes (R.remaining r.old) (R.remaining r.new) read
+        × Appends (W.contents w.old) (W.contents w.new) written
+        × RunsWords words.now result read written }
+{
+    match read_words(rt.alloc(), words) {
+        Ok(job) => run_job(rt, job, r, w),
+        Err(fault) => Outcome::Words(fault),
+    }
+}
+
+// How a job ends.
+#[tactic(auto, using(crate::proofs::RunningLemmas::reads_nothing, crate::proofs::RunningLemmas::writes_nothing))]
+fn run_job<'a, R: Read, W: Write>(
+    rt: &HostRuntime,
+    job: Job<'a>,
+    r: &mut R,
+    w: &mut W,
+) -> Outcome<'a>
+    requires job { IsJob job }
+    ensures runs { (read : List ℕ) × (written : List ℕ)
+        × Consumes (R.remaining r.old) (R.remaining r.new) read
+        × Appends (W.contents w.old) (W.contents w.new) written
+        × Runs job.entry result read written }
+{
+    match job {
+        Job::Filter(filter) => filtered(run_filter(rt.alloc(), filter, r, w)),
+        Job::Serve { storage, service } => serve_storage(rt, storage, service),
+        Job::Loop { blocks, piece } => ended(run_loop(rt, blocks, piece, r, w)),
+        Job::Compare(comparison) => compare(rt, comparison, r, w),
+    }
+}
+
+// The outcome of a filter.
+fn filtered<'a>(said: Result<(), ToolFault>) -> Outcome<'a>
+    ensures outcome { result ≡ of_filter said }
+{
+    match said {
+        Ok(()) => Outcome::Done,
+        Err(fault) => Outcome::Filter(fault),
+    }
+}
+
+// The outcome of a run over sockets.
+fn ended<'a>(said: Result<(), ServeFault>) -> Outcome<'a>
+    ensures outcome { result ≡ of_session said }
+{
+    match said {
+        Ok(()) => Outcome::Done,
+        Err(fault) => Outcome::Session(fault),
+    }
+}
+
+// The outcome of a comparison.
+fn compared(comparison: Comparison<'_>, said: Result<Verdict, ComparisonFault>) -> Outcome<'_>
+    ensures outcome { result ≡ of_comparison comparison.entry said }
+{
+    match said {
+        Ok(Verdict::Same) => Outcome::Done,
+        Ok(Verdict::Differ { .. }) => Outcome::Differ,
+        Err(fault) => Outcome::Comparison(comparison, fault),
+    }
+}
+
+// Serves a disk, over what it is kept in.
+fn serve_storage<'a>(rt: &HostRuntime, storage: Storage<'a>, service: Service<'_>) -> Outcome<'a>
+    requires storage { IsStorage storage }
+    requires service { CanServe service }
+    ensures ends { EndsService storage.entry result }
+{
+    match storage {
+        Storage::Memory { blocks } => {
+            let mut store = SparseStore::new(rt.alloc(), blocks);
+            ended(serve_store(rt, service, &mut store))
+        }
+        Storage::Image(image) => match image.open(rt) {
+            Ok(mut store) => ended(serve_store(rt, service, &mut store)),
+            Err(fault) => Outcome::Image(image, fault),
+        },
+    }
+}
+
+// Serves a store.
+fn serve_store<S: BlockStore>(
+    rt: &HostRuntime,
+    service: Service<'_>,
+    store: &mut S,
+) -> Result<(), ServeFault>
+    requires service { CanServe service }
+{
+    match service {
+        Service::InTurn { port, sessions } => serve(rt, port, store, sessions),
+        Service::AtOnce(options) => serve_at_once(rt, options, store),
+    }
+}
+
+// Compares a file with another one, or with what a reader gives.
+#[tactic(auto, using(crate::proofs::RunningLemmas::reads_nothing, crate::proofs::RunningLemmas::writes_nothing))]
+fn compare<'a, R: Read, W: Write>(
+    rt: &HostRuntime,
+    comparison: Comparison<'a>,
+    r: &mut R,
+    w: &mut W,
+) -> Outcome<'a>
+    ensures ends { (read : List ℕ) × (written : List ℕ)
+        × Consumes (R.remaining r.old) (R.remaining r.new) read
+        × Appends (W.contents w.old) (W.contents w.new) written
+        × EndsComparison comparison.entry result }
+{
+    let alloc = rt.alloc();
+    let Ok(mut first) = fs::open(rt, comparison.first) else {
+        return compared(comparison, Err(UNREAD_FIRST));
+    };
+    let Some(name) = comparison.second else {
+        return compare_with(alloc, comparison, &mut first, r, w);
+    };
+    let Ok(mut second) = fs::open(rt, name) else {
+        return compared(comparison, Err(UNREAD_SECOND));
+    };
+    compare_with(alloc, comparison, &mut first, &mut second, w)
+}
+
+// Compares two readers, as is asked.
+fn compare_with<'a, R: Read, Q: Read, W: Write>(
+    alloc: Global,
+    comparison: Comparison<'a>,
+    first: &mut R,
+    second: &mut Q,
+    w: &mut W,
+) -> Outcome<'a>
+    ensures ends { (read : List ℕ) × (written : List ℕ)
+        × Consumes (Q.remaining second.old) (Q.remaining second.new) read
+        × Appends (W.contents w.old) (W.contents w.new) written
+        × EndsComparison comparison.entry result }
+{
+    let sameness = comparison.sameness;
+    if comparison.hex {
+        compared(comparison, compare_hex(alloc, sameness, first, second, w))
+    } else {
+        compared(comparison, compare_bytes(alloc, sameness, first, second, w))
+    }
+}
