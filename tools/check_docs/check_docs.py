@@ -12,7 +12,8 @@ It looks at:
   words of `show`; the text keys against both specs/Key.antt; the copy of the page that crates/format_tables holds
   against the code in the gate (rt ci takes no link in the place of a file);
 - the figures of docs/TRUST.md: they are those that tools/reach counts;
-- wrong bodies, in the gate and beside it: each old text stands in its file once.
+- wrong bodies, in the gate and beside it: each old text stands in its file once;
+- src/asserts.rt of the test crates: what several of them have is one text.
 
 Each fault is a line. The last line is 'N looked at, M not so'; the status is 1 where M is not 0.
 """
@@ -127,7 +128,7 @@ def check_claims():
                 named = here or re.search(rf"\b(struct|enum|trait) {call}\b", text)
                 look(named, where, f"no {call} in {', '.join(files)}")
                 found += here
-        for clause in re.findall(r"`([a-z_]+)`", re.split(r", with|, over|; of", cells[3])[0]):
+        for clause in re.findall(r"`([a-z_]+)`", re.split(r", with|, over|; of", " ".join(cells[3:]))[0]):
             look(re.search(rf"ensures\*? {clause} ", "\n".join(found)), where, f"no clause {clause}")
 
 
@@ -236,8 +237,8 @@ def check_keys():
 # ---- figures
 
 def check_figures():
-    tables = subprocess.run([sys.executable, TOP / "tools/reach/reach.py"], capture_output=True, text=True).stdout.strip()
-    look(tables and tables in read("docs/TRUST.md"), "docs/TRUST.md", "its figures are old: tools/reach/reach.py --write")
+    counted = subprocess.run([sys.executable, TOP / "tools/reach/reach.py", "--check"], capture_output=True, text=True)
+    look(counted.returncode == 0, "tools/reach", counted.stderr.strip())
 
 
 # ---- wrong bodies
@@ -259,6 +260,20 @@ def check_edits():
                     texts[path] = texts[path].replace(old, rest)
 
 
+# ---- what tests assert
+
+def check_asserts():
+    """A function that stands in the asserts.rt of several test crates stands there alike; so does the page's first line."""
+    first, paths = {}, sorted(CRATES.glob("*_tests/src/asserts.rt"))
+    for path in paths:
+        text = path.read_text(encoding="utf8")
+        for part in [text.split("\n", 1)[0], *re.findall(r"^///.*?^}$", text, re.M | re.S)]:
+            name = re.search(r"fn (\w+)", part)
+            key = name[1] if name else "the first line"
+            known = first.setdefault(key, (path, part))
+            look(part == known[1], path.relative_to(TOP), f"{key} is not as in {known[0].relative_to(TOP)}")
+
+
 def main():
     pages = [TOP / "README.md", TOP / "CONTRIBUTING.md"]
     for pattern in ("docs/**/*.md", "crates/*/README.md", "crates/*/proofs/README.md", "tools/**/*.md"):
@@ -272,6 +287,7 @@ def main():
     check_keys()
     check_figures()
     check_edits()
+    check_asserts()
     for fault in faults:
         print(fault)
     print(f"{looked_at} looked at, {len(faults)} not so")

@@ -422,14 +422,14 @@ def taken_away(program, room):
 
 
 def cut(program, room):
-    """The file is cut by someone else: reads behind its end fail, the others don't, and the service goes on."""
+    """The file is cut by someone else: reads behind its end fail, and so does each write. Other reads don't, and the service goes on."""
     image = f"{room}/image"
     with Service(program, image, *create()) as service:
         seen = qemu(service.url, "write -P 1 6M 4M")
         os.truncate(image, 8 * MIB + 100)
-        seen += qemu(service.url, "read -P 1 6M 2M", "read 8M 512", "read 7M 2M", "read 12M 1M", "read -P 1 7M 1M")
+        seen += qemu(service.url, "read -P 1 6M 2M", "read 8M 512", "read 7M 2M", "read 12M 1M", "read -P 1 7M 1M", "write 9M 512")
         seen.append(service.is_there())
-    return seen == [True, True, FAILED, FAILED, FAILED, True, True] or seen
+    return seen == [True, True, FAILED, FAILED, FAILED, True, FAILED, True] or seen
 
 
 def calls_of(program, room, commands, count):

@@ -165,6 +165,8 @@ ROWS = [
     Row("an address that is none", [*SERVE, "--at-once", "1", "--listen", "localhost"], says=b"'--listen <ADDR>' is", status=2),
     Row("a name that is none", [*SERVE, "--at-once", "1", "--name", "a b"], says=b"'--name <IQN>' has", status=2),
     Row("no time", [*SERVE, "--at-once", "1", "--idle", "0"], says=b"'--idle <S>' is a number from 1 to 65535", status=2),
+    Row("a short segment", [*SERVE, "--at-once", "1", "--segment", "511"], says=b"'--segment <N>' is a number", status=2),
+    Row("a first burst over the burst", [*SERVE, "--at-once", "1", "--burst", "1024", "--first-burst", "1025"], says=b"'--first-burst <N>' is a number", status=2),
     Row("too much time", [*SERVE, "--at-once", "1", "--login-within", "65536"], says=b"'--login-within <S>' is a number", status=2),
     Row("a time limit without --at-once", [*SERVE, "--idle", "1"], says=b"--at-once", status=2),
     Row("a port to print without --at-once", [*SERVE, "--print-port"], says=b"--at-once", status=2),

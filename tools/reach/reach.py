@@ -2,7 +2,8 @@
 """Tells which definitions each part of the headline reaches: the text that has to be believed for it.
 
     tools/reach/reach.py            prints the tables
-    tools/reach/reach.py --write    puts them into docs/TRUST.md, between its two marks
+    tools/reach/reach.py --write    puts them into docs/TRUST.md, each between its two marks
+    tools/reach/reach.py --check    says which of them the page does not hold; the status is 1 if there is one
 
 It begins at a clause of a public function (PARTS), and follows the names that stand in it: through the imports of the
 file to the definitions of `specs/` and to the types of the code that these speak of, and from each to the names in its
@@ -20,19 +21,25 @@ from pathlib import Path
 
 TOP = Path(__file__).resolve().parents[2]
 PAGE = TOP / "docs/TRUST.md"
-BEGIN = "<!-- written by tools/reach/reach.py --write: begin -->"
-END = "<!-- written by tools/reach/reach.py --write: end -->"
+MARK = "<!-- written by tools/reach/reach.py --write: {} {} -->"
 
 
 @dataclass(frozen=True)
 class Part:
-    """A clause of the headline. Of a law, whose contract is one theorem, all clauses are looked at."""
+    """A clause that is looked at. Of a law, whose contract is one theorem, all clauses are.
+
+    `says` is the sentence of the headline that the clause is, if it is one. A definition that is `unread` is counted
+    and not followed: the headline holds whatever function it is. `model` names the type whose value the clause compares.
+    """
 
     title: str
     crate: str
     function: str
     clause: str | None = None
     owner: str | None = None
+    unread: tuple[str, ...] = ()
+    model: str | None = None
+    says: str | None = None
 
     def __str__(self):
         owner = f"{self.owner}::" if self.owner else "laws::" if self.clause is None else ""
@@ -41,8 +48,24 @@ class Part:
 
 
 PARTS = [
-    Part("normalise", "iscsi_stream", "normalise", "writes"),
-    Part("feed", "iscsi_target", "feed", "fed", owner="Target"),
+    Part("normalise", "iscsi_stream", "normalise", "ok",
+         says="`normalise` writes the canonical stream of what it read"),
+    Part("its faults", "iscsi_stream", "normalise", "fault",
+         says="a fault comes where its cause is, after all that was due before it"),
+    Part("one meaning", "iscsi_stream", "have_one_meaning", "same",
+         says="`have_one_meaning` says yes exactly if two streams have one meaning"),
+    Part("compare", "iscsi_compare", "compare", "same",
+         says="`compare`, which holds one PDU of each, says that two streams are the same only if they have one meaning"),
+    Part("served alike", "iscsi_service", "serve_stream", "answered", unread=("answers_from",),
+         says="what the program answers and stores depends on settings, blocks and meaning alone"),
+    Part("alike", "iscsi_target", "answers_alike", "alike",
+         says="a target answers two streams of one meaning with the same bytes and holds the same blocks"),
+    Part("params", "iscsi_pair", "params", "equal", owner="Pair", model="Params",
+         says="two ends that have completed login hold equal values, over every schedule"),
+    Part("outcomes", "iscsi_pair", "outcomes_over", "on_disk",
+         says="the outcomes of such a pair are those of one local disk, over every schedule"),
+    Part("feed", "iscsi_target", "feed", "fed", owner="Target", model="Target"),
+    Part("served", "iscsi_service", "serve_stream", "answered"),
     Part("canonical form", "iscsi_target", "canonical_form"),
     Part("login", "iscsi_pair", "login_agreement"),
     Part("one disk", "iscsi_pair", "one_local_disk"),
@@ -137,11 +160,14 @@ def contract_of(text, part):
     return "\n".join(clauses)
 
 
-def value_of_model(text, owner):
-    """What a contract sees of a value of this type."""
-    found = re.search(rf"impl Model for {owner} {{", text)
-    block = text[found.end() - 1:braced(text, found.end() - 1)]
-    return re.search(r"ghost Value = ({[^}]*})", block)[1]
+def value_of_model(model):
+    """What a contract sees of a value of this type: the file of its `impl Model`, and the value there."""
+    for path in sorted(TOP.glob("crates/*/src/**/*.rt")):
+        text = without_comments(path.read_text())
+        if found := re.search(rf"impl Model for {model} {{", text):
+            block = text[found.end() - 1:braced(text, found.end() - 1)]
+            return str(path.relative_to(TOP)), re.search(r"ghost Value = ({[^}]*})", block)[1]
+    sys.exit(f"reach: no model of {model}")
 
 
 # ---- following names
@@ -236,8 +262,9 @@ def reach(workspace, part):
     if len(files) != 1:
         sys.exit(f"reach: not one function of this name: {part}")
     source = without_comments(files[0].read_text())
-    text = contract_of(source, part) + (value_of_model(source, part.owner) if part.owner else "")
-    waiting = [(str(files[0].relative_to(TOP)), text)]
+    waiting = [(str(files[0].relative_to(TOP)), contract_of(source, part))]
+    if part.model:
+        waiting.append(value_of_model(part.model))
     reached, modules = set(), set()
     while waiting:
         file, text = waiting.pop()
@@ -246,7 +273,8 @@ def reach(workspace, part):
                 modules.add(one)
             elif one and one not in reached:
                 reached.add(one)
-                waiting.append((one.file, one.text))
+                if one.name not in part.unread:
+                    waiting.append((one.file, one.text))
     return reached, modules
 
 
@@ -278,11 +306,24 @@ def lines_by_file(definitions):
     return lines
 
 
+def defined_in(reached):
+    return [one for one in reached if "/specs/" in one.file]
+
+
+def headline(reaches):
+    """The lines of definitions that each sentence of the headline takes."""
+    yield row(["The headline says", "Clause", "Lines"])
+    yield row(["---"] * 3)
+    for part, (reached, _) in zip(PARTS, reaches):
+        if part.says:
+            yield row([part.says, part, sum(one.lines for one in defined_in(reached))])
+
+
 def summary(reaches):
     yield row(["Column", "Clause", "Definitions", "Lines", "In files", "Types of the code", "Lines", "Toolchain's modules"])
     yield row(["---"] * 8)
     for part, (reached, modules) in zip(PARTS, reaches):
-        specs = [one for one in reached if "/specs/" in one.file]
+        specs = defined_in(reached)
         types = [one for one in reached if "/src/" in one.file]
         yield row([
             part.title, part, len(specs), sum(one.lines for one in specs), len({one.file for one in specs}),
@@ -309,19 +350,32 @@ def others(workspace, reaches):
     yield f"No part reaches: {', '.join(map(shown, files))}."
 
 
+def written(page, name, table):
+    """The page with this table between the marks of its name."""
+    begin, end = (MARK.format(name, side) for side in ("begin", "end"))
+    before, rest = page.split(begin)
+    return f"{before}{begin}\n\n{table}\n\n{end}{rest.split(end)[1]}"
+
+
 def main():
     parser = argparse.ArgumentParser(description="Which definitions each part of the headline reaches.")
-    parser.add_argument("--write", action="store_true", help="put the tables into docs/TRUST.md")
-    write = parser.parse_args().write
+    choice = parser.add_mutually_exclusive_group()
+    choice.add_argument("--write", action="store_true", help="put the tables into docs/TRUST.md")
+    choice.add_argument("--check", action="store_true", help="fail if docs/TRUST.md does not hold the tables")
+    asked = parser.parse_args()
     workspace = Workspace()
     reaches = [reach(workspace, part) for part in PARTS]
+    first = "\n".join(headline(reaches))
     tables = "\n".join([*summary(reaches), "", *matrix(workspace, reaches), "", *others(workspace, reaches)])
-    if not write:
-        print(tables)
+    if not asked.write and not asked.check:
+        print(f"{first}\n\n{tables}")
         return
-    before, rest = PAGE.read_text().split(BEGIN)
-    after = rest.split(END)[1]
-    PAGE.write_text(f"{before}{BEGIN}\n\n{tables}\n\n{END}{after}")
+    old = PAGE.read_text()
+    new = written(written(old, "headline", first), "tables", tables)
+    if asked.write:
+        PAGE.write_text(new)
+    elif new != old:
+        sys.exit("docs/TRUST.md: its figures are old: tools/reach/reach.py --write")
 
 
 if __name__ == "__main__":

@@ -59,13 +59,18 @@ SCRIPT = b"""\
 tur 0
 inquiry 0 36
 capacity
+capacity16
 luns
 write 0 200 5a
+sync 0 0
 read 0 200
 read 2048 1
 ping 6162
 logout
 """
+
+# Two blocks in two extents of the sparse store, which are read back, and two past the end of its 130.
+EXTENTS = b"write 63 2 5a\nread 62 4\nread 129 2\nlogout\n"
 
 
 def refusing(fail_at, fail_from=0):
@@ -137,6 +142,43 @@ def of_hex(path):
 
 def unquoted(literal):
     return re.sub(r"\\\n\s*", "", literal).replace("\\n", "\n")
+
+
+STRING = r'"((?:[^"\\]|\\.)*)"'
+
+
+def rows_of(path, name, row):
+    """What a row's pattern finds in each row of a constant table of a test; none may be left out."""
+    text = open(f"{TOP}/crates/{path}").read()
+    table = re.search(rf"^const {name}: .*?= &?\[\n(.*?)^\];", text, re.M | re.S)[1]
+    found = re.findall(rf"^    \(\s*{row},", table, re.M | re.S)
+    if len(found) != len(re.findall(r"^    \(", table, re.M)):
+        sys.exit(f"{path} has rows of {name} that are not understood")
+    return found
+
+
+def constants(path):
+    """The text of each constant of a test that is one string, by its name."""
+    return dict(re.findall(rf"^const (\w+): &[^=]*=\s*b?{STRING};", open(f"{TOP}/crates/{path}").read(), re.M | re.S))
+
+
+def scripts():
+    """The name, the number of blocks and the script of each loop of the tests."""
+    path = "iscsi_service_tests/src/tests/loops.rt"
+    for name, script, word in rows_of(path, "SCRIPTS", rf"{STRING},\s*(?:{STRING}|(\w+))"):
+        yield name, "2048", unquoted(constants(path)[word] if word else script).encode()
+    for name, blocks, script in rows_of(path, "DISKS", rf"{STRING},\s*([\d_]+),\s*{STRING}"):
+        yield name, blocks.replace("_", ""), unquoted(script).encode()
+
+
+def texts():
+    """The name and the bytes of each text of the tests: those that have a canonical form, and those that have none."""
+    path = "iscsi_text_tests/src/tests/text.rt"
+    rows = rows_of(path, "CANONICAL", rf"{STRING},\s*(?:b{STRING}|(\w+))")
+    rows += [("a fault", text, word) for text, word in rows_of(path, "FAULTS", rf"(?:b{STRING}|(\w+))")]
+    for name, text, word in rows:
+        literal = constants(path)[word] if word else text
+        yield name, re.sub(r"\\\n\s*", "", literal).encode().decode("unicode_escape").encode("latin1")
 
 
 def pdu(line):
@@ -343,7 +385,12 @@ def main():
         (["normalise", "--text"], b"A=1"), (["serve"], b""), (["loop", "--blocks", "2048", "--piece", "4096"], SCRIPT),
         (["loop", "--blocks", "8", "--piece", "48"], b"tur 0\nread 0\n"),
     ]
+    cases.append((["loop", "--blocks", "130", "--piece", "4096"], EXTENTS))
     failed = sum(sweep(" ".join(words), words, data) for words, data in cases)
+    for name, blocks, script in scripts():
+        failed += sweep(f"loop, {name}", ["loop", "--blocks", blocks, "--piece", "4096"], script)
+    for name, text in texts():
+        failed += sweep(f"normalise --text, {name}", ["normalise", "--text"], text)
     failed += comparisons(session)
     answer = ["answer", "--blocks", "2048"]
     for name, came, stops, due, status in dialogues():

@@ -1,0 +1,231 @@
+#!/usr/bin/env python3
+"""Does to a service of several sessions what strangers and errors of the system may do, and looks whether the others go on.
+
+    tools/strangers/run.py [PROGRAM]
+
+PROGRAM is crates/lanthovur/out/lanthovur if none is named; `./lanthovur </dev/null` builds it. All is done on 127.0.0.1. Errors
+of calls are put in by strace (Debian: strace), limits are set by prlimit. Each row begins with two sessions that are logged in,
+and ends with pings of both and a login of a third. The last line is 'N passed, M failed'. It takes a minute.
+"""
+import os
+import shutil
+import signal
+import socket
+import subprocess
+import sys
+import tempfile
+import time
+
+TOP = os.path.dirname(os.path.dirname(os.path.dirname(os.path.abspath(__file__))))
+# A peer that waits longer for an answer has none.
+SECONDS = 5
+NAME = "iqn.2026-01.example:disk"
+
+# Errors of accept4 that a connection brings with it, and those that say that the system has no room.
+OF_A_CONNECTION = [
+    "ECONNABORTED", "EPROTO", "ENETDOWN", "ENOPROTOOPT", "EHOSTDOWN", "ENONET", "EHOSTUNREACH", "EOPNOTSUPP", "ENETUNREACH",
+    "EPERM", "EINTR",
+]
+NO_ROOM = ["EMFILE", "ENFILE", "ENOBUFS", "ENOMEM"]
+NO_ROOM_LINE = b"accept failed: nobody is accepted until a seat is free or a second is over\n"
+
+
+def number(n):
+    return n.to_bytes(4, "big")
+
+
+def pdu(opcode, data=b"", **fields):
+    """A PDU of this opcode and data segment; a field is named by its first byte, as p16."""
+    header = bytearray(48)
+    header[0] = opcode
+    header[5:8] = len(data).to_bytes(3, "big")
+    for place, value in fields.items():
+        at = int(place[1:])
+        header[at:at + len(value)] = value
+    return bytes(header) + data + bytes(-len(data) % 4)
+
+
+# An immediate NOP-Out with task tag 7, which a target answers with a NOP-In of 48 bytes.
+PING = pdu(0x40, p1=b"\x80", p16=number(7), p20=number(0xFFFFFFFF), p24=number(1))
+
+
+def connect(port):
+    return socket.create_connection(("127.0.0.1", port), timeout=SECONDS)
+
+
+def login(port, initiator):
+    """A session of this initiator, in full feature phase."""
+    peer = connect(port)
+    text = f"InitiatorName={initiator}\0TargetName={NAME}\0"
+    peer.sendall(pdu(0x43, text.encode(), p1=b"\x87", p24=number(1)))
+    answer = peer.recv(4096)
+    if answer[:1] != b"\x23" or answer[36:38] != b"\0\0":
+        raise OSError("no login")
+    return peer
+
+
+class Service:
+    """A service of 64 sessions at a time, started by these words, such as those of strace, before the program's own."""
+
+    def __init__(self, program, *words, before=()):
+        with socket.create_server(("127.0.0.1", 0)) as other:
+            self.port = other.getsockname()[1]
+        words = ["serve", "--port", str(self.port), "--sessions", "9999", "--at-once", "64", *words]
+        pipe = subprocess.PIPE
+        self.process = subprocess.Popen([*before, program, *words], stdin=subprocess.DEVNULL, stdout=pipe, stderr=pipe,
+                                        start_new_session=True)
+        if self.process.stdout.readline() != b"listening\n":
+            raise OSError(f"the service did not start: {self.process.stderr.read()}")
+        self.peers = [self.login("iqn.2026-01.example:a"), self.login("iqn.2026-01.example:b")]
+
+    def __enter__(self):
+        return self
+
+    def __exit__(self, *_):
+        self.lines()
+
+    def connect(self):
+        return connect(self.port)
+
+    def login(self, initiator):
+        return login(self.port, initiator)
+
+    def pid(self):
+        """The program's own process, which strace and prlimit may have started."""
+        children = open(f"/proc/{self.process.pid}/task/{self.process.pid}/children").read().split()
+        return int(children[0]) if children else self.process.pid
+
+    def lines(self):
+        """Ends the service, and returns its lines on standard error."""
+        if self.process.poll() is None:
+            os.killpg(self.process.pid, signal.SIGKILL)
+        return self.process.communicate()[1]
+
+
+def ping(peer):
+    """Whether a ping is answered."""
+    peer.sendall(PING)
+    return len(peer.recv(48)) == 48
+
+
+def goes_on(service):
+    """Whether both sessions are answered, and a third one can log in."""
+    third = service.login("iqn.2026-01.example:c")
+    return all(ping(peer) for peer in [*service.peers, third])
+
+
+def injected(call, error, when):
+    """The words of strace by which a call fails once."""
+    return ["strace", "-qq", "-f", "-o", "/dev/null", "-e", f"trace={call}", "-e", f"inject={call}:error={error}:when={when}"]
+
+
+def fails_to_accept(program, error, lines):
+    # The first two connections are those of the sessions; some kernels' accept is called once more for each.
+    for when in range(3, 6):
+        with Service(program, "--blocks", "8", before=injected("accept4", error, when)) as service:
+            stranger = service.connect()
+            time.sleep(0.2)
+            well = goes_on(service)
+            stranger.close()
+            if not well or service.lines() not in lines:
+                return False
+    return True
+
+
+def fails_to_watch(program, error):
+    # The first calls watch the listener and the two sessions.
+    with Service(program, "--blocks", "8", before=injected("epoll_ctl", error, 4)) as service:
+        stranger = service.connect()
+        closed = stranger.recv(1) == b""
+        return closed and goes_on(service)
+
+
+def has_few_descriptors(program):
+    with Service(program, "--blocks", "8", before=["prlimit", "--nofile=32", "--"]) as service:
+        strangers = []
+        for _ in range(60):
+            strangers.append(service.connect())
+            if not all(ping(peer) for peer in service.peers):
+                return False
+        for stranger in strangers:
+            stranger.close()
+        time.sleep(1.5)
+        return goes_on(service) and service.lines().count(NO_ROOM_LINE) >= 1
+
+
+def has_silent_strangers(program):
+    with Service(program, "--blocks", "8") as service:
+        for peer in service.peers:
+            peer.close()
+        time.sleep(0.2)
+        silent = [service.connect() for _ in range(64)]
+        time.sleep(0.2)
+        peer = service.login("iqn.2026-01.example:c")
+        return ping(peer) and silent[0].recv(1) == b"" and service.lines() == b"session: made room\n"
+
+
+def write(peer, block):
+    """The status of a write of one block, the first command of a session, and the code of its sense."""
+    cdb = b"\x2a\0" + number(block) + b"\0\0\1\0"
+    peer.sendall(pdu(0x01, b"w" * 512, p1=b"\xa1", p16=number(1), p20=number(512), p24=number(1), p32=cdb))
+    answer = peer.recv(4096)
+    return answer[3], answer[62:64]
+
+
+def has_a_limit_of_file_sizes(program):
+    with tempfile.TemporaryDirectory() as folder:
+        image = os.path.join(folder, "disk.img")
+        with open(image, "wb") as file:
+            file.truncate(1 << 20)
+        shell = ["bash", "-c", "trap '' XFSZ; ulimit -f 512; exec \"$0\" \"$@\""]
+        with Service(program, "--file", image, before=shell) as service:
+            refused = write(service.peers[0], 1500) == (2, b"\x0c\0")
+            return refused and write(service.peers[1], 3)[0] == 0 and goes_on(service)
+
+
+def has_urgent_data(program):
+    with Service(program, "--blocks", "8") as service:
+        peer, pid = service.peers[0], service.pid()
+        os.kill(pid, signal.SIGSTOP)
+        peer.send(PING)
+        peer.send(b"!", socket.MSG_OOB)
+        peer.send(PING)
+        time.sleep(0.2)
+        os.kill(pid, signal.SIGCONT)
+        answers = b""
+        while len(answers) < 96:
+            answers += peer.recv(96)
+        return goes_on(service)
+
+
+ROWS = [
+    *((f"accept: {error}", lambda program, error=error: fails_to_accept(program, error, [b""])) for error in OF_A_CONNECTION),
+    *((f"accept: {error}", lambda program, error=error: fails_to_accept(program, error, [NO_ROOM_LINE])) for error in NO_ROOM),
+    *((f"epoll_ctl: {error}", lambda program, error=error: fails_to_watch(program, error)) for error in ["ENOSPC", "ENOMEM"]),
+    ("a limit of 32 descriptors", has_few_descriptors),
+    ("64 silent connections", has_silent_strangers),
+    ("a limit of file sizes", has_a_limit_of_file_sizes),
+    ("urgent data", has_urgent_data),
+]
+
+
+def main():
+    program = os.path.abspath(sys.argv[1]) if len(sys.argv) > 1 else f"{TOP}/crates/lanthovur/out/lanthovur"
+    for tool in ["strace", "prlimit"]:
+        if not shutil.which(tool):
+            sys.exit(f"{tool} is not installed")
+    failed = 0
+    for name, row in ROWS:
+        try:
+            well, why = row(program), ""
+        except OSError as error:
+            well, why = False, f" ({error})"
+        if not well:
+            failed += 1
+            print(f"FAILED {name}{why}")
+    print(f"{len(ROWS) - failed} passed, {failed} failed")
+    sys.exit(1 if failed else 0)
+
+
+if __name__ == "__main__":
+    main()
