@@ -69,6 +69,11 @@ ping 6162
 logout
 """
 
+# A SCSI Data-In with status, whose residual count and counters stand where the table has reserved bytes.
+DATA_IN = bytes.fromhex(
+    "25860002 00000000 00000000 00000000 00000003 ffffffff 00000009 00000006 00000006 00000000 00000000 00000007"
+)
+
 # Two blocks in two extents of the sparse store, which are read back, and two past the end of its 130.
 EXTENTS = b"write 63 2 5a\nread 62 4\nread 129 2\nlogout\n"
 
@@ -181,8 +186,17 @@ def texts():
         yield name, re.sub(r"\\\n\s*", "", literal).encode().decode("unicode_escape").encode("latin1")
 
 
+def named_lines():
+    """The lines that have a name, by it."""
+    path = "iscsi_examples/src/logins.rt"
+    found = constants(path)
+    return {name: found[word] for name, word in re.findall(r'"(\w+)" => Some\((\w+)\)', open(f"{TOP}/crates/{path}").read())}
+
+
 def pdu(line):
-    """The PDU of a line of a dialogue, as crates/iscsi_target_tests/src/tests/rows.rt says it."""
+    """The PDU of a line of a dialogue, as crates/iscsi_examples/src/line.rt says it."""
+    if line.startswith("@"):
+        line = named_lines()[line[1:]]
     header, segment = bytes.fromhex(line[:107]), line[107:].strip()
     if segment.startswith("'"):
         text, _, more = segment[1:].partition("+")
@@ -234,6 +248,14 @@ def dialogues():
                 status = 1
             last = line
         yield name, came, stops, due, status
+
+
+def logged_out():
+    """What comes in the session of iscsi_service_tests that logs in and out, the lengths at which its answers may stop, and
+    the answers."""
+    found = constants("iscsi_service_tests/src/tests/serving.rt")
+    came, due = ([pdu(line) for line in unquoted(found[name]).split("\n")] for name in ("LOGOUT", "LOGOUT_ANSWERS"))
+    return b"".join(came), {len(b"".join(due[:count])) for count in range(len(due))}, b"".join(due)
 
 
 def is_well(ended, ample, was_refused, stops):
@@ -385,7 +407,7 @@ def main():
         (["normalise", "--text"], b"A=1"), (["serve"], b""), (["loop", "--blocks", "2048", "--piece", "4096"], SCRIPT),
         (["loop", "--blocks", "8", "--piece", "48"], b"tur 0\nread 0\n"),
     ]
-    cases.append((["loop", "--blocks", "130", "--piece", "4096"], EXTENTS))
+    cases += [(["loop", "--blocks", "130", "--piece", "4096"], EXTENTS), (["normalise"], DATA_IN), (["show"], DATA_IN)]
     failed = sum(sweep(" ".join(words), words, data) for words, data in cases)
     for name, blocks, script in scripts():
         failed += sweep(f"loop, {name}", ["loop", "--blocks", blocks, "--piece", "4096"], script)
@@ -402,6 +424,11 @@ def main():
             failed += sweep(f"answer --hex, {name}", [*answer, "--hex"], came.hex().encode(), {2 * stop for stop in stops})
             failed += sweep(f"serve, {name}", ["serve", "--blocks", "2048", "--sessions", "1"], came, stops, run_service)
     named = {name: (came, due, stops) for name, came, stops, due, _ in dialogues()}
+    came, stops, due = logged_out()
+    if run_service(["serve", "--blocks", "1", "--sessions", "1"], came)[0] != (0, due, b""):
+        failed += 1
+        print("serve, a login and a logout: not the answers of the test")
+    failed += sweep("serve, a login and a logout", ["serve", "--blocks", "1", "--sessions", "1"], came, stops, run_service)
     failed += company([named["login"], named["reads back a write"]])
     failed += kept_buffer(ping)
     print(f"{failed} runs of the program ended wrongly")

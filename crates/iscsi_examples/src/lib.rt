@@ -6,8 +6,10 @@ mod failing;
 mod line;
 mod logins;
 mod session;
+mod turn;
 
 pub use failing::{Broken, Full, SURE, Sink, Source, Steps};
 pub use line::{LineFault, append_pdu, bytes_of, marked, pdus_of, segment_of};
 pub use logins::{CUT, FIRST_ANSWER, NAMELESS, PING, REFUSAL};
 pub use session::SESSION;
+pub use turn::Turn;

@@ -1,10 +1,13 @@
 //! PDUs as lines of text.
 //!
 //! A line has the header in hex, in twelve words of four bytes, and what the segment has, without
-//! padding: nothing; words of hex, of which `5a*512` stands for so many of a byte; or behind an
-//! apostrophe a text, in which `|` stands for a byte 00 and `~` for a byte ff. A shorter line is
-//! the front of a header.
+//! padding. That is nothing; or words of hex, of which `5a*512` stands for so many of a byte; or
+//! behind an apostrophe a text, in which `|` stands for a byte 00 and `~` for a byte ff, and `+500`
+//! at the end for so many keys that no end knows; or `@` for the standard text of the operational
+//! stage. A shorter line is the front of a header. A line such as `@login` stands for a PDU that
+//! many sessions have.
 
+use crate::logins::{OPERATIONAL, named};
 use hex::FromHexError;
 use std::alloc::{AllocError, Global};
 use std::num::ParseIntError;
@@ -22,9 +25,12 @@ pub enum LineFault {
     /// A word is not hex.
     #[error("not hex")]
     NotHex,
-    /// What stands before or behind a `*` is no number.
+    /// What stands before or behind a `*`, or behind a `+` or a `#`, is no number.
     #[error("no number")]
     NoNumber,
+    /// No line has the name behind an `@`, or no line of a dialogue has this mark.
+    #[error("no such line")]
+    NoSuchLine,
 }
 
 impl From<AllocError> for LineFault {
@@ -81,13 +87,34 @@ fn append_text(text: &str, out: &mut Vec<u8>) -> Result<(), AllocError> {
     Ok(())
 }
 
+// Appends so many keys that no end knows.
+fn append_keys(count: u16, out: &mut Vec<u8>) -> Result<(), AllocError> {
+    let alloc = *out.allocator();
+    for number in 0..count {
+        let key = format!(in alloc; "K{number:03}=1|")?;
+        append_text(&key, out)?;
+    }
+    Ok(())
+}
+
+// The bytes of a text, and of as many keys more as it says.
+fn text_of(alloc: Global, text: &str) -> Result<Vec<u8>, LineFault> {
+    let mut out = Vec::new(alloc);
+    let (front, more) = text.split_once('+').unwrap_or((text, "0"));
+    append_text(front, &mut out)?;
+    append_keys(more.parse::<u16>()?, &mut out)?;
+    Ok(out)
+}
+
 /// The bytes of a segment, without padding.
 pub fn segment_of(alloc: Global, segment: &str) -> Result<Vec<u8>, LineFault> {
-    let mut out = Vec::new(alloc);
-    if let Some(text) = segment.strip_prefix('\'') {
-        append_text(text, &mut out)?;
-        return Ok(out);
+    if segment == "@" {
+        return text_of(alloc, OPERATIONAL);
     }
+    if let Some(text) = segment.strip_prefix('\'') {
+        return text_of(alloc, text);
+    }
+    let mut out = Vec::new(alloc);
     for word in segment.split(' ') {
         out.extend_from_slice(&word_of(alloc, word)?)?;
     }
@@ -106,6 +133,14 @@ fn padding_of(len: usize) -> &'static [u8] {
 
 /// Appends the PDU of a line: header, segment and padding.
 pub fn append_pdu(line: &str, out: &mut Vec<u8>) -> Result<(), LineFault> {
+    let Some(name) = line.strip_prefix('@') else {
+        return append_words(line, out);
+    };
+    append_words(named(name).ok_or(LineFault::NoSuchLine)?, out)
+}
+
+// Appends the PDU of a line that has no name.
+fn append_words(line: &str, out: &mut Vec<u8>) -> Result<(), LineFault> {
     let alloc = *out.allocator();
     let (header, segment) = line.split_at_checked(HEADER).unwrap_or((line, ""));
     let bytes = segment_of(alloc, segment.trim())?;

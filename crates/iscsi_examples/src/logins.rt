@@ -1,14 +1,37 @@
 //! First requests of a login, and what the target of the programs answers: worked out by hand from
 //! RFC 7143, section 11, a line for each PDU.
 
+/// The first request of a login in two: `@login`.
+const LOGIN: &str =
+    "43810000 0000006e 40000001 00000000 00000000 00000000 00000001 00000000 00000000 00000000 00000000 00000000 'AuthMethod=None|InitiatorName=iqn.2026-01.example:host|SessionType=Normal|TargetName=iqn.2026-01.example:disk|";
+
+/// The answer to that request, by the target of the programs: `@answer`.
+const ANSWER: &str =
+    "23810000 00000027 40000001 00000000 00000000 00000000 00000001 00000001 00000008 00000000 00000000 00000000 'AuthMethod=None|TargetPortalGroupTag=1|";
+
+/// The only request of a login in one stage: `@short`.
+const SHORT: &str =
+    "43870000 0000006e 40000001 00000000 00000000 00000000 00000001 00000000 00000000 00000000 00000000 00000000 'AuthMethod=None|InitiatorName=iqn.2026-01.example:host|SessionType=Normal|TargetName=iqn.2026-01.example:disk|";
+
+/// The standard text of the operational stage.
+pub(crate) const OPERATIONAL: &str =
+    "DataDigest=None|DataPDUInOrder=Yes|DataSequenceInOrder=Yes|DefaultTime2Retain=20|DefaultTime2Wait=2|ErrorRecoveryLevel=0|FirstBurstLength=65536|HeaderDigest=None|ImmediateData=Yes|InitialR2T=No|MaxBurstLength=262144|MaxConnections=1|MaxOutstandingR2T=1|MaxRecvDataSegmentLength=8192|";
+
+/// The line of this name.
+pub(crate) fn named(name: &str) -> Option<&'static str> {
+    match name {
+        "login" => Some(LOGIN),
+        "answer" => Some(ANSWER),
+        "short" => Some(SHORT),
+        _ => None,
+    }
+}
+
 /// The first request of a login, and the first bytes of another.
-pub const CUT: &str =
-    "43810000 0000006e 40000001 00000000 00000000 00000000 00000001 00000000 00000000 00000000 00000000 00000000 'AuthMethod=None|InitiatorName=iqn.2026-01.example:host|SessionType=Normal|TargetName=iqn.2026-01.example:disk|\n\
-    4387";
+pub const CUT: &str = "@login\n4387";
 
 /// The answer to that request, by the target of the programs.
-pub const FIRST_ANSWER: &str =
-    "23810000 00000027 40000001 00000000 00000000 00000000 00000001 00000001 00000008 00000000 00000000 00000000 'AuthMethod=None|TargetPortalGroupTag=1|";
+pub const FIRST_ANSWER: &str = "@answer";
 
 /// A first request without the initiator's name, and a ping.
 pub const NAMELESS: &str =

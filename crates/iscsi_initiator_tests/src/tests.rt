@@ -2,7 +2,7 @@
 
 use crate::asserts::same;
 use hex::FromHex;
-use iscsi_examples::{append_pdu, segment_of};
+use iscsi_examples::segment_of;
 use iscsi_initiator::{Config, Initiator, InitiatorFault, Request};
 use iscsi_login::{Auth, ConfigFault, Offers, Phase, Preferences, Session, Stage};
 use scsi_cdb::Bytes;
@@ -96,18 +96,6 @@ fn initiator_of(rt: &impl Abort, alloc: Global, setup: &str) -> Box<Initiator> {
     same(rt, &SETUPS.contains(&setup), &true, &setup);
     let config = config_of(alloc, setup).expect(rt, setup);
     Box::new(alloc, Initiator::new(alloc, config)).expect(rt, "an initiator")
-}
-
-// The PDU of a line of a dialogue, behind its mark: header, segment and padding. `@` stands for the
-// standard text.
-fn pdu_of(rt: &impl Abort, alloc: Global, line: &str, out: &mut Vec<u8>) {
-    let Some(header) = line.strip_suffix('@') else {
-        append_pdu(line, out).expect(rt, line);
-        return;
-    };
-    let text = preludes::SECOND;
-    let whole = format!(in alloc; "{header}{text}").expect(rt, "text");
-    append_pdu(&whole, out).expect(rt, line);
 }
 
 // The data of a request.

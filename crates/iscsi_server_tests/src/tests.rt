@@ -18,8 +18,7 @@ const BLOCKS: u64 = 8;
 const MOST_TURNS: usize = 1000;
 
 // A login in one request, with its answers in the first and in the second session: TSIH 1 and 2.
-const LOGIN: &str =
-    "43870000 0000006e 40000001 00000000 00000000 00000000 00000001 00000000 00000000 00000000 00000000 00000000 'AuthMethod=None|InitiatorName=iqn.2026-01.example:host|SessionType=Normal|TargetName=iqn.2026-01.example:disk|";
+const LOGIN: &str = "@short";
 
 const LOGIN_1: &str =
     "23870000 00000045 40000001 00000001 00000000 00000000 00000001 00000001 00000008 00000000 00000000 00000000 'AuthMethod=None|MaxRecvDataSegmentLength=8192|TargetPortalGroupTag=1|";

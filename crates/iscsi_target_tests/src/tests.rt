@@ -1,6 +1,5 @@
 //! A target by example.
 
-use iscsi_examples::append_pdu;
 use iscsi_login::{Phase, Preferences};
 use iscsi_target::{Config, Target, TargetFault};
 use scsi_disk::BlockStore;
@@ -27,27 +26,6 @@ fn target_of(rt: &impl Abort, alloc: Global) -> Box<Target> {
 fn target_with(rt: &impl Abort, alloc: Global, preferences: Preferences) -> Box<Target> {
     let config = Config::new(alloc, NAME, 1, 1, preferences).expect(rt, "a configuration");
     Box::new(alloc, Target::new(alloc, config, 1)).expect(rt, "a target")
-}
-
-// Appends so many keys.
-fn append_keys(rt: &impl Abort, alloc: Global, count: u16, text: &mut String) {
-    for number in 0..count {
-        let key = format!(in alloc; "K{number:03}=1|").expect(rt, "a key");
-        text.push_str(&key).expect(rt, "a key");
-    }
-}
-
-// The PDU of a line of a dialogue, behind its mark: header, segment and padding. Its text has as many keys
-// more as it says behind a `+`.
-fn pdu_of(rt: &impl Abort, alloc: Global, line: &str, out: &mut Vec<u8>) {
-    let Some((front, more)) = line.split_once('+') else {
-        append_pdu(line, out).expect(rt, line);
-        return;
-    };
-    let mut longer = String::from_str(alloc, front).expect(rt, "a line");
-    let count = more.parse::<u16>().expect(rt, more);
-    append_keys(rt, alloc, count, &mut longer);
-    append_pdu(&longer, out).expect(rt, line);
 }
 
 // Feeds what comes in a turn one PDU at a time, and gives the last answer.

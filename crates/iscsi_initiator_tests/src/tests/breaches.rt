@@ -317,7 +317,7 @@ pub const BREACHES: &str = "# standard, logged in: a reject\n\
     ? closed, full\n\
     # standard, nothing: the end within the login\n\
     ! start\n\
-    I> 43810000 0000006e 40000001 00000000 00000000 00000000 00000001 00000000 00000000 00000000 00000000 00000000 'AuthMethod=None|InitiatorName=iqn.2026-01.example:host|SessionType=Normal|TargetName=iqn.2026-01.example:disk|\n\
+    I> @login\n\
     = ok\n\
     T> 23810000 00000027 40000001 00000000 00000000 00000000 00000001 00000001 00000001 00000000 00000000 00000000\n\
     = login\n\

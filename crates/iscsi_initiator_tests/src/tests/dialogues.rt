@@ -13,9 +13,9 @@ use super::logins::LOGINS;
 use super::preludes::BURSTS;
 use super::requests::REQUESTS;
 use super::words::{answer_of, outcome_of, phase_of, place_of, submit_of};
-use super::{feed_pieces, initiator_of, lines_before, pdu_of, request_of};
+use super::{feed_pieces, initiator_of, lines_before, request_of};
 use crate::asserts::same;
-use iscsi_examples::{SESSION, append_pdu, segment_of};
+use iscsi_examples::{SESSION, Turn, append_pdu};
 use iscsi_initiator::{Initiator, InitiatorFault};
 use iscsi_login::{Answered, NegKey, Phase};
 use std::alloc::Global;
@@ -62,7 +62,7 @@ fn answer_to_call(
     match turn.call.as_str() {
         "start" => initiator.start(out)?,
         "finish" => initiator.finish()?,
-        _ => return Ok(phase_of(feed_pieces(initiator, &turn.came, len, out)?)),
+        _ => return Ok(phase_of(feed_pieces(initiator, &turn.target, len, out)?)),
     }
     Ok("ok")
 }
@@ -87,39 +87,6 @@ fn answer_to(
     }
 }
 
-/// A call, the bytes that come before its answer, and those that are due with it.
-#[derive(Drop)]
-struct Turn {
-    call: String,
-    came: Vec<u8>,
-    want: Vec<u8>,
-}
-
-impl Turn {
-    // A turn of no line.
-    fn new(alloc: Global) -> Turn {
-        Turn {
-            call: String::new(alloc),
-            came: Vec::new(alloc),
-            want: Vec::new(alloc),
-        }
-    }
-
-    // Takes a line with `!`, `T>`, `I>` or `:`.
-    fn take(&mut self, rt: &impl Abort, alloc: Global, mark: &str, rest: &str) {
-        match mark {
-            "!" => self.call.push_str(rest).expect(rt, "a call"),
-            "T>" => pdu_of(rt, alloc, rest, &mut self.came),
-            "I>" => pdu_of(rt, alloc, rest, &mut self.want),
-            ":" => {
-                let bytes = segment_of(alloc, rest).expect(rt, rest);
-                self.want.extend_from_slice(&bytes).expect(rt, "bytes");
-            }
-            _ => panic!(rt; "no such line"),
-        }
-    }
-}
-
 // Compares what a session answers, whose stream comes in pieces of this length.
 fn check_answer(
     rt: &impl Abort,
@@ -134,7 +101,7 @@ fn check_answer(
     let answer = answer_to(rt, alloc, initiator, turn, len, &mut out);
     let row = (name, len, turn.call.as_str(), want);
     same(rt, &answer.as_str(), &want, &row);
-    same(rt, &out, &turn.want, &row);
+    same(rt, &out, &turn.initiator, &row);
 }
 
 // Compares the phase and the stage of a session.
@@ -161,11 +128,10 @@ fn check(
                 check_answer(rt, alloc, name, len, initiator, &turn, rest);
                 turn = Turn::new(alloc);
             }
-            _ => turn.take(rt, alloc, mark, rest),
+            _ => turn.take(mark, rest).expect(rt, line),
         }
     }
-    let left = (turn.call.as_str(), turn.came.len(), turn.want.len());
-    same(rt, &left, &("", 0, 0), &name);
+    same(rt, &turn.is_empty(), &true, &name);
 }
 
 // Goes through a session in pieces of each length. Its first line says how it is configured, what goes

@@ -5,10 +5,10 @@
 pub const LOGINS: &str = "# standard, nothing: from the security stage\n\
     ? login, security\n\
     ! start\n\
-    I> 43810000 0000006e 40000001 00000000 00000000 00000000 00000001 00000000 00000000 00000000 00000000 00000000 'AuthMethod=None|InitiatorName=iqn.2026-01.example:host|SessionType=Normal|TargetName=iqn.2026-01.example:disk|\n\
+    I> @login\n\
     = ok\n\
     ? login, security\n\
-    T> 23810000 00000027 40000001 00000000 00000000 00000000 00000001 00000001 00000008 00000000 00000000 00000000 'AuthMethod=None|TargetPortalGroupTag=1|\n\
+    T> @answer\n\
     I> 43870000 0000011b 40000001 00000000 00000000 00000000 00000001 00000002 00000000 00000000 00000000 00000000 @\n\
     = login\n\
     ? login, operational\n\
@@ -56,7 +56,7 @@ pub const LOGINS: &str = "# standard, nothing: from the security stage\n\
     ? full, full\n\
     # standard, nothing: refused as not found\n\
     ! start\n\
-    I> 43810000 0000006e 40000001 00000000 00000000 00000000 00000001 00000000 00000000 00000000 00000000 00000000 'AuthMethod=None|InitiatorName=iqn.2026-01.example:host|SessionType=Normal|TargetName=iqn.2026-01.example:disk|\n\
+    I> @login\n\
     = ok\n\
     T> 23000000 00000000 40000001 00000000 00000000 00000000 00000000 00000001 00000001 02030000 00000000 00000000\n\
     = failed, login refused: 0203\n\
@@ -115,7 +115,7 @@ pub const LOGINS: &str = "# standard, nothing: from the security stage\n\
     = was closed\n\
     # standard, nothing: chap\n\
     ! start\n\
-    I> 43810000 0000006e 40000001 00000000 00000000 00000000 00000001 00000000 00000000 00000000 00000000 00000000 'AuthMethod=None|InitiatorName=iqn.2026-01.example:host|SessionType=Normal|TargetName=iqn.2026-01.example:disk|\n\
+    I> @login\n\
     = ok\n\
     T> 23810000 00000027 40000001 00000000 00000000 00000000 00000001 00000001 00000001 00000000 00000000 00000000 'AuthMethod=CHAP|TargetPortalGroupTag=1|\n\
     = failed, bad answer: AuthMethod\n\
@@ -132,7 +132,7 @@ pub const LOGINS: &str = "# standard, nothing: from the security stage\n\
     = failed, protocol: rule 6\n\
     # standard, nothing: any first status number\n\
     ! start\n\
-    I> 43810000 0000006e 40000001 00000000 00000000 00000000 00000001 00000000 00000000 00000000 00000000 00000000 'AuthMethod=None|InitiatorName=iqn.2026-01.example:host|SessionType=Normal|TargetName=iqn.2026-01.example:disk|\n\
+    I> @login\n\
     = ok\n\
     T> 23810000 00000027 40000001 00000000 00000000 00000000 ffffffff 00000001 00000001 00000000 00000000 00000000 'AuthMethod=None|TargetPortalGroupTag=1|\n\
     I> 43870000 0000011b 40000001 00000000 00000000 00000000 00000001 00000000 00000000 00000000 00000000 00000000 @\n\
@@ -145,20 +145,20 @@ pub const LOGINS: &str = "# standard, nothing: from the security stage\n\
     ? closed, operational\n\
     # standard, nothing: a step too far\n\
     ! start\n\
-    I> 43810000 0000006e 40000001 00000000 00000000 00000000 00000001 00000000 00000000 00000000 00000000 00000000 'AuthMethod=None|InitiatorName=iqn.2026-01.example:host|SessionType=Normal|TargetName=iqn.2026-01.example:disk|\n\
+    I> @login\n\
     = ok\n\
     T> 23830000 00000027 40000001 00000001 00000000 00000000 00000001 00000001 00000001 00000000 00000000 00000000 'AuthMethod=None|TargetPortalGroupTag=1|\n\
     = failed, protocol: rule 7\n\
     ? closed, security\n\
     # standard, nothing: no step\n\
     ! start\n\
-    I> 43810000 0000006e 40000001 00000000 00000000 00000000 00000001 00000000 00000000 00000000 00000000 00000000 'AuthMethod=None|InitiatorName=iqn.2026-01.example:host|SessionType=Normal|TargetName=iqn.2026-01.example:disk|\n\
+    I> @login\n\
     = ok\n\
     T> 23000000 00000027 40000001 00000000 00000000 00000000 00000001 00000001 00000001 00000000 00000000 00000000 'AuthMethod=None|TargetPortalGroupTag=1|\n\
     = failed, protocol: rule 7\n\
     # standard, nothing: the answer goes on\n\
     ! start\n\
-    I> 43810000 0000006e 40000001 00000000 00000000 00000000 00000001 00000000 00000000 00000000 00000000 00000000 'AuthMethod=None|InitiatorName=iqn.2026-01.example:host|SessionType=Normal|TargetName=iqn.2026-01.example:disk|\n\
+    I> @login\n\
     = ok\n\
     T> 23400000 00000027 40000001 00000000 00000000 00000000 00000001 00000001 00000001 00000000 00000000 00000000 'AuthMethod=None|TargetPortalGroupTag=1|\n\
     = failed, protocol: rule 7\n\
@@ -185,7 +185,7 @@ pub const LOGINS: &str = "# standard, nothing: from the security stage\n\
     = failed, closed\n\
     # standard, nothing: a second start\n\
     ! start\n\
-    I> 43810000 0000006e 40000001 00000000 00000000 00000000 00000001 00000000 00000000 00000000 00000000 00000000 'AuthMethod=None|InitiatorName=iqn.2026-01.example:host|SessionType=Normal|TargetName=iqn.2026-01.example:disk|\n\
+    I> @login\n\
     = ok\n\
     ! start\n\
     = failed, protocol: rule 1\n\
@@ -196,13 +196,13 @@ pub const LOGINS: &str = "# standard, nothing: from the security stage\n\
     ? closed, full\n\
     # standard, nothing: an answer to another task\n\
     ! start\n\
-    I> 43810000 0000006e 40000001 00000000 00000000 00000000 00000001 00000000 00000000 00000000 00000000 00000000 'AuthMethod=None|InitiatorName=iqn.2026-01.example:host|SessionType=Normal|TargetName=iqn.2026-01.example:disk|\n\
+    I> @login\n\
     = ok\n\
     T> 23810000 00000027 40000001 00000000 00000001 00000000 00000001 00000001 00000001 00000000 00000000 00000000 'AuthMethod=None|TargetPortalGroupTag=1|\n\
     = failed, protocol: rule 1\n\
     # standard, nothing: a reject in the login\n\
     ! start\n\
-    I> 43810000 0000006e 40000001 00000000 00000000 00000000 00000001 00000000 00000000 00000000 00000000 00000000 'AuthMethod=None|InitiatorName=iqn.2026-01.example:host|SessionType=Normal|TargetName=iqn.2026-01.example:disk|\n\
+    I> @login\n\
     = ok\n\
     T> 3f800400 00000000 00000000 00000000 ffffffff 00000000 00000001 00000001 00000001 00000000 00000000 00000000\n\
     = failed, protocol: rule 1\n\
@@ -212,7 +212,7 @@ pub const LOGINS: &str = "# standard, nothing: from the security stage\n\
     ! ping 'abc\n\
     = not ready\n\
     ! start\n\
-    I> 43810000 0000006e 40000001 00000000 00000000 00000000 00000001 00000000 00000000 00000000 00000000 00000000 'AuthMethod=None|InitiatorName=iqn.2026-01.example:host|SessionType=Normal|TargetName=iqn.2026-01.example:disk|\n\
+    I> @login\n\
     = ok\n\
     ! in 0000000000000000 28000000000000000100000000000000 512\n\
     = not ready\n\

@@ -10,8 +10,7 @@ use std::io::Write;
 use std::process::Abort;
 
 // A login in one stage.
-const LOGIN: &str =
-    "43870000 0000006e 40000001 00000000 00000000 00000000 00000001 00000000 00000000 00000000 00000000 00000000 'AuthMethod=None|InitiatorName=iqn.2026-01.example:host|SessionType=Normal|TargetName=iqn.2026-01.example:disk|";
+const LOGIN: &str = "@short";
 
 // Writes of block 3 and of block 4: the header, and the byte that the block is full of.
 const WRITES: &[(&str, u8)] = &[

@@ -1,8 +1,9 @@
 //! A PDU and its canonical form are answered alike, also where a byte of its header is another one.
 
 use super::rows::LOGIN;
-use super::{pdu_of, target_of};
+use super::target_of;
 use crate::asserts::same;
+use iscsi_examples::{marked, pdus_of};
 use iscsi_login::Phase;
 use iscsi_stream::normalise;
 use iscsi_target::TargetFault;
@@ -107,28 +108,10 @@ fn count_at(rt: &impl Abort, alloc: Global, login: &[u8], pdu: &mut [u8], place:
     count
 }
 
-// The bytes of a PDU.
-fn bytes_of(rt: &impl Abort, alloc: Global, line: &str) -> Vec<u8> {
-    let mut bytes = Vec::new(alloc);
-    pdu_of(rt, alloc, line, &mut bytes);
-    bytes
-}
-
-// What the initiator sends in the login of the dialogues.
-fn login_of(rt: &impl Abort, alloc: Global) -> Vec<u8> {
-    let mut login = Vec::new(alloc);
-    for line in LOGIN.lines() {
-        if let Some(line) = line.strip_prefix("I> ") {
-            pdu_of(rt, alloc, line, &mut login);
-        }
-    }
-    login
-}
-
 // A PDU whose header is changed so is answered as its canonical form, wherever it has one.
 fn check_changes(rt: &impl Abort, alloc: Global, line: &str, want: u64) {
-    let login = login_of(rt, alloc);
-    let mut pdu = bytes_of(rt, alloc, line);
+    let login = marked(alloc, LOGIN, "I> ").expect(rt, "a login");
+    let mut pdu = pdus_of(alloc, line).expect(rt, line);
     let mut count = 0u64;
     for place in 0..48usize {
         count = count.saturating_add(count_at(rt, alloc, &login, &mut pdu, place));

@@ -5,23 +5,15 @@ use super::queues::{
     WAITING_WRITES, WINDOWS,
 };
 use super::rows::{Dialogue, FAILING, FAILING_PARTS, LOGIN, LOGINS, LONG, REQUESTS, SHORT, WRITES};
-use super::{BY_PDU, feed_pieces, pdu_of, target_of, target_with};
+use super::{BY_PDU, feed_pieces, target_of, target_with};
 use crate::asserts::same;
-use iscsi_examples::{SESSION, append_pdu};
+use iscsi_examples::{SESSION, Turn, append_pdu};
 use iscsi_login::{Phase, Preferences, Session, Stage};
 use iscsi_stream::StreamFault;
 use iscsi_target::{Target, TargetFault};
 use scsi_disk::{BlockStore, FailAt, MemoryStore, SparseStore};
 use std::alloc::Global;
 use std::process::Abort;
-
-/// What comes before an answer, what is sent, and how many blocks are written then, where it is said.
-#[derive(Drop)]
-struct Turn {
-    came: Vec<u8>,
-    want: Vec<u8>,
-    written: Option<u16>,
-}
 
 // What a call answers, as a line of a dialogue says it.
 fn answer_of(rt: &impl Abort, words: &str) -> Result<Phase, TargetFault> {
@@ -34,27 +26,6 @@ fn answer_of(rt: &impl Abort, words: &str) -> Result<Phase, TargetFault> {
         "closed" => Ok(Phase::Closed),
         "was closed" => Err(TargetFault::Closed),
         _ => panic!(rt; "no such answer"),
-    }
-}
-
-impl Turn {
-    // A turn of no line.
-    fn new(alloc: Global) -> Turn {
-        Turn {
-            came: Vec::new(alloc),
-            want: Vec::new(alloc),
-            written: None,
-        }
-    }
-
-    // Takes a line with `I>`, `T>` or `#`.
-    fn take(&mut self, rt: &impl Abort, alloc: Global, mark: &str, rest: &str) {
-        match mark {
-            "I>" => pdu_of(rt, alloc, rest, &mut self.came),
-            "T>" => pdu_of(rt, alloc, rest, &mut self.want),
-            "#" => self.written = Some(rest.parse::<u16>().expect(rt, rest)),
-            _ => panic!(rt; "no such line"),
-        }
     }
 }
 
@@ -93,8 +64,8 @@ fn check_turn<S: BlockStore>(
     row: (&str, usize, usize),
 ) {
     let mut out = Vec::new(alloc);
-    let result = feed_pieces(target, &turn.came, row.1, store, &mut out);
-    same(rt, &out, &turn.want, &row);
+    let result = feed_pieces(target, &turn.initiator, row.1, store, &mut out);
+    same(rt, &out, &turn.target, &row);
     same(rt, &result, &answer, &row);
     if let Some(written) = turn.written {
         check_disk(rt, store, written);
@@ -119,11 +90,10 @@ fn check<S: BlockStore>(
             check_turn(rt, alloc, target, store, &turn, answer, (name, len, at));
             turn = Turn::new(alloc);
         } else {
-            turn.take(rt, alloc, mark, rest);
+            turn.take(mark, rest).expect(rt, line);
         }
     }
-    let left = (turn.came.len(), turn.want.len());
-    same(rt, &left, &(0, 0), &"no answer at the end");
+    same(rt, &turn.is_empty(), &true, &"no answer at the end");
 }
 
 // Goes through a session behind the login, whose stream comes in pieces of this length.

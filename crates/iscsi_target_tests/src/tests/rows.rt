@@ -13,9 +13,8 @@
 pub type Dialogue = (&'static str, bool, &'static str);
 
 /// The login before the other sessions.
-pub const LOGIN: &str =
-    "I> 43810000 0000006e 40000001 00000000 00000000 00000000 00000001 00000000 00000000 00000000 00000000 00000000 'AuthMethod=None|InitiatorName=iqn.2026-01.example:host|SessionType=Normal|TargetName=iqn.2026-01.example:disk|\n\
-    T> 23810000 00000027 40000001 00000000 00000000 00000000 00000001 00000001 00000008 00000000 00000000 00000000 'AuthMethod=None|TargetPortalGroupTag=1|\n\
+pub const LOGIN: &str = "I> @login\n\
+    T> @answer\n\
     = login\n\
     I> 43870000 0000006e 40000001 00000000 00000000 00000000 00000001 00000002 00000000 00000000 00000000 00000000 'HeaderDigest=CRC32C,None|IFMarker=No|InitialR2T=No|MaxBurstLength=1024|MaxRecvDataSegmentLength=4096|X-test=1|\n\
     T> 23870000 00000073 40000001 00000001 00000000 00000000 00000002 00000001 00000008 00000000 00000000 00000000 'HeaderDigest=None|IFMarker=No|InitialR2T=No|MaxBurstLength=1024|MaxRecvDataSegmentLength=8192|X-test=NotUnderstood|\n\
@@ -158,8 +157,8 @@ pub const LOGINS: &[Dialogue] = &[
     (
         "given again",
         true,
-        "I> 43810000 0000006e 40000001 00000000 00000000 00000000 00000001 00000000 00000000 00000000 00000000 00000000 'AuthMethod=None|InitiatorName=iqn.2026-01.example:host|SessionType=Normal|TargetName=iqn.2026-01.example:disk|\n\
-        T> 23810000 00000027 40000001 00000000 00000000 00000000 00000001 00000001 00000008 00000000 00000000 00000000 'AuthMethod=None|TargetPortalGroupTag=1|\n\
+        "I> @login\n\
+        T> @answer\n\
         = login\n\
         I> 43870000 00000010 40000001 00000000 00000000 00000000 00000001 00000002 00000000 00000000 00000000 00000000 'AuthMethod=None|\n\
         T> 23040000 00000000 40000001 00000000 00000000 00000000 00000000 00000001 00000008 02000000 00000000 00000000\n\
@@ -174,8 +173,8 @@ pub const LOGINS: &[Dialogue] = &[
     (
         "a login with all keys",
         true,
-        "I> 43810000 0000006e 40000001 00000000 00000000 00000000 00000001 00000000 00000000 00000000 00000000 00000000 'AuthMethod=None|InitiatorName=iqn.2026-01.example:host|SessionType=Normal|TargetName=iqn.2026-01.example:disk|\n\
-        T> 23810000 00000027 40000001 00000000 00000000 00000000 00000001 00000001 00000008 00000000 00000000 00000000 'AuthMethod=None|TargetPortalGroupTag=1|\n\
+        "I> @login\n\
+        T> @answer\n\
         = login\n\
         I> 43870000 0000011b 40000001 00000000 00000000 00000000 00000001 00000002 00000000 00000000 00000000 00000000 'DataDigest=None|DataPDUInOrder=Yes|DataSequenceInOrder=Yes|DefaultTime2Retain=20|DefaultTime2Wait=2|ErrorRecoveryLevel=0|FirstBurstLength=65536|HeaderDigest=None|ImmediateData=Yes|InitialR2T=No|MaxBurstLength=262144|MaxConnections=1|MaxOutstandingR2T=1|MaxRecvDataSegmentLength=8192|\n\
         T> 23870000 0000011b 40000001 00000001 00000000 00000000 00000002 00000001 00000008 00000000 00000000 00000000 'DataDigest=None|DataPDUInOrder=Yes|DataSequenceInOrder=Yes|DefaultTime2Retain=20|DefaultTime2Wait=2|ErrorRecoveryLevel=0|FirstBurstLength=65536|HeaderDigest=None|ImmediateData=Yes|InitialR2T=No|MaxBurstLength=262144|MaxConnections=1|MaxOutstandingR2T=1|MaxRecvDataSegmentLength=8192|\n\
@@ -213,8 +212,8 @@ pub const REQUESTS: &[Dialogue] = &[
     (
         "a read in segments of no whole blocks",
         true,
-        "I> 43810000 0000006e 40000001 00000000 00000000 00000000 00000001 00000000 00000000 00000000 00000000 00000000 'AuthMethod=None|InitiatorName=iqn.2026-01.example:host|SessionType=Normal|TargetName=iqn.2026-01.example:disk|\n\
-        T> 23810000 00000027 40000001 00000000 00000000 00000000 00000001 00000001 00000008 00000000 00000000 00000000 'AuthMethod=None|TargetPortalGroupTag=1|\n\
+        "I> @login\n\
+        T> @answer\n\
         = login\n\
         I> 43870000 0000006d 40000001 00000000 00000000 00000000 00000001 00000002 00000000 00000000 00000000 00000000 'HeaderDigest=CRC32C,None|IFMarker=No|InitialR2T=No|MaxBurstLength=1024|MaxRecvDataSegmentLength=600|X-test=1|\n\
         T> 23870000 00000073 40000001 00000001 00000000 00000000 00000002 00000001 00000008 00000000 00000000 00000000 'HeaderDigest=None|IFMarker=No|InitialR2T=No|MaxBurstLength=1024|MaxRecvDataSegmentLength=8192|X-test=NotUnderstood|\n\
@@ -562,8 +561,8 @@ pub const FAILING_PARTS: &[(u64, Dialogue)] = &[(
 pub const SHORT: &[Dialogue] = &[(
     "a segment of 512 bytes, and one of 513",
     true,
-    "I> 43810000 0000006e 40000001 00000000 00000000 00000000 00000001 00000000 00000000 00000000 00000000 00000000 'AuthMethod=None|InitiatorName=iqn.2026-01.example:host|SessionType=Normal|TargetName=iqn.2026-01.example:disk|\n\
-        T> 23810000 00000027 40000001 00000000 00000000 00000000 00000001 00000001 00000008 00000000 00000000 00000000 'AuthMethod=None|TargetPortalGroupTag=1|\n\
+    "I> @login\n\
+        T> @answer\n\
         = login\n\
         I> 43870000 0000006e 40000001 00000000 00000000 00000000 00000001 00000002 00000000 00000000 00000000 00000000 'HeaderDigest=CRC32C,None|IFMarker=No|InitialR2T=No|MaxBurstLength=1024|MaxRecvDataSegmentLength=4096|X-test=1|\n\
         T> 23870000 00000072 40000001 00000001 00000000 00000000 00000002 00000001 00000008 00000000 00000000 00000000 'HeaderDigest=None|IFMarker=No|InitialR2T=No|MaxBurstLength=1024|MaxRecvDataSegmentLength=512|X-test=NotUnderstood|\n\
