@@ -154,12 +154,6 @@ const REFUSED: &[(&str, Parts, Parts, &str)] = &[
         "text: repeated key at 4\n",
     ),
     (
-        "normalise --text",
-        &[&[0; 16385]],
-        &[],
-        "text: over 16384 bytes\n",
-    ),
-    (
         "loop --blocks 2048 --piece 48",
         &[b"capacity\nread 0\n"],
         &[],
@@ -322,11 +316,20 @@ fn check_rows(host: &HostRuntime, rt: &impl Abort) {
     }
 }
 
+// A text that is longer than any may be.
+fn check_long_text(host: &HostRuntime, rt: &impl Abort) {
+    let text = vec![in host.alloc(); 0u8; 16385].expect(rt, "a text");
+    let (told, status) = ran(host, rt, "normalise --text", &[&text], &[]);
+    let due = ("text: over 16384 bytes\n", 1);
+    same(rt, &(told.as_str(), status), &due, &"a long text");
+}
+
 #[test]
 fn words_and_what_comes_of_them(rt: HostRuntime) {
     let alloc = rt.alloc();
     write_files(&rt, &rt, alloc);
     check_rows(&rt, &rt);
+    check_long_text(&rt, &rt);
     remove_files(&rt);
 }
 
