@@ -1,0 +1,31 @@
+//! What another program does with `tcp_streams`.
+
+ghost use Rattle.std.specs.Prelude.{◌<◌, ◌^◌, ℕ, List, [], length, map, IfOk, IfNone};
+ghost use Rattle.std.specs.List.{All};
+ghost use Rattle.tcp_streams.specs.Pieces.{Piece, Determines};
+ghost use Rattle.tcp_streams.specs.Placing.{ArePlaced};
+ghost use Rattle.tcp_streams.specs.Whole.{numbered};
+
+use std::alloc::Global;
+use tcp_streams::{Segment, SegmentFault, reassemble};
+
+/// The bytes of a stream whose first one has the sequence number `first`, as far as its segments
+/// determine them. Up to 1 MiB may wait.
+pub fn stream_of(alloc: Global, first: u32, segments: &[Segment]) -> Result<Vec<u8>, SegmentFault>
+    ensures { IfOk result (λ out. (pieces : List Piece)
+        × ArePlaced first [] (map numbered segments.now) pieces × Determines pieces out.items) }
+{
+    if long_one(segments).is_some() {
+        return Err(SegmentFault::Long);
+    }
+    reassemble(alloc, first, 1_048_576, segments)
+}
+
+// The first segment that is longer than any can be.
+fn long_one(segments: &[Segment]) -> Option<usize>
+    ensures none { IfNone result (All (λ segment. length segment.bytes.items < 2 ^ 32) segments.now) }
+{
+    segments
+        .iter()
+        .position(|segment| segment.bytes.len() >= 4_294_967_296)
+}
