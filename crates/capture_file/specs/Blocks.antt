@@ -1,0 +1,106 @@
+-- The blocks of a pcapng file (draft-ietf-opsawg-pcapng, sections 3 and 4), and what a step over a
+-- file of either format tells.
+use Rattle.std.specs.Prelude.{◌≡◌, ◌≢◌, ℕ, ◌-◌, ◌%◌, ◌≤◌, ◌<◌, ◌⊎◌, Bool, true, false, List, [], ◌∷◌, ◌++◌, length, take}
+use Rattle.capture_file.specs.declared.numbers.Order.{Order}
+use Rattle.capture_file.specs.declared.numbers.Order.TheVariants.{Little, Big}
+use Rattle.capture_file.specs.declared.packet.Interface.{Interface}
+use Rattle.capture_file.specs.declared.capture.Kind.{Kind}
+use Rattle.capture_file.specs.declared.capture.Kind.TheVariants as kinds
+use Rattle.capture_file.specs.declared.packet.Step.{Step}
+use Rattle.capture_file.specs.declared.packet.Step.TheVariants as steps
+use Rattle.capture_file.specs.Numbers.{number}
+use Rattle.capture_file.specs.Records.{RecordStep, EnhancedStep, SimpleStep}
+
+-- A file that is read: which one it is, and the interfaces of its section.
+pub record Reading : Type 0 where
+  pub kind : Kind
+  pub interfaces : List Interface
+
+-- the type of a section header, the same in either order
+abbrev pub section : ℕ
+section = 168627466
+
+-- the block types that are read: interface description, packet, simple packet, enhanced packet
+abbrev pub IsRead : ℕ → Type 0
+IsRead kind = (kind ≡ 1) ⊎ ((kind ≡ 2) ⊎ ((kind ≡ 3) ⊎ (kind ≡ 6)))
+
+-- The bytes begin with a whole block of n bytes: its length stands before its body and after it.
+pub record IsBlock (order : Order) (bytes : List ℕ) (n : ℕ) : Type 0 where
+  pub whole : n ≤ length bytes
+  pub before : number order 4 4 bytes ≡ n
+  pub after : number order 4 (n - 4) (take n bytes) ≡ n
+
+-- Of a section header, which begins these bytes: its third number tells the order of all that follows.
+pub record IsSection (order : Order) (bytes : List ℕ) (n : ℕ) : Type 0 where
+  pub order_is : number order 4 8 bytes ≡ 439041101
+  pub length_is : number order 4 4 bytes ≡ n
+
+-- what a section header tells: nothing, and interfaces are forgotten
+abbrev pub SectionStep : Reading → List ℕ → Reading → Step → Type 0
+SectionStep old bytes new (steps.Packet p n) = ⊥
+SectionStep old bytes new (steps.Skip n) = (order : Order) × IsSection order bytes n
+    × (new ≡ record { kind = kinds.Blocks order; interfaces = [] })
+SectionStep old bytes new (steps.More n) = (length bytes < n) × (n ≡ 12) × (new ≡ old)
+
+-- what a block of this type with a packet tells
+abbrev pub PacketStep : Order → ℕ → List Interface → List ℕ → Step → Type 0
+PacketStep order kind interfaces block step = ((kind ≡ 3) × SimpleStep order interfaces block step)
+    ⊎ (((kind ≡ 2) ⊎ (kind ≡ 6)) × EnhancedStep order kind interfaces block step)
+
+-- what an interface description tells: an interface more, with its link type and snap length
+abbrev pub DescribeStep : Order → Reading → List ℕ → Reading → Step → Type 0
+DescribeStep order old block new (steps.Packet p n) = ⊥
+DescribeStep order old block new (steps.Skip n) = (n ≡ length block) × (interface : Interface)
+    × (interface.link ≡ number order 2 8 block) × (interface.snap ≡ number order 4 12 block)
+    × (new ≡ record { kind = old.kind; interfaces = old.interfaces ++ interface ∷ [] })
+DescribeStep order old block new (steps.More n) = ⊥
+
+-- A block of another type is passed over, by its head alone.
+abbrev pub IsPassed : Order → List ℕ → ℕ → Type 0
+IsPassed order bytes n = (number order 4 0 bytes ≢ section) × (IsRead (number order 4 0 bytes) → ⊥)
+    × (number order 4 4 bytes ≡ n)
+
+-- what stands at a place of a pcapng file
+abbrev pub BlockStep : Order → Reading → List ℕ → Reading → Step → Type 0
+BlockStep order old bytes new (steps.Packet p n) = IsBlock order bytes n
+    × PacketStep order (number order 4 0 bytes) old.interfaces (take n bytes) (steps.Packet p n)
+    × (new ≡ old)
+BlockStep order old bytes new (steps.Skip n) =
+    ((number order 4 0 bytes ≡ section) × SectionStep old bytes new (steps.Skip n))
+    ⊎ (((number order 4 0 bytes ≡ 1) × IsBlock order bytes n
+    × DescribeStep order old (take n bytes) new (steps.Skip n))
+    ⊎ (IsPassed order bytes n × (new ≡ old)))
+BlockStep order old bytes new (steps.More n) = (length bytes < n) × (new ≡ old)
+
+-- the first four bytes of a classic file, as a number
+abbrev pub magic : Order → Bool → ℕ
+magic Big false = 2712847316
+magic Little false = 3569595041
+magic Big true = 2712812621
+magic Little true = 1295823521
+
+-- The bytes begin with the header of a classic file.
+pub record IsHeader (order : Order) (precise : Bool) (link : ℕ) (bytes : List ℕ) : Type 0 where
+  pub begins : number Big 4 0 bytes ≡ magic order precise
+  pub version : number order 2 4 bytes ≡ 2
+  pub link_type : link ≡ number order 4 20 bytes % 65536
+
+-- what the first bytes of a file tell
+abbrev pub BeginStep : Reading → List ℕ → Reading → Step → Type 0
+BeginStep old bytes new (steps.Packet p n) = ⊥
+BeginStep old bytes new (steps.Skip n) =
+    ((n ≡ 24) × (order : Order) × (precise : Bool) × (link : ℕ) × IsHeader order precise link bytes
+    × (new ≡ record old { kind = kinds.Classic order precise link }))
+    ⊎ ((number Big 4 0 bytes ≡ section) × SectionStep old bytes new (steps.Skip n))
+BeginStep old bytes new (steps.More n) = (length bytes < n) × (new ≡ old)
+
+-- what stands at a place of a file of this kind
+abbrev pub StepOf : Kind → Reading → List ℕ → Reading → Step → Type 0
+StepOf kinds.Unknown old bytes new step = BeginStep old bytes new step
+StepOf (kinds.Classic order precise link) old bytes new step =
+    RecordStep order precise link bytes step × (new ≡ old)
+StepOf (kinds.Blocks order) old bytes new step = BlockStep order old bytes new step
+
+-- what stands at a place of a file that is read so far
+abbrev pub StepAt : Reading → List ℕ → Reading → Step → Type 0
+StepAt old bytes new step = StepOf old.kind old bytes new step

@@ -1,0 +1,19 @@
+//! Capture files: the packets of classic pcap and pcapng files, and the TCP segments in them.
+#![tactic(auto)]
+
+mod capture;
+mod classic;
+mod fault;
+mod link;
+mod network;
+mod numbers;
+mod packet;
+mod packet_blocks;
+mod segment;
+mod time_units;
+
+pub use capture::Capture;
+pub use fault::{CaptureFault, PacketFault};
+pub use network::{Address, Endpoint};
+pub use packet::{LONGEST, Packet, Step};
+pub use segment::{Segment, segment_of};
