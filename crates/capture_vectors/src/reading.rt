@@ -1,0 +1,100 @@
+//! A capture in memory, read into its connections.
+
+use crate::table::Table;
+use capture_file::{Capture, Packet, PacketFault, Step, segment_of};
+use std::alloc::Global;
+
+/// What a capture has.
+#[derive(Drop)]
+pub struct Contents {
+    /// Its connections.
+    pub table: Table,
+    /// How many packets.
+    pub packets: u64,
+    /// The first packet that tells no segment, counted from 1, and why.
+    pub fault: Option<(u64, PacketFault)>,
+    /// Whether it was read to its end.
+    pub whole: bool,
+}
+
+/// Reads a capture. With `sparing` it shows no more bytes at a time than were asked for.
+pub fn read(alloc: Global, file: &[u8], sparing: bool) -> Contents {
+    let mut read = Contents {
+        table: Table::new(alloc),
+        packets: 0,
+        fault: None,
+        whole: false,
+    };
+    let mut capture = Capture::new(alloc);
+    let mut rest = file;
+    let mut shown: usize = if sparing { 1 } else { usize::MAX };
+    for _ in 0..file.len().saturating_mul(2) {
+        if rest.is_empty() {
+            read.whole = true;
+            return read;
+        }
+        match step_once(&mut capture, &mut read, first(rest, shown)) {
+            Went::Failed => return read,
+            Went::More(needed) => {
+                if needed > rest.len() {
+                    return read;
+                }
+                shown = needed;
+            }
+            Went::Past(count) => {
+                let Some(behind) = rest.get(count..) else {
+                    return read;
+                };
+                rest = behind;
+                if sparing {
+                    shown = 1;
+                }
+            }
+        }
+    }
+    read
+}
+
+// The first bytes, up to so many.
+fn first(bytes: &[u8], count: usize) -> &[u8] {
+    &bytes[..count.min(bytes.len())]
+}
+
+// How a step went.
+#[derive(Clone, Copy)]
+enum Went {
+    Past(usize),
+    More(usize),
+    Failed,
+}
+
+// One step of the file.
+fn step_once(capture: &mut Capture, read: &mut Contents, bytes: &[u8]) -> Went {
+    match capture.step(bytes) {
+        Err(_) => Went::Failed,
+        Ok(Step::More(needed)) => Went::More(needed),
+        Ok(Step::Skip(count)) => Went::Past(count as usize),
+        Ok(Step::Packet(packet, count)) => {
+            read.packets = read.packets.saturating_add(1);
+            if take(read, packet) {
+                Went::Past(count)
+            } else {
+                Went::Failed
+            }
+        }
+    }
+}
+
+// Takes a packet, and says whether there was memory.
+fn take(read: &mut Contents, packet: Packet<'_>) -> bool {
+    match segment_of(packet) {
+        Ok(None) => true,
+        Ok(Some(segment)) => read.table.take(&segment),
+        Err(fault) => {
+            if read.fault.is_none() {
+                read.fault = Some((read.packets, fault));
+            }
+            true
+        }
+    }
+}
