@@ -1,6 +1,6 @@
 //! What another program does with `tcp_streams`.
 
-ghost use Rattle.std.specs.Prelude.{◌<◌, ◌^◌, ℕ, List, [], length, map, IfOk, IfNone};
+ghost use Rattle.std.specs.Prelude.{◌<◌, ◌^◌, ◌↔◌, ℕ, List, [], length, map, IfOk, IsTrue};
 ghost use Rattle.std.specs.List.{All};
 ghost use Rattle.tcp_streams.specs.Pieces.{Piece, Determines};
 ghost use Rattle.tcp_streams.specs.Placing.{ArePlaced};
@@ -15,17 +15,22 @@ pub fn stream_of(alloc: Global, first: u32, segments: &[Segment]) -> Result<Vec<
     ensures { IfOk result (λ out. (pieces : List Piece)
         × ArePlaced first [] (map numbered segments.now) pieces × Determines pieces out.items) }
 {
-    if long_one(segments).is_some() {
+    if !are_short(segments) {
         return Err(SegmentFault::Long);
     }
     reassemble(alloc, first, 1_048_576, segments)
 }
 
-// The first segment that is longer than any can be.
-fn long_one(segments: &[Segment]) -> Option<usize>
-    ensures none { IfNone result (All (λ segment. length segment.bytes.items < 2 ^ 32) segments.now) }
+// Whether each segment has fewer than 2^32 bytes.
+fn are_short(segments: &[Segment]) -> bool
+    ensures { IsTrue result → All (λ segment. length segment.bytes.items < 2 ^ 32) segments.now }
 {
-    segments
-        .iter()
-        .position(|segment| segment.bytes.len() >= 4_294_967_296)
+    segments.iter().all(|segment| is_short(segment))
+}
+
+// Whether the segment has fewer than 2^32 bytes.
+fn is_short(segment: &Segment) -> bool
+    ensures { IsTrue result ↔ (length segment.now.bytes.items < 2 ^ 32) }
+{
+    segment.bytes.len() < 4_294_967_296
 }
