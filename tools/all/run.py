@@ -20,6 +20,7 @@ SCRIPTS = [
     ("process", ["tools/process/run.py"], "seconds"),
     ("strangers", ["tools/strangers/run.py"], "a minute"),
     ("door", ["tools/door/run.py"], "a minute"),
+    ("captures", ["tools/captures/run.py"], "a minute"),
     ("memory, reads", ["tools/memory/reads.py"], "minutes"),
     ("memory, writes", ["tools/memory/writes.py"], "minutes"),
     ("floods", ["tools/strangers/floods.py"], "a minute"),
