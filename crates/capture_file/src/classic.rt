@@ -15,7 +15,8 @@ pub(crate) fn record<'a>(
     bytes: &'a [u8],
 ) -> Result<Step<'a>, CaptureFault>
     ensures ok { IfOk result (RecordStep order precise link bytes.now) }
-    ensures err { IfErr result (λ fault. (fault ≡ CaptureFault.Length) × IsTooLong order bytes.now) }
+    ensures err { IfErr result (λ fault.
+        (fault ≡ CaptureFault.Length) × IsTooLong order bytes.now) }
 {
     let second: u64 = if precise { 1_000_000_000 } else { 1_000_000 };
     if bytes.len() < 16 {

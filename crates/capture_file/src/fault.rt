@@ -29,7 +29,7 @@ pub enum PacketFault {
     /// The link type is none that is read.
     #[error("link type {0}")]
     Link(u16),
-    /// The packet is a fragment of an IP packet with TCP. Fragments are not put together (own rule).
+    /// The packet is a fragment of an IP packet with TCP. These are not put together (own rule).
     #[error("fragment")]
     Fragment,
     /// The capture does not have the whole of the packet's headers.

@@ -1,4 +1,5 @@
-//! IP packets: addresses, and the segment inside (RFC 791, section 3.1; RFC 8200, sections 3 and 4).
+//! IP packets: addresses, and the segment inside (RFC 791, section 3.1; RFC 8200, sections 3
+//! and 4).
 
 ghost use Rattle.std.specs.Prelude.{◌≡◌, ◌≤◌, min, length, slice_range, IfOk, IfSome};
 ghost use Rattle.capture_file.specs.Packets.{IsVersion4};
@@ -132,22 +133,29 @@ fn version_6<'a>(packet: &'a [u8], original: usize) -> Result<Option<Carried<'a>
                 bytes: within(packet, at, total),
             }));
         }
-        if next != 0 && next != 43 && next != 44 && next != 60 {
+        let Some((kind, behind)) = behind_header(packet, next, at)? else {
             return Ok(None);
-        }
-        if packet.len() < 8 || at > packet.len() - 8 {
-            return Err(PacketFault::Cut);
-        }
-        if next == 44 {
-            if u16_at(Order::Big, packet, at + 2) & 0xfff9 != 0 {
-                return Err(PacketFault::Fragment);
-            }
-            next = packet[at];
-            at += 8;
-        } else {
-            next = packet[at];
-            at += (packet[at + 1] as usize + 1) * 8;
-        }
+        };
+        next = kind;
+        at = behind;
     }
     Ok(None)
+}
+
+// What follows an extension header of this type, and where; `None` for another type. A fragment
+// header of a whole packet is one, too.
+fn behind_header(packet: &[u8], next: u8, at: usize) -> Result<Option<(u8, usize)>, PacketFault> {
+    if next != 0 && next != 43 && next != 44 && next != 60 {
+        return Ok(None);
+    }
+    if packet.len() < 8 || at > packet.len() - 8 {
+        return Err(PacketFault::Cut);
+    }
+    if next != 44 {
+        return Ok(Some((packet[at], at + (packet[at + 1] as usize + 1) * 8)));
+    }
+    if u16_at(Order::Big, packet, at + 2) & 0xfff9 != 0 {
+        return Err(PacketFault::Fragment);
+    }
+    Ok(Some((packet[at], at + 8)))
 }

@@ -34,8 +34,8 @@ pub struct Segment<'a> {
     pub missing: usize,
 }
 
-/// The TCP segment of a packet; `None` where it has none that a receiver takes: another protocol, or
-/// lengths that cannot be. Checksums are not looked at, since a card may fill them in later.
+/// The TCP segment of a packet; `None` where it has none that a receiver takes: another protocol,
+/// or lengths that cannot be. Checksums are not looked at, since a card may fill them in later.
 ///
 /// `Link` comes for a link type that is not read, `Cut` where the capture does not have all headers
 /// up to that of TCP, and `Fragment` for a fragment of an IP packet with TCP.

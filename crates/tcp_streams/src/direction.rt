@@ -74,9 +74,11 @@ impl Direction {
         out: &mut Vec<u8>,
     ) -> Result<(), SegmentFault>
         requires { length bytes.now < 2 ^ 32 }
-        ensures taken { OnOk result (Takes self.old (record { sequence = sequence; bytes = bytes.now })
+        ensures taken { OnOk result (Takes self.old
+            (record { sequence = sequence; bytes = bytes.now })
             self.new out.old.items out.new.items) }
-        ensures err { IfErr result (FeedFails self.old (record { sequence = sequence; bytes = bytes.now })) }
+        ensures err { IfErr result (FeedFails self.old
+            (record { sequence = sequence; bytes = bytes.now })) }
     {
         let (offset, skipped) = place(self.first, self.count, sequence);
         let bytes = after(bytes, skipped);

@@ -9,7 +9,7 @@ const NUMBERS: u64 = 4_294_967_296;
 const HALF: u64 = 2_147_483_648;
 
 // The offset of the byte with a sequence number, and how many bytes lie before the stream's first.
-// Of the two offsets that are possible within 2^32 bytes it is the one nearer to the known bytes' end.
+// Of the offsets that the number may mean it is the one nearest to the known bytes' end.
 pub(crate) fn place(first: u32, count: u64, sequence: u32) -> (u64, u64)
     requires { count ≤ 2 ^ 63 }
     ensures { IsPlaceOf first count sequence result.0 result.1 }

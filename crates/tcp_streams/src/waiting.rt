@@ -36,11 +36,13 @@ pub(crate) fn take_piece(
     requires count { count.old ≤ 2 ^ 63 }
     requires fits { fresh.offset + length fresh.bytes.now < 2 ^ 64 }
     ensures taken { OnOk result ((more : List ℕ) × (out.new.items ≡ out.old.items ++ more)
-        × TakesPiece count.old (pieces_of waiting.old.items) (piece fresh.entry.offset fresh.entry.bytes.now)
+        × TakesPiece count.old (pieces_of waiting.old.items)
+        (piece fresh.entry.offset fresh.entry.bytes.now)
         count.new (pieces_of waiting.new.items) more) }
     ensures later { OnOk result (AreLater count.old (pieces_of waiting.old.items)
         → AreLater count.new (pieces_of waiting.new.items)) }
-    ensures agrees { OnOk result (AllByRecursion (NoClash (piece fresh.entry.offset fresh.entry.bytes.now))
+    ensures agrees { OnOk result (AllByRecursion
+        (NoClash (piece fresh.entry.offset fresh.entry.bytes.now))
         (pieces_of waiting.old.items)) }
     ensures limit { count.new ≤ 2 ^ 63 }
     ensures err { IfErr result (PieceFails count.old (pieces_of waiting.old.items) limit
@@ -82,8 +84,8 @@ fn conflict(waiting: &[Part], fresh: Fresh<'_>) -> Option<u64>
     requires { fresh.offset + length fresh.bytes.now < 2 ^ 64 }
     ensures some { IfSome result (λ at. (q : Piece) × Contains (pieces_of waiting.now) q
         × Clash at (piece fresh.entry.offset fresh.entry.bytes.now) q) }
-    ensures none { IfNone result (All (λ part. NoClash (piece fresh.entry.offset fresh.entry.bytes.now)
-        (piece_of part)) waiting.now) }
+    ensures none { IfNone result (All (λ part.
+        NoClash (piece fresh.entry.offset fresh.entry.bytes.now) (piece_of part)) waiting.now) }
 {
     for part in waiting {
         let yours = Fresh {
@@ -106,8 +108,10 @@ pub(crate) fn give(
     bytes: &[u8],
 ) -> Result<(), SegmentFault>
     requires { offset ≤ count.old }
-    ensures bytes { OnOk result (out.new.items ≡ out.old.items ++ drop (count.old - offset) bytes.now) }
-    ensures count { OnOk result (count.new ≡ count.old + length (drop (count.old - offset) bytes.now)) }
+    ensures bytes { OnOk result (out.new.items
+        ≡ out.old.items ++ drop (count.old - offset) bytes.now) }
+    ensures count { OnOk result (count.new
+        ≡ count.old + length (drop (count.old - offset) bytes.now)) }
     ensures limit { count.old ≤ 2 ^ 63 → count.new ≤ 2 ^ 63 }
     ensures err { OnErr result ((out.new.items ≡ out.old.items) × (count.new ≡ count.old)) }
     ensures fault { IfErr result (λ e. (e ≡ SegmentFault.NoMemory) ⊎ (e ≡ SegmentFault.Long)) }
@@ -145,7 +149,8 @@ pub(crate) fn drain(
 ) -> Result<(), SegmentFault>
     requires { count.old ≤ 2 ^ 63 }
     ensures drained { OnOk result ((more : List ℕ) × (out.new.items ≡ out.old.items ++ more)
-        × Drains count.old (pieces_of waiting.old.items) count.new (pieces_of waiting.new.items) more) }
+        × Drains count.old (pieces_of waiting.old.items)
+        count.new (pieces_of waiting.new.items) more) }
     ensures later { OnOk result (All (λ part. count.new < part.offset) waiting.new.items) }
     ensures limit { count.new ≤ 2 ^ 63 }
     ensures fault { IfErr result (λ e. (e ≡ SegmentFault.NoMemory) ⊎ (e ≡ SegmentFault.Long)) }

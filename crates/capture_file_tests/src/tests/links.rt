@@ -1,5 +1,5 @@
 //! One segment inside each link and network header, and what has none. The bytes were written by
-//! hand from the tables of the standards.
+//! hand from the tables of the standards. The file is long for its rows.
 
 use super::bytes_of;
 use super::segments::{ends_4, ends_6, packet_of};

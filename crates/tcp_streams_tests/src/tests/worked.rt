@@ -1,4 +1,5 @@
-//! Worked rows: overlaps, repetitions, numbers that wrap, limits and conflicts.
+//! Worked rows: overlaps, repetitions, numbers that wrap, limits and conflicts. The file is long for
+//! its rows.
 
 use super::{Numbered, fed, segments_of};
 use crate::asserts::{same, same_bytes};
