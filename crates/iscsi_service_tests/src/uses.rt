@@ -1,8 +1,8 @@
 //! What another program does with `iscsi_service`.
 
-ghost use Rattle.std.specs.Prelude.{◌≡◌, ◌++◌, List, ℕ};
+ghost use Rattle.std.specs.Prelude.{◌≡◌, ◌++◌, List, OnOk, ℕ};
 ghost use Rattle.iscsi_login.specs.Negotiation.{IsInRange};
-ghost use Rattle.iscsi_service.specs.Session.{HasExecuted, Serves};
+ghost use Rattle.iscsi_service.specs.Session.{HasExecuted, Serves, ServesAll};
 
 use iscsi_service::{SessionFault, serve_stream};
 use iscsi_target::Config;
@@ -22,6 +22,24 @@ pub fn answer_all<S: BlockStore>(
         × (IsInRange config.preferences → S.failures store.new ≡ S.failures store.old
         → Serves config (S.disk store.old) result read (S.disk store.new) written) }
     ensures blocks { HasExecuted (S.disk store.old) (S.disk store.new) }
+{
+    let mut rest = stream;
+    serve_stream(alloc, config, store, &mut rest, answers)
+}
+
+/// Appends a target's answers to a stream. What is answered and stored is what the meanings of its
+/// PDUs lead to: its canonical form would have been answered alike.
+pub fn answer_by_meaning<S: BlockStore>(
+    alloc: Global,
+    config: Config,
+    stream: &[u8],
+    store: &mut S,
+    answers: &mut Vec<u8>,
+) -> Result<(), SessionFault>
+    ensures answered { IsInRange config.preferences → S.failures store.new ≡ S.failures store.old
+        → OnOk result ((read : List ℕ) × (written : List ℕ)
+        × (answers.new.items ≡ answers.old.items ++ written)
+        × ServesAll config (S.disk store.old) read (S.disk store.new) written) }
 {
     let mut rest = stream;
     serve_stream(alloc, config, store, &mut rest, answers)
