@@ -5,3 +5,4 @@ pub mod RoundLemmas
 pub mod LoginIsServed
 pub mod ListsAreServedLaw
 pub mod ReadBackLaw
+pub mod ServingLemmas

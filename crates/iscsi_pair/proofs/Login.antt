@@ -7,6 +7,7 @@ pub mod AgreementLaw
 pub mod IdleLaw
 pub mod Compatible
 pub mod RoundProgress
+pub mod NearerLemmas
 pub mod LoginEndsInStep
 pub mod NoFailure
 pub mod NoEarlyFailureLaw

@@ -7,5 +7,6 @@ pub mod DiskInvariant
 pub mod CarriedBytes
 pub mod InvariantHolds
 pub mod OneDiskLaw
+pub mod ProgressLemmas
 pub mod ServedRunsLaw
 pub mod GivingLemmas

@@ -1,12 +1,14 @@
 -- A list of steps, and the requests among them.
-use Rattle.std.specs.Prelude.{ℕ, List, [], ◌∷◌}
+use Rattle.std.specs.Prelude.{◌≡◌, ◌⊎◌, ℕ, List, [], ◌∷◌, None}
 use Rattle.std.specs.List.{flat_map}
 use Rattle.iscsi_target_session.specs.Configured as target_settings
 use Rattle.iscsi_initiator.specs.State as initiator_state
 use Rattle.iscsi_initiator.specs.declared.request.Request.{Request}
 use Rattle.iscsi_pair.specs.declared.step.Step.{Step}
 use Rattle.iscsi_pair.specs.declared.step.Step.TheVariants as steps
-use Rattle.iscsi_pair.specs.World.{Opening}
+use Rattle.iscsi_initiator.specs.declared.request.Request.TheVariants as requests
+use Rattle.iscsi_pair.specs.World.{Opening, World}
+use Rattle.iscsi_pair.specs.Served.{IsAlwaysTaken}
 
 -- What a pair of these is made of.
 abbrev pub opening_of : initiator_state.Settings → target_settings.Settings → ℕ → List ℕ → Opening
@@ -25,3 +27,14 @@ request_of _ = []
 -- The requests that steps hand in, in their order.
 abbrev pub requests_among : List Step → List Request
 requests_among steps = flat_map request_of steps
+
+-- No end has failed, and nothing is on its way.
+abbrev pub IsIdle : World → Type 0
+IsIdle w =
+    (w.target_fault ≡ None) × (w.initiator_fault ≡ None) × (w.to_target ≡ []) × (w.to_initiator ≡ [])
+
+-- Each of these requests is one that any target takes; the last may be a logout (section 11.14).
+abbrev pub CanBeServed : List Request → Type 0
+CanBeServed [] = Unit {0}
+CanBeServed (request ∷ []) = IsAlwaysTaken request ⊎ (request ≡ requests.Logout)
+CanBeServed (request ∷ next ∷ more) = IsAlwaysTaken request × CanBeServed (next ∷ more)

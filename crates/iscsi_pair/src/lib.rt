@@ -3,7 +3,9 @@
 
 pub mod laws;
 mod pair;
+mod serving;
 mod step;
 
 pub use pair::{Pair, outcomes_over};
+pub use serving::serve_requests;
 pub use step::{EndFault, RunFault, Step};

@@ -8,11 +8,13 @@ ghost use Rattle.std.specs.List.{AllByRecursion};
 ghost use Rattle.scsi_disk.specs.Disk.{disk_of};
 ghost use Rattle.iscsi_initiator.specs.Laws.{listed};
 ghost use Rattle.iscsi_pair.specs.Served.{IsServed, disk_after, disk_outcomes};
-ghost use Rattle.iscsi_pair.specs.Outcomes.{opening_of, requests_among};
+ghost use Rattle.iscsi_pair.specs.Outcomes.{IsIdle, opening_of, requests_among};
 ghost use Rattle.iscsi_login.specs.declared.stage.Session.TheVariants as sessions;
 ghost use Rattle.iscsi_login.specs.declared.stage.Stage.TheVariants as stages;
 
-use crate::step::{EndFault, RunFault, Step, feed_fault, submit_fault};
+use crate::step::{
+    EndFault, RunFault, Step, feed_fault, initiator_ran_out, submit_fault, target_ran_out,
+};
 use iscsi_initiator::{Done, Initiator, InitiatorFault, Request};
 use iscsi_login::{Params, Stage};
 use iscsi_stream::drop_front;
@@ -126,10 +128,16 @@ impl Pair {
 
     /// Whether no end has failed, and nothing is on its way.
     pub fn is_idle(&self) -> bool
-        ensures { IsTrue result → (self.now.target_fault ≡ None) × (self.now.initiator_fault ≡ None)
-            × (self.now.to_target ≡ []) × (self.now.to_initiator ≡ []) }
+        ensures { IsTrue result ↔ IsIdle self.now }
     {
         self.ends.is_idle()
+    }
+
+    // Whether nothing is on its way.
+    pub(crate) fn is_silent(&self) -> bool
+        ensures { IsTrue result ↔ (self.now.to_target ≡ []) × (self.now.to_initiator ≡ []) }
+    {
+        self.ends.is_silent()
     }
 
     /// The target's blocks.
@@ -147,10 +155,17 @@ impl Pair {
         self.ends.outcome()
     }
 
-    fn step(&mut self, step: Step)
+    pub(crate) fn step(&mut self, step: Step)
         ensures { Happens self.old (event_of step) self.new }
     {
         self.ends.step(step);
+    }
+
+    // Whether an end keeps that memory ran out.
+    pub(crate) fn ran_out(&self) -> bool
+        ensures { result ≡ keeps_no_memory self.now }
+    {
+        self.ends.ran_out()
     }
 
     /// Takes these steps, one after another. Where memory runs out in a step, its end keeps that.
@@ -204,7 +219,7 @@ pub fn outcomes_over(
 }
 
 // Appends an outcome, if there is one.
-fn push_some(outcomes: &mut Vec<Done>, outcome: Option<Done>) -> Result<(), AllocError>
+pub(crate) fn push_some(outcomes: &mut Vec<Done>, outcome: Option<Done>) -> Result<(), AllocError>
     ensures ok { OnOk result (outcomes.new.items ≡ outcomes.old.items ++ listed outcome) }
 {
     if let Some(outcome) = outcome {
@@ -251,13 +266,26 @@ impl Ends {
 
     // Whether no end has failed, and nothing is on its way.
     fn is_idle(&self) -> bool
-        ensures { IsTrue result → (self.now.target_fault ≡ None) × (self.now.initiator_fault ≡ None)
-            × (self.now.to_target ≡ []) × (self.now.to_initiator ≡ []) }
+        ensures { IsTrue result ↔ IsIdle self.now }
     {
         self.target_fault.is_none()
             && self.initiator_fault.is_none()
             && self.to_target.is_empty()
             && self.to_initiator.is_empty()
+    }
+
+    // Whether an end keeps that memory ran out.
+    fn ran_out(&self) -> bool
+        ensures { result ≡ keeps_no_memory self.now }
+    {
+        target_ran_out(&self.target_fault) || initiator_ran_out(&self.initiator_fault)
+    }
+
+    // Whether nothing is on its way.
+    fn is_silent(&self) -> bool
+        ensures { IsTrue result ↔ (self.now.to_target ≡ []) × (self.now.to_initiator ≡ []) }
+    {
+        self.to_target.is_empty() && self.to_initiator.is_empty()
     }
 
     // Those of a new pair, whose initiator has started its login.

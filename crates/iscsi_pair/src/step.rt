@@ -2,10 +2,11 @@
 
 ghost use Rattle.std.specs.Prelude.{◌≡◌};
 ghost use Rattle.std.specs.Result.{result_err};
-ghost use Rattle.iscsi_pair.specs.World.{feed_fault, submit_fault};
+ghost use Rattle.iscsi_pair.specs.World.{feed_fault, initiator_ran_out, submit_fault, target_ran_out};
 
 use iscsi_initiator::{InitiatorFault, Refused, Request, SubmitFault};
 use iscsi_login::Phase;
+use iscsi_target::TargetFault;
 use thiserror::Error;
 
 /// A step of a pair.
@@ -58,5 +59,26 @@ pub(crate) fn submit_fault(submitted: Result<(), Refused>) -> Option<EndFault>
     match submitted {
         Ok(()) => None,
         Err(refused) => Some(EndFault::Submit(refused.fault)),
+    }
+}
+
+// Whether memory ran out at the target.
+pub(crate) fn target_ran_out(fault: &Option<TargetFault>) -> bool
+    ensures { result ≡ target_ran_out fault.now }
+{
+    match fault {
+        Some(TargetFault::NoMemory) => true,
+        _ => false,
+    }
+}
+
+// Whether memory ran out at the initiator.
+pub(crate) fn initiator_ran_out(fault: &Option<EndFault>) -> bool
+    ensures { result ≡ initiator_ran_out fault.now }
+{
+    match fault {
+        Some(EndFault::Feed(InitiatorFault::NoMemory)) => true,
+        Some(EndFault::Submit(SubmitFault::NoMemory)) => true,
+        _ => false,
     }
 }

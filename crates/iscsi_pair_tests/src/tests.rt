@@ -10,6 +10,7 @@ use std::process::Abort;
 mod failures;
 mod logins;
 mod scripts;
+mod serving;
 
 /// How many bytes a move has: always as many, or a number up to a limit that a fixed rule draws.
 #[derive(Drop)]

@@ -1,15 +1,16 @@
 //! What another program does with `iscsi_pair`.
 
-ghost use Rattle.std.specs.Prelude.{◌≡◌, map, IfOk, IsTrue};
+ghost use Rattle.std.specs.Prelude.{◌≡◌, map, IfErr, IfOk, IsTrue};
 ghost use Rattle.std.specs.List.{AllByRecursion};
 ghost use Rattle.iscsi_login.specs.declared.stage.Session.TheVariants as sessions;
-ghost use Rattle.iscsi_pair.specs.Outcomes.{opening_of, requests_among};
+ghost use Rattle.iscsi_pair.specs.declared.step.RunFault.TheVariants as faults;
+ghost use Rattle.iscsi_pair.specs.Outcomes.{CanBeServed, opening_of, requests_among};
 ghost use Rattle.iscsi_pair.specs.Served.{IsServed, disk_outcomes};
 ghost use Rattle.iscsi_pair.specs.World.{World, Happens, Runs, Suits, Takes, event_of};
 
-use iscsi_initiator::Done;
+use iscsi_initiator::{Done, Request};
 use iscsi_login::NegKey;
-use iscsi_pair::{Pair, RunFault, Step, outcomes_over};
+use iscsi_pair::{Pair, RunFault, Step, outcomes_over, serve_requests};
 use scsi_disk::MemoryStore;
 use std::alloc::Global;
 
@@ -46,5 +47,24 @@ pub fn outcomes_in_steps(
         → outcomes.items ≡ disk_outcomes c requests) }
 {
     let (outcomes, _) = outcomes_over(alloc, configs, 1, store, steps)?;
+    Ok(outcomes)
+}
+
+/// What comes of these requests: what one local disk gives. They are served where memory holds.
+pub fn outcomes_of(
+    alloc: Global,
+    configs: (iscsi_initiator::Config, iscsi_target::Config),
+    store: MemoryStore,
+    requests: Vec<Request>,
+) -> Result<Vec<Done>, RunFault>
+    ensures outcomes { IfOk result (λ outcomes. let c = opening_of configs.0 configs.1 1 store in
+        Suits c → c.initiator.proposal.session ≡ sessions.Normal
+        → AllByRecursion IsServed requests.items
+        → outcomes.items ≡ disk_outcomes c requests.items) }
+    ensures served { let c = opening_of configs.0 configs.1 1 store in
+        Suits c → c.initiator.proposal.session ≡ sessions.Normal → CanBeServed requests.items
+        → IfErr result (λ fault. fault ≡ faults.NoMemory) }
+{
+    let (outcomes, _) = serve_requests(alloc, configs, 1, store, requests)?;
     Ok(outcomes)
 }

@@ -63,14 +63,14 @@ first_rests c l = record {
 -- ---- one request
 
 -- what any target takes is a request that is served, and not too long
-taken_served : (request : Request) → IsAlwaysTaken request → IsServed request
+pub taken_served : (request : Request) → IsAlwaysTaken request → IsServed request
 taken_served (requests.In lun cdb expected) a = a.0
 taken_served (requests.Out lun cdb bytes) a = a.0
 taken_served (requests.Ping bytes) a = tt
 taken_served (requests.Text bytes) a = absurd a
 taken_served requests.Logout a = absurd a
 
-taken_short : (request : Request) (m : initiator.Machine) (t : target.Machine) → AreInStep m t → IsAlwaysTaken request → is_too_long m request ≡ false
+pub taken_short : (request : Request) (m : initiator.Machine) (t : target.Machine) → AreInStep m t → IsAlwaysTaken request → is_too_long m request ≡ false
 taken_short (requests.In lun cdb expected) m t s a = le-ltb most_bytes expected a.1
 taken_short (requests.Out lun cdb bytes) m t s a = le-ltb most_bytes (length bytes) a.1
 taken_short (requests.Ping bytes) m t s a = (let least = s.is_held.target_max_recv.0 in le-ltb m.held.target_max_recv (length bytes) (omega (arith, least, a)))
@@ -126,7 +126,7 @@ one_done c past request r served short =
     (receives_well c i.held t disk r.here out now b.received) in
     let last : Exchange = b.ends.last in
     let come : Arrives c g last = arrives b.ends.leads.0 c g i.held (submitted i request).machine s.machine s.disk s.answers
-    (after_all r.there out) r.here last now received b.ends.leads.1 in
+    (after_all r.there out) r.here last now received b.ends.leads.2 in
     let quiet : Stays c (between last.initiator last.target last.disk []) [] (so_far come.there come.here g) =
     subst (λ (ms : List Message). Stays c (between last.initiator last.target last.disk ms) [] (so_far come.there come.here g)) b.ends.ended.silent come.stays
     in

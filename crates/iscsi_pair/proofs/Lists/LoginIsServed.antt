@@ -1,16 +1,12 @@
 -- The login of two ends that suit each other comes to its end, where each receives what was sent.
-use Rattle.std.proofs.Common.{◌≡◌, ◌<◌, ◌≤◌, ◌⊎◌, inl, inr, ℕ, zero, suc, ◌-◌, true, false, List, [], ◌∷◌, length, drop, refl, sym, ap, ◌∙◌, subst, arith}
-use Rattle.std.proofs.lemmas.List.{length-drop}
+use Rattle.std.proofs.Common.{◌≡◌, ◌<◌, ◌≤◌, ◌⊎◌, inl, inr, ℕ, zero, suc, false, List, [], ◌∷◌, length, refl, sym, ap, ◌∙◌, subst, arith}
 use Rattle.scsi_disk.specs.Disk.{Disk, disk_of}
-use Rattle.iscsi_pdu.specs.declared.head.login_request.LoginRequest.{LoginRequest}
 use Rattle.iscsi_stream.specs.declared.logins.Logins.{Logins}
 use Rattle.iscsi_stream.specs.Segment.{after, no_login}
 use Rattle.iscsi_stream.specs.Stream.{Message}
 use Rattle.iscsi_login.specs.declared.stage.Stage.{Stage}
 use Rattle.iscsi_login.specs.declared.stage.Stage.TheVariants as stages
 use Rattle.iscsi_login.specs.Stage.{is_closed_phase}
-use Rattle.iscsi_target_session.specs.Session as target_session
-use Rattle.iscsi_target_session.specs.LoginText.{answer_pairs}
 use Rattle.iscsi_target.specs.State as target
 use Rattle.iscsi_target.specs.Machine as target_machine
 use Rattle.iscsi_target.specs.Machine.{answers}
@@ -18,15 +14,15 @@ use Rattle.iscsi_target.proofs.ContinuationLemmas.{then_nothing}
 use Rattle.iscsi_initiator.specs.Configured.{IsStart}
 use Rattle.iscsi_initiator.specs.State as initiator
 use Rattle.iscsi_initiator.specs.Steps.{Stepped}
-use Rattle.iscsi_initiator.specs.Login.{following_stage, begins_stage, login_request, offered, start_step}
+use Rattle.iscsi_initiator.specs.Login.{start_step}
 use Rattle.iscsi_initiator.specs.Machine.{step}
 use Rattle.iscsi_pair.proofs.Lists.StepLemmas.{first_spot}
 use Rattle.iscsi_pair.specs.World.{Opening}
 use Rattle.iscsi_pair.specs.Served.{IsNormal, RunsServed}
 use Rattle.iscsi_pair.proofs.Login.RoundAgrees.{Asking, Asks_on, Round, first_asks, round}
-use Rattle.iscsi_pair.proofs.Login.RoundProgress.{PartTurn, Suited, TextKeeps, Well, emptied, first_suited, goes_well, text_head, text_keeps, turns}
+use Rattle.iscsi_pair.proofs.Login.RoundProgress.{Suited, Well, first_suited, goes_well}
 use Rattle.iscsi_pair.proofs.Login.LoginEndsInStep.{HasMet, Meets, Numbered, first_numbered, meets}
-use Rattle.iscsi_pair.proofs.Login.InitiatorStep.{with_answer}
+use Rattle.iscsi_pair.proofs.Login.NearerLemmas.{IsNearer, nearer}
 use Rattle.iscsi_pair.proofs.Ends.InitiatorRun.{begun}
 use Rattle.iscsi_pair.proofs.Request.Invariant.{Sends, between, so_far, limits_of}
 use Rattle.iscsi_pair.proofs.Run.DiskInvariant.{Serves, login_sends, none_asked}
@@ -49,10 +45,6 @@ pub record HasLoggedIn (c : Opening) : Type 0 where
   pub stays : Stays c (between initiator target (disk_of c.blocks) []) [] (so_far there here none_asked)
   pub met : HasMet c initiator target
 
--- the login has gone on: with less of the text left, or with the text of the second stage
-abbrev IsNearer : initiator.Machine → initiator.Machine → Type 0
-IsNearer i j = ((j.stage ≡ i.stage) × (length j.unsent_text < length i.unsent_text)) ⊎ ((i.stage ≡ stages.Security) × (j.stage ≡ stages.Operational))
-
 record WaitsOn (c : Opening) (i : initiator.Machine) : Type 0 where
   initiator : initiator.Machine
   target : target.Machine
@@ -61,41 +53,6 @@ record WaitsOn (c : Opening) (i : initiator.Machine) : Type 0 where
   request : Message
   waits : Waits c initiator target there here request
   nearer : IsNearer i initiator
-
--- the initiator with the answer to a whole text
-abbrev after_text : initiator.Machine → target.Machine → initiator.Machine
-after_text i t =
-    let h : LoginRequest = login_request i true in
-    let e : target_session.Session = emptied t.session h in
-    with_answer i (text_head e h) (answer_pairs e (offered i))
-
--- a text that ends leads to the second stage, or to the end of the login
-ends_text : (stage : Stage) (i w : initiator.Machine) (s : Stepped) → i.stage ≡ stage → IsStart i.stage → IsStart s.machine.stage
-    → s ≡ begins_stage (following_stage i.stage) w → IsNearer i s.machine
-ends_text stages.Security i w s is start on e =
-    let m : initiator.Machine = record w { stage = stages.Operational } in
-    let now : s ≡ begins_stage stages.Operational w = e ∙ ap (λ (x : Stage). begins_stage (following_stage x) w) is in
-    let k : TextKeeps m (begins_stage stages.Operational w) = text_keeps m in
-    inr (is, ap (λ (x : Stepped). x.machine.stage) now ∙ k.stage)
-ends_text stages.Operational i w s is start on e =
-    let now : s ≡ begins_stage stages.Full w = e ∙ ap (λ (x : Stage). begins_stage (following_stage x) w) is in
-    absurd (subst IsStart (ap (λ (x : Stepped). x.machine.stage) now) on)
-ends_text stages.Full i w s is start on e = absurd (subst IsStart is start)
-
--- one that goes on leaves less of it
-less_left : (c : Opening) (i : initiator.Machine) (t : target.Machine) (r answer : Message) (disk : Disk) → i.settings ≡ c.initiator
-    → 64 ≤ c.initiator.login_segment → PartTurn i t disk r answer → IsNearer i (step i answer).machine
-less_left c i t r answer disk same least q =
-    let left : (step i answer).machine.unsent_text ≡ drop i.settings.login_segment i.unsent_text = ap (λ (x : Stepped). x.machine.unsent_text) q.now in
-    let size : length (drop i.settings.login_segment i.unsent_text) ≡ length i.unsent_text - i.settings.login_segment =
-    length-drop i.settings.login_segment i.unsent_text in
-    let most : i.settings.login_segment ≡ c.initiator.login_segment = ap (λ (x : initiator.Settings). x.login_segment) same in
-    let some = q.some in
-    inl (
-      ap (λ (x : Stepped). x.machine.stage) q.now,
-      subst (λ (x : List ℕ). length x < length i.unsent_text) (sym left)
-          (omega (arith, size, most, least, some)),
-    )
 
 -- one message is one step
 one_step : (t : target.Machine) (disk : Disk) (r : Message) → answers t disk (r ∷ []) ≡ target_machine.step t disk r
@@ -149,10 +106,7 @@ one_round c i t there here r o p =
           numbered = meet.goes_on asks.0;
           whole = turn.last here p.whole;
         };
-        nearer = elim (turns c i t there next r disk o.opening o.suits p.asking p.suited turn) [
-          | inl q ↦ ends_text i.stage i (after_text i t) s refl p.asking.stage asks.0.asking.stage q.now
-          | inr q ↦ less_left c i t r turn.answer disk p.asking.settings o.opening.initiator.in_range.least q
-        ];
+        nearer = nearer c i t there next r disk o.opening o.suits p.asking p.suited turn asks.0.asking.stage;
       })
     ]
 

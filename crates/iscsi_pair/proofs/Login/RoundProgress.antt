@@ -450,7 +450,7 @@ part_turn c i t logins next r disk segment bytes byte more a s left part fits si
           left (and_from _ _ (eq-eqb (stage_number i.stage) (stage_number i.stage) refl) refl);
     }
 
-text_fits : (c : Opening) (i : initiator.Machine) → IsOpening c → i.settings ≡ c.initiator → IsStart i.stage → length (canonical_text (offered i)) ≤ 8192
+pub text_fits : (c : Opening) (i : initiator.Machine) → IsOpening c → i.settings ≡ c.initiator → IsStart i.stage → length (canonical_text (offered i)) ≤ 8192
 text_fits c i o same is =
     subst (λ (x : initiator.Settings). length (canonical_text (in_order (offers_at x.proposal x.start i.stage))) ≤ 8192) (sym same)
     (few_fits (in_order (offers_at c.initiator.proposal c.initiator.start i.stage))

@@ -1,5 +1,5 @@
 -- Where the answers on their way lead both ends, where the target receives at once all that is sent.
-use Rattle.std.proofs.Common.{◌≡◌, ◌≤◌, ℕ, zero, suc, Bool, true, false, List, [], ◌∷◌, ◌++◌, length, None, refl, sym, ap, ◌∙◌, subst}
+use Rattle.std.proofs.Common.{◌≡◌, ◌≤◌, ℕ, ◌+◌, zero, suc, arith, Bool, true, false, List, [], ◌∷◌, ◌++◌, length, None, refl, sym, ap, ◌∙◌, subst}
 use Rattle.std.specs.Prelude.{is_some}
 use Rattle.std.proofs.lemmas.List.{append-nil}
 use Rattle.scsi_disk.specs.Disk.{Disk}
@@ -101,17 +101,25 @@ Leads held (suc n) from x = elim from.answers [
       Leads held n (between s.machine r.machine r.disk (more ++ r.answers)) x)
 ]
 
--- some answers are received, and then both ends stand so
-abbrev pub LeadsTo : Held → Exchange → Exchange → Type 0
-LeadsTo held from x = (n : ℕ) × Leads held n from x
+-- at most so many answers are received, and then both ends stand so
+abbrev pub LeadsWithin : ℕ → Held → Exchange → Exchange → Type 0
+LeadsWithin most held from x = (n : ℕ) × (n ≤ most) × Leads held n from x
+
+-- a request has at most so many answers: a command moves at most 4,194,304 bytes
+abbrev pub most_answers : ℕ
+most_answers = 4194305
+
+pub leads_less : (low most : ℕ) (held : Held) (from x : Exchange) → low ≤ most → LeadsWithin low held from x → LeadsWithin most held from x
+leads_less low most held from x le l = (let few = l.1 in (l.0, omega (arith, few, le), l.2))
 
 -- an answer that is received, and to which nothing is said
-pub receives_quiet : (held : Held) (i n : initiator.Machine) (t : target.Machine) (disk : Disk) (m : Message) (more : List Message) (x : Exchange)
+pub receives_quiet : (low most : ℕ) → low + 1 ≤ most → (held : Held) (i n : initiator.Machine) (t : target.Machine) (disk : Disk) (m : Message) (more : List Message) (x : Exchange)
     → step i m ≡ quiet n → i.phase ≡ phases.Full → is_some i.outstanding ≡ true → i.done ≡ None
-    → LeadsTo held (between n t disk more) x → LeadsTo held (between i t disk (m ∷ more)) x
+    → LeadsWithin low held (between n t disk more) x → LeadsWithin most held (between i t disk (m ∷ more)) x
 unfolding answers
-receives_quiet held i n t disk m more x e full busy none l = (
+receives_quiet low most le held i n t disk m more x e full busy none l = (
   suc l.0,
+  (let few = l.1 in omega (arith, few, le)),
   (
     record {
       full = full;
@@ -121,18 +129,19 @@ receives_quiet held i n t disk m more x e full busy none l = (
       sends_ = subst (λ (s : Stepped). AreReceived held t disk s.output) (sym e) (none_received held t disk);
     },
     subst (λ (s : Stepped). let r = answers t disk s.output in Leads held l.0 (between s.machine r.machine r.disk (more ++ r.answers)) x) (sym e)
-        (subst (λ (ms : List Message). Leads held l.0 (between n t disk ms) x) (sym (append-nil more)) l.1),
+        (subst (λ (ms : List Message). Leads held l.0 (between n t disk ms) x) (sym (append-nil more)) l.2),
   ),
 )
 
 -- the last answer on its way, to which these are said
-pub receives_sends : (held : Held) (i n : initiator.Machine) (t : target.Machine) (disk : Disk) (m : Message) (out : List Message) (r : target.Stepped)
+pub receives_sends : (low most : ℕ) → low + 1 ≤ most → (held : Held) (i n : initiator.Machine) (t : target.Machine) (disk : Disk) (m : Message) (out : List Message) (r : target.Stepped)
     (x : Exchange)
     → step i m ≡ sends n out → i.phase ≡ phases.Full → is_some i.outstanding ≡ true
-    → i.done ≡ None → AreReceived held t disk out → answers t disk out ≡ r → LeadsTo held (between n r.machine r.disk r.answers) x
-    → LeadsTo held (between i t disk (m ∷ [])) x
-receives_sends held i n t disk m out r x e full busy none received is l = (
+    → i.done ≡ None → AreReceived held t disk out → answers t disk out ≡ r → LeadsWithin low held (between n r.machine r.disk r.answers) x
+    → LeadsWithin most held (between i t disk (m ∷ [])) x
+receives_sends low most le held i n t disk m out r x e full busy none received is l = (
   suc l.0,
+  (let few = l.1 in omega (arith, few, le)),
   (
     record {
       full = full;
@@ -142,22 +151,22 @@ receives_sends held i n t disk m out r x e full busy none received is l = (
       sends_ = subst (λ (s : Stepped). AreReceived held t disk s.output) (sym e) received;
     },
     subst (λ (s : Stepped). let r' = answers t disk s.output in Leads held l.0 (between s.machine r'.machine r'.disk ([] ++ r'.answers)) x) (sym e)
-        (subst (λ (r' : target.Stepped). Leads held l.0 (between n r'.machine r'.disk ([] ++ r'.answers)) x) (sym is) l.1),
+        (subst (λ (r' : target.Stepped). Leads held l.0 (between n r'.machine r'.disk ([] ++ r'.answers)) x) (sym is) l.2),
   ),
 )
 
 -- ---- a request
 
 -- from here, with these answers on their way, it comes to that
-pub record Ends (held : Held) (i : initiator.Machine) (r : target.Stepped) (here : Local) : Type 0 where
+pub record Ends (most : ℕ) (held : Held) (i : initiator.Machine) (r : target.Stepped) (here : Local) : Type 0 where
   pub last : Exchange
-  pub leads : LeadsTo held (between i r.machine r.disk r.answers) last
+  pub leads : LeadsWithin most held (between i r.machine r.disk r.answers) last
   pub ended : HasEnded held here.outcome here.disk last
 
 -- What a request that is handed in sends is received, and it comes to this outcome.
 pub record Begins (held : Held) (m : initiator.Machine) (t : target.Machine) (disk : Disk) (request : Request) (here : Local) : Type 0 where
   pub received : AreReceived held t disk (submitted m request).output
-  pub ends : Ends held (submitted m request).machine (answers t disk (submitted m request).output) here
+  pub ends : Ends most_answers held (submitted m request).machine (answers t disk (submitted m request).output) here
 
 -- where answers lead is where they lead one by one
 pub leads_after : (n : ℕ) (held : Held) (i : initiator.Machine) (t : target.Machine) (disk : Disk) (back : List Message) (x : Exchange)

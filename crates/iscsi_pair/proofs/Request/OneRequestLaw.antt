@@ -73,7 +73,7 @@ comes_to m t disk request served a e =
     let r : Stepped = answers t disk (submitted m request).output in (
       b.ends.leads.0,
       subst (HasEnded m.held here.outcome here.disk) (sym (leads_after b.ends.leads.0 m.held (submitted m request).machine r.machine r.disk
-          r.answers b.ends.last b.ends.leads.1)) b.ends.ended,
+          r.answers b.ends.last b.ends.leads.2)) b.ends.ended,
     )
 
 -- an initiator that accepts a request is in full feature phase, and has nothing open

@@ -34,7 +34,7 @@ use Rattle.iscsi_pair.specs.LocalDisk.{AreInStep, Exchange, window_of_eight}
 use Rattle.iscsi_pair.proofs.Wire.WindowLemmas.{near_next, tells_eight, tag_after}
 use Rattle.iscsi_pair.proofs.Wire.WrittenPdus.{left_readable, logout_readable, ping_readable, pong_readable}
 use Rattle.iscsi_pair.proofs.Request.Invariant.{IsOpenFor}
-use Rattle.iscsi_pair.proofs.Request.AnswersInOrder.{ArePlain, Begins, Ends, received_by, receives_quiet, plain_one, short_message}
+use Rattle.iscsi_pair.proofs.Request.AnswersInOrder.{ArePlain, Begins, Ends, most_answers, received_by, receives_quiet, plain_one, short_message}
 use Rattle.iscsi_pair.proofs.Request.ReadLemmas.{counted_on, in_step_again, not_long, ready, stat_sn_sent, submitted_is, told_window, unrefused, window_now}
 use Rattle.iscsi_target.specs.Execution.{reliable}
 use Rattle.iscsi_login.specs.Stage.{is_closed_phase}
@@ -146,12 +146,10 @@ local_ping m t disk bytes a e =
     few in
     let told_ : told_window m.window t' ≡ window_of_eight n = tells_eight n m.window fits (near_next n m.cmd_sn m.window a.cmd_sn_fits refl a.window) in
     let last : Exchange = record { initiator = pinged begun_ t' m.window given; target = counted_on t'; disk = disk; answers = [] } in
-    let ends_ : Ends m.held (pinging begun_ m.window) executed (record { outcome = done.Ping given; disk = disk }) = record {
+    let ends_ : Ends most_answers m.held (pinging begun_ m.window) executed (record { outcome = done.Ping given; disk = disk }) = record {
       last = last;
-      leads = receives_quiet m.held (pinging begun_ m.window) (pinged begun_ t' m.window given) (counted_on t') disk answer [] last one refl refl a.none_done (
-        0,
-        refl,
-      );
+      leads = receives_quiet 0 most_answers (omega arith) m.held (pinging begun_ m.window) (pinged begun_ t' m.window given) (counted_on t') disk answer [] last one refl refl a.none_done
+          (0, omega arith, refl);
       ended = record {
         done_is = refl;
         silent = refl;
@@ -170,11 +168,11 @@ local_ping m t disk bytes a e =
           (plain_one m.held.initiator_max_recv answer
           (λ logins. pong_readable logins t' (ping m) given (omega (arith, tag)) a.stat_sn_fits fits (omega (arith, few, a.is_held.initiator_max_recv.1)))
           (short_message answer.head given m.held.initiator_max_recv few));
-      ends = subst (λ (s : Submitted). Ends m.held s.machine (answers t disk (submitted m request).output) (record { outcome = done.Ping given; disk = disk }))
+      ends = subst (λ (s : Submitted). Ends most_answers m.held s.machine (answers t disk (submitted m request).output) (record { outcome = done.Ping given; disk = disk }))
           (sym sent)
-          (subst (λ (x : initiator.Machine). Ends m.held x (answers t disk (submitted m request).output) (record { outcome = done.Ping given; disk = disk }))
+          (subst (λ (x : initiator.Machine). Ends most_answers m.held x (answers t disk (submitted m request).output) (record { outcome = done.Ping given; disk = disk }))
           (sym is_m)
-          (subst (λ (x : target.Stepped). Ends m.held (pinging begun_ m.window) x (record { outcome = done.Ping given; disk = disk })) (sym r) ends_));
+          (subst (λ (x : target.Stepped). Ends most_answers m.held (pinging begun_ m.window) x (record { outcome = done.Ping given; disk = disk })) (sym r) ends_));
     }
 
 -- ---- a logout
@@ -249,10 +247,10 @@ local_logout m t disk a e =
     ∙ ap (λ (x : target.Machine). step_on reliable x disk (logout_message m)) is_t
     ∙ logout_taken m t disk a.cmd_sn_fits in
     let last : Exchange = record { initiator = left begun_ t' m.window; target = executed.machine; disk = disk; answers = [] } in
-    let ends_ : Ends m.held (leaving begun_ m.window) executed (record { outcome = done.Closed; disk = disk }) = record {
+    let ends_ : Ends most_answers m.held (leaving begun_ m.window) executed (record { outcome = done.Closed; disk = disk }) = record {
       last = last;
-      leads = receives_quiet m.held (leaving begun_ m.window) (left begun_ t' m.window) executed.machine disk answer [] last
-          (logout_received begun_ m t' m.window a.stat_sn refl) refl refl a.none_done (0, refl);
+      leads = receives_quiet 0 most_answers (omega arith) m.held (leaving begun_ m.window) (left begun_ t' m.window) executed.machine disk answer [] last
+          (logout_received begun_ m t' m.window a.stat_sn refl) refl refl a.none_done (0, omega arith, refl);
       ended = record {
         done_is = refl;
         silent = refl;
@@ -277,9 +275,9 @@ local_logout m t disk a e =
             (plain_one m.held.initiator_max_recv answer (λ logins. left_readable logins t' (logout_request m) (omega (arith, tag)) a.stat_sn_fits fits)
             (short_message answer.head [] m.held.initiator_max_recv (omega arith)));
       };
-      ends = subst (λ (s : Submitted). Ends m.held s.machine (answers t disk (submitted m request).output) (record { outcome = done.Closed; disk = disk }))
+      ends = subst (λ (s : Submitted). Ends most_answers m.held s.machine (answers t disk (submitted m request).output) (record { outcome = done.Closed; disk = disk }))
           (sym sent)
-          (subst (λ (x : initiator.Machine). Ends m.held x (answers t disk (submitted m request).output) (record { outcome = done.Closed; disk = disk }))
+          (subst (λ (x : initiator.Machine). Ends most_answers m.held x (answers t disk (submitted m request).output) (record { outcome = done.Closed; disk = disk }))
           (sym is_m)
-          (subst (λ (x : target.Stepped). Ends m.held (leaving begun_ m.window) x (record { outcome = done.Closed; disk = disk })) (sym r) ends_));
+          (subst (λ (x : target.Stepped). Ends most_answers m.held (leaving begun_ m.window) x (record { outcome = done.Closed; disk = disk })) (sym r) ends_));
     }

@@ -61,7 +61,7 @@ use Rattle.iscsi_pair.specs.LocalDisk.{AreInStep, Exchange, reading_order, repor
 use Rattle.iscsi_pair.proofs.Wire.WindowLemmas.{IsNear, near_next, near_now, tag_after, tells_eight}
 use Rattle.iscsi_pair.proofs.Wire.WrittenPdus.{command_readable, data_in_readable, outcome_readable}
 use Rattle.iscsi_pair.proofs.Wire.OutcomeRanges.{HasRoom, outcome_fits}
-use Rattle.iscsi_pair.proofs.Request.AnswersInOrder.{ArePlain, Begins, Ends, LeadsTo, received_by, receives_quiet, plain_more, plain_one, short_message}
+use Rattle.iscsi_pair.proofs.Request.AnswersInOrder.{ArePlain, Begins, Ends, LeadsWithin, leads_less, most_answers, received_by, receives_quiet, plain_more, plain_one, short_message}
 use Rattle.iscsi_pair.proofs.Request.Invariant.{between}
 use Rattle.iscsi_target.proofs.OrderLemmas.{expected_by}
 
@@ -100,10 +100,10 @@ record PartsReceived (m : initiator.Machine) (t : target.Machine) (r : Reading) 
   told : Window
   -- what each told window keeps is kept
   kept : (n : ℕ) → ((w : Window) → IsNear n w → IsNear n (told_window w t)) → IsNear n window → IsNear n told
-  leads : (held : Held) (s : target.Machine) (disk : Disk) (x : Exchange)
-      → LeadsTo held (between (reading m (record r { received = r.received ++ bytes_of given; next_data_sn = r.next_data_sn + length given }) told) s disk more)
+  leads : (low most : ℕ) → low + length given ≤ most → (held : Held) (s : target.Machine) (disk : Disk) (x : Exchange)
+      → LeadsWithin low held (between (reading m (record r { received = r.received ++ bytes_of given; next_data_sn = r.next_data_sn + length given }) told) s disk more)
       x
-      → LeadsTo held (between (reading m r window) s disk (data_ins t.session (target.waiting t.tasks) m.initiator_task_tag r.next_data_sn (length r.received)
+      → LeadsWithin most held (between (reading m r window) s disk (data_ins t.session (target.waiting t.tasks) m.initiator_task_tag r.next_data_sn (length r.received)
       given ++ more)) x
 
 -- each part is one that the initiator takes
@@ -125,7 +125,8 @@ parts_received m t r window [] more none short room few =
     record {
       told = window;
       kept = λ n keeps near. near;
-      leads = λ held s disk x l. subst (λ (y : Reading). LeadsTo held (between (reading m y window) s disk more) x) (sym same) l;
+      leads = λ low most le held s disk x l. leads_less low most held (between (reading m r window) s disk more) x (omega (arith, le))
+          (subst (λ (y : Reading). LeadsWithin low held (between (reading m y window) s disk more) x) (sym same) l);
     }
 parts_received m t r window (part ∷ given) more none short room few =
     let r' : Reading = record { expected = r.expected; received = r.received ++ part.0; next_data_sn = r.next_data_sn + 1 } in
@@ -155,13 +156,13 @@ parts_received m t r window (part ∷ given) more none short room few =
     record {
       told = h.told;
       kept = λ n keeps near. h.kept n keeps (keeps window near);
-      leads = λ held s disk x l. receives_quiet held (reading m r window) (reading m r' (told_window window t)) s disk
+      leads = λ low most le held s disk x l. receives_quiet (low + length given) most (omega (arith, le)) held (reading m r window) (reading m r' (told_window window t)) s disk
           (message (data_in_head t.session (target.waiting t.tasks) m.initiator_task_tag r.next_data_sn (length r.received) part.1) part.0)
           (data_ins t.session (target.waiting t.tasks) m.initiator_task_tag (r.next_data_sn + 1) (length r.received + length part.0) given ++ more) x one refl
           refl none
-          (subst (λ (n : ℕ). LeadsTo held (between (reading m r' (told_window window t)) s disk
+          (subst (λ (n : ℕ). LeadsWithin (low + length given) held (between (reading m r' (told_window window t)) s disk
           (data_ins t.session (target.waiting t.tasks) m.initiator_task_tag (r.next_data_sn + 1) n given ++ more)) x) (length-append r.received part.0)
-          (h.leads held s disk x (subst (λ (y : Reading). LeadsTo held (between (reading m y h.told) s disk more) x) (sym same) l)));
+          (h.leads low (low + length given) (omega arith) held s disk x (subst (λ (y : Reading). LeadsWithin low held (between (reading m y h.told) s disk more) x) (sym same) l)));
     }
 
 -- ---- the data of a command, in parts
@@ -279,8 +280,9 @@ outcome_received m t open_ received window status (Some sense) bytes (Over n) co
 record ReadReceived (m : initiator.Machine) (t : target.Machine) (r : Reading) (window : Window) (outcome : Outcome) : Type 0 where
   told : Window
   kept : (n : ℕ) → ((w : Window) → IsNear n w → IsNear n (told_window w t)) → IsNear n window → IsNear n told
-  leads : (held : Held) (s : target.Machine) (disk : Disk) (x : Exchange) → LeadsTo held (between (finished m t told outcome outcome.bytes) s disk []) x
-      → LeadsTo held (between (reading m r window) s disk (command_answers t.session (target.waiting t.tasks) m.initiator_task_tag outcome
+  leads : (low most : ℕ) → low + length outcome.bytes + 1 ≤ most → (held : Held) (s : target.Machine) (disk : Disk) (x : Exchange)
+      → LeadsWithin low held (between (finished m t told outcome outcome.bytes) s disk []) x
+      → LeadsWithin most held (between (reading m r window) s disk (command_answers t.session (target.waiting t.tasks) m.initiator_task_tag outcome
       (data_in_parts t.session.held outcome.bytes))) x
 
 -- the parts of what is given
@@ -316,9 +318,9 @@ read_received m t window outcome expected held is_held stat_sn none room small =
     record {
       told = h.told;
       kept = h.kept;
-      leads = λ k s disk x l. h.leads k s disk x
-          (receives_quiet k (reading m r' h.told) (finished m t h.told outcome (bytes_of given)) s disk last [] x one refl refl none
-          (subst (λ (y : List ℕ). LeadsTo k (between (finished m t h.told outcome y) s disk []) x) (sym g.all) l));
+      leads = λ low most le k s disk x l. h.leads (low + 1) most (let few = g.few in omega (arith, few, le)) k s disk x
+          (receives_quiet low (low + 1) (omega arith) k (reading m r' h.told) (finished m t h.told outcome (bytes_of given)) s disk last [] x one refl refl none
+          (subst (λ (y : List ℕ). LeadsWithin low k (between (finished m t h.told outcome y) s disk []) x) (sym g.all) l));
     }
 
 -- ---- what the target answers is read as it was written
@@ -565,9 +567,9 @@ local_read m t disk lun cdb expected on_ size are a e =
     let told_ : told_window h.told t' ≡ window_of_eight n =
     tells_eight n h.told fits (h.kept n (λ w near. near_now n (told_window w t') fits (tells_eight n w fits near))
     (near_next n m.cmd_sn m.window a.cmd_sn_fits refl a.window)) in
-    let ends_ : Ends m.held (reading begun_ r0 m.window) executed (local_command after) = record {
+    let ends_ : Ends most_answers m.held (reading begun_ r0 m.window) executed (local_command after) = record {
       last = last;
-      leads = h.leads m.held (counted_on t') after.disk last (0, refl);
+      leads = h.leads 0 most_answers (omega (arith, room, few)) m.held (counted_on t') after.disk last (0, omega arith, refl);
       ended = record {
         done_is = refl;
         silent = refl;
@@ -587,7 +589,7 @@ local_read m t disk lun cdb expected on_ size are a e =
           (subst (λ (k : Held). ArePlain k.initiator_max_recv executed.answers) a.held
           (command_written t' (next_tag m.initiator_task_tag) after.outcome (subst IsHeld (sym a.held) a.is_held) (omega (arith, tag)) fits a.stat_sn_fits
           (omega (arith, room, few)) (outcome_fits disk order [] few)));
-      ends = subst (λ (s : Submitted). Ends m.held s.machine (answers t disk (submitted m request).output) (local_command after)) (sym sent)
-          (subst (λ (x : initiator.Machine). Ends m.held x (answers t disk (submitted m request).output) (local_command after)) (sym is_m)
-          (subst (λ (x : target.Stepped). Ends m.held (reading begun_ r0 m.window) x (local_command after)) (sym r) ends_));
+      ends = subst (λ (s : Submitted). Ends most_answers m.held s.machine (answers t disk (submitted m request).output) (local_command after)) (sym sent)
+          (subst (λ (x : initiator.Machine). Ends most_answers m.held x (answers t disk (submitted m request).output) (local_command after)) (sym is_m)
+          (subst (λ (x : target.Stepped). Ends most_answers m.held (reading begun_ r0 m.window) x (local_command after)) (sym r) ends_));
     }

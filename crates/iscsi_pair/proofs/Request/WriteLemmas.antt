@@ -67,7 +67,7 @@ use Rattle.iscsi_pair.proofs.Wire.WindowLemmas.{IsNear, last_with, near_next, te
 use Rattle.iscsi_pair.proofs.Login.RoundAgrees.{some_then}
 use Rattle.iscsi_pair.proofs.Wire.WrittenPdus.{command_readable, data_out_readable, ready_readable}
 use Rattle.iscsi_pair.proofs.Wire.OutcomeRanges.{outcome_fits}
-use Rattle.iscsi_pair.proofs.Request.AnswersInOrder.{AreReceived, ArePlain, Begins, Ends, LeadsTo}
+use Rattle.iscsi_pair.proofs.Request.AnswersInOrder.{AreReceived, ArePlain, Begins, Ends, LeadsWithin, leads_less, most_answers}
 use Rattle.iscsi_pair.proofs.Request.AnswersInOrder.{received_by, receives_quiet, receives_sends, plain_more, plain_one}
 use Rattle.iscsi_pair.proofs.Request.AnswersInOrder.{short_message}
 use Rattle.iscsi_pair.proofs.Request.ReadLemmas.{counted_on, Awaits, command_written, finished, in_step_again, next_small, not_long, outcome_received, ready}
@@ -416,12 +416,12 @@ executed_written m t cmd_sn bytes order disk tag pieces_ a same = record {
 }
 
 -- the response to a command that gives no data
-response_ends : (m : initiator.Machine) (t : target.Machine) (cmd_sn : ℕ) (open_ : Outstanding) (window : Window) (bytes : List ℕ) (order : Order) (disk : Disk)
+response_ends : (most : ℕ) → 1 ≤ most → (m : initiator.Machine) (t : target.Machine) (cmd_sn : ℕ) (open_ : Outstanding) (window : Window) (bytes : List ℕ) (order : Order) (disk : Disk)
     (tag : ℕ) (pieces_ : Pieces)
     → Throughout m t cmd_sn bytes order disk → IsNear cmd_sn window → Awaits open_ [] → tag ≡ m.initiator_task_tag
     → effect disk order (data_of pieces_) ≡ effect disk order bytes
-    → Ends m.held (waiting m open_ window) (execute reliable (ready t cmd_sn) disk tag order pieces_) (local_command (effect disk order bytes))
-response_ends m t cmd_sn open_ window bytes order disk tag pieces_ a near d same data_ =
+    → Ends most m.held (waiting m open_ window) (execute reliable (ready t cmd_sn) disk tag order pieces_) (local_command (effect disk order bytes))
+response_ends most le m t cmd_sn open_ window bytes order disk tag pieces_ a near d same data_ =
     let after : Effect = effect disk order bytes in
     let s : target.Machine = ready t cmd_sn in
     let response : Message = message (response_head s.session (target.waiting s.tasks) m.initiator_task_tag after.outcome 0)
@@ -442,11 +442,12 @@ response_ends m t cmd_sn open_ window bytes order disk tag pieces_ a near d same
     (tells_eight m.cmd_sn window a.cmd_sn_fits (subst (λ (x : ℕ). IsNear x window) a.cmd_sn_is near)) in
     record {
       last = last;
-      leads = subst (λ (ms : List Message). LeadsTo m.held (between (waiting m open_ window) (counted_on s) (execute reliable s disk tag order pieces_).disk ms)
+      leads = subst (λ (ms : List Message). LeadsWithin most m.held (between (waiting m open_ window) (counted_on s) (execute reliable s disk tag order pieces_).disk ms)
           last)
           (sym is)
-          (subst (λ (x : Disk). LeadsTo m.held (between (waiting m open_ window) (counted_on s) x (response ∷ [])) last) (sym disk_is)
-          (receives_quiet m.held (waiting m open_ window) ended_ (counted_on s) after.disk response [] last one refl refl a.none_done (0, refl)));
+          (subst (λ (x : Disk). LeadsWithin most m.held (between (waiting m open_ window) (counted_on s) x (response ∷ [])) last) (sym disk_is)
+          (receives_quiet 0 most le m.held (waiting m open_ window) ended_ (counted_on s) after.disk response [] last one refl refl a.none_done
+          (0, omega arith, refl)));
       ended = record {
         done_is = ap (λ (x : List ℕ). Some (done.Command 0 after.outcome.status (reported_sense after.outcome.sense) x after.outcome.residual))
             (sym a.none_given);
@@ -471,9 +472,9 @@ abbrev write_exchange : initiator.Machine → target.Machine → ℕ → Order �
 write_exchange m t cmd_sn order disk = record { initiator = m; target = t; cmd_sn = cmd_sn; order = order; disk = disk }
 
 -- the write goes on from where all that was due came
-abbrev GoesOn : WriteExchange → Writing → Write → Window → Type 0
-GoesOn c v w window =
-    Ends c.initiator.held (writing c.initiator v window) (proceed reliable (ready c.target c.cmd_sn) c.disk w)
+abbrev GoesOn : ℕ → WriteExchange → Writing → Write → Window → Type 0
+GoesOn most c v w window =
+    Ends most c.initiator.held (writing c.initiator v window) (proceed reliable (ready c.target c.cmd_sn) c.disk w)
     (local_command (effect c.disk c.order v.bytes))
 
 -- where all came the command is executed
@@ -510,15 +511,15 @@ proceed_written m t cmd_sn v w order disk a i false part =
           (short_message (r2t_head s.session (target.waiting s.tasks) w) [] most (omega arith));
     })
 
-all_came : (m : initiator.Machine) (t : target.Machine) (cmd_sn : ℕ) (v : Writing) (w : Write) (window : Window) (order : Order) (disk : Disk)
+all_came : (most : ℕ) → 1 ≤ most → (m : initiator.Machine) (t : target.Machine) (cmd_sn : ℕ) (v : Writing) (w : Write) (window : Window) (order : Order) (disk : Disk)
     → Throughout m t cmd_sn v.bytes order disk → IsNear cmd_sn window → InHand m v w order
-    → is_whole w ≡ true → GoesOn (write_exchange m t cmd_sn order disk) v w window
-all_came m t cmd_sn v w window order disk a near i whole =
+    → is_whole w ≡ true → GoesOn most (write_exchange m t cmd_sn order disk) v w window
+all_came most le m t cmd_sn v w window order disk a near i whole =
     let all : v.sent ≡ length v.bytes = sym (received_is m v w order i) ∙ sym (eqb-true w.total (received w) whole) ∙ i.total in
     let bytes : data_of w.pieces ≡ v.bytes = i.came ∙ take_all v.sent v.bytes (omega (arith, all)) in
-    subst (λ (r : Stepped). Ends m.held (writing m v window) r (local_command (effect disk order v.bytes)))
+    subst (λ (r : Stepped). Ends most m.held (writing m v window) r (local_command (effect disk order v.bytes)))
     (sym (whole_is m t cmd_sn v w order disk i whole))
-    (response_ends m t cmd_sn (opens.Out v) window v.bytes order disk w.initiator_task_tag w.pieces a near (λ h. refl) i.tag (ap (effect disk order) bytes))
+    (response_ends most le m t cmd_sn (opens.Out v) window v.bytes order disk w.initiator_task_tag w.pieces a near (λ h. refl) i.tag (ap (effect disk order) bytes))
 
 -- what isn't equal and not more is less
 below : (n total : ℕ) (part : (total == n) ≡ false) → n ≤ total → n < total
@@ -542,10 +543,10 @@ record Turned (c : WriteExchange) (v : Writing) (w : Write) (window : Window) : 
   n : ℕ
   some : 0 < n
   hand : InHand c.initiator (more_sent v n) (more_came c.target w came) c.order
-  leads : (x : Exchange) → (let r = proceed reliable (ready c.target c.cmd_sn) c.disk (more_came c.target w came) in
-      LeadsTo c.initiator.held (between (writing c.initiator (more_sent v n) window_now) r.machine r.disk r.answers) x)
+  leads : (low most : ℕ) → low + 1 ≤ most → (x : Exchange) → (let r = proceed reliable (ready c.target c.cmd_sn) c.disk (more_came c.target w came) in
+      LeadsWithin low c.initiator.held (between (writing c.initiator (more_sent v n) window_now) r.machine r.disk r.answers) x)
       → (let r = proceed reliable (ready c.target c.cmd_sn) c.disk w in
-      LeadsTo c.initiator.held (between (writing c.initiator v window) r.machine r.disk r.answers) x)
+      LeadsWithin most c.initiator.held (between (writing c.initiator v window) r.machine r.disk r.answers) x)
 
 turn : (m : initiator.Machine) (t : target.Machine) (cmd_sn : ℕ) (v : Writing) (w : Write) (window : Window) (order : Order) (disk : Disk)
     → Throughout m t cmd_sn v.bytes order disk → InHand m v w order
@@ -609,27 +610,27 @@ turn m t cmd_sn v w window order disk a i part =
       n = n;
       some = some;
       hand = hand_;
-      leads = λ x l. subst (λ (y : Stepped). LeadsTo m.held (between (writing m v window) y.machine y.disk y.answers) x)
+      leads = λ low most le x l. subst (λ (y : Stepped). LeadsWithin most m.held (between (writing m v window) y.machine y.disk y.answers) x)
           (sym (part_is m t cmd_sn v w order disk i part))
-          (receives_sends m.held (writing m v window) (writing m (more_sent v n) (told_window window s)) (writer t cmd_sn (with_r2t t.session.held w)) disk
+          (receives_sends low most le m.held (writing m v window) (writing m (more_sent v n) (told_window window s)) (writer t cmd_sn (with_r2t t.session.held w)) disk
           (message (r2t_head s.session (target.waiting s.tasks) w) []) out now x one refl refl a.none_done are_received sent_ l);
     }
 
 -- from turn to turn until all came
-goes_on : (fuel : ℕ) (m : initiator.Machine) (t : target.Machine) (cmd_sn : ℕ) (v : Writing) (w : Write) (window : Window) (order : Order) (disk : Disk)
+goes_on : (fuel most : ℕ) → fuel + 1 ≤ most → (m : initiator.Machine) (t : target.Machine) (cmd_sn : ℕ) (v : Writing) (w : Write) (window : Window) (order : Order) (disk : Disk)
     → Throughout m t cmd_sn v.bytes order disk → IsNear cmd_sn window → InHand m v w order
-    → length v.bytes ≤ v.sent + fuel → (whole : Bool) → is_whole w ≡ whole → GoesOn (write_exchange m t cmd_sn order disk) v w window
-goes_on fuel m t cmd_sn v w window order disk a near i le true whole = all_came m t cmd_sn v w window order disk a near i whole
-goes_on zero m t cmd_sn v w window order disk a near i le false part =
+    → length v.bytes ≤ v.sent + fuel → (whole : Bool) → is_whole w ≡ whole → GoesOn most (write_exchange m t cmd_sn order disk) v w window
+goes_on fuel most few m t cmd_sn v w window order disk a near i le true whole = all_came most (omega (arith, few)) m t cmd_sn v w window order disk a near i whole
+goes_on zero most few m t cmd_sn v w window order disk a near i le false part =
     absurd (eqb-false w.total (received w) part (omega (arith, i.total, received_is m v w order i, i.sent, le)))
-goes_on (suc fuel) m t cmd_sn v w window order disk a near i le false part =
+goes_on (suc fuel) most few m t cmd_sn v w window order disk a near i le false part =
     let x : Turned (write_exchange m t cmd_sn order disk) v w window = turn m t cmd_sn v w window order disk a i part in
     let w' : Write = more_came t w x.came in
-    let e : GoesOn (write_exchange m t cmd_sn order disk) (more_sent v x.n) w' x.window_now =
-    goes_on fuel m t cmd_sn (more_sent v x.n) w' x.window_now order disk a (x.near near) x.hand (omega (arith, le, x.some)) (is_whole w') refl in
+    let e : GoesOn (fuel + 1) (write_exchange m t cmd_sn order disk) (more_sent v x.n) w' x.window_now =
+    goes_on fuel (fuel + 1) (omega arith) m t cmd_sn (more_sent v x.n) w' x.window_now order disk a (x.near near) x.hand (omega (arith, le, x.some)) (is_whole w') refl in
     record {
       last = e.last;
-      leads = x.leads e.last e.leads;
+      leads = x.leads (fuel + 1) most (omega (arith, few)) e.last e.leads;
       ended = e.ended;
     }
 
@@ -770,7 +771,7 @@ first_answers m t disk lun cdb bytes p =
 
 -- The target answers well, and it comes to the outcome of this order.
 abbrev Comes : initiator.Machine → initiator.Machine → Order → List ℕ → Disk → Stepped → Type 0
-Comes m i order bytes disk r = IsAnswered m.held r × Ends m.held i r (local_command (effect disk order bytes))
+Comes m i order bytes disk r = IsAnswered m.held r × Ends (length bytes + 1) m.held i r (local_command (effect disk order bytes))
 
 same_effect : (p : Plan) (disk : Disk) (order : Order) (bytes : List ℕ) → ((n : ℕ) → p ≡ Take n → ⊥) → disk_by p disk order [] ≡ disk_by p disk order bytes
 same_effect (Take n) disk order bytes none = absurd (none n refl)
@@ -810,8 +811,8 @@ executed_alone m t disk lun cdb bytes window a near none =
           after.outcome;
     } in
     let well : IsAnswered m.held r = executed_written (begun_write m) t n bytes order disk (next_tag m.initiator_task_tag) [] a refl in
-    let ends_ : Ends m.held i r (local_command after) =
-    response_ends (begun_write m) t n (opens.Out (first_sent m bytes)) window bytes order disk (next_tag m.initiator_task_tag) [] a near (λ h_. refl) refl
+    let ends_ : Ends (length bytes + 1) m.held i r (local_command after) =
+    response_ends (length bytes + 1) (omega arith) (begun_write m) t n (opens.Out (first_sent m bytes)) window bytes order disk (next_tag m.initiator_task_tag) [] a near (λ h_. refl) refl
     same in
     subst (λ (x : Stepped). Comes m i order bytes disk (then_stepped r x)) (sym gone)
     (subst (Comes m i order bytes disk) (sym (then_nothing r)) (well, ends_))
@@ -860,7 +861,7 @@ none_unasked m t disk lun cdb bytes window total a near all none =
     subst (λ (ms : List Message). Comes m (writing (begun_write m) v window) order bytes disk (then_stepped r (answers r.machine r.disk ms))) (sym silent)
     (subst (Comes m (writing (begun_write m) v window) order bytes disk) (sym (then_nothing r)) (
       proceed_written (begun_write m) t n v w order disk a i (is_whole w) refl,
-      goes_on (length bytes) (begun_write m) t n v w window order disk a near i
+      goes_on (length bytes) (length bytes + 1) (omega arith) (begun_write m) t n v w window order disk a near i
           (omega arith) (is_whole w) refl,
     ))
 
@@ -933,7 +934,7 @@ some_unasked m t disk lun cdb bytes window total a near all more =
     ap (λ (x : Stepped). then_stepped x (answers x.machine x.disk (unasked_data m bytes))) first ∙ ap (answers (writer t n w) disk) data_ ∙ r.is in
     subst (Comes m (writing (begun_write m) v window) order bytes disk) (sym is) (
       proceed_written (begun_write m) t n v w' order disk a i (is_whole w') refl,
-      goes_on (length bytes) (begun_write m) t n v w' window order disk a near i
+      goes_on (length bytes) (length bytes + 1) (omega arith) (begun_write m) t n v w' window order disk a near i
           (omega arith) (is_whole w') refl,
     )
 
@@ -1048,12 +1049,16 @@ local_write m t disk lun cdb bytes on_ size are a e =
     (sequence_written (begun_write m) None reserved_tag (length (immediate m bytes)) (initiator_writes.unsolicited m bytes) a.is_held all.tag_fits
     all.stat_sn_sends refl tt (omega arith)
     (omega (arith, first_few m bytes, few))) in
-    let ends_ : Ends m.held i r (local_command after) = record { last = x.1.last; leads = x.1.leads; ended = x.1.ended } in
+    let ends_ : Ends most_answers m.held i r (local_command after) = record {
+      last = x.1.last;
+      leads = leads_less (length bytes + 1) most_answers m.held (between i r.machine r.disk r.answers) x.1.last (omega (arith, few)) x.1.leads;
+      ended = x.1.ended;
+    } in
     record {
       received = received_by m.held t disk (submitted m request).output r is (subst (λ (s : Submitted). ArePlain most s.output) (sym sent) written) x.0.live
           x.0.rule
           x.0.answered;
-      ends = subst (λ (s : Submitted). Ends m.held s.machine (answers t disk (submitted m request).output) (local_command after)) (sym sent)
-          (subst (λ (k : initiator.Machine). Ends m.held k (answers t disk (submitted m request).output) (local_command after)) (sym is_m)
-          (subst (λ (y : Stepped). Ends m.held i y (local_command after)) (sym is) ends_));
+      ends = subst (λ (s : Submitted). Ends most_answers m.held s.machine (answers t disk (submitted m request).output) (local_command after)) (sym sent)
+          (subst (λ (k : initiator.Machine). Ends most_answers m.held k (answers t disk (submitted m request).output) (local_command after)) (sym is_m)
+          (subst (λ (y : Stepped). Ends most_answers m.held i y (local_command after)) (sym is) ends_));
     }

@@ -207,6 +207,26 @@ initiator_received most_out most P k i t disk out (m ∷ new) left there here h 
     receives_if (is_closed (step i m).machine) most_out most P k i t disk out m new left there here h refl g.fault g.sends.written one
     (initiator_received most_out most P k (step i m).machine t disk (out ++ (step i m).output) new left (after_all there (step i m).output) here h one)
 
+-- what holds by the one relation holds by the other once the next answer has come
+abbrev pub Improves : Limits → Relation → Relation → Type 0
+Improves most P Q = (i : initiator.Machine) (t : target.Machine) (disk : Disk) (m : Message) (back : List Message) (there here : Logins) (h : History)
+    → P (between i t disk (m ∷ back)) (so_far there here h) → Goes most Q (between i t disk back) m (so_far there here h)
+
+-- the initiator receives the first of them, and holds by another relation then
+pub initiator_received_first : (most_out most : ℕ) (P Q : Relation) → IsKept (limits most_out most) Q → Improves (limits most_out most) P Q
+    → (i : initiator.Machine) (t : target.Machine) (disk : Disk) (out : List Message) (m : Message) (new left : List Message) (there here : Logins)
+    (h : History)
+    → Talks most P (between i t disk ((m ∷ new) ++ left)) out (so_far there here h)
+    → ReceivesOn (limits most_out most) Q (between i t disk left) (steps i (m ∷ new)) out (so_far there here h)
+initiator_received_first most_out most P Q k better i t disk out m new left there here h s =
+    let a : target.Stepped = answers t disk out in
+    let g : Goes (limits most_out most) Q (between i a.machine a.disk ((new ++ left) ++ a.answers)) m (so_far there (after_all here a.answers) h) =
+    better i a.machine a.disk m ((new ++ left) ++ a.answers) there (after_all here a.answers) h s.kept in
+    let one : Talks most Q (between (step i m).machine t disk (new ++ left)) (out ++ (step i m).output) (so_far (after_all there (step i m).output) here h) =
+    talk_on most_out most Q (step i m).machine t disk out (step i m).output (new ++ left) there here h s.received g.sends in
+    receives_if (is_closed (step i m).machine) most_out most Q k i t disk out m new left there here h refl g.fault g.sends.written one
+    (initiator_received most_out most Q k (step i m).machine t disk (out ++ (step i m).output) new left (after_all there (step i m).output) here h one)
+
 -- ---- worlds
 
 -- how a world of a served run stands

@@ -35,7 +35,7 @@ use Rattle.iscsi_pair.proofs.Login.RoundProgress.{Suited, Well, first_suited, go
 use Rattle.iscsi_pair.proofs.Login.LoginEndsInStep.{HasMet, Meets, Numbered, first_numbered, meets}
 use Rattle.iscsi_pair.proofs.Ends.InitiatorRun.{begun}
 use Rattle.iscsi_pair.proofs.Request.Invariant.{AreWritten, Goes, ReceivesWell, History, IsKept, Sends, between, so_far, SoFar, limits_of}
-use Rattle.iscsi_pair.proofs.Request.AnswersInOrder.{AreReceived, Begins, Leads, LeadsTo}
+use Rattle.iscsi_pair.proofs.Request.AnswersInOrder.{AreReceived, Begins, Leads, LeadsWithin, most_answers}
 use Rattle.iscsi_pair.proofs.Request.OneRequestLaw.{begins, disk_more, is_free, outcomes_more}
 
 -- the most bytes of a segment that each end takes
@@ -99,7 +99,7 @@ pub record IsServing (c : Opening) (x : Exchange) (h : History) : Type 0 where
   pub requests_are : h.requests ≡ past ++ request ∷ []
   pub outcomes_are : h.outcomes ≡ disk_outcomes c past
   pub last : Exchange
-  pub leads : LeadsTo held x last
+  pub leads : LeadsWithin most_answers held x last
   pub ended : (let here = local (pinged c) (disk_after c past) request in HasEnded held here.outcome here.disk last)
 
 -- what both ends keep
@@ -127,7 +127,7 @@ receives_well c held t disk here out a h = record {
 
 -- ---- the login
 
-same_first : (a b : Message) (x y : List Message) → a ∷ x ≡ b ∷ y → a ≡ b
+pub same_first : (a b : Message) (x y : List Message) → a ∷ x ≡ b ∷ y → a ≡ b
 same_first a b x y e = cc e
 
 same_more : (a b : Message) (x y : List Message) → a ∷ x ≡ b ∷ y → x ≡ y
@@ -212,7 +212,7 @@ full_sends c i out t there here o is met =
     })
 
 -- the answer to a login request comes
-login_goes : (c : Opening) (i : initiator.Machine) (t : target.Machine) (disk : Disk) (m : Message) (back : List Message) (there here : Logins) (h : History)
+pub login_goes : (c : Opening) (i : initiator.Machine) (t : target.Machine) (disk : Disk) (m : Message) (back : List Message) (there here : Logins) (h : History)
     → IsNormal c → LogsOn c (between i t disk (m ∷ back)) (so_far there here h)
     → Goes (limits_of c) (Serves c) (between i t disk back) m (so_far there here h)
 login_goes c i t disk m back there here h o l =
@@ -240,11 +240,11 @@ login_goes c i t disk m back there here h o l =
 -- ---- requests
 
 -- an answer comes while a request is served
-serving_goes : (n : ℕ) (c : Opening) (i : initiator.Machine) (t : target.Machine) (disk : Disk) (m : Message) (back : List Message) (there here : Logins)
+serving_goes : (n : ℕ) → n ≤ most_answers → (c : Opening) (i : initiator.Machine) (t : target.Machine) (disk : Disk) (m : Message) (back : List Message) (there here : Logins)
     (h : History) (v : IsServing c (between i t disk (m ∷ back)) h) → Leads v.held n (between i t disk (m ∷ back)) v.last
     → Goes (limits_of c) (Serves c) (between i t disk back) m (so_far there here h)
-serving_goes zero c i t disk m back there here h v l = absurd (let bad : m ∷ back ≡ [] = ap (λ (x : Exchange). x.answers) l ∙ v.ended.silent in cc)
-serving_goes (suc n) c i t disk m back there here h v l =
+serving_goes zero few c i t disk m back there here h v l = absurd (let bad : m ∷ back ≡ [] = ap (λ (x : Exchange). x.answers) l ∙ v.ended.silent in cc)
+serving_goes (suc n) few c i t disk m back there here h v l =
     let s : Stepped = step i m in
     record {
       live = ap is_closed_phase l.0.full;
@@ -260,7 +260,7 @@ serving_goes (suc n) c i t disk m back there here h v l =
           requests_are = v.requests_are;
           outcomes_are = v.outcomes_are;
           last = v.last;
-          leads = (n, l.1);
+          leads = (n, omega (arith, few), l.1);
           ended = v.ended;
         });
       };
@@ -352,15 +352,15 @@ serving_done (suc n) c i t disk (m ∷ back) h d v l is = absurd (let bad : None
 
 -- ---- the relation is kept
 
-serves_receives : (c : Opening) (i : initiator.Machine) (t : target.Machine) (disk : Disk) (m : Message) (back : List Message) (there here : Logins) (h :
+pub serves_receives : (c : Opening) (i : initiator.Machine) (t : target.Machine) (disk : Disk) (m : Message) (back : List Message) (there here : Logins) (h :
     History)
     → IsNormal c → Serves c (between i t disk (m ∷ back)) (so_far there here h)
     → Goes (limits_of c) (Serves c) (between i t disk back) m (so_far there here h)
 serves_receives c i t disk m back there here h o (Logs l) = login_goes c i t disk m back there here h o l
 serves_receives c i t disk m back there here h o (Rest r) = absurd (let bad : m ∷ back ≡ [] = r.none_back in cc)
-serves_receives c i t disk m back there here h o (Serve v) = serving_goes v.leads.0 c i t disk m back there here h v v.leads.1
+serves_receives c i t disk m back there here h o (Serve v) = serving_goes v.leads.0 v.leads.1 c i t disk m back there here h v v.leads.2
 
-serves_asks : (c : Opening) (i : initiator.Machine) (t : target.Machine) (disk : Disk) (back : List Message) (there here : Logins) (h : History)
+pub serves_asks : (c : Opening) (i : initiator.Machine) (t : target.Machine) (disk : Disk) (back : List Message) (there here : Logins) (h : History)
     (request : Request) → Serves c (between i t disk back) (so_far there here h) → IsServed request → (submitted i request).refusal ≡ None
     → Sends (limits_of c) (Serves c) (between (submitted i request).machine t disk back) (submitted i request).output
     (so_far there here (record h { requests = h.requests ++ request ∷ [] }))
@@ -373,15 +373,15 @@ serves_asks c i t disk back there here h request (Rest r) served e =
       | inl on_ ↦ rest_sends c i t disk there here h request r.held r.agreed on_.0 on_.1 r.disk_is r.outcomes_are served e
       | inr over ↦ absurd (parted_accepts i request over.0.initiator_phase e)
     ])
-serves_asks c i t disk back there here h request (Serve v) served e = absurd (serving_accepts v.leads.0 c i t disk back h request v v.leads.1 e)
+serves_asks c i t disk back there here h request (Serve v) served e = absurd (serving_accepts v.leads.0 c i t disk back h request v v.leads.2 e)
 
-serves_takes : (c : Opening) (i : initiator.Machine) (t : target.Machine) (disk : Disk) (back : List Message) (there here : Logins) (h : History) (d : Done)
+pub serves_takes : (c : Opening) (i : initiator.Machine) (t : target.Machine) (disk : Disk) (back : List Message) (there here : Logins) (h : History) (d : Done)
     → Serves c (between i t disk back) (so_far there here h) → i.done ≡ Some d
     → Serves c (between (taken i) t disk back) (so_far there here (record h { outcomes = h.outcomes ++ d ∷ [] }))
 serves_takes c i t disk back there here h d (Logs l) is = absurd (let bad : None ≡ Some d = sym l.asking.no_outcome ∙ is in cc)
 serves_takes c i t disk back there here h d (Rest r) is = absurd (let bad : None ≡ Some d = sym r.none_done ∙ is in cc)
 serves_takes c i t disk back there here h d (Serve v) is =
-    let e : IsDone c v.held (between i t disk back) h d = serving_done v.leads.0 c i t disk back h d v v.leads.1 is in
+    let e : IsDone c v.held (between i t disk back) h d = serving_done v.leads.0 c i t disk back h d v v.leads.2 is in
     Rest (record {
       held = v.held;
       agreed = v.agreed;
@@ -448,4 +448,4 @@ idle_serves c i t disk there here h (Rest r) =
       disk_is = r.disk_is;
       outcomes_are = ap (λ (o : Option Done). h.outcomes ++ listed o) r.none_done ∙ append-nil h.outcomes ∙ r.outcomes_are;
     }
-idle_serves c i t disk there here h (Serve v) = idle_serving v.leads.0 c i t disk h v v.leads.1
+idle_serves c i t disk there here h (Serve v) = idle_serving v.leads.0 c i t disk h v v.leads.2

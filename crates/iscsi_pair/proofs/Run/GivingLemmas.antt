@@ -51,7 +51,7 @@ unfolding Gives Runs
 gives_runs old [] new outcomes g = g.0
 gives_runs old (event ∷ events) new outcomes g = (g.0, g.2, gives_runs g.0 events new g.1 g.4)
 
-served_giving : (old : World) (events : List Event) (new : World) (outcomes : List Done) → Gives old events new outcomes
+pub served_giving : (old : World) (events : List Event) (new : World) (outcomes : List Done) → Gives old events new outcomes
     → AllByRecursion IsServed (requests_of events) → keeps_no_memory new ≡ false → new.initiator_fault ≡ None → RunsServed old events new outcomes
 unfolding Gives RunsServed
 served_giving old [] new outcomes g served well none = g
@@ -69,17 +69,17 @@ served_giving old (event ∷ events) new outcomes g served well none =
 
 -- ---- steps, behind each of which the outcome is taken
 
-requests_more : (xs ys : List Event) → requests_of (xs ++ ys) ≡ requests_of xs ++ requests_of ys
+pub requests_more : (xs ys : List Event) → requests_of (xs ++ ys) ≡ requests_of xs ++ requests_of ys
 requests_more [] ys = refl
 requests_more (x ∷ xs) ys = ap (λ (more : List Request). requests_in x ++ more) (requests_more xs ys)
     ∙ sym (append_assoc (requests_in x) (requests_of xs) (requests_of ys))
 
-none_given : (step : Step) (w : World) → given_in (event_of step) w ≡ []
+pub none_given : (step : Step) (w : World) → given_in (event_of step) w ≡ []
 none_given (steps.ToTarget k) w = refl
 none_given (steps.ToInitiator k) w = refl
 none_given (steps.Submit request) w = refl
 
-same_request : (step : Step) → requests_in (event_of step) ≡ request_of step
+pub same_request : (step : Step) → requests_in (event_of step) ≡ request_of step
 same_request (steps.ToTarget k) = refl
 same_request (steps.ToInitiator k) = refl
 same_request (steps.Submit request) = refl

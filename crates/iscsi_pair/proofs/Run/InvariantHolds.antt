@@ -46,18 +46,18 @@ use Rattle.iscsi_pair.proofs.Login.NoFailure.{both_none}
 use Rattle.iscsi_pair.proofs.Ends.InitiatorRun.{begun, begun_open}
 use Rattle.iscsi_pair.proofs.Request.Invariant.{AreWritten, History, Relation, Sends, IsKept, between, so_far, limits_of}
 use Rattle.iscsi_pair.proofs.Run.QueueReading.{written_reads, refuses_nothing, Unread, Way, MovesOn, moves_on, still_unread, none_more, way_sends, way_none}
-use Rattle.iscsi_pair.proofs.Run.CarriedBytes.{open_none, Talks, talk_on, ReceivesOn, initiator_received}
+use Rattle.iscsi_pair.proofs.Run.CarriedBytes.{open_none, Talks, talk_on, ReceivesOn, Improves, initiator_received, initiator_received_first}
 use Rattle.iscsi_pair.proofs.Run.CarriedBytes.{over_none, Stands, Keeps, talks_of, no_bytes, front_moves}
 use Rattle.iscsi_pair.proofs.Run.CarriedBytes.{some_moves, to_target}
 
 -- ---- bytes reach the initiator
 
 -- what a call of the initiator read, and how the rest stands
-record InitiatorTurn {c : Opening} {P : Relation} {h : History} {old : World} (s : Stands c P h old) (v : Framing) (unreceived more : List ℕ)
+record InitiatorTurn {c : Opening} {P : Relation} {h : History} {old : World} (Q : Relation) (s : Stands c P h old) (v : Framing) (unreceived more : List ℕ)
     (r : initiator_steps.Stepped) : Type 0 where
   fault : r.fault ≡ None
   left : List Message
-  talks : Talks (calls.limit c.initiator) P (between r.machine s.session s.disk left) (s.out ++ r.output) (so_far (after_all s.there r.output) s.here h)
+  talks : Talks (calls.limit c.initiator) Q (between r.machine s.session s.disk left) (s.out ++ r.output) (so_far (after_all s.there r.output) s.here h)
   unread : is_ready v ≡ false → Unread (calls.limit c.initiator) v (unreceived ++ more) left s.here
   none : is_closed r.machine ≡ true → (left ≡ []) × (unreceived ++ more ≡ [])
   refuses : (f : StreamFault) → f ≢ stream.NoMemory → FeedFails v unreceived f → ⊥
@@ -65,21 +65,27 @@ record InitiatorTurn {c : Opening} {P : Relation} {h : History} {old : World} (s
       (after_all s.there r.output)
 
 -- what the target's side has on its way where more is sent
-target_way : (c : Opening) (P : Relation) (h : History) (old : World) (s : Stands c P h old) (most : ℕ) (i : initiator.Machine) (more back : List Message)
+target_way : (c : Opening) (P Q : Relation) (h : History) (old : World) (s : Stands c P h old) (most : ℕ) (i : initiator.Machine) (more back : List Message)
     (there here : Logins) (g : History)
-    → Talks most P (between i s.session s.disk back) (s.out ++ more) (so_far there here g) → AreWritten (target_session.limit c.target) s.there more
+    → Talks most Q (between i s.session s.disk back) (s.out ++ more) (so_far there here g) → AreWritten (target_session.limit c.target) s.there more
     → Way (target_machine.is_closed s.session) (target_session.limit c.target) old.target.framing (old.to_target ++ canon more) (s.out ++ more)
     (after_all s.there more)
-target_way c P h old s most i more back there here g talks written =
+target_way c P Q h old s most i more back there here g talks written =
     way_sends (target_machine.is_closed s.session) (target_session.limit c.target) old.target.framing old.to_target s.out s.there more s.to_target written
     (λ over. (both_none s.out more (open_none s.session s.disk (s.out ++ more) talks.received.open_ over)).1)
 
+-- these messages, and others behind them, are received so
+abbrev Receives : (c : Opening) (P Q : Relation) (h : History) (old : World) → Stands c P h old → List Message → Type 0
+Receives c P Q h old s ms = (left : List Message)
+    → Talks (calls.limit c.initiator) P (between old.initiator.machine s.session s.disk (ms ++ left)) s.out (so_far s.there s.here h)
+    → ReceivesOn (limits_of c) Q (between old.initiator.machine s.session s.disk left) (steps old.initiator.machine ms) s.out (so_far s.there s.here h)
+
 -- a call of the initiator is such a turn
-initiator_turn : (c : Opening) (P : Relation) (h : History) (old : World) (k : ℕ) (moved : List ℕ) → Keeps c P → (s : Stands c P h old)
+initiator_turn : (c : Opening) (P Q : Relation) (h : History) (old : World) (k : ℕ) (moved : List ℕ) → Keeps c Q → (s : Stands c P h old)
     → Unread (calls.limit c.initiator) old.initiator.framing old.to_initiator s.back s.here → moved ≡ take k old.to_initiator
-    → (f : calls.Received old.initiator moved)
-    → InitiatorTurn s f.framing (drop f.count moved) (drop (length moved) old.to_initiator) (received_steps old.initiator moved f)
-initiator_turn c P h old k moved kept s u m f =
+    → (f : calls.Received old.initiator moved) → Receives c P Q h old s f.messages
+    → InitiatorTurn Q s f.framing (drop f.count moved) (drop (length moved) old.to_initiator) (received_steps old.initiator moved f)
+initiator_turn c P Q h old k moved kept s u m f receives =
     let r : initiator_steps.Stepped = steps old.initiator.machine f.messages in
     let piece : List ℕ = take f.count moved in
     let more : List ℕ = drop f.count moved ++ drop (length moved) old.to_initiator in
@@ -91,9 +97,8 @@ initiator_turn c P h old k moved kept s u m f =
     let talks : Talks (calls.limit c.initiator) P (between old.initiator.machine s.session s.disk (f.messages ++ on.left)) s.out (so_far s.there s.here h) =
     subst (λ (x : List Message). Talks (calls.limit c.initiator) P (between old.initiator.machine s.session s.disk x) s.out (so_far s.there s.here h)) on.whole
     (talks_of c P h old s) in
-    let has : ReceivesOn (limits_of c) P (between old.initiator.machine s.session s.disk on.left) r s.out (so_far s.there s.here h) =
-    initiator_received (target_session.limit c.target) (calls.limit c.initiator) P kept old.initiator.machine s.session s.disk s.out f.messages on.left s.there
-    s.here h talks in
+    let has : ReceivesOn (limits_of c) Q (between old.initiator.machine s.session s.disk on.left) r s.out (so_far s.there s.here h) =
+    receives on.left talks in
     record {
       fault = has.fault;
       left = on.left;
@@ -101,14 +106,14 @@ initiator_turn c P h old k moved kept s u m f =
       unread = λ ready. still_unread (calls.limit c.initiator) old.initiator.framing old.to_initiator s.back s.here piece more f.messages on.left f.framing u q
           t bound ready on.whole;
       none = λ over.
-          let left = over_none (target_session.limit c.target) (calls.limit c.initiator) P kept r.machine s.session s.disk (s.out ++ r.output) on.left
+          let left = over_none (target_session.limit c.target) (calls.limit c.initiator) Q kept r.machine s.session s.disk (s.out ++ r.output) on.left
           (after_all s.there r.output) s.here h has.talks over in
           (left, none_more (calls.limit c.initiator) u.received s.back f.messages t.rest more on left);
       refuses = λ fault some fails. refuses_nothing fault f.framing (u.stream ++ piece) (u.received ++ f.messages) (drop f.count moved) (t.rest ++ more)
           (drop (length moved) old.to_initiator)
           (after_all no_login (u.received ++ f.messages)) on.left t some fails refl
           (subst (λ (n : ℕ). ReadsAs n (after_all no_login (u.received ++ f.messages)) (t.rest ++ more) on.left) (sym bound) on.reads);
-      to_target = target_way c P h old s (calls.limit c.initiator) r.machine r.output on.left (after_all s.there r.output) s.here h has.talks has.written;
+      to_target = target_way c P Q h old s (calls.limit c.initiator) r.machine r.output on.left (after_all s.there r.output) s.here h has.talks has.written;
     }
 
 -- what a step of the initiator changes of a world
@@ -121,13 +126,13 @@ record Changes (old new : World) (machine : initiator.Machine) (output : List Me
   queue : new.to_target ≡ old.to_target ++ canon output
 
 -- the initiator is where a step has led that sent more
-initiator_stands : (c : Opening) (P : Relation) (h g : History) (old new : World) (s : Stands c P h old) (i : initiator.Machine) (output left : List Message)
+initiator_stands : (c : Opening) (P Q : Relation) (h g : History) (old new : World) (s : Stands c P h old) (i : initiator.Machine) (output left : List Message)
     → Changes old new i output
-    → Talks (calls.limit c.initiator) P (between i s.session s.disk left) (s.out ++ output) (so_far (after_all s.there output) s.here g)
+    → Talks (calls.limit c.initiator) Q (between i s.session s.disk left) (s.out ++ output) (so_far (after_all s.there output) s.here g)
     → Way (target_machine.is_closed s.session) (target_session.limit c.target) old.target.framing (old.to_target ++ canon output) (s.out ++ output)
     (after_all s.there output)
-    → Way (is_closed new.initiator.machine) (calls.limit c.initiator) new.initiator.framing new.to_initiator left s.here → Stands c P g new
-initiator_stands c P h g old new s i output left e talks there back = record {
+    → Way (is_closed new.initiator.machine) (calls.limit c.initiator) new.initiator.framing new.to_initiator left s.here → Stands c Q g new
+initiator_stands c P Q h g old new s i output left e talks there back = record {
   target_well = e.target_well;
   initiator_well = e.initiator_well;
   session = s.session;
@@ -144,21 +149,21 @@ initiator_stands c P h g old new s i output left e talks there back = record {
       (after_all s.there output)) (sym e.queue) there);
   to_initiator = back;
   received = talks.received;
-  kept = subst (λ (x : initiator.Machine). P (between x (answers s.session s.disk (s.out ++ output)).machine (answers s.session s.disk (s.out ++ output)).disk
+  kept = subst (λ (x : initiator.Machine). Q (between x (answers s.session s.disk (s.out ++ output)).machine (answers s.session s.disk (s.out ++ output)).disk
       (left ++ (answers s.session s.disk (s.out ++ output)).answers))
       (so_far (after_all s.there output) (after_all s.here (answers s.session s.disk (s.out ++ output)).answers) g)) (sym e.initiator) talks.kept;
 }
 
 -- a turn that goes on
-goes_on : (c : Opening) (P : Relation) (h : History) (old new : World) (moved : List ℕ) (phase : Phase) → (s : Stands c P h old)
+goes_on : (c : Opening) (P Q : Relation) (h : History) (old new : World) (moved : List ℕ) (phase : Phase) → (s : Stands c P h old)
     → (f : calls.Received old.initiator moved)
-    → InitiatorTurn s f.framing (drop f.count moved) (drop (length moved) old.to_initiator) (received_steps old.initiator moved f)
+    → InitiatorTurn Q s f.framing (drop f.count moved) (drop (length moved) old.to_initiator) (received_steps old.initiator moved f)
     → calls.ReceivesAll f new.initiator old.to_target new.to_target phase → new.target_fault ≡ None → new.initiator_fault ≡ None
     → new.target ≡ old.target → new.blocks ≡ old.blocks
-    → new.to_initiator ≡ drop (length moved) old.to_initiator → Stands c P h new
-goes_on c P h old new moved phase s f t e there well target_ blocks dropped =
+    → new.to_initiator ≡ drop (length moved) old.to_initiator → Stands c Q h new
+goes_on c P Q h old new moved phase s f t e there well target_ blocks dropped =
     let r : initiator_steps.Stepped = received_steps old.initiator moved f in
-    initiator_stands c P h h old new s r.machine r.output t.left
+    initiator_stands c P Q h h old new s r.machine r.output t.left
     (record {
       target_well = there;
       initiator_well = well;
@@ -175,30 +180,30 @@ goes_on c P h old new moved phase s f t e there well target_ blocks dropped =
     ))
 
 -- a turn that closes the session
-closes : (c : Opening) (P : Relation) (h : History) (old new : World) (moved : List ℕ) (fault : Option InitiatorFault) → (s : Stands c P h old)
+closes : (c : Opening) (P Q : Relation) (h : History) (old new : World) (moved : List ℕ) (fault : Option InitiatorFault) → (s : Stands c P h old)
     → (f : calls.Received old.initiator moved)
-    → InitiatorTurn s f.framing (drop f.count moved) (drop (length moved) old.to_initiator) (received_steps old.initiator moved f)
+    → InitiatorTurn Q s f.framing (drop f.count moved) (drop (length moved) old.to_initiator) (received_steps old.initiator moved f)
     → calls.ClosesAt f new.initiator old.to_target new.to_target fault → new.target_fault ≡ None → new.initiator_fault ≡ None
     → new.target ≡ old.target → new.blocks ≡ old.blocks
-    → new.to_initiator ≡ drop (length moved) old.to_initiator → Stands c P h new
-closes c P h old new moved fault s f t e there well target_ blocks dropped =
+    → new.to_initiator ≡ drop (length moved) old.to_initiator → Stands c Q h new
+closes c P Q h old new moved fault s f t e there well target_ blocks dropped =
     let r : initiator_steps.Stepped = received_steps old.initiator moved f in
     let none = t.none e.closes in
-    initiator_stands c P h h old new s r.machine r.output t.left
+    initiator_stands c P Q h h old new s r.machine r.output t.left
     (record { target_well = there; initiator_well = well; target = target_; blocks = blocks; initiator = e.machine; queue = e.output }) t.talks t.to_target
     (inr (ap is_closed e.machine ∙ e.closes, dropped ∙ (both_none (drop f.count moved) (drop (length moved) old.to_initiator) none.1).1, none.0))
 
 -- no message of a turn leads to a fault
 not_caused : (c : Opening) (P : Relation) (h : History) (old : World) (moved : List ℕ) (fault : InitiatorFault) (new : calls.Connection) (after : List ℕ)
     → (s : Stands c P h old) → (f : calls.Received old.initiator moved)
-    → InitiatorTurn s f.framing (drop f.count moved) (drop (length moved) old.to_initiator) (received_steps old.initiator moved f)
+    → InitiatorTurn P s f.framing (drop f.count moved) (drop (length moved) old.to_initiator) (received_steps old.initiator moved f)
     → calls.ClosesAt f new old.to_target after (Some fault) → ⊥
 not_caused c P h old moved fault new after s f t e = (let bad : None ≡ Some fault = sym t.fault ∙ e.cause in absurd cc)
 
 -- what the calls of an initiator read
 abbrev Turns : (c : Opening) (P : Relation) (h : History) (old : World) → Stands c P h old → List ℕ → Type 0
 Turns c P h old s moved = (f : calls.Received old.initiator moved)
-    → InitiatorTurn s f.framing (drop f.count moved) (drop (length moved) old.to_initiator) (received_steps old.initiator moved f)
+    → InitiatorTurn P s f.framing (drop f.count moved) (drop (length moved) old.to_initiator) (received_steps old.initiator moved f)
 
 -- the framer refuses nothing
 stream_fails : (fault : StreamFault) (c : Opening) (P : Relation) (h : History) (old : World) (moved : List ℕ) (new : calls.Connection) (after : List ℕ)
@@ -218,8 +223,8 @@ initiator_ends : (result : Result Phase InitiatorFault) (c : Opening) (P : Relat
     → new.target_fault ≡ None → new.target ≡ old.target → new.blocks ≡ old.blocks → new.to_initiator ≡ drop (length moved) old.to_initiator → Stands c P h new
 initiator_ends (Ok phase) c P h old new moved s t live e fault memory there target_ blocks dropped =
     elim e.1.1 [
-      | inl all ↦ goes_on c P h old new moved phase s e.1.0 (t e.1.0) all there fault target_ blocks dropped
-      | inr over ↦ closes c P h old new moved None s e.1.0 (t e.1.0) over.0 there fault target_ blocks dropped
+      | inl all ↦ goes_on c P P h old new moved phase s e.1.0 (t e.1.0) all there fault target_ blocks dropped
+      | inr over ↦ closes c P P h old new moved None s e.1.0 (t e.1.0) over.0 there fault target_ blocks dropped
     ]
 initiator_ends (Err faults.NoMemory) c P h old new moved s t live e fault memory there target_ blocks dropped =
     absurd (apart (ap initiator_ran_out fault) memory)
@@ -240,9 +245,78 @@ initiator_receives : (c : Opening) (P : Relation) (h : History) (old new : World
 initiator_receives c P h old new k byte bytes kept s m e memory =
     elim s.to_initiator [
       | inl on ↦
-          initiator_ends e.result c P h old new (byte ∷ bytes) s (λ f. initiator_turn c P h old k (byte ∷ bytes) kept s on.1 m f) on.0 e.fed e.fault memory
+          initiator_ends e.result c P h old new (byte ∷ bytes) s (λ f. initiator_turn c P P h old k (byte ∷ bytes) kept s on.1 m f
+          (λ left talks. initiator_received (target_session.limit c.target) (calls.limit c.initiator) P kept old.initiator.machine s.session s.disk s.out
+          f.messages left s.there s.here h talks)) on.0 e.fed e.fault memory
           (e.other_fault ∙ s.target_well) e.target e.blocks e.dropped
       | inr over ↦ absurd (let none : byte ∷ bytes ≡ [] = some_moves k old.to_initiator (byte ∷ bytes) m over.1 in cc)
+    ]
+
+-- ---- all bytes reach the initiator, and a message waited
+
+-- the first of them is received as the one relation says, the others as the other one does
+receives_first : (ms : List Message) (c : Opening) (P Q : Relation) (h : History) (old : World) → Keeps c Q → Improves (limits_of c) P Q
+    → (s : Stands c P h old) → (ms ≡ [] → ⊥) → Receives c P Q h old s ms
+receives_first [] c P Q h old kept better s some = λ left talks. absurd (some refl)
+receives_first (m ∷ ms) c P Q h old kept better s some = λ left talks.
+    initiator_received_first (target_session.limit c.target) (calls.limit c.initiator) P Q kept better old.initiator.machine s.session s.disk s.out m ms left
+    s.there s.here h talks
+
+-- where no message was received nothing changed
+none_steps : (i : initiator.Machine) (ms : List Message) → ms ≡ [] → (steps i ms).machine ≡ i
+unfolding steps
+none_steps i [] e = refl
+none_steps i (m ∷ ms) e = absurd (cc e)
+
+-- where all bytes moved and none is left in the framer, no message waits but those that were received
+none_waits_more : (c : Opening) (P : Relation) (h : History) (old : World) (k : ℕ) (moved : List ℕ) → (s : Stands c P h old)
+    → Unread (calls.limit c.initiator) old.initiator.framing old.to_initiator s.back s.here → moved ≡ take k old.to_initiator
+    → drop (length moved) old.to_initiator ≡ [] → (f : calls.Received old.initiator moved) → f.count ≡ length moved → is_ready f.framing ≡ false
+    → f.messages ≡ [] → s.back ≡ []
+none_waits_more c P h old k moved s u m none f all ready nil =
+    let piece : List ℕ = take f.count moved in
+    let more : List ℕ = drop f.count moved ++ drop (length moved) old.to_initiator in
+    let q : old.to_initiator ≡ piece ++ more = front_moves k f.count old.to_initiator moved m in
+    let t : HasTaken (u.stream ++ piece) (u.received ++ f.messages) f.framing = f.moves u.stream u.received u.taken in
+    let bound : f.framing.limit ≡ calls.limit c.initiator = f.limit ∙ u.limit_is in
+    let on : MovesOn (calls.limit c.initiator) u.received s.back f.messages t.rest more =
+    moves_on (calls.limit c.initiator) old.initiator.framing old.to_initiator s.back s.here piece more f.messages f.framing u q t bound in
+    let unread : Unread (calls.limit c.initiator) f.framing more on.left s.here =
+    still_unread (calls.limit c.initiator) old.initiator.framing old.to_initiator s.back s.here piece more f.messages on.left f.framing u q t bound ready on.whole in
+    let left : on.left ≡ [] = way_none false (calls.limit c.initiator) f.framing more on.left s.here (inl (refl, unread))
+    (no_bytes f.count moved (drop (length moved) old.to_initiator) all ∙ none) in
+    on.whole ∙ ap (λ (x : List Message). x ++ on.left) nil ∙ left
+
+some_ends : (result : Result Phase InitiatorFault) (c : Opening) (P Q : Relation) (h : History) (old new : World) (k : ℕ) (moved : List ℕ) → Keeps c Q
+    → Improves (limits_of c) P Q → (s : Stands c P h old)
+    → Unread (calls.limit c.initiator) old.initiator.framing old.to_initiator s.back s.here → moved ≡ take k old.to_initiator
+    → drop (length moved) old.to_initiator ≡ [] → (s.back ≡ [] → ⊥)
+    → calls.Feeds result old.initiator moved new.initiator old.to_target new.to_target → new.initiator_fault ≡ feed_fault (result_err result)
+    → new.initiator_fault ≡ None → new.target_fault ≡ None → new.target ≡ old.target → new.blocks ≡ old.blocks
+    → new.to_initiator ≡ drop (length moved) old.to_initiator → is_closed old.initiator.machine ≡ false → Stands c Q h new
+some_ends (Err fault_) c P Q h old new k moved kept better s u m none waits e fault well there target_ blocks dropped live =
+    absurd (let bad : None ≡ Some (ends.Feed fault_) = sym well ∙ fault in cc)
+some_ends (Ok phase) c P Q h old new k moved kept better s u m none waits e fault well there target_ blocks dropped live =
+    elim e.1.1 [
+      | inl all ↦ goes_on c P Q h old new moved phase s e.1.0
+          (initiator_turn c P Q h old k moved kept s u m e.1.0 (receives_first e.1.0.messages c P Q h old kept better s
+          (λ nil. waits (none_waits_more c P h old k moved s u m none e.1.0 all.all all.unready nil))))
+          all there well target_ blocks dropped
+      | inr over ↦ closes c P Q h old new moved None s e.1.0
+          (initiator_turn c P Q h old k moved kept s u m e.1.0 (receives_first e.1.0.messages c P Q h old kept better s
+          (λ nil. apart (ap is_closed (sym (none_steps old.initiator.machine e.1.0.messages nil)) ∙ over.0.closes) live)))
+          over.0 there well target_ blocks dropped
+    ]
+
+-- so one was received at least
+pub receives_some : (c : Opening) (P Q : Relation) (h : History) (old new : World) (k : ℕ) (moved : List ℕ) → Keeps c Q → Improves (limits_of c) P Q
+    → (s : Stands c P h old) → moved ≡ take k old.to_initiator → drop (length moved) old.to_initiator ≡ [] → (s.back ≡ [] → ⊥)
+    → InitiatorReceives moved old new → new.initiator_fault ≡ None → Stands c Q h new
+receives_some c P Q h old new k moved kept better s m none waits e well =
+    elim s.to_initiator [
+      | inl on ↦ some_ends e.result c P Q h old new k moved kept better s on.1 m none waits e.fed e.fault well (e.other_fault ∙ s.target_well) e.target e.blocks
+          e.dropped on.0
+      | inr over ↦ absurd (waits over.2)
     ]
 
 -- bytes moved to the initiator
@@ -293,7 +367,7 @@ accepts c P h old new request kept s served e there well target_ blocks queue =
     (so_far (after_all s.there out) s.here (requested h request)) =
     talk_on (target_session.limit c.target) (calls.limit c.initiator) P (submitted i request).machine s.session s.disk s.out out s.back s.there s.here
     (requested h request) s.received sends in
-    initiator_stands c P h (requested h request) old new s (submitted i request).machine out s.back
+    initiator_stands c P P h (requested h request) old new s (submitted i request).machine out s.back
     (record {
       target_well = there;
       initiator_well = well;
@@ -302,7 +376,7 @@ accepts c P h old new request kept s served e there well target_ blocks queue =
       initiator = ap (λ (x : calls.Connection). x.machine) e.connection;
       queue = e.output;
     }) talks
-    (target_way c P h old s (calls.limit c.initiator) (submitted i request).machine out s.back (after_all s.there out) s.here (requested h request) talks
+    (target_way c P P h old s (calls.limit c.initiator) (submitted i request).machine out s.back (after_all s.there out) s.here (requested h request) talks
     sends.written)
     (subst (λ (x : calls.Connection). Way (is_closed x.machine) (calls.limit c.initiator) x.framing new.to_initiator s.back s.here) (sym e.connection)
     (subst (λ (x : List ℕ). Way (is_closed (submitted i request).machine) (calls.limit c.initiator) old.initiator.framing x s.back s.here) (sym queue)
@@ -379,7 +453,7 @@ takes c P h old k s =
 -- ---- runs
 
 -- the history behind a run
-abbrev later_history : History → List Request → List Done → History
+abbrev pub later_history : History → List Request → List Done → History
 later_history h requests outcomes = record { requests = h.requests ++ requests; outcomes = h.outcomes ++ outcomes }
 
 -- the same history, told otherwise
@@ -395,7 +469,7 @@ nothing_later : (c : Opening) (P : Relation) (h : History) (w : World) → Stand
 nothing_later c P h w s = same_history c P h w (h.requests ++ []) (h.outcomes ++ []) (sym (append-nil h.requests)) (sym (append-nil h.outcomes)) s
 
 -- one event
-happens : (c : Opening) (P : Relation) (h : History) (old : World) (event : Event) (new : World) → Keeps c P → Stands c P h old → Happens old event new
+pub happens : (c : Opening) (P : Relation) (h : History) (old : World) (event : Event) (new : World) → Keeps c P → Stands c P h old → Happens old event new
     → IsAccepted event old → keeps_no_memory new ≡ false
     → Stands c P (later_history h (requests_in event) (given_in event old)) new
 happens c P h old (ToTarget n) new k s e accepted_ memory =

@@ -260,3 +260,20 @@ way_none over limit v queue waits logins way none = elim way [
   | inl on ↦ unread_none limit v queue waits logins on.1 none
   | inr ended ↦ ended.2
 ]
+
+-- what was queued is what waits
+unread_empty : (limit : ℕ) (v : Framing) (queue : List ℕ) (waits : List Message) (logins : Logins) → Unread limit v queue waits logins → waits ≡ [] → queue ≡ []
+unread_empty limit v queue waits logins u none =
+    let bytes : u.stream ≡ u.stream ++ [] = sym (append-nil u.stream) in
+    let messages : u.received ≡ u.received ++ [] = sym (append-nil u.received) in
+    let t : HasTaken (u.stream ++ []) (u.received ++ []) v = taken_at u.stream (u.stream ++ []) u.received (u.received ++ []) v bytes messages u.taken in
+    let m : MovesOn limit u.received waits [] t.rest queue = moves_on limit v queue waits logins [] queue [] v u refl t u.limit_is in
+    none_more limit u.received waits [] t.rest queue m (sym m.whole ∙ none)
+
+-- where nothing waits nothing is queued
+pub way_empty : (over : Bool) (limit : ℕ) (v : Framing) (queue : List ℕ) (waits : List Message) (logins : Logins) → Way over limit v queue waits logins
+    → waits ≡ [] → queue ≡ []
+way_empty over limit v queue waits logins way none = elim way [
+  | inl on ↦ unread_empty limit v queue waits logins on.1 none
+  | inr ended ↦ ended.1
+]

@@ -13,7 +13,7 @@ use std::process::Abort;
 /// What is asked, and what comes of it. `in` has the unit, the descriptor block and the bytes expected;
 /// `out` the unit, the block and the bytes. Of a command come the status, the sense, how many bytes
 /// and all of them, and the residual; `5a*512` stands for so many of a byte.
-const COMMANDS: &str = "\
+pub(super) const COMMANDS: &str = "\
 out 0 2a000000000000000800 5a*4096 = 0 - 0 - exact
 in 0 28000000000000000100 512 = 0 - 512 5a*512 exact
 in 0 25000000000000000000 8 = 0 - 8 000007ff00000200 exact
@@ -29,7 +29,7 @@ logout = closed
 ";
 
 /// A write and a read that need R2Ts and several segments.
-const BURSTS: &str = "\
+pub(super) const BURSTS: &str = "\
 out 0 2a000000000000000800 5a*4096 = 0 - 0 - exact
 in 0 28000000000000000800 4096 = 0 - 4096 5a*4096 exact
 ";
@@ -72,7 +72,7 @@ fn out_of(rt: &impl Abort, alloc: Global, line: &str) -> Request {
 }
 
 // The request of a line.
-fn request_of(rt: &impl Abort, alloc: Global, line: &str) -> Request {
+pub(super) fn request_of(rt: &impl Abort, alloc: Global, line: &str) -> Request {
     let (kind, rest) = line.split_once(' ').unwrap_or((line, ""));
     match kind {
         "in" => in_of(rt, alloc, rest),
@@ -129,7 +129,7 @@ fn word_and_bytes(rt: &impl Abort, alloc: Global, word: &str, bytes: &[u8]) -> S
 }
 
 // The words of an outcome.
-fn told(rt: &impl Abort, alloc: Global, done: &Option<Done>) -> String {
+pub(super) fn told(rt: &impl Abort, alloc: Global, done: &Option<Done>) -> String {
     match done {
         None => String::from_str(alloc, "nothing").expect(rt, "text"),
         Some(Done::Closed) => String::from_str(alloc, "closed").expect(rt, "text"),

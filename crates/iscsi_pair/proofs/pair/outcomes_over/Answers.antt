@@ -38,7 +38,7 @@ returns c =
     let list = YieldsList-from_vec c.args.steps.items gives.0 (omega (arith, gives.1, ap length gives.0, c.args.steps.ok.0)) in
     let end = YieldsList-end list c.loop-step.yielded c.loop-step.step-iterator c.loop-step.yielded_by c.next.result c.next.new.self c.in-None.is c.next.ensures.steps in
     let all : c.loop-step.yielded ≡ c.args.steps.items = sym (map_same c.loop-step.yielded) ∙ end.0 in
-    let still = c.is_idle.ensures idle in
+    let still = c.is_idle.ensures.0 idle in
     record {
       on_disk = λ suits normal served.
           (let d : AreOnDisk o c.args.steps.items c.loop-step.pair outcomes =

@@ -1,0 +1,108 @@
+//! Requests that are served one after another, in steps of the pair's own.
+
+ghost use Rattle.std.specs.Prelude.{◌≡◌, ◌⊎◌, [], ℕ, List, false, length, map, IfErr, IfOk, OnOk};
+ghost use Rattle.std.specs.List.{AllByRecursion};
+ghost use Rattle.scsi_disk.specs.Disk.{disk_of};
+ghost use Rattle.iscsi_initiator.specs.declared.request.Done.{Done};
+ghost use Rattle.iscsi_login.specs.declared.stage.Session.TheVariants as sessions;
+ghost use Rattle.iscsi_pair.specs.declared.step.RunFault.TheVariants as faults;
+ghost use Rattle.iscsi_pair.specs.declared.step.Step.{Step};
+ghost use Rattle.iscsi_pair.specs.Outcomes.{CanBeServed, IsIdle, opening_of, requests_among};
+ghost use Rattle.iscsi_pair.specs.Served.{IsNormal, IsServed, RunsServed, disk_after, disk_outcomes};
+ghost use Rattle.iscsi_pair.specs.World.{Event, Happens, Opening, Runs, Suits, World, event_of, keeps_no_memory, new_pair};
+ghost use Rattle.iscsi_pair.specs.World as worlds;
+
+use crate::pair::{Pair, push_some};
+use crate::step::{RunFault, Step};
+use iscsi_initiator::{Done, Request};
+use scsi_disk::MemoryStore;
+use std::alloc::Global;
+
+/// The most turns for a login or a request: a request has at most 4,194,305 answers, of which each
+/// turn but the last moves one.
+const TURNS: u32 = 16_777_216;
+
+/// Hands these requests to a new pair, each once nothing is on its way, and moves what it leads to
+/// until nothing is. Returns the outcomes and what the target's store has then; `NotServed` where
+/// an end failed, a request was refused, or bytes were on their way still after 16,777,216 turns,
+/// to which no served run comes.
+///
+/// Where memory holds, requests that any target takes are served (RFC 7143, section 4.2).
+pub fn serve_requests(
+    alloc: Global,
+    configs: (iscsi_initiator::Config, iscsi_target::Config),
+    first_statsn: u32,
+    store: MemoryStore,
+    requests: Vec<Request>,
+) -> Result<(Vec<Done>, MemoryStore), RunFault>
+    ensures on_disk { IfOk result (λ served.
+        let c = opening_of configs.0 configs.1 first_statsn store in
+        Suits c → c.initiator.proposal.session ≡ sessions.Normal
+        → AllByRecursion IsServed requests.items
+        → (served.0.items ≡ disk_outcomes c requests.items)
+        × (disk_of served.1 ≡ disk_after c requests.items)) }
+    ensures served { let c = opening_of configs.0 configs.1 first_statsn store in
+        Suits c → c.initiator.proposal.session ≡ sessions.Normal → CanBeServed requests.items
+        → IfErr result (λ fault. fault ≡ faults.NoMemory) }
+{
+    let Ok(mut pair) = Pair::new(alloc, configs.0, configs.1, first_statsn, store) else {
+        return Err(RunFault::NoMemory);
+    };
+    let mut outcomes = Vec::new(alloc);
+    settle(&mut pair)?;
+    for request in requests {
+        pair.step(Step::Submit(request));
+        settle(&mut pair)?;
+        let outcome = pair.outcome();
+        let Ok(()) = push_some(&mut outcomes, outcome) else {
+            return Err(RunFault::NoMemory);
+        };
+    }
+    Ok((outcomes, pair.into_store()))
+}
+
+// Moves what is on its way, and all that it leads to.
+fn settle(pair: &mut Pair) -> Result<(), RunFault>
+    ensures ran { (steps : List Step) × (requests_among steps ≡ [])
+        × Runs pair.old (map event_of steps) pair.new }
+    ensures ok { OnOk result (IsIdle pair.new) }
+    ensures err { IfErr result (λ fault. (fault ≡ faults.NoMemory)
+        ⊎ ((keeps_no_memory pair.new ≡ false)
+        × ((c : Opening) (events : List Event) (outcomes : List Done) → IsNormal c
+        → RunsServed (new_pair c) events pair.old outcomes → ⊥))) }
+{
+    for _ in 0..TURNS {
+        if pair.is_silent() {
+            return at_rest(pair);
+        }
+        turn(pair);
+    }
+    at_rest(pair)
+}
+
+// All that is on its way to the target reaches it, and then all that is on its way back the
+// initiator.
+fn turn(pair: &mut Pair)
+    ensures { (mid : World) × Happens pair.old (worlds.ToTarget (length pair.old.to_target)) mid
+        × Happens mid (worlds.ToInitiator (length mid.to_initiator)) pair.new }
+{
+    let (there, _) = pair.queued();
+    pair.step(Step::ToTarget(there));
+    let (_, back) = pair.queued();
+    pair.step(Step::ToInitiator(back));
+}
+
+// Whether a pair has served all that it was asked.
+fn at_rest(pair: &Pair) -> Result<(), RunFault>
+    ensures ok { OnOk result (IsIdle pair.now) }
+    ensures err { IfErr result (λ fault. (fault ≡ faults.NoMemory)
+        ⊎ ((keeps_no_memory pair.now ≡ false) × (IsIdle pair.now → ⊥))) }
+{
+    if pair.ran_out() {
+        return Err(RunFault::NoMemory);
+    }
+    if !pair.is_idle() {
+        return Err(RunFault::NotServed);
+    }
+    Ok(())
+}
