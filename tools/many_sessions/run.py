@@ -203,7 +203,7 @@ def partial_write(program, room):
 
 def silent_peer(program, room):
     """A peer says nothing, and its seat is freed; another one works before and after."""
-    with Service(program, 3, "--at-once", "2", "--idle", "1") as service:
+    with Service(program, 2, "--at-once", "2", "--idle", "1") as service:
         with service.peer() as peer:
             began = time.monotonic()
             before = works(service)
@@ -215,7 +215,7 @@ def silent_peer(program, room):
 
 def late_login(program, room):
     """A peer sends a byte of its login now and then, and is too late."""
-    with Service(program, 2, "--at-once", "2", "--login-within", "1") as service:
+    with Service(program, 1, "--at-once", "2", "--login-within", "1") as service:
         with service.peer() as peer:
             try:
                 for byte in LOGIN:

@@ -304,6 +304,22 @@ def rest_of(peer):
     return came
 
 
+def finish(service, port, stream):
+    """Has further sessions until the service ends: one that ran out of memory before its login is not counted."""
+    for _ in range(9):
+        try:
+            service.wait(1)
+            return
+        except subprocess.TimeoutExpired:
+            pass
+        try:
+            with socket.create_connection(("127.0.0.1", port), timeout=SECONDS) as peer:
+                peer.sendall(stream)
+                rest_of(peer)
+        except OSError:
+            pass
+
+
 def run_company(first, second, fail_at=0):
     """Two sessions at a time: the second begins behind the first PDU of the first, and ends before its others."""
     with socket.create_server(("127.0.0.1", 0)) as free:
@@ -328,6 +344,7 @@ def run_company(first, second, fail_at=0):
             except OSError:
                 # a service, or a session, that ran out of memory is gone
                 pass
+            finish(service, port, second)
         err = service.stderr.read()
     return (service.returncode, came, err), *told()
 

@@ -1,23 +1,28 @@
 -- A service of several sessions at a time: what it has, and when it is done.
-use Rattle.std.specs.Prelude.{◌≡◌, ℕ, ◌<◌, ◌≤◌, false, List, length, is_some}
+use Rattle.std.specs.Prelude.{◌≡◌, ℕ, ◌<◌, Bool, true, false, nat_le, List, length, Option, None, Some, is_some}
 use Rattle.iscsi_login.specs.declared.preferences.Preferences.{Preferences}
 use Rattle.iscsi_target_session.specs.Configured.{Settings}
 use Rattle.iscsi_hall.specs.Seats.{Hall, seat_at}
 
--- The seats, how many connections were accepted, and how many are to be.
+-- The seats, how many logins were completed, and how many are to be; none: any number.
 pub record Service : Type 0 where
   pub hall : Hall
-  pub accepted : ℕ
-  pub sessions : ℕ
+  pub logins : ℕ
+  pub sessions : Option ℕ
+
+-- So many logins were completed as are to be.
+abbrev pub has_all : Option ℕ → ℕ → Bool
+has_all (Some sessions) logins = nat_le sessions logins
+has_all None logins = false
 
 -- No session has a seat.
 abbrev pub IsEmpty : Hall → Type 0
 IsEmpty hall =
     (seat : ℕ) → seat < length hall.seats → is_some (seat_at hall seat) ≡ false
 
--- All connections were accepted, and their sessions are over.
+-- All logins were completed, and their sessions are over.
 abbrev pub IsDone : Service → Type 0
-IsDone service = (service.sessions ≤ service.accepted) × IsEmpty service.hall
+IsDone service = (has_all service.sessions service.logins ≡ true) × IsEmpty service.hall
 
 -- What the target is configured with for the session of a number: portal group 1, and the number as
 -- its TSIH (RFC 7143, section 11.12.6; own rule).

@@ -6,6 +6,7 @@ mod budget;
 mod configuration;
 mod connection;
 mod limits;
+mod numbers;
 mod options;
 mod peer;
 mod server;

@@ -21,8 +21,8 @@ pub struct Options<'a> {
     pub listen: IpAddr,
     /// The port; 0 is one that the system picks.
     pub port: u16,
-    /// How many connections are served in all.
-    pub sessions: u16,
+    /// How many logins are completed in all; none: any number.
+    pub sessions: Option<u16>,
     /// How many of them at a time, 1 to 64.
     pub at_once: u16,
     /// The target's name: 1 to 223 bytes, each of `!` to `~`.

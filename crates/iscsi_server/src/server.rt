@@ -1,19 +1,20 @@
 //! A listening socket, and the sessions of those who came there. Long, since all of it is what a turn
 //! of the service does.
 
-ghost use Rattle.std.specs.Prelude.{◌≡◌, ◌≤◌, ◌↔◌, ◌+◌, ◌<◌, length, option_map, true, Some, IsTrue, IfSome, IfOk, IfErr};
+ghost use Rattle.std.specs.Prelude.{◌≡◌, ◌≤◌, ◌↔◌, false, length, option_map, true, Some, IsTrue, IfSome, IfOk, IfErr};
 ghost use Rattle.iscsi_service.specs.Session.{HasExecuted};
 ghost use Rattle.iscsi_service.specs.Serving.{EndsService};
 ghost use Rattle.iscsi_service.specs.declared.fault.ServeFault.TheVariants as serve;
 ghost use Rattle.iscsi_login.specs.declared.phase.Phase.TheVariants as phases;
 ghost use Rattle.iscsi_hall.specs.Seats.{phase_of, seat_at};
-ghost use Rattle.iscsi_server.specs.Serving.{IsDone, IsEmpty};
+ghost use Rattle.iscsi_server.specs.Serving.{has_all, IsDone, IsEmpty};
 
 use crate::accepting::{AcceptError, Accepting};
 use crate::budget::Budget;
 use crate::configuration::configuration;
 use crate::connection::Connection;
 use crate::limits::sooner;
+use crate::numbers::next_number;
 use crate::options::Options;
 use crate::peer::{Peer, no_peers};
 use crate::session_end::SessionEnd;
@@ -39,29 +40,34 @@ pub struct Server<'a> {
     options: Options<'a>,
     poll: Poll,
     events: Events,
-    listener: TcpListener,
+    // none once all logins were completed
+    listener: Option<TcpListener>,
     accepting: Accepting,
-    // how many connections were accepted
-    accepted: u16,
+    // how many logins were completed
+    logins: u64,
     hall: Hall,
     peers: Vec<Option<Peer>>,
+    // the number of the session of each seat, and 0 of one that is free
+    numbers: Vec<u16>,
+    // the number of the connection that was accepted last
+    last_number: u16,
     // what a read of a peer goes through
     buffer: Box<[u8; MOST_READ]>,
 }
 
 impl<'a> Model for Server<'a> {
-    ghost use Rattle.std.specs.Prelude.{◌≤◌};
+    ghost use Rattle.std.specs.Prelude.{◌≤◌, IfSome};
     ghost use Rattle.iscsi_server.specs.Serving.{Service};
 
     ghost Value = { Service };
 
     ghost view = { λ s. record {
       hall = s.hall;
-      accepted = s.accepted;
+      logins = s.logins;
       sessions = s.options.sessions;
     } };
 
-    ghost invariant = { λ s. s.accepted ≤ s.options.sessions };
+    ghost invariant = { λ s. IfSome s.options.sessions (λ n. s.logins ≤ n) };
 }
 
 impl<'a> Server<'a> {
@@ -69,13 +75,14 @@ impl<'a> Server<'a> {
     /// memory runs out.
     pub fn open(rt: &HostRuntime, options: Options<'a>) -> Result<Server<'a>, ServeFault>
         ensures seats { IfOk result (λ server. length server.hall.seats ≡ options.entry.at_once) }
-        ensures accepted { IfOk result (λ server. server.accepted ≡ 0) }
+        ensures logins { IfOk result (λ server. server.logins ≡ 0) }
         ensures sessions { IfOk result (λ server. server.sessions ≡ options.entry.sessions) }
         ensures ends { IfErr result EndsService }
     {
         let alloc = rt.alloc();
         let count = usize::from(options.at_once);
         let peers = no_peers(alloc, count)?;
+        let numbers = vec![in alloc; 0u16; count]?;
         let events = Events::with_capacity(alloc, count + 1)?;
         let hall = Hall::new(alloc, count)?;
         let Ok(buffer) = Box::new(alloc, [0u8; MOST_READ]) else {
@@ -86,35 +93,49 @@ impl<'a> Server<'a> {
             options,
             poll,
             events,
-            listener,
+            listener: Some(listener),
             accepting: Accepting::new(),
-            accepted: 0,
+            logins: 0,
             hall,
             peers,
+            numbers,
+            last_number: 0,
             buffer,
         })
     }
 
-    /// The port at which it listens; `Network` where the system doesn't tell it.
+    /// The port at which it listens; `Network` where the system doesn't tell it, or all logins were
+    /// completed.
     pub fn port(&self) -> Result<u16, ServeFault>
         ensures ends { IfErr result (λ fault. fault ≡ serve.Network) }
     {
-        match self.listener.local_addr() {
-            Ok(address) => Ok(address.port()),
-            Err(_) => Err(ServeFault::Network),
+        match &self.listener {
+            Some(listener) => port_of(listener),
+            None => Err(ServeFault::Network),
         }
     }
 
-    /// Whether all sessions were served. No more connections are accepted than are to be.
+    /// Whether all sessions were served. No more logins are completed than are to be.
     pub fn is_done(&self) -> bool
         ensures done { IsTrue result ↔ IsDone self.now }
-        ensures limit { self.now.accepted ≤ self.now.sessions }
+        ensures limit { IfSome self.now.sessions (λ n. self.now.logins ≤ n) }
     {
-        self.accepted >= self.options.sessions && is_empty(&self.hall)
+        self.has_all() && is_empty(&self.hall)
+    }
+
+    // Whether all logins were completed that are to be.
+    fn has_all(&self) -> bool
+        ensures all { result ≡ has_all self.now.sessions self.now.logins }
+    {
+        match self.options.sessions {
+            Some(most) => u64::from(most) <= self.logins,
+            None => false,
+        }
     }
 
     /// Waits until there is something to do, accepts who came, as long as a seat is free and not
-    /// all connections were accepted, and gives each seat a turn.
+    /// all logins were completed, and gives each seat a turn. With the last login that is to be
+    /// completed the listener closes, and connections that have not logged in are ended.
     ///
     /// The line of a session that ends with a fault goes to the standard error, and the others go
     /// on. A connection that the system does not watch, or for which there is no memory, is closed.
@@ -126,7 +147,7 @@ impl<'a> Server<'a> {
         ensures blocks { HasExecuted (S.disk store.old) (S.disk store.new) }
         ensures seats { length self.new.hall.seats ≡ length self.old.hall.seats }
         ensures sessions { self.new.sessions ≡ self.old.sessions }
-        ensures accepted { self.old.accepted ≤ self.new.accepted }
+        ensures logins { self.old.logins ≤ self.new.logins }
         ensures ends { IfErr result EndsService }
     {
         self.wait(now(rt)?)?;
@@ -176,16 +197,16 @@ impl<'a> Server<'a> {
 
     // Whether a connection is to be accepted, if one waits.
     fn may_admit(&self, now: Instant) -> bool
-        ensures open { result ≡ true → self.now.accepted < self.now.sessions }
+        ensures open { result ≡ true → has_all self.now.sessions self.now.logins ≡ false }
     {
         self.has_place() && self.accepting.is_due(now)
     }
 
     // Whether one more connection is to be accepted, and has a seat that is free or can be.
     fn has_place(&self) -> bool
-        ensures open { result ≡ true → self.now.accepted < self.now.sessions }
+        ensures open { result ≡ true → has_all self.now.sessions self.now.logins ≡ false }
     {
-        self.accepted < self.options.sessions
+        !self.has_all()
             && (self.peers.iter().any(|peer| peer.is_none()) || self.oldest_guest().is_some())
     }
 
@@ -233,7 +254,7 @@ impl<'a> Server<'a> {
     fn make_room(&mut self, rt: &HostRuntime)
         ensures seats { length self.new.hall.seats ≡ length self.old.hall.seats }
         ensures sessions { self.new.sessions ≡ self.old.sessions }
-        ensures accepted { self.new.accepted ≡ self.old.accepted }
+        ensures logins { self.new.logins ≡ self.old.logins }
     {
         if self.peers.iter().any(|peer| peer.is_none()) {
             return;
@@ -271,13 +292,16 @@ impl<'a> Server<'a> {
     fn admit(&mut self, rt: &HostRuntime, now: Instant)
         ensures seats { length self.new.hall.seats ≡ length self.old.hall.seats }
         ensures sessions { self.new.sessions ≡ self.old.sessions }
-        ensures accepted { self.old.accepted ≤ self.new.accepted }
+        ensures logins { self.new.logins ≡ self.old.logins }
     {
         for _ in 0..self.peers.len() {
             if !self.may_admit(now) {
                 return;
             }
-            match self.listener.accept() {
+            let Some(listener) = &self.listener else {
+                return;
+            };
+            match listener.accept() {
                 Ok((stream, _)) => {
                     self.make_room(rt);
                     self.welcome(rt.alloc(), stream, now);
@@ -302,19 +326,20 @@ impl<'a> Server<'a> {
         }
     }
 
-    // Gives a connection a seat. Its number, counted from 1, is the TSIH of its session. One for which
-    // there is no memory, or that the system does not watch, is closed.
+    // Gives a connection a seat, and a number that no other one has, which is the TSIH of its session.
+    // One for which there is no memory, or that the system does not watch, is closed.
     fn welcome(&mut self, alloc: Global, mut stream: TcpStream, now: Instant)
-        requires open { self.old.accepted < self.old.sessions }
         ensures seats { length self.new.hall.seats ≡ length self.old.hall.seats }
         ensures sessions { self.new.sessions ≡ self.old.sessions }
-        ensures accepted { self.new.accepted ≡ self.old.accepted + 1 }
+        ensures logins { self.new.logins ≡ self.old.logins }
     {
-        self.accepted += 1;
         self.accepting.accepted();
+        let Some(number) = next_number(self.last_number, &self.numbers) else {
+            return;
+        };
+        self.last_number = number;
         let options = self.options;
-        let Ok(config) = configuration(alloc, options.name, self.accepted, options.preferences)
-        else {
+        let Ok(config) = configuration(alloc, options.name, number, options.preferences) else {
             return;
         };
         let Some(seat) = self.hall.seat(config) else {
@@ -327,6 +352,9 @@ impl<'a> Server<'a> {
         if let Some(place) = self.peers.get_mut(seat) {
             *place = Some(Peer::new(Connection::new(stream, now)));
         }
+        if let Some(place) = self.numbers.get_mut(seat) {
+            *place = number;
+        }
     }
 
     // A turn for each peer.
@@ -335,7 +363,7 @@ impl<'a> Server<'a> {
         ensures blocks { HasExecuted (S.disk store.old) (S.disk store.new) }
         ensures seats { length self.new.hall.seats ≡ length self.old.hall.seats }
         ensures sessions { self.new.sessions ≡ self.old.sessions }
-        ensures accepted { self.new.accepted ≡ self.old.accepted }
+        ensures logins { self.old.logins ≤ self.new.logins }
     {
         let taken = self.peers.iter().filter(|peer| peer.is_some()).count();
         let budget = Budget::of(taken);
@@ -357,7 +385,7 @@ impl<'a> Server<'a> {
         ensures blocks { HasExecuted (S.disk store.old) (S.disk store.new) }
         ensures seats { length self.new.hall.seats ≡ length self.old.hall.seats }
         ensures sessions { self.new.sessions ≡ self.old.sessions }
-        ensures accepted { self.new.accepted ≡ self.old.accepted }
+        ensures logins { self.old.logins ≤ self.new.logins }
     {
         let Some(Some(peer)) = self.peers.get_mut(seat) else {
             return;
@@ -365,14 +393,49 @@ impl<'a> Server<'a> {
         let was = self.hall.phase(seat);
         let is_over = peer.turn(&mut self.hall, store, seat, now, &mut self.buffer, budget)
             || peer.is_late(&self.options.limits, self.hall.phase(seat), now);
+        let end = peer.end;
+        if was != self.hall.phase(seat) && self.hall.phase(seat) == Some(Phase::Full) {
+            self.end_older(rt, seat);
+            self.count_login(rt);
+        }
         if is_over {
-            let end = peer.end;
             self.dismiss(rt, seat, end);
             if end == Some(SessionEnd::Sync) {
                 self.dismiss_all(rt);
             }
-        } else if was != self.hall.phase(seat) {
-            self.end_older(rt, seat);
+        }
+    }
+
+    // A login was completed. With the last one that is to be, nobody is accepted any more, and
+    // connections that have not logged in are ended.
+    fn count_login(&mut self, rt: &HostRuntime)
+        ensures seats { length self.new.hall.seats ≡ length self.old.hall.seats }
+        ensures sessions { self.new.sessions ≡ self.old.sessions }
+        ensures logins { self.old.logins ≤ self.new.logins }
+    {
+        let Some(most) = self.options.sessions else {
+            self.logins = self.logins.saturating_add(1);
+            return;
+        };
+        if self.logins < u64::from(most) {
+            self.logins += 1;
+        }
+        if self.logins >= u64::from(most) {
+            self.listener = None;
+            self.dismiss_guests(rt);
+        }
+    }
+
+    // Ends the connections that have not logged in.
+    fn dismiss_guests(&mut self, rt: &HostRuntime)
+        ensures seats { length self.new.hall.seats ≡ length self.old.hall.seats }
+        ensures sessions { self.new.sessions ≡ self.old.sessions }
+        ensures logins { self.new.logins ≡ self.old.logins }
+    {
+        for seat in 0..self.peers.len() {
+            if self.hall.phase(seat) == Some(Phase::Login) {
+                self.dismiss(rt, seat, Some(SessionEnd::NoMoreLogins));
+            }
         }
     }
 
@@ -380,7 +443,7 @@ impl<'a> Server<'a> {
     fn end_older(&mut self, rt: &HostRuntime, seat: usize)
         ensures seats { length self.new.hall.seats ≡ length self.old.hall.seats }
         ensures sessions { self.new.sessions ≡ self.old.sessions }
-        ensures accepted { self.new.accepted ≡ self.old.accepted }
+        ensures logins { self.new.logins ≡ self.old.logins }
     {
         if let Some(older) = self.hall.taken_over(seat) {
             self.dismiss(rt, older, Some(SessionEnd::TakenOver));
@@ -392,7 +455,7 @@ impl<'a> Server<'a> {
     fn dismiss_all(&mut self, rt: &HostRuntime)
         ensures seats { length self.new.hall.seats ≡ length self.old.hall.seats }
         ensures sessions { self.new.sessions ≡ self.old.sessions }
-        ensures accepted { self.new.accepted ≡ self.old.accepted }
+        ensures logins { self.new.logins ≡ self.old.logins }
     {
         for seat in 0..self.peers.len() {
             if let Some(Some(_)) = self.peers.get(seat) {
@@ -405,7 +468,7 @@ impl<'a> Server<'a> {
     fn dismiss(&mut self, rt: &HostRuntime, seat: usize, end: Option<SessionEnd>)
         ensures seats { length self.new.hall.seats ≡ length self.old.hall.seats }
         ensures sessions { self.new.sessions ≡ self.old.sessions }
-        ensures accepted { self.new.accepted ≡ self.old.accepted }
+        ensures logins { self.new.logins ≡ self.old.logins }
     {
         if let Some(end) = end {
             let _ = eprintln!(rt; "{end}");
@@ -415,6 +478,19 @@ impl<'a> Server<'a> {
         if let Some(place) = self.peers.get_mut(seat) {
             *place = None;
         }
+        if let Some(place) = self.numbers.get_mut(seat) {
+            *place = 0;
+        }
+    }
+}
+
+// The port of a listener.
+fn port_of(listener: &TcpListener) -> Result<u16, ServeFault>
+    ensures ends { IfErr result (λ fault. fault ≡ serve.Network) }
+{
+    match listener.local_addr() {
+        Ok(address) => Ok(address.port()),
+        Err(_) => Err(ServeFault::Network),
     }
 }
 

@@ -33,4 +33,7 @@ pub enum SessionEnd {
     /// the oldest.
     #[error("session: made room")]
     MadeRoom,
+    /// The last login was completed that is to be, and this peer had not logged in.
+    #[error("session: no more logins")]
+    NoMoreLogins,
 }

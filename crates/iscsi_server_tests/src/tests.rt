@@ -63,13 +63,13 @@ const LEFT_AT_ONCE: &str =
 /// What clients do one after another: the client, its requests, the answers.
 type Rows<'a> = &'a [(usize, &'static str, &'static str)];
 
-// A disk of eight blocks for so many sessions, some at a time, each of which may be silent for so
+// A disk of eight blocks for so many logins, some sessions at a time, each of which may be silent for so
 // many seconds.
 fn options(sessions: u16, at_once: u16, idle: u16) -> Options<'static> {
     Options {
         listen: IpAddr::V4(Ipv4Addr::LOCALHOST),
         port: 0,
-        sessions,
+        sessions: Some(sessions),
         at_once,
         name: b"iqn.2026-01.example:disk",
         limits: Limits {
@@ -241,14 +241,14 @@ fn the_same_port_once_more(rt: HostRuntime) {
 
 /// The first session breaks a rule, and the second one goes on.
 const FAULT: Rows<'static> = &[
-    (1, LOGIN, LOGIN_2),
     (0, PING, ""),
+    (1, LOGIN, LOGIN_2),
     (1, LOGOUT_AT_ONCE, LEFT_AT_ONCE),
 ];
 
 #[test]
 fn a_fault_ends_its_session_alone(rt: HostRuntime) {
-    check(&rt, &rt, options(2, 2, 5), FAULT, "a fault");
+    check(&rt, &rt, options(1, 2, 5), FAULT, "a fault");
 }
 
 /// One session at a time: the second one has its turns when the first one is over.
@@ -269,8 +269,88 @@ fn a_silent_peer_leaves(rt: HostRuntime) {
     check(
         &rt,
         &rt,
-        options(2, 2, 1),
+        options(1, 2, 1),
         &[(0, LOGIN, LOGIN_1)],
-        "silent peers",
+        "a silent peer",
     );
+}
+
+// Whether the server ends a client's connection before it has had many turns.
+fn is_ended(
+    rt: &HostRuntime,
+    abort: &impl Abort,
+    service: &mut Service<'_>,
+    client: &TcpStream,
+) -> bool {
+    let mut client = client;
+    for _ in 0..MOST_TURNS {
+        if let Ok(0) = client.read(&mut [0]) {
+            return true;
+        }
+        service.turn(rt, abort);
+    }
+    false
+}
+
+/// With the last login the listener closes, and who has not logged in is ended.
+#[test]
+fn the_last_login_closes(rt: HostRuntime) {
+    let mut service = open(&rt, &rt, options(1, 3, 5));
+    let clients = clients(&rt, &rt, &service.server);
+    let first = clients.get(0).expect(&rt, "a client");
+    let other = clients.get(1).expect(&rt, "a client");
+    let row = ("the last login", 0);
+    check_answers(&rt, &rt, &mut service, first, LOGIN, LOGIN_1, row);
+    same(&rt, &service.server.port().is_ok(), &false, &"a port");
+    same(
+        &rt,
+        &is_ended(&rt, &rt, &mut service, other),
+        &true,
+        &"a guest",
+    );
+    same(&rt, &service.server.is_done(), &false, &"the session");
+    let row = ("the last login", 1);
+    check_answers(
+        &rt,
+        &rt,
+        &mut service,
+        first,
+        LOGOUT_AT_ONCE,
+        LEFT_AT_ONCE,
+        row,
+    );
+    finish(&rt, &rt, &mut service, "the last login");
+}
+
+/// Where no number is asked for, the service goes on behind each session.
+#[test]
+fn no_login_is_the_last(rt: HostRuntime) {
+    let asked = Options {
+        sessions: None,
+        ..options(0, 2, 5)
+    };
+    let mut service = open(&rt, &rt, asked);
+    let clients = clients(&rt, &rt, &service.server);
+    for (at, (place, requests, due)) in ONE.iter().enumerate() {
+        let client = clients.get(*place).expect(&rt, "no such client");
+        check_answers(
+            &rt,
+            &rt,
+            &mut service,
+            client,
+            requests,
+            due,
+            ("any number", at),
+        );
+    }
+    for client in clients.iter() {
+        same(
+            &rt,
+            &is_ended(&rt, &rt, &mut service, client),
+            &true,
+            &"a logout",
+        );
+    }
+    same(&rt, &service.server.is_done(), &false, &"any number");
+    same(&rt, &service.server.port().is_ok(), &true, &"a port");
 }

@@ -27,6 +27,8 @@ const BAD_PORT: &str = "'--port <P>' is a number from 0 to 65535";
 
 const BAD_SESSIONS: &str = "'--sessions <n>' is a number from 0 to 65535";
 
+const NO_SESSIONS: &str = "'--sessions <n>' may be left out with '--at-once <k>' alone";
+
 const BAD_AT_ONCE: &str = "'--at-once <k>' is a number from 1 to 64";
 
 const BAD_LISTEN: &str = "'--listen <ADDR>' is an IPv4 or IPv6 address";
@@ -73,11 +75,12 @@ pub(crate) fn serve_program<'a>(alloc: Global, has_image: bool) -> Result<Comman
             "the port, 0 to 65535; 0 is one that the system picks",
         ))?
         .arg(blocks(alloc).required(!has_image))?
-        .arg(number(
+        .arg(valued(
             alloc,
             "sessions",
             "n",
-            "how many connections are served, 0 to 65535",
+            "how many connections are served, or with --at-once how many logins, 0 to 65535; any \
+            number if left out",
         ))?;
     with_options(alloc, with_image(alloc, program, has_image)?)
 }
@@ -187,10 +190,11 @@ pub(crate) fn service_of<'a>(alloc: Global, asked: &ArgMatches<'a>) -> Result<Jo
         return Err(refusal(alloc, asked, BAD_PORT));
     };
     let storage = storage_of(alloc, asked)?;
-    let Some(sessions) = asked.get_str("sessions").and_then(number_of) else {
-        return Err(refusal(alloc, asked, BAD_SESSIONS));
-    };
+    let sessions = sessions_of(alloc, asked)?;
     let Some(at_once) = asked.get_str("at-once") else {
+        let Some(sessions) = sessions else {
+            return Err(refusal(alloc, asked, NO_SESSIONS));
+        };
         return Ok(Job::Serve {
             storage,
             service: Service::InTurn { port, sessions },
@@ -219,6 +223,17 @@ pub(crate) fn service_of<'a>(alloc: Global, asked: &ArgMatches<'a>) -> Result<Jo
         storage,
         service: Service::AtOnce(options),
     })
+}
+
+// How many sessions are served, if that is said; else any number.
+fn sessions_of(alloc: Global, asked: &ArgMatches<'_>) -> Result<Option<u16>, LineFault> {
+    let Some(digits) = asked.get_str("sessions") else {
+        return Ok(None);
+    };
+    match number_of(digits) {
+        Some(sessions) => Ok(Some(sessions)),
+        None => Err(refusal(alloc, asked, BAD_SESSIONS)),
+    }
 }
 
 // What the disk is kept in: the image that is named, or memory.

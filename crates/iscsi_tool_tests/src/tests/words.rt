@@ -69,19 +69,23 @@ const JOBS: &[(&str, &str)] = &[
     ),
     (
         "serve --port 1 --sessions 2 --file d --at-once 3",
-        "Serve { storage: Image(Image { path: \"d\", origin: Found { blocks: None } }), service: AtOnce(Options { listen: 127.0.0.1, port: 1, sessions: 2, at_once: 3, name: [105, 113, 110, 46, 50, 48, 50, 54, 45, 48, 49, 46, 101, 120, 97, 109, 112, 108, 101, 58, 100, 105, 115, 107], limits: Limits { idle: None, login_within: Some(30) }, preferences: Preferences { initial_r2t: false, immediate_data: true, max_burst: 262144, first_burst: 65536, time2wait: 2, time2retain: 20, max_recv: 8192 }, print_port: false }) }",
+        "Serve { storage: Image(Image { path: \"d\", origin: Found { blocks: None } }), service: AtOnce(Options { listen: 127.0.0.1, port: 1, sessions: Some(2), at_once: 3, name: [105, 113, 110, 46, 50, 48, 50, 54, 45, 48, 49, 46, 101, 120, 97, 109, 112, 108, 101, 58, 100, 105, 115, 107], limits: Limits { idle: None, login_within: Some(30) }, preferences: Preferences { initial_r2t: false, immediate_data: true, max_burst: 262144, first_burst: 65536, time2wait: 2, time2retain: 20, max_recv: 8192 }, print_port: false }) }",
+    ),
+    (
+        "serve --port 1 --file d --at-once 3",
+        "Serve { storage: Image(Image { path: \"d\", origin: Found { blocks: None } }), service: AtOnce(Options { listen: 127.0.0.1, port: 1, sessions: None, at_once: 3, name: [105, 113, 110, 46, 50, 48, 50, 54, 45, 48, 49, 46, 101, 120, 97, 109, 112, 108, 101, 58, 100, 105, 115, 107], limits: Limits { idle: None, login_within: Some(30) }, preferences: Preferences { initial_r2t: false, immediate_data: true, max_burst: 262144, first_burst: 65536, time2wait: 2, time2retain: 20, max_recv: 8192 }, print_port: false }) }",
     ),
     (
         "serve --port 1 --sessions 2 --file d --at-once 3 --name n --segment 131072 --burst 131072",
-        "Serve { storage: Image(Image { path: \"d\", origin: Found { blocks: None } }), service: AtOnce(Options { listen: 127.0.0.1, port: 1, sessions: 2, at_once: 3, name: [110], limits: Limits { idle: None, login_within: Some(30) }, preferences: Preferences { initial_r2t: false, immediate_data: true, max_burst: 131072, first_burst: 65536, time2wait: 2, time2retain: 20, max_recv: 131072 }, print_port: false }) }",
+        "Serve { storage: Image(Image { path: \"d\", origin: Found { blocks: None } }), service: AtOnce(Options { listen: 127.0.0.1, port: 1, sessions: Some(2), at_once: 3, name: [110], limits: Limits { idle: None, login_within: Some(30) }, preferences: Preferences { initial_r2t: false, immediate_data: true, max_burst: 131072, first_burst: 65536, time2wait: 2, time2retain: 20, max_recv: 131072 }, print_port: false }) }",
     ),
     (
         "serve --port 1 --sessions 2 --file d --at-once 3 --name n --burst 512 --segment 1048576 --idle 1 --login-within 65535",
-        "Serve { storage: Image(Image { path: \"d\", origin: Found { blocks: None } }), service: AtOnce(Options { listen: 127.0.0.1, port: 1, sessions: 2, at_once: 3, name: [110], limits: Limits { idle: Some(1), login_within: Some(65535) }, preferences: Preferences { initial_r2t: false, immediate_data: true, max_burst: 512, first_burst: 512, time2wait: 2, time2retain: 20, max_recv: 1048576 }, print_port: false }) }",
+        "Serve { storage: Image(Image { path: \"d\", origin: Found { blocks: None } }), service: AtOnce(Options { listen: 127.0.0.1, port: 1, sessions: Some(2), at_once: 3, name: [110], limits: Limits { idle: Some(1), login_within: Some(65535) }, preferences: Preferences { initial_r2t: false, immediate_data: true, max_burst: 512, first_burst: 512, time2wait: 2, time2retain: 20, max_recv: 1048576 }, print_port: false }) }",
     ),
     (
         "serve --port 1 --sessions 2 --file d --at-once 3 --name n --first-burst 262144 --no-login-limit",
-        "Serve { storage: Image(Image { path: \"d\", origin: Found { blocks: None } }), service: AtOnce(Options { listen: 127.0.0.1, port: 1, sessions: 2, at_once: 3, name: [110], limits: Limits { idle: None, login_within: None }, preferences: Preferences { initial_r2t: false, immediate_data: true, max_burst: 262144, first_burst: 262144, time2wait: 2, time2retain: 20, max_recv: 8192 }, print_port: false }) }",
+        "Serve { storage: Image(Image { path: \"d\", origin: Found { blocks: None } }), service: AtOnce(Options { listen: 127.0.0.1, port: 1, sessions: Some(2), at_once: 3, name: [110], limits: Limits { idle: None, login_within: None }, preferences: Preferences { initial_r2t: false, immediate_data: true, max_burst: 262144, first_burst: 262144, time2wait: 2, time2retain: 20, max_recv: 8192 }, print_port: false }) }",
     ),
     (
         "loop --blocks 2048 --piece 48",
@@ -187,16 +191,15 @@ const REFUSED: &[(&str, &str)] = &[
     (
         "serve",
         "error: the following required arguments were not provided:\n  \
-        --port <P>\n  --blocks <N>\n  --sessions <n>\n",
+        --port <P>\n  --blocks <N>\n",
     ),
     (
         "serve --port 0",
-        "error: the following required arguments were not provided:\n  \
-        --blocks <N>\n  --sessions <n>\n",
+        "error: the following required arguments were not provided:\n  --blocks <N>\n",
     ),
     (
         "serve --port 0 --blocks 1",
-        "error: the following required arguments were not provided:\n  --sessions <n>\n",
+        "error: '--sessions <n>' may be left out with '--at-once <k>' alone\n\nUsage: lanthovur serve",
     ),
     (
         "serve --blocks 1 --sessions 1",
@@ -244,7 +247,7 @@ const REFUSED: &[(&str, &str)] = &[
     (
         "serve --sessions 1 --file d",
         "error: the following required arguments were not provided:\n  --port <P>\n\n\
-        Usage: lanthovur serve --port <P> --sessions <n> --file <F>\n",
+        Usage: lanthovur serve --port <P> --file <F> --sessions <n>\n",
     ),
     (
         "serve --port 0 --sessions 1 --file=a --file b",
@@ -262,12 +265,12 @@ const REFUSED: &[(&str, &str)] = &[
     (
         "serve --port +0 --sessions 1 --file d",
         "error: '--port <P>' is a number from 0 to 65535\n\n\
-        Usage: lanthovur serve [OPTIONS] --port <P> --sessions <n> --file <F>\n",
+        Usage: lanthovur serve [OPTIONS] --port <P> --file <F>\n",
     ),
     (
         "serve --port +0 --sessions 1 --blocks 1",
         "error: '--port <P>' is a number from 0 to 65535\n\n\
-        Usage: lanthovur serve [OPTIONS] --port <P> --blocks <N> --sessions <n>\n",
+        Usage: lanthovur serve [OPTIONS] --port <P> --blocks <N>\n",
     ),
     (
         "answer --blocks 1 --file d",

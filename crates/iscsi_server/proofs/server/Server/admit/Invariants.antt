@@ -1,6 +1,6 @@
-use Rattle.std.proofs.Common.{◌≡◌, ◌≤◌, length}
+use Rattle.std.proofs.Common.{◌≡◌, length}
 use Rattle.iscsi_server.proofs.server.Server.admit.Given as goal
 
 abbrev pub invariant-loop : goal.invariant-loop
 invariant-loop l = (length l.self.hall.seats ≡ length l.fn.self.hall.seats)
-    × (l.self.sessions ≡ l.fn.self.sessions) × (l.fn.self.accepted ≤ l.self.accepted)
+    × (l.self.sessions ≡ l.fn.self.sessions) × (l.self.logins ≡ l.fn.self.logins)

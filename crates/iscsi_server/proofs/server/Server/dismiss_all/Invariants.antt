@@ -3,4 +3,4 @@ use Rattle.iscsi_server.proofs.server.Server.dismiss_all.Given as goal
 
 abbrev pub invariant-loop-seat : goal.invariant-loop-seat
 invariant-loop-seat l = (length l.self.hall.seats ≡ length l.fn.self.hall.seats)
-    × (l.self.sessions ≡ l.fn.self.sessions) × (l.self.accepted ≡ l.fn.self.accepted)
+    × (l.self.sessions ≡ l.fn.self.sessions) × (l.self.logins ≡ l.fn.self.logins)

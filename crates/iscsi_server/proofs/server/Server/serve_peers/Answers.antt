@@ -1,4 +1,4 @@
-use Rattle.std.proofs.Common.{◌∙◌}
+use Rattle.std.proofs.Common.{◌∙◌, le_trans}
 use Rattle.iscsi_service.proofs.ExecutedLemmas.{executed_then}
 use Rattle.iscsi_server.proofs.server.Server.serve_peers.Goals as goal
 
@@ -8,5 +8,5 @@ loop-seat-preserved g c = (
       c.loop-seat.invariant.0 c.serve_peer.ensures.blocks,
   c.serve_peer.ensures.seats ∙ c.loop-seat.invariant.1,
   c.serve_peer.ensures.sessions ∙ c.loop-seat.invariant.2,
-  c.serve_peer.ensures.accepted ∙ c.loop-seat.invariant.3,
+  le_trans c.loop-seat.invariant.3 c.serve_peer.ensures.logins,
 )
