@@ -504,7 +504,7 @@ def at_a_failed_sync(program, room, write):
             answer = many.log_in(beside, 1)
             seen = [len(answer), write(many, service), beside.recv(1), service.is_there()]
         service.kill()
-        return [*seen, service.process.communicate()[1]]
+        return [*seen, many.reasons(service.process.communicate()[1])]
 
 
 def sync_that_fails_for_all(program, room):

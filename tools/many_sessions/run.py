@@ -50,6 +50,11 @@ LOGIN = ROWS.OUT_OF_TURN[: 48 + 76]
 LOGOUT = ROWS.of_hex("06800000 00000000 00000000 00000000 00000002 00000000 00000001 00000002", "00000000" * 4)
 
 
+def reasons(lines):
+    """The lines of sessions that ended, without the number, the address and the name in front."""
+    return re.sub(rb"(?m)^session [0-9]+ 127\.0\.0\.1:[0-9]+( iqn\.[!-~]+)?: ", b"", lines)
+
+
 class Service:
     """A service with so many sessions in all, and further words; it ends when they were served, or is ended."""
 
@@ -77,7 +82,7 @@ class Service:
     def ended(self):
         """How it ended by itself: what it printed, its lines on standard error, its status."""
         out, lines = self.process.communicate(timeout=SECONDS)
-        return self.told + out, lines, self.process.returncode
+        return self.told + out, reasons(lines), self.process.returncode
 
     def resident(self):
         """Its resident memory, in MB."""

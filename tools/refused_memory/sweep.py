@@ -377,6 +377,7 @@ def company(sessions):
         one_alone = status == 0 and any(whole) and all(is_whole or is_front for is_whole, is_front in zip(whole, fronts))
         service_ends = status == 3 and all(is_whole or is_front for is_whole, is_front in zip(whole, fronts))
         ended_alone += one_alone
+        err = re.sub(rb"(?m)^session [12] 127\.0\.0\.1:[0-9]+( iqn\.[!-~]+)?: ", b"", err)
         if err not in (b"memory\n", b"") or not (one_alone or service_ends):
             failed += 1
             print(f"two at once at {at}: status {status}, whole {whole}, fronts {fronts}, {err[:60]!r}")

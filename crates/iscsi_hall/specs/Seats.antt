@@ -116,6 +116,11 @@ abbrev pub may_take_at : Option Seat → Bool
 may_take_at None = false
 may_take_at (Some s) = may_take s
 
+-- The name of the initiator there, as its login gave it; no byte before that.
+abbrev pub initiator_at : Option Seat → List ℕ
+initiator_at None = []
+initiator_at (Some s) = s.connection.machine.session.initiator_name
+
 -- What waits to be written there.
 abbrev pub waiting_at : Option Seat → List ℕ
 waiting_at None = []

@@ -6,7 +6,7 @@ ghost use Rattle.scsi_disk.specs.Disk.{Tells};
 ghost use Rattle.scsi_disk.specs.Lasting.{Lasts, Settled, Within};
 ghost use Rattle.iscsi_target.specs.Crash.{CrashesNext};
 ghost use Rattle.iscsi_target.specs.Inside.{store_of};
-ghost use Rattle.iscsi_hall.specs.Seats.{opening_seat, phase_of, may_read_at, may_take_at, most_read, received, with_sent, waiting_at, seat_at, with_seat, Changes, Takes, FinishesAt};
+ghost use Rattle.iscsi_hall.specs.Seats.{initiator_at, opening_seat, phase_of, may_read_at, may_take_at, most_read, received, with_sent, waiting_at, seat_at, with_seat, Changes, Takes, FinishesAt};
 ghost use Rattle.iscsi_hall.specs.Reinstatement.{takes_place_of};
 ghost use Rattle.iscsi_hall.specs.Turns.{Comes, Ends, Goes, HappensIn, SameMachines, TakesTurn};
 
@@ -108,6 +108,17 @@ impl Hall {
         match self.at(seat) {
             Some(taken) => Some(taken.phase()),
             None => None,
+        }
+    }
+
+    /// The name of the initiator at the seat, as its login gave it; no byte before that, and where the
+    /// seat is free.
+    pub fn initiator_name(&self, seat: usize) -> &[u8]
+        ensures { result.now ≡ initiator_at (seat_at self.now seat) }
+    {
+        match self.at(seat) {
+            Some(taken) => taken.initiator_name(),
+            None => &[],
         }
     }
 

@@ -70,6 +70,13 @@ impl Seat {
         self.target.phase()
     }
 
+    /// The initiator's name, as the login gave it; no byte before that.
+    pub fn initiator_name(&self) -> &[u8]
+        ensures { result.now ≡ self.now.connection.machine.session.initiator_name }
+    {
+        self.target.initiator_name()
+    }
+
     /// Whether the session goes on, all that was read was taken, and nothing waits.
     pub fn may_read(&self) -> bool
         ensures { result ≡ may_read self.now }

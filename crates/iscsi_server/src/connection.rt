@@ -6,6 +6,7 @@ ghost use Rattle.iscsi_server.specs.Moving.{MovesAtMost};
 use mio::event::Event;
 use mio::net::TcpStream;
 use std::io::{self, ErrorKind, Read, Write};
+use std::net::SocketAddr;
 use std::time::{Duration, Instant};
 
 /// What a read or a write of a connection gave.
@@ -26,6 +27,7 @@ pub enum Moved {
 #[derive(Drop)]
 pub struct Connection {
     stream: TcpStream,
+    address: SocketAddr,
     is_readable: bool,
     is_writable: bool,
     // the peer sends no more: no event comes for that again
@@ -37,10 +39,12 @@ pub struct Connection {
 }
 
 impl Connection {
-    /// A connection that was accepted at this time. It counts as ready until it is tried.
-    pub fn new(stream: TcpStream, now: Instant) -> Connection {
+    /// A connection from this address that was accepted at this time. It counts as ready until it is
+    /// tried.
+    pub fn new(stream: TcpStream, address: SocketAddr, now: Instant) -> Connection {
         Connection {
             stream,
+            address,
             is_readable: true,
             is_writable: true,
             is_half_closed: false,
@@ -107,6 +111,11 @@ impl Connection {
                 unmoved(&error)
             }
         }
+    }
+
+    /// Where its peer is.
+    pub fn address(&self) -> SocketAddr {
+        self.address
     }
 
     /// When it was accepted.

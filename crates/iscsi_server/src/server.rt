@@ -13,7 +13,9 @@ use crate::accepting::{AcceptError, Accepting};
 use crate::budget::Budget;
 use crate::configuration::configuration;
 use crate::connection::Connection;
+use crate::end_line::EndLine;
 use crate::limits::sooner;
+use crate::lines::Lines;
 use crate::numbers::next_number;
 use crate::options::Options;
 use crate::peer::{Peer, no_peers};
@@ -38,6 +40,7 @@ const NO_ROOM: &str = "accept failed: nobody is accepted until a seat is free or
 #[derive(Drop)]
 pub struct Server<'a> {
     options: Options<'a>,
+    lines: Lines,
     poll: Poll,
     events: Events,
     // none once all logins were completed
@@ -91,6 +94,7 @@ impl<'a> Server<'a> {
         let (poll, listener) = listen(rt, SocketAddr::new(options.listen, options.port))?;
         Ok(Server {
             options,
+            lines: Lines::new(),
             poll,
             events,
             listener: Some(listener),
@@ -154,6 +158,7 @@ impl<'a> Server<'a> {
         let now = now(rt)?;
         self.admit(rt, now);
         self.serve_peers(rt, store, now);
+        self.lines.tell_lost(rt);
         Ok(())
     }
 
@@ -165,7 +170,10 @@ impl<'a> Server<'a> {
         let timeout = if self.is_busy(now) {
             Some(Duration::ZERO)
         } else {
-            sooner(self.time_left(now), self.rest_left(now))
+            sooner(
+                sooner(self.time_left(now), self.rest_left(now)),
+                self.lost_left(),
+            )
         };
         if self.poll.poll(&mut self.events, timeout).is_err() {
             return Err(ServeFault::Network);
@@ -273,6 +281,15 @@ impl<'a> Server<'a> {
         }
     }
 
+    // How long until it is tried again to tell of lines that were lost.
+    fn lost_left(&self) -> Option<Duration> {
+        if self.lines.has_lost() {
+            Some(Duration::from_secs(1))
+        } else {
+            None
+        }
+    }
+
     // How long until the time of a session is over; none: for ever.
     fn time_left(&self, now: Instant) -> Option<Duration> {
         let mut left = None;
@@ -302,9 +319,9 @@ impl<'a> Server<'a> {
                 return;
             };
             match listener.accept() {
-                Ok((stream, _)) => {
+                Ok((stream, address)) => {
                     self.make_room(rt);
-                    self.welcome(rt.alloc(), stream, now);
+                    self.welcome(rt.alloc(), stream, address, now);
                 }
                 Err(error) => self.pass_over(rt, &error, now),
             }
@@ -320,7 +337,7 @@ impl<'a> Server<'a> {
             AcceptError::Gone => {}
             AcceptError::NoRoom => {
                 if self.accepting.rest(now) {
-                    let _ = eprintln!(rt; "{NO_ROOM}");
+                    self.lines.tell(rt, &NO_ROOM);
                 }
             }
         }
@@ -328,7 +345,7 @@ impl<'a> Server<'a> {
 
     // Gives a connection a seat, and a number that no other one has, which is the TSIH of its session.
     // One for which there is no memory, or that the system does not watch, is closed.
-    fn welcome(&mut self, alloc: Global, mut stream: TcpStream, now: Instant)
+    fn welcome(&mut self, alloc: Global, mut stream: TcpStream, address: SocketAddr, now: Instant)
         ensures seats { length self.new.hall.seats ≡ length self.old.hall.seats }
         ensures sessions { self.new.sessions ≡ self.old.sessions }
         ensures logins { self.new.logins ≡ self.old.logins }
@@ -350,7 +367,7 @@ impl<'a> Server<'a> {
             return;
         }
         if let Some(place) = self.peers.get_mut(seat) {
-            *place = Some(Peer::new(Connection::new(stream, now)));
+            *place = Some(Peer::new(Connection::new(stream, address, now)));
         }
         if let Some(place) = self.numbers.get_mut(seat) {
             *place = number;
@@ -464,6 +481,22 @@ impl<'a> Server<'a> {
         }
     }
 
+    // Tells why the session of a seat ended.
+    fn tell_end(&mut self, rt: &HostRuntime, seat: usize, end: SessionEnd)
+        ensures same { self.new ≡ self.old }
+    {
+        let Some(Some(peer)) = self.peers.get(seat) else {
+            return;
+        };
+        let line = EndLine {
+            number: self.numbers.get(seat).copied().unwrap_or(0),
+            address: peer.connection.address(),
+            initiator: self.hall.initiator_name(seat),
+            end,
+        };
+        self.lines.tell(rt, &line);
+    }
+
     // Frees a seat, and prints why its session ended.
     fn dismiss(&mut self, rt: &HostRuntime, seat: usize, end: Option<SessionEnd>)
         ensures seats { length self.new.hall.seats ≡ length self.old.hall.seats }
@@ -471,7 +504,7 @@ impl<'a> Server<'a> {
         ensures logins { self.new.logins ≡ self.old.logins }
     {
         if let Some(end) = end {
-            let _ = eprintln!(rt; "{end}");
+            self.tell_end(rt, seat, end);
         }
         self.hall.leave(seat);
         self.accepting.resume();
