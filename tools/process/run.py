@@ -111,6 +111,7 @@ ROWS = [
     Row("no connection is served at a time", [*SERVE, "--at-once", "64", "--idle", "1"], b"", b"listening\n"),
     # Images.
     Row("an image of two blocks", [*IMAGE, "a"], b"", b"listening\n", files={"a": bytes(1024)}),
+    Row("a disk in memory with a limit", [*SERVE, "--at-once", "1", "--memory", "32768"], b"", b"listening\n"),
     Row("an image of two blocks, as is said", [*IMAGE, "a", "--blocks", "2", "--at-once", "1"], b"", b"listening\n", files={"a": bytes(1024)}),
     Row("an image that is made", [*IMAGE, "a", "--create", "--blocks", "2"], b"", b"listening\n"),
     Row("an image of another size", [*IMAGE, "a", "--blocks", "3"], b"", b"", b"a: has 2 blocks, not 3\n", 4, files={"a": bytes(1024)}),
@@ -165,6 +166,8 @@ ROWS = [
     Row("an address that is none", [*SERVE, "--at-once", "1", "--listen", "localhost"], says=b"'--listen <ADDR>' is", status=2),
     Row("a name that is none", [*SERVE, "--at-once", "1", "--name", "a b"], says=b"'--name <IQN>' has", status=2),
     Row("no time", [*SERVE, "--at-once", "1", "--idle", "0"], says=b"'--idle <S>' is a number from 1 to 65535", status=2),
+    Row("a short memory", [*SERVE, "--at-once", "1", "--memory", "32767"], says=b"'--memory <BYTES>' is a number", status=2),
+    Row("a memory of an image", [*IMAGE, "a", "--at-once", "1", "--memory", "32768"], says=b"cannot be used with '--file <F>'", status=2),
     Row("a short segment", [*SERVE, "--at-once", "1", "--segment", "511"], says=b"'--segment <N>' is a number", status=2),
     Row("a first burst over the burst", [*SERVE, "--at-once", "1", "--burst", "1024", "--first-burst", "1025"], says=b"'--first-burst <N>' is a number", status=2),
     Row("too much time", [*SERVE, "--at-once", "1", "--login-within", "65536"], says=b"'--login-within <S>' is a number", status=2),

@@ -1,3 +1,4 @@
+pub mod Limited
 pub mod Limits
 pub mod Moving
 pub mod Service

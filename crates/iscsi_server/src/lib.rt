@@ -6,6 +6,7 @@ mod budget;
 mod configuration;
 mod connection;
 mod end_line;
+mod limited;
 mod limits;
 mod lines;
 mod numbers;
@@ -16,8 +17,9 @@ mod service;
 mod session_end;
 mod system;
 
+pub use limited::{LEAST_MEMORY, LimitedStore, MEMORY, MOST_MEMORY};
 pub use limits::{LAST_WRITE, LOGIN_WITHIN, Limits};
 pub use options::{LONGEST_ASKED, MOST_AT_ONCE, Options, SHORTEST_ASKED};
 pub use server::Server;
-pub use service::serve_at_once;
+pub use service::{serve_at_once, serve_memory_at_once};
 pub use session_end::SessionEnd;

@@ -32,6 +32,8 @@ pub struct Options<'a> {
     /// What the target prefers in a login. `max_recv` and `max_burst` are 512 to 1048576 bytes, and
     /// `first_burst` is no longer than `max_burst`.
     pub preferences: Preferences,
+    /// How many bytes the blocks take at most, where the service keeps them in memory itself.
+    pub memory: u64,
     /// Whether the port is printed.
     pub print_port: bool,
 }

@@ -1,11 +1,13 @@
 //! A service of several sessions at a time.
 
-ghost use Rattle.std.specs.Prelude.{◌≡◌, ◌⊎◌, IfErr};
+ghost use Rattle.std.specs.Prelude.{◌≡◌, ◌⊎◌, ◌<◌, ◌≤◌, IfErr};
+ghost use Rattle.scsi_disk.specs.Disk.{most_blocks};
 ghost use Rattle.iscsi_service.specs.Session.{HasExecuted};
 ghost use Rattle.iscsi_service.specs.Serving.{EndsService};
 ghost use Rattle.iscsi_service.specs.declared.fault.ServeFault.TheVariants as serve;
 ghost use Rattle.iscsi_server.specs.Service.{IsService};
 
+use crate::limited::LimitedStore;
 use crate::options::Options;
 use crate::server::Server;
 use iscsi_service::ServeFault;
@@ -34,6 +36,22 @@ pub fn serve_at_once<S: BlockStore>(
     let mut server = Server::open(rt, options)?;
     announce(rt, &server, options.print_port)?;
     serve_all(rt, &mut server, store)
+}
+
+/// Serves so, over a disk in memory of `n` blocks of 00, from 1 to 2^40, of which so many bytes are kept
+/// as the options say. A write for which there is no room is answered by CHECK CONDITION.
+pub fn serve_memory_at_once(
+    rt: &HostRuntime,
+    options: Options<'_>,
+    blocks: u64,
+) -> Result<(), ServeFault>
+    requires service { IsService options }
+    requires some { 0 < blocks }
+    requires few { blocks ≤ most_blocks }
+    ensures ends { IfErr result (λ fault. EndsService fault ⊎ (fault ≡ serve.Write)) }
+{
+    let mut store = LimitedStore::new(rt.alloc(), blocks, options.memory);
+    serve_at_once(rt, options, &mut store)
 }
 
 // Tells that connections are accepted, and at which port.

@@ -5,8 +5,8 @@
 use crate::asserts::same;
 use iscsi_examples::{PING, pdus_of};
 use iscsi_login::Preferences;
-use iscsi_server::{Limits, Options, Server};
-use scsi_disk::SparseStore;
+use iscsi_server::{LimitedStore, Limits, MEMORY, Options, Server};
+use scsi_disk::{BlockStore, SparseStore, StoreFault};
 use std::io::{ErrorKind, Read, Write};
 use std::net::{IpAddr, Ipv4Addr, Net, TcpStream};
 use std::process::Abort;
@@ -77,6 +77,7 @@ fn options(sessions: u16, at_once: u16, idle: u16) -> Options<'static> {
             login_within: None,
         },
         preferences: Preferences::standard(),
+        memory: MEMORY,
         print_port: false,
     }
 }
@@ -353,4 +354,48 @@ fn no_login_is_the_last(rt: HostRuntime) {
     }
     same(&rt, &service.server.is_done(), &false, &"any number");
     same(&rt, &service.server.port().is_ok(), &true, &"a port");
+}
+
+/// Writes of a byte to so many blocks from one on, over 256 of which 128 are kept, 64 together, and what
+/// they answer.
+const FILLED: &[(u64, usize, u8, Result<(), StoreFault>)] = &[
+    (0, 1, 1, Ok(())),
+    (255, 1, 2, Ok(())),
+    (64, 0, 3, Ok(())),
+    (64, 1, 4, Err(StoreFault::Device)),
+    (0, 256, 5, Err(StoreFault::Device)),
+    (60, 5, 6, Err(StoreFault::Device)),
+    (192, 64, 7, Ok(())),
+    (0, 64, 8, Ok(())),
+    (128, 1, 9, Err(StoreFault::Device)),
+];
+
+/// Where there is no room for a write, it is refused, and no block changes.
+#[test]
+fn a_disk_that_is_full(rt: HostRuntime) {
+    let mut store = LimitedStore::new(rt.alloc(), 256, 65_536);
+    let mut due = vec![in rt.alloc(); 0u8; 131_072].expect(&rt, "bytes");
+    let mut found = vec![in rt.alloc(); 0u8; 131_072].expect(&rt, "bytes");
+    let mut refused = 0;
+    for (first, blocks, byte, answer) in FILLED.iter() {
+        let bytes = vec![in rt.alloc(); *byte; 512 * *blocks].expect(&rt, "bytes");
+        same(&rt, &store.write(*first, &bytes), answer, &first);
+        if answer.is_ok() {
+            due[512 * *first as usize..512 * (*first as usize + *blocks)].fill(*byte);
+        } else {
+            refused += 1;
+        }
+        same(&rt, &store.failures(), &refused, &first);
+        same(&rt, &store.read(0, &mut found), &Ok(()), &first);
+        same(&rt, &found, &due, &first);
+    }
+}
+
+/// A disk that may be kept whole refuses nothing.
+#[test]
+fn a_disk_that_has_room(rt: HostRuntime) {
+    let mut store = LimitedStore::new(rt.alloc(), 65, 65_536);
+    let bytes = [7u8; 33_280];
+    same(&rt, &store.write(0, &bytes), &Ok(()), &"all blocks");
+    same(&rt, &store.failures(), &0, &"all blocks");
 }

@@ -1,8 +1,9 @@
 //! The body of the program: it runs the job that words ask for. One file, since each job ends in
 //! one of the same outcomes.
 
-ghost use Rattle.std.specs.Prelude.{◌≡◌, ℕ, List};
+ghost use Rattle.std.specs.Prelude.{◌≡◌, ◌<◌, ◌≤◌, ℕ, List};
 ghost use Rattle.std.specs.Io.KnownBytes.{Appends, Consumes};
+ghost use Rattle.scsi_disk.specs.Disk.{most_blocks};
 ghost use Rattle.iscsi_tool.specs.declared.running.Outcome.{Outcome};
 ghost use Rattle.iscsi_tool.specs.Filtering.{CanServe, IsJob};
 ghost use Rattle.iscsi_tool.specs.Storage.{IsStorage};
@@ -13,7 +14,7 @@ use crate::filter::{run_filter, status};
 use crate::storage::{Image, ImageFault, Storage};
 use crate::words::{Comparison, Job, LineFault, Service, read_words};
 use iscsi_compare::{Verdict, Which};
-use iscsi_server::serve_at_once;
+use iscsi_server::{serve_at_once, serve_memory_at_once};
 use iscsi_service::{ServeFault, run_loop, serve};
 use iscsi_stream::ToolFault;
 use scsi_disk::{BlockStore, SparseStore};
@@ -254,14 +255,26 @@ fn serve_storage<'a>(rt: &HostRuntime, storage: Storage<'a>, service: Service<'_
     ensures ends { EndsService storage.entry result }
 {
     match storage {
-        Storage::Memory { blocks } => {
-            let mut store = SparseStore::new(rt.alloc(), blocks);
-            ended(serve_store(rt, service, &mut store))
-        }
+        Storage::Memory { blocks } => ended(serve_memory(rt, service, blocks)),
         Storage::Image(image) => match image.open(rt) {
             Ok(mut store) => ended(serve_store(rt, service, &mut store)),
             Err(fault) => Outcome::Image(image, fault),
         },
+    }
+}
+
+// Serves a disk in memory.
+fn serve_memory(rt: &HostRuntime, service: Service<'_>, blocks: u64) -> Result<(), ServeFault>
+    requires service { CanServe service }
+    requires some { 0 < blocks }
+    requires few { blocks ≤ most_blocks }
+{
+    match service {
+        Service::InTurn { port, sessions } => {
+            let mut store = SparseStore::new(rt.alloc(), blocks);
+            serve(rt, port, &mut store, sessions)
+        }
+        Service::AtOnce(options) => serve_memory_at_once(rt, options, blocks),
     }
 }
 

@@ -15,7 +15,10 @@ use crate::words::{
 };
 use clap::{Arg, ArgMatches, Command};
 use iscsi_login::{Preferences, is_name};
-use iscsi_server::{LOGIN_WITHIN, LONGEST_ASKED, Limits, MOST_AT_ONCE, Options, SHORTEST_ASKED};
+use iscsi_server::{
+    LEAST_MEMORY, LOGIN_WITHIN, LONGEST_ASKED, Limits, MEMORY, MOST_AT_ONCE, MOST_MEMORY, Options,
+    SHORTEST_ASKED,
+};
 use std::alloc::{AllocError, Global};
 use std::convert::AsStr;
 use std::net::{IpAddr, Ipv4Addr};
@@ -40,6 +43,10 @@ const BAD_IDLE: &str = "'--idle <S>' is a number from 1 to 65535";
 const BAD_LOGIN: &str = "'--login-within <S>' is a number from 1 to 65535";
 
 const BAD_LOGIN_LIMIT: &str = "'--no-login-limit' cannot be used with '--login-within <S>'";
+
+const BAD_MEMORY: &str = "'--memory <BYTES>' is a number from 32768 to 562949953421312";
+
+const MEMORY_OF_IMAGE: &str = "'--memory <BYTES>' cannot be used with '--file <F>'";
 
 const BAD_SEGMENT: &str = "'--segment <N>' is a number from 512 to 1048576";
 
@@ -112,6 +119,11 @@ fn create<'a>(alloc: Global) -> Result<Arg<'a>, AllocError> {
     .requires_arg("file")
 }
 
+// What `--memory` says.
+const MEMORY_HELP: &str =
+    "the most memory that the blocks of a disk in memory take, 32768 to 562949953421312; 268435456 \
+    if left out";
+
 // With `--at-once`, and the words that want it.
 fn with_options<'a>(alloc: Global, program: Command<'a>) -> Result<Command<'a>, AllocError> {
     let at_once = valued(
@@ -132,6 +144,7 @@ fn with_options<'a>(alloc: Global, program: Command<'a>) -> Result<Command<'a>, 
     let program = with_word(program, option(alloc, "idle", "S", idle_help))?;
     let program = with_word(program, option(alloc, "login-within", "S", login_help))?;
     let program = with_word(program, no_login_limit(alloc))?;
+    let program = with_word(program, option(alloc, "memory", "BYTES", MEMORY_HELP))?;
     let program = with_lengths(alloc, program)?;
     with_word(program, print_port(alloc))
 }
@@ -217,6 +230,7 @@ pub(crate) fn service_of<'a>(alloc: Global, asked: &ArgMatches<'a>) -> Result<Jo
         name,
         limits,
         preferences,
+        memory: memory_of(alloc, asked)?,
         print_port: asked.get_flag("print-port"),
     };
     Ok(Job::Serve {
@@ -314,6 +328,27 @@ fn login_within_of(alloc: Global, asked: &ArgMatches<'_>) -> Result<Option<u16>,
         (None, true) => Ok(None),
         (said, false) => Ok(Some(said.unwrap_or(LOGIN_WITHIN))),
     }
+}
+
+// How many bytes of memory the blocks of a disk take, if memory is what it is kept in.
+fn memory_of(alloc: Global, asked: &ArgMatches<'_>) -> Result<u64, LineFault> {
+    let Some(digits) = asked.get_str("memory") else {
+        return Ok(MEMORY);
+    };
+    if asked.get_str("file").is_some() {
+        return Err(refusal(alloc, asked, MEMORY_OF_IMAGE));
+    }
+    match digits.parse::<u64>() {
+        Ok(bytes) if is_digits(digits) && LEAST_MEMORY <= bytes && bytes <= MOST_MEMORY => Ok(
+            bytes,
+        ),
+        _ => Err(refusal(alloc, asked, BAD_MEMORY)),
+    }
+}
+
+// Whether a word is nothing but digits.
+fn is_digits(word: &str) -> bool {
+    word.bytes().all(|c| c.is_ascii_digit())
 }
 
 // What the target prefers: the standard preferences, with the lengths that are asked for.

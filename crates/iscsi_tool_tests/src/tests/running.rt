@@ -81,7 +81,7 @@ const DONE: &[(&str, Parts, Parts)] = &[
     ("loop --blocks 2048 --piece 48", &[SCRIPT], &[REPORT]),
     ("serve --port 0 --blocks 1 --sessions 0", &[], &[]),
     (
-        "serve --port 0 --blocks 1 --sessions 0 --at-once 64 --idle 1",
+        "serve --port 0 --blocks 1 --sessions 0 --at-once 64 --idle 1 --memory 32768",
         &[],
         &[],
     ),

@@ -69,23 +69,27 @@ const JOBS: &[(&str, &str)] = &[
     ),
     (
         "serve --port 1 --sessions 2 --file d --at-once 3",
-        "Serve { storage: Image(Image { path: \"d\", origin: Found { blocks: None } }), service: AtOnce(Options { listen: 127.0.0.1, port: 1, sessions: Some(2), at_once: 3, name: [105, 113, 110, 46, 50, 48, 50, 54, 45, 48, 49, 46, 101, 120, 97, 109, 112, 108, 101, 58, 100, 105, 115, 107], limits: Limits { idle: None, login_within: Some(30) }, preferences: Preferences { initial_r2t: false, immediate_data: true, max_burst: 262144, first_burst: 65536, time2wait: 2, time2retain: 20, max_recv: 8192 }, print_port: false }) }",
+        "Serve { storage: Image(Image { path: \"d\", origin: Found { blocks: None } }), service: AtOnce(Options { listen: 127.0.0.1, port: 1, sessions: Some(2), at_once: 3, name: [105, 113, 110, 46, 50, 48, 50, 54, 45, 48, 49, 46, 101, 120, 97, 109, 112, 108, 101, 58, 100, 105, 115, 107], limits: Limits { idle: None, login_within: Some(30) }, preferences: Preferences { initial_r2t: false, immediate_data: true, max_burst: 262144, first_burst: 65536, time2wait: 2, time2retain: 20, max_recv: 8192 }, memory: 268435456, print_port: false }) }",
     ),
     (
         "serve --port 1 --file d --at-once 3",
-        "Serve { storage: Image(Image { path: \"d\", origin: Found { blocks: None } }), service: AtOnce(Options { listen: 127.0.0.1, port: 1, sessions: None, at_once: 3, name: [105, 113, 110, 46, 50, 48, 50, 54, 45, 48, 49, 46, 101, 120, 97, 109, 112, 108, 101, 58, 100, 105, 115, 107], limits: Limits { idle: None, login_within: Some(30) }, preferences: Preferences { initial_r2t: false, immediate_data: true, max_burst: 262144, first_burst: 65536, time2wait: 2, time2retain: 20, max_recv: 8192 }, print_port: false }) }",
+        "Serve { storage: Image(Image { path: \"d\", origin: Found { blocks: None } }), service: AtOnce(Options { listen: 127.0.0.1, port: 1, sessions: None, at_once: 3, name: [105, 113, 110, 46, 50, 48, 50, 54, 45, 48, 49, 46, 101, 120, 97, 109, 112, 108, 101, 58, 100, 105, 115, 107], limits: Limits { idle: None, login_within: Some(30) }, preferences: Preferences { initial_r2t: false, immediate_data: true, max_burst: 262144, first_burst: 65536, time2wait: 2, time2retain: 20, max_recv: 8192 }, memory: 268435456, print_port: false }) }",
     ),
     (
         "serve --port 1 --sessions 2 --file d --at-once 3 --name n --segment 131072 --burst 131072",
-        "Serve { storage: Image(Image { path: \"d\", origin: Found { blocks: None } }), service: AtOnce(Options { listen: 127.0.0.1, port: 1, sessions: Some(2), at_once: 3, name: [110], limits: Limits { idle: None, login_within: Some(30) }, preferences: Preferences { initial_r2t: false, immediate_data: true, max_burst: 131072, first_burst: 65536, time2wait: 2, time2retain: 20, max_recv: 131072 }, print_port: false }) }",
+        "Serve { storage: Image(Image { path: \"d\", origin: Found { blocks: None } }), service: AtOnce(Options { listen: 127.0.0.1, port: 1, sessions: Some(2), at_once: 3, name: [110], limits: Limits { idle: None, login_within: Some(30) }, preferences: Preferences { initial_r2t: false, immediate_data: true, max_burst: 131072, first_burst: 65536, time2wait: 2, time2retain: 20, max_recv: 131072 }, memory: 268435456, print_port: false }) }",
     ),
     (
         "serve --port 1 --sessions 2 --file d --at-once 3 --name n --burst 512 --segment 1048576 --idle 1 --login-within 65535",
-        "Serve { storage: Image(Image { path: \"d\", origin: Found { blocks: None } }), service: AtOnce(Options { listen: 127.0.0.1, port: 1, sessions: Some(2), at_once: 3, name: [110], limits: Limits { idle: Some(1), login_within: Some(65535) }, preferences: Preferences { initial_r2t: false, immediate_data: true, max_burst: 512, first_burst: 512, time2wait: 2, time2retain: 20, max_recv: 1048576 }, print_port: false }) }",
+        "Serve { storage: Image(Image { path: \"d\", origin: Found { blocks: None } }), service: AtOnce(Options { listen: 127.0.0.1, port: 1, sessions: Some(2), at_once: 3, name: [110], limits: Limits { idle: Some(1), login_within: Some(65535) }, preferences: Preferences { initial_r2t: false, immediate_data: true, max_burst: 512, first_burst: 512, time2wait: 2, time2retain: 20, max_recv: 1048576 }, memory: 268435456, print_port: false }) }",
     ),
     (
         "serve --port 1 --sessions 2 --file d --at-once 3 --name n --first-burst 262144 --no-login-limit",
-        "Serve { storage: Image(Image { path: \"d\", origin: Found { blocks: None } }), service: AtOnce(Options { listen: 127.0.0.1, port: 1, sessions: Some(2), at_once: 3, name: [110], limits: Limits { idle: None, login_within: None }, preferences: Preferences { initial_r2t: false, immediate_data: true, max_burst: 262144, first_burst: 262144, time2wait: 2, time2retain: 20, max_recv: 8192 }, print_port: false }) }",
+        "Serve { storage: Image(Image { path: \"d\", origin: Found { blocks: None } }), service: AtOnce(Options { listen: 127.0.0.1, port: 1, sessions: Some(2), at_once: 3, name: [110], limits: Limits { idle: None, login_within: None }, preferences: Preferences { initial_r2t: false, immediate_data: true, max_burst: 262144, first_burst: 262144, time2wait: 2, time2retain: 20, max_recv: 8192 }, memory: 268435456, print_port: false }) }",
+    ),
+    (
+        "serve --port 1 --sessions 2 --blocks 8 --at-once 3 --name n --memory 32768",
+        "Serve { storage: Memory { blocks: 8 }, service: AtOnce(Options { listen: 127.0.0.1, port: 1, sessions: Some(2), at_once: 3, name: [110], limits: Limits { idle: None, login_within: Some(30) }, preferences: Preferences { initial_r2t: false, immediate_data: true, max_burst: 262144, first_burst: 65536, time2wait: 2, time2retain: 20, max_recv: 8192 }, memory: 32768, print_port: false }) }",
     ),
     (
         "loop --blocks 2048 --piece 48",
@@ -113,6 +117,9 @@ const PORT: &str = "error: '--port <P>' is a number from 0 to 65535\n\nUsage: la
 
 const SESSIONS: &str =
     "error: '--sessions <n>' is a number from 0 to 65535\n\nUsage: lanthovur serve";
+
+const MEMORY: &str =
+    "error: '--memory <BYTES>' is a number from 32768 to 562949953421312\n\nUsage: lanthovur serve";
 
 const SEGMENT: &str =
     "error: '--segment <N>' is a number from 512 to 1048576\n\nUsage: lanthovur serve";
@@ -283,6 +290,26 @@ const REFUSED: &[(&str, &str)] = &[
     (
         "serve --port 0 --blocks 1 --sessions 1 --segment 8192",
         "error: the following required arguments were not provided:\n  --at-once <k>\n",
+    ),
+    (
+        "serve --port 0 --blocks 1 --sessions 1 --memory 32768",
+        "error: the following required arguments were not provided:\n  --at-once <k>\n",
+    ),
+    (
+        "serve --port 0 --blocks 1 --sessions 1 --at-once 1 --memory 32767",
+        MEMORY,
+    ),
+    (
+        "serve --port 0 --blocks 1 --sessions 1 --at-once 1 --memory 562949953421313",
+        MEMORY,
+    ),
+    (
+        "serve --port 0 --blocks 1 --sessions 1 --at-once 1 --memory +32768",
+        MEMORY,
+    ),
+    (
+        "serve --port 0 --file d --sessions 1 --at-once 1 --memory 32768",
+        "error: '--memory <BYTES>' cannot be used with '--file <F>'\n\nUsage: lanthovur serve",
     ),
     (
         "serve --port 0 --blocks 1 --sessions 1 --at-once 1 --segment 511",

@@ -1,0 +1,163 @@
+//! A disk in memory that takes so much memory at most.
+
+ghost use Rattle.std.specs.Prelude.{◌≡◌, refl, ◌+◌, ◌*◌, ◌%◌, ◌<◌, ◌≤◌, length, true, OnOk, OnErr, IsErrOf};
+ghost use Rattle.scsi_disk.specs.Disk.{most_blocks, IsOldOrNew, Tells, written, zeros};
+ghost use Rattle.scsi_disk.specs.Lasting.{Adds, Within};
+ghost use Rattle.iscsi_server.specs.Limited.{disk_in, left_by};
+
+use scsi_disk::{BlockStore, SparseStore, StoreFault};
+use std::alloc::{AllocError, Global};
+use std::collections::BTreeSet;
+use std::marker::Model;
+
+/// How many bytes the blocks of a disk in memory take at most, if no other number is asked for.
+pub const MEMORY: u64 = 268_435_456;
+
+/// The fewest bytes that may be asked for: those of 64 blocks.
+pub const LEAST_MEMORY: u64 = 32_768;
+
+/// The most bytes that may be asked for: those of 2^40 blocks.
+pub const MOST_MEMORY: u64 = 562_949_953_421_312;
+
+/// How many blocks are kept together.
+const EXTENT_BLOCKS: u64 = 64;
+
+/// How many bytes those have.
+const EXTENT_BYTES: u64 = 32_768;
+
+/// A store in memory of 1 to 2^40 blocks, which keeps those that were written, up to so many bytes.
+///
+/// It is a sparse store, whose blocks are kept 64 together: so a block that stands alone counts 32,768
+/// bytes. A write for which there is no room is refused as one where a device fails, and changes no
+/// block. Blocks that are kept may be written as often as one likes.
+#[derive(Drop)]
+pub struct LimitedStore {
+    store: SparseStore,
+    refused: u64,
+    room: Room,
+}
+
+impl Model for LimitedStore {
+    ghost use Rattle.iscsi_server.specs.Limited.{LimitedDisk, limited_code};
+
+    ghost Value = { LimitedDisk };
+
+    ghost coded = { limited_code };
+
+    ghost view = { λ s. record { store = s.store; refused = s.refused } };
+}
+
+impl LimitedStore {
+    /// A store of `n` blocks of 00, from 1 to 2^40, of which so many bytes are kept. It takes no memory.
+    pub fn new(alloc: Global, blocks: u64, memory: u64) -> LimitedStore
+        requires some { 0 < blocks }
+        requires few { blocks ≤ most_blocks }
+        ensures disk { disk_in result ≡ zeros blocks }
+        ensures refused { result.refused ≡ 0 }
+    {
+        LimitedStore {
+            store: SparseStore::new(alloc, blocks),
+            refused: 0,
+            room: Room::new(alloc, blocks, memory),
+        }
+    }
+}
+
+impl BlockStore for LimitedStore {
+    ghost disk = { disk_in };
+
+    ghost failures = { λ s. s.refused };
+
+    ghost kept = { left_by };
+
+    ghost stays = { λ s n. refl };
+
+    ghost lasts = { λ s never synced n c left. left };
+
+    fn blocks(&self) -> u64 {
+        self.store.blocks()
+    }
+
+    fn failures(&self) -> u64 {
+        self.refused
+    }
+
+    fn read(&mut self, lba: u64, out: &mut [u8]) -> Result<(), StoreFault> {
+        self.store.read(lba, out)
+    }
+
+    fn read_onto(&mut self, lba: u64, blocks: u32, out: &mut Vec<u8>) -> Result<(), StoreFault> {
+        self.store.read_onto(lba, blocks, out)
+    }
+
+    fn write(&mut self, lba: u64, bytes: &[u8]) -> Result<(), StoreFault>
+        requires whole { length bytes.now % 512 ≡ 0 }
+        requires inside { 512 * lba + length bytes.now ≤ 512 * (disk_in self.old).count }
+        ensures ok { OnOk result (disk_in self.new ≡ written lba bytes.now (disk_in self.old)) }
+        // A write that is refused leaves every block as it was.
+        ensures err { OnErr result (disk_in self.new ≡ disk_in self.old) }
+        ensures no_memory { IsErrOf result StoreFault.NoMemory → (disk_in self.new ≡ disk_in self.old)
+            × Within (left_by self.old) (left_by self.new) }
+        ensures each { IsOldOrNew (disk_in self.old) (written lba bytes.now (disk_in self.old))
+            (disk_in self.new) }
+        ensures kept { Adds (written lba bytes.now (disk_in self.old)) (left_by self.old)
+            (left_by self.new) }
+        ensures tells { Tells true self.old.refused self.new.refused 0 0 result }
+    {
+        if self.refused == u64::MAX {
+            return Err(StoreFault::NoMemory);
+        }
+        if !self.room.take(lba, bytes.len() as u64 / 512)? {
+            self.refused += 1;
+            return Err(StoreFault::Device);
+        }
+        self.store.write(lba, bytes)
+    }
+
+    fn sync(&mut self) -> Result<(), StoreFault> {
+        Ok(())
+    }
+}
+
+// The groups of 64 blocks that are kept, and how many may be.
+#[derive(Drop)]
+struct Room {
+    kept: BTreeSet<u64>,
+    most: u64,
+    // whether the disk has more groups than may be kept
+    is_short: bool,
+}
+
+impl Room {
+    // Room for so many bytes of a disk of `n` blocks.
+    fn new(alloc: Global, blocks: u64, memory: u64) -> Room {
+        let most = memory / EXTENT_BYTES;
+        Room {
+            kept: BTreeSet::new(alloc),
+            most,
+            is_short: most < blocks.div_ceil(EXTENT_BLOCKS),
+        }
+    }
+
+    // Takes room for these blocks, if there is enough. Says whether there is.
+    fn take(&mut self, first: u64, count: u64) -> Result<bool, AllocError> {
+        if !self.is_short || count == 0 {
+            return Ok(true);
+        }
+        let begin = first / EXTENT_BLOCKS;
+        let end = first.saturating_add(count - 1) / EXTENT_BLOCKS + 1;
+        let mut missing: u64 = 0;
+        for group in begin..end {
+            if !self.kept.contains(&group) {
+                missing = missing.saturating_add(1);
+            }
+        }
+        if self.most.saturating_sub(self.kept.len() as u64) < missing {
+            return Ok(false);
+        }
+        for group in begin..end {
+            let _ = self.kept.insert(group)?;
+        }
+        Ok(true)
+    }
+}
