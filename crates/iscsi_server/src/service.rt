@@ -10,6 +10,7 @@ ghost use Rattle.iscsi_server.specs.Service.{IsService};
 use crate::limited::LimitedStore;
 use crate::options::Options;
 use crate::server::Server;
+use crate::system::{OTHER_DESCRIPTORS, most_descriptors};
 use iscsi_service::ServeFault;
 use scsi_disk::BlockStore;
 
@@ -18,7 +19,8 @@ use scsi_disk::BlockStore;
 ///
 /// A session that ends with a fault has the fault's line on standard error, and the others go on.
 /// Only being out of memory outside of sessions and a fault of the network end the service; `Write`
-/// is returned where what it prints first cannot be printed.
+/// is returned where what it prints first cannot be printed. More seats than the process may have
+/// descriptors for are refused with a line, and `Network`.
 ///
 /// Each session is one of RFC 7143, sections 6 and 11; that they take turns in one thread, a PDU at a
 /// time, is own rule.
@@ -33,6 +35,7 @@ pub fn serve_at_once<S: BlockStore>(
     ensures blocks { HasExecuted (S.disk store.old) (S.disk store.new) }
     ensures ends { IfErr result (λ fault. EndsService fault ⊎ (fault ≡ serve.Write)) }
 {
+    allow_seats(rt, options.at_once)?;
     let mut server = Server::open(rt, options)?;
     announce(rt, &server, options.print_port)?;
     serve_all(rt, &mut server, store)
@@ -52,6 +55,22 @@ pub fn serve_memory_at_once(
 {
     let mut store = LimitedStore::new(rt.alloc(), blocks, options.memory);
     serve_at_once(rt, options, &mut store)
+}
+
+// Refuses, with a line, more seats than the process may have descriptors for.
+fn allow_seats(rt: &HostRuntime, seats: u16) -> Result<(), ServeFault>
+    ensures ends { IfErr result EndsService }
+{
+    let wanted = u64::from(seats) + OTHER_DESCRIPTORS;
+    match most_descriptors() {
+        Some(most) if most < wanted => {
+            let _ = eprintln!(rt;
+                "--at-once {seats} wants {wanted} descriptors, and the limit is {most}"
+            );
+            Err(ServeFault::Network)
+        }
+        _ => Ok(()),
+    }
 }
 
 // Tells that connections are accepted, and at which port.

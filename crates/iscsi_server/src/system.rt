@@ -4,6 +4,7 @@ ghost use Rattle.std.specs.Prelude.{◌≡◌, IfErr};
 ghost use Rattle.iscsi_service.specs.Serving.{EndsService};
 
 use iscsi_service::ServeFault;
+use libc::types::rlimit;
 use mio::net::{TcpListener, TcpStream};
 use mio::{Interest, Poll, Token};
 use std::net::SocketAddr;
@@ -11,6 +12,23 @@ use std::time::Instant;
 
 /// The token of the listener; those of connections are the numbers of their seats.
 pub const LISTENER: Token = Token(usize::MAX);
+
+/// How many descriptors a service has besides those of its seats: three streams, what tells of sockets,
+/// the listener, an image, and a connection for which another one makes room.
+pub const OTHER_DESCRIPTORS: u64 = 7;
+
+/// How many descriptors the process may have; none: the system doesn't tell.
+pub fn most_descriptors() -> Option<u64> {
+    let mut limit = rlimit {
+        rlim_cur: 0,
+        rlim_max: 0,
+    };
+    if libc::getrlimit(libc::RLIMIT_NOFILE, &mut limit) == 0 {
+        Some(limit.rlim_cur)
+    } else {
+        None
+    }
+}
 
 /// What tells of a listener and of connections, and the listener. The only fault is `Network`.
 pub fn listen(rt: &HostRuntime, address: SocketAddr) -> Result<(Poll, TcpListener), ServeFault>
