@@ -1,12 +1,13 @@
 #!/usr/bin/env python3
 """Measures how long one honest peer waits for its reads beside 63 peers that send without a pause.
 
-    tools/strangers/floods.py [--seconds S] [PROGRAM]
+    tools/strangers/floods.py [--seconds S | --hour] [PROGRAM]
 
 PROGRAM is crates/lanthovur/out/lanthovur if none is named; `./lanthovur </dev/null` builds it. All is done on 127.0.0.1. The
 honest peer has one read of a block outstanding, and looks at each byte of its answer. For each kind of flood a row tells its
 median and its slowest read in ms, the bound that is wanted, and memory and descriptors of the service before and behind. A
-median over its bound is a failure. The last line is 'N passed, M failed'. It takes S seconds (4) a kind, and as long again.
+median over its bound is a failure. The last line is 'N passed, M failed'. It takes S seconds (4) a kind, or an hour, and some
+seconds more. A flood that has sent all its commands logs in anew.
 """
 import argparse
 import importlib.util
@@ -21,7 +22,9 @@ import sys
 import time
 
 TOP = os.path.dirname(os.path.dirname(os.path.dirname(os.path.abspath(__file__))))
-# How many peers flood, in how many processes, and how many commands each has to send.
+# What a login declares: the answer to a text of the longest kind goes in one segment.
+KEYS = "MaxRecvDataSegmentLength=262144\0"
+# How many peers flood, in how many processes, and how many commands each has to send in a session.
 FLOODS = 63
 PROCESSES = 3
 COMMANDS = 20000
@@ -72,25 +75,30 @@ KINDS = [
 
 
 def flood(port, stream, count, stop):
-    """Some peers that send one stream of commands, and throw away what is answered."""
+    """Some peers that send one stream of commands, and throw away what is answered. A peer that is cut ends all."""
     watched = selectors.DefaultSelector()
-    for k in range(count):
-        peer = BASE.login(port, f"iqn.2026-01.example:{os.getpid()}-{k}")
+
+    def begin(k):
+        peer = BASE.login(port, f"iqn.2026-01.example:{os.getpid()}-{k}", KEYS)
         peer.setblocking(False)
-        watched.register(peer, selectors.EVENT_READ | selectors.EVENT_WRITE, [0])
-    while not stop.is_set() and watched.get_map():
+        watched.register(peer, selectors.EVENT_READ | selectors.EVENT_WRITE, [k, 0])
+
+    for k in range(count):
+        begin(k)
+    while not stop.is_set():
         for key, events in watched.select(0.1):
-            sent = key.data
+            peer, (k, sent) = key.fileobj, key.data
             try:
-                if events & selectors.EVENT_READ and not key.fileobj.recv(1 << 20):
-                    watched.unregister(key.fileobj)
-                    continue
-                if events & selectors.EVENT_WRITE and sent[0] < len(stream):
-                    sent[0] += key.fileobj.send(stream[sent[0]:sent[0] + (1 << 18)])
+                if events & selectors.EVENT_READ and not peer.recv(1 << 20):
+                    raise OSError("a flood was cut")
+                if events & selectors.EVENT_WRITE:
+                    key.data[1] += peer.send(stream[sent:sent + (1 << 18)])
             except BlockingIOError:
                 pass
-            except OSError:
-                watched.unregister(key.fileobj)
+            if key.data[1] == len(stream):
+                watched.unregister(peer)
+                peer.close()
+                begin(k)
 
 
 def receive(peer, count):
@@ -125,7 +133,7 @@ def waits(peer, n, seconds):
 
 def alone(port, make):
     """The ms that one such command takes alone."""
-    peer, took = BASE.login(port, "iqn.2026-01.example:alone"), []
+    peer, took = BASE.login(port, "iqn.2026-01.example:alone", KEYS), []
     for n in range(1, 30):
         begun = time.monotonic()
         peer.sendall(make(n))
@@ -145,7 +153,9 @@ def look(pid):
 
 def main():
     parser = argparse.ArgumentParser(description="How long an honest peer waits beside floods.")
-    parser.add_argument("--seconds", type=float, default=4)
+    lasts = parser.add_mutually_exclusive_group()
+    lasts.add_argument("--seconds", type=float, default=4, help="how long each flood lasts (4)")
+    lasts.add_argument("--hour", dest="seconds", action="store_const", const=3600, help="each flood lasts an hour")
     parser.add_argument("program", nargs="?", default=f"{TOP}/crates/lanthovur/out/lanthovur")
     asked = parser.parse_args()
     failed = 0
@@ -173,7 +183,8 @@ def main():
             time.sleep(0.5)
             behind = look(service.pid())
             median, slowest = statistics.median(found), max(found)
-            failed += median > bound
+            # A flood that ended early was no flood.
+            failed += median > bound or any(each.exitcode for each in floods)
             print(f"| {name} | {median:.1f} | {slowest:.0f} | {bound:.0f} | {before[0]}, {behind[0]} | {before[1]}, {behind[1]} |")
     print(f"{len(KINDS) - failed} passed, {failed} failed")
     sys.exit(1 if failed else 0)

@@ -4,13 +4,16 @@
     tools/strangers/run.py [PROGRAM]
 
 PROGRAM is crates/lanthovur/out/lanthovur if none is named; `./lanthovur </dev/null` builds it. All is done on 127.0.0.1. Errors
-of calls are put in by strace (Debian: strace), limits are set by prlimit. Each row begins with two sessions that are logged in,
-and ends with pings of both and a login of a third. The last line is 'N passed, M failed'. It takes a minute.
+of calls are put in by strace (Debian: strace), limits are set by prlimit. Most rows begin with two sessions that are logged in,
+and end with pings of both and a login of a third. The last line is 'N passed, M failed'. It takes three minutes.
 """
 import os
+import re
+import select
 import shutil
 import signal
 import socket
+import struct
 import subprocess
 import sys
 import tempfile
@@ -53,27 +56,39 @@ def connect(port):
     return socket.create_connection(("127.0.0.1", port), timeout=SECONDS)
 
 
-def login(port, initiator):
-    """A session of this initiator, in full feature phase."""
+def logged_in(port, initiator, keys=""):
+    """A session of this initiator, in full feature phase, and its TSIH."""
     peer = connect(port)
-    text = f"InitiatorName={initiator}\0TargetName={NAME}\0"
+    text = f"InitiatorName={initiator}\0TargetName={NAME}\0{keys}"
     peer.sendall(pdu(0x43, text.encode(), p1=b"\x87", p24=number(1)))
     answer = peer.recv(4096)
     if answer[:1] != b"\x23" or answer[36:38] != b"\0\0":
         raise OSError("no login")
-    return peer
+    return peer, int.from_bytes(answer[14:16], "big")
+
+
+def login(port, initiator, keys=""):
+    """A session of this initiator, in full feature phase."""
+    return logged_in(port, initiator, keys)[0]
+
+
+def leave_at_once(port):
+    """A connection without a byte, which is reset."""
+    peer = connect(port)
+    peer.setsockopt(socket.SOL_SOCKET, socket.SO_LINGER, struct.pack("ii", 1, 0))
+    peer.close()
 
 
 class Service:
-    """A service of 64 sessions at a time, started by these words, such as those of strace, before the program's own."""
+    """A service of some sessions at a time, started by these words, such as those of strace, before the program's own."""
 
-    def __init__(self, program, *words, before=()):
+    def __init__(self, program, *words, before=(), seats=64, descriptors=()):
         with socket.create_server(("127.0.0.1", 0)) as other:
             self.port = other.getsockname()[1]
-        words = ["serve", "--port", str(self.port), "--sessions", "9999", "--at-once", "64", *words]
+        words = ["serve", "--port", str(self.port), "--at-once", str(seats), *words]
         pipe = subprocess.PIPE
         self.process = subprocess.Popen([*before, program, *words], stdin=subprocess.DEVNULL, stdout=pipe, stderr=pipe,
-                                        start_new_session=True)
+                                        start_new_session=True, pass_fds=descriptors)
         if self.process.stdout.readline() != b"listening\n":
             raise OSError(f"the service did not start: {self.process.stderr.read()}")
         self.peers = [self.login("iqn.2026-01.example:a"), self.login("iqn.2026-01.example:b")]
@@ -140,8 +155,20 @@ def fails_to_watch(program, error):
         return closed and goes_on(service)
 
 
+def wants_more_descriptors(program):
+    words = ["serve", "--port", "0", "--blocks", "8", "--at-once", "64"]
+    done = subprocess.run(["prlimit", "--nofile=70", "--", program, *words], stdin=subprocess.DEVNULL, capture_output=True)
+    line = b"--at-once 64 wants 71 descriptors, and the limit is 70\nnetwork failed\n"
+    return (done.stdout, done.stderr, done.returncode) == (b"", line, 4)
+
+
 def has_few_descriptors(program):
-    with Service(program, "--blocks", "8", before=["prlimit", "--nofile=32", "--"]) as service:
+    # Those that it is started with take what its seats want.
+    given = [os.open("/dev/null", os.O_RDONLY) for _ in range(12)]
+    before = ["prlimit", f"--nofile={max(given) + 20}", "--"]
+    with Service(program, "--blocks", "8", before=before, seats=max(given) + 13, descriptors=given) as service:
+        for descriptor in given:
+            os.close(descriptor)
         strangers = []
         for _ in range(60):
             strangers.append(service.connect())
@@ -161,13 +188,69 @@ def has_silent_strangers(program):
         silent = [service.connect() for _ in range(64)]
         time.sleep(0.2)
         peer = service.login("iqn.2026-01.example:c")
-        return ping(peer) and silent[0].recv(1) == b"" and service.lines() == b"session: made room\n"
+        is_shut = silent[0].recv(1) == b""
+        address = silent[0].getsockname()[1]
+        return ping(peer) and is_shut and service.lines() == b"session 3 127.0.0.1:%d: session: made room\n" % address
 
 
-def write(peer, block):
-    """The status of a write of one block, the first command of a session, and the code of its sense."""
+def has_many_strangers(program):
+    with Service(program, "--blocks", "8") as service:
+        for at in range(65533):
+            leave_at_once(service.port)
+            if at % 1000 == 0 and not all(ping(peer) for peer in service.peers):
+                return False
+        # All numbers were used, and those of the two sessions are not free.
+        third, number = logged_in(service.port, "iqn.2026-01.example:c")
+        return number > 2 and ping(third) and goes_on(service)
+
+
+def counts_logins(program):
+    with Service(program, "--blocks", "8", "--sessions", "3") as service:
+        silent = service.connect()
+        for _ in range(20):
+            leave_at_once(service.port)
+        third = service.login("iqn.2026-01.example:c")
+        is_shut = silent.recv(1) == b""
+        try:
+            service.connect()
+            return False
+        except ConnectionRefusedError:
+            pass
+        well = is_shut and all(ping(peer) for peer in [*service.peers, third])
+        for peer in [*service.peers, third]:
+            peer.close()
+        return well and service.process.wait(SECONDS) == 0 and b": session: no more logins\n" in service.lines()
+
+
+def has_no_reader(program):
+    count = 6000
+    with Service(program, "--blocks", "8") as service:
+        for at in range(count):
+            leave_at_once(service.port)
+            if at % 500 == 0 and not all(ping(peer) for peer in service.peers):
+                return False
+        told, lost, errors = b"", 0, service.process.stderr.fileno()
+        while told.count(b": read failed\n") + lost < count and select.select([errors], [], [], SECONDS)[0]:
+            told += os.read(errors, 65536)
+            lost = sum(int(found) for found in re.findall(rb"^lines lost: ([0-9]+)\n", told, re.MULTILINE))
+        return lost > 0 and told.count(b": read failed\n") + lost == count and goes_on(service)
+
+
+def names_sessions(program):
+    with Service(program, "--blocks", "8") as service:
+        peer = service.peers[0]
+        address = peer.getsockname()[1]
+        peer.sendall(pdu(0x3F))
+        peer.recv(48)
+        line = f"session 1 127.0.0.1:{address} iqn.2026-01.example:a: protocol: rule 1\n"
+        time.sleep(0.2)
+        return service.lines() == line.encode()
+
+
+def write(peer, block, n=1):
+    """The status of a write of one block, the n-th command of a session, and the code of its sense."""
     cdb = b"\x2a\0" + number(block) + b"\0\0\1\0"
-    peer.sendall(pdu(0x01, b"w" * 512, p1=b"\xa1", p16=number(1), p20=number(512), p24=number(1), p32=cdb))
+    peer.sendall(pdu(0x01, b"w" * 512, p1=b"\xa1", p16=number(n), p20=number(512), p24=number(n), p32=cdb))
     answer = peer.recv(4096)
     return answer[3], answer[62:64]
 
@@ -181,6 +264,32 @@ def has_a_limit_of_file_sizes(program):
         with Service(program, "--file", image, before=shell) as service:
             refused = write(service.peers[0], 1500) == (2, b"\x0c\0")
             return refused and write(service.peers[1], 3)[0] == 0 and goes_on(service)
+
+
+def has_a_limit_of_memory(program):
+    with Service(program, "--blocks", str(1 << 40), "--memory", "65536") as service:
+        peer = service.peers[0]
+        seen = [write(peer, block, n + 1) for n, block in enumerate([0, 6400, 64000, 6401, 64000])]
+        good, full = (0, b""), (2, b"\x0c\0")
+        return seen == [good, good, full, good, full] and write(service.peers[1], 1) == good and goes_on(service)
+
+
+def has_little_memory(program):
+    with Service(program, "--blocks", str(1 << 40)) as service:
+        taken = int(re.search(r"VmSize:\s+([0-9]+)", open(f"/proc/{service.pid()}/status").read())[1])
+        subprocess.run(["prlimit", "--pid", str(service.pid()), f"--as={(taken + 8192) * 1024}"], check=True)
+        greedy = service.login("iqn.2026-01.example:greedy")
+        try:
+            for n in range(1, 2000):
+                write(greedy, 64 * n, n)
+        except (OSError, IndexError):
+            pass
+        greedy.close()
+        for _ in range(100):
+            stranger = service.connect()
+            stranger.sendall(pdu(0x43, bytes(8188), p1=b"\x44", p24=number(1))[:4000])
+            stranger.close()
+        return all(ping(peer) for peer in service.peers)
 
 
 def has_urgent_data(program):
@@ -202,8 +311,15 @@ ROWS = [
     *((f"accept: {error}", lambda program, error=error: fails_to_accept(program, error, [b""])) for error in OF_A_CONNECTION),
     *((f"accept: {error}", lambda program, error=error: fails_to_accept(program, error, [NO_ROOM_LINE])) for error in NO_ROOM),
     *((f"epoll_ctl: {error}", lambda program, error=error: fails_to_watch(program, error)) for error in ["ENOSPC", "ENOMEM"]),
-    ("a limit of 32 descriptors", has_few_descriptors),
+    ("fewer descriptors than seats want", wants_more_descriptors),
+    ("descriptors that are taken", has_few_descriptors),
     ("64 silent connections", has_silent_strangers),
+    ("65,533 connections without a byte", has_many_strangers),
+    ("the last login", counts_logins),
+    ("a standard error that nobody reads", has_no_reader),
+    ("the line of a session", names_sessions),
+    ("a disk that is full", has_a_limit_of_memory),
+    ("a peer that takes all memory", has_little_memory),
     ("a limit of file sizes", has_a_limit_of_file_sizes),
     ("urgent data", has_urgent_data),
 ]
