@@ -18,7 +18,7 @@ TOP = os.path.dirname(os.path.dirname(os.path.dirname(os.path.abspath(__file__))
 SCRIPTS = [
     ("check_docs", ["tools/check_docs/check_docs.py"], "2 seconds"),
     ("process", ["tools/process/run.py"], "seconds"),
-    ("strangers", ["tools/strangers/run.py"], "a minute"),
+    ("strangers", ["tools/strangers/run.py"], "three minutes"),
     ("door", ["tools/door/run.py"], "a minute"),
     ("captures", ["tools/captures/run.py"], "a minute"),
     ("memory, reads", ["tools/memory/reads.py"], "minutes"),
