@@ -431,7 +431,9 @@ impl<'a> Server<'a> {
         ensures logins { self.old.logins ≤ self.new.logins }
     {
         let Some(most) = self.options.sessions else {
-            self.logins = self.logins.saturating_add(1);
+            if self.logins < u64::MAX {
+                self.logins += 1;
+            }
             return;
         };
         if self.logins < u64::from(most) {
