@@ -12,11 +12,15 @@ use std::alloc::{AllocError, Global};
 use std::io::{self, Write};
 use std::net::{Ipv4Addr, TcpListener, TcpStream};
 
+/// Errors of accept that are those of a connection which is gone, by their numbers on Linux: EPROTO and
+/// ECONNABORTED.
+const OF_A_CONNECTION: [i32; 2] = [71, 103];
+
 /// The most bytes that are read from a socket at a time.
 const LONGEST_READ: usize = 1_048_576;
 
 /// Accepts one connection and runs a target's session over it, with first StatSN 1. The session's
-/// memory goes with it; the store stays.
+/// memory goes with it; the store stays. A connection that is gone before it is accepted is passed over.
 ///
 /// What comes is read in pieces of at most 1,048,576 bytes, and the answers to a piece leave
 /// together, as soon as more than 65,536 bytes of them wait and at its end: the store is synced
@@ -48,7 +52,7 @@ pub fn serve_one<S: BlockStore>(
     ensures synced { S.synced store.old ≡ true → result ≢ Err ServeFault.Sync
         → S.synced store.new ≡ true }
 {
-    let Ok((stream, _)) = listener.accept() else {
+    let Some(stream) = accepted(listener) else {
         return Err(ServeFault::Network);
     };
     // Answers are not to wait for those before them to be acknowledged. Where that can't be had they
@@ -67,6 +71,20 @@ pub fn serve_one<S: BlockStore>(
         Ok(()) => Ok(()),
         Err(fault) => Err(ServeFault::from(fault)),
     }
+}
+
+// The next connection that is there when it is accepted; none where the system accepts none.
+fn accepted(listener: &TcpListener) -> Option<TcpStream> {
+    for _ in 0..u64::MAX {
+        match listener.accept() {
+            Ok((stream, _)) => return Some(stream),
+            Err(error) => match error.raw_os_error() {
+                Some(number) if OF_A_CONNECTION.contains(&number) => {}
+                _ => return None,
+            },
+        }
+    }
+    None
 }
 
 // Room for `n` bytes of a read.
@@ -105,7 +123,7 @@ pub fn serve<S: BlockStore>(
     rt: &HostRuntime,
     port: u16,
     store: &mut S,
-    sessions: u16,
+    sessions: u64,
 ) -> Result<(), ServeFault>
     // Whatever comes of it, the blocks are those that commands left.
     ensures blocks { HasExecuted (S.disk store.old) (S.disk store.new) }
@@ -140,7 +158,7 @@ pub fn serve_connections<S: BlockStore>(
     rt: &HostRuntime,
     listener: &TcpListener,
     store: &mut S,
-    sessions: u16,
+    sessions: u64,
 ) -> Result<(), ServeFault>
     ensures blocks { HasExecuted (S.disk store.old) (S.disk store.new) }
     ensures ends { IfErr result EndsService }

@@ -272,7 +272,7 @@ fn serve_memory(rt: &HostRuntime, service: Service<'_>, blocks: u64) -> Result<(
     match service {
         Service::InTurn { port, sessions } => {
             let mut store = SparseStore::new(rt.alloc(), blocks);
-            serve(rt, port, &mut store, sessions)
+            serve(rt, port, &mut store, count_of(sessions))
         }
         Service::AtOnce(options) => serve_memory_at_once(rt, options, blocks),
     }
@@ -287,9 +287,14 @@ fn serve_store<S: BlockStore>(
     requires service { CanServe service }
 {
     match service {
-        Service::InTurn { port, sessions } => serve(rt, port, store, sessions),
+        Service::InTurn { port, sessions } => serve(rt, port, store, count_of(sessions)),
         Service::AtOnce(options) => serve_at_once(rt, options, store),
     }
+}
+
+// How many connections are served; any number is more than there will ever be.
+fn count_of(sessions: Option<u16>) -> u64 {
+    sessions.map_or(u64::MAX, u64::from)
 }
 
 // Compares a file with another one, or with what a reader gives.

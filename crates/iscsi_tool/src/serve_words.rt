@@ -30,8 +30,6 @@ const BAD_PORT: &str = "'--port <P>' is a number from 0 to 65535";
 
 const BAD_SESSIONS: &str = "'--sessions <n>' is a number from 0 to 65535";
 
-const NO_SESSIONS: &str = "'--sessions <n>' may be left out with '--at-once <k>' alone";
-
 const BAD_AT_ONCE: &str = "'--at-once <k>' is a number from 1 to 64";
 
 const BAD_LISTEN: &str = "'--listen <ADDR>' is an IPv4 or IPv6 address";
@@ -205,9 +203,6 @@ pub(crate) fn service_of<'a>(alloc: Global, asked: &ArgMatches<'a>) -> Result<Jo
     let storage = storage_of(alloc, asked)?;
     let sessions = sessions_of(alloc, asked)?;
     let Some(at_once) = asked.get_str("at-once") else {
-        let Some(sessions) = sessions else {
-            return Err(refusal(alloc, asked, NO_SESSIONS));
-        };
         return Ok(Job::Serve {
             storage,
             service: Service::InTurn { port, sessions },

@@ -40,8 +40,8 @@ pub enum Service<'a> {
     InTurn {
         /// The port; 0 is one that the system picks.
         port: u16,
-        /// How many connections are served.
-        sessions: u16,
+        /// How many connections are served; none: any number.
+        sessions: Option<u16>,
     },
     /// In several sessions at a time.
     AtOnce(Options<'a>),

@@ -45,27 +45,31 @@ const JOBS: &[(&str, &str)] = &[
     ),
     (
         "serve --port 3260 --blocks 2048 --sessions 5",
-        "Serve { storage: Memory { blocks: 2048 }, service: InTurn { port: 3260, sessions: 5 } }",
+        "Serve { storage: Memory { blocks: 2048 }, service: InTurn { port: 3260, sessions: Some(5) } }",
+    ),
+    (
+        "serve --port 3260 --blocks 2048",
+        "Serve { storage: Memory { blocks: 2048 }, service: InTurn { port: 3260, sessions: None } }",
     ),
     (
         "serve --sessions=0 --blocks=1 --port=0",
-        "Serve { storage: Memory { blocks: 1 }, service: InTurn { port: 0, sessions: 0 } }",
+        "Serve { storage: Memory { blocks: 1 }, service: InTurn { port: 0, sessions: Some(0) } }",
     ),
     (
         "serve --port 65535 --sessions 065535 --blocks 1099511627776",
-        "Serve { storage: Memory { blocks: 1099511627776 }, service: InTurn { port: 65535, sessions: 65535 } }",
+        "Serve { storage: Memory { blocks: 1099511627776 }, service: InTurn { port: 65535, sessions: Some(65535) } }",
     ),
     (
         "serve --port 0 --sessions 1 --file disk.img",
-        "Serve { storage: Image(Image { path: \"disk.img\", origin: Found { blocks: None } }), service: InTurn { port: 0, sessions: 1 } }",
+        "Serve { storage: Image(Image { path: \"disk.img\", origin: Found { blocks: None } }), service: InTurn { port: 0, sessions: Some(1) } }",
     ),
     (
         "serve --file=/a/b --port 0 --sessions 1 --blocks 1099511627776",
-        "Serve { storage: Image(Image { path: \"/a/b\", origin: Found { blocks: Some(1099511627776) } }), service: InTurn { port: 0, sessions: 1 } }",
+        "Serve { storage: Image(Image { path: \"/a/b\", origin: Found { blocks: Some(1099511627776) } }), service: InTurn { port: 0, sessions: Some(1) } }",
     ),
     (
         "serve --create --blocks 8 --file - --port 0 --sessions 1",
-        "Serve { storage: Image(Image { path: \"-\", origin: New { blocks: 8 } }), service: InTurn { port: 0, sessions: 1 } }",
+        "Serve { storage: Image(Image { path: \"-\", origin: New { blocks: 8 } }), service: InTurn { port: 0, sessions: Some(1) } }",
     ),
     (
         "serve --port 1 --sessions 2 --file d --at-once 3",
@@ -203,10 +207,6 @@ const REFUSED: &[(&str, &str)] = &[
     (
         "serve --port 0",
         "error: the following required arguments were not provided:\n  --blocks <N>\n",
-    ),
-    (
-        "serve --port 0 --blocks 1",
-        "error: '--sessions <n>' may be left out with '--at-once <k>' alone\n\nUsage: lanthovur serve",
     ),
     (
         "serve --blocks 1 --sessions 1",
