@@ -283,9 +283,9 @@ done_stops serve.NoMemory all rest more command m n contents_old contents_now co
 done_stops serve.Network all rest more command m n contents_old contents_now contents_new d is w =
     stops_at serve.Network tt all rest m contents_old contents_now contents_new d w.1
 done_stops (serve.Target fault) all rest more command m n contents_old contents_now contents_new d is w =
-    stops_at (serve.Target fault) tt all rest m contents_old contents_now contents_new d w.1
+    stops_at (serve.Target fault) w.0 all rest m contents_old contents_now contents_new d w.1
 done_stops (serve.Initiator fault) all rest more command m n contents_old contents_now contents_new d is w =
-    stops_at (serve.Initiator fault) tt all rest m contents_old contents_now contents_new d w.1
+    stops_at (serve.Initiator fault) w.0 all rest m contents_old contents_now contents_new d w.1
 
 -- ---- faults of a session
 
@@ -322,8 +322,16 @@ session_stops serve.Read script written is s = absurd is
 session_stops serve.Sync script written is s = absurd is
 session_stops serve.Write script written is s = absurd is
 session_stops serve.Network script written is s = s
-session_stops (serve.Target fault) script written is s = s
-session_stops (serve.Initiator fault) script written is s = s
+session_stops (serve.Target target.NoMemory) script written is s = absurd is
+session_stops (serve.Target (target.Stream fault)) script written is s = s
+session_stops (serve.Target (target.Protocol rule)) script written is s = s
+session_stops (serve.Target target.Closed) script written is s = s
+session_stops (serve.Initiator initiator.NoMemory) script written is s = absurd is
+session_stops (serve.Initiator (initiator.Stream fault)) script written is s = s
+session_stops (serve.Initiator (initiator.Protocol rule)) script written is s = s
+session_stops (serve.Initiator (initiator.Refused status detail)) script written is s = s
+session_stops (serve.Initiator (initiator.BadAnswer key)) script written is s = s
+session_stops (serve.Initiator initiator.Closed) script written is s = s
 
 -- ---- what a loop has read
 

@@ -12,6 +12,7 @@ use Rattle.iscsi_stream.proofs.TakingLemmas.{taken_more}
 use Rattle.iscsi_login.specs.declared.phase.Phase.{Phase}
 use Rattle.iscsi_login.specs.Stage.{is_closed_phase}
 use Rattle.iscsi_target.specs.declared.fault.TargetFault.{TargetFault}
+use Rattle.iscsi_login.specs.Negotiation.{IsInRange}
 use Rattle.iscsi_target_session.specs.Configured.{Settings}
 use Rattle.iscsi_target.specs.Execution.{Device, device_next}
 use Rattle.iscsi_target.specs.State.{Execution, Machine, Stepped}
@@ -415,11 +416,11 @@ session_more settings first now new store after r0 r1 r2 w0 w1 w2 kept was left 
 }
 
 -- where a sync failed in the next piece, what was written before
-pub session_last : (settings : Settings) (first : Store) (now new : Connection) (then store after : Store) (r0 r1 r2 w0 w1 w2 : Option (List ℕ))
+pub session_last : (settings : Settings) (range : IsInRange settings.preferences) (first : Store) (now new : Connection) (then store after : Store) (r0 r1 r2 w0 w1 w2 : Option (List ℕ))
     (kept was at left : ℕ → List ℕ → Type 0) (piece : List ℕ) → SessionUpTo settings (outside first r0 w0) now (outside store r1 w1) kept was →
     Consumes r1 r2 piece → LeftLast (service now store w1 []) piece then at (service new after w2 []) left →
     (read : List ℕ) × (written : List ℕ) × Consumes r0 r2 read × Appends w0 w2 written × SentBefore (exchange settings first read written) then at after left
-session_last settings first now new then store after r0 r1 r2 w0 w1 w2 kept was at left piece up read l =
+session_last settings range first now new then store after r0 r1 r2 w0 w1 w2 kept was at left piece up read l =
     let served = l.goes settings first up.read.stream w0 up.read.served in (
       up.read.stream ++ piece,
       served.sent,
@@ -431,7 +432,7 @@ session_last settings first now new then store after r0 r1 r2 w0 w1 w2 kept was 
         whole = ap (λ (x : List ℕ). up.read.stream ++ x) l.whole ∙ sym (append_assoc up.read.stream l.front l.behind);
         target = l.target;
         stands = stands_then l.stands;
-        answered = λ range none. all_served settings first (up.read.stream ++ l.front) l.target then w0 w2 served range none;
+        answered = λ none. all_served settings first (up.read.stream ++ l.front) l.target then w0 w2 served range none;
         few = l.few;
         crash = l.crash;
       },

@@ -1,7 +1,7 @@
 -- What a session keeps from read to read.
 use Rattle.std.proofs.Common.{◌≡◌, inl, inr, drop, take-append-drop, ℕ, Bool, true, false, List, [], ◌∷◌, ◌++◌, length, ◌≤◌, ◌<◌, take, Option, Result, Ok}
 use Rattle.std.proofs.Common.{Err, refl, sym, ap, subst, ◌∙◌, arith, append-nil, append_assoc}
-use Rattle.std.specs.Io.KnownBytes.{Appends, Consumes, Keeps}
+use Rattle.std.specs.Io.KnownBytes.{Appends, Consumes, Keeps, IsAtEnd}
 use Rattle.std.proofs.KnownBytes.{Appends-trans, Appends-nil, Consumes-trans, Consumes-kept}
 use Rattle.scsi_disk.specs.Disk.{Disk}
 use Rattle.iscsi_pdu.specs.Meaning.{AreBytes}
@@ -19,7 +19,9 @@ use Rattle.iscsi_target.specs.declared.fault.TargetFault.TheVariants as faults
 use Rattle.iscsi_target_session.specs.Configured.{Settings}
 use Rattle.iscsi_target.specs.Machine.{is_closed}
 use Rattle.iscsi_login.specs.Stage.{is_closed_phase}
-use Rattle.iscsi_stream.specs.Framing.{Framing}
+use Rattle.iscsi_stream.specs.declared.fault.StreamFault.{StreamFault}
+use Rattle.iscsi_stream.specs.declared.fault.StreamFault.TheVariants as stream
+use Rattle.iscsi_stream.specs.Framing.{Framing, FeedFails}
 use Rattle.iscsi_target.specs.State.{Machine, Stepped}
 use Rattle.iscsi_target.specs.Feed as feed
 use Rattle.iscsi_target.specs.Feed.{LeavesBy, Connection, Store, Fed, FedIf, FedNext, FedNextIf, Feeds, Stays, FedAll, GoesWell, Finishes, opening_connection}
@@ -31,8 +33,8 @@ use Rattle.iscsi_target.proofs.FeedInvariant.{may_rise, short_rises}
 use Rattle.iscsi_target.proofs.FailingDiskLemmas.{may_leads, stop_leads, leads_append}
 use Rattle.iscsi_service.specs.declared.session.SessionFault.{SessionFault}
 use Rattle.iscsi_service.specs.declared.session.SessionFault.TheVariants as session
-use Rattle.iscsi_service.specs.Session.{target_settings, HasExecuted, ServesAll, ServesFirst, Serves, IsOver, EndsBy, EndsWell}
-use Rattle.iscsi_service.specs.SessionSteps.{ServedUpTo, Service, service, Goes, ClosesBy, Tells, Loses, RunsOut, Breaks, HoldsBack, Syncs}
+use Rattle.iscsi_service.specs.Session.{target_settings, HasExecuted, ServesAll, ServesFirst, Serves, IsOver, EndsBy, EndsWell, EndsCut}
+use Rattle.iscsi_service.specs.SessionSteps.{ServedUpTo, Service, service, Goes, ClosesBy, Tells, Loses, RunsOut, Breaks, HoldsBack, Syncs, IsUncut}
 use Rattle.iscsi_service.specs.Serving.{session_fault, ServesOne}
 use Rattle.iscsi_service.proofs.SessionEndLemmas.{Stands, stands_first, stands_answered, read_told, end_told}
 use Rattle.iscsi_service.proofs.SessionEndLemmas.{finish_told, fault_told, first_told, over_told, either}
@@ -41,9 +43,9 @@ use Rattle.iscsi_service.proofs.SessionEndLemmas.{finish_told, fault_told, first
 abbrev pub Leaves : Option (List ℕ) → Option (List ℕ) → Option (List ℕ) → Option (List ℕ) → (List ℕ → List ℕ → Type 0) → (List ℕ → Type 0) → Type 0
 Leaves r0 r1 w0 w1 P C = (read : List ℕ) × (written : List ℕ) × Consumes r0 r1 read × Appends w0 w1 written × AreBytes written × P read written × C read
 
--- what is said of it where the preferences are in range and no failure was counted
-abbrev pub Given : Store → Store → Settings → (List ℕ → List ℕ → Type 0) → List ℕ → List ℕ → Type 0
-Given first store settings P read written = IsInRange settings.preferences → store.failures ≡ first.failures → P read written
+-- what is said of it where no failure was counted
+abbrev pub Given : Store → Store → (List ℕ → List ℕ → Type 0) → List ℕ → List ℕ → Type 0
+Given first store P read written = store.failures ≡ first.failures → P read written
 
 nothing_executed : (disk : Disk) → Leads disk [] disk
 unfolding Leads
@@ -439,6 +441,22 @@ fault_goes old new before store after contents now out piece written fault some 
     err_is : {T : Type 0} {a b : TargetFault} → (let x : Result T TargetFault = Err a in let y : Result T TargetFault = Err b in x ≡ y) → a ≡ b
     err_is e = cc
 
+-- a framer that is fed refuses no PDU for its end
+uncut : (framing : Framing) (piece : List ℕ) (fault : StreamFault) → FeedFails framing piece fault → IsUncut fault
+uncut framing piece (stream.Head fault place) f = tt
+uncut framing piece (stream.OverLimit place) f = tt
+uncut framing piece (stream.Truncated place) f = f
+uncut framing piece stream.NoMemory f = tt
+uncut framing piece stream.Failed f = tt
+
+fault_uncut : (old new : Connection) (before store : Store) (out piece written : List ℕ) (fault : StreamFault) → is_closed old.machine ≡ false
+    → FedNext (scene old before out) piece (Err (faults.Stream fault)) (scene new store written) → IsUncut fault
+fault_uncut old new before store out piece written fault live f =
+    let g : Feeds (scene old before out) piece (Err (faults.Stream fault)) (scene new store written) =
+    subst (λ (b : Bool). FedIf b (scene old before out) piece (Err (faults.Stream fault)) (scene new store written)) live
+    (next_fails (is_closed old.machine) old new before store out piece written (faults.Stream fault) f) in
+    uncut g.framing (drop g.count piece) fault g.ends.2
+
 -- a fault that a call of feed_next answers, and then the answers were written
 pub fault_breaks : (old new : Connection) (before store after : Store) (contents now : Option (List ℕ)) (out piece written : List ℕ) (fault : TargetFault) →
     is_closed old.machine ≡ false
@@ -461,7 +479,8 @@ fault_breaks old new before store after contents now out piece written faults.No
       (feeds_live old new before store up.sent piece out written (Err faults.NoMemory) live g) h.1),
 )
 fault_breaks old new before store after contents now out piece written (faults.Stream fault) live f s are wrote =
-    fault_goes old new before store after contents now out piece written (faults.Stream fault) (λ e. cc) live f s are wrote
+    let g = fault_goes old new before store after contents now out piece written (faults.Stream fault) (λ e. cc) live f s are wrote in
+    (g.0, g.1, fault_uncut old new before store out piece written fault live f)
 fault_breaks old new before store after contents now out piece written (faults.Protocol rule) live f s are wrote =
     fault_goes old new before store after contents now out piece written (faults.Protocol rule) (λ e. cc) live f s are wrote
 fault_breaks old new before store after contents now out piece written faults.Closed live f s are wrote =
@@ -492,7 +511,7 @@ runs_out_then old mid new a b p q = λ settings first stream start up.
 pub breaks_then : (old mid new : Service) (a b : List ℕ) (fault : SessionFault) → Goes old a mid → Breaks mid b fault new → Breaks old (a ++ b) fault new
 breaks_then old mid new a b (session.Target faults.NoMemory) p q = runs_out_then old mid new a b p q
 breaks_then old mid new a b (session.Target (faults.Stream fault)) p q =
-    (goes_then old mid new a b p q.0, tells_then old mid a b (session.Target (faults.Stream fault)) new.store p q.1)
+    (goes_then old mid new a b p q.0, tells_then old mid a b (session.Target (faults.Stream fault)) new.store p q.1, q.2)
 breaks_then old mid new a b (session.Target (faults.Protocol rule)) p q =
     (goes_then old mid new a b p q.0, tells_then old mid a b (session.Target (faults.Protocol rule)) new.store p q.1)
 breaks_then old mid new a b (session.Target faults.Closed) p q = q
@@ -636,21 +655,21 @@ all_served settings first stream now store w0 w1 up range h ms given rest s =
 
 -- what is said where a session ends so
 abbrev pub Ended : Settings → Store → Store → Result (Unit {0}) SessionFault → List ℕ → List ℕ → Type 0
-Ended settings first store result = Given first store settings (λ read written. Serves settings first.disk result read store.disk written
+Ended settings first store result = Given first store (λ read written. Serves settings first.disk result read store.disk written
     × EndsBy settings first.disk result read)
 
-stops : (settings : Settings) (result : Result (Unit {0}) SessionFault) (first : Store) (now : Connection) (store : Store) (r0 r1 w0 w1 : Option (List ℕ))
+stops : (settings : Settings) (range : IsInRange settings.preferences) (result : Result (Unit {0}) SessionFault) (first : Store) (now : Connection) (store : Store) (r0 r1 w0 w1 : Option (List ℕ))
     (C : List ℕ → Type 0) → (up : ReadUpTo settings (outside first r0 w0) now (outside store r1 w1)) → C up.stream
     → ((read written : List ℕ) → ServesAll settings first.disk read store.disk written → Serves settings first.disk result read store.disk written) →
     (store.failures ≡ first.failures → EndsBy settings first.disk result up.stream)
     → Leaves r0 r1 w0 w1 (Ended settings first store result) C
-stops settings result first now store r0 r1 w0 w1 C up left due why = (
+stops settings range result first now store r0 r1 w0 w1 C up left due why = (
   up.stream,
   up.served.sent,
   up.consumed,
   up.served.appended,
   up.served.bytes,
-  λ range h. (due up.stream up.served.sent (all_served settings first up.stream now store w0 w1 up.served range h), why h),
+  λ h. (due up.stream up.served.sent (all_served settings first up.stream now store w0 w1 up.served range h), why h),
   left,
 )
 
@@ -661,11 +680,11 @@ read_stands : (settings : Settings) (first : Store) (now : Connection) (store : 
 read_stands settings first now store r0 r1 w0 w1 up h live = stands_up settings first up.stream now store w0 w1 [] up.served h live
 
 -- a read failed
-pub read_stops : (settings : Settings) (first : Store) (now : Connection) (store : Store) (r0 r1 r2 w0 w1 : Option (List ℕ)) (C : List ℕ → Type 0) →
+pub read_stops : (settings : Settings) (range : IsInRange settings.preferences) (first : Store) (now : Connection) (store : Store) (r0 r1 r2 w0 w1 : Option (List ℕ)) (C : List ℕ → Type 0) →
     (up : ReadUpTo settings (outside first r0 w0) now (outside store r1 w1)) → C up.stream → is_closed now.machine ≡ false → Keeps r1 r2
     → Leaves r0 r2 w0 w1 (Ended settings first store (Err session.Read)) C
-read_stops settings first now store r0 r1 r2 w0 w1 C up left live kept =
-    stops settings (Err session.Read) first now store r0 r2 w0 w1 C (record {
+read_stops settings range first now store r0 r1 r2 w0 w1 C up left live kept =
+    stops settings range (Err session.Read) first now store r0 r2 w0 w1 C (record {
       stream = up.stream;
       consumed = Consumes-kept r0 r1 r2 up.stream up.consumed kept;
       served = up.served;
@@ -673,12 +692,12 @@ read_stops settings first now store r0 r1 r2 w0 w1 C up left live kept =
     (λ h. read_told settings first.disk up.stream now store.disk (up.served.sent ++ []) (read_stands settings first now store r0 r1 w0 w1 up h live) live)
 
 -- a session that was closed
-pub over_stops : (settings : Settings) (first : Store) (now new : Connection) (store after : Store) (r0 r1 r2 w0 w1 w2 : Option (List ℕ)) (piece : List ℕ)
+pub over_stops : (settings : Settings) (range : IsInRange settings.preferences) (first : Store) (now new : Connection) (store after : Store) (r0 r1 r2 w0 w1 w2 : Option (List ℕ)) (piece : List ℕ)
     (C : List ℕ → Type 0) → (up : ReadUpTo settings (outside first r0 w0) now (outside store r1 w1)) → C (up.stream ++ piece) → Consumes r1 r2 piece
     → Goes (service now store w1 []) piece (service new after w2 []) → ClosesBy (service now store w1 []) piece after
     → Leaves r0 r2 w0 w2 (Ended settings first after (Ok tt)) C
-over_stops settings first now new store after r0 r1 r2 w0 w1 w2 piece C up left read goes closes =
-    stops settings (Ok tt) first new after r0 r2 w0 w2 C
+over_stops settings range first now new store after r0 r1 r2 w0 w1 w2 piece C up left read goes closes =
+    stops settings range (Ok tt) first new after r0 r2 w0 w2 C
     (record {
       stream = up.stream ++ piece;
       consumed = Consumes-trans r0 r1 r2 up.stream piece up.consumed read;
@@ -693,11 +712,11 @@ ended_up settings first now store r0 r1 r2 w0 w1 up read = subst (λ (x : List �
     (Consumes-trans r0 r1 r2 up.stream [] up.consumed read)
 
 -- the stream ended behind a PDU
-pub end_stops : (settings : Settings) (first : Store) (now new : Connection) (store : Store) (r0 r1 r2 w0 w1 : Option (List ℕ)) (C : List ℕ → Type 0) →
+pub end_stops : (settings : Settings) (range : IsInRange settings.preferences) (first : Store) (now new : Connection) (store : Store) (r0 r1 r2 w0 w1 : Option (List ℕ)) (C : List ℕ → Type 0) →
     (up : ReadUpTo settings (outside first r0 w0) now (outside store r1 w1)) → C up.stream → is_closed now.machine ≡ false
     → Finishes now (Ok tt) new → Consumes r1 r2 [] → Leaves r0 r2 w0 w1 (Ended settings first store (Ok tt)) C
-end_stops settings first now new store r0 r1 r2 w0 w1 C up left live done read =
-    stops settings (Ok tt) first now store r0 r2 w0 w1 C (record {
+end_stops settings range first now new store r0 r1 r2 w0 w1 C up left live done read =
+    stops settings range (Ok tt) first now store r0 r2 w0 w1 C (record {
       stream = up.stream;
       consumed = ended_up settings first now store r0 r1 r2 w0 w1 up read;
       served = up.served;
@@ -714,12 +733,12 @@ any_fault settings disk (faults.Protocol rule) new now read disk_now written liv
 any_fault settings disk faults.Closed new now read disk_now written live f a = absurd (apart f.0 live)
 
 -- the stream ended within a PDU
-pub finish_stops : (settings : Settings) (fault : TargetFault) (first : Store) (now new : Connection) (store : Store) (r0 r1 r2 w0 w1 : Option (List ℕ))
+pub finish_stops : (settings : Settings) (range : IsInRange settings.preferences) (fault : TargetFault) (first : Store) (now new : Connection) (store : Store) (r0 r1 r2 w0 w1 : Option (List ℕ))
     (C : List ℕ → Type 0) → (up : ReadUpTo settings (outside first r0 w0) now (outside store r1 w1)) → C up.stream
     → is_closed now.machine ≡ false → Finishes now (Err fault) new → Consumes r1 r2 [] →
     Leaves r0 r2 w0 w1 (Ended settings first store (Err (session.Target fault))) C
-finish_stops settings fault first now new store r0 r1 r2 w0 w1 C up left live fails read =
-    stops settings (Err (session.Target fault)) first now store r0 r2 w0 w1 C (record {
+finish_stops settings range fault first now new store r0 r1 r2 w0 w1 C up left live fails read =
+    stops settings range (Err (session.Target fault)) first now store r0 r2 w0 w1 C (record {
       stream = up.stream;
       consumed = ended_up settings first now store r0 r1 r2 w0 w1 up read;
       served = up.served;
@@ -729,62 +748,86 @@ finish_stops settings fault first now new store r0 r1 r2 w0 w1 C up left live fa
     (read_stands settings first now store r0 r1 w0 w1 up h live) live fails)
 
 -- a session that ends by a fault of the target
-fault_ends : (settings : Settings) (fault : SessionFault) (first : Store) (now new : Connection) (store after : Store) (r0 r1 r2 w0 w1 w2 : Option (List ℕ))
+fault_ends : (settings : Settings) (range : IsInRange settings.preferences) (fault : SessionFault) (first : Store) (now new : Connection) (store after : Store) (r0 r1 r2 w0 w1 w2 : Option (List ℕ))
     (piece : List ℕ) (C : List ℕ → Type 0) → (up : ReadUpTo settings (outside first r0 w0) now (outside store r1 w1)) → C (up.stream ++ piece)
     → Consumes r1 r2 piece → ((read written : List ℕ) → ServesAll settings first.disk read after.disk written →
     Serves settings first.disk (Err fault) read after.disk written)
     → Goes (service now store w1 []) piece (service new after w2 []) → Tells (service now store w1 []) piece fault after →
     Leaves r0 r2 w0 w2 (Ended settings first after (Err fault)) C
-fault_ends settings fault first now new store after r0 r1 r2 w0 w1 w2 piece C up left read due goes tells =
-    stops settings (Err fault) first new after r0 r2 w0 w2 C
+fault_ends settings range fault first now new store after r0 r1 r2 w0 w1 w2 piece C up left read due goes tells =
+    stops settings range (Err fault) first new after r0 r2 w0 w2 C
     (record {
       stream = up.stream ++ piece;
       consumed = Consumes-trans r0 r1 r2 up.stream piece up.consumed read;
       served = goes settings first up.stream w0 up.served;
     }) left due (λ h. tells settings first up.stream w0 up.served h)
 
-pub fault_stops : (settings : Settings) (fault : SessionFault) (first : Store) (now new : Connection) (store after : Store)
+pub fault_stops : (settings : Settings) (range : IsInRange settings.preferences) (fault : SessionFault) (first : Store) (now new : Connection) (store after : Store)
     (r0 r1 r2 w0 w1 w2 : Option (List ℕ)) (piece : List ℕ) (C : List ℕ → Type 0)
     → (up : ReadUpTo settings (outside first r0 w0) now (outside store r1 w1)) → C (up.stream ++ piece) → Consumes r1 r2 piece
     → Breaks (service now store w1 []) piece fault (service new after w2 []) → Leaves r0 r2 w0 w2 (Ended settings first after (Err fault)) C
-fault_stops settings (session.Target faults.NoMemory) first now new store after r0 r1 r2 w0 w1 w2 piece C up left read lost =
+fault_stops settings range (session.Target faults.NoMemory) first now new store after r0 r1 r2 w0 w1 w2 piece C up left read lost =
     let l = lost settings first up.stream w0 up.served in (
       up.stream ++ piece,
       l.0,
       Consumes-trans r0 r1 r2 up.stream piece up.consumed read,
       l.1,
       l.2,
-      λ range h. (l.4 h, tt),
+      λ h. (l.4 h, tt),
       left,
     )
-fault_stops settings (session.Target (faults.Stream fault)) first now new store after r0 r1 r2 w0 w1 w2 piece C up left read broken =
-    fault_ends settings (session.Target (faults.Stream fault)) first now new store after r0 r1 r2 w0 w1 w2 piece C up left read (λ read written a. a)
+fault_stops settings range (session.Target (faults.Stream fault)) first now new store after r0 r1 r2 w0 w1 w2 piece C up left read broken =
+    fault_ends settings range (session.Target (faults.Stream fault)) first now new store after r0 r1 r2 w0 w1 w2 piece C up left read (λ read written a. a)
     broken.0 broken.1
-fault_stops settings (session.Target (faults.Protocol rule)) first now new store after r0 r1 r2 w0 w1 w2 piece C up left read broken =
-    fault_ends settings (session.Target (faults.Protocol rule)) first now new store after r0 r1 r2 w0 w1 w2 piece C up left read (λ read written a. a)
+fault_stops settings range (session.Target (faults.Protocol rule)) first now new store after r0 r1 r2 w0 w1 w2 piece C up left read broken =
+    fault_ends settings range (session.Target (faults.Protocol rule)) first now new store after r0 r1 r2 w0 w1 w2 piece C up left read (λ read written a. a)
     broken.0 broken.1
-fault_stops settings (session.Target faults.Closed) first now new store after r0 r1 r2 w0 w1 w2 piece C up left read broken = absurd broken
-fault_stops settings session.Read first now new store after r0 r1 r2 w0 w1 w2 piece C up left read broken = absurd broken
-fault_stops settings session.Sync first now new store after r0 r1 r2 w0 w1 w2 piece C up left read lost =
+fault_stops settings range (session.Target faults.Closed) first now new store after r0 r1 r2 w0 w1 w2 piece C up left read broken = absurd broken
+fault_stops settings range session.Read first now new store after r0 r1 r2 w0 w1 w2 piece C up left read broken = absurd broken
+fault_stops settings range session.Sync first now new store after r0 r1 r2 w0 w1 w2 piece C up left read lost =
     let l = lost settings first up.stream w0 up.served in (
       up.stream ++ piece,
       l.0,
       Consumes-trans r0 r1 r2 up.stream piece up.consumed read,
       l.1,
       l.2,
-      λ range h. (tt, tt),
+      λ h. (tt, tt),
       left,
     )
-fault_stops settings session.Write first now new store after r0 r1 r2 w0 w1 w2 piece C up left read lost =
+fault_stops settings range session.Write first now new store after r0 r1 r2 w0 w1 w2 piece C up left read lost =
     let l = lost settings first up.stream w0 up.served in (
       up.stream ++ piece,
       l.0,
       Consumes-trans r0 r1 r2 up.stream piece up.consumed read,
       l.1,
       l.2,
-      λ range h. (tt, tt),
+      λ h. (tt, tt),
       left,
     )
+
+-- a PDU is called cut at the end of the stream alone
+pub fault_cut : (old new : Service) (bytes : List ℕ) (fault : SessionFault) (left : Option (List ℕ)) → Breaks old bytes fault new → EndsCut (Err fault) left
+fault_cut old new bytes (session.Target faults.NoMemory) left b = tt
+fault_cut old new bytes (session.Target (faults.Stream (stream.Head fault place))) left b = tt
+fault_cut old new bytes (session.Target (faults.Stream (stream.OverLimit place))) left b = tt
+fault_cut old new bytes (session.Target (faults.Stream (stream.Truncated place))) left b = absurd b.2
+fault_cut old new bytes (session.Target (faults.Stream stream.NoMemory)) left b = tt
+fault_cut old new bytes (session.Target (faults.Stream stream.Failed)) left b = tt
+fault_cut old new bytes (session.Target (faults.Protocol rule)) left b = tt
+fault_cut old new bytes (session.Target faults.Closed) left b = tt
+fault_cut old new bytes session.Read left b = tt
+fault_cut old new bytes session.Sync left b = tt
+fault_cut old new bytes session.Write left b = tt
+
+pub end_cut : (fault : TargetFault) (left : Option (List ℕ)) → IsAtEnd left → EndsCut (Err (session.Target fault)) left
+end_cut faults.NoMemory left end = tt
+end_cut (faults.Stream (stream.Head fault place)) left end = tt
+end_cut (faults.Stream (stream.OverLimit place)) left end = tt
+end_cut (faults.Stream (stream.Truncated place)) left end = end
+end_cut (faults.Stream stream.NoMemory) left end = tt
+end_cut (faults.Stream stream.Failed) left end = tt
+end_cut (faults.Protocol rule) left end = tt
+end_cut faults.Closed left end = tt
 
 -- the blocks are those that commands left
 pub fault_executed : (settings : Settings) (fault : SessionFault) (first : Store) (now new : Connection) (store after : Store)
@@ -864,28 +907,17 @@ fault_served settings disk session.Write read disk_now written a = tt
 
 -- ---- the target of the programs
 
--- the preferences of the programs are in range
-standard_in_range : IsInRange target_settings.preferences
-standard_in_range = record {
-  max_burst = (omega arith, omega arith);
-  first_burst = (omega arith, omega arith);
-  time2wait = (omega arith, omega arith);
-  time2retain = (omega arith, omega arith);
-  max_recv = (omega arith, omega arith);
-}
-
 abbrev pub Told : Settings → Disk → Result (Unit {0}) SessionFault → List ℕ → Disk → List ℕ → Type 0
 Told settings disk result read disk_now written = Serves settings disk result read disk_now written × EndsBy settings disk result read
 
 -- what a session leaves, at the target of the programs
 pub told_here : {Steady : Type 0} (settings : Settings) (disk here : Disk) (result : Result (Unit {0}) SessionFault) (read : List ℕ) (disk_now : Disk)
     (written : List ℕ) → settings ≡ target_settings → disk ≡ here
-    → (IsInRange settings.preferences → Steady → Told settings disk result read disk_now written) → Steady →
+    → (Steady → Told settings disk result read disk_now written) → Steady →
     Told target_settings here result read disk_now written
 told_here settings disk here result read disk_now written is at told steady =
     subst (λ (s : Settings). Told s here result read disk_now written) is
-    (subst (λ (d : Disk). Told settings d result read disk_now written) at (told (subst (λ (s : Settings). IsInRange s.preferences) (sym is) standard_in_range)
-    steady))
+    (subst (λ (d : Disk). Told settings d result read disk_now written) at (told steady))
 
 pub ends_here : (settings : Settings) (disk here : Disk) (before after : Option (List ℕ)) → settings ≡ target_settings → disk ≡ here →
     EndsWell settings disk before after → EndsWell target_settings here before after

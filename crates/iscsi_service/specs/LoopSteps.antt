@@ -1,6 +1,7 @@
 -- The steps of a loop: what they write, and what happens to the initiator.
 use Rattle.std.specs.Prelude.{◌≡◌, List, [], ◌∷◌, ℕ, Option}
 use Rattle.std.specs.Io.KnownBytes.{Appends}
+use Rattle.iscsi_target.specs.declared.fault.TargetFault.TheVariants as target
 use Rattle.iscsi_initiator.specs.declared.fault.InitiatorFault.TheVariants as initiator
 use Rattle.iscsi_initiator.specs.declared.request.Done.{Done}
 use Rattle.iscsi_initiator.specs.declared.request.Request.{Request}
@@ -16,11 +17,13 @@ use Rattle.iscsi_service.specs.Commands.{request_of}
 use Rattle.iscsi_service.specs.Reports.{report}
 use Rattle.iscsi_service.specs.Looping.{HaveOutcomes, FirstHaveOutcomes, reports, up_to_logout}
 
--- The faults of the session itself.
+-- The faults of the session itself. None wraps the want of memory.
 abbrev pub IsOfSession : ServeFault → Type 0
 IsOfSession serve.NoMemory = Unit {0}
 IsOfSession serve.Network = Unit {0}
+IsOfSession (serve.Target target.NoMemory) = ⊥
 IsOfSession (serve.Target fault) = Unit {0}
+IsOfSession (serve.Initiator initiator.NoMemory) = ⊥
 IsOfSession (serve.Initiator fault) = Unit {0}
 IsOfSession (serve.Script n) = ⊥
 IsOfSession serve.Read = ⊥

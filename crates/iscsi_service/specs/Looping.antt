@@ -6,6 +6,8 @@ use Rattle.iscsi_login.specs.declared.stage.Session.TheVariants.{Normal}
 use Rattle.iscsi_login.specs.declared.stage.Stage.TheVariants.{Security}
 use Rattle.iscsi_login.specs.declared.offers.Auth.TheVariants as auth
 use Rattle.iscsi_login.specs.Negotiation.{standard}
+use Rattle.iscsi_target.specs.declared.fault.TargetFault.TheVariants as target
+use Rattle.iscsi_initiator.specs.declared.fault.InitiatorFault.TheVariants as initiator
 use Rattle.iscsi_initiator.specs.declared.request.Done.{Done}
 use Rattle.iscsi_initiator.specs.State.{Settings}
 use Rattle.iscsi_initiator.specs.Laws.{IsOutcomeOf}
@@ -81,7 +83,7 @@ WritesFront script written =
     × FirstHaveOutcomes (up_to_logout commands) outcomes
     × ((n : ℕ) × (written ≡ take n (transcript outcomes)))
 
--- What is written where a loop ends.
+-- What is written where a loop ends. No fault wraps the want of memory.
 abbrev pub Loops : Result (Unit {0}) ServeFault → List ℕ → List ℕ → Type 0
 Loops (Ok done) script written = DoesScript script written
 Loops (Err (serve.Script n)) script written =
@@ -91,7 +93,9 @@ Loops (Err serve.Write) script written = WritesFront script written
 Loops (Err serve.Read) script written = written ≡ []
 Loops (Err serve.NoMemory) script written = StopsWithin script written
 Loops (Err serve.Network) script written = StopsWithin script written
+Loops (Err (serve.Target target.NoMemory)) script written = ⊥
 Loops (Err (serve.Target fault)) script written = StopsWithin script written
+Loops (Err (serve.Initiator initiator.NoMemory)) script written = ⊥
 Loops (Err (serve.Initiator fault)) script written = StopsWithin script written
 
 -- The script is read to its end before anything is sent or written.

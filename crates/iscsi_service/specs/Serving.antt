@@ -49,11 +49,13 @@ session_fault session.Sync = serve.Sync
 session_fault session.Write = serve.Write
 
 -- What a session over a socket leaves where it ends, and why it ends so: nothing is done where no
--- connection was accepted; where a sync or a write failed, nothing is stated of it.
+-- connection was accepted; where a sync or a write failed, nothing is stated of it. No fault wraps
+-- the want of memory.
 abbrev pub ServesOne : Settings → Disk → Result (Unit {0}) ServeFault → List ℕ → Disk → List ℕ
     → Type 0
 ServesOne settings disk (Ok done) read disk_now written =
     ServesAll settings disk read disk_now written × EndsBy settings disk (Ok done) read
+ServesOne settings disk (Err (serve.Target target.NoMemory)) read disk_now written = ⊥
 ServesOne settings disk (Err (serve.Target fault)) read disk_now written =
     ServesAll settings disk read disk_now written
     × EndsBy settings disk (Err (session.Target fault)) read

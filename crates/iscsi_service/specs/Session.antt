@@ -10,7 +10,7 @@ use Rattle.iscsi_stream.specs.declared.fault.StreamFault.TheVariants as stream
 use Rattle.iscsi_stream.specs.Segment.{no_login}
 use Rattle.iscsi_stream.specs.Stream.{Message, ReadsAs, NoPdu, Splits, longest_segment}
 use Rattle.iscsi_stream.specs.Framing.{IsBegun, last_place}
-use Rattle.iscsi_login.specs.Negotiation.{IsInRange, standard}
+use Rattle.iscsi_login.specs.Negotiation.{standard}
 use Rattle.iscsi_target.specs.declared.fault.TargetFault.TheVariants as faults
 use Rattle.iscsi_target_session.specs.Configured.{Settings}
 use Rattle.iscsi_target_session.specs.Session.{limit}
@@ -144,6 +144,11 @@ EndsBy settings disk (Err session.Sync) read = Unit {0}
 EndsBy settings disk (Err session.Write) read = Unit {0}
 EndsBy settings disk (Err (session.Target faults.Closed)) read = ⊥
 
+-- A PDU that is begun and not whole is a fault once the reader has told its end, and not before.
+abbrev pub EndsCut : Result (Unit {0}) SessionFault → Option (List ℕ) → Type 0
+EndsCut (Err (session.Target (faults.Stream (stream.Truncated place)))) left = IsAtEnd left
+EndsCut _ left = Unit {0}
+
 -- ---- a sync that failed
 
 -- These bytes led a target and its store from here to there; of the failures that were counted some
@@ -182,7 +187,7 @@ pub record SentBefore (all : Exchange) (store : Store) (kept : ℕ → List ℕ 
   -- where the session stood then
   pub target : Connection
   pub stands : StandsBehind (opening_connection all.settings 1) all.store front target store
-  pub answered : IsInRange all.settings.preferences → store.failures ≡ all.store.failures
+  pub answered : store.failures ≡ all.store.failures
       → ServesAll all.settings all.store.disk front store.disk all.written
   pub few : store.failures ≤ last.failures
   pub crash : CrashesFed target store behind last kept left

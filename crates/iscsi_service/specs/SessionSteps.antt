@@ -4,6 +4,8 @@ use Rattle.std.specs.Prelude.{◌≡◌, ◌≤◌, ℕ, List, [], ◌++◌, Opt
 use Rattle.std.specs.Io.KnownBytes.{Appends}
 use Rattle.iscsi_pdu.specs.Meaning.{AreBytes}
 use Rattle.iscsi_stream.specs.Normalising.{WroteFront}
+use Rattle.iscsi_stream.specs.declared.fault.StreamFault.{StreamFault}
+use Rattle.iscsi_stream.specs.declared.fault.StreamFault.TheVariants as stream
 use Rattle.iscsi_target.specs.declared.fault.TargetFault.TheVariants as faults
 use Rattle.iscsi_target_session.specs.Configured.{Settings}
 use Rattle.iscsi_target.specs.Feed.{Connection, Store, FedAll, opening_connection, stream_of, scene}
@@ -110,11 +112,17 @@ pub record LeftLast (old : Service) (bytes : List ℕ) (store : Store) (kept : �
   pub few : store.failures ≤ new.store.failures
   pub crash : CrashesFed target store behind new.store kept left
 
+-- The fault is not that a stream ends within a PDU: more of it may come.
+abbrev pub IsUncut : StreamFault → Type 0
+IsUncut (stream.Truncated place) = ⊥
+IsUncut _ = Unit {0}
+
 -- What is left where a session ends by a fault at these bytes.
 abbrev pub Breaks : Service → List ℕ → SessionFault → Service → Type 0
 Breaks old bytes (session.Target faults.NoMemory) new = RunsOut old bytes new
 Breaks old bytes (session.Target (faults.Stream fault)) new =
     Goes old bytes new × Tells old bytes (session.Target (faults.Stream fault)) new.store
+    × IsUncut fault
 Breaks old bytes (session.Target (faults.Protocol rule)) new =
     Goes old bytes new × Tells old bytes (session.Target (faults.Protocol rule)) new.store
 Breaks old bytes (session.Target faults.Closed) new = ⊥

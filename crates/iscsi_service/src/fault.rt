@@ -31,12 +31,12 @@ pub enum ServeFault {
     /// A read failed, or there were 16,777,216 of them.
     #[error("read failed")]
     Read,
-    /// What was written to the store could not be made to last.
-    #[error("sync failed")]
-    Sync,
     /// A write failed, or took no byte.
     #[error("write failed")]
     Write,
+    /// What was written to the store could not be made to last.
+    #[error("sync failed")]
+    Sync,
 }
 
 impl ServeFault {

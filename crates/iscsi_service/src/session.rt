@@ -11,7 +11,7 @@ ghost use Rattle.iscsi_target.specs.Machine.{is_closed};
 ghost use Rattle.iscsi_target.specs.Feed.{opening_connection};
 ghost use Rattle.iscsi_target.specs.Crash.{CrashesFed};
 ghost use Rattle.iscsi_target.specs.Inside.{store_of};
-ghost use Rattle.iscsi_service.specs.Session.{target_settings, Comes, EndsBy, EndsWell, HasExecuted, SentBefore, Serves, ServesAll, exchange};
+ghost use Rattle.iscsi_service.specs.Session.{target_settings, Comes, EndsBy, EndsCut, EndsWell, HasExecuted, SentBefore, Serves, ServesAll, exchange};
 ghost use Rattle.iscsi_service.specs.SessionSteps.{Goes, ClosesBy, Breaks, HoldsBack, LeftLast, Syncs, service};
 
 use iscsi_login::{Phase, Preferences};
@@ -95,12 +95,12 @@ pub fn serve_stream<S: BlockStore, R: Read, W: Write>(
     r: &mut R,
     w: &mut W,
 ) -> Result<(), SessionFault>
-    // The preferences of each configuration are in range. Come what may, a crash leaves each block as
-    // before, or as a command of a PDU of what was read leaves it.
+    // Come what may, a crash leaves each block as before, or as a command of a PDU of what was read
+    // leaves it.
     ensures serves { (read : List ℕ) × (written : List ℕ)
         × Consumes (R.remaining r.old) (R.remaining r.new) read
         × Appends (W.contents w.old) (W.contents w.new) written × AreBytes written
-        × (IsInRange config.preferences → S.failures store.new ≡ S.failures store.old
+        × (S.failures store.new ≡ S.failures store.old
         → Serves config (S.disk store.old) result read (S.disk store.new) written
         × EndsBy config (S.disk store.old) result read)
         × CrashesFed (opening_connection config 1)
@@ -108,7 +108,7 @@ pub fn serve_stream<S: BlockStore, R: Read, W: Write>(
         (store_of (S.disk store.new) (S.failures store.new)) (S.kept store.old) (S.kept store.new) }
     // What was written and what is stored are what the PDUs before the first fault lead to: a function
     // of the settings, the blocks and their meanings alone.
-    ensures answered { IsInRange config.preferences → S.failures store.new ≡ S.failures store.old
+    ensures answered { S.failures store.new ≡ S.failures store.old
         → OnOk result ((read : List ℕ) × (written : List ℕ)
         × Consumes (R.remaining r.old) (R.remaining r.new) read
         × Appends (W.contents w.old) (W.contents w.new) written
@@ -132,6 +132,8 @@ pub fn serve_stream<S: BlockStore, R: Read, W: Write>(
         (store_of (S.disk store.new) (S.failures store.new)) (S.kept store.new) }
     ensures end { S.failures store.new ≡ S.failures store.old → OnOk result
         (EndsWell config (S.disk store.old) (R.remaining r.old) (R.remaining r.new)) }
+    // A PDU is called cut where the reader has told its end.
+    ensures cut { EndsCut result (R.remaining r.new) }
 {
     let mut buffer = [0u8; PIECE];
     serve_reads(alloc, config, store, r, w, &mut buffer)
@@ -147,10 +149,11 @@ pub(crate) fn serve_reads<S: BlockStore, R: Read, W: Write>(
     buffer: &mut [u8],
 ) -> Result<(), SessionFault>
     requires some { 0 < length buffer.old }
+    requires range { IsInRange config.preferences }
     ensures serves { (read : List ℕ) × (written : List ℕ)
         × Consumes (R.remaining r.old) (R.remaining r.new) read
         × Appends (W.contents w.old) (W.contents w.new) written × AreBytes written
-        × (IsInRange config.preferences → S.failures store.new ≡ S.failures store.old
+        × (S.failures store.new ≡ S.failures store.old
         → Serves config (S.disk store.old) result read (S.disk store.new) written
         × EndsBy config (S.disk store.old) result read)
         × CrashesFed (opening_connection config 1)
@@ -171,6 +174,7 @@ pub(crate) fn serve_reads<S: BlockStore, R: Read, W: Write>(
         (store_of (S.disk store.new) (S.failures store.new)) (S.kept store.new) }
     ensures end { S.failures store.new ≡ S.failures store.old → OnOk result
         (EndsWell config (S.disk store.old) (R.remaining r.old) (R.remaining r.new)) }
+    ensures cut { EndsCut result (R.remaining r.new) }
 {
     let mut target = Target::new(alloc, config, FIRST_STAT_SN);
     let mut out = Vec::new(alloc);

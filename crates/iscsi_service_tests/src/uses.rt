@@ -1,7 +1,6 @@
 //! What another program does with `iscsi_service`.
 
 ghost use Rattle.std.specs.Prelude.{◌≡◌, ◌++◌, List, OnOk, ℕ};
-ghost use Rattle.iscsi_login.specs.Negotiation.{IsInRange};
 ghost use Rattle.iscsi_service.specs.Session.{HasExecuted, Serves, ServesAll};
 
 use iscsi_service::{SessionFault, serve_stream};
@@ -19,7 +18,7 @@ pub fn answer_all<S: BlockStore>(
 ) -> Result<(), SessionFault>
     ensures serves { (read : List ℕ) × (written : List ℕ)
         × (answers.new.items ≡ answers.old.items ++ written)
-        × (IsInRange config.preferences → S.failures store.new ≡ S.failures store.old
+        × (S.failures store.new ≡ S.failures store.old
         → Serves config (S.disk store.old) result read (S.disk store.new) written) }
     ensures blocks { HasExecuted (S.disk store.old) (S.disk store.new) }
 {
@@ -36,7 +35,7 @@ pub fn answer_by_meaning<S: BlockStore>(
     store: &mut S,
     answers: &mut Vec<u8>,
 ) -> Result<(), SessionFault>
-    ensures answered { IsInRange config.preferences → S.failures store.new ≡ S.failures store.old
+    ensures answered { S.failures store.new ≡ S.failures store.old
         → OnOk result ((read : List ℕ) × (written : List ℕ)
         × (answers.new.items ≡ answers.old.items ++ written)
         × ServesAll config (S.disk store.old) read (S.disk store.new) written) }

@@ -1,26 +1,22 @@
-use Rattle.std.proofs.Common.{[], subst}
+use Rattle.std.proofs.Common.{[]}
 use Rattle.std.proofs.lemmas.Result.{err_from_is_err_and}
-use Rattle.iscsi_login.specs.Negotiation.{IsInRange}
-use Rattle.iscsi_target_session.specs.Configured.{Settings}
 use Rattle.iscsi_service.proofs.SessionEndLemmas.{none_served}
 use Rattle.iscsi_service.proofs.SessionReadInvariant.{fault_served}
 use Rattle.iscsi_service.proofs.serving.serve_one.Goals as goal
 
 pub returns-clause-serves : goal.returns-clause-serves
 returns-clause-serves g c =
-    let s = c.in-Err.ensures.serves in
-    let range : IsInRange c.args.config.preferences = subst (λ (x : Settings). IsInRange x.preferences) c.config.view_is c.config.invariant.2 in (
+    let s = c.in-Err.ensures.serves in (
       s.0,
       s.1,
       λ h. rw c.from.ensures (fault_served c.args.config (g.S.BlockStore.disk c.args.store.now) c.in-Err.fault s.0
-          (g.S.BlockStore.disk c.serve_reads.new.store) s.1 (s.5 range h)),
+          (g.S.BlockStore.disk c.serve_reads.new.store) s.1 (s.5 h)),
     )
 
 pub returns-in-Ok-serve_reads-clause-serves : goal.returns-in-Ok-serve_reads-clause-serves
 returns-in-Ok-serve_reads-clause-serves g c =
     let s = c.in-Ok-serve_reads.ensures.serves in
-    let range : IsInRange c.args.config.preferences = subst (λ (x : Settings). IsInRange x.preferences) c.config.view_is c.config.invariant.2 in
-    (s.0, s.1, λ h. s.5 range h)
+    (s.0, s.1, s.5)
 
 pub returns-in_err-buffer-clause-serves : goal.returns-in_err-buffer-clause-serves
 returns-in_err-buffer-clause-serves g c =

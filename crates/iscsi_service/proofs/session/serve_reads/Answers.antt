@@ -1,9 +1,10 @@
-use Rattle.std.proofs.Common.{List, ℕ, ◌++◌, take, refl, ◌∙◌}
+use Rattle.std.proofs.Common.{[], List, ℕ, ◌++◌, take, refl, ◌∙◌}
 use Rattle.std.proofs.lemmas.Result.{err_from_is_err_and}
 use Rattle.iscsi_target.specs.Feed.{Store, opening_connection}
 use Rattle.iscsi_target.specs.Crash.{CrashesFed}
 use Rattle.iscsi_target.specs.Inside.{store_of}
-use Rattle.iscsi_service.proofs.SessionReadInvariant.{read_stops, end_stops, over_stops, finish_stops, read_more, fault_stops}
+use Rattle.iscsi_service.specs.SessionSteps.{service}
+use Rattle.iscsi_service.proofs.SessionReadInvariant.{read_stops, end_stops, over_stops, finish_stops, read_more, fault_stops, fault_cut, end_cut}
 use Rattle.iscsi_service.proofs.SessionReadInvariant.{fault_executed, over_ends, ok_is, ok_open, outside, ReadUpTo}
 use Rattle.iscsi_service.proofs.SessionCrashLemmas.{session_start, session_crashes, session_more, session_last}
 use Rattle.iscsi_service.proofs.session.serve_reads.Goals as goal
@@ -26,7 +27,7 @@ returns-in_err-n-clause-serves g c =
     let due : List ℕ → Type 0 = λ read. CrashesFed (opening_connection c.args.config 1) first read store (g.S.BlockStore.kept c.args.store.now)
     (g.S.BlockStore.kept c.loop-out.store) in
     let p = err_from_is_err_and c.from_residual.result c.from_residual.ensures.1 in
-    rw (p.1, p.2) (read_stops c.args.config first c.loop-out.target store r0 (g.R.Read.remaining c.loop-out.r)
+    rw (p.1, p.2) (read_stops c.args.config c.requires.range first c.loop-out.target store r0 (g.R.Read.remaining c.loop-out.r)
     (g.R.Read.remaining c.next.new.r) w0 (g.W.Write.contents c.loop-out.w) due c.loop-out.invariant.1.read c.loop-out.invariant.1.crash c.loop-out.invariant.0
     c.in_err-n.ensures.err.0)
 
@@ -38,7 +39,7 @@ returns-clause-serves g c =
     let w0 = g.W.Write.contents c.args.w.now in
     let due : List ℕ → Type 0 = λ read. CrashesFed (opening_connection c.args.config 1) first read store (g.S.BlockStore.kept c.args.store.now)
     (g.S.BlockStore.kept c.loop-out.store) in
-    finish_stops c.args.config c.in-Err.fault first c.loop-out.target c.finish.new.self store r0 (g.R.Read.remaining c.loop-out.r)
+    finish_stops c.args.config c.requires.range c.in-Err.fault first c.loop-out.target c.finish.new.self store r0 (g.R.Read.remaining c.loop-out.r)
     (g.R.Read.remaining c.next.new.r) w0 (g.W.Write.contents c.loop-out.w) due c.loop-out.invariant.1.read c.loop-out.invariant.1.crash c.loop-out.invariant.0
     c.in-Err.ensures.finishes
     (rw c.in_default.is at c.in_ok-n.ensures.end).1
@@ -51,7 +52,7 @@ returns-in-Ok-clause-serves g c =
     let w0 = g.W.Write.contents c.args.w.now in
     let due : List ℕ → Type 0 = λ read. CrashesFed (opening_connection c.args.config 1) first read store (g.S.BlockStore.kept c.args.store.now)
     (g.S.BlockStore.kept c.loop-out.store) in
-    end_stops c.args.config first c.loop-out.target c.finish.new.self store r0 (g.R.Read.remaining c.loop-out.r)
+    end_stops c.args.config c.requires.range first c.loop-out.target c.finish.new.self store r0 (g.R.Read.remaining c.loop-out.r)
     (g.R.Read.remaining c.next.new.r) w0 (g.W.Write.contents c.loop-out.w) due c.loop-out.invariant.1.read c.loop-out.invariant.1.crash c.loop-out.invariant.0
     c.in-Ok.ensures.finishes
     (rw c.in_default.is at c.in_ok-n.ensures.end).1
@@ -74,7 +75,7 @@ returns-in_err-serve_piece-clause-serves g c =
     session_crashes c.args.config first c.loop-out.target store after r0 r1 w0 w1 (g.S.BlockStore.kept c.args.store.now) (g.S.BlockStore.kept c.loop-out.store)
     (g.S.BlockStore.kept c.serve_piece.new.store) piece c.loop-out.invariant.1 c.serve_piece.ensures.crash in
     let p = err_from_is_err_and c.from_residual-in_err-serve_piece.result c.from_residual-in_err-serve_piece.ensures.1 in
-    rw (p.1, p.2) (fault_stops c.args.config c.in_err-serve_piece.field-0.0 first c.loop-out.target c.serve_piece.new.target store after r0 r1 r2 w0 w1 w2 piece
+    rw (p.1, p.2) (fault_stops c.args.config c.requires.range c.in_err-serve_piece.field-0.0 first c.loop-out.target c.serve_piece.new.target store after r0 r1 r2 w0 w1 w2 piece
     due c.loop-out.invariant.1.read crash (rw c.in-Some.is at c.in_ok-n.ensures.piece).2 c.in_err-serve_piece.ensures.err)
 
 pub returns-in_err-serve_piece-clause-blocks : goal.returns-in_err-serve_piece-clause-blocks
@@ -109,7 +110,7 @@ returns-then-branch-clause-serves g c =
     let crash : due (c.loop-out.invariant.1.read.stream ++ piece) =
     session_crashes c.args.config first c.loop-out.target store after r0 r1 w0 w1 (g.S.BlockStore.kept c.args.store.now) (g.S.BlockStore.kept c.loop-out.store)
     (g.S.BlockStore.kept c.serve_piece.new.store) piece c.loop-out.invariant.1 c.serve_piece.ensures.crash in
-    over_stops c.args.config first c.loop-out.target c.serve_piece.new.target store after r0 r1 r2 w0 w1 w2 piece due c.loop-out.invariant.1.read crash
+    over_stops c.args.config c.requires.range first c.loop-out.target c.serve_piece.new.target store after r0 r1 r2 w0 w1 w2 piece due c.loop-out.invariant.1.read crash
     (rw c.in-Some.is at c.in_ok-n.ensures.piece).2 c.in_ok-serve_piece.ensures.goes
     (c.serve_piece.ensures.closes (c.in_ok-serve_piece.was ∙ ok_is c.in_ok-serve_piece.field-0 c.if-branch.true))
 
@@ -202,7 +203,24 @@ returns-in_err-serve_piece-clause-unsent g c =
     let p = err_from_is_err_and c.from_residual-in_err-serve_piece.result c.from_residual-in_err-serve_piece.ensures.1 in
     rw (p.1, p.2) (λ is synced.
     let l = c.in_err-serve_piece.ensures.unsent (cc) (c.loop-out.invariant.2 synced) in
-    let m = session_last c.args.config first c.loop-out.target c.serve_piece.new.target (store_of (g.S.BlockStore.disk l.0) (g.S.BlockStore.failures l.0)) store
+    let m = session_last c.args.config c.requires.range first c.loop-out.target c.serve_piece.new.target (store_of (g.S.BlockStore.disk l.0) (g.S.BlockStore.failures l.0)) store
     after r0 r1 r2 w0 w1 w2 (g.S.BlockStore.kept c.args.store.now) (g.S.BlockStore.kept c.loop-out.store) (g.S.BlockStore.kept l.0)
     (g.S.BlockStore.kept c.serve_piece.new.store) piece c.loop-out.invariant.1 (rw c.in-Some.is at c.in_ok-n.ensures.piece).2 l.2 in
     (l.0, l.1, m.0, m.1, m.2, m.3, m.4))
+
+pub returns-in_err-n-clause-cut : goal.returns-in_err-n-clause-cut
+returns-in_err-n-clause-cut g c =
+    let p = err_from_is_err_and c.from_residual.result c.from_residual.ensures.1 in
+    rw (p.1, p.2) tt
+
+pub returns-clause-cut : goal.returns-clause-cut
+returns-clause-cut g c = end_cut c.in-Err.fault (g.R.Read.remaining c.next.new.r) (rw c.in_default.is at c.in_ok-n.ensures.end).0
+
+pub returns-in_err-serve_piece-clause-cut : goal.returns-in_err-serve_piece-clause-cut
+returns-in_err-serve_piece-clause-cut g c =
+    let store : Store = store_of (g.S.BlockStore.disk c.loop-out.store) (g.S.BlockStore.failures c.loop-out.store) in
+    let after : Store = store_of (g.S.BlockStore.disk c.serve_piece.new.store) (g.S.BlockStore.failures c.serve_piece.new.store) in
+    let p = err_from_is_err_and c.from_residual-in_err-serve_piece.result c.from_residual-in_err-serve_piece.ensures.1 in
+    rw (p.1, p.2) (fault_cut (service c.loop-out.target store (g.W.Write.contents c.loop-out.w) [])
+    (service c.serve_piece.new.target after (g.W.Write.contents c.serve_piece.new.w) [])
+    (take c.in-Some.n c.next.new.buffer) c.in_err-serve_piece.field-0.0 (g.R.Read.remaining c.next.new.r) c.in_err-serve_piece.ensures.err)
