@@ -13,9 +13,9 @@ returns-clause-serves g c =
           (g.S.BlockStore.disk c.serve_reads.new.store) s.1 (s.5 h)),
     )
 
-pub returns-in-Ok-serve_reads-clause-serves : goal.returns-in-Ok-serve_reads-clause-serves
-returns-in-Ok-serve_reads-clause-serves g c =
-    let s = c.in-Ok-serve_reads.ensures.serves in
+pub returns-in-Ok-clause-serves : goal.returns-in-Ok-clause-serves
+returns-in-Ok-clause-serves g c =
+    let s = c.in-Ok.ensures.serves in
     (s.0, s.1, s.5)
 
 pub returns-in_err-buffer-clause-serves : goal.returns-in_err-buffer-clause-serves
