@@ -12,7 +12,7 @@ pub fn packet_of<'a>(link: u16, original: usize, bytes: &'a [u8]) -> Packet<'a> 
         time: 0,
         second: 1_000_000,
         link,
-        original: original as u32,
+        original: u32::try_from(original).unwrap_or(u32::MAX),
         bytes,
     }
 }
