@@ -7,6 +7,7 @@ use iscsi_examples::{PING, pdus_of};
 use iscsi_login::Preferences;
 use iscsi_server::{LimitedStore, Limits, MEMORY, Options, Server};
 use scsi_disk::{BlockStore, SparseStore, StoreFault};
+use std::alloc::Global;
 use std::io::{ErrorKind, Read, Write};
 use std::net::{IpAddr, Ipv4Addr, Net, TcpStream};
 use std::process::Abort;
@@ -356,9 +357,12 @@ fn no_login_is_the_last(rt: HostRuntime) {
     same(&rt, &service.server.port().is_ok(), &true, &"a port");
 }
 
+/// The first block of a write, how many it has, their byte, and the answer.
+type Filled = (u64, u64, u8, Result<(), StoreFault>);
+
 /// Writes of a byte to so many blocks from one on, over 256 of which 128 are kept, 64 together, and what
 /// they answer.
-const FILLED: &[(u64, usize, u8, Result<(), StoreFault>)] = &[
+const FILLED: &[Filled] = &[
     (0, 1, 1, Ok(())),
     (255, 1, 2, Ok(())),
     (64, 0, 3, Ok(())),
@@ -370,25 +374,46 @@ const FILLED: &[(u64, usize, u8, Result<(), StoreFault>)] = &[
     (128, 1, 9, Err(StoreFault::Device)),
 ];
 
+// A block is of one byte alone.
+fn check_block(rt: &impl Abort, store: &mut LimitedStore, lba: u64, due: u8) {
+    assert!(rt; lba < store.blocks());
+    let mut block = [0xff; 512];
+    let read = store.read(lba, &mut block);
+    let is_due = block.iter().all(|byte| *byte == due);
+    same(rt, &(read.is_ok(), is_due), &(true, true), &lba);
+}
+
+// What a write answers, and which byte each block is of behind it.
+fn check_write(
+    rt: &impl Abort,
+    alloc: Global,
+    store: &mut LimitedStore,
+    due: &mut [u8; 256],
+    row: &Filled,
+) {
+    let (first, blocks, byte, answer) = row;
+    let end = first.saturating_add(*blocks);
+    assert!(rt; end <= 256 && store.blocks() == 256);
+    let bytes = vec![in alloc; *byte; 512 * *blocks as usize].expect(rt, "bytes");
+    same(rt, &store.write(*first, &bytes), answer, &first);
+    for (lba, place) in due.iter_mut().enumerate() {
+        if answer.is_ok() && *first <= lba as u64 && (lba as u64) < end {
+            *place = *byte;
+        }
+        check_block(rt, store, lba as u64, *place);
+    }
+}
+
 /// Where there is no room for a write, it is refused, and no block changes.
 #[test]
 fn a_disk_that_is_full(rt: HostRuntime) {
     let mut store = LimitedStore::new(rt.alloc(), 256, 65_536);
-    let mut due = vec![in rt.alloc(); 0u8; 131_072].expect(&rt, "bytes");
-    let mut found = vec![in rt.alloc(); 0u8; 131_072].expect(&rt, "bytes");
-    let mut refused = 0;
-    for (first, blocks, byte, answer) in FILLED.iter() {
-        let bytes = vec![in rt.alloc(); *byte; 512 * *blocks].expect(&rt, "bytes");
-        same(&rt, &store.write(*first, &bytes), answer, &first);
-        if answer.is_ok() {
-            due[512 * *first as usize..512 * (*first as usize + *blocks)].fill(*byte);
-        } else {
-            refused += 1;
-        }
-        same(&rt, &store.failures(), &refused, &first);
-        same(&rt, &store.read(0, &mut found), &Ok(()), &first);
-        same(&rt, &found, &due, &first);
+    let mut due = [0u8; 256];
+    for row in FILLED {
+        check_write(&rt, rt.alloc(), &mut store, &mut due, row);
     }
+    let refused = FILLED.iter().filter(|row| row.3.is_err()).count();
+    same(&rt, &store.failures(), &(refused as u64), &"refused");
 }
 
 /// A disk that may be kept whole refuses nothing.
