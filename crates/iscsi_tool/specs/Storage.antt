@@ -13,6 +13,11 @@ abbrev pub IsOrigin : Origin → Type 0
 IsOrigin (origin.Found blocks) = IfSome blocks (λ n. (0 < n) × (n ≤ most_blocks))
 IsOrigin (origin.New blocks) = (0 < blocks) × (blocks ≤ most_blocks)
 
+-- An image that is made has 1 to 2^40 blocks; of one that is found any number may be asked for.
+abbrev pub CanBeOpened : Origin → Type 0
+CanBeOpened (origin.Found blocks) = Unit {0}
+CanBeOpened (origin.New blocks) = (0 < blocks) × (blocks ≤ most_blocks)
+
 -- A disk in memory and an image have 1 to 2^40 blocks.
 abbrev pub IsStorage : Storage → Type 0
 IsStorage (storage.Memory blocks) = (0 < blocks) × (blocks ≤ most_blocks)

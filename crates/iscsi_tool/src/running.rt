@@ -249,6 +249,7 @@ fn compared(comparison: Comparison<'_>, said: Result<Verdict, ComparisonFault>) 
 }
 
 // Serves a disk, over what it is kept in.
+#[tactic(auto, using(crate::proofs::RunningLemmas::can_be_opened))]
 fn serve_storage<'a>(rt: &HostRuntime, storage: Storage<'a>, service: Service<'_>) -> Outcome<'a>
     requires storage { IsStorage storage }
     requires service { CanServe service }

@@ -3,7 +3,7 @@
 ghost use Rattle.std.specs.Prelude.{◌≡◌, IfOk, IfErr};
 ghost use Rattle.scsi_file.specs.FileStore.{medium_of};
 ghost use Rattle.scsi_file.specs.HostFile.{blocks_of};
-ghost use Rattle.iscsi_tool.specs.Storage.{HasAsked, IsOrigin, IsOther};
+ghost use Rattle.iscsi_tool.specs.Storage.{HasAsked, CanBeOpened, IsOther};
 
 use scsi_disk::BlockStore;
 use scsi_file::{FileStore, HostFile, OpenFault};
@@ -72,7 +72,7 @@ impl Image<'_> {
     /// The image as a store, for this process alone. All that was written to it lasts then. It has
     /// as many blocks as were asked for.
     pub fn open(&self, rt: &HostRuntime) -> Result<FileStore<HostFile>, ImageFault>
-        requires origin { IsOrigin self.now.origin }
+        requires origin { CanBeOpened self.now.origin }
         ensures blocks { IfOk result (λ store.
             HasAsked self.now.origin (blocks_of (medium_of store))) }
         ensures other { IfErr result (IsOther self.now.origin) }
