@@ -1,4 +1,4 @@
-//! Worked rows: overlaps, repetitions, numbers that wrap, limits and conflicts. The file is long for
+//! Rows by hand: overlaps, repetitions, numbers that wrap, limits and conflicts. The file is long for
 //! its rows.
 
 use super::{Numbered, fed, segments_of};
