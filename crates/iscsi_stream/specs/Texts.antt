@@ -45,7 +45,7 @@ TextFails (tool.Text fault) read written = IsFirstFault read fault × (length re
 TextFails tool.TextTooLong read written = (longest_text < length read) × (written ≡ [])
 TextFails tool.Read read written = written ≡ []
 TextFails tool.Write read written = (canonical : List ℕ) × (n : ℕ) × CanonicalOf read canonical
-    × (written ≡ take n canonical)
+    × (length read ≤ longest_text) × (written ≡ take n canonical)
 TextFails tool.NotHex read written = ⊥
 TextFails (tool.Protocol rule) read written = ⊥
 
@@ -54,8 +54,9 @@ abbrev pub NormalisesText : Result (Unit {0}) ToolFault → List ℕ → List �
 NormalisesText (Ok done) read written = CanonicalOf read written × (length read ≤ longest_text)
 NormalisesText (Err fault) read written = TextFails fault read written
 
--- Where normalise_text answers Ok or a fault of the text, it has read to the end.
+-- Where normalise_text answers Ok, a fault of the text or a failed write, it has read to the end.
 abbrev pub TextAtEnd : Result (Unit {0}) ToolFault → Type 0 → Type 0
 TextAtEnd (Ok done) Ended = Ended
 TextAtEnd (Err (tool.Text fault)) Ended = Ended
+TextAtEnd (Err tool.Write) Ended = Ended
 TextAtEnd (Err fault) Ended = Unit {0}

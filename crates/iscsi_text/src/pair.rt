@@ -25,8 +25,8 @@ impl Pair<'_> {
         self.key.len() + 1 + self.value.text_len() + 1
     }
 
-    /// Appends the canonical form. When out of memory, some of it may be there.
-    pub fn write(&self, out: &mut Vec<u8>) -> Result<(), AllocError>
+    // Appends the canonical form. When out of memory, some of it may be there.
+    pub(crate) fn write(&self, out: &mut Vec<u8>) -> Result<(), AllocError>
         ensures ok { OnOk result (out.new.items ≡ out.old.items ++ pair_text (shown self.now)) }
         ensures err { OnErr result (Extends out.old.items out.new.items) }
     {
