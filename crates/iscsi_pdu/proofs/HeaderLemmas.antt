@@ -60,11 +60,11 @@ pub put_all-append : (xs ys : List Row) (b : List ℕ) → put_all (xs ++ ys) b 
 put_all-append [] ys b = refl
 put_all-append (x ∷ xs) ys b = put_all-append xs ys _
 
-HaveRoom-append : (xs ys : List Row) → HaveRoom xs → HaveRoom ys → HaveRoom (xs ++ ys)
+pub HaveRoom-append : (xs ys : List Row) → HaveRoom xs → HaveRoom ys → HaveRoom (xs ++ ys)
 HaveRoom-append [] ys p q = q
 HaveRoom-append (x ∷ xs) ys p q = (p.0, HaveRoom-append xs ys p.1 q)
 
-Hold-first : (xs ys : List Row) (b : List ℕ) → Hold b (xs ++ ys) → Hold b xs
+pub Hold-first : (xs ys : List Row) (b : List ℕ) → Hold b (xs ++ ys) → Hold b xs
 Hold-first [] ys b h = tt
 Hold-first (x ∷ xs) ys b h = (h.0, Hold-first xs ys b h.1)
 
@@ -72,11 +72,11 @@ Hold-second : (xs ys : List Row) (b : List ℕ) → Hold b (xs ++ ys) → Hold b
 Hold-second [] ys b h = h
 Hold-second (x ∷ xs) ys b h = Hold-second xs ys b h.1
 
-all_rows : Head → ℕ → List Row
+unfoldable pub all_rows : Head → ℕ → List Row
 all_rows h len = ones h ++ (frame (opcode h) len ++ (rows h ++ blocks h))
 
 -- no two rows of a kind, its ones and the frame included, have a bit in common
-all_rows-table : (h : Head) (len : ℕ) → is_table 48 (all_rows h len) ≡ true
+pub all_rows-table : (h : Head) (len : ℕ) → is_table 48 (all_rows h len) ≡ true
 unfolding all_rows lib.Count.ones lib.Count.count_trailing_zeros
 all_rows-table (NopOut _) len = refl
 all_rows-table _ len = refl
@@ -94,7 +94,7 @@ pub opcode-small : (h : Head) → opcode h ≤ 63
 opcode-small (NopOut _) = omega arith
 opcode-small _ = omega arith
 
-blocks-room : (h : Head) → ReadsBlock h → HaveRoom (blocks h)
+pub blocks-room : (h : Head) → ReadsBlock h → HaveRoom (blocks h)
 blocks-room (ScsiCommand h) reads = ((refl, reads.size), tt)
 blocks-room _ reads = tt
 
@@ -240,7 +240,7 @@ HasBlock-room : (b : List ℕ) (h : Head) → ((k : ℕ) → get_or b k 0 < 256)
 HasBlock-room b (ScsiCommand h) bytes has = records.IsRecord-room (part 32 47 b) h.cdb (part-bytes b 32 47 bytes) has
 HasBlock-room b _ bytes has = tt
 
-room-reads : (h : Head) → FitsBlock h → HasBlockRoom h → ReadsBlock h
+pub room-reads : (h : Head) → FitsBlock h → HasBlockRoom h → ReadsBlock h
 room-reads (ScsiCommand h) fits room = records.canonical-means h.cdb room fits.unlisted
 room-reads _ fits room = tt
 

@@ -1,9 +1,11 @@
 //! Laws of headers and whole PDUs, over the definitions alone, and the round trip of a header.
 
-ghost use Rattle.std.specs.Prelude.{◌≡◌, ◌↔◌, ◌<◌, ◌≤◌, ◌^◌, ℕ, List, Ok, length};
+ghost use Rattle.std.specs.Prelude.{◌≡◌, ◌↔◌, ◌<◌, ◌≤◌, ◌^◌, ℕ, List, Ok, true, bit_and, length, slice_index};
 ghost use Rattle.std.specs.Bool.{OnTrue};
 ghost use Rattle.iscsi_pdu.specs.declared.head.Head.{Head};
-ghost use Rattle.iscsi_pdu.specs.Meaning.{opcode, is_login, whole, AreBytes, Fits, IsWritable, Means};
+ghost use Rattle.scsi_cdb.specs.Layout.{Hold};
+ghost use Rattle.iscsi_pdu.specs.FreeBits.{are_free};
+ghost use Rattle.iscsi_pdu.specs.Meaning.{opcode, header, is_login, ones, whole, AreBytes, Fits, IsWritable, Means};
 
 use crate::{Head, HeadFault, read_head, write_head};
 
@@ -36,6 +38,14 @@ pub fn canonical_again()
 pub fn same_meaning()
     ensures { (a b : List ℕ) (g h : Head) (c d : List ℕ) → AreBytes a → AreBytes b
         → Means a g c → Means b h d → ((g ≡ h) × (c ≡ d)) ↔ (whole g c ≡ whole h d) }
+{}
+
+/// A header that is written has 0 in each free bit, one that no field with a value has, and 1 where
+/// the table of its kind has ones (RFC 7143, section 11).
+pub fn free_bits()
+    ensures zero { (h : Head) (len n mask : ℕ) → IsWritable h len → are_free n mask h len ≡ true
+        → bit_and (slice_index (header h len) n) mask ≡ 0 }
+    ensures ones { (h : Head) (len : ℕ) → IsWritable h len → Hold (header h len) (ones h) }
 {}
 
 /// Reads the header of a head, and gives the head back.
