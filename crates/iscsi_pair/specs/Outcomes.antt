@@ -1,14 +1,15 @@
 -- A list of steps, and the requests among them.
-use Rattle.std.specs.Prelude.{◌≡◌, ◌⊎◌, ℕ, List, [], ◌∷◌, None}
+use Rattle.std.specs.Prelude.{◌≡◌, ◌⊎◌, ℕ, List, [], ◌∷◌, ◌++◌, None}
 use Rattle.std.specs.List.{flat_map}
 use Rattle.iscsi_target_session.specs.Configured as target_settings
 use Rattle.iscsi_initiator.specs.State as initiator_state
+use Rattle.iscsi_initiator.specs.declared.request.Done.{Done}
 use Rattle.iscsi_initiator.specs.declared.request.Request.{Request}
 use Rattle.iscsi_pair.specs.declared.step.Step.{Step}
 use Rattle.iscsi_pair.specs.declared.step.Step.TheVariants as steps
 use Rattle.iscsi_initiator.specs.declared.request.Request.TheVariants as requests
-use Rattle.iscsi_pair.specs.World.{Opening, World}
-use Rattle.iscsi_pair.specs.Served.{IsAlwaysTaken}
+use Rattle.iscsi_pair.specs.World.{Event, Happens, Opening, Takes, World, event_of, new_pair}
+use Rattle.iscsi_pair.specs.Served.{IsAlwaysTaken, given_in}
 
 -- What a pair of these is made of.
 abbrev pub opening_of : initiator_state.Settings → target_settings.Settings → ℕ → List ℕ → Opening
@@ -32,6 +33,30 @@ requests_among steps = flat_map request_of steps
 abbrev pub IsIdle : World → Type 0
 IsIdle w =
     (w.target_fault ≡ None) × (w.initiator_fault ≡ None) × (w.to_target ≡ []) × (w.to_initiator ≡ [])
+
+-- A step, and then the initiator's outcome is taken, if one is there.
+abbrev pub with_taking : Step → List Event
+with_taking step = event_of step ∷ Takes ∷ []
+
+-- Steps, behind each of which the outcome is taken.
+abbrev pub events_of : List Step → List Event
+events_of steps = flat_map with_taking steps
+
+-- Events, one after another, and the outcomes that were taken, in their order.
+unfoldable pub Gives : World → List Event → World → List Done → Type 0
+Gives old [] new outcomes = (new ≡ old) × (outcomes ≡ [])
+Gives old (event ∷ events) new outcomes =
+    (mid : World) × (later : List Done) × Happens old event mid
+    × (outcomes ≡ given_in event old ++ later) × Gives mid events new later
+
+-- These events led from a new pair to one that is idle and has these blocks, and gave these
+-- outcomes.
+pub record HasRun (c : Opening) (events : List Event) (outcomes : List Done) (blocks : List ℕ)
+    : Type 0 where
+  pub world : World
+  pub gives : Gives (new_pair c) events world outcomes
+  pub idle : IsIdle world
+  pub blocks_are : blocks ≡ world.blocks
 
 -- Each of these requests is one that any target takes; the last may be a logout (section 11.14).
 abbrev pub CanBeServed : List Request → Type 0

@@ -8,7 +8,7 @@ ghost use Rattle.std.specs.List.{AllByRecursion};
 ghost use Rattle.scsi_disk.specs.Disk.{disk_of};
 ghost use Rattle.iscsi_initiator.specs.Laws.{listed};
 ghost use Rattle.iscsi_pair.specs.Served.{IsServed, disk_after, disk_outcomes};
-ghost use Rattle.iscsi_pair.specs.Outcomes.{IsIdle, opening_of, requests_among};
+ghost use Rattle.iscsi_pair.specs.Outcomes.{HasRun, IsIdle, events_of, opening_of, requests_among};
 ghost use Rattle.iscsi_login.specs.declared.stage.Session.TheVariants as sessions;
 ghost use Rattle.iscsi_login.specs.declared.stage.Stage.TheVariants as stages;
 
@@ -200,6 +200,10 @@ pub fn outcomes_over(
         let requests = requests_among steps.items in
         Suits c → c.initiator.proposal.session ≡ sessions.Normal → AllByRecursion IsServed requests
         → (served.0.items ≡ disk_outcomes c requests) × (disk_of served.1 ≡ disk_after c requests)) }
+    // They are those of the pair, which took these steps and no others.
+    ensures ran { IfOk result (λ served.
+        HasRun (opening_of configs.0 configs.1 first_statsn store) (events_of steps.items)
+        served.0.items served.1) }
 {
     let Ok(mut pair) = Pair::new(alloc, configs.0, configs.1, first_statsn, store) else {
         return Err(RunFault::NoMemory);

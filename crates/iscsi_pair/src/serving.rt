@@ -7,8 +7,8 @@ ghost use Rattle.iscsi_initiator.specs.declared.request.Done.{Done};
 ghost use Rattle.iscsi_login.specs.declared.stage.Session.TheVariants as sessions;
 ghost use Rattle.iscsi_pair.specs.declared.step.RunFault.TheVariants as faults;
 ghost use Rattle.iscsi_pair.specs.declared.step.Step.{Step};
-ghost use Rattle.iscsi_pair.specs.Outcomes.{CanBeServed, IsIdle, opening_of, requests_among};
-ghost use Rattle.iscsi_pair.specs.Served.{IsNormal, IsServed, RunsServed, disk_after, disk_outcomes};
+ghost use Rattle.iscsi_pair.specs.Outcomes.{CanBeServed, HasRun, IsIdle, opening_of, requests_among};
+ghost use Rattle.iscsi_pair.specs.Served.{IsNormal, IsServed, RunsServed, disk_after, disk_outcomes, requests_of};
 ghost use Rattle.iscsi_pair.specs.World.{Event, Happens, Opening, Runs, Suits, World, event_of, keeps_no_memory, new_pair};
 ghost use Rattle.iscsi_pair.specs.World as worlds;
 
@@ -41,6 +41,10 @@ pub fn serve_requests(
         → AllByRecursion IsServed requests.items
         → (served.0.items ≡ disk_outcomes c requests.items)
         × (disk_of served.1 ≡ disk_after c requests.items)) }
+    // They are those of a pair to which these requests were handed in, in their order.
+    ensures ran { IfOk result (λ served. (events : List Event)
+        × (requests_of events ≡ requests.items)
+        × HasRun (opening_of configs.0 configs.1 first_statsn store) events served.0.items served.1) }
     ensures served { let c = opening_of configs.0 configs.1 first_statsn store in
         Suits c → c.initiator.proposal.session ≡ sessions.Normal → CanBeServed requests.items
         → IfErr result (λ fault. fault ≡ faults.NoMemory) }

@@ -23,7 +23,7 @@ use Rattle.iscsi_pair.specs.World.{World, Opening, IsOpening, Suits, Event, Subm
 use Rattle.iscsi_pair.specs.World.{target_ran_out, initiator_ran_out}
 use Rattle.iscsi_pair.specs.LocalDisk.{AreInStep, local_outcomes}
 use Rattle.iscsi_pair.specs.Served.{AreAtEnd, EndsInLogout, IsAlwaysTaken, IsNormal, IsServed, RunsServed, requests_of, given_in, disk_after, disk_outcomes}
-use Rattle.iscsi_pair.specs.Outcomes.{CanBeServed, IsIdle, request_of, requests_among}
+use Rattle.iscsi_pair.specs.Outcomes.{Gives, CanBeServed, IsIdle, request_of, requests_among}
 use Rattle.iscsi_pair.proofs.Login.NoFailure.{both_none}
 use Rattle.iscsi_pair.proofs.Request.AnswersInOrder.{most_answers}
 use Rattle.iscsi_pair.proofs.Request.OneRequestLaw.{accepts}
@@ -31,7 +31,7 @@ use Rattle.iscsi_pair.proofs.Run.MemoryLemmas.{calm_first}
 use Rattle.iscsi_pair.proofs.Run.MoveLemmas.{runs_more, runs_none, step_more}
 use Rattle.iscsi_pair.proofs.Run.OneDiskLaw.{idle_rests, idle_whole}
 use Rattle.iscsi_pair.proofs.Run.ServedRunsLaw.{all_parts}
-use Rattle.iscsi_pair.proofs.Run.GivingLemmas.{Gives, gives_more, none_given, requests_more, same_request, served_giving}
+use Rattle.iscsi_pair.proofs.Run.GivingLemmas.{gives_more, none_given, requests_more, same_request, served_giving}
 use Rattle.iscsi_pair.proofs.Run.ProgressLemmas.{IsSilent, Turned, TurnsOn, turned_first, turns_on}
 use Rattle.iscsi_pair.proofs.Lists.StepLemmas.{served_more}
 use Rattle.iscsi_pair.proofs.Lists.ListsAreServedLaw.{taken_served, taken_short}

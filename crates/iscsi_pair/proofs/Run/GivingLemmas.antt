@@ -12,17 +12,11 @@ use Rattle.iscsi_pair.specs.declared.step.Step.{Step}
 use Rattle.iscsi_pair.specs.declared.step.Step.TheVariants as steps
 use Rattle.iscsi_pair.specs.World.{World, Opening, IsOpening, Suits, Event, Takes, Happens, Runs, event_of, new_pair, keeps_no_memory, target_ran_out, initiator_ran_out}
 use Rattle.iscsi_pair.specs.Served.{IsNormal, IsServed, RunsServed, requests_of, requests_in, given_in, disk_after, disk_outcomes}
-use Rattle.iscsi_pair.specs.Outcomes.{request_of, requests_among}
+use Rattle.iscsi_pair.specs.Outcomes.{Gives, events_of, request_of, requests_among, with_taking}
 use Rattle.iscsi_pair.proofs.Login.RoundAgrees.{first_asks}
 use Rattle.iscsi_pair.proofs.Run.MemoryLemmas.{calm_first}
 use Rattle.iscsi_pair.proofs.Run.ServedRunsLaw.{none_first, was_accepted, all_parts}
 use Rattle.iscsi_pair.proofs.Run.OneDiskLaw.{idle_whole}
-
--- events, one after another, and the outcomes that were taken
-unfoldable pub Gives : World → List Event → World → List Done → Type 0
-Gives old [] new outcomes = (new ≡ old) × (outcomes ≡ [])
-Gives old (event ∷ events) new outcomes =
-    (mid : World) × (later : List Done) × Happens old event mid × (outcomes ≡ given_in event old ++ later) × Gives mid events new later
 
 pub gives_none : (w : World) → Gives w [] w []
 unfolding Gives
@@ -85,29 +79,31 @@ same_request (steps.ToInitiator k) = refl
 same_request (steps.Submit request) = refl
 
 pub record HasGiven (c : Opening) (taken : List Step) (w : World) (outcomes : List Done) : Type 0 where
-  pub events : List Event
-  pub gives : Gives (new_pair c) events w outcomes
-  pub requests : requests_of events ≡ requests_among taken
+  pub gives : Gives (new_pair c) (events_of taken) w outcomes
   pub none_left : w.initiator.machine.done ≡ None
 
+-- taking hands in nothing
+requests_taking : (taken : List Step) → requests_of (events_of taken) ≡ requests_among taken
+requests_taking [] = refl
+requests_taking (step ∷ taken) = ap (λ (x : List Request). x ++ requests_of (events_of taken)) (same_request step)
+    ∙ ap (λ (x : List Request). request_of step ++ x) (requests_taking taken)
+
 pub given_none : (c : Opening) → IsOpening c → HasGiven c [] (new_pair c) []
-given_none c o = record { events = []; gives = gives_none (new_pair c); requests = refl; none_left = (first_asks c o).asking.no_outcome }
+given_none c o = record { gives = gives_none (new_pair c); none_left = (first_asks c o).asking.no_outcome }
 
 pub given_more : (c : Opening) (taken : List Step) (step : Step) (old mid new : World) (outcomes : List Done) → HasGiven c taken old outcomes
     → Happens old (event_of step) mid → Happens mid Takes new → HasGiven c (taken ++ step ∷ []) new (outcomes ++ listed mid.initiator.machine.done)
 given_more c taken step old mid new outcomes g h t =
     let event : Event = event_of step in
-    let first = gives_more (new_pair c) old mid g.events event outcomes g.gives h in
+    let events : List Event = events_of taken in
+    let first = gives_more (new_pair c) old mid events event outcomes g.gives h in
     let same : outcomes ++ given_in event old ≡ outcomes = ap (λ (x : List Done). outcomes ++ x) (none_given step old) ∙ append-nil outcomes in
+    let all = gives_more (new_pair c) mid new (events ++ event ∷ []) Takes outcomes
+        (subst (λ (x : List Done). Gives (new_pair c) (events ++ event ∷ []) mid x) same first) t in
+    let grown : (events ++ event ∷ []) ++ Takes ∷ [] ≡ events_of (taken ++ step ∷ []) =
+        append_assoc events (event ∷ []) (Takes ∷ []) ∙ sym (flat_map-append with_taking taken (step ∷ [])) in
     record {
-      events = (g.events ++ event ∷ []) ++ Takes ∷ [];
-      gives = gives_more (new_pair c) mid new (g.events ++ event ∷ []) Takes outcomes
-          (subst (λ (x : List Done). Gives (new_pair c) (g.events ++ event ∷ []) mid x) same first) t;
-      requests = requests_more (g.events ++ event ∷ []) (Takes ∷ []) ∙ append-nil (requests_of (g.events ++ event ∷ []))
-          ∙ requests_more g.events (event ∷ []) ∙ ap (λ (x : List Request). requests_of g.events ++ x) (append-nil (requests_in event) ∙ same_request step)
-          ∙ ap (λ (x : List Request). x ++ request_of step) g.requests
-          ∙ ap (λ (x : List Request). requests_among taken ++ x) (sym (append-nil (request_of step)))
-          ∙ sym (flat_map-append request_of taken (step ∷ []));
+      gives = subst (λ (x : List Event). Gives (new_pair c) x new (outcomes ++ listed mid.initiator.machine.done)) grown all;
       none_left = ap (λ (w : World). w.initiator.machine.done) t;
     }
 
@@ -123,11 +119,11 @@ given_on_disk c taken w outcomes o g suits normal served none_there none_here ou
     let n : IsNormal c = record { opening = o; suits = suits; session = normal } in
     let well : keeps_no_memory w ≡ false =
     or_from (target_ran_out w.target_fault) (initiator_ran_out w.initiator_fault) (ap target_ran_out none_there) (ap initiator_ran_out none_here) in
-    let runs = served_giving (new_pair c) g.events w outcomes g.gives (subst (λ (x : List Request). AllByRecursion IsServed x) (sym g.requests) served) well
+    let runs = served_giving (new_pair c) (events_of taken) w outcomes g.gives (subst (λ (x : List Request). AllByRecursion IsServed x) (sym (requests_taking taken)) served) well
     none_here in
-    let whole = idle_whole c g.events w outcomes n runs out back in
+    let whole = idle_whole c (events_of taken) w outcomes n runs out back in
     record {
       outcomes_are = sym (append-nil outcomes) ∙ ap (λ x. outcomes ++ listed x) (sym g.none_left) ∙ whole.0
-          ∙ ap (λ (x : List Request). disk_outcomes c x) g.requests;
-      disk_is = whole.1 ∙ ap (λ (x : List Request). disk_after c x) g.requests;
+          ∙ ap (λ (x : List Request). disk_outcomes c x) (requests_taking taken);
+      disk_is = whole.1 ∙ ap (λ (x : List Request). disk_after c x) (requests_taking taken);
     }

@@ -45,4 +45,10 @@ returns c =
           given_on_disk o c.args.steps.items c.loop-step.pair outcomes c.in-Ok.ensures.in_range
           (subst (λ (x : List Step). HasGiven o x c.loop-step.pair outcomes) all c.loop-step.invariant) suits normal served still.0 still.1 still.2 still.3 in
           (d.outcomes_are, ap disk_of c.into_store.ensures.store ∙ d.disk_is));
+      ran = record {
+        world = c.loop-step.pair;
+        gives = (subst (λ (x : List Step). HasGiven o x c.loop-step.pair outcomes) all c.loop-step.invariant).gives;
+        idle = still;
+        blocks_are = c.into_store.ensures.store;
+      };
     }

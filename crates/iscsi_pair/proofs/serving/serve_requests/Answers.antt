@@ -69,3 +69,16 @@ returns-clause-on_disk c = λ suits normal served.
     served_on_disk o c.args.requests.items c.loop-request.pair outcomes c.in-Ok.ensures.in_range
     (subst (λ (x : List Request). HasServed o x c.loop-request.pair outcomes) all c.loop-request.invariant) suits normal served in
     (a.outcomes_are, ap disk_of c.into_store.ensures.store ∙ a.disk_is))
+
+pub returns-clause-ran : goal.returns-clause-ran
+returns-clause-ran c =
+    let o : Opening = opening_of c.args.configs.0 c.args.configs.1 c.args.first_statsn c.args.store in
+    let outcomes : List Done = c.loop-request.outcomes.items in
+    let gives = c.into_iter-request-iterator.ensures.into_iter_gives in
+    let list = YieldsList-from_vec c.args.requests.items gives.0 (omega (arith, gives.1, ap length gives.0, c.args.requests.ok.0)) in
+    let end = YieldsList-end list c.loop-request.yielded c.loop-request.request-iterator c.loop-request.yielded_by c.next.result c.next.new.self c.in-None.is
+    c.next.ensures.steps in
+    let all : c.loop-request.yielded ≡ c.args.requests.items = sym (map_same c.loop-request.yielded) ∙ end.0 in
+    let h : HasServed o c.args.requests.items c.loop-request.pair outcomes =
+    subst (λ (x : List Request). HasServed o x c.loop-request.pair outcomes) all c.loop-request.invariant in
+    (h.events, h.requests, record { world = c.loop-request.pair; gives = h.gives; idle = h.idle; blocks_are = c.into_store.ensures.store })
