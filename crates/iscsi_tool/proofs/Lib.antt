@@ -1,4 +1,5 @@
 pub mod AnsweredLemmas
+mod AtEndLemmas
 pub mod HexLineLemmas
 pub mod SpellingLemmas
 pub mod RunningLemmas

@@ -4,6 +4,7 @@ use Rattle.hex.specs.Hex.{encode_lower}
 use Rattle.scsi_disk.specs.Disk.{Disk, zeros}
 use Rattle.iscsi_stream.specs.declared.fault.ToolFault.{ToolFault}
 use Rattle.iscsi_stream.specs.declared.fault.ToolFault.TheVariants as tool
+use Rattle.iscsi_stream.specs.declared.fault.StreamFault.TheVariants as stream
 use Rattle.iscsi_stream.specs.Stream.{Message, Splits, longest_segment}
 use Rattle.iscsi_stream.specs.Canonical.{canon}
 use Rattle.iscsi_target.specs.declared.fault.TargetFault.TheVariants as faults
@@ -23,6 +24,11 @@ filter_fault (session.Target faults.Closed) = tool.Read
 filter_fault session.Read = tool.Read
 filter_fault session.Sync = tool.Write
 filter_fault session.Write = tool.Write
+
+-- A stream of bytes is called cut within a PDU once its reader has told its end, and not before.
+abbrev pub CutAtEnd : Result (Unit {0}) ToolFault → Type 0 → Type 0
+CutAtEnd (Err (tool.Stream (stream.Truncated place))) Ended = Ended
+CutAtEnd _ Ended = Unit {0}
 
 -- The answers of the target to all PDUs of what was read are written, of its longest prefix in the
 -- profile.

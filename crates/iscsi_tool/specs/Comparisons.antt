@@ -15,7 +15,7 @@ use Rattle.iscsi_tool.specs.declared.comparing.Sameness.TheVariants as same
 use Rattle.iscsi_tool.specs.declared.comparing.ComparisonFault.{ComparisonFault}
 use Rattle.iscsi_tool.specs.declared.comparing.ComparisonFault.TheVariants as fault
 use Rattle.iscsi_tool.specs.Filtering.{exit_status}
-use Rattle.iscsi_tool.specs.HexText.{BytesOf, HexTextFails}
+use Rattle.iscsi_tool.specs.HexText.{BytesOf, HexTextFails, IsRead}
 
 -- a fault of an input, or of none
 abbrev pub input_fault : Which → ToolFault → ComparisonFault
@@ -91,6 +91,7 @@ pub record RefusesText (which : Which) (outcome : Outcome) (input : Input) (writ
     : Type 0 where
   pub reason : ToolFault
   pub fails : HexTextFails reason input.read
+  pub is_read : IsRead reason input.read input.left
   pub outcome_is : outcome ≡ Err (input_fault which reason)
   pub none : written ≡ []
 

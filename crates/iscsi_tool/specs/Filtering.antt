@@ -1,6 +1,6 @@
 -- What a filter writes for what it has read, and the exit status of its faults.
 use Rattle.std.specs.Prelude.{◌≡◌, ◌≤◌, ◌<◌, ℕ, Bool, true, false, List, [], length, take, Option, Result, Ok, Err}
-use Rattle.std.specs.Io.KnownBytes.{IsAtEnd}
+use Rattle.std.specs.Io.KnownBytes.{Consumes, IsAtEnd}
 use Rattle.scsi_disk.specs.Disk.{zeros, most_blocks}
 use Rattle.iscsi_text.specs.Fault.{IsFirstFault}
 use Rattle.iscsi_stream.specs.declared.fault.ToolFault.{ToolFault}
@@ -9,7 +9,7 @@ use Rattle.iscsi_stream.specs.Stream.{Message, StreamMeans}
 use Rattle.iscsi_stream.specs.Canonical.{canon}
 use Rattle.iscsi_stream.specs.Normalising.{IsCanonical, WritesUntil}
 use Rattle.iscsi_stream.specs.Shown.{AreLines}
-use Rattle.iscsi_stream.specs.Texts.{CanonicalOf, NormalisesText, longest_text}
+use Rattle.iscsi_stream.specs.Texts.{CanonicalOf, NormalisesText, TextAtEnd, longest_text}
 use Rattle.iscsi_service.specs.Session.{target_settings, EndsWell}
 use Rattle.iscsi_server.specs.Service.{IsService}
 use Rattle.iscsi_tool.specs.declared.filter.Filter.{Filter}
@@ -19,9 +19,9 @@ use Rattle.iscsi_tool.specs.declared.words.Job.{Job}
 use Rattle.iscsi_tool.specs.declared.words.Job.TheVariants as job
 use Rattle.iscsi_tool.specs.declared.words.Service.{Service}
 use Rattle.iscsi_tool.specs.declared.words.Service.TheVariants as service
-use Rattle.iscsi_tool.specs.Answering.{AnswersBytes, AnswersHex}
+use Rattle.iscsi_tool.specs.Answering.{AnswersBytes, AnswersHex, CutAtEnd}
 use Rattle.iscsi_tool.specs.Storage.{IsStorage}
-use Rattle.iscsi_tool.specs.HexText.{BytesOf, IsNotHex, hex_line}
+use Rattle.iscsi_tool.specs.HexText.{BytesOf, IsNotHex, IsRead, hex_line}
 
 -- How a filter ends: done, or why not.
 abbrev pub Outcome : Type 0
@@ -122,6 +122,24 @@ Reads (Answer blocks) false before after =
     EndsWell target_settings (zeros blocks) before after
 Reads _ _ before after = IsAtEnd after
 
+-- Hex text is judged once it was read to its end; it is called no hex past the limit, too.
+abbrev pub HexAtEnd : Outcome → Option (List ℕ) → Option (List ℕ) → Type 0
+HexAtEnd (Err tool.NotHex) before after =
+    (read : List ℕ) × Consumes before after read × IsRead tool.NotHex read after
+HexAtEnd (Err (tool.Stream fault)) before after = IsAtEnd after
+HexAtEnd (Err (tool.Text fault)) before after = IsAtEnd after
+HexAtEnd (Err tool.TextTooLong) before after = IsAtEnd after
+HexAtEnd (Err (tool.Protocol rule)) before after = IsAtEnd after
+HexAtEnd _ before after = Unit {0}
+
+-- A work whose input is refused for what it lacks has read it to its end.
+abbrev pub RefusesAtEnd : Work → Bool → Outcome → Option (List ℕ) → Option (List ℕ) → Type 0
+RefusesAtEnd _ true outcome before after = HexAtEnd outcome before after
+RefusesAtEnd Show false outcome before after = CutAtEnd outcome (IsAtEnd after)
+RefusesAtEnd Normalise false outcome before after = CutAtEnd outcome (IsAtEnd after)
+RefusesAtEnd Text false outcome before after = TextAtEnd outcome (IsAtEnd after)
+RefusesAtEnd (Answer blocks) false outcome before after = CutAtEnd outcome (IsAtEnd after)
+
 -- What a work writes; the lines that Show writes of hex text are not stated.
 abbrev pub Does : Work → Bool → Outcome → List ℕ → List ℕ → Type 0
 Does Show true outcome read written = Unit {0}
@@ -140,6 +158,10 @@ Filters filter outcome read written = Does filter.work filter.hex outcome read w
 -- What a filter that ended well has read.
 abbrev pub ReadsOn : Filter → Option (List ℕ) → Option (List ℕ) → Type 0
 ReadsOn filter before after = Reads filter.work filter.hex before after
+
+-- What a filter that refuses its input has read.
+abbrev pub RefusesRead : Filter → Outcome → Option (List ℕ) → Option (List ℕ) → Type 0
+RefusesRead filter outcome before after = RefusesAtEnd filter.work filter.hex outcome before after
 
 -- ---- what the program answers
 

@@ -1,6 +1,7 @@
 -- Bytes as hex text: pairs of hex digits, with blanks, line ends and carriage returns anywhere (own
 -- rule).
-use Rattle.std.specs.Prelude.{◌≡◌, ◌≤◌, ◌<◌, ℕ, Bool, ◌==◌, ◌||◌, ◌⊎◌, not, List, [], ◌∷◌, ◌++◌, length, filter, Ok, Err}
+use Rattle.std.specs.Prelude.{◌≡◌, ◌≤◌, ◌<◌, ℕ, Bool, ◌==◌, ◌||◌, ◌⊎◌, not, List, [], ◌∷◌, ◌++◌, length, filter, Option, Ok, Err}
+use Rattle.std.specs.Io.KnownBytes.{IsAtEnd}
 use Rattle.hex.specs.Hex.{decode_of, encode_lower}
 use Rattle.hex.specs.declared.error.FromHexError.{FromHexError}
 use Rattle.iscsi_stream.specs.declared.fault.ToolFault.{ToolFault}
@@ -42,3 +43,8 @@ HexTextFails tool.Read read = Unit {0}
 HexTextFails tool.Write read = ⊥
 HexTextFails tool.NotHex read = IsNotHex read
 HexTextFails (tool.Protocol rule) read = ⊥
+
+-- A text is called no hex once it was read to its end, or past the limit.
+abbrev pub IsRead : ToolFault → List ℕ → Option (List ℕ) → Type 0
+IsRead tool.NotHex read left = (longest_text < length read) ⊎ IsAtEnd left
+IsRead _ read left = Unit {0}

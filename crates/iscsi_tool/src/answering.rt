@@ -6,7 +6,8 @@ ghost use Rattle.hex.specs.Hex.{IsBytes};
 ghost use Rattle.scsi_disk.specs.Disk.{zeros, most_blocks};
 ghost use Rattle.iscsi_stream.specs.declared.fault.ToolFault.TheVariants as tool;
 ghost use Rattle.iscsi_service.specs.Session.{target_settings, EndsWell};
-ghost use Rattle.iscsi_tool.specs.Answering.{filter_fault, AnswersBytes, AnswersHex, SpellsAnswers};
+ghost use Rattle.iscsi_tool.specs.Answering.{filter_fault, AnswersBytes, AnswersHex, CutAtEnd, SpellsAnswers};
+ghost use Rattle.iscsi_tool.specs.Filtering.{HexAtEnd};
 ghost use Rattle.iscsi_tool.specs.Spelling.{Finishes};
 
 use crate::hex_text::read_bytes;
@@ -27,6 +28,7 @@ use std::io::{Read, Write};
 /// the place of that; `Protocol` with the rule that the last PDU broke; `Ok` where no rule was broken
 /// and the stream ends behind a PDU, or the session was closed: a refused login is no fault. `Read`,
 /// `Write` and `NoMemory` are as in `normalise`.
+#[tactic(auto, using(crate::proofs::AtEndLemmas::session_at_end))]
 pub fn answer<R: Read, W: Write>(
     alloc: Global,
     blocks: u64,
@@ -41,6 +43,7 @@ pub fn answer<R: Read, W: Write>(
         × AnswersBytes blocks result read written }
     ensures end { OnOk result
         (EndsWell target_settings (zeros blocks) (R.remaining r.old) (R.remaining r.new)) }
+    ensures cut { CutAtEnd result (IsAtEnd (R.remaining r.new)) }
 {
     let config = configuration(alloc)?;
     let mut store = SparseStore::new(alloc, blocks);
@@ -58,6 +61,7 @@ pub fn answer<R: Read, W: Write>(
 /// memory or the reader was wanting before the text was whole, nothing is written; when out of
 /// memory later the digits of those answers that `answer` writes then. Of a failed write nothing is
 /// said.
+#[tactic(auto, using(crate::proofs::AtEndLemmas::hex_refused, crate::proofs::AtEndLemmas::hex_read))]
 pub fn answer_hex<R: Read, W: Write>(
     alloc: Global,
     blocks: u64,
@@ -71,6 +75,7 @@ pub fn answer_hex<R: Read, W: Write>(
         × Appends (W.contents w.old) (W.contents w.new) written
         × AnswersHex blocks result read written }
     ensures end { OnOk result (IsAtEnd (R.remaining r.new)) }
+    ensures refused { HexAtEnd result (R.remaining r.old) (R.remaining r.new) }
 {
     let bytes = read_bytes(alloc, r)?;
     answer_digits(alloc, blocks, &bytes, w)

@@ -4,8 +4,9 @@ ghost use Rattle.std.specs.Prelude.{◌≡◌, ◌<◌, ◌≤◌, ◌⊎◌, �
 ghost use Rattle.scsi_disk.specs.Disk.{most_blocks};
 ghost use Rattle.std.specs.Io.KnownBytes.{Appends, Consumes, IsAtEnd};
 ghost use Rattle.iscsi_stream.specs.declared.fault.ToolFault.TheVariants as tool;
-ghost use Rattle.iscsi_stream.specs.Texts.{NormalisesText};
-ghost use Rattle.iscsi_tool.specs.Filtering.{exit_status, Filters, HasDisk, IsLine, NormalisesBytes, NormalisesHex, ReadsOn, ShowsBytes};
+ghost use Rattle.iscsi_stream.specs.Texts.{NormalisesText, TextAtEnd};
+ghost use Rattle.iscsi_tool.specs.Answering.{CutAtEnd};
+ghost use Rattle.iscsi_tool.specs.Filtering.{exit_status, Filters, HasDisk, HexAtEnd, IsLine, NormalisesBytes, NormalisesHex, ReadsOn, RefusesRead, ShowsBytes};
 
 use crate::answering::{answer, answer_hex};
 use crate::hex_text::{line, read_bytes};
@@ -55,6 +56,9 @@ pub fn run_filter<R: Read, W: Write>(
         × Filters filter result read written }
     // Answers to bytes end also where the session is closed.
     ensures end { OnOk result (ReadsOn filter (R.remaining r.old) (R.remaining r.new)) }
+    // A stream is called cut, a text unterminated, and hex text no hex, where the reader has told its
+    // end, or the limit was passed.
+    ensures refused { RefusesRead filter result (R.remaining r.old) (R.remaining r.new) }
 {
     match filter.work {
         Work::Show => {
@@ -105,23 +109,27 @@ pub fn status(fault: &ToolFault) -> u8
 }
 
 // The lines of a stream of bytes.
+#[tactic(auto, using(crate::proofs::AtEndLemmas::stream_at_end))]
 fn show_bytes<R: Read, W: Write>(alloc: Global, r: &mut R, w: &mut W) -> Result<(), ToolFault>
     ensures shows { (read : List ℕ) × (written : List ℕ)
         × Consumes (R.remaining r.old) (R.remaining r.new) read
         × Appends (W.contents w.old) (W.contents w.new) written
         × ShowsBytes result read written }
     ensures end { OnOk result (IsAtEnd (R.remaining r.new)) }
+    ensures refused { CutAtEnd result (IsAtEnd (R.remaining r.new)) }
 {
     show(alloc, r, w)?;
     Ok(())
 }
 
 // The lines of a stream that comes as hex text.
+#[tactic(auto, using(crate::proofs::AtEndLemmas::hex_refused, crate::proofs::AtEndLemmas::hex_read))]
 fn show_hex<R: Read, W: Write>(alloc: Global, r: &mut R, w: &mut W) -> Result<(), ToolFault>
     ensures moves { (read : List ℕ) × (written : List ℕ)
         × Consumes (R.remaining r.old) (R.remaining r.new) read
         × Appends (W.contents w.old) (W.contents w.new) written }
     ensures end { OnOk result (IsAtEnd (R.remaining r.new)) }
+    ensures refused { HexAtEnd result (R.remaining r.old) (R.remaining r.new) }
 {
     let bytes = read_bytes(alloc, r)?;
     let mut source = bytes.as_slice();
@@ -130,12 +138,14 @@ fn show_hex<R: Read, W: Write>(alloc: Global, r: &mut R, w: &mut W) -> Result<()
 }
 
 // The canonical stream of a stream of bytes.
+#[tactic(auto, using(crate::proofs::AtEndLemmas::stream_at_end))]
 fn normalise_bytes<R: Read, W: Write>(alloc: Global, r: &mut R, w: &mut W) -> Result<(), ToolFault>
     ensures normalises { (read : List ℕ) × (written : List ℕ)
         × Consumes (R.remaining r.old) (R.remaining r.new) read
         × Appends (W.contents w.old) (W.contents w.new) written
         × NormalisesBytes result read written }
     ensures end { OnOk result (IsAtEnd (R.remaining r.new)) }
+    ensures refused { CutAtEnd result (IsAtEnd (R.remaining r.new)) }
 {
     match normalise(alloc, r, w) {
         Ok(_) => Ok(()),
@@ -150,12 +160,14 @@ fn text_bytes<R: Read, W: Write>(alloc: Global, r: &mut R, w: &mut W) -> Result<
         × Appends (W.contents w.old) (W.contents w.new) written
         × NormalisesText result read written }
     ensures end { OnOk result (IsAtEnd (R.remaining r.new)) }
+    ensures refused { TextAtEnd result (IsAtEnd (R.remaining r.new)) }
 {
     normalise_text(alloc, r, w)?;
     Ok(())
 }
 
 // The canonical form of a text or of a stream that comes as hex text, as a line of hex.
+#[tactic(auto, using(crate::proofs::AtEndLemmas::hex_refused, crate::proofs::AtEndLemmas::hex_read))]
 fn normalise_hex<R: Read, W: Write>(
     alloc: Global,
     text: bool,
@@ -167,6 +179,7 @@ fn normalise_hex<R: Read, W: Write>(
         × Appends (W.contents w.old) (W.contents w.new) written
         × NormalisesHex text result read written }
     ensures end { OnOk result (IsAtEnd (R.remaining r.new)) }
+    ensures refused { HexAtEnd result (R.remaining r.old) (R.remaining r.new) }
 {
     let bytes = read_bytes(alloc, r)?;
     let (line, outcome) = line_of(alloc, text, &bytes)?;

@@ -2,7 +2,7 @@
 
 ghost use Rattle.std.specs.Prelude.{◌≡◌, ◌≤◌, ◌<◌, ◌++◌, ℕ, List, length, OnErr, IfOk, IfErr, MatchResult};
 ghost use Rattle.std.specs.Io.KnownBytes.{Consumes, IsAtEnd};
-ghost use Rattle.iscsi_tool.specs.HexText.{kept, hex_line, BytesOf, HexTextFails};
+ghost use Rattle.iscsi_tool.specs.HexText.{kept, hex_line, BytesOf, HexTextFails, IsRead};
 
 use hex::FromHexError;
 use iscsi_stream::{ToolFault, read_within};
@@ -32,7 +32,8 @@ pub fn read_bytes<R: Read>(alloc: Global, r: &mut R) -> Result<Vec<u8>, ToolFaul
         × Consumes (R.remaining r.old) (R.remaining r.new) read × IsAtEnd (R.remaining r.new)
         × BytesOf read bytes.items) }
     ensures err { IfErr result (λ fault. (read : List ℕ)
-        × Consumes (R.remaining r.old) (R.remaining r.new) read × HexTextFails fault read) }
+        × Consumes (R.remaining r.old) (R.remaining r.new) read × HexTextFails fault read
+        × IsRead fault read (R.remaining r.new)) }
 {
     let text = read_within(alloc, r, LONGEST_TEXT)?;
     if text.len() > LONGEST_TEXT {

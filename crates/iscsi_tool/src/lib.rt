@@ -13,6 +13,6 @@ mod words;
 
 pub use comparing::{ComparisonFault, Sameness, compare_bytes, compare_hex};
 pub use filter::{Filter, Work, run_filter, status};
-pub use running::{Outcome, run_program, run_words};
+pub use running::{Outcome, run_program, run_read, run_words};
 pub use storage::{Image, ImageFault, Origin, Storage};
 pub use words::{Comparison, Job, LineFault, Service, read_words};

@@ -1,13 +1,13 @@
 //! The body of the program: it runs the job that words ask for. One file, since each job ends in
 //! one of the same outcomes.
 
-ghost use Rattle.std.specs.Prelude.{◌≡◌, ◌<◌, ◌≤◌, ℕ, List};
+ghost use Rattle.std.specs.Prelude.{◌≡◌, ◌<◌, ◌≤◌, ℕ, List, IfOk, IfErr};
 ghost use Rattle.std.specs.Io.KnownBytes.{Appends, Consumes};
 ghost use Rattle.scsi_disk.specs.Disk.{most_blocks};
 ghost use Rattle.iscsi_tool.specs.declared.running.Outcome.{Outcome};
 ghost use Rattle.iscsi_tool.specs.Filtering.{CanServe, IsJob};
 ghost use Rattle.iscsi_tool.specs.Storage.{IsStorage};
-ghost use Rattle.iscsi_tool.specs.Running.{EndsComparison, EndsService, Runs, RunsWords, of_comparison, of_filter, of_session, outcome_status};
+ghost use Rattle.iscsi_tool.specs.Running.{EndsComparison, EndsService, Runs, RunsWords, of_comparison, of_filter, of_session, outcome_status, words_status};
 
 use crate::comparing::{ComparisonFault, compare_bytes, compare_hex};
 use crate::filter::{run_filter, status};
@@ -62,8 +62,7 @@ impl Outcome<'_> {
         match self {
             Outcome::Done => 0,
             Outcome::Differ => 1,
-            Outcome::Words(LineFault::Usage(_)) => 2,
-            Outcome::Words(LineFault::NoMemory) => 3,
+            Outcome::Words(fault) => words_status(fault),
             Outcome::Filter(fault) => status(fault),
             Outcome::Session(fault) => fault.status(),
             Outcome::Image(_, fault) => fault.status(),
@@ -76,8 +75,7 @@ impl Outcome<'_> {
     fn tell<E: Write>(&self, w: &mut E) -> io::Result<()> {
         match self {
             Outcome::Done | Outcome::Differ => Ok(()),
-            Outcome::Words(LineFault::NoMemory) => writeln!(w, "memory"),
-            Outcome::Words(LineFault::Usage(text)) => write!(w, "{text}"),
+            Outcome::Words(fault) => tell_words(fault, w),
             Outcome::Filter(fault) => writeln!(w, "{fault}"),
             Outcome::Session(fault) => writeln!(w, "{fault}"),
             Outcome::Image(image, fault) => {
@@ -86,6 +84,24 @@ impl Outcome<'_> {
             }
             Outcome::Comparison(comparison, fault) => tell_comparison(*comparison, *fault, w),
         }
+    }
+}
+
+// The exit status of words that ask for no job or for help, or that could not be read.
+fn words_status(fault: &LineFault) -> u8
+    ensures status { result ≡ words_status fault.now }
+{
+    match fault {
+        LineFault::Usage(_) => 2,
+        LineFault::NoMemory => 3,
+    }
+}
+
+// Writes why words are refused, or the help.
+fn tell_words<E: Write>(fault: &LineFault, w: &mut E) -> io::Result<()> {
+    match fault {
+        LineFault::Usage(text) => write!(w, "{text}"),
+        LineFault::NoMemory => writeln!(w, "memory"),
     }
 }
 
@@ -109,17 +125,38 @@ fn tell_comparison<E: Write>(
 }
 
 /// Runs the program: the words of the command line, over the standard streams. It ends as
-/// `run_words` does, and words that are not UTF-8 ask for no job.
+/// `run_read` does.
 pub fn run_program(rt: &HostRuntime) -> ExitCode {
+    let words = words_of(rt);
+    let mut input = rt.stdin();
+    let mut output = rt.stdout();
     let mut errors = rt.stderr();
-    match words_of(rt) {
-        Ok(words) => {
-            let mut input = rt.stdin();
-            let mut output = rt.stdout();
-            let words = words.as_slice();
-            ExitCode::from(run_words(rt, words, &mut input, &mut output, &mut errors))
+    ExitCode::from(run_read(rt, &words, &mut input, &mut output, &mut errors))
+}
+
+/// Runs the job of a command line as `run_words` does, or tells why its words could not be read, such
+/// as that they are not UTF-8: these ask for no job. Returns the exit status.
+pub fn run_read<R: Read, W: Write, E: Write>(
+    rt: &HostRuntime,
+    words: &Result<Vec<String>, LineFault>,
+    r: &mut R,
+    w: &mut W,
+    errors: &mut E,
+) -> u8
+    ensures runs { IfOk words.now (λ words. (outcome : Outcome) × (read : List ℕ) × (written : List ℕ)
+        × Consumes (R.remaining r.old) (R.remaining r.new) read
+        × Appends (W.contents w.old) (W.contents w.new) written
+        × RunsWords words.items outcome read written × (result ≡ outcome_status outcome)) }
+    // Without words nothing is read or written.
+    ensures unread { IfErr words.now (λ fault. (result ≡ words_status fault)
+        × (R.remaining r.new ≡ R.remaining r.old) × (W.contents w.new ≡ W.contents w.old)) }
+{
+    match words {
+        Ok(words) => run_words(rt, words.as_slice(), r, w, errors),
+        Err(fault) => {
+            let _ = tell_words(fault, errors);
+            words_status(fault)
         }
-        Err(fault) => ExitCode::from(concluded(&Outcome::Words(fault), &mut errors)),
     }
 }
 

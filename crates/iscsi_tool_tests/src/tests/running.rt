@@ -4,7 +4,7 @@
 use super::{CANONICAL_PING, CANONICAL_PING_BYTES, PING, PING_BYTES, PING_LINE};
 use crate::asserts::same;
 use iscsi_examples::{Broken, Full};
-use iscsi_tool::run_words;
+use iscsi_tool::{LineFault, run_read, run_words};
 use std::alloc::Global;
 use std::fs;
 use std::io::{Read, Write};
@@ -376,6 +376,25 @@ fn a_standard_error_that_fails(rt: HostRuntime) {
         let status = run_words(&rt, words.as_slice(), &mut source, &mut out, &mut Full);
         same(&rt, &status, &due, &words);
     }
+}
+
+// A run without words: what is told, and the status. Nothing is read or written.
+fn check_unread(host: &HostRuntime, rt: &impl Abort, fault: LineFault, line: &str, due: u8) {
+    let alloc = host.alloc();
+    let mut source = PING;
+    let mut out = Vec::new(alloc);
+    let mut errors = Vec::new(alloc);
+    let status = run_read(host, &Err(fault), &mut source, &mut out, &mut errors);
+    let left = (status, source.len(), out.len());
+    same(rt, &left, &(due, PING.len(), 0), &line);
+    same(rt, &errors.as_slice(), &line.as_bytes(), &line);
+}
+
+#[test]
+fn words_that_could_not_be_read(rt: HostRuntime) {
+    let usage = String::from_str(rt.alloc(), "error: no words\n").expect(&rt, "a text");
+    check_unread(&rt, &rt, LineFault::Usage(usage), "error: no words\n", 2);
+    check_unread(&rt, &rt, LineFault::NoMemory, "memory\n", 3);
 }
 
 /// A word, its input, what is written, what is told, and the status.

@@ -36,6 +36,7 @@ returns-in-Err g c =
         inl (record {
           reason = c.in-Err.fault;
           fails = e.2;
+          is_read = e.3;
           outcome_is = ap (λ (f : ComparisonFault). let r : Outcome = Err f in r) c.input_fault.ensures;
           none = refl;
         }),
@@ -59,6 +60,7 @@ returns-in-Err-read_bytes g c =
         inr (inl (record {
           reason = c.in-Err-read_bytes.fault;
           fails = e.2;
+          is_read = e.3;
           outcome_is =
               ap (λ (f : ComparisonFault). let r : Outcome = Err f in r) c.input_fault-in-Err-read_bytes.ensures;
           none = refl;
