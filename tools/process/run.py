@@ -92,6 +92,10 @@ FIRST, SECOND = (
     {end: open(f"{TOP}/docs/session/{folder}{end}.hex", "rb").read() for end in ("initiator", "target")} for folder in ("", "second/")
 )
 
+# The page of all words, which the launcher prints too.
+with open(f"{TOP}/docs/help.txt", "rb") as page:
+    HELP = page.read()
+
 SERVE = ["serve", "--port", "0", "--blocks", "1", "--sessions", "0"]
 IMAGE = ["serve", "--port", "0", "--sessions", "0", "--file"]
 LOOP = ["loop", "--blocks", "2048", "--piece", "48"]
@@ -156,28 +160,28 @@ ROWS = [
     Row("no file to compare", ["compare"], says=b"<A>", status=2),
     Row("three files to compare", ["compare", "a", "b", "c"], says=b"'c'", status=2),
     # Words that are no job.
-    Row("help", ["--help"], says=b"Usage: lanthovur", status=2),
+    Row("help", ["--help"], b"", b"", HELP, 2),
     Row("an unknown word", ["shoe"], says=b"shoe", status=2),
     Row("no blocks", ["answer"], says=b"--blocks", status=2),
-    Row("too few blocks", ["answer", "--blocks", "0"], says=b"is a number from 1 to", status=2),
-    Row("a port that is none", ["serve", "--port", "65536", "--blocks", "1", "--sessions", "0"], says=b"--port", status=2),
-    Row("no session at a time", [*SERVE, "--at-once", "0"], says=b"'--at-once <k>' is a number from 1 to 64", status=2),
-    Row("too many at a time", [*SERVE, "--at-once", "65"], says=b"'--at-once <k>' is a number from 1 to 64", status=2),
-    Row("an address that is none", [*SERVE, "--at-once", "1", "--listen", "localhost"], says=b"'--listen <ADDR>' is", status=2),
-    Row("a name that is none", [*SERVE, "--at-once", "1", "--name", "a b"], says=b"'--name <IQN>' has", status=2),
-    Row("no time", [*SERVE, "--at-once", "1", "--idle", "0"], says=b"'--idle <S>' is a number from 1 to 65535", status=2),
-    Row("a short memory", [*SERVE, "--at-once", "1", "--memory", "32767"], says=b"'--memory <BYTES>' is a number", status=2),
+    Row("too few blocks", ["answer", "--blocks", "0"], says=b"'0' is no number of blocks: '--blocks <N>' takes a number from 1 to", status=2),
+    Row("a port that is none", ["serve", "--port", "65536", "--blocks", "1", "--sessions", "0"], says=b"'65536' is no port: '--port <P>' takes", status=2),
+    Row("no session at a time", [*SERVE, "--at-once", "0"], says=b"'0' is no number of sessions: '--at-once <k>' takes a number from 1 to 64", status=2),
+    Row("too many at a time", [*SERVE, "--at-once", "65"], says=b"'65' is no number of sessions: '--at-once <k>' takes a number from 1 to 64", status=2),
+    Row("an address that is none", [*SERVE, "--at-once", "1", "--listen", "localhost"], says=b"'localhost' is no address: '--listen <ADDR>' takes", status=2),
+    Row("a name that is none", [*SERVE, "--at-once", "1", "--name", "a b"], says=b"'a b' is no name: '--name <IQN>' takes", status=2),
+    Row("no time", [*SERVE, "--at-once", "1", "--idle", "0"], says=b"'0' is no number of seconds: '--idle <S>' takes a number from 1 to 65535", status=2),
+    Row("a short memory", [*SERVE, "--at-once", "1", "--memory", "32767"], says=b"'--memory <BYTES>' takes a number", status=2),
     Row("a memory of an image", [*IMAGE, "a", "--at-once", "1", "--memory", "32768"], says=b"cannot be used with '--file <F>'", status=2),
-    Row("a short segment", [*SERVE, "--at-once", "1", "--segment", "511"], says=b"'--segment <N>' is a number", status=2),
-    Row("a first burst over the burst", [*SERVE, "--at-once", "1", "--burst", "1024", "--first-burst", "1025"], says=b"'--first-burst <N>' is a number", status=2),
-    Row("too much time", [*SERVE, "--at-once", "1", "--login-within", "65536"], says=b"'--login-within <S>' is a number", status=2),
+    Row("a short segment", [*SERVE, "--at-once", "1", "--segment", "511"], says=b"'--segment <N>' takes a number", status=2),
+    Row("a first burst over the burst", [*SERVE, "--at-once", "1", "--burst", "1024", "--first-burst", "1025"], says=b"'1025' is no number of bytes: '--first-burst <N>' takes a number", status=2),
+    Row("too much time", [*SERVE, "--at-once", "1", "--login-within", "65536"], says=b"'--login-within <S>' takes a number", status=2),
     Row("a time limit without --at-once", [*SERVE, "--idle", "1"], says=b"--at-once", status=2),
     Row("a port to print without --at-once", [*SERVE, "--print-port"], says=b"--at-once", status=2),
-    Row("neither blocks nor an image", IMAGE[:-1], says=b"--blocks <N>", status=2),
+    Row("neither a size nor an image", IMAGE[:-1], says=b"the disk size is missing", status=2),
     Row("an image without a name", IMAGE, says=b"a value is required for '--file <F>'", status=2),
-    Row("an image to be made without its size", [*IMAGE, "a", "--create"], says=b"--blocks <N>", status=2),
+    Row("an image to be made without its size", [*IMAGE, "a", "--create"], says=b"the disk size is missing", status=2),
     Row("a size without an image to be made", [*SERVE, "--create"], says=b"--file <F>", status=2),
-    Row("too few blocks of an image", [*IMAGE, "a", "--blocks", "0"], says=b"is a number from 1 to 1099511627776", status=2),
+    Row("too few blocks of an image", [*IMAGE, "a", "--blocks", "0"], says=b"takes a number from 1 to 1099511627776", status=2),
     Row("a piece of no bytes", ["loop", "--blocks", "1", "--piece", "0"], says=b"--piece", status=2),
     Row("words that are not UTF-8", [b"\xff"], says=b"UTF-8", status=2),
 ]

@@ -3,6 +3,8 @@
 
 mod answering;
 mod comparing;
+mod disk_size;
+mod examples;
 mod filter;
 mod hex_text;
 mod hex_writer;

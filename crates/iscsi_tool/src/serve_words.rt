@@ -2,17 +2,15 @@
 //! time.
 
 ghost use Rattle.std.specs.Prelude.{◌≡◌, ◌<◌, ◌≤◌, IfOk, IfSome};
-ghost use Rattle.scsi_disk.specs.Disk.{most_blocks};
 ghost use Rattle.iscsi_login.specs.Name.{IsName};
 ghost use Rattle.iscsi_server.specs.Service.{AreOffered, longest_asked};
 ghost use Rattle.iscsi_tool.specs.Filtering.{IsJob};
 ghost use Rattle.iscsi_tool.specs.Storage.{IsStorage};
 
+use crate::disk_size::{SizeFault, bad_size, said_blocks, with_size};
+use crate::examples;
 use crate::storage::{Image, Origin, Storage};
-use crate::words::{
-    BAD_BLOCKS, Job, LineFault, Service, bad_number, blocks, blocks_of, flag, number, valued,
-    with_word,
-};
+use crate::words::{Job, LineFault, Service, bad_number, bad_value, flag, valued, with_word};
 use clap::{Arg, ArgMatches, Command};
 use iscsi_login::{Preferences, is_name};
 use iscsi_server::{
@@ -20,107 +18,92 @@ use iscsi_server::{
     SHORTEST_ASKED,
 };
 use std::alloc::{AllocError, Global};
-use std::convert::AsStr;
 use std::net::{IpAddr, Ipv4Addr};
 
 /// The target's name, if none is asked for.
 const NAME: &str = "iqn.2026-01.example:disk";
 
-const BAD_PORT: &str = "'--port <P>' is a number from 0 to 65535";
+/// The port, if none is asked for: that of iSCSI.
+const PORT: u16 = 3260;
 
-const BAD_SESSIONS: &str = "'--sessions <n>' is a number from 0 to 65535";
+const BAD_PORT: &str = "is no port: '--port <P>' takes a number from 0 to 65535 (default 3260)";
 
-const BAD_AT_ONCE: &str = "'--at-once <k>' is a number from 1 to 64";
+const BAD_SESSIONS: &str =
+    "is no number of sessions: '--sessions <n>' takes a number from 0 to 65535";
 
-const BAD_LISTEN: &str = "'--listen <ADDR>' is an IPv4 or IPv6 address";
+const BAD_AT_ONCE: &str = "is no number of sessions: '--at-once <k>' takes a number from 1 to 64";
 
-const BAD_NAME: &str = "'--name <IQN>' has 1 to 223 bytes, each of '!' to '~'";
+const BAD_LISTEN: &str =
+    "is no address: '--listen <ADDR>' takes an IPv4 or IPv6 address (default 127.0.0.1)";
 
-const BAD_IDLE: &str = "'--idle <S>' is a number from 1 to 65535";
+const BAD_NAME: &str = "is no name: '--name <IQN>' takes 1 to 223 bytes, each from '!' to '~'";
 
-const BAD_LOGIN: &str = "'--login-within <S>' is a number from 1 to 65535";
+const BAD_IDLE: &str = "is no number of seconds: '--idle <S>' takes a number from 1 to 65535";
+
+const BAD_LOGIN: &str =
+    "is no number of seconds: '--login-within <S>' takes a number from 1 to 65535 (default 30)";
 
 const BAD_LOGIN_LIMIT: &str = "'--no-login-limit' cannot be used with '--login-within <S>'";
 
-const BAD_MEMORY: &str = "'--memory <BYTES>' is a number from 32768 to 562949953421312";
+const BAD_MEMORY: &str =
+    "is no number of bytes: '--memory <BYTES>' takes a number from 32768 to 562949953421312";
 
 const MEMORY_OF_IMAGE: &str = "'--memory <BYTES>' cannot be used with '--file <F>'";
 
-const BAD_SEGMENT: &str = "'--segment <N>' is a number from 512 to 1048576";
+const BAD_SEGMENT: &str =
+    "is no number of bytes: '--segment <N>' takes a number from 512 to 1048576";
 
-const BAD_BURST: &str = "'--burst <N>' is a number from 512 to 1048576";
+const BAD_BURST: &str = "is no number of bytes: '--burst <N>' takes a number from 512 to 1048576";
 
 const BAD_FIRST_BURST: &str =
-    "'--first-burst <N>' is a number from 512 to 1048576, and at most that of '--burst'";
+    "is no number of bytes: '--first-burst <N>' takes a number from 512 to 1048576, and at most \
+    that of '--burst'";
 
-/// Whether words name an image.
-pub(crate) fn names_image<S: AsStr>(words: &[S]) -> bool {
-    for word in words {
-        let word = word.as_str();
-        if word == "--file" || word.starts_with("--file=") {
-            return true;
-        }
-    }
-    false
-}
-
-/// The words of `serve`, with their help. The number of blocks has to be given, or an image.
-pub(crate) fn serve_program<'a>(alloc: Global, has_image: bool) -> Result<Command<'a>, AllocError> {
+/// The words of `serve`, with their help.
+pub(crate) fn serve_program<'a>(alloc: Global) -> Result<Command<'a>, AllocError> {
     let program = Command::new(alloc, "serve")
-        .about(
-            "Serves a target's disk on 127.0.0.1, one connection after another, or several at a \
-            time",
-        )
+        .about("Serve a disk to iSCSI initiators, from memory or from an image file")
+        .after_help(examples::SERVE)
+        .override_usage("lanthovur serve [OPTIONS] (--size <SIZE> | --blocks <N> | --file <F>)")
         .disable_version_flag(true)
-        .bin_name("lanthovur serve")?
-        .arg(number(
+        .bin_name("lanthovur serve")?;
+    let program = with_size(alloc, program)?;
+    let program = with_image(alloc, program)?
+        .arg(valued(
             alloc,
             "port",
             "P",
-            "the port, 0 to 65535; 0 is one that the system picks",
+            "TCP port to listen on; 0 lets the system choose one (default 3260)",
         ))?
-        .arg(blocks(alloc).required(!has_image))?
         .arg(valued(
             alloc,
             "sessions",
             "n",
-            "how many connections are served, or with --at-once how many logins, 0 to 65535; any \
-            number if left out",
+            "Stop after n connections, or with --at-once after n logins (default: never)",
         ))?;
-    with_options(alloc, with_image(alloc, program, has_image)?)
+    with_options(alloc, program)
 }
 
 // With the words of an image.
-fn with_image<'a>(
-    alloc: Global,
-    program: Command<'a>,
-    has_image: bool,
-) -> Result<Command<'a>, AllocError> {
-    let file = valued(
+fn with_image<'a>(alloc: Global, program: Command<'a>) -> Result<Command<'a>, AllocError> {
+    let program = program.arg(valued(
         alloc,
         "file",
         "F",
-        "keeps the disk in F, a file or a block device; then --blocks may be left out",
-    );
-    let program = program.arg(file.required(has_image))?;
+        "Keep the disk in F, a raw image file or a block device (default: in memory)",
+    ))?;
     with_word(program, create(alloc))
 }
 
-// `--create`, which wants the words of an image.
+// `--create`, which wants the name of an image.
 fn create<'a>(alloc: Global) -> Result<Arg<'a>, AllocError> {
     flag(
         alloc,
         "create",
-        "makes the file F, of N blocks of 00; there must be none",
+        "Create F, filled with zeros; F must not exist yet",
     )
-    .requires_arg("blocks")?
     .requires_arg("file")
 }
-
-// What `--memory` says.
-const MEMORY_HELP: &str =
-    "the most memory that the blocks of a disk in memory take, 32768 to 562949953421312; 268435456 \
-    if left out";
 
 // With `--at-once`, and the words that want it.
 fn with_options<'a>(alloc: Global, program: Command<'a>) -> Result<Command<'a>, AllocError> {
@@ -128,36 +111,31 @@ fn with_options<'a>(alloc: Global, program: Command<'a>) -> Result<Command<'a>, 
         alloc,
         "at-once",
         "k",
-        "how many sessions at a time, 1 to 64; the words below want this one",
+        "Serve up to k sessions at a time, 1 to 64 (default: one after another)",
     );
-    let listen_help =
-        "the IPv4 or IPv6 address to listen at, if not 127.0.0.1; who reaches it has the disk";
-    let name_help = "the target's name, if not iqn.2026-01.example:disk";
-    let idle_help = "ends a session after so many seconds without a byte, 1 to 65535";
-    let login_help =
-        "ends a connection that has not logged in after S seconds, 1 to 65535; 30 if left out";
-    let program = program.arg(at_once)?;
+    let listen_help = "IPv4 or IPv6 address to listen on (default 127.0.0.1)";
+    let name_help = "Name of the target (default iqn.2026-01.example:disk)";
+    let idle_help = "End a session after S seconds without a byte, 1 to 65535 (default: never)";
+    let login_help = "End a connection without a login after S seconds, 1 to 65535 (default 30)";
+    let memory_help = "Memory limit of a disk in memory, at least 32768 bytes (default 268435456)";
+    let program = program
+        .arg(at_once)?
+        .next_help_heading("Options that need --at-once");
     let program = with_word(program, option(alloc, "listen", "ADDR", listen_help))?;
     let program = with_word(program, option(alloc, "name", "IQN", name_help))?;
     let program = with_word(program, option(alloc, "idle", "S", idle_help))?;
     let program = with_word(program, option(alloc, "login-within", "S", login_help))?;
     let program = with_word(program, no_login_limit(alloc))?;
-    let program = with_word(program, option(alloc, "memory", "BYTES", MEMORY_HELP))?;
+    let program = with_word(program, option(alloc, "memory", "BYTES", memory_help))?;
     let program = with_lengths(alloc, program)?;
     with_word(program, print_port(alloc))
 }
 
 // With the words for what a session may move at once.
 fn with_lengths<'a>(alloc: Global, program: Command<'a>) -> Result<Command<'a>, AllocError> {
-    let segment_help =
-        "the longest data segment that the target takes, in bytes, 512 to 1048576; 8192 if \
-        left out";
-    let burst_help =
-        "the most data that go on one request, in bytes, 512 to 1048576; 262144 if left \
-        out";
-    let first_help =
-        "the most data that a write may send unasked, in bytes, 512 to the burst; 65536 if \
-        left out, or the burst if that is shorter";
+    let segment_help = "Longest data segment to the target, 512 to 1048576 bytes (default 8192)";
+    let burst_help = "MaxBurstLength: bytes for one request, 512 to 1048576 (default 262144)";
+    let first_help = "FirstBurstLength: unsolicited bytes, 512 to the burst (default 65536)";
     let program = with_word(program, option(alloc, "segment", "N", segment_help))?;
     let program = with_word(program, option(alloc, "burst", "N", burst_help))?;
     with_word(program, option(alloc, "first-burst", "N", first_help))
@@ -168,7 +146,7 @@ fn no_login_limit<'a>(alloc: Global) -> Result<Arg<'a>, AllocError> {
     flag(
         alloc,
         "no-login-limit",
-        "lets a connection keep its seat without a login",
+        "Let a connection take any time to log in",
     )
     .requires_arg("at-once")
 }
@@ -178,7 +156,7 @@ fn print_port<'a>(alloc: Global) -> Result<Arg<'a>, AllocError> {
     flag(
         alloc,
         "print-port",
-        "prints the port on a line behind 'listening'",
+        "Print the port on a second line, after 'listening'",
     )
     .requires_arg("at-once")
 }
@@ -197,19 +175,17 @@ fn option<'a>(
 pub(crate) fn service_of<'a>(alloc: Global, asked: &ArgMatches<'a>) -> Result<Job<'a>, LineFault>
     ensures disk { IfOk result IsJob }
 {
-    let Some(port) = asked.get_str("port").and_then(number_of) else {
-        return Err(refusal(alloc, asked, BAD_PORT));
-    };
+    let port = port_of(alloc, asked)?;
     let storage = storage_of(alloc, asked)?;
     let sessions = sessions_of(alloc, asked)?;
-    let Some(at_once) = asked.get_str("at-once") else {
+    let Some(digits) = asked.get_str("at-once") else {
         return Ok(Job::Serve {
             storage,
             service: Service::InTurn { port, sessions },
         });
     };
-    let Some(at_once) = at_once_of(at_once) else {
-        return Err(refusal(alloc, asked, BAD_AT_ONCE));
+    let Some(at_once) = at_once_of(digits) else {
+        return Err(refused(alloc, digits, BAD_AT_ONCE));
     };
     let (listen, name) = place_of(alloc, asked)?;
     let limits = Limits {
@@ -234,6 +210,17 @@ pub(crate) fn service_of<'a>(alloc: Global, asked: &ArgMatches<'a>) -> Result<Jo
     })
 }
 
+// The port: the one that is said, or else that of iSCSI.
+fn port_of(alloc: Global, asked: &ArgMatches<'_>) -> Result<u16, LineFault> {
+    let Some(digits) = asked.get_str("port") else {
+        return Ok(PORT);
+    };
+    match number_of(digits) {
+        Some(port) => Ok(port),
+        None => Err(refused(alloc, digits, BAD_PORT)),
+    }
+}
+
 // How many sessions are served, if that is said; else any number.
 fn sessions_of(alloc: Global, asked: &ArgMatches<'_>) -> Result<Option<u16>, LineFault> {
     let Some(digits) = asked.get_str("sessions") else {
@@ -241,7 +228,7 @@ fn sessions_of(alloc: Global, asked: &ArgMatches<'_>) -> Result<Option<u16>, Lin
     };
     match number_of(digits) {
         Some(sessions) => Ok(Some(sessions)),
-        None => Err(refusal(alloc, asked, BAD_SESSIONS)),
+        None => Err(refused(alloc, digits, BAD_SESSIONS)),
     }
 }
 
@@ -249,7 +236,10 @@ fn sessions_of(alloc: Global, asked: &ArgMatches<'_>) -> Result<Option<u16>, Lin
 fn storage_of<'a>(alloc: Global, asked: &ArgMatches<'a>) -> Result<Storage<'a>, LineFault>
     ensures disk { IfOk result IsStorage }
 {
-    let said = said_blocks(alloc, asked)?;
+    let said = match said_blocks(asked) {
+        Ok(said) => said,
+        Err(fault) => return Err(bad_size(alloc, serve_program(alloc), fault)),
+    };
     match (asked.get_str("file"), asked.get_flag("create"), said) {
         (None, _, Some(blocks)) => Ok(Storage::Memory { blocks }),
         (Some(path), true, Some(blocks)) => Ok(Storage::Image(Image {
@@ -260,20 +250,7 @@ fn storage_of<'a>(alloc: Global, asked: &ArgMatches<'a>) -> Result<Storage<'a>, 
             path,
             origin: Origin::Found { blocks },
         })),
-        (_, _, None) => Err(refusal(alloc, asked, BAD_BLOCKS)),
-    }
-}
-
-// The number of blocks, if it is said.
-fn said_blocks(alloc: Global, asked: &ArgMatches<'_>) -> Result<Option<u64>, LineFault>
-    ensures range { IfOk result (λ said. IfSome said (λ n. (0 < n) × (n ≤ most_blocks))) }
-{
-    let Some(digits) = asked.get_str("blocks") else {
-        return Ok(None);
-    };
-    match blocks_of(digits) {
-        Some(blocks) => Ok(Some(blocks)),
-        None => Err(refusal(alloc, asked, BAD_BLOCKS)),
+        (_, _, None) => Err(bad_size(alloc, serve_program(alloc), SizeFault::Neither)),
     }
 }
 
@@ -284,15 +261,15 @@ fn place_of<'a>(alloc: Global, asked: &ArgMatches<'a>) -> Result<(IpAddr, &'a [u
     let listen = match asked.get_str("listen") {
         Some(text) => match text.parse::<IpAddr>() {
             Ok(address) => address,
-            Err(_) => return Err(refusal(alloc, asked, BAD_LISTEN)),
+            Err(_) => return Err(refused(alloc, text, BAD_LISTEN)),
         },
         None => IpAddr::V4(Ipv4Addr::LOCALHOST),
     };
-    let name = asked.get_str("name").unwrap_or(NAME).as_bytes();
-    if !is_name(name) {
-        return Err(refusal(alloc, asked, BAD_NAME));
+    let name = asked.get_str("name").unwrap_or(NAME);
+    if !is_name(name.as_bytes()) {
+        return Err(refused(alloc, name, BAD_NAME));
     }
-    Ok((listen, name))
+    Ok((listen, name.as_bytes()))
 }
 
 // The number of seconds, 1 to 65535, that a word has, if it stands there.
@@ -300,7 +277,7 @@ fn seconds_of(
     alloc: Global,
     asked: &ArgMatches<'_>,
     name: &str,
-    refused: &str,
+    text: &str,
 ) -> Result<Option<u16>, LineFault>
     ensures some { IfOk result (λ seconds. IfSome seconds (λ n. 0 < n)) }
 {
@@ -309,7 +286,7 @@ fn seconds_of(
     };
     match number_of(digits) {
         Some(seconds) if 0 < seconds => Ok(Some(seconds)),
-        _ => Err(refusal(alloc, asked, refused)),
+        _ => Err(refused(alloc, digits, text)),
     }
 }
 
@@ -319,7 +296,7 @@ fn login_within_of(alloc: Global, asked: &ArgMatches<'_>) -> Result<Option<u16>,
 {
     let said = seconds_of(alloc, asked, "login-within", BAD_LOGIN)?;
     match (said, asked.get_flag("no-login-limit")) {
-        (Some(_), true) => Err(refusal(alloc, asked, BAD_LOGIN_LIMIT)),
+        (Some(_), true) => Err(refusal(alloc, BAD_LOGIN_LIMIT)),
         (None, true) => Ok(None),
         (said, false) => Ok(Some(said.unwrap_or(LOGIN_WITHIN))),
     }
@@ -331,13 +308,13 @@ fn memory_of(alloc: Global, asked: &ArgMatches<'_>) -> Result<u64, LineFault> {
         return Ok(MEMORY);
     };
     if asked.get_str("file").is_some() {
-        return Err(refusal(alloc, asked, MEMORY_OF_IMAGE));
+        return Err(refusal(alloc, MEMORY_OF_IMAGE));
     }
     match digits.parse::<u64>() {
         Ok(bytes) if is_digits(digits) && LEAST_MEMORY <= bytes && bytes <= MOST_MEMORY => Ok(
             bytes,
         ),
-        _ => Err(refusal(alloc, asked, BAD_MEMORY)),
+        _ => Err(refused(alloc, digits, BAD_MEMORY)),
     }
 }
 
@@ -358,7 +335,8 @@ fn preferences_of(alloc: Global, asked: &ArgMatches<'_>) -> Result<Preferences, 
         None => standard.first_burst.min(burst),
     };
     if burst < first {
-        return Err(refusal(alloc, asked, BAD_FIRST_BURST));
+        let digits = asked.get_str("first-burst").unwrap_or("");
+        return Err(refused(alloc, digits, BAD_FIRST_BURST));
     }
     Ok(Preferences {
         max_burst: burst,
@@ -373,7 +351,7 @@ fn length_of(
     alloc: Global,
     asked: &ArgMatches<'_>,
     name: &str,
-    refused: &str,
+    text: &str,
 ) -> Result<Option<u32>, LineFault>
     ensures range { IfOk result
         (λ length. IfSome length (λ n. (512 ≤ n) × (n ≤ longest_asked))) }
@@ -383,7 +361,7 @@ fn length_of(
     };
     match bytes_of(digits) {
         Some(length) => Ok(Some(length)),
-        None => Err(refusal(alloc, asked, refused)),
+        None => Err(refused(alloc, digits, text)),
     }
 }
 
@@ -418,8 +396,12 @@ fn number_of(digits: &str) -> Option<u16> {
     digits.parse::<u16>().ok()
 }
 
-// The usage error for a word of `serve`.
-fn refusal(alloc: Global, asked: &ArgMatches<'_>, text: &str) -> LineFault {
-    let has_image = asked.get_str("file").is_some();
-    bad_number(alloc, serve_program(alloc, has_image), text)
+// The usage error for a word of `serve` whose value is wrong.
+fn refused(alloc: Global, value: &str, text: &str) -> LineFault {
+    bad_value(alloc, serve_program(alloc), value, text)
+}
+
+// The usage error for words of `serve` that do not go together.
+fn refusal(alloc: Global, text: &str) -> LineFault {
+    bad_number(alloc, serve_program(alloc), text)
 }

@@ -2,20 +2,20 @@
 //! together.
 
 ghost use Rattle.std.specs.Prelude.{◌≡◌, ◌<◌, ◌≤◌, [], true, Ok, IfOk, IfSome};
-ghost use Rattle.scsi_disk.specs.Disk.{most_blocks};
 ghost use Rattle.iscsi_tool.specs.Filtering.{HasDisk, IsJob};
 ghost use Rattle.iscsi_tool.specs.declared.filter.Work.TheVariants.{Normalise};
 ghost use Rattle.iscsi_tool.specs.declared.words.Job.TheVariants as job;
 
 use crate::comparing::Sameness;
+use crate::disk_size::{bad_size, needed_blocks, with_size};
+use crate::examples;
 use crate::filter::{Filter, Work};
-use crate::serve_words::{names_image, serve_program, service_of};
+use crate::serve_words::{serve_program, service_of};
 use crate::storage::Storage;
 use clap::error::ErrorKind;
 use clap::{Arg, ArgAction, ArgMatches, Command, Error};
 use iscsi_server::Options;
 use iscsi_service::LONGEST_PIECE;
-use scsi_disk::MOST_BLOCKS;
 use std::alloc::{AllocError, AllocFailed, Global};
 use std::convert::AsStr;
 use thiserror::Error;
@@ -152,25 +152,28 @@ fn program<'a>(alloc: Global, name: &'a str, about: &'a str) -> Result<Command<'
         .arg(flag(
             alloc,
             "hex",
-            "input is hex text, and bytes are written as a line of hex",
+            "Read hex text instead of bytes, and write bytes as a line of hex",
         ))
 }
 
 fn show_program<'a>(alloc: Global) -> Result<Command<'a>, AllocError> {
-    program(
-        alloc,
-        "show",
-        "Writes a line for each PDU of the standard input",
-    )
+    Ok(program(alloc, "show", "Print one line for each PDU of a stream")?.after_help(
+        examples::SHOW,
+    ))
 }
 
 fn normalise_program<'a>(alloc: Global) -> Result<Command<'a>, AllocError> {
     program(
         alloc,
         "normalise",
-        "Writes the canonical stream or text of the standard input",
+        "Write a stream in canonical form: equal meaning becomes equal bytes",
     )?
-    .arg(flag(alloc, "text", "the input is one text, not a stream"))
+    .after_help(examples::NORMALISE)
+    .arg(flag(
+        alloc,
+        "text",
+        "Read one text of keys, such as that of a login, instead of a stream",
+    ))
 }
 
 // With one more word, if it could be made.
@@ -190,75 +193,64 @@ pub(crate) fn valued<'a>(alloc: Global, name: &'a str, value: &'a str, help: &'a
         .help(help)
 }
 
-// A number that has to be given.
-pub(crate) fn number<'a>(alloc: Global, name: &'a str, value: &'a str, help: &'a str) -> Arg<'a> {
-    valued(alloc, name, value, help).required(true)
-}
-
 // The name of a file.
 fn file<'a>(alloc: Global, name: &'a str, help: &'a str) -> Arg<'a> {
     Arg::new(alloc, name).action(ArgAction::Set).help(help)
 }
 
-pub(crate) fn blocks<'a>(alloc: Global) -> Arg<'a> {
-    number(
-        alloc,
-        "blocks",
-        "N",
-        "how many blocks of 512 bytes the target's disk has, 1 to 1099511627776",
-    )
-}
-
 fn answer_program<'a>(alloc: Global) -> Result<Command<'a>, AllocError> {
-    program(
+    let program = program(
         alloc,
         "answer",
-        "Writes a target's answers to the standard input",
+        "Write a target's responses to a stream from an initiator",
     )?
-    .bin_name("lanthovur answer")?
-    .arg(blocks(alloc))
+    .after_help(examples::ANSWER)
+    .override_usage("lanthovur answer [OPTIONS] (--size <SIZE> | --blocks <N>)")
+    .bin_name("lanthovur answer")?;
+    with_size(alloc, program)
 }
 
 fn loop_program<'a>(alloc: Global) -> Result<Command<'a>, AllocError> {
-    Command::new(alloc, "loop")
-        .about("Does what a script on the standard input says, with both ends over a socket")
+    let program = Command::new(alloc, "loop")
+        .about("Run a script of commands between an initiator and a target, over a local socket")
+        .after_help(examples::LOOP)
+        .override_usage("lanthovur loop (--size <SIZE> | --blocks <N>) --piece <k>")
         .disable_version_flag(true)
-        .bin_name("lanthovur loop")?
-        .arg(blocks(alloc))?
-        .arg(number(
-            alloc,
-            "piece",
-            "k",
-            "the most bytes that are written before they are read, 1 to 4096",
-        ))
+        .bin_name("lanthovur loop")?;
+    let piece = valued(
+        alloc,
+        "piece",
+        "k",
+        "Most bytes written to the socket before they are read, 1 to 4096",
+    );
+    with_size(alloc, program)?.arg(piece.required(true))
 }
 
 fn compare_program<'a>(alloc: Global) -> Result<Command<'a>, AllocError> {
     program(
         alloc,
         "compare",
-        "Says where two streams differ in meaning; silent where they don't",
+        "Print the first two PDUs in which two streams differ in meaning",
     )?
-    .arg(file(alloc, "A", "the file of the first stream").required(true))?
+    .after_help(examples::COMPARE)
+    .arg(file(alloc, "A", "File of the first stream").required(true))?
     .arg(file(
         alloc,
         "B",
-        "the file of the second stream; without it the standard input",
+        "File of the second stream (default: standard input)",
     ))?
     .arg(flag(
         alloc,
         "same-job",
-        "tags, session ids and serial numbers may differ as in two runs of one job",
+        "Let tags, session ids and serial numbers differ, as in two runs of one job",
     ))
 }
 
 // The program, without the words of its jobs.
 fn bare_command<'a>(alloc: Global) -> Result<Command<'a>, AllocError> {
     Command::new(alloc, "lanthovur")
-        .about(
-            "Shows, normalises, compares and answers iSCSI byte streams, serves a disk, and runs \
-            both ends of a session; with no words it does 'normalise --hex'.",
-        )
+        .about("Serve iSCSI disks, and show, normalise, compare and answer iSCSI streams")
+        .after_help(examples::PROGRAM)
         .no_binary_name(true)
         .disable_version_flag(true)
         .disable_help_subcommand(true)
@@ -274,14 +266,14 @@ fn with_job<'a>(
     command.subcommand(job?)
 }
 
-// The words of each job; those of a service over an image, where one is named.
-fn command<'a>(alloc: Global, has_image: bool) -> Result<Command<'a>, AllocError> {
+// The words of each job.
+fn command<'a>(alloc: Global) -> Result<Command<'a>, AllocError> {
     let command = bare_command(alloc)?;
     let command = with_job(command, show_program(alloc))?;
     let command = with_job(command, normalise_program(alloc))?;
     let command = with_job(command, compare_program(alloc))?;
     let command = with_job(command, answer_program(alloc))?;
-    let command = with_job(command, serve_program(alloc, has_image))?;
+    let command = with_job(command, serve_program(alloc))?;
     with_job(command, loop_program(alloc))
 }
 
@@ -296,11 +288,45 @@ pub fn read_words<'a, S: AsStr>(alloc: Global, words: &'a [S]) -> Result<Job<'a>
     if words.is_empty() {
         return Ok(UNASKED);
     }
-    let matches = match command(alloc, names_image(words))?.try_get_matches_from(words) {
+    let matches = match command(alloc)?.try_get_matches_from(words) {
         Ok(matches) => matches,
-        Err(error) => return Err(usage(alloc, error)),
+        Err(error) => return Err(unread(alloc, words, error)),
     };
     job_of(alloc, &matches)
+}
+
+// The usage error for words that are not read, with a hint if a file is named to a command that
+// reads standard input.
+fn unread<S: AsStr>(alloc: Global, words: &[S], error: Error) -> LineFault {
+    let text = match usage(alloc, error) {
+        LineFault::Usage(text) => text,
+        LineFault::NoMemory => return LineFault::NoMemory,
+    };
+    let word = match words.first() {
+        Some(word) => word.as_str(),
+        None => "",
+    };
+    let Some(file) = stray_file(word, text.as_str()) else {
+        return LineFault::Usage(text);
+    };
+    match format!(in alloc; "{text}\n{word} reads standard input: ./lanthovur {word} < {file}\n") {
+        Ok(text) => LineFault::Usage(text),
+        Err(_) => LineFault::NoMemory,
+    }
+}
+
+// The file that a command which reads standard input was given, by the text of its usage error.
+fn stray_file<'a>(word: &str, text: &'a str) -> Option<&'a str> {
+    if !matches!(word, "show" | "normalise" | "answer") {
+        return None;
+    }
+    let rest = text.strip_prefix("error: unexpected argument '")?;
+    let (file, _) = rest.split_once("' found")?;
+    if file.starts_with('-') {
+        None
+    } else {
+        Some(file)
+    }
 }
 
 // The job that words which were read ask for. Words that name none are refused, though the reader
@@ -350,9 +376,9 @@ fn normal_work(asked: &ArgMatches<'_>) -> Work
 fn answer_of<'a>(alloc: Global, asked: &ArgMatches<'_>) -> Result<Job<'a>, LineFault>
     ensures disk { IfOk result IsJob }
 {
-    match asked.get_str("blocks").and_then(blocks_of) {
-        Some(blocks) => Ok(filter_of(Work::Answer(blocks), asked)),
-        None => Err(bad_number(alloc, answer_program(alloc), BAD_BLOCKS)),
+    match needed_blocks(asked) {
+        Ok(blocks) => Ok(filter_of(Work::Answer(blocks), asked)),
+        Err(fault) => Err(bad_size(alloc, answer_program(alloc), fault)),
     }
 }
 
@@ -375,16 +401,11 @@ fn comparison_of<'a>(asked: &ArgMatches<'a>) -> Job<'a>
 fn loop_of(alloc: Global, asked: &ArgMatches<'_>) -> Result<Job<'static>, LineFault>
     ensures disk { IfOk result IsJob }
 {
-    let blocks = asked.get_str("blocks").and_then(blocks_of);
-    let piece = asked.get_str("piece").and_then(piece_of);
-    match (blocks, piece) {
-        (Some(blocks), Some(piece)) => Ok(Job::Loop { blocks, piece }),
-        (None, _) => Err(bad_number(alloc, loop_program(alloc), BAD_BLOCKS)),
-        (Some(_), None) => Err(bad_number(
-            alloc,
-            loop_program(alloc),
-            "'--piece <k>' is a number from 1 to 4096",
-        )),
+    let piece = asked.get_str("piece").unwrap_or("");
+    match (needed_blocks(asked), piece_of(piece)) {
+        (Ok(blocks), Some(piece)) => Ok(Job::Loop { blocks, piece }),
+        (Err(fault), _) => Err(bad_size(alloc, loop_program(alloc), fault)),
+        (Ok(_), None) => Err(bad_value(alloc, loop_program(alloc), piece, BAD_PIECE)),
     }
 }
 
@@ -401,22 +422,22 @@ fn piece_of(digits: &str) -> Option<u32>
     }
 }
 
-// The number of blocks that digits spell, from 1 to 2^40.
-pub(crate) fn blocks_of(digits: &str) -> Option<u64>
-    ensures range { IfSome result (λ n. (0 < n) × (n ≤ most_blocks)) }
-{
-    if !digits.bytes().all(|c| c.is_ascii_digit()) {
-        return None;
-    }
-    match digits.parse::<u64>() {
-        Ok(blocks) if 0 < blocks && blocks <= MOST_BLOCKS => Some(blocks),
-        _ => None,
+const BAD_PIECE: &str = "is no number of bytes: '--piece <k>' takes a number from 1 to 4096";
+
+// The usage error for a word whose value is wrong: the text says what it is not, and what was meant.
+pub(crate) fn bad_value(
+    alloc: Global,
+    program: Result<Command<'_>, AllocError>,
+    value: &str,
+    text: &str,
+) -> LineFault {
+    match format!(in alloc; "'{value}' {text}") {
+        Ok(text) => bad_number(alloc, program, text.as_str()),
+        Err(_) => LineFault::NoMemory,
     }
 }
 
-pub(crate) const BAD_BLOCKS: &str = "'--blocks <N>' is a number from 1 to 1099511627776";
-
-// The usage error for a number out of range.
+// The usage error for words that are a job's and ask for none.
 pub(crate) fn bad_number(
     alloc: Global,
     program: Result<Command<'_>, AllocError>,

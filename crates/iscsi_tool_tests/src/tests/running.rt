@@ -207,20 +207,20 @@ const UNREAD: &[(&str, &str)] = &[
 
 /// Words that ask for no job; the rows of `words.rt` have the others.
 const USAGE: &[(&str, &str)] = &[
-    ("--help", "Shows, normalises, compares and answers"),
-    ("show --help", "Writes a line for each PDU"),
+    ("--help", "Serve iSCSI disks, and show, normalise"),
+    ("show --help", "Print one line for each PDU"),
     ("shoe", "error: unrecognized subcommand 'shoe'\n"),
     (
         "loop --blocks 2048 --piece 0",
-        "error: '--piece <k>' is a number from 1 to 4096\n",
+        "error: '0' is no number of bytes: '--piece <k>' takes a number from 1 to 4096\n",
     ),
     (
         "answer --blocks 0",
-        "error: '--blocks <N>' is a number from 1 to 1099511627776\n",
+        "error: '0' is no number of blocks: '--blocks <N>' takes a number from 1 to 1099511627776\n",
     ),
     (
         "serve --port 65536 --blocks 1 --sessions 0",
-        "error: '--port <P>' is a number from 0 to 65535\n",
+        "error: '65536' is no port: '--port <P>' takes a number from 0 to 65535 (default 3260)\n",
     ),
     (
         "compare",

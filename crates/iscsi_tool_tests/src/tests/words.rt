@@ -96,6 +96,34 @@ const JOBS: &[(&str, &str)] = &[
         "Serve { storage: Memory { blocks: 8 }, service: AtOnce(Options { listen: 127.0.0.1, port: 1, sessions: Some(2), at_once: 3, name: [110], limits: Limits { idle: None, login_within: Some(30) }, preferences: Preferences { initial_r2t: false, immediate_data: true, max_burst: 262144, first_burst: 65536, time2wait: 2, time2retain: 20, max_recv: 8192 }, memory: 32768, print_port: false }) }",
     ),
     (
+        "serve --size 32M",
+        "Serve { storage: Memory { blocks: 65536 }, service: InTurn { port: 3260, sessions: None } }",
+    ),
+    (
+        "serve --size=512T --port 0",
+        "Serve { storage: Memory { blocks: 1099511627776 }, service: InTurn { port: 0, sessions: None } }",
+    ),
+    (
+        "serve --file d",
+        "Serve { storage: Image(Image { path: \"d\", origin: Found { blocks: None } }), service: InTurn { port: 3260, sessions: None } }",
+    ),
+    (
+        "serve --file d --size 3G",
+        "Serve { storage: Image(Image { path: \"d\", origin: Found { blocks: Some(6291456) } }), service: InTurn { port: 3260, sessions: None } }",
+    ),
+    (
+        "serve --file d --create --size 010K",
+        "Serve { storage: Image(Image { path: \"d\", origin: New { blocks: 20 } }), service: InTurn { port: 3260, sessions: None } }",
+    ),
+    (
+        "answer --size 1536",
+        "Filter(Filter { work: Answer(3), hex: false })",
+    ),
+    (
+        "loop --size 1T --piece 1",
+        "Loop { blocks: 2147483648, piece: 1 }",
+    ),
+    (
         "loop --blocks 2048 --piece 48",
         "Loop { blocks: 2048, piece: 48 }",
     ),
@@ -114,28 +142,185 @@ const JOBS: &[(&str, &str)] = &[
     ),
 ];
 
+/// What follows the value in the refusals of several rows.
 const BLOCKS: &str =
-    "error: '--blocks <N>' is a number from 1 to 1099511627776\n\nUsage: lanthovur ";
+    "is no number of blocks: '--blocks <N>' takes a number from 1 to 1099511627776\n\n\
+    Usage: lanthovur ";
 
-const PORT: &str = "error: '--port <P>' is a number from 0 to 65535\n\nUsage: lanthovur serve";
+const SIZE: &str =
+    "is no disk size: '--size <SIZE>' takes bytes, or a number with K, M, G or T, such as 32M; a \
+    multiple of 512, at most 512T\n\nUsage: lanthovur ";
+
+const PORT: &str = "is no port: '--port <P>' takes a number from 0 to 65535 (default 3260)\n\n\
+    Usage: lanthovur serve [OPTIONS] (--size <SIZE> | --blocks <N> | --file <F>)\n\n";
 
 const SESSIONS: &str =
-    "error: '--sessions <n>' is a number from 0 to 65535\n\nUsage: lanthovur serve";
+    "is no number of sessions: '--sessions <n>' takes a number from 0 to 65535\n\nUsage: ";
 
 const MEMORY: &str =
-    "error: '--memory <BYTES>' is a number from 32768 to 562949953421312\n\nUsage: lanthovur serve";
+    "is no number of bytes: '--memory <BYTES>' takes a number from 32768 to 562949953421312\n\n";
 
 const SEGMENT: &str =
-    "error: '--segment <N>' is a number from 512 to 1048576\n\nUsage: lanthovur serve";
+    "is no number of bytes: '--segment <N>' takes a number from 512 to 1048576\n\nUsage: ";
 
 const BURST: &str =
-    "error: '--burst <N>' is a number from 512 to 1048576\n\nUsage: lanthovur serve";
+    "is no number of bytes: '--burst <N>' takes a number from 512 to 1048576\n\nUsage: ";
 
 const FIRST_BURST: &str =
-    "error: '--first-burst <N>' is a number from 512 to 1048576, and at most that of '--burst'\n\n\
-    Usage: lanthovur serve";
+    "is no number of bytes: '--first-burst <N>' takes a number from 512 to 1048576, and at most \
+    that of '--burst'\n\nUsage: ";
 
-const PIECE: &str = "error: '--piece <k>' is a number from 1 to 4096\n\nUsage: lanthovur loop";
+const PIECE: &str = "is no number of bytes: '--piece <k>' takes a number from 1 to 4096\n\n\
+    Usage: lanthovur loop (--size <SIZE> | --blocks <N>) --piece <k>\n\n";
+
+/// Words with a value that is refused, in which `''` is an empty word; the value; what follows it.
+const BAD_VALUES: &[(&str, &str, &str)] = &[
+    ("answer --blocks 0", "0", BLOCKS),
+    ("answer --blocks 1099511627777", "1099511627777", BLOCKS),
+    ("answer --blocks +8", "+8", BLOCKS),
+    ("answer --blocks 0x8", "0x8", BLOCKS),
+    ("answer --blocks=", "", BLOCKS),
+    (
+        "answer --blocks 18446744073709551617",
+        "18446744073709551617",
+        BLOCKS,
+    ),
+    ("serve --port 65536 --blocks 1 --sessions 1", "65536", PORT),
+    ("serve --port +1 --blocks 1 --sessions 1", "+1", PORT),
+    ("serve --port '' --blocks 1 --sessions 1", "", PORT),
+    ("serve --port 0x10 --blocks 1 --sessions 1", "0x10", PORT),
+    ("serve --port 0 --blocks 0 --sessions 1", "0", BLOCKS),
+    (
+        "serve --port 0 --blocks 1099511627777 --sessions 1",
+        "1099511627777",
+        BLOCKS,
+    ),
+    (
+        "serve --port 0 --blocks 1 --sessions 65536",
+        "65536",
+        SESSIONS,
+    ),
+    (
+        "serve --port 0 --sessions 1 --file d --blocks 0",
+        "0",
+        BLOCKS,
+    ),
+    (
+        "serve --port 0 --sessions 1 --file d --create --blocks 1099511627777",
+        "1099511627777",
+        BLOCKS,
+    ),
+    (
+        "serve --port 0 --blocks 1 --sessions 1 --at-once 1 --memory 32767",
+        "32767",
+        MEMORY,
+    ),
+    (
+        "serve --port 0 --blocks 1 --sessions 1 --at-once 1 --memory 562949953421313",
+        "562949953421313",
+        MEMORY,
+    ),
+    (
+        "serve --port 0 --blocks 1 --sessions 1 --at-once 1 --memory +32768",
+        "+32768",
+        MEMORY,
+    ),
+    (
+        "serve --port 0 --blocks 1 --sessions 1 --at-once 1 --segment 511",
+        "511",
+        SEGMENT,
+    ),
+    (
+        "serve --port 0 --blocks 1 --sessions 1 --at-once 1 --segment 1048577",
+        "1048577",
+        SEGMENT,
+    ),
+    (
+        "serve --port 0 --blocks 1 --sessions 1 --at-once 1 --segment 64k",
+        "64k",
+        SEGMENT,
+    ),
+    (
+        "serve --port 0 --blocks 1 --sessions 1 --at-once 1 --burst 511",
+        "511",
+        BURST,
+    ),
+    (
+        "serve --port 0 --blocks 1 --sessions 1 --at-once 1 --burst 1048577",
+        "1048577",
+        BURST,
+    ),
+    (
+        "serve --port 0 --blocks 1 --sessions 1 --at-once 1 --first-burst 511",
+        "511",
+        FIRST_BURST,
+    ),
+    (
+        "serve --port 0 --blocks 1 --sessions 1 --at-once 1 --first-burst 262145",
+        "262145",
+        FIRST_BURST,
+    ),
+    (
+        "serve --port 0 --blocks 1 --sessions 1 --at-once 1 --first-burst 1025 --burst 1024",
+        "1025",
+        FIRST_BURST,
+    ),
+    ("loop --blocks 2048 --piece 0", "0", PIECE),
+    ("loop --blocks 2048 --piece 4097", "4097", PIECE),
+    ("loop --blocks 2048 --piece +1", "+1", PIECE),
+    ("loop --blocks 2048 --piece ''", "", PIECE),
+    ("loop --blocks 0 --piece 1", "0", BLOCKS),
+    (
+        "loop --blocks 1099511627777 --piece 1",
+        "1099511627777",
+        BLOCKS,
+    ),
+    ("answer --size 0", "0", SIZE),
+    ("answer --size 511", "511", SIZE),
+    ("answer --size 513", "513", SIZE),
+    ("answer --size 513T", "513T", SIZE),
+    ("answer --size 1k", "1k", SIZE),
+    ("answer --size 32MB", "32MB", SIZE),
+    ("answer --size M", "M", SIZE),
+    ("answer --size +1M", "+1M", SIZE),
+    ("answer --size=", "", SIZE),
+    ("answer --size 16777216T", "16777216T", SIZE),
+    ("loop --size 1.5G --piece 1", "1.5G", SIZE),
+    ("serve --size 562949953421824", "562949953421824", SIZE),
+    ("serve --file d --size 1", "1", SIZE),
+    (
+        "serve --blocks 1 --at-once 65",
+        "65",
+        "is no number of sessions: '--at-once <k>' takes a number from 1 to 64\n\nUsage: ",
+    ),
+    (
+        "serve --blocks 1 --at-once 1 --listen localhost",
+        "localhost",
+        "is no address: '--listen <ADDR>' takes an IPv4 or IPv6 address (default 127.0.0.1)\n\n",
+    ),
+    (
+        "serve --blocks 1 --at-once 1 --name café",
+        "café",
+        "is no name: '--name <IQN>' takes 1 to 223 bytes, each from '!' to '~'\n\nUsage: ",
+    ),
+    (
+        "serve --blocks 1 --at-once 1 --idle 0",
+        "0",
+        "is no number of seconds: '--idle <S>' takes a number from 1 to 65535\n\nUsage: ",
+    ),
+    (
+        "serve --blocks 1 --at-once 1 --login-within 65536",
+        "65536",
+        "is no number of seconds: '--login-within <S>' takes a number from 1 to 65535 (default 30)\n\n",
+    ),
+];
+
+const NO_SIZE: &str =
+    "error: the disk size is missing: use '--size <SIZE>', such as '--size 32M', or \
+    '--blocks <N>'\n\nUsage: lanthovur ";
+
+const TWO_SIZES: &str =
+    "error: '--size <SIZE>' cannot be used with '--blocks <N>': each is the disk size\n\nUsage: ";
 
 /// Words that are none, in which `''` is an empty word, and what the text begins with.
 const REFUSED: &[(&str, &str)] = &[
@@ -164,7 +349,7 @@ const REFUSED: &[(&str, &str)] = &[
     ),
     (
         "show -h x",
-        "Writes a line for each PDU of the standard input\n\nUsage: lanthovur show",
+        "Print one line for each PDU of a stream\n\nUsage: lanthovur show [OPTIONS]\n",
     ),
     (
         "normalise --text --text",
@@ -181,52 +366,37 @@ const REFUSED: &[(&str, &str)] = &[
         "normalise --blocks 8",
         "error: unexpected argument '--blocks' found\n",
     ),
+    ("answer", NO_SIZE),
+    ("answer --size 1M --blocks 2048", TWO_SIZES),
+    ("loop --size 1M --blocks 2048 --piece 1", TWO_SIZES),
+    ("serve --size 1M --blocks 2048", TWO_SIZES),
+    ("serve --size 1M --blocks 2048 --file d", TWO_SIZES),
     (
-        "answer",
-        "error: the following required arguments were not provided:\n  --blocks <N>\n",
+        "answer --size 1M --size 1M",
+        "error: the argument '--size <SIZE>' cannot be used multiple times\n",
+    ),
+    (
+        "answer --size",
+        "error: a value is required for '--size <SIZE>' but none was supplied\n",
+    ),
+    (
+        "show --size 1M",
+        "error: unexpected argument '--size' found\n",
     ),
     (
         "answer --blocks",
         "error: a value is required for '--blocks <N>' but none was supplied\n",
     ),
-    ("answer --blocks 0", BLOCKS),
-    ("answer --blocks 1099511627777", BLOCKS),
-    ("answer --blocks +8", BLOCKS),
-    ("answer --blocks 0x8", BLOCKS),
-    ("answer --blocks=", BLOCKS),
-    ("answer --blocks 18446744073709551617", BLOCKS),
     (
         "answer --blocks 8 --blocks 8",
         "error: the argument '--blocks <N>' cannot be used multiple times\n",
     ),
-    (
-        "serve",
-        "error: the following required arguments were not provided:\n  \
-        --port <P>\n  --blocks <N>\n",
-    ),
-    (
-        "serve --port 0",
-        "error: the following required arguments were not provided:\n  --blocks <N>\n",
-    ),
-    (
-        "serve --blocks 1 --sessions 1",
-        "error: the following required arguments were not provided:\n  --port <P>\n",
-    ),
-    (
-        "serve --port 0 --sessions 1",
-        "error: the following required arguments were not provided:\n  --blocks <N>\n",
-    ),
-    ("serve --port 65536 --blocks 1 --sessions 1", PORT),
+    ("serve", NO_SIZE),
+    ("serve --port 0", NO_SIZE),
     (
         "serve --port -1 --blocks 1 --sessions 1",
         "error: unexpected argument '-1' found\n",
     ),
-    ("serve --port +1 --blocks 1 --sessions 1", PORT),
-    ("serve --port '' --blocks 1 --sessions 1", PORT),
-    ("serve --port 0x10 --blocks 1 --sessions 1", PORT),
-    ("serve --port 0 --blocks 0 --sessions 1", BLOCKS),
-    ("serve --port 0 --blocks 1099511627777 --sessions 1", BLOCKS),
-    ("serve --port 0 --blocks 1 --sessions 65536", SESSIONS),
     (
         "serve --port 0 --blocks 1 --sessions 1 --hex",
         "error: unexpected argument '--hex' found\n",
@@ -237,24 +407,17 @@ const REFUSED: &[(&str, &str)] = &[
     ),
     (
         "serve --port 0 --sessions 1 --create",
-        "error: the following required arguments were not provided:\n  --blocks <N>\n  --file <F>\n",
+        "error: the following required arguments were not provided:\n  --file <F>\n\n\
+        Usage: lanthovur serve [OPTIONS] (--size <SIZE> | --blocks <N> | --file <F>)\n",
     ),
     (
         "serve --port 0 --sessions 1 --create --blocks 8",
         "error: the following required arguments were not provided:\n  --file <F>\n",
     ),
-    (
-        "serve --port 0 --sessions 1 --create --file d",
-        "error: the following required arguments were not provided:\n  --blocks <N>\n",
-    ),
+    ("serve --port 0 --sessions 1 --create --file d", NO_SIZE),
     (
         "serve --port 0 --sessions 1 --file",
         "error: a value is required for '--file <F>' but none was supplied\n",
-    ),
-    (
-        "serve --sessions 1 --file d",
-        "error: the following required arguments were not provided:\n  --port <P>\n\n\
-        Usage: lanthovur serve --port <P> --file <F> --sessions <n>\n",
     ),
     (
         "serve --port 0 --sessions 1 --file=a --file b",
@@ -263,21 +426,6 @@ const REFUSED: &[(&str, &str)] = &[
     (
         "serve --port 0 --sessions 1 --file a b",
         "error: unexpected argument 'b' found\n",
-    ),
-    ("serve --port 0 --sessions 1 --file d --blocks 0", BLOCKS),
-    (
-        "serve --port 0 --sessions 1 --file d --create --blocks 1099511627777",
-        BLOCKS,
-    ),
-    (
-        "serve --port +0 --sessions 1 --file d",
-        "error: '--port <P>' is a number from 0 to 65535\n\n\
-        Usage: lanthovur serve [OPTIONS] --port <P> --file <F>\n",
-    ),
-    (
-        "serve --port +0 --sessions 1 --blocks 1",
-        "error: '--port <P>' is a number from 0 to 65535\n\n\
-        Usage: lanthovur serve [OPTIONS] --port <P> --blocks <N>\n",
     ),
     (
         "answer --blocks 1 --file d",
@@ -296,52 +444,8 @@ const REFUSED: &[(&str, &str)] = &[
         "error: the following required arguments were not provided:\n  --at-once <k>\n",
     ),
     (
-        "serve --port 0 --blocks 1 --sessions 1 --at-once 1 --memory 32767",
-        MEMORY,
-    ),
-    (
-        "serve --port 0 --blocks 1 --sessions 1 --at-once 1 --memory 562949953421313",
-        MEMORY,
-    ),
-    (
-        "serve --port 0 --blocks 1 --sessions 1 --at-once 1 --memory +32768",
-        MEMORY,
-    ),
-    (
         "serve --port 0 --file d --sessions 1 --at-once 1 --memory 32768",
         "error: '--memory <BYTES>' cannot be used with '--file <F>'\n\nUsage: lanthovur serve",
-    ),
-    (
-        "serve --port 0 --blocks 1 --sessions 1 --at-once 1 --segment 511",
-        SEGMENT,
-    ),
-    (
-        "serve --port 0 --blocks 1 --sessions 1 --at-once 1 --segment 1048577",
-        SEGMENT,
-    ),
-    (
-        "serve --port 0 --blocks 1 --sessions 1 --at-once 1 --segment 64k",
-        SEGMENT,
-    ),
-    (
-        "serve --port 0 --blocks 1 --sessions 1 --at-once 1 --burst 511",
-        BURST,
-    ),
-    (
-        "serve --port 0 --blocks 1 --sessions 1 --at-once 1 --burst 1048577",
-        BURST,
-    ),
-    (
-        "serve --port 0 --blocks 1 --sessions 1 --at-once 1 --first-burst 511",
-        FIRST_BURST,
-    ),
-    (
-        "serve --port 0 --blocks 1 --sessions 1 --at-once 1 --first-burst 262145",
-        FIRST_BURST,
-    ),
-    (
-        "serve --port 0 --blocks 1 --sessions 1 --at-once 1 --first-burst 1025 --burst 1024",
-        FIRST_BURST,
     ),
     (
         "serve --port 0 --blocks 1 --sessions 1 --at-once 1 --no-login-limit --login-within 1",
@@ -353,22 +457,14 @@ const REFUSED: &[(&str, &str)] = &[
     ),
     (
         "loop",
-        "error: the following required arguments were not provided:\n  --blocks <N>\n  --piece <k>\n",
+        "error: the following required arguments were not provided:\n  --piece <k>\n\n\
+        Usage: lanthovur loop (--size <SIZE> | --blocks <N>) --piece <k>\n",
     ),
-    ("loop --blocks 2048 --piece 0", PIECE),
-    ("loop --blocks 2048 --piece 4097", PIECE),
-    ("loop --blocks 2048 --piece +1", PIECE),
-    ("loop --blocks 2048 --piece ''", PIECE),
-    ("loop --blocks 0 --piece 1", BLOCKS),
-    ("loop --blocks 1099511627777 --piece 1", BLOCKS),
     (
         "loop --blocks 2048",
         "error: the following required arguments were not provided:\n  --piece <k>\n",
     ),
-    (
-        "loop --piece 1",
-        "error: the following required arguments were not provided:\n  --blocks <N>\n",
-    ),
+    ("loop --piece 1", NO_SIZE),
     (
         "loop --blocks 1 --piece 1 --hex",
         "error: unexpected argument '--hex' found\n",
@@ -380,7 +476,7 @@ const REFUSED: &[(&str, &str)] = &[
     ("--port 0", "error: unexpected argument '--port' found\n"),
     (
         "show --help",
-        "Writes a line for each PDU of the standard input\n\nUsage: lanthovur show",
+        "Print one line for each PDU of a stream\n\nUsage: lanthovur show [OPTIONS]\n",
     ),
     ("help", "error: unrecognized subcommand 'help'\n"),
     (
@@ -389,15 +485,46 @@ const REFUSED: &[(&str, &str)] = &[
     ),
 ];
 
-/// Each job with what it does, in the text of help.
-const HELP: &[&str] = &[
-    "Usage: lanthovur <COMMAND>",
-    "\n  show       Writes a line for each PDU",
-    "\n  normalise  Writes the canonical stream or text",
-    "\n  compare    Says where two streams differ in meaning",
-    "\n  answer     Writes a target's answers",
-    "\n  serve      Serves a target's disk on 127.0.0.1",
-    "\n  loop       Does what a script on the standard input says",
+/// What stands in the text of help: each job, words with their defaults, and an example.
+const HELP: &[(&str, &str)] = &[
+    ("--help", "Usage: lanthovur <COMMAND>\n\nCommands:\n"),
+    ("--help", "\n  show       Print one line for each PDU"),
+    ("--help", "\n  normalise  Write a stream in canonical form"),
+    ("--help", "\n  compare    Print the first two PDUs in which"),
+    ("--help", "\n  answer     Write a target's responses"),
+    ("--help", "\n  serve      Serve a disk"),
+    ("--help", "\n  loop       Run a script"),
+    ("-h", "\n\nExamples:\n  ./lanthovur serve --size 32M\n"),
+    ("show --help", "\n  ./lanthovur show --hex < "),
+    ("normalise --help", "\n  ./lanthovur normalise < "),
+    ("compare --help", "\n  ./lanthovur compare before.bin "),
+    ("answer --help", "\n  ./lanthovur answer --size 1M < "),
+    ("loop --help", "| ./lanthovur loop --size 1M "),
+    (
+        "serve --help",
+        "lets the system choose one (default 3260)\n",
+    ),
+    (
+        "serve --help",
+        "\n\nOptions that need --at-once:\n      --listen <ADDR> ",
+    ),
+    ("serve --help", "\n  ./lanthovur serve --size 32M\n"),
+];
+
+/// Words with a stray file, and the hint at the end.
+const HINTS: &[(&str, &str)] = &[
+    (
+        "show a.bin",
+        "show reads standard input: ./lanthovur show < a.bin\n",
+    ),
+    (
+        "normalise --hex a b",
+        "normalise reads standard input: ./lanthovur normalise < a\n",
+    ),
+    (
+        "answer --size 1M a",
+        "answer reads standard input: ./lanthovur answer < a\n",
+    ),
 ];
 
 // The words of a line.
@@ -443,10 +570,47 @@ fn words_that_are_no_job(rt: HostRuntime) {
     }
 }
 
+fn check_value(rt: &impl Abort, alloc: Global, line: &str, value: &str, text: &str) {
+    let said = said_of(rt, alloc, line);
+    let due = format!(in alloc; "error: '{value}' {text}").expect(rt, line);
+    let is_whole = said.starts_with(due.as_str()) && said.ends_with("\n");
+    same(rt, &is_whole, &true, &(line, said.as_str()));
+}
+
 #[test]
-fn help_names_the_jobs(rt: HostRuntime) {
-    let said = said_of(&rt, rt.alloc(), "--help");
-    for text in HELP {
-        same(&rt, &said.contains(*text), &true, text);
+fn values_that_are_refused(rt: HostRuntime) {
+    for (line, value, text) in BAD_VALUES {
+        check_value(&rt, rt.alloc(), line, value, text);
+    }
+}
+
+fn check_help(rt: &impl Abort, alloc: Global, line: &str, text: &str) {
+    let said = said_of(rt, alloc, line);
+    same(
+        rt,
+        &said.contains(text),
+        &true,
+        &(line, text, said.as_str()),
+    );
+    let is_narrow = said.lines().all(|it| it.chars().count() <= 100);
+    same(rt, &is_narrow, &true, &(line, said.as_str()));
+}
+
+#[test]
+fn help_has_words_defaults_and_examples(rt: HostRuntime) {
+    for (line, text) in HELP {
+        check_help(&rt, rt.alloc(), line, text);
+    }
+}
+
+fn check_hint(rt: &impl Abort, alloc: Global, line: &str, hint: &str) {
+    let said = said_of(rt, alloc, line);
+    same(rt, &said.ends_with(hint), &true, &(line, said.as_str()));
+}
+
+#[test]
+fn a_file_is_no_standard_input(rt: HostRuntime) {
+    for (line, hint) in HINTS {
+        check_hint(&rt, rt.alloc(), line, hint);
     }
 }

@@ -1,0 +1,61 @@
+//! What stands below the words on each page of help: examples, and what a reader has to know first.
+
+/// Below the commands.
+pub(crate) const PROGRAM: &str =
+    "show, normalise, answer and loop read standard input. Without a command, lanthovur runs\n\
+    'normalise --hex'. Each command has its own help, such as 'lanthovur serve --help'.\n\
+    \n\
+    Examples:\n  \
+    ./lanthovur serve --size 32M\n      \
+    Serve a disk of 32 MiB in memory, on port 3260 of 127.0.0.1\n  \
+    ./lanthovur show --hex < docs/session/initiator.hex\n      \
+    Print the PDUs of a captured session";
+
+pub(crate) const SHOW: &str = "The stream comes from standard input.\n\
+    \n\
+    Examples:\n  \
+    ./lanthovur show --hex < docs/session/initiator.hex\n  \
+    ./lanthovur show < stream.bin";
+
+pub(crate) const NORMALISE: &str =
+    "The stream comes from standard input. Two streams mean the same exactly if their canonical\n\
+    streams are equal.\n\
+    \n\
+    Examples:\n  \
+    ./lanthovur normalise < stream.bin > canonical.bin\n  \
+    printf 'B=0x10\\0A=5\\0' | ./lanthovur normalise --text";
+
+pub(crate) const COMPARE: &str =
+    "If the streams mean the same, nothing is printed and the exit status is 0. If they differ, it is 1.\n\
+    \n\
+    Examples:\n  \
+    ./lanthovur compare before.bin after.bin\n  \
+    ./lanthovur compare --hex --same-job docs/session/initiator.hex docs/session/second/initiator.hex";
+
+pub(crate) const ANSWER: &str =
+    "The stream comes from standard input. The disk is in memory, and is zeros at first.\n\
+    \n\
+    Examples:\n  \
+    ./lanthovur answer --size 1M < initiator.bin > target.bin\n  \
+    ./lanthovur answer --blocks 2048 --hex < initiator.hex";
+
+pub(crate) const SERVE: &str =
+    "Warning: there is no authentication. Anyone who can reach the port can read and write the disk.\n\
+    \n\
+    A disk in memory needs a size, and so does --create. An existing image has its own size.\n\
+    'listening' is printed once initiators can connect. The disk is unit 0 (LUN 0) of the target.\n\
+    \n\
+    Examples:\n  \
+    ./lanthovur serve --size 32M\n      \
+    Serve 32 MiB of memory. For QEMU it is iscsi://127.0.0.1:3260/iqn.2026-01.example:disk/0\n  \
+    ./lanthovur serve --file disk.img --create --size 1G\n      \
+    Create the image disk.img of 1 GiB, and serve it\n  \
+    ./lanthovur serve --file disk.img --at-once 8 --listen 0.0.0.0\n      \
+    Serve the image again, on all IPv4 addresses, to up to 8 sessions at a time";
+
+pub(crate) const LOOP: &str =
+    "Each line of the script is a command, such as 'write 0 8 5a' or 'read 0 1'. All commands stand in\n\
+    docs/FORMATS.md, section 11.\n\
+    \n\
+    Example:\n  \
+    printf 'write 0 8 5a\\nread 0 1\\nlogout\\n' | ./lanthovur loop --size 1M --piece 48";
