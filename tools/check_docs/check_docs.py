@@ -13,7 +13,8 @@ It looks at:
   against the code in the gate (rt ci takes no link in the place of a file);
 - the figures of docs/TRUST.md: they are those that tools/reach counts;
 - wrong bodies, in the gate and beside it: each old text stands in its file once;
-- src/asserts.rt of the test crates: what several of them have is one text.
+- src/asserts.rt of the test crates: what several of them have is one text;
+- other helpers that stand in several test crates: each is one text, wherever it stands.
 
 Each fault is a line. The last line is 'N looked at, M not so'; the status is 1 where M is not 0.
 """
@@ -274,6 +275,43 @@ def check_asserts():
             look(part == known[1], path.relative_to(TOP), f"{key} is not as in {known[0].relative_to(TOP)}")
 
 
+# Helpers that stand in several test crates, since no library may hold a function that can end the process, and the files.
+TOP_FILES = {name: f"{name}_tests/src/tests.rt" for name in (
+    "scsi_cdb", "scsi_disk", "scsi_file", "iscsi_text", "iscsi_pdu", "iscsi_login", "iscsi_initiator", "iscsi_pair",
+)}
+DIALOGUES = [f"{name}_tests/src/tests/dialogues.rt" for name in ("iscsi_initiator", "iscsi_target")]
+REQUESTS = [TOP_FILES["iscsi_initiator"], "iscsi_pair_tests/src/tests/scripts.rt"]
+DISKS = [TOP_FILES["scsi_disk"], DIALOGUES[1]]
+REPEATED = {
+    "same": ["iscsi_stream_tests/src/asserts.rt", *(TOP_FILES[name] for name in (
+        "scsi_cdb", "scsi_disk", "scsi_file", "iscsi_text", "iscsi_pdu", "iscsi_login",
+    ))],
+    "block": [TOP_FILES["scsi_cdb"], TOP_FILES["scsi_disk"]],
+    "text_of": [TOP_FILES["iscsi_login"], "iscsi_text_tests/src/tests/text.rt"],
+    "standard_offers": [TOP_FILES["iscsi_login"], TOP_FILES["iscsi_initiator"], TOP_FILES["iscsi_pair"]],
+    "Sent": DIALOGUES,
+    "sent_nothing": DIALOGUES,
+    "check_fill": DISKS,
+    "check_block": DISKS,
+    **{name: REQUESTS for name in ("request_of", "head_of", "in_of", "out_of", "data_of")},
+}
+
+
+def item_of(text, name):
+    """A function or a struct with what is said of it, whoever may use it, or nothing."""
+    found = re.search(rf"^((?://[^\n]*\n|#\[[^\n]*\n)*)(?:pub(?:\(\w+\))? )?((?:fn|struct) {name}\b.*?^\}}$)", text, re.M | re.S)
+    return found and found[1] + found[2]
+
+
+def check_repeated():
+    """Each of these helpers is one text."""
+    for name, paths in REPEATED.items():
+        first = item_of(read(CRATES / paths[0]), name)
+        for path in paths:
+            item = item_of(read(CRATES / path), name)
+            look(item is not None and item == first, path, f"{name} is not as in {paths[0]}")
+
+
 def main():
     pages = [TOP / "README.md", TOP / "CONTRIBUTING.md"]
     for pattern in ("docs/**/*.md", "crates/*/README.md", "crates/*/proofs/README.md", "tools/**/*.md"):
@@ -288,6 +326,7 @@ def main():
     check_figures()
     check_edits()
     check_asserts()
+    check_repeated()
     for fault in faults:
         print(fault)
     print(f"{looked_at} looked at, {len(faults)} not so")

@@ -102,6 +102,8 @@ LOOP = ["loop", "--blocks", "2048", "--piece", "48"]
 ANSWER = ["answer", "--blocks", "8"]
 ROWS = [
     Row("no words, no input", [], b"", b"\n"),
+    Row("a stream of no PDU", ["normalise"]),
+    Row("an empty text", ["normalise", "--text"]),
     Row("no words", [], PING.hex().encode(), CANONICAL.hex().encode() + b"\n"),
     Row("a canonical stream", ["normalise"], PING + PING, CANONICAL + CANONICAL),
     Row("a line of each PDU", ["show"], PING, LINE),

@@ -1,6 +1,11 @@
 #!/usr/bin/env python3
 """Refuses each allocation of the built program in turn, and looks at what it answers and has written then.
 
+    tools/refused_memory/sweep.py [PROGRAM]
+
+PROGRAM is crates/lanthovur/out/lanthovur if none is named; `./lanthovur </dev/null` builds it. One that was built
+without proofs serves, too: `./lanthovur --unproved </dev/null` leaves it in crates/lanthovur/out/unproved.
+
 Each run ends as with ample memory, or with status 3, the line `memory`, and less than the output that is due: whole
 PDUs or lines, of `answer` all answers to some first PDUs and to some first tasks of the next one, with `--hex` their
 digits without a line end, and nothing of a line of hex else or a text. The whole output is there with that line only where nothing is due to the last PDUs, or where none is
@@ -164,7 +169,7 @@ def rows_of(path, name, row):
 
 def constants(path):
     """The text of each constant of a test that is one string, by its name."""
-    return dict(re.findall(rf"^const (\w+): &[^=]*=\s*b?{STRING};", open(f"{TOP}/crates/{path}").read(), re.M | re.S))
+    return dict(re.findall(rf"^(?:pub\(crate\) )?const (\w+): &[^=]*=\s*b?{STRING};", open(f"{TOP}/crates/{path}").read(), re.M | re.S))
 
 
 def scripts():
@@ -198,6 +203,8 @@ def pdu(line):
     if line.startswith("@"):
         line = named_lines()[line[1:]]
     header, segment = bytes.fromhex(line[:107]), line[107:].strip()
+    if segment == "@":
+        segment = f"'{constants('iscsi_examples/src/logins.rt')['OPERATIONAL']}"
     if segment.startswith("'"):
         text, _, more = segment[1:].partition("+")
         keys = "".join(f"K{number:03}=1|" for number in range(int(more or 0)))
@@ -410,7 +417,11 @@ def comparisons(session):
     return failed
 
 
-def main():
+def main(words):
+    """Sweeps the program that is named, or else the proved one."""
+    global PROGRAM
+    if words:
+        PROGRAM = os.path.abspath(words[0])
     if not os.path.isfile(PROGRAM):
         sys.exit(f"there is no program {PROGRAM}: `./lanthovur </dev/null` builds it")
     source = f"{TOP}/tools/refused_memory/refuse.c"
@@ -454,4 +465,4 @@ def main():
 
 
 if __name__ == "__main__":
-    sys.exit(main() != 0)
+    sys.exit(main(sys.argv[1:]) != 0)

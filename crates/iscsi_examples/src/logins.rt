@@ -9,6 +9,22 @@ const LOGIN: &str =
 const ANSWER: &str =
     "23810000 00000027 40000001 00000000 00000000 00000000 00000001 00000001 00000008 00000000 00000000 00000000 'AuthMethod=None|TargetPortalGroupTag=1|";
 
+/// The answer of a target that takes one command at a time: `@narrow`.
+const NARROW: &str =
+    "23810000 00000027 40000001 00000000 00000000 00000000 00000001 00000001 00000001 00000000 00000000 00000000 'AuthMethod=None|TargetPortalGroupTag=1|";
+
+/// The second request of that login, by the initiator of the programs: `@offer`.
+const OFFER: &str =
+    "43870000 0000011b 40000001 00000000 00000000 00000000 00000001 00000002 00000000 00000000 00000000 00000000 @";
+
+/// A second request with few keys: `@few`.
+const FEW: &str =
+    "43870000 0000006e 40000001 00000000 00000000 00000000 00000001 00000002 00000000 00000000 00000000 00000000 'HeaderDigest=CRC32C,None|IFMarker=No|InitialR2T=No|MaxBurstLength=1024|MaxRecvDataSegmentLength=4096|X-test=1|";
+
+/// The answer to that request, by the target of the programs: `@settled`.
+const SETTLED: &str =
+    "23870000 00000073 40000001 00000001 00000000 00000000 00000002 00000001 00000008 00000000 00000000 00000000 'HeaderDigest=None|IFMarker=No|InitialR2T=No|MaxBurstLength=1024|MaxRecvDataSegmentLength=8192|X-test=NotUnderstood|";
+
 /// The only request of a login in one stage: `@short`.
 const SHORT: &str =
     "43870000 0000006e 40000001 00000000 00000000 00000000 00000001 00000000 00000000 00000000 00000000 00000000 'AuthMethod=None|InitiatorName=iqn.2026-01.example:host|SessionType=Normal|TargetName=iqn.2026-01.example:disk|";
@@ -22,6 +38,10 @@ pub(crate) fn named(name: &str) -> Option<&'static str> {
     match name {
         "login" => Some(LOGIN),
         "answer" => Some(ANSWER),
+        "narrow" => Some(NARROW),
+        "offer" => Some(OFFER),
+        "few" => Some(FEW),
+        "settled" => Some(SETTLED),
         "short" => Some(SHORT),
         _ => None,
     }

@@ -8,9 +8,9 @@
 /// One with `!` is what the initiator is asked to do before the PDUs behind it. Headers are worked
 /// out by hand from the tables of RFC 7143, section 11.
 pub const SESSION: &str = "! start\n\
-    I> 43810000 0000006e 40000001 00000000 00000000 00000000 00000001 00000000 00000000 00000000 00000000 00000000 'AuthMethod=None|InitiatorName=iqn.2026-01.example:host|SessionType=Normal|TargetName=iqn.2026-01.example:disk|\n\
-    T> 23810000 00000027 40000001 00000000 00000000 00000000 00000001 00000001 00000008 00000000 00000000 00000000 'AuthMethod=None|TargetPortalGroupTag=1|\n\
-    I> 43870000 0000011b 40000001 00000000 00000000 00000000 00000001 00000002 00000000 00000000 00000000 00000000 'DataDigest=None|DataPDUInOrder=Yes|DataSequenceInOrder=Yes|DefaultTime2Retain=20|DefaultTime2Wait=2|ErrorRecoveryLevel=0|FirstBurstLength=65536|HeaderDigest=None|ImmediateData=Yes|InitialR2T=No|MaxBurstLength=262144|MaxConnections=1|MaxOutstandingR2T=1|MaxRecvDataSegmentLength=8192|\n\
+    I> @login\n\
+    T> @answer\n\
+    I> @offer\n\
     T> 23870000 00000117 40000001 00000001 00000000 00000000 00000002 00000001 00000008 00000000 00000000 00000000 'DataDigest=None|DataPDUInOrder=Yes|DataSequenceInOrder=Yes|DefaultTime2Retain=20|DefaultTime2Wait=2|ErrorRecoveryLevel=0|FirstBurstLength=1024|HeaderDigest=None|ImmediateData=Yes|InitialR2T=No|MaxBurstLength=1024|MaxConnections=1|MaxOutstandingR2T=1|MaxRecvDataSegmentLength=512|\n\
     ! ping 'abc\n\
     I> 00800000 00000003 00000000 00000000 00000001 ffffffff 00000001 00000003 00000000 00000000 00000000 00000000 'abc\n\

@@ -47,8 +47,11 @@ impl Turn {
         Ok(())
     }
 
-    /// Whether it has no call and no bytes.
+    /// Whether it took no line: it has no call, no bytes, and no number of blocks.
     pub fn is_empty(&self) -> bool {
-        self.call.is_empty() && self.initiator.is_empty() && self.target.is_empty()
+        self.call.is_empty()
+            && self.initiator.is_empty()
+            && self.target.is_empty()
+            && self.written.is_none()
     }
 }

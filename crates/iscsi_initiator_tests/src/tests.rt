@@ -1,6 +1,5 @@
 //! An initiator by example.
 
-use crate::asserts::same;
 use hex::FromHex;
 use iscsi_examples::segment_of;
 use iscsi_initiator::{Config, Initiator, InitiatorFault, Request};
@@ -17,16 +16,36 @@ mod preludes;
 mod requests;
 mod words;
 
-/// The set-ups of dialogues, as `offers_of`, `numbers_of` and `config_of` know them.
-const SETUPS: &[&str] = &[
-    "standard",
-    "single",
-    "segments",
-    "short",
-    "discovery",
-    "captured",
-    "wrapping",
-];
+/// What differs from the initiator of the standard preferences, which logs in in two stages.
+#[derive(Clone, Copy, PartialEq, Eq)]
+enum Setup {
+    Standard,
+    /// It begins in the operational stage.
+    Single,
+    /// Login Requests of at most 64 bytes of text.
+    Segments,
+    /// It takes segments of at most 512 bytes.
+    Short,
+    Discovery,
+    /// The names, the numbers and the one stage of the capture.
+    Captured,
+    /// The first CmdSN is the last one.
+    Wrapping,
+}
+
+// The set-up that a dialogue names.
+fn setup_of(rt: &impl Abort, name: &str) -> Setup {
+    match name {
+        "standard" => Setup::Standard,
+        "single" => Setup::Single,
+        "segments" => Setup::Segments,
+        "short" => Setup::Short,
+        "discovery" => Setup::Discovery,
+        "captured" => Setup::Captured,
+        "wrapping" => Setup::Wrapping,
+        _ => panic!(rt; "no such set-up: {name}"),
+    }
+}
 
 // The lines that go before.
 fn lines_before(rt: &impl Abort, before: &str) -> &'static str {
@@ -56,45 +75,49 @@ fn standard_offers() -> Offers<'static> {
     }
 }
 
-// What the initiator of a dialogue offers; the names of `captured` are those of the capture.
-fn offers_of(setup: &str) -> Offers<'static> {
+// What the initiator of a dialogue offers.
+fn offers_of(setup: Setup) -> Offers<'static> {
     let mut offers = standard_offers();
     match setup {
-        "short" => offers.prefs.max_recv = 512,
-        "discovery" => offers.session = Session::Discovery,
-        "captured" => {
+        Setup::Short => offers.prefs.max_recv = 512,
+        Setup::Discovery => offers.session = Session::Discovery,
+        Setup::Captured => {
             offers.initiator = b"iqn.2001-04.com.example:init";
             offers.target = b"iqn.2001-04.com.example:disk";
         }
-        _ => {}
+        Setup::Standard | Setup::Single | Setup::Segments | Setup::Wrapping => {}
     }
     offers
 }
 
-// The ISID and the first CmdSN of a dialogue; those of `captured` are the capture's.
-fn numbers_of(setup: &str) -> ([u8; 6], u32) {
-    match setup {
-        "captured" => ([0x80, 0xb5, 0x4c, 0xcd, 0, 0], 0x4aaf_3723),
-        "wrapping" => ([0x40, 0, 0, 1, 0, 0], 0xffff_ffff),
-        _ => ([0x40, 0, 0, 1, 0, 0], 1),
+// The ISID and the first CmdSN of a dialogue.
+fn numbers_of(setup: Setup) -> ([u8; 6], u32) {
+    if setup == Setup::Captured {
+        return ([0x80, 0xb5, 0x4c, 0xcd, 0, 0], 0x4aaf_3723);
     }
+    let first = if setup == Setup::Wrapping {
+        0xffff_ffff
+    } else {
+        1
+    };
+    ([0x40, 0, 0, 1, 0, 0], first)
 }
 
 // The configuration of a dialogue.
-fn config_of(alloc: Global, setup: &str) -> Result<Config, ConfigFault> {
-    let (start, segment) = match setup {
-        "single" | "captured" => (Stage::Operational, 8192),
-        "segments" => (Stage::Security, 64),
-        _ => (Stage::Security, 8192),
+fn config_of(alloc: Global, setup: Setup) -> Result<Config, ConfigFault> {
+    let start = if setup == Setup::Single || setup == Setup::Captured {
+        Stage::Operational
+    } else {
+        Stage::Security
     };
+    let segment = if setup == Setup::Segments { 64 } else { 8192 };
     let (isid, first_cmd_sn) = numbers_of(setup);
     Config::new(alloc, offers_of(setup), start, isid, first_cmd_sn, segment)
 }
 
 // The initiator of a dialogue. It stands in a box: a function that owns it is then proved much sooner.
-fn initiator_of(rt: &impl Abort, alloc: Global, setup: &str) -> Box<Initiator> {
-    same(rt, &SETUPS.contains(&setup), &true, &setup);
-    let config = config_of(alloc, setup).expect(rt, setup);
+fn initiator_of(rt: &impl Abort, alloc: Global, setup: Setup) -> Box<Initiator> {
+    let config = config_of(alloc, setup).expect(rt, "a configuration");
     Box::new(alloc, Initiator::new(alloc, config)).expect(rt, "an initiator")
 }
 
@@ -103,7 +126,7 @@ fn data_of(rt: &impl Abort, alloc: Global, segment: &str) -> Bytes {
     Bytes::from_vec(segment_of(alloc, segment).expect(rt, segment))
 }
 
-// The request of a line of a dialogue.
+// The request of a line.
 fn request_of(rt: &impl Abort, alloc: Global, line: &str) -> Request {
     let (kind, rest) = line.split_once(' ').unwrap_or((line, ""));
     match kind {

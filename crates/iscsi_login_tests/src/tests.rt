@@ -10,8 +10,8 @@ use std::alloc::{AllocError, Global};
 use std::fmt::Debug;
 use std::process::Abort;
 
-// Those of the worked login.
-fn normal_offers() -> Offers<'static> {
+// The login of a normal session without a password.
+fn standard_offers() -> Offers<'static> {
     Offers {
         initiator: b"iqn.2026-01.example:host",
         target: b"iqn.2026-01.example:disk",
@@ -21,7 +21,7 @@ fn normal_offers() -> Offers<'static> {
     }
 }
 
-// Asserts that a value is the one that is due, in a row of which this tells.
+/// Asserts that a value is the one that is due, in a row of which this tells.
 fn same<T: PartialEq + Debug>(rt: &impl Abort, value: &T, due: &T, row: &impl Debug) {
     assert_eq!(rt; *value, *due, "{row:?}");
 }
@@ -305,8 +305,8 @@ const SESSIONS: &[(Session, u32, u32)] = &[
 // The operational text of the worked login, written again where memory ran out.
 fn operational_of(rt: &impl Abort, alloc: Global) -> Vec<u8> {
     let mut out = Vec::new(alloc);
-    if normal_offers().operational_text(&mut out).is_err() {
-        let again = normal_offers().operational_text(&mut out);
+    if standard_offers().operational_text(&mut out).is_err() {
+        let again = standard_offers().operational_text(&mut out);
         again.expect(rt, "memory is there again");
     }
     out
@@ -467,7 +467,7 @@ const OPERATIONAL_ANSWERS: &[(&[u8], Option<&[u8]>)] = &[
 
 // The answer is refused for this key; one that is taken is held.
 fn judge(rt: &impl Abort, start: Stage, stage: Stage, answer: &Text, want: Option<&[u8]>) {
-    let offers = normal_offers();
+    let offers = standard_offers();
     let key = offers.bad_key(start, stage, answer);
     same(rt, &key, &want, &(start, stage));
     if key.is_none() {
@@ -519,7 +519,7 @@ fn check_point(rt: &impl Abort, out: &[u8], row: &impl Debug) {
 }
 
 fn check_stage(rt: &impl Abort, alloc: Global, start: Stage, stage: Stage, want: &[u8]) {
-    let offers = normal_offers();
+    let offers = standard_offers();
     let mut out = point_of(rt, alloc);
     if offers.write_text(start, stage, &mut out).is_err() {
         check_point(rt, &out, &(start, stage));
@@ -549,8 +549,8 @@ fn check_security(rt: &impl Abort, alloc: Global, offers: &Offers, want: &[u8]) 
 
 fn single_of(rt: &impl Abort, alloc: Global) -> Vec<u8> {
     let mut out = Vec::new(alloc);
-    if normal_offers().single_text(&mut out).is_err() {
-        let again = normal_offers().single_text(&mut out);
+    if standard_offers().single_text(&mut out).is_err() {
+        let again = standard_offers().single_text(&mut out);
         again.expect(rt, "memory is there again");
     }
     out
@@ -561,7 +561,7 @@ const DISCOVERY: &[u8] =
 
 // Those of a discovery session that may ask for a password.
 fn discovery_offers() -> Offers<'static> {
-    let mut offers = normal_offers();
+    let mut offers = standard_offers();
     offers.session = Session::Discovery;
     offers.auth = Auth::ChapOrNone;
     offers
@@ -569,7 +569,7 @@ fn discovery_offers() -> Offers<'static> {
 
 #[test]
 fn security_texts(rt: HostRuntime) {
-    check_security(&rt, rt.alloc(), &normal_offers(), SECURITY);
+    check_security(&rt, rt.alloc(), &standard_offers(), SECURITY);
     check_security(&rt, rt.alloc(), &discovery_offers(), DISCOVERY);
 }
 

@@ -293,11 +293,20 @@ fn check_line(rt: &impl Abort, alloc: Global, fault: &ToolFault, line: &str) {
     same(rt, &said.as_str(), &line, &line);
 }
 
+// The same fault in the first PDU.
+fn at_start(fault: StreamFault) -> StreamFault {
+    match fault {
+        StreamFault::Head(fault, _) => StreamFault::Head(fault, 0),
+        StreamFault::Truncated(_) => StreamFault::Truncated(0),
+        fault => fault,
+    }
+}
+
 // The same alone.
-fn check_alone(rt: &impl Abort, alloc: Global, rest: &[u8], line: &str) {
+fn check_alone(rt: &impl Abort, alloc: Global, rest: &[u8], fault: StreamFault, line: &str) {
     let mut out = Vec::new(alloc);
     let result = run(alloc, NORMALISE_HEX, rest, &mut out);
-    same(rt, &result.is_err(), &true, &line);
+    same(rt, &result, &Err(ToolFault::Stream(at_start(fault))), &line);
     same(rt, &out.as_slice(), &b"\n".as_slice(), &line);
 }
 
@@ -305,7 +314,7 @@ fn check_alone(rt: &impl Abort, alloc: Global, rest: &[u8], line: &str) {
 fn faults_behind_a_pdu(rt: HostRuntime) {
     for (rest, fault, line) in BAD_STREAMS {
         check_behind(&rt, rt.alloc(), rest, ToolFault::Stream(*fault), line);
-        check_alone(&rt, rt.alloc(), rest, line);
+        check_alone(&rt, rt.alloc(), rest, *fault, line);
     }
 }
 

@@ -14,7 +14,7 @@ fn same<T: PartialEq + Debug>(rt: &impl Abort, value: &T, due: &T, row: &impl De
     assert_eq!(rt; *value, *due, "{row:?}");
 }
 
-/// The block of which these are the words.
+/// The descriptor block of which these are the words.
 fn block(words: [u32; 4]) -> [u8; 16] {
     let mut bytes = [0; 16];
     for (i, word) in words.iter().enumerate() {

@@ -939,15 +939,14 @@ fn outcomes_of_read_blocks(rt: HostRuntime) {
     let sense = Some(Sense::ReadError);
     check_outcome(&rt, "failed", &failed, sense, b"", Residual::Under(8192));
     let refused = failed_read(rt.alloc(), &order, StoreFault::NoMemory);
-    same(&rt, &refused.is_err(), &true, &"out of memory");
+    same(&rt, &refused.err(), &Some(AllocError), &"out of memory");
 }
 
 /// Asserts that a block is of one byte alone.
 fn check_block<S: BlockStore>(rt: &impl Abort, store: &mut S, lba: u64, want: u8) {
     assert!(rt; lba < store.blocks());
     let mut block = [0xff; 512];
-    let read = store.read(lba, &mut block);
-    same(rt, &read.is_ok(), &true, &lba);
+    same(rt, &store.read(lba, &mut block), &Ok(()), &lba);
     check_fill(rt, &block, want, &lba);
 }
 

@@ -13,7 +13,7 @@ use super::logins::LOGINS;
 use super::preludes::BURSTS;
 use super::requests::REQUESTS;
 use super::words::{answer_of, outcome_of, phase_of, place_of, submit_of};
-use super::{feed_pieces, initiator_of, lines_before, request_of};
+use super::{Setup, feed_pieces, initiator_of, lines_before, request_of, setup_of};
 use crate::asserts::same;
 use iscsi_examples::{SESSION, Turn, append_pdu};
 use iscsi_initiator::{Initiator, InitiatorFault};
@@ -140,8 +140,9 @@ fn check_dialogue(rt: &impl Abort, alloc: Global, dialogue: &str) {
     let (first, lines) = dialogue.split_once('\n').expect(rt, dialogue);
     let (setup, rest) = first.split_once(", ").expect(rt, first);
     let (before, name) = rest.split_once(": ").expect(rt, first);
+    same(rt, &lines.is_empty(), &false, &name);
     for len in [1usize, 47, 48, 100_000] {
-        let mut initiator = initiator_of(rt, alloc, setup);
+        let mut initiator = initiator_of(rt, alloc, setup_of(rt, setup));
         check(
             rt,
             alloc,
@@ -195,14 +196,14 @@ fn check_held(
 /// Before the login the defaults stand.
 #[test]
 fn held_before_the_login(rt: HostRuntime) {
-    let initiator = initiator_of(&rt, rt.alloc(), "short");
+    let initiator = initiator_of(&rt, rt.alloc(), Setup::Short);
     check_held(&rt, &initiator, BEFORE, (512, 8192));
 }
 
 /// What is agreed is what the target answered.
 #[test]
 fn held_after_the_login(rt: HostRuntime) {
-    let mut initiator = initiator_of(&rt, rt.alloc(), "standard");
+    let mut initiator = initiator_of(&rt, rt.alloc(), Setup::Standard);
     check(&rt, rt.alloc(), "login", 48, &mut initiator, BURSTS);
     check_held(&rt, &initiator, AFTER, (8192, 512));
 }
@@ -214,8 +215,11 @@ fn call(rt: &impl Abort, alloc: Global, initiator: &mut Initiator, call: &str, o
         return;
     }
     initiator.outcome();
-    let result = initiator.submit(request_of(rt, alloc, call), out);
-    same(rt, &result.is_ok(), &true, &call);
+    let fault = match initiator.submit(request_of(rt, alloc, call), out) {
+        Ok(()) => None,
+        Err(refused) => Some(refused.fault),
+    };
+    same(rt, &fault, &None, &call);
 }
 
 // Feeds the PDU of a line.
@@ -263,7 +267,7 @@ fn sent_nothing(alloc: Global) -> Sent {
 /// The initiator's part of the session of both ends, a PDU at a time.
 #[test]
 fn a_session_of_both_ends(rt: HostRuntime) {
-    let mut initiator = initiator_of(&rt, rt.alloc(), "standard");
+    let mut initiator = initiator_of(&rt, rt.alloc(), Setup::Standard);
     let mut sent = sent_nothing(rt.alloc());
     for line in SESSION.lines() {
         play_line(&rt, rt.alloc(), &mut initiator, line, &mut sent);

@@ -9,7 +9,7 @@ pub const LOGINS: &str = "# standard, nothing: from the security stage\n\
     = ok\n\
     ? login, security\n\
     T> @answer\n\
-    I> 43870000 0000011b 40000001 00000000 00000000 00000000 00000001 00000002 00000000 00000000 00000000 00000000 @\n\
+    I> @offer\n\
     = login\n\
     ? login, operational\n\
     T> 23870000 0000011b 40000001 00000001 00000000 00000000 00000002 00000001 00000008 00000000 00000000 00000000 @\n\
@@ -166,7 +166,7 @@ pub const LOGINS: &str = "# standard, nothing: from the security stage\n\
     ! start\n\
     I> 43400000 00000040 40000001 00000000 00000000 00000000 00000001 00000000 00000000 00000000 00000000 00000000 'AuthMethod=None|InitiatorName=iqn.2026-01.example:host|SessionTy\n\
     = ok\n\
-    T> 23810000 00000027 40000001 00000000 00000000 00000000 00000001 00000001 00000001 00000000 00000000 00000000 'AuthMethod=None|TargetPortalGroupTag=1|\n\
+    T> @narrow\n\
     = failed, protocol: rule 7\n\
     # segments, nothing: data amid a text\n\
     ! start\n\
@@ -178,7 +178,7 @@ pub const LOGINS: &str = "# standard, nothing: from the security stage\n\
     T> 23870000 0000000e 40000001 00000001 00000000 00000000 00000002 00000001 00000001 00000000 00000000 00000000 'MaxBurstLength\n\
     = failed, protocol: rule 4\n\
     # standard, nothing: bytes before the start\n\
-    T> 23810000 00000027 40000001 00000000 00000000 00000000 00000001 00000001 00000001 00000000 00000000 00000000 'AuthMethod=None|TargetPortalGroupTag=1|\n\
+    T> @narrow\n\
     = failed, protocol: rule 1\n\
     ? closed, security\n\
     ! start\n\
@@ -222,15 +222,15 @@ pub const LOGINS: &str = "# standard, nothing: from the security stage\n\
     = not ready\n\
     ! outcome\n\
     = none\n\
-    T> 23810000 00000027 40000001 00000000 00000000 00000000 00000001 00000001 00000001 00000000 00000000 00000000 'AuthMethod=None|TargetPortalGroupTag=1|\n\
-    I> 43870000 0000011b 40000001 00000000 00000000 00000000 00000001 00000002 00000000 00000000 00000000 00000000 @\n\
+    T> @narrow\n\
+    I> @offer\n\
     = login\n\
     # discovery, nothing: discovery\n\
     ! start\n\
     I> 43810000 0000004d 40000001 00000000 00000000 00000000 00000001 00000000 00000000 00000000 00000000 00000000 'AuthMethod=None|InitiatorName=iqn.2026-01.example:host|SessionType=Discovery|\n\
     = ok\n\
     T> 23810000 00000010 40000001 00000000 00000000 00000000 00000001 00000001 00000001 00000000 00000000 00000000 'AuthMethod=None|\n\
-    I> 43870000 0000011b 40000001 00000000 00000000 00000000 00000001 00000002 00000000 00000000 00000000 00000000 @\n\
+    I> @offer\n\
     = login\n\
     T> 23870000 0000016d 40000001 00000001 00000000 00000000 00000002 00000001 00000001 00000000 00000000 00000000 'DataDigest=None|DataPDUInOrder=Irrelevant|DataSequenceInOrder=Irrelevant|DefaultTime2Retain=Irrelevant|DefaultTime2Wait=Irrelevant|ErrorRecoveryLevel=Irrelevant|FirstBurstLength=Irrelevant|HeaderDigest=None|ImmediateData=Irrelevant|InitialR2T=Irrelevant|MaxBurstLength=Irrelevant|MaxConnections=Irrelevant|MaxOutstandingR2T=Irrelevant|MaxRecvDataSegmentLength=8192|\n\
     = full\n\

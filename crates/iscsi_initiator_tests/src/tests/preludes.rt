@@ -5,16 +5,16 @@
 pub const BEGUN: &str = "! start\n\
     I> @login\n\
     = ok\n\
-    T> 23810000 00000027 40000001 00000000 00000000 00000000 00000001 00000001 00000001 00000000 00000000 00000000 'AuthMethod=None|TargetPortalGroupTag=1|\n\
-    I> 43870000 0000011b 40000001 00000000 00000000 00000000 00000001 00000002 00000000 00000000 00000000 00000000 @\n\
+    T> @narrow\n\
+    I> @offer\n\
     = login";
 
 /// A login of the standard preferences.
 pub const LOGIN: &str = "! start\n\
     I> @login\n\
     = ok\n\
-    T> 23810000 00000027 40000001 00000000 00000000 00000000 00000001 00000001 00000001 00000000 00000000 00000000 'AuthMethod=None|TargetPortalGroupTag=1|\n\
-    I> 43870000 0000011b 40000001 00000000 00000000 00000000 00000001 00000002 00000000 00000000 00000000 00000000 @\n\
+    T> @narrow\n\
+    I> @offer\n\
     = login\n\
     T> 23870000 0000011b 40000001 00000001 00000000 00000000 00000002 00000001 00000001 00000000 00000000 00000000 @\n\
     = full";
@@ -23,8 +23,8 @@ pub const LOGIN: &str = "! start\n\
 pub const BURSTS: &str = "! start\n\
     I> @login\n\
     = ok\n\
-    T> 23810000 00000027 40000001 00000000 00000000 00000000 00000001 00000001 00000001 00000000 00000000 00000000 'AuthMethod=None|TargetPortalGroupTag=1|\n\
-    I> 43870000 0000011b 40000001 00000000 00000000 00000000 00000001 00000002 00000000 00000000 00000000 00000000 @\n\
+    T> @narrow\n\
+    I> @offer\n\
     = login\n\
     T> 23870000 00000117 40000001 00000001 00000000 00000000 00000002 00000001 00000001 00000000 00000000 00000000 'DataDigest=None|DataPDUInOrder=Yes|DataSequenceInOrder=Yes|DefaultTime2Retain=20|DefaultTime2Wait=2|ErrorRecoveryLevel=0|FirstBurstLength=1024|HeaderDigest=None|ImmediateData=Yes|InitialR2T=No|MaxBurstLength=1024|MaxConnections=1|MaxOutstandingR2T=1|MaxRecvDataSegmentLength=512|\n\
     = full";
@@ -33,8 +33,8 @@ pub const BURSTS: &str = "! start\n\
 pub const ASKED: &str = "! start\n\
     I> @login\n\
     = ok\n\
-    T> 23810000 00000027 40000001 00000000 00000000 00000000 00000001 00000001 00000001 00000000 00000000 00000000 'AuthMethod=None|TargetPortalGroupTag=1|\n\
-    I> 43870000 0000011b 40000001 00000000 00000000 00000000 00000001 00000002 00000000 00000000 00000000 00000000 @\n\
+    T> @narrow\n\
+    I> @offer\n\
     = login\n\
     T> 23870000 00000117 40000001 00000001 00000000 00000000 00000002 00000001 00000001 00000000 00000000 00000000 'DataDigest=None|DataPDUInOrder=Yes|DataSequenceInOrder=Yes|DefaultTime2Retain=20|DefaultTime2Wait=2|ErrorRecoveryLevel=0|FirstBurstLength=1024|HeaderDigest=None|ImmediateData=No|InitialR2T=Yes|MaxBurstLength=1024|MaxConnections=1|MaxOutstandingR2T=1|MaxRecvDataSegmentLength=512|\n\
     = full";
@@ -43,8 +43,8 @@ pub const ASKED: &str = "! start\n\
 pub const IMMEDIATE: &str = "! start\n\
     I> @login\n\
     = ok\n\
-    T> 23810000 00000027 40000001 00000000 00000000 00000000 00000001 00000001 00000001 00000000 00000000 00000000 'AuthMethod=None|TargetPortalGroupTag=1|\n\
-    I> 43870000 0000011b 40000001 00000000 00000000 00000000 00000001 00000002 00000000 00000000 00000000 00000000 @\n\
+    T> @narrow\n\
+    I> @offer\n\
     = login\n\
     T> 23870000 00000118 40000001 00000001 00000000 00000000 00000002 00000001 00000001 00000000 00000000 00000000 'DataDigest=None|DataPDUInOrder=Yes|DataSequenceInOrder=Yes|DefaultTime2Retain=20|DefaultTime2Wait=2|ErrorRecoveryLevel=0|FirstBurstLength=1024|HeaderDigest=None|ImmediateData=Yes|InitialR2T=Yes|MaxBurstLength=1024|MaxConnections=1|MaxOutstandingR2T=1|MaxRecvDataSegmentLength=512|\n\
     = full";
@@ -53,8 +53,8 @@ pub const IMMEDIATE: &str = "! start\n\
 pub const UNSOLICITED: &str = "! start\n\
     I> @login\n\
     = ok\n\
-    T> 23810000 00000027 40000001 00000000 00000000 00000000 00000001 00000001 00000001 00000000 00000000 00000000 'AuthMethod=None|TargetPortalGroupTag=1|\n\
-    I> 43870000 0000011b 40000001 00000000 00000000 00000000 00000001 00000002 00000000 00000000 00000000 00000000 @\n\
+    T> @narrow\n\
+    I> @offer\n\
     = login\n\
     T> 23870000 00000116 40000001 00000001 00000000 00000000 00000002 00000001 00000001 00000000 00000000 00000000 'DataDigest=None|DataPDUInOrder=Yes|DataSequenceInOrder=Yes|DefaultTime2Retain=20|DefaultTime2Wait=2|ErrorRecoveryLevel=0|FirstBurstLength=1024|HeaderDigest=None|ImmediateData=No|InitialR2T=No|MaxBurstLength=1024|MaxConnections=1|MaxOutstandingR2T=1|MaxRecvDataSegmentLength=512|\n\
     = full";
@@ -64,7 +64,7 @@ pub const SHUT: &str = "! start\n\
     I> @login\n\
     = ok\n\
     T> 23810000 00000027 40000001 00000000 00000000 00000000 00000001 00000001 00000000 00000000 00000000 00000000 'AuthMethod=None|TargetPortalGroupTag=1|\n\
-    I> 43870000 0000011b 40000001 00000000 00000000 00000000 00000001 00000002 00000000 00000000 00000000 00000000 @\n\
+    I> @offer\n\
     = login\n\
     T> 23870000 0000011b 40000001 00000001 00000000 00000000 00000002 00000001 00000000 00000000 00000000 00000000 @\n\
     = full";
@@ -83,7 +83,7 @@ pub const WRAPPING: &str = "! start\n\
 pub const SHORT: &str = "! start\n\
     I> @login\n\
     = ok\n\
-    T> 23810000 00000027 40000001 00000000 00000000 00000000 00000001 00000001 00000001 00000000 00000000 00000000 'AuthMethod=None|TargetPortalGroupTag=1|\n\
+    T> @narrow\n\
     I> 43870000 0000011a 40000001 00000000 00000000 00000000 00000001 00000002 00000000 00000000 00000000 00000000 'DataDigest=None|DataPDUInOrder=Yes|DataSequenceInOrder=Yes|DefaultTime2Retain=20|DefaultTime2Wait=2|ErrorRecoveryLevel=0|FirstBurstLength=65536|HeaderDigest=None|ImmediateData=Yes|InitialR2T=No|MaxBurstLength=262144|MaxConnections=1|MaxOutstandingR2T=1|MaxRecvDataSegmentLength=512|\n\
     = login\n\
     T> 23870000 0000011b 40000001 00000001 00000000 00000000 00000002 00000001 00000001 00000000 00000000 00000000 @\n\

@@ -2,7 +2,7 @@
 
 use super::{Schedule, Setup, deliver, logins, pair_of, submit};
 use crate::asserts::same;
-use hex::encode;
+use hex::{FromHex, encode};
 use iscsi_examples::segment_of;
 use iscsi_initiator::{Done, Request};
 use iscsi_pair::Pair;
@@ -10,63 +10,54 @@ use scsi_cdb::{Bytes, Residual};
 use std::alloc::Global;
 use std::process::Abort;
 
-/// What is asked, and what comes of it. `in` has the unit, the descriptor block and the bytes expected;
-/// `out` the unit, the block and the bytes. Of a command come the status, the sense, how many bytes
+/// What is asked, and what comes of it. `in` has the unit and the descriptor block in hex and the bytes
+/// expected; `out` the unit, the block and the bytes. Of a command come the status, the sense, how many bytes
 /// and all of them, and the residual; `5a*512` stands for so many of a byte.
 pub(super) const COMMANDS: &str = "\
-out 0 2a000000000000000800 5a*4096 = 0 - 0 - exact
-in 0 28000000000000000100 512 = 0 - 512 5a*512 exact
-in 0 25000000000000000000 8 = 0 - 8 000007ff00000200 exact
-in 0 2800000007ff00000200 1024 = 2 700005000000000a00000000210000000000 0 - under 1024
-in 0 120000000500 5 = 0 - 5 000006121f exact
-in 1 120000002400 36 = 0 - 36 7f0006121f000002564552494449534b4953435349204449534b20202020202030303031 exact
-in 1 000000000000 0 = 2 700005000000000a00000000250000000000 0 - exact
-in 0 a00000000000000000100000 16 = 0 - 16 00000008000000000000000000000000 exact
+out 0000000000000000 2a000000000000000800000000000000 5a*4096 = 0 - 0 - exact
+in 0000000000000000 28000000000000000100000000000000 512 = 0 - 512 5a*512 exact
+in 0000000000000000 25000000000000000000000000000000 8 = 0 - 8 000007ff00000200 exact
+in 0000000000000000 2800000007ff00000200000000000000 1024 = 2 700005000000000a00000000210000000000 0 - under 1024
+in 0000000000000000 12000000050000000000000000000000 5 = 0 - 5 000006121f exact
+in 0001000000000000 12000000240000000000000000000000 36 = 0 - 36 7f0006121f000002564552494449534b4953435349204449534b20202020202030303031 exact
+in 0001000000000000 00000000000000000000000000000000 0 = 2 700005000000000a00000000250000000000 0 - exact
+in 0000000000000000 a0000000000000000010000000000000 16 = 0 - 16 00000008000000000000000000000000 exact
 ping 6162 = ping 6162
-in 0 28000000000000000800 4096 = 0 - 4096 5a*4096 exact
-in 0 28000000080000000100 512 = 2 700005000000000a00000000210000000000 0 - under 512
+in 0000000000000000 28000000000000000800000000000000 4096 = 0 - 4096 5a*4096 exact
+in 0000000000000000 28000000080000000100000000000000 512 = 2 700005000000000a00000000210000000000 0 - under 512
 logout = closed
 ";
 
 /// A write and a read that need R2Ts and several segments.
 pub(super) const BURSTS: &str = "\
-out 0 2a000000000000000800 5a*4096 = 0 - 0 - exact
-in 0 28000000000000000800 4096 = 0 - 4096 5a*4096 exact
+out 0000000000000000 2a000000000000000800000000000000 5a*4096 = 0 - 0 - exact
+in 0000000000000000 28000000000000000800000000000000 4096 = 0 - 4096 5a*4096 exact
 ";
 
-// The descriptor block of hex text, which may lack bytes 00 at its end.
-fn block_of(rt: &impl Abort, alloc: Global, text: &str) -> [u8; 16] {
-    let mut block = [0u8; 16];
-    let bytes = segment_of(alloc, text).expect(rt, text);
-    for (at, byte) in block.iter_mut().zip(bytes) {
-        *at = byte;
-    }
-    block
-}
-
-// The unit and the block that a command begins with, and its last word.
-fn words_of<'a>(rt: &impl Abort, alloc: Global, line: &'a str) -> (u64, [u8; 16], &'a str) {
+// The unit and the block that a command begins with, and what is left of its line.
+fn head_of<'a>(rt: &impl Abort, line: &'a str) -> (u64, [u8; 16], &'a str) {
     let (unit, rest) = line.split_once(' ').expect(rt, "no unit");
     let (block, rest) = rest.split_once(' ').expect(rt, "no block");
-    let unit = unit.parse::<u8>().expect(rt, unit);
-    ((unit as u64) << 48, block_of(rt, alloc, block), rest)
+    let lun = u64::from_str_radix(unit, 16).expect(rt, unit);
+    let cdb = <[u8; 16]>::from_hex(block).expect(rt, block);
+    (lun, cdb, rest)
 }
 
-// A command that reads.
-fn in_of(rt: &impl Abort, alloc: Global, line: &str) -> Request {
-    let (lun, cdb, expected) = words_of(rt, alloc, line);
-    let expected = expected.parse().expect(rt, expected);
+// A command that reads: how many bytes are expected stands behind the block.
+fn in_of(rt: &impl Abort, line: &str) -> Request {
+    let (lun, cdb, expected) = head_of(rt, line);
+    let expected = expected.parse::<u32>().expect(rt, expected);
     Request::In { lun, cdb, expected }
 }
 
-// The bytes of a request.
-fn data_of(rt: &impl Abort, alloc: Global, data: &str) -> Bytes {
-    Bytes::from_vec(segment_of(alloc, data).expect(rt, data))
+// The data of a request.
+fn data_of(rt: &impl Abort, alloc: Global, segment: &str) -> Bytes {
+    Bytes::from_vec(segment_of(alloc, segment).expect(rt, segment))
 }
 
-// A command that writes.
+// A command that writes: the data stand behind the block.
 fn out_of(rt: &impl Abort, alloc: Global, line: &str) -> Request {
-    let (lun, cdb, data) = words_of(rt, alloc, line);
+    let (lun, cdb, data) = head_of(rt, line);
     let bytes = data_of(rt, alloc, data);
     Request::Out { lun, cdb, bytes }
 }
@@ -75,13 +66,16 @@ fn out_of(rt: &impl Abort, alloc: Global, line: &str) -> Request {
 pub(super) fn request_of(rt: &impl Abort, alloc: Global, line: &str) -> Request {
     let (kind, rest) = line.split_once(' ').unwrap_or((line, ""));
     match kind {
-        "in" => in_of(rt, alloc, rest),
-        "out" => out_of(rt, alloc, rest),
         "ping" => Request::Ping {
             bytes: data_of(rt, alloc, rest),
         },
+        "text" => Request::Text {
+            bytes: data_of(rt, alloc, rest),
+        },
+        "in" => in_of(rt, rest),
+        "out" => out_of(rt, alloc, rest),
         "logout" => Request::Logout,
-        _ => panic!(rt; "no request"),
+        _ => panic!(rt; "no such request"),
     }
 }
 

@@ -193,7 +193,7 @@ fn check_run(
 ) {
     let mut out = Vec::new(rt.alloc());
     let result = run_on(rt, script.blocks, script.script.as_bytes(), most, &mut out);
-    same(abort, &result.is_ok(), &true, row);
+    result.expect(abort, script.script);
     same(abort, &out.as_slice(), &script.want.as_bytes(), row);
 }
 
@@ -207,7 +207,7 @@ fn check_in_memory(
 ) {
     let mut out = Vec::new(rt.alloc());
     let result = run_in_memory(rt, script.blocks, script.script.as_bytes(), most, &mut out);
-    same(abort, &result.is_ok(), &true, &name);
+    result.expect(abort, name);
     same(abort, &out.as_slice(), &script.want.as_bytes(), &name);
 }
 
@@ -338,8 +338,7 @@ fn the_longest_ping(rt: HostRuntime) {
     let mut want = digits(&rt, rt.alloc(), b"login\nping ", 8192);
     want.push(b'\n').expect(&rt, "a line end");
     let mut out = Vec::new(rt.alloc());
-    let result = run_on(&rt, 2048, &script, 4096, &mut out);
-    same(&rt, &result.is_ok(), &true, &"8,192 bytes");
+    run_on(&rt, 2048, &script, 4096, &mut out).expect(&rt, "8,192 bytes");
     same(&rt, &out, &want, &"8,192 bytes");
 }
 

@@ -3,7 +3,7 @@
 use super::rows::{NOP_OUT, lines_of};
 use crate::asserts::{same, same_bytes};
 use iscsi_examples::marked;
-use iscsi_stream::{Framer, StreamFault, ToolFault, canonical, show, show_line};
+use iscsi_stream::{Counts, Framer, StreamFault, ToolFault, canonical, show, show_line};
 use std::alloc::Global;
 use std::process::Abort;
 
@@ -24,7 +24,12 @@ fn show_again(rt: &impl Abort, alloc: Global, stream: &[u8], room: &mut [u8]) {
     let mut source = stream;
     let mut out = room;
     let shown = show(alloc, &mut source, &mut out);
-    same(rt, &shown.is_ok(), &true, &"once more");
+    let due = Counts {
+        pdus: 1,
+        bytes_in: 52,
+        bytes_out: LINE.len() as u64,
+    };
+    same(rt, &shown, &Ok(due), &"once more");
 }
 
 // Shows a stream, once more where memory ran out: then nothing was written.

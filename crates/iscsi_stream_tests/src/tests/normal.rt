@@ -15,8 +15,9 @@ use std::process::Abort;
 // A canonical stream stays as it is.
 fn check_kept(rt: &impl Abort, alloc: Global, stream: &[u8], row: &impl Debug) {
     let mut out = Vec::new(alloc);
-    let result = normal_of(alloc, stream, &mut out);
-    same(rt, &result.is_ok(), &true, row);
+    let counts = normal_of(alloc, stream, &mut out).expect(rt, "a canonical stream");
+    let len = stream.len() as u64;
+    same(rt, &(counts.bytes_in, counts.bytes_out), &(len, len), row);
     same_bytes(rt, &out, stream, row);
 }
 
@@ -98,7 +99,9 @@ fn check_end(rt: &impl Abort, alloc: Global, came: &[u8], start: usize, want: &[
     let mut out = Vec::new(alloc);
     let result = normal_of(alloc, came, &mut out);
     if came.len() == start {
-        same(rt, &result.is_ok(), &true, &start);
+        let counts = result.expect(rt, "whole PDUs");
+        let due = (start as u64, want.len() as u64);
+        same(rt, &(counts.bytes_in, counts.bytes_out), &due, &start);
     } else {
         let truncated = ToolFault::Stream(StreamFault::Truncated(start as u64));
         same(rt, &result, &Err(truncated), &came.len());
@@ -233,10 +236,16 @@ fn framed(framer: &mut Framer, stream: &[u8], len: usize) -> Result<(), StreamFa
 
 // A framer that met a row's fault, in pieces of this length, refuses all that comes behind it.
 fn check_failed(rt: &impl Abort, alloc: Global, row: &str, len: usize) {
-    let (_, header) = parts_of(row);
+    let (words, header) = parts_of(row);
     let stream = came_of(rt, alloc, header);
     let mut framer = Framer::new(alloc, 16_777_215);
-    same(rt, &framed(&mut framer, &stream, len).is_err(), &true, &row);
+    let fault = framed(&mut framer, &stream, len).expect_err(rt, row);
+    check_said(
+        rt,
+        alloc,
+        ToolFault::Stream(fault),
+        &due_of(rt, alloc, words, 0),
+    );
     same(rt, &framer.feed(&stream), &Err(StreamFault::Failed), &row);
     same(rt, &framer.finish(), &Err(StreamFault::Failed), &row);
 }

@@ -22,10 +22,22 @@ use std::process::Abort;
 /// How many blocks the disk has.
 const BLOCKS: u64 = 2048;
 
+/// What is counted of a PDU, of whose header each byte in turn has each value.
+#[derive(Clone, Copy, Debug, PartialEq, Eq)]
+struct Count {
+    /// How many have a canonical form.
+    forms: u64,
+    /// How many of those have another one, and write the first block.
+    writes: u64,
+}
+
 const PING: &str =
     "c0800000 00000003 11111111 11111111 00000001 ffffffff 00000005 00000002 00000000 00000000 00000000 00000000 616263ff";
 
-const PINGS: u64 = 11_083;
+const PINGS: Count = Count {
+    forms: 11_083,
+    writes: 0,
+};
 
 const LOGIN_AGAIN: &str =
     "03030000 00000000 40000001 00000000 00000000 0000ffff 00000001 00000000 00000000 00000000 00000000 00000000";
@@ -33,7 +45,22 @@ const LOGIN_AGAIN: &str =
 const WRITE: &str =
     "01a10000 00000200 00000000 00000000 00000001 00001000 00000001 00000003 2a000000 00000000 08000000 00000000 5a*512";
 
-const OTHERS: u64 = 11_080;
+const OTHERS: Count = Count {
+    forms: 11_080,
+    writes: 0,
+};
+
+// A write that has all its data.
+const WHOLE: &str =
+    "01a10000 00000200 00000000 00000000 00000001 00000200 00000001 00000003 2a000000 00000000 01000000 00000000 5a*512";
+
+// A byte of it that has another canonical form: the highest bit of byte 0, with or without the bit of immediate commands: 2;
+// one of two bits of byte 1, with any attribute: 3 * 8; bytes 2 and 3: 2 * 255; one of three bits of byte 38, with any
+// group: 7 * 32; bytes 42 to 47: 6 * 255.
+const WHOLES: Count = Count {
+    forms: 11_080,
+    writes: 2290,
+};
 
 // What a target answers to a PDU behind the login. All that it writes is appended, and behind it the
 // first blocks of its disk.
@@ -53,68 +80,80 @@ fn answers_to(
     answer
 }
 
-// Appends the first blocks, as many as a write has that is changed.
+// Appends the first 16 blocks.
 fn append_blocks(rt: &impl Abort, store: &mut SparseStore, out: &mut Vec<u8>) {
-    assert!(rt; 8 <= store.blocks());
-    let mut blocks = [0xffu8; 4096];
-    store.read(0, &mut blocks).expect(rt, "blocks");
-    out.extend_from_slice(&blocks).expect(rt, "blocks");
+    assert!(rt; 16 <= store.blocks());
+    store.read_onto(0, 16, out).expect(rt, "blocks");
 }
 
-// A PDU and its canonical form are answered alike.
-fn check_alike(
+// A PDU and its canonical form are answered alike. Says whether they write the first block.
+fn write_alike(
     rt: &impl Abort,
     alloc: Global,
     login: &[u8],
     pdu: &[u8],
     canonical: &[u8],
     row: (usize, u8),
-) {
+) -> bool {
     let (mut out, mut twice) = (Vec::new(alloc), Vec::new(alloc));
     let result = answers_to(rt, alloc, login, pdu, &mut out);
     let again = answers_to(rt, alloc, login, canonical, &mut twice);
     same(rt, &again, &result, &row);
     same(rt, &twice, &out, &row);
+    out.get(out.len().saturating_sub(16 * 512)) == Some(&0x5a)
 }
 
-// Compares the answers where a PDU has a canonical form that is another one. Says whether it has one.
-fn has_form(rt: &impl Abort, alloc: Global, login: &[u8], pdu: &[u8], row: (usize, u8)) -> bool {
+// Counts a PDU that has a canonical form, and compares the answers where that is another one.
+fn count_form(
+    rt: &impl Abort,
+    alloc: Global,
+    login: &[u8],
+    pdu: &[u8],
+    row: (usize, u8),
+    count: &mut Count,
+) {
     let mut source = pdu;
     let mut canonical = Vec::new(alloc);
     if normalise(alloc, &mut source, &mut canonical).is_err() {
-        return false;
+        return;
     }
-    if canonical.as_slice() != pdu {
-        check_alike(rt, alloc, login, pdu, &canonical, row);
+    count.forms = count.forms.saturating_add(1);
+    if canonical.as_slice() != pdu && write_alike(rt, alloc, login, pdu, &canonical, row) {
+        count.writes = count.writes.saturating_add(1);
     }
-    true
 }
 
-// How many PDUs have a canonical form if the byte at a place has each value in turn.
-fn count_at(rt: &impl Abort, alloc: Global, login: &[u8], pdu: &mut [u8], place: usize) -> u64 {
+// Counts the PDUs in which the byte at a place has each value in turn.
+fn count_at(
+    rt: &impl Abort,
+    alloc: Global,
+    login: &[u8],
+    pdu: &mut [u8],
+    place: usize,
+    count: &mut Count,
+) {
     let kept = pdu.get(place).copied().unwrap_or(0);
-    let mut count = 0u64;
     for value in 0..=255u8 {
         if let Some(byte) = pdu.get_mut(place) {
             *byte = value;
         }
-        if has_form(rt, alloc, login, pdu, (place, value)) {
-            count = count.saturating_add(1);
-        }
+        count_form(rt, alloc, login, pdu, (place, value), count);
     }
     if let Some(byte) = pdu.get_mut(place) {
         *byte = kept;
     }
-    count
 }
 
 // A PDU whose header is changed so is answered as its canonical form, wherever it has one.
-fn check_changes(rt: &impl Abort, alloc: Global, line: &str, want: u64) {
+fn check_changes(rt: &impl Abort, alloc: Global, line: &str, want: Count) {
     let login = marked(alloc, LOGIN, "I> ").expect(rt, "a login");
     let mut pdu = pdus_of(alloc, line).expect(rt, line);
-    let mut count = 0u64;
+    let mut count = Count {
+        forms: 0,
+        writes: 0,
+    };
     for place in 0..48usize {
-        count = count.saturating_add(count_at(rt, alloc, &login, &mut pdu, place));
+        count_at(rt, alloc, &login, &mut pdu, place, &mut count);
     }
     same(rt, &count, &want, &line);
 }
@@ -132,4 +171,9 @@ fn changed_logins_are_answered_alike(rt: HostRuntime) {
 #[test]
 fn changed_writes_are_answered_alike(rt: HostRuntime) {
     check_changes(&rt, rt.alloc(), WRITE, OTHERS);
+}
+
+#[test]
+fn changed_whole_writes_are_answered_alike(rt: HostRuntime) {
+    check_changes(&rt, rt.alloc(), WHOLE, WHOLES);
 }

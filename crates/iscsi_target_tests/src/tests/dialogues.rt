@@ -13,6 +13,7 @@ use iscsi_stream::StreamFault;
 use iscsi_target::{Target, TargetFault};
 use scsi_disk::{BlockStore, FailAt, MemoryStore, SparseStore};
 use std::alloc::Global;
+use std::fmt::Debug;
 use std::process::Abort;
 
 // What a call answers, as a line of a dialogue says it.
@@ -29,20 +30,19 @@ fn answer_of(rt: &impl Abort, words: &str) -> Result<Phase, TargetFault> {
     }
 }
 
-// The bytes of a block are all this one.
-fn check_fill(rt: &impl Abort, block: &[u8], want: u8, lba: u64) {
-    for byte in block {
-        same(rt, byte, &want, &lba);
+/// Asserts that bytes are all this one.
+fn check_fill(rt: &impl Abort, bytes: &[u8], want: u8, row: &impl Debug) {
+    for byte in bytes {
+        same(rt, byte, &want, row);
     }
 }
 
-// A block is of one byte alone.
+/// Asserts that a block is of one byte alone.
 fn check_block<S: BlockStore>(rt: &impl Abort, store: &mut S, lba: u64, want: u8) {
     assert!(rt; lba < store.blocks());
     let mut block = [0xff; 512];
-    let read = store.read(lba, &mut block);
-    same(rt, &read.is_ok(), &true, &lba);
-    check_fill(rt, &block, want, lba);
+    same(rt, &store.read(lba, &mut block), &Ok(()), &lba);
+    check_fill(rt, &block, want, &lba);
 }
 
 // The first blocks, so many, are of 5a, and the ones behind them of 00.

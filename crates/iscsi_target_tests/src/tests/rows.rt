@@ -16,8 +16,8 @@ pub type Dialogue = (&'static str, bool, &'static str);
 pub const LOGIN: &str = "I> @login\n\
     T> @answer\n\
     = login\n\
-    I> 43870000 0000006e 40000001 00000000 00000000 00000000 00000001 00000002 00000000 00000000 00000000 00000000 'HeaderDigest=CRC32C,None|IFMarker=No|InitialR2T=No|MaxBurstLength=1024|MaxRecvDataSegmentLength=4096|X-test=1|\n\
-    T> 23870000 00000073 40000001 00000001 00000000 00000000 00000002 00000001 00000008 00000000 00000000 00000000 'HeaderDigest=None|IFMarker=No|InitialR2T=No|MaxBurstLength=1024|MaxRecvDataSegmentLength=8192|X-test=NotUnderstood|\n\
+    I> @few\n\
+    T> @settled\n\
     = full";
 
 /// Writes with data that come of their own and data that are asked for.
@@ -176,7 +176,7 @@ pub const LOGINS: &[Dialogue] = &[
         "I> @login\n\
         T> @answer\n\
         = login\n\
-        I> 43870000 0000011b 40000001 00000000 00000000 00000000 00000001 00000002 00000000 00000000 00000000 00000000 'DataDigest=None|DataPDUInOrder=Yes|DataSequenceInOrder=Yes|DefaultTime2Retain=20|DefaultTime2Wait=2|ErrorRecoveryLevel=0|FirstBurstLength=65536|HeaderDigest=None|ImmediateData=Yes|InitialR2T=No|MaxBurstLength=262144|MaxConnections=1|MaxOutstandingR2T=1|MaxRecvDataSegmentLength=8192|\n\
+        I> @offer\n\
         T> 23870000 0000011b 40000001 00000001 00000000 00000000 00000002 00000001 00000008 00000000 00000000 00000000 'DataDigest=None|DataPDUInOrder=Yes|DataSequenceInOrder=Yes|DefaultTime2Retain=20|DefaultTime2Wait=2|ErrorRecoveryLevel=0|FirstBurstLength=65536|HeaderDigest=None|ImmediateData=Yes|InitialR2T=No|MaxBurstLength=262144|MaxConnections=1|MaxOutstandingR2T=1|MaxRecvDataSegmentLength=8192|\n\
         = full",
     ),
@@ -216,7 +216,7 @@ pub const REQUESTS: &[Dialogue] = &[
         T> @answer\n\
         = login\n\
         I> 43870000 0000006d 40000001 00000000 00000000 00000000 00000001 00000002 00000000 00000000 00000000 00000000 'HeaderDigest=CRC32C,None|IFMarker=No|InitialR2T=No|MaxBurstLength=1024|MaxRecvDataSegmentLength=600|X-test=1|\n\
-        T> 23870000 00000073 40000001 00000001 00000000 00000000 00000002 00000001 00000008 00000000 00000000 00000000 'HeaderDigest=None|IFMarker=No|InitialR2T=No|MaxBurstLength=1024|MaxRecvDataSegmentLength=8192|X-test=NotUnderstood|\n\
+        T> @settled\n\
         = full\n\
         I> 01c10000 00000000 00000000 00000000 00000001 00000600 00000001 00000003 28000000 00000000 03000000 00000000\n\
         T> 25000000 00000258 00000000 00000000 00000001 ffffffff 00000000 00000002 00000009 00000000 00000000 00000000 00*600\n\
@@ -564,7 +564,7 @@ pub const SHORT: &[Dialogue] = &[(
     "I> @login\n\
         T> @answer\n\
         = login\n\
-        I> 43870000 0000006e 40000001 00000000 00000000 00000000 00000001 00000002 00000000 00000000 00000000 00000000 'HeaderDigest=CRC32C,None|IFMarker=No|InitialR2T=No|MaxBurstLength=1024|MaxRecvDataSegmentLength=4096|X-test=1|\n\
+        I> @few\n\
         T> 23870000 00000072 40000001 00000001 00000000 00000000 00000002 00000001 00000008 00000000 00000000 00000000 'HeaderDigest=None|IFMarker=No|InitialR2T=No|MaxBurstLength=1024|MaxRecvDataSegmentLength=512|X-test=NotUnderstood|\n\
         = full\n\
         I> 40800000 00000200 00000000 00000000 00000001 ffffffff 00000001 00000003 00000000 00000000 00000000 00000000 61*512\n\

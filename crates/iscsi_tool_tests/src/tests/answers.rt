@@ -11,10 +11,10 @@ use std::process::Abort;
 
 // A login.
 pub const LOGIN: &str = "@login\n\
-    43870000 0000006e 40000001 00000000 00000000 00000000 00000001 00000002 00000000 00000000 00000000 00000000 'HeaderDigest=CRC32C,None|IFMarker=No|InitialR2T=No|MaxBurstLength=1024|MaxRecvDataSegmentLength=4096|X-test=1|";
+    @few";
 
 pub const LOGGED_IN: &str = "@answer\n\
-    23870000 00000073 40000001 00000001 00000000 00000000 00000002 00000001 00000008 00000000 00000000 00000000 'HeaderDigest=None|IFMarker=No|InitialR2T=No|MaxBurstLength=1024|MaxRecvDataSegmentLength=8192|X-test=NotUnderstood|";
+    @settled";
 
 // The answer to a ping behind the login.
 pub const PONG: &str =

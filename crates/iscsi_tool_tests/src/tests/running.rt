@@ -32,6 +32,21 @@ const NAMELESS: &[u8] =
 const REFUSAL: &[u8] =
     b"230000000000000040000001000000000000000000000000000000000000000100000008020700000000000000000000\n";
 
+// A login in one request, and behind it a command with CmdSN 3, where 1 is due.
+const OUT_OF_TURN: &[u8] =
+    b"\x43\x87\0\0\0\0\0\x4b\x40\0\0\x01\0\0\0\0\0\0\0\0\0\0\0\0\0\0\0\x01\0\0\0\0\0\0\0\0\0\0\0\0\0\0\0\0\0\0\0\0\
+    InitiatorName=iqn.2026-01.example:host\0TargetName=iqn.2026-01.example:disk\0\0\
+    \x01\x81\0\0\0\0\0\0\0\0\0\0\0\0\0\0\0\0\0\x01\0\0\0\0\0\0\0\x03\0\0\0\x02\0\0\0\0\0\0\0\0\0\0\0\0\0\0\0\0";
+
+const LOGGED_IN: &[u8] =
+    b"\x23\x87\0\0\0\0\0\x35\x40\0\0\x01\0\0\0\x01\0\0\0\0\0\0\0\0\0\0\0\x01\0\0\0\x01\0\0\0\x08\0\0\0\0\0\0\0\0\0\0\0\0\
+    MaxRecvDataSegmentLength=8192\0TargetPortalGroupTag=1\0\0\0\0";
+
+// The Reject, with the header of the command.
+const REJECTED: &[u8] =
+    b"\x3f\x80\x04\0\0\0\0\x30\0\0\0\0\0\0\0\0\xff\xff\xff\xff\0\0\0\0\0\0\0\x02\0\0\0\x01\0\0\0\x08\0\0\0\0\0\0\0\0\0\0\0\0\
+    \x01\x81\0\0\0\0\0\0\0\0\0\0\0\0\0\0\0\0\0\x01\0\0\0\0\0\0\0\x03\0\0\0\x02\0\0\0\0\0\0\0\0\0\0\0\0\0\0\0\0";
+
 // A script, and its lines over 2,048 blocks.
 const SCRIPT: &[u8] = b"write 0 8 5a\nread 0 1\ncapacity\nread 2047 2\nlogout\n";
 
@@ -62,6 +77,8 @@ const FILES: &[(&str, Parts)] = &[
 /// Runs that end well.
 const DONE: &[(&str, Parts, Parts)] = &[
     ("", &[b""], &[b"\n"]),
+    ("normalise", &[], &[]),
+    ("normalise --text", &[], &[]),
     ("", &[PING], &[CANONICAL_PING]),
     ("normalise --hex", &[PING], &[CANONICAL_PING]),
     (
@@ -127,6 +144,12 @@ const REFUSED: &[(&str, Parts, Parts, &str)] = &[
         &[CANONICAL_PING_BYTES],
         &[],
         "protocol: rule 1\n",
+    ),
+    (
+        "answer --blocks 8",
+        &[OUT_OF_TURN],
+        &[LOGGED_IN, REJECTED],
+        "protocol: rule 9\n",
     ),
     ("", &[b"4g"], &[], "input: not hex\n"),
     (
