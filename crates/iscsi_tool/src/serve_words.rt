@@ -79,7 +79,7 @@ pub(crate) fn serve_program<'a>(alloc: Global) -> Result<Command<'a>, AllocError
             alloc,
             "sessions",
             "n",
-            "Stop after n connections, or with --at-once after n logins (default: never)",
+            "Stop after n connections, or with --at-once after n logins (default never)",
         ))?;
     with_options(alloc, program)
 }
@@ -90,7 +90,7 @@ fn with_image<'a>(alloc: Global, program: Command<'a>) -> Result<Command<'a>, Al
         alloc,
         "file",
         "F",
-        "Keep the disk in F, a raw image file or a block device (default: in memory)",
+        "Keep the disk in F, a raw image file or a block device (default memory)",
     ))?;
     with_word(program, create(alloc))
 }
@@ -111,11 +111,11 @@ fn with_options<'a>(alloc: Global, program: Command<'a>) -> Result<Command<'a>, 
         alloc,
         "at-once",
         "k",
-        "Serve up to k sessions at a time, 1 to 64 (default: one after another)",
+        "Serve up to k sessions at a time, 1 to 64 (default one after another)",
     );
     let listen_help = "IPv4 or IPv6 address to listen on (default 127.0.0.1)";
     let name_help = "Name of the target (default iqn.2026-01.example:disk)";
-    let idle_help = "End a session after S seconds without a byte, 1 to 65535 (default: never)";
+    let idle_help = "End a session after S seconds without a byte, 1 to 65535 (default never)";
     let login_help = "End a connection without a login after S seconds, 1 to 65535 (default 30)";
     let memory_help = "Memory limit of a disk in memory, at least 32768 bytes (default 268435456)";
     let program = program

@@ -237,7 +237,7 @@ fn compare_program<'a>(alloc: Global) -> Result<Command<'a>, AllocError> {
     .arg(file(
         alloc,
         "B",
-        "File of the second stream (default: standard input)",
+        "File of the second stream (default standard input)",
     ))?
     .arg(flag(
         alloc,
