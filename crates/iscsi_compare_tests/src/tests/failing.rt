@@ -1,7 +1,7 @@
-//! Readers that fail, and memory that is refused.
+//! Readers that fail.
 
 use super::worked::{CANONICAL, RAW};
-use super::{bytes_of, compared, read_bytes};
+use super::bytes_of;
 use crate::asserts::same;
 use iscsi_compare::{CompareFault, Verdict, Which, compare};
 use iscsi_examples::{SURE, Source, Steps};
@@ -59,45 +59,4 @@ fn each_read_fails(rt: HostRuntime) {
     same(&rt, &met, &6, &Which::First);
     let met = count_read(&rt, rt.alloc(), (&raw, &canonical), Which::Second);
     same(&rt, &met, &6, &Which::Second);
-}
-
-// What a test stands on is made again where memory ran out.
-fn ample(rt: &impl Abort, alloc: Global, text: &str) -> Vec<u8> {
-    match read_bytes(alloc, text) {
-        Ok(bytes) => bytes,
-        Err(_) => bytes_of(rt, alloc, text),
-    }
-}
-
-// Asserts what is said of two streams, once more where memory ran out: then no line was written.
-fn check_at_last(
-    rt: &impl Abort,
-    alloc: Global,
-    streams: (&[u8], &[u8]),
-    due: Result<Verdict, CompareFault>,
-    lines: &mut Vec<u8>,
-) {
-    let said = compared(alloc, streams.0, streams.1, lines);
-    if said == Err(CompareFault::NoMemory) {
-        same(rt, &lines.len(), &0, &"no line");
-        let again = compared(alloc, streams.0, streams.1, lines);
-        same(rt, &again, &due, &"again");
-    } else {
-        same(rt, &said, &due, &"at once");
-    }
-}
-
-/// For `rt try --test --fail-alloc`: nothing but the want of memory may come in place of a verdict.
-#[test]
-fn refused_memory_changes_no_verdict(rt: HostRuntime) {
-    let raw = ample(&rt, rt.alloc(), RAW);
-    let canonical = ample(&rt, rt.alloc(), CANONICAL);
-    let rest = canonical.get(..52).expect(&rt, "short");
-    let mut lines = Vec::new(rt.alloc());
-    let due = Ok(Verdict::Differ {
-        place: 52,
-        other_place: 52,
-    });
-    check_at_last(&rt, rt.alloc(), (&raw, rest), due, &mut lines);
-    same(&rt, &lines.ends_with(b"data=0\n52 end\n"), &true, &"lines");
 }

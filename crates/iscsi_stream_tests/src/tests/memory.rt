@@ -102,30 +102,3 @@ fn refused_memory_leaves_what_was_there(rt: HostRuntime) {
     let framer = ready_framer(&rt, rt.alloc(), &stream);
     check_at_last(&rt, rt.alloc(), &framer, &want);
 }
-
-/// The limit comes before memory is asked for.
-#[test]
-fn refused_memory_hides_no_limit(rt: HostRuntime) {
-    let stream = ample(&rt, rt.alloc(), "> ");
-    let mut framer = Framer::new(rt.alloc(), 2);
-    let limit = Err(StreamFault::OverLimit(0));
-    same(&rt, &framer.feed(&stream), &limit, &"limit");
-}
-
-// Gives the ready PDU up, and takes it once more.
-fn check_again(rt: &impl Abort, framer: &mut Framer, stream: &[u8]) {
-    framer.take();
-    same(rt, &framer.feed(stream), &Ok(52), &"taken");
-    let segment = framer.pdu().expect(rt, "not ready").bytes;
-    same_bytes(rt, segment, b"abc", &"segment");
-}
-
-/// A segment no longer than an earlier one asks for no memory, so no refusal reaches it.
-#[test]
-fn the_buffer_is_kept(rt: HostRuntime) {
-    let stream = ample(&rt, rt.alloc(), "> ");
-    let mut framer = ready_framer(&rt, rt.alloc(), &stream);
-    for _ in 0..100u64 {
-        check_again(&rt, &mut framer, &stream);
-    }
-}

@@ -84,35 +84,3 @@ fn a_writer_that_takes_one_byte(rt: HostRuntime) {
     check_narrow(&rt, rt.alloc(), text.as_str(), &due, short);
     check_narrow(&rt, rt.alloc(), text.as_str(), &due, due.len());
 }
-
-// The hex text of a login without the initiator's name, and the line of its refusal.
-const NAMELESS: &[u8] =
-    b"4381000000000047400000010000000000000000000000000000000100000000000000000000000000000000\
-    00000000417574684d6574686f643d4e6f6e650053657373696f6e547970653d4e6f726d616c005461726765\
-    744e616d653d69716e2e323032362d30312e6578616d706c653a6469736b0000";
-
-const REFUSAL: &[u8] =
-    b"230000000000000040000001000000000000000000000000000000000000000100000008020700000000000000000000\n";
-
-/// For `rt try --test --fail-alloc`: being out of memory leaves no digit of an answer that was not made,
-/// and no line end.
-#[test]
-fn refused_memory_leaves_no_line(rt: HostRuntime) {
-    let mut room = [0u8; 128];
-    let mut source = NAMELESS;
-    let mut out = room.as_mut_slice();
-    let result = run_filter(rt.alloc(), ANSWER, &mut source, &mut out);
-    let left = out.len();
-    if result.is_err() {
-        same(&rt, &result, &Err(ToolFault::NoMemory), &"fault");
-        same(&rt, &left, &128, &"room left");
-        return;
-    }
-    same(&rt, &room.get(..REFUSAL.len()), &Some(REFUSAL), &"line");
-    same(
-        &rt,
-        &left,
-        &128usize.saturating_sub(REFUSAL.len()),
-        &"room left",
-    );
-}

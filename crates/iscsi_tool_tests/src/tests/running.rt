@@ -419,38 +419,3 @@ fn words_that_could_not_be_read(rt: HostRuntime) {
     check_unread(&rt, &rt, LineFault::Usage(usage), "error: no words\n", 2);
     check_unread(&rt, &rt, LineFault::NoMemory, "memory\n", 3);
 }
-
-/// A word, its input, what is written, what is told, and the status.
-const SHORT: &[(&str, &[u8], &[u8], &str, u8)] = &[
-    ("show", PING_BYTES, PING_LINE, "", 0),
-    ("normalise", PING_BYTES, CANONICAL_PING_BYTES, "", 0),
-    ("show", UNKNOWN, b"", "stream: unknown opcode at 0\n", 1),
-];
-
-type Short = (&'static str, &'static [u8], &'static [u8], &'static str, u8);
-
-// With memory that may be refused: all is as it is due, or the want of memory is told, and what was
-// written is a front of what is due.
-fn check_refused(host: &HostRuntime, rt: &impl Abort, row: &Short) {
-    let (word, given, due, line, due_status) = *row;
-    let (mut room, mut told) = ([0u8; 128], [0u8; 128]);
-    let (mut out, mut errors) = (room.as_mut_slice(), told.as_mut_slice());
-    let mut source = given;
-    let status = run_words(host, &[word], &mut source, &mut out, &mut errors);
-    let wrote = 128usize.saturating_sub(out.len());
-    let said = 128usize.saturating_sub(errors.len());
-    let is_well = status == due_status && wrote == due.len();
-    same(rt, &(is_well || status == 3), &true, &word);
-    let want = if status == 3 { "memory\n" } else { line };
-    same(rt, &told.get(..said), &Some(want.as_bytes()), &word);
-    same(rt, &room.get(..wrote), &due.get(..wrote), &word);
-}
-
-/// For `rt try --test --fail-alloc`: where memory is refused, status 3 and `memory` come of it, and
-/// nothing else in place of what is due.
-#[test]
-fn refused_memory_is_told(rt: HostRuntime) {
-    for row in SHORT {
-        check_refused(&rt, &rt, row);
-    }
-}
