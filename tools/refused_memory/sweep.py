@@ -8,11 +8,11 @@ proofs does not do: it has an allocator of its own, which can't be made to refus
 
 Each run ends as with ample memory, or with status 3, the line `memory`, and less than the output that is due: whole
 PDUs or lines, of `answer` all answers to some first PDUs and to some first tasks of the next one, with `--hex` their
-digits without a line end, and nothing of a line of hex else or a text. The whole output is there with that line only where nothing is due to the last PDUs, or where none is
-due at all. A run that met no refusal ends as with ample memory, and that not for want of it. The scripts of
-`loop` are those of iscsi_service_tests, one of each command, one that writes in two extents of the sparse store, and one
-that is refused. The segment buffer is kept from PDU to PDU: a run over 1,000 PDUs
-of 4,096 bytes ends well where each allocation is refused that a run over one does not ask for.
+digits without a line end, and nothing of a line of hex else or a text. The whole output is there with that line only
+where nothing is due to the last PDUs, or where none is due at all. A run that met no refusal ends as with ample memory,
+and that not for want of it. The scripts of `loop` are those of iscsi_service_tests, one of each command, one that writes
+in two extents of the sparse store, and one that is refused. The segment buffer is kept from PDU to PDU: a run over 1,000
+PDUs of 4,096 bytes ends well where each allocation is refused that a run over one does not ask for.
 
 The sessions of `answer` are the dialogues of iscsi_target_tests, those in which requests wait among them, with the
 answers that stand there, and one that reads back the eight blocks of its write. Two of them also go over a socket to
