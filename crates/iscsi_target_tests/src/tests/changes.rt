@@ -55,59 +55,62 @@ const WHOLE: &str =
     "01a10000 00000200 00000000 00000000 00000001 00000200 00000001 00000003 2a000000 00000000 01000000 00000000 5a*512";
 
 // A byte of it that has another canonical form: the highest bit of byte 0, with or without the bit of immediate commands: 2;
-// one of two bits of byte 1, with any attribute: 3 * 8; bytes 2 and 3: 2 * 255; one of three bits of byte 38, with any
+// some of two bits of byte 1, with any attribute: 3 * 8; bytes 2 and 3: 2 * 255; some of three bits of byte 38, with any
 // group: 7 * 32; bytes 42 to 47: 6 * 255.
 const WHOLES: Count = Count {
     forms: 11_080,
     writes: 2290,
 };
 
+/// What goes before a PDU that is changed, and how many of the first blocks are compared behind it.
+#[derive(Clone, Copy)]
+struct Around<'a> {
+    login: &'a [u8],
+    blocks: u32,
+}
+
 // What a target answers to a PDU behind the login. All that it writes is appended, and behind it the
 // first blocks of its disk.
 fn answers_to(
     rt: &impl Abort,
     alloc: Global,
-    login: &[u8],
+    around: Around<'_>,
     pdu: &[u8],
     out: &mut Vec<u8>,
 ) -> Result<Phase, TargetFault> {
     let mut store = SparseStore::new(alloc, BLOCKS);
     let mut target = target_of(rt, alloc);
-    let phase = target.feed(login, &mut store, out);
+    let phase = target.feed(around.login, &mut store, out);
     same(rt, &phase, &Ok(Phase::Full), &"login");
     let answer = target.feed(pdu, &mut store, out);
-    append_blocks(rt, &mut store, out);
+    assert!(rt; around.blocks as u64 <= store.blocks());
+    store.read_onto(0, around.blocks, out).expect(rt, "blocks");
     answer
-}
-
-// Appends the first 16 blocks.
-fn append_blocks(rt: &impl Abort, store: &mut SparseStore, out: &mut Vec<u8>) {
-    assert!(rt; 16 <= store.blocks());
-    store.read_onto(0, 16, out).expect(rt, "blocks");
 }
 
 // A PDU and its canonical form are answered alike. Says whether they write the first block.
 fn write_alike(
     rt: &impl Abort,
     alloc: Global,
-    login: &[u8],
+    around: Around<'_>,
     pdu: &[u8],
     canonical: &[u8],
     row: (usize, u8),
 ) -> bool {
     let (mut out, mut twice) = (Vec::new(alloc), Vec::new(alloc));
-    let result = answers_to(rt, alloc, login, pdu, &mut out);
-    let again = answers_to(rt, alloc, login, canonical, &mut twice);
+    let result = answers_to(rt, alloc, around, pdu, &mut out);
+    let again = answers_to(rt, alloc, around, canonical, &mut twice);
     same(rt, &again, &result, &row);
     same(rt, &twice, &out, &row);
-    out.get(out.len().saturating_sub(16 * 512)) == Some(&0x5a)
+    let bytes = 512usize.saturating_mul(around.blocks as usize);
+    out.get(out.len().saturating_sub(bytes)) == Some(&0x5a)
 }
 
 // Counts a PDU that has a canonical form, and compares the answers where that is another one.
 fn count_form(
     rt: &impl Abort,
     alloc: Global,
-    login: &[u8],
+    around: Around<'_>,
     pdu: &[u8],
     row: (usize, u8),
     count: &mut Count,
@@ -118,7 +121,7 @@ fn count_form(
         return;
     }
     count.forms = count.forms.saturating_add(1);
-    if canonical.as_slice() != pdu && write_alike(rt, alloc, login, pdu, &canonical, row) {
+    if canonical.as_slice() != pdu && write_alike(rt, alloc, around, pdu, &canonical, row) {
         count.writes = count.writes.saturating_add(1);
     }
 }
@@ -127,7 +130,7 @@ fn count_form(
 fn count_at(
     rt: &impl Abort,
     alloc: Global,
-    login: &[u8],
+    around: Around<'_>,
     pdu: &mut [u8],
     place: usize,
     count: &mut Count,
@@ -137,7 +140,7 @@ fn count_at(
         if let Some(byte) = pdu.get_mut(place) {
             *byte = value;
         }
-        count_form(rt, alloc, login, pdu, (place, value), count);
+        count_form(rt, alloc, around, pdu, (place, value), count);
     }
     if let Some(byte) = pdu.get_mut(place) {
         *byte = kept;
@@ -145,35 +148,39 @@ fn count_at(
 }
 
 // A PDU whose header is changed so is answered as its canonical form, wherever it has one.
-fn check_changes(rt: &impl Abort, alloc: Global, line: &str, want: Count) {
+fn check_changes(rt: &impl Abort, alloc: Global, line: &str, blocks: u32, want: Count) {
     let login = marked(alloc, LOGIN, "I> ").expect(rt, "a login");
+    let around = Around {
+        login: login.as_slice(),
+        blocks,
+    };
     let mut pdu = pdus_of(alloc, line).expect(rt, line);
     let mut count = Count {
         forms: 0,
         writes: 0,
     };
     for place in 0..48usize {
-        count_at(rt, alloc, &login, &mut pdu, place, &mut count);
+        count_at(rt, alloc, around, &mut pdu, place, &mut count);
     }
     same(rt, &count, &want, &line);
 }
 
 #[test]
 fn changed_pings_are_answered_alike(rt: HostRuntime) {
-    check_changes(&rt, rt.alloc(), PING, PINGS);
+    check_changes(&rt, rt.alloc(), PING, 1, PINGS);
 }
 
 #[test]
 fn changed_logins_are_answered_alike(rt: HostRuntime) {
-    check_changes(&rt, rt.alloc(), LOGIN_AGAIN, OTHERS);
+    check_changes(&rt, rt.alloc(), LOGIN_AGAIN, 1, OTHERS);
 }
 
 #[test]
 fn changed_writes_are_answered_alike(rt: HostRuntime) {
-    check_changes(&rt, rt.alloc(), WRITE, OTHERS);
+    check_changes(&rt, rt.alloc(), WRITE, 8, OTHERS);
 }
 
 #[test]
 fn changed_whole_writes_are_answered_alike(rt: HostRuntime) {
-    check_changes(&rt, rt.alloc(), WHOLE, WHOLES);
+    check_changes(&rt, rt.alloc(), WHOLE, 16, WHOLES);
 }
