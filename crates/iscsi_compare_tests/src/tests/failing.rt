@@ -1,7 +1,7 @@
 //! Readers that fail.
 
-use super::worked::{CANONICAL, RAW};
 use super::bytes_of;
+use super::worked::{CANONICAL, RAW};
 use crate::asserts::same;
 use iscsi_compare::{CompareFault, Verdict, Which, compare};
 use iscsi_examples::{SURE, Source, Steps};
