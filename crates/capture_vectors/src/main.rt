@@ -4,10 +4,12 @@
 
 mod reading;
 mod row;
+mod streams;
 mod table;
 
 use crate::reading::{Contents, read};
 use crate::row::{Row, row_of};
+use crate::streams::stream_is_so;
 use crate::table::Half;
 use capture_file::PacketFault;
 use std::alloc::Global;
@@ -45,7 +47,10 @@ fn is_so(rt: &HostRuntime, row: Row<'_>) -> io::Result<bool> {
         return Ok(false);
     }
     let sparing = read(rt.alloc(), &file, true);
-    direction_is_so(rt.alloc(), &sparing, &stream, row)
+    if !direction_is_so(rt.alloc(), &sparing, &stream, row)? {
+        return Ok(false);
+    }
+    stream_is_so(rt.alloc(), &file, &stream, row)
 }
 
 // Whether a value has this text.

@@ -114,6 +114,7 @@ IsJob (job.Serve storage service) = IsStorage storage × CanServe service
 IsJob (job.Loop blocks piece) =
     (0 < blocks) × (blocks ≤ most_blocks) × (0 < piece) × (piece ≤ 4096)
 IsJob (job.Compare comparison) = Unit {0}
+IsJob (job.Capture capture) = Unit {0}
 
 -- A work that ended well has read its input to the end; answers to bytes end also where the session
 -- is closed.

@@ -6,6 +6,9 @@ use Rattle.iscsi_compare.specs.declared.verdict.Verdict.TheVariants as verdict
 use Rattle.iscsi_service.specs.declared.fault.ServeFault.{ServeFault}
 use Rattle.iscsi_service.specs.Serving.{exit_status as session_status}
 use Rattle.iscsi_service.specs.Looping.{Loops}
+use Rattle.iscsi_captures.specs.declared.fault.CapturesFault.{CapturesFault}
+use Rattle.iscsi_captures.specs.Faults.{fault_status as capture_status}
+use Rattle.iscsi_tool.specs.declared.capture_words.CaptureJob.{CaptureJob}
 use Rattle.iscsi_tool.specs.declared.comparing.ComparisonFault.{ComparisonFault}
 use Rattle.iscsi_tool.specs.declared.filter.Filter.{Filter}
 use Rattle.iscsi_tool.specs.declared.filter.Work.TheVariants.{Normalise}
@@ -19,6 +22,7 @@ use Rattle.iscsi_tool.specs.declared.words.Job.{Job}
 use Rattle.iscsi_tool.specs.declared.words.Job.TheVariants as job
 use Rattle.iscsi_tool.specs.declared.words.LineFault.{LineFault}
 use Rattle.iscsi_tool.specs.declared.words.LineFault.TheVariants as line
+use Rattle.iscsi_tool.specs.Captures.{WritesCapture}
 use Rattle.iscsi_tool.specs.Comparisons.{fault_status}
 use Rattle.iscsi_tool.specs.Filtering.{exit_status, Filters, IsJob}
 
@@ -37,6 +41,7 @@ outcome_status (outcome.Filter fault) = exit_status fault
 outcome_status (outcome.Session fault) = session_status fault
 outcome_status (outcome.Image image fault) = 4
 outcome_status (outcome.Comparison comparison fault) = fault_status fault
+outcome_status (outcome.Capture job fault) = capture_status fault
 
 -- The outcome of a filter.
 abbrev pub of_filter : Result (Unit {0}) ToolFault → Outcome
@@ -47,6 +52,11 @@ of_filter (Err fault) = outcome.Filter fault
 abbrev pub of_session : Result (Unit {0}) ServeFault → Outcome
 of_session (Ok done) = outcome.Done
 of_session (Err fault) = outcome.Session fault
+
+-- The outcome of a job over a capture.
+abbrev pub of_capture : CaptureJob → Result (Unit {0}) CapturesFault → Outcome
+of_capture job (Ok done) = outcome.Done
+of_capture job (Err fault) = outcome.Capture job fault
 
 -- The outcome of a comparison.
 abbrev pub of_comparison : Comparison → Result Verdict ComparisonFault → Outcome
@@ -64,6 +74,11 @@ abbrev pub EndsLoop : Outcome → List ℕ → List ℕ → Type 0
 EndsLoop ends script written =
     (said : Result (Unit {0}) ServeFault) × Loops said script written × (ends ≡ of_session said)
 
+-- A job over a capture ran, and that is how it ended.
+abbrev pub EndsCapture : CaptureJob → Outcome → List ℕ → Type 0
+EndsCapture job ends written = (said : Result (Unit {0}) CapturesFault)
+    × WritesCapture job.work said written × (ends ≡ of_capture job said)
+
 -- A comparison ended so.
 abbrev pub EndsComparison : Comparison → Outcome → Type 0
 EndsComparison comparison ends =
@@ -78,13 +93,14 @@ EndsService (storage.Image image) ends =
     ⊎ ((fault : ImageFault) × (ends ≡ outcome.Image image fault))
 
 -- A job ended so, with this read from the standard input and this written to the standard output.
--- A service touches neither by itself.
+-- A service touches neither by itself, and a job over a capture reads a file of the process.
 abbrev pub Runs : Job → Outcome → List ℕ → List ℕ → Type 0
 Runs (job.Filter filter) ends read written = EndsFilter filter ends read written
 Runs (job.Serve storage service) ends read written =
     EndsService storage ends × (read ≡ []) × (written ≡ [])
 Runs (job.Loop blocks piece) ends read written = EndsLoop ends read written
 Runs (job.Compare comparison) ends read written = EndsComparison comparison ends
+Runs (job.Capture capture) ends read written = EndsCapture capture ends written × (read ≡ [])
 
 -- What the words ask for; with no words the hex text of a stream is normalised.
 abbrev pub AsksFor : {S : Type 0} → List S → Result Job LineFault → Type 0

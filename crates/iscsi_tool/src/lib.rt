@@ -2,6 +2,7 @@
 #![tactic(auto)]
 
 mod answering;
+mod capture_words;
 mod comparing;
 mod disk_size;
 mod examples;
@@ -13,6 +14,7 @@ mod serve_words;
 mod storage;
 mod words;
 
+pub use capture_words::{CaptureJob, CaptureWork};
 pub use comparing::{ComparisonFault, Sameness, compare_bytes, compare_hex};
 pub use filter::{Filter, Work, run_filter, status};
 pub use running::{Outcome, run_program, run_read, run_words};

@@ -7,12 +7,14 @@ ghost use Rattle.scsi_disk.specs.Disk.{most_blocks};
 ghost use Rattle.iscsi_tool.specs.declared.running.Outcome.{Outcome};
 ghost use Rattle.iscsi_tool.specs.Filtering.{CanServe, IsJob};
 ghost use Rattle.iscsi_tool.specs.Storage.{IsStorage};
-ghost use Rattle.iscsi_tool.specs.Running.{EndsComparison, EndsService, Runs, RunsWords, of_comparison, of_filter, of_session, outcome_status, words_status};
+ghost use Rattle.iscsi_tool.specs.Running.{EndsComparison, EndsService, Runs, RunsWords, of_capture, of_comparison, of_filter, of_session, outcome_status, words_status};
 
+use crate::capture_words::{CaptureJob, run_capture};
 use crate::comparing::{ComparisonFault, compare_bytes, compare_hex};
 use crate::filter::{run_filter, status};
 use crate::storage::{Image, ImageFault, Storage};
 use crate::words::{Comparison, Job, LineFault, Service, read_words};
+use iscsi_captures::CapturesFault;
 use iscsi_compare::{Verdict, Which};
 use iscsi_server::{serve_at_once, serve_memory_at_once};
 use iscsi_service::{ServeFault, run_loop, serve};
@@ -50,6 +52,8 @@ pub enum Outcome<'a> {
     Image(Image<'a>, ImageFault),
     /// A comparison stopped.
     Comparison(Comparison<'a>, ComparisonFault),
+    /// A job over a capture stopped.
+    Capture(CaptureJob<'a>, CapturesFault),
 }
 
 impl Outcome<'_> {
@@ -67,6 +71,7 @@ impl Outcome<'_> {
             Outcome::Session(fault) => fault.status(),
             Outcome::Image(_, fault) => fault.status(),
             Outcome::Comparison(_, fault) => fault.status(),
+            Outcome::Capture(_, fault) => fault.status(),
         }
     }
 
@@ -83,6 +88,7 @@ impl Outcome<'_> {
                 writeln!(w, "{name}: {fault}")
             }
             Outcome::Comparison(comparison, fault) => tell_comparison(*comparison, *fault, w),
+            Outcome::Capture(job, fault) => tell_capture(*job, *fault, w),
         }
     }
 }
@@ -121,6 +127,14 @@ fn tell_comparison<E: Write>(
             writeln!(w, "{name}: {reason}")
         }
         ComparisonFault::Own(reason) => writeln!(w, "{reason}"),
+    }
+}
+
+// Writes the line of a job over a capture that stopped.
+fn tell_capture<E: Write>(job: CaptureJob<'_>, fault: CapturesFault, w: &mut E) -> io::Result<()> {
+    match job.blamed(fault) {
+        Some(name) => writeln!(w, "{name}: {fault}"),
+        None => writeln!(w, "{fault}"),
     }
 }
 
@@ -186,7 +200,7 @@ fn unread_words(alloc: Global, error: &io::Error) -> LineFault {
 /// nothing.
 ///
 /// A service prints `listening`, and the lines of its sessions' faults, to the standard streams of
-/// the process. Files are those of the process, too.
+/// the process. Files are those of the process, too, and so is the standard input of a capture.
 pub fn run_words<S: AsStr, R: Read, W: Write, E: Write>(
     rt: &HostRuntime,
     words: &[S],
@@ -251,6 +265,7 @@ fn run_job<'a, R: Read, W: Write>(
         Job::Serve { storage, service } => serve_storage(rt, storage, service),
         Job::Loop { blocks, piece } => ended(run_loop(rt, blocks, piece, r, w)),
         Job::Compare(comparison) => compare(rt, comparison, r, w),
+        Job::Capture(capture) => captured(capture, run_capture(rt, capture, w)),
     }
 }
 
@@ -261,6 +276,16 @@ fn filtered<'a>(said: Result<(), ToolFault>) -> Outcome<'a>
     match said {
         Ok(()) => Outcome::Done,
         Err(fault) => Outcome::Filter(fault),
+    }
+}
+
+// The outcome of a job over a capture.
+fn captured(job: CaptureJob<'_>, said: Result<(), CapturesFault>) -> Outcome<'_>
+    ensures outcome { result ≡ of_capture job.entry said }
+{
+    match said {
+        Ok(()) => Outcome::Done,
+        Err(fault) => Outcome::Capture(job, fault),
     }
 }
 

@@ -6,6 +6,10 @@ ghost use Rattle.iscsi_tool.specs.Filtering.{HasDisk, IsJob};
 ghost use Rattle.iscsi_tool.specs.declared.filter.Work.TheVariants.{Normalise};
 ghost use Rattle.iscsi_tool.specs.declared.words.Job.TheVariants as job;
 
+use crate::capture_words::{
+    CaptureJob, asks_for_capture, captured_job, connections_of, connections_program,
+    with_capture_words,
+};
 use crate::comparing::Sameness;
 use crate::disk_size::{bad_size, needed_blocks, with_size};
 use crate::examples;
@@ -68,6 +72,8 @@ pub enum Job<'a> {
     },
     /// Whether two streams have the same meaning.
     Compare(Comparison<'a>),
+    /// A job over a capture file.
+    Capture(CaptureJob<'a>),
 }
 
 /// Why words are refused.
@@ -100,6 +106,7 @@ enum JobWord {
     Show,
     Normalise,
     Compare,
+    Connections,
     Answer,
     Serve,
     Loop,
@@ -112,6 +119,7 @@ impl JobWord {
             "show" => Some(JobWord::Show),
             "normalise" => Some(JobWord::Normalise),
             "compare" => Some(JobWord::Compare),
+            "connections" => Some(JobWord::Connections),
             "answer" => Some(JobWord::Answer),
             "serve" => Some(JobWord::Serve),
             "loop" => Some(JobWord::Loop),
@@ -157,23 +165,26 @@ fn program<'a>(alloc: Global, name: &'a str, about: &'a str) -> Result<Command<'
 }
 
 fn show_program<'a>(alloc: Global) -> Result<Command<'a>, AllocError> {
-    Ok(program(alloc, "show", "Print one line for each PDU of a stream")?.after_help(
-        examples::SHOW,
-    ))
+    let program = program(alloc, "show", "Print one line for each PDU of a stream")?
+        .bin_name("lanthovur show")?
+        .after_help(examples::SHOW);
+    with_capture_words(alloc, program)
 }
 
 fn normalise_program<'a>(alloc: Global) -> Result<Command<'a>, AllocError> {
-    program(
+    let program = program(
         alloc,
         "normalise",
         "Write a stream in canonical form: equal meaning becomes equal bytes",
     )?
+    .bin_name("lanthovur normalise")?
     .after_help(examples::NORMALISE)
     .arg(flag(
         alloc,
         "text",
         "Read one text of keys, such as that of a login, instead of a stream",
-    ))
+    ))?;
+    with_capture_words(alloc, program)
 }
 
 // With one more word, if it could be made.
@@ -194,7 +205,7 @@ pub(crate) fn valued<'a>(alloc: Global, name: &'a str, value: &'a str, help: &'a
 }
 
 // The name of a file.
-fn file<'a>(alloc: Global, name: &'a str, help: &'a str) -> Arg<'a> {
+pub(crate) fn file<'a>(alloc: Global, name: &'a str, help: &'a str) -> Arg<'a> {
     Arg::new(alloc, name).action(ArgAction::Set).help(help)
 }
 
@@ -272,6 +283,7 @@ fn command<'a>(alloc: Global) -> Result<Command<'a>, AllocError> {
     let command = with_job(command, show_program(alloc))?;
     let command = with_job(command, normalise_program(alloc))?;
     let command = with_job(command, compare_program(alloc))?;
+    let command = with_job(command, connections_program(alloc))?;
     let command = with_job(command, answer_program(alloc))?;
     let command = with_job(command, serve_program(alloc))?;
     with_job(command, loop_program(alloc))
@@ -338,9 +350,10 @@ fn job_of<'a>(alloc: Global, matches: &ArgMatches<'a>) -> Result<Job<'a>, LineFa
         return Err(no_job(alloc));
     };
     match JobWord::of(word) {
-        Some(JobWord::Show) => Ok(filter_of(Work::Show, asked)),
-        Some(JobWord::Normalise) => Ok(filter_of(normal_work(asked), asked)),
+        Some(JobWord::Show) => show_of(alloc, asked),
+        Some(JobWord::Normalise) => normalise_of(alloc, asked),
         Some(JobWord::Compare) => Ok(comparison_of(asked)),
+        Some(JobWord::Connections) => Ok(connections_of(asked)),
         Some(JobWord::Answer) => answer_of(alloc, asked),
         Some(JobWord::Serve) => service_of(alloc, asked),
         Some(JobWord::Loop) => loop_of(alloc, asked),
@@ -351,6 +364,26 @@ fn job_of<'a>(alloc: Global, matches: &ArgMatches<'a>) -> Result<Job<'a>, LineFa
 // The refusal of words that name no job.
 fn no_job(alloc: Global) -> LineFault {
     bad_number(alloc, bare_command(alloc), "the words name no job")
+}
+
+// The lines of a stream, or of a direction of a capture.
+fn show_of<'a>(alloc: Global, asked: &ArgMatches<'a>) -> Result<Job<'a>, LineFault>
+    ensures disk { IfOk result IsJob }
+{
+    if asks_for_capture(asked) {
+        return captured_job(alloc, show_program(alloc), true, asked);
+    }
+    Ok(filter_of(Work::Show, asked))
+}
+
+// The canonical form of a stream or of a text, or of a direction of a capture.
+fn normalise_of<'a>(alloc: Global, asked: &ArgMatches<'a>) -> Result<Job<'a>, LineFault>
+    ensures disk { IfOk result IsJob }
+{
+    if asks_for_capture(asked) {
+        return captured_job(alloc, normalise_program(alloc), false, asked);
+    }
+    Ok(filter_of(normal_work(asked), asked))
 }
 
 // A filter, of hex text if that is asked.

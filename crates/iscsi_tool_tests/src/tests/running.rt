@@ -207,6 +207,18 @@ const REFUSED: &[(&str, Parts, Parts, &str)] = &[
         &[],
         "run-letters: input: not hex\n",
     ),
+    (
+        "connections run-half",
+        &[],
+        &[],
+        "run-half: capture: unknown format at 0\n",
+    ),
+    (
+        "normalise --capture run-ping --connection 0 --from initiator",
+        &[],
+        &[],
+        "run-ping: capture: unknown format at 0\n",
+    ),
 ];
 
 /// Runs whose files are not served or not read.
@@ -226,6 +238,11 @@ const UNREAD: &[(&str, &str)] = &[
     ("compare run-none run-ping", "run-none: read failed\n"),
     ("compare run-ping run-none", "run-none: read failed\n"),
     ("compare .", ".: read failed\n"),
+    ("connections run-none", "run-none: read failed\n"),
+    (
+        "show --capture . --connection 0 --from target",
+        ".: read failed\n",
+    ),
 ];
 
 /// Words that ask for no job; the rows of `words.rt` have the others.

@@ -140,7 +140,25 @@ const JOBS: &[(&str, &str)] = &[
         "compare --hex a --same-job b",
         "Compare(Comparison { first: \"a\", second: Some(\"b\"), sameness: Job, hex: true })",
     ),
+    (
+        "connections a",
+        "Capture(CaptureJob { file: \"a\", work: List })",
+    ),
+    (
+        "show --capture a --connection 3 --from target",
+        "Capture(CaptureJob { file: \"a\", work: Show(Wanted { connection: 3, end: Target }) })",
+    ),
+    (
+        "normalise --from=initiator --connection=00 --capture=-",
+        "Capture(CaptureJob { file: \"-\", work: Normalise(Wanted { connection: 0, end: Initiator }) })",
+    ),
 ];
+
+const SHOW: &str = "error: a capture is read with '--capture <FILE> --connection <K> --from \
+    initiator|target', and without '--hex' or '--text'\n\nUsage: lanthovur show";
+
+const NORMALISE: &str = "error: a capture is read with '--capture <FILE> --connection <K> --from \
+    initiator|target', and without '--hex' or '--text'\n\nUsage: lanthovur normalise";
 
 /// What follows the value in the refusals of several rows.
 const BLOCKS: &str =
@@ -361,6 +379,25 @@ const REFUSED: &[(&str, &str)] = &[
         "error: the following required arguments were not provided:\n  <A>\n",
     ),
     ("compare a b c", "error: unexpected argument 'c' found\n"),
+    ("show --capture a", SHOW),
+    ("show --capture a --connection 0", SHOW),
+    ("show --connection 0 --from target", SHOW),
+    ("show --capture a --connection +1 --from target", SHOW),
+    ("show --capture a --connection 0 --from both", SHOW),
+    ("show --hex --capture a --connection 0 --from target", SHOW),
+    (
+        "normalise --text --capture a --connection 0 --from target",
+        NORMALISE,
+    ),
+    (
+        "connections",
+        "error: the following required arguments were not provided:\n  <FILE>\n",
+    ),
+    ("connections a b", "error: unexpected argument 'b' found\n"),
+    (
+        "answer --blocks 1 --capture a",
+        "error: unexpected argument '--capture' found\n",
+    ),
     ("--text", "error: unexpected argument '--text' found\n"),
     (
         "normalise --blocks 8",

@@ -1,0 +1,5 @@
+pub mod Belonging
+pub mod Faults
+pub mod SameEnds
+pub mod Following
+pub mod Private

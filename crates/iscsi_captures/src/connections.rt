@@ -1,0 +1,279 @@
+//! The connections of a capture.
+
+ghost use Rattle.std.specs.Prelude.{◌≡◌, ◌≢◌, ◌<◌, ◌+◌, ◌^◌, ℕ, OnOk, IfOk, IfErr, length, max, slice_get, None, Some, [], ◌∷◌, ◌++◌};
+ghost use Rattle.iscsi_captures.specs.Following.{Hears, Steps, no_connections, unheard};
+ghost use Rattle.iscsi_captures.specs.declared.connections.Connection.{Connection};
+ghost use Rattle.iscsi_captures.specs.declared.fault.CapturesFault.TheVariants.{NoMemory};
+
+use crate::belonging::{Last, place};
+use crate::ends::{Ends, Side};
+use crate::fault::CapturesFault;
+use crate::half::{Half, WAITING};
+use crate::heard::{Heard, Said};
+use std::alloc::Global;
+use std::collections::HashMap;
+use std::marker::Model;
+
+/// How many connections are followed.
+pub const MOST_CONNECTIONS: usize = 65_536;
+/// How many bytes may wait in all directions together, as in `WAITING`: 64 MiB.
+pub const MOST_WAITING: usize = 64 * WAITING;
+
+/// A TCP connection.
+#[derive(Drop)]
+pub struct Connection {
+    /// Its ends.
+    pub ends: Ends,
+    /// Who sent its first segment.
+    pub first: Side,
+    /// Who began it, by the first SYN that was captured.
+    pub opener: Option<Side>,
+    /// What its lower end sent.
+    pub lower: Half,
+    /// What its upper end sent.
+    pub upper: Half,
+}
+
+/// The connections of a capture so far, in the order of their first segments.
+#[derive(Drop)]
+pub struct Connections {
+    alloc: Global,
+    last: HashMap<Ends, Last>,
+    list: Vec<Connection>,
+    waiting: usize,
+}
+
+impl Model for Connections {
+    ghost use Rattle.iscsi_captures.specs.Following.{Table};
+
+    ghost Value = { Table };
+
+    ghost view = { λ c. record { last = c.last.entries; connections = c.list.items } };
+}
+
+impl Connection {
+    // The connection that a segment begins, before it.
+    fn begun(heard: &Heard<'_>) -> Connection
+        ensures lower { result.lower ≡ unheard }
+        ensures upper { result.upper ≡ unheard }
+    {
+        Connection {
+            ends: heard.ends,
+            first: heard.said.side,
+            opener: None,
+            lower: Half::new(),
+            upper: Half::new(),
+        }
+    }
+
+    // Takes one of its segments.
+    fn take(
+        &mut self,
+        alloc: Global,
+        heard: &Heard<'_>,
+        out: &mut Vec<u8>,
+    ) -> Result<(), CapturesFault>
+        requires { length heard.now.bytes.now < 2 ^ 32 }
+        ensures steps { OnOk result (Steps (Some self.old) heard.now self.new
+            out.old.items out.new.items) }
+        ensures fault { IfErr result (λ fault. fault ≡ NoMemory) }
+    {
+        self.opener = opener_after(self.opener, heard.said);
+        match heard.said.side {
+            Side::Lower => self.lower.take(alloc, heard, out),
+            Side::Upper => self.upper.take(alloc, heard, out),
+        }
+    }
+
+    // How much waits in its two directions.
+    fn waiting(&self) -> usize {
+        self.lower.waiting.saturating_add(self.upper.waiting)
+    }
+
+    /// Who began it: the sender of the SYN; without one the end that begins with a login request;
+    /// else the end whose peer has port 3260; else the sender of the first segment.
+    pub fn initiator(&self) -> Side {
+        if let Some(side) = self.opener {
+            return side;
+        }
+        if self.lower.is_login() {
+            return Side::Lower;
+        }
+        if self.upper.is_login() {
+            return Side::Upper;
+        }
+        let lower = self.ends.lower.port() == PORT;
+        let upper = self.ends.upper.port() == PORT;
+        if upper && !lower {
+            return Side::Lower;
+        }
+        if lower && !upper {
+            return Side::Upper;
+        }
+        self.first
+    }
+
+    /// What an end sent.
+    pub fn half(&self, side: Side) -> &Half {
+        match side {
+            Side::Lower => &self.lower,
+            Side::Upper => &self.upper,
+        }
+    }
+}
+
+/// The port of iSCSI targets (RFC 7143, section 13.1).
+const PORT: u16 = 3260;
+
+// Who began a connection, after one more of its segments.
+fn opener_after(opener: Option<Side>, said: Said) -> Option<Side> {
+    if opener.is_some() || !said.syn {
+        return opener;
+    }
+    if said.ack {
+        Some(said.side.other())
+    } else {
+        Some(said.side)
+    }
+}
+
+// The connection with this number takes a segment; with the next number, a new one does.
+#[tactic(auto, using(crate::proofs::Places::get_set_same, crate::proofs::Places::get_set_other))]
+fn hear(
+    alloc: Global,
+    list: &mut Vec<Connection>,
+    number: usize,
+    heard: &Heard<'_>,
+    out: &mut Vec<u8>,
+) -> Result<(), CapturesFault>
+    requires { length heard.now.bytes.now < 2 ^ 32 }
+    ensures count { OnOk result (length list.new.items ≡ max (length list.old.items) (number + 1)) }
+    ensures own { OnOk result ((connection : Connection)
+        × (slice_get list.new.items number ≡ Some connection)
+        × Steps (slice_get list.old.items number) heard.now connection
+        out.old.items out.new.items) }
+    ensures others { OnOk result ((k : ℕ) → k ≢ number →
+        slice_get list.new.items k ≡ slice_get list.old.items k) }
+    ensures fault { IfErr result (λ fault. fault ≡ NoMemory) }
+{
+    if number == list.len() {
+        return hear_first(alloc, list, heard, out);
+    }
+    let Some(connection) = list.get_mut(number) else {
+        return Err(CapturesFault::NoMemory);
+    };
+    connection.take(alloc, heard, out)?;
+    Ok(())
+}
+
+// A new connection takes its first segment.
+fn hear_first(
+    alloc: Global,
+    list: &mut Vec<Connection>,
+    heard: &Heard<'_>,
+    out: &mut Vec<u8>,
+) -> Result<(), CapturesFault>
+    requires { length heard.now.bytes.now < 2 ^ 32 }
+    ensures new { OnOk result ((connection : Connection)
+        × (list.new.items ≡ list.old.items ++ connection ∷ [])
+        × Steps None heard.now connection out.old.items out.new.items) }
+    ensures fault { IfErr result (λ fault. fault ≡ NoMemory) }
+{
+    if list.len() >= MOST_CONNECTIONS {
+        return Err(CapturesFault::NoMemory);
+    }
+    let mut connection = Connection::begun(heard);
+    connection.take(alloc, heard, out)?;
+    list.push(connection)?;
+    Ok(())
+}
+
+impl Connections {
+    /// No connection. It takes no memory.
+    pub fn new(alloc: Global) -> Connections
+        ensures { result ≡ no_connections }
+    {
+        Connections {
+            alloc,
+            last: HashMap::new(alloc),
+            list: Vec::new(alloc),
+            waiting: 0,
+        }
+    }
+
+    /// The connections, in the order of their first segments.
+    pub fn list(&self) -> &[Connection]
+        ensures { result.now ≡ self.now.connections }
+    {
+        &self.list
+    }
+
+    /// Takes the next segment of the capture, and says which connection it belongs to. Appends to
+    /// `out` the bytes of its sender's stream that are known now and were not before.
+    ///
+    /// Returns `NoMemory` alone, if memory runs out or there are more than 65,536 connections.
+    /// After that nothing is said of the connections.
+    pub fn take(&mut self, heard: Heard<'_>, out: &mut Vec<u8>) -> Result<usize, CapturesFault>
+        requires { length heard.bytes.now < 2 ^ 32 }
+        ensures hears { IfOk result (λ number. Hears self.old heard.entry number self.new
+            out.old.items out.new.items) }
+        ensures fault { IfErr result (λ fault. fault ≡ NoMemory) }
+    {
+        let count = self.list.len();
+        let number = place(&mut self.last, count, heard.ends, heard.said)?;
+        let before = waiting_of(&self.list, number);
+        hear(self.alloc, &mut self.list, number, &heard, out)?;
+        let after = waiting_of(&self.list, number);
+        self.waiting = self.waiting.saturating_sub(before).saturating_add(after);
+        Ok(number)
+    }
+
+    /// Follows directions no further, each that with most, until no more waits in all of them
+    /// together than 64 MiB.
+    pub fn keep_within(&mut self) {
+        for _ in 0..MOST_CONNECTIONS {
+            if self.waiting <= MOST_WAITING {
+                return;
+            }
+            let freed = give_up_most(&mut self.list);
+            self.waiting = self.waiting.saturating_sub(freed);
+        }
+    }
+}
+
+// How much waits in the connection with this number.
+fn waiting_of(list: &[Connection], number: usize) -> usize {
+    match list.get(number) {
+        Some(connection) => connection.waiting(),
+        None => 0,
+    }
+}
+
+// The number of the connection with the direction in which most waits.
+fn most_waiting(list: &[Connection]) -> usize {
+    let mut most: usize = 0;
+    let mut number: usize = 0;
+    for (k, connection) in list.iter().enumerate() {
+        let waiting = connection.lower.waiting.max(connection.upper.waiting);
+        if waiting > most {
+            most = waiting;
+            number = k;
+        }
+    }
+    number
+}
+
+// Follows the direction no further in which most waits, and says how much that was.
+fn give_up_most(list: &mut Vec<Connection>) -> usize {
+    let most = most_waiting(list);
+    let Some(connection) = list.get_mut(most) else {
+        return 0;
+    };
+    let before = connection.waiting();
+    if connection.lower.waiting >= connection.upper.waiting {
+        connection.lower.give_up();
+    } else {
+        connection.upper.give_up();
+    }
+    before.saturating_sub(connection.waiting())
+}

@@ -1,0 +1,151 @@
+//! A capture file of any length, packet by packet.
+
+use crate::fault::CapturesFault;
+use crate::window::Window;
+use capture_file::{Capture, CaptureFault, Packet, PacketFault, Segment, Step, segment_of};
+use std::alloc::{AllocError, Global};
+use std::io::Read;
+
+/// A packet, and where it stands.
+#[derive(Clone, Copy)]
+pub struct Numbered<'a> {
+    /// The packet.
+    pub packet: Packet<'a>,
+    /// Its number, from 1.
+    pub number: u64,
+    /// How many bytes of the file stand before its record or block.
+    pub at: u64,
+}
+
+/// What a step over a file comes to.
+#[derive(Clone, Copy)]
+pub enum Stood<'a> {
+    /// A packet.
+    Packet(Numbered<'a>),
+    /// Something else that the file has.
+    Other,
+    /// The end of the file, behind a whole record or block.
+    End,
+}
+
+/// A capture file that is read from its beginning, through a buffer of 4 MiB. Nothing is read again,
+/// so it may be the standard input.
+#[derive(Drop)]
+pub struct CaptureFile {
+    window: Window,
+    capture: Capture,
+    packets: u64,
+    taken: usize,
+    skip: u64,
+    needed: usize,
+}
+
+/// How many bytes that are passed over are given up at once.
+const SKIP: u64 = 1_048_576;
+
+impl CaptureFile {
+    /// A file of which nothing was read. It takes the memory of its buffer.
+    pub fn new(alloc: Global) -> Result<CaptureFile, AllocError> {
+        Ok(CaptureFile {
+            window: Window::new(alloc)?,
+            capture: Capture::new(alloc),
+            packets: 0,
+            taken: 0,
+            skip: 0,
+            needed: 1,
+        })
+    }
+
+    /// How many packets were read.
+    pub fn packets(&self) -> u64 {
+        self.packets
+    }
+
+    /// Reads on to the next packet, or passes over something else.
+    ///
+    /// `Format`, `Length`, `Interface` and `NoMemory` come as in `Capture::step`. `Truncated` comes
+    /// where the file ends within a record or block, and `Read` where a read fails. After a fault
+    /// the same call may be made again, and nothing is said of what it returns.
+    pub fn step<R: Read>(&mut self, file: &mut R) -> Result<Stood<'_>, CapturesFault> {
+        self.window.give_up(self.taken);
+        self.taken = 0;
+        match self.window.fill(file, self.needed) {
+            Err(_) => return Err(CapturesFault::Read),
+            Ok(true) => {}
+            Ok(false) => return self.ended(),
+        }
+        if self.skip > 0 {
+            self.pass();
+            return Ok(Stood::Other);
+        }
+        self.stand()
+    }
+
+    // The file has no more bytes.
+    fn ended(&self) -> Result<Stood<'_>, CapturesFault> {
+        if self.skip > 0 || !self.window.bytes().is_empty() {
+            return Err(CapturesFault::Truncated {
+                at: self.window.at(),
+            });
+        }
+        Ok(Stood::End)
+    }
+
+    // Passes over bytes without a packet, as far as they are at hand.
+    fn pass(&mut self) {
+        let count = self.window.give_up(self.skip.min(SKIP) as usize);
+        self.skip = self.skip.saturating_sub(count as u64);
+        self.needed = 1;
+    }
+
+    // What stands at the first byte at hand.
+    fn stand(&mut self) -> Result<Stood<'_>, CapturesFault> {
+        let at = self.window.at();
+        self.needed = 1;
+        match self.capture.step(self.window.bytes()) {
+            Err(fault) => Err(file_fault(fault, at)),
+            Ok(Step::More(needed)) => {
+                self.needed = needed;
+                Ok(Stood::Other)
+            }
+            Ok(Step::Skip(count)) => {
+                self.skip = count as u64;
+                Ok(Stood::Other)
+            }
+            Ok(Step::Packet(packet, count)) => {
+                self.packets = self.packets.saturating_add(1);
+                self.taken = count;
+                Ok(Stood::Packet(Numbered {
+                    packet,
+                    number: self.packets,
+                    at,
+                }))
+            }
+        }
+    }
+}
+
+// The fault of a file at this offset.
+fn file_fault(fault: CaptureFault, at: u64) -> CapturesFault {
+    match fault {
+        CaptureFault::NoMemory => CapturesFault::NoMemory,
+        CaptureFault::Format => CapturesFault::Format { at },
+        CaptureFault::Length => CapturesFault::Length { at },
+        CaptureFault::Interface => CapturesFault::Interface { at },
+    }
+}
+
+impl<'a> Numbered<'a> {
+    /// The TCP segment of the packet; `None` if it has none that a receiver takes. The faults are
+    /// those of `segment_of`, with their place.
+    pub fn segment(&self) -> Result<Option<Segment<'a>>, CapturesFault> {
+        let packet = self.number;
+        let at = self.at;
+        match segment_of(self.packet) {
+            Ok(segment) => Ok(segment),
+            Err(PacketFault::Link(link)) => Err(CapturesFault::Link { link, at, packet }),
+            Err(PacketFault::Fragment) => Err(CapturesFault::Fragment { at, packet }),
+            Err(PacketFault::Cut) => Err(CapturesFault::Cut { at, packet }),
+        }
+    }
+}

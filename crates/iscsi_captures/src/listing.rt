@@ -1,0 +1,153 @@
+//! A line for each connection of a capture.
+
+ghost use Rattle.std.specs.Prelude.{◌≡◌, ℕ, List, ◌++◌, OnErr};
+ghost use Rattle.std.specs.Io.KnownBytes.{Appends};
+
+use crate::belonging::Start;
+use crate::connections::{Connection, Connections};
+use crate::ends::Side;
+use crate::fault::CapturesFault;
+use crate::file::{CaptureFile, Numbered, Stood};
+use crate::half::{Half, Stop};
+use crate::heard::heard_of;
+use iscsi_stream::{ToolFault, write_fully};
+use std::alloc::{AllocError, Global};
+use std::io::{Read, Write};
+
+/// Reads a capture to its end, and writes a line for each of its connections, in the order of their
+/// first packets.
+///
+/// Packets that are fragments or lack headers are passed over: they show as gaps. If the file has a
+/// fault, the lines of the connections before it are written, and then the fault returned.
+/// `NoMemory` comes before any line or after some.
+pub fn list_connections<R: Read, W: Write>(
+    alloc: Global,
+    source: &mut R,
+    w: &mut W,
+) -> Result<(), CapturesFault>
+    ensures moves { (written : List ℕ)
+        × Appends (W.contents w.old) (W.contents w.new) written }
+{
+    let mut connections = Connections::new(alloc);
+    let read = read_all(alloc, source, &mut connections);
+    let lines = lines_of(alloc, connections.list())?;
+    match write_fully(w, lines.as_bytes()) {
+        Ok(()) => read,
+        Err(_) => Err(CapturesFault::Write),
+    }
+}
+
+// Reads a capture to its end.
+fn read_all<R: Read>(
+    alloc: Global,
+    source: &mut R,
+    connections: &mut Connections,
+) -> Result<(), CapturesFault> {
+    let mut file = CaptureFile::new(alloc)?;
+    let mut out = Vec::new(alloc);
+    for _ in 0..u64::MAX {
+        match file.step(source)? {
+            Stood::Other => {}
+            Stood::Packet(packet) => hear(connections, packet, &mut out)?,
+            Stood::End => return Ok(()),
+        }
+    }
+    Ok(())
+}
+
+// Takes a packet, whose bytes are not wanted.
+fn hear(
+    connections: &mut Connections,
+    packet: Numbered<'_>,
+    out: &mut Vec<u8>,
+) -> Result<(), CapturesFault> {
+    match packet.segment() {
+        Ok(Some(segment)) => {
+            out.clear();
+            connections.take(heard_of(&segment, packet.number), out)?;
+            connections.keep_within();
+            Ok(())
+        }
+        Ok(None) | Err(CapturesFault::Cut { .. } | CapturesFault::Fragment { .. }) => Ok(()),
+        Err(fault) => Err(fault),
+    }
+}
+
+// The lines of all connections.
+fn lines_of(alloc: Global, list: &[Connection]) -> Result<String, AllocError> {
+    let mut lines = String::new(alloc);
+    for (k, connection) in list.iter().enumerate() {
+        write_line(&mut lines, k, connection)?;
+    }
+    Ok(lines)
+}
+
+// Appends the line of a connection: its number, the ends, how many bytes of each are known, and
+// remarks.
+fn write_line(line: &mut String, k: usize, connection: &Connection) -> Result<(), AllocError> {
+    let side = connection.initiator();
+    let (initiator, target) = match side {
+        Side::Lower => (connection.ends.lower, connection.ends.upper),
+        Side::Upper => (connection.ends.upper, connection.ends.lower),
+    };
+    let sent = connection.half(side);
+    let answered = connection.half(side.other());
+    let (first, second) = (sent.known, answered.known);
+    write!(line, "{k} {initiator} {target} {first} {second}")?;
+    write_remarks(line, connection, sent, answered)?;
+    writeln!(line)
+}
+
+// Appends what is to be remarked: a login, a beginning that is missing, and why a direction was not
+// followed to its end.
+fn write_remarks(
+    line: &mut String,
+    connection: &Connection,
+    sent: &Half,
+    answered: &Half,
+) -> Result<(), AllocError> {
+    if sent.is_login() {
+        write!(line, " login")?;
+    }
+    if is_begun(connection) {
+        write!(line, " begun")?;
+    }
+    write_gap(line, "initiator", sent)?;
+    write_gap(line, "target", answered)?;
+    write_conflict(line, "initiator", sent)?;
+    write_conflict(line, "target", answered)?;
+    write_cut(line, "initiator", sent)?;
+    write_cut(line, "target", answered)
+}
+
+// Whether a SYN of the connection is missing.
+fn is_begun(connection: &Connection) -> bool {
+    connection.opener.is_none()
+        || matches!(connection.lower.start, Start::Bytes(_))
+        || matches!(connection.upper.start, Start::Bytes(_))
+}
+
+// Appends which byte of a direction is missing, unless its capture was cut.
+fn write_gap(line: &mut String, end: &str, half: &Half) -> Result<(), AllocError> {
+    match half.stopped() {
+        Some(Stop::Gap(at, _)) if half.cut_in == 0 => write!(line, " gap {end} {at}"),
+        _ => Ok(()),
+    }
+}
+
+// Appends for which byte of a direction there are two values.
+fn write_conflict(line: &mut String, end: &str, half: &Half) -> Result<(), AllocError> {
+    match half.stopped() {
+        Some(Stop::Conflict(at, _)) => write!(line, " conflict {end} {at}"),
+        _ => Ok(()),
+    }
+}
+
+// Appends how much of a direction is known, if not all of its bytes were captured.
+fn write_cut(line: &mut String, end: &str, half: &Half) -> Result<(), AllocError> {
+    if half.cut_in == 0 {
+        return Ok(());
+    }
+    let known = half.known;
+    write!(line, " cut {end} {known}")
+}

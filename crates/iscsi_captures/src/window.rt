@@ -1,0 +1,107 @@
+//! A file through a buffer of fixed length.
+
+ghost use Rattle.std.specs.Prelude.{◌≤◌};
+
+use std::alloc::{AllocError, Global};
+use std::io::Read;
+
+/// How long the buffer is: 4 MiB, of which a record takes a quarter at most.
+const BUFFER: usize = 4_194_304;
+
+/// A read failed.
+#[derive(Clone, Copy, Debug, PartialEq, Eq)]
+pub(crate) struct ReadFailed;
+
+/// The part of a file that is at hand: the bytes from `from` to `to` of the buffer.
+#[derive(Drop)]
+pub(crate) struct Window {
+    buffer: Vec<u8>,
+    from: usize,
+    to: usize,
+    at: u64,
+    ended: bool,
+    ghost ordered: { from ≤ to },
+    ghost within: { to ≤ buffer.len },
+}
+
+impl Window {
+    /// Nothing is at hand. It takes the memory of the buffer.
+    pub(crate) fn new(alloc: Global) -> Result<Window, AllocError> {
+        let buffer = vec![in alloc; 0u8; BUFFER]?;
+        Ok(Window {
+            buffer,
+            from: 0,
+            to: 0,
+            at: 0,
+            ended: false,
+        })
+    }
+
+    /// The bytes that are at hand.
+    pub(crate) fn bytes(&self) -> &[u8] {
+        &self.buffer[self.from..self.to]
+    }
+
+    /// How many bytes of the file stand before them.
+    pub(crate) fn at(&self) -> u64 {
+        self.at
+    }
+
+    /// Gives up the first bytes, as many as there are, and says how many.
+    pub(crate) fn give_up(&mut self, count: usize) -> usize
+        ensures { result ≤ count }
+    {
+        let count = count.min(self.to - self.from);
+        self.from += count;
+        self.at = self.at.saturating_add(count as u64);
+        count
+    }
+
+    /// Reads on until this many bytes are at hand. Returns `false` if the file has no more, and
+    /// then all that it has are at hand.
+    pub(crate) fn fill<R: Read>(
+        &mut self,
+        file: &mut R,
+        needed: usize,
+    ) -> Result<bool, ReadFailed> {
+        if self.to - self.from >= needed {
+            return Ok(true);
+        }
+        self.move_front();
+        for _ in 0..u64::MAX {
+            if self.to >= needed {
+                return Ok(true);
+            }
+            if self.ended || self.to == self.buffer.len() {
+                return Ok(false);
+            }
+            self.read(file)?;
+        }
+        Ok(false)
+    }
+
+    // Moves the bytes at hand to the front of the buffer.
+    fn move_front(&mut self) {
+        let from = self.from;
+        let to = self.to;
+        self.buffer.copy_within(from..to, 0);
+        self.from = 0;
+        self.to = to - from;
+    }
+
+    // Reads once, after the bytes at hand.
+    fn read<R: Read>(&mut self, file: &mut R) -> Result<(), ReadFailed> {
+        let to = self.to;
+        match file.read(&mut self.buffer[to..]) {
+            Ok(0) => {
+                self.ended = true;
+                Ok(())
+            }
+            Ok(n) => {
+                self.to = to + n;
+                Ok(())
+            }
+            Err(_) => Err(ReadFailed),
+        }
+    }
+}

@@ -1,0 +1,69 @@
+//! Captures that are cut off, and reads and writes that fail.
+
+use super::captures::{LOGIN, WHOLE};
+use super::{bytes_of, normalise};
+use crate::asserts::{same, same_bytes};
+use iscsi_captures::{CapturesFault, End, Wanted, list_connections};
+use iscsi_examples::{Sink, Source, Steps};
+use std::alloc::Global;
+use std::process::Abort;
+
+/// The first direction of the capture.
+const WANTED: Wanted = Wanted {
+    connection: 0,
+    end: End::Initiator,
+};
+
+// The capture cut off after this many bytes: either the request was written, or nothing.
+fn is_cut_off(rt: &impl Abort, alloc: Global, file: &[u8], login: &[u8]) {
+    let mut source = file;
+    let mut out = Vec::new(alloc);
+    let result = normalise(alloc, &mut source, WANTED, &mut out);
+    // Records end behind 24, 80, 136, 240 and 344 bytes.
+    let whole = matches!(file.len(), 0 | 24 | 80 | 136 | 240 | 344);
+    let truncated = matches!(result, Err(CapturesFault::Truncated { .. }));
+    same(rt, &truncated, &!whole, &file.len());
+    let due = if file.len() < 240 { &login[..0] } else { login };
+    same_bytes(rt, &out, due, &file.len());
+}
+
+#[test]
+fn a_capture_that_is_cut_off_says_so(rt: HostRuntime) {
+    let file = bytes_of(&rt, rt.alloc(), WHOLE);
+    let login = bytes_of(&rt, rt.alloc(), LOGIN);
+    for length in 0..=file.len() {
+        is_cut_off(&rt, rt.alloc(), &file[..length], &login);
+    }
+}
+
+#[test]
+fn a_read_that_fails_is_told(rt: HostRuntime) {
+    let file = bytes_of(&rt, rt.alloc(), WHOLE);
+    let login = bytes_of(&rt, rt.alloc(), LOGIN);
+    let steps = Steps {
+        step: 250,
+        before: Some(1),
+    };
+    let mut out = Vec::new(rt.alloc());
+    let mut source = Source::new(&file, steps);
+    let result = normalise(rt.alloc(), &mut source, WANTED, &mut out);
+    same(&rt, &result, &Err(CapturesFault::Read), &"stream");
+    same_bytes(&rt, &out, &login, &"stream");
+    let mut source = Source::new(&file, steps);
+    let result = list_connections(rt.alloc(), &mut source, &mut out);
+    same(&rt, &result, &Err(CapturesFault::Read), &"lines");
+}
+
+#[test]
+fn a_write_that_fails_is_told(rt: HostRuntime) {
+    let file = bytes_of(&rt, rt.alloc(), WHOLE);
+    let steps = Steps {
+        step: 10,
+        before: Some(1),
+    };
+    let mut sink = Sink::new(rt.alloc(), steps);
+    let mut source = file.as_slice();
+    let result = normalise(rt.alloc(), &mut source, WANTED, &mut sink);
+    same(&rt, &result, &Err(CapturesFault::Write), &"stream");
+    same(&rt, &sink.taken.len(), &10, &"stream");
+}

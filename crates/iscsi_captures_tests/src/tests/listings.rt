@@ -1,0 +1,63 @@
+//! The lines of connections.
+
+use super::bytes_of;
+use super::captures::{BEGUN, CONFLICT, CUT, FRAGMENT, GAP, LATE, LINK, RESET, REUSED, WHOLE};
+use crate::asserts::{same_bytes, same_text};
+use iscsi_captures::list_connections;
+use std::alloc::Global;
+use std::process::Abort;
+
+/// A capture, its lines behind the two ends, and the fault.
+const ROWS: &[(&str, &[u8], &str)] = &[
+    (WHOLE, b"0 10.0.0.1:40000 10.0.0.2:3260 48 48 login\n", ""),
+    (LATE, b"0 10.0.0.1:40000 10.0.0.2:3260 48 0 login\n", ""),
+    (
+        GAP,
+        b"0 10.0.0.1:40000 10.0.0.2:3260 48 0 login gap initiator 48\n",
+        "",
+    ),
+    (
+        CONFLICT,
+        b"0 10.0.0.1:40000 10.0.0.2:3260 0 0 conflict initiator 12\n",
+        "",
+    ),
+    (
+        REUSED,
+        b"0 10.0.0.1:40000 10.0.0.2:3260 48 0 login\n1 10.0.0.1:40000 10.0.0.2:3260 48 0\n",
+        "",
+    ),
+    (
+        BEGUN,
+        b"0 10.0.0.1:40000 10.0.0.2:3260 48 0 login begun\n",
+        "",
+    ),
+    (
+        CUT,
+        b"0 10.0.0.1:40000 10.0.0.2:3260 20 0 login cut initiator 20\n",
+        "",
+    ),
+    (FRAGMENT, b"0 10.0.0.1:40000 10.0.0.2:3260 0 0\n", ""),
+    (RESET, b"0 10.0.0.1:40000 10.0.0.2:3260 48 0 login\n", ""),
+    (LINK, b"", "capture: link type 147 at 24 (packet 1)"),
+];
+
+// One row.
+fn is_listed(rt: &impl Abort, alloc: Global, capture: &str, lines: &[u8], fault: &str) {
+    let file = bytes_of(rt, alloc, capture);
+    let mut source = file.as_slice();
+    let mut out = Vec::new(alloc);
+    let result = list_connections(alloc, &mut source, &mut out);
+    same_bytes(rt, &out, lines, &lines);
+    if let Err(said) = result {
+        same_text(rt, alloc, &said, fault, &lines);
+    } else {
+        same_bytes(rt, b"", fault.as_bytes(), &lines);
+    }
+}
+
+#[test]
+fn connections_have_their_lines(rt: HostRuntime) {
+    for (capture, lines, fault) in ROWS {
+        is_listed(&rt, rt.alloc(), capture, lines, fault);
+    }
+}
