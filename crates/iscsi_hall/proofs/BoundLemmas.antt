@@ -1,48 +1,27 @@
 -- How many tasks a session keeps, and how many commands a PDU has executed.
-use Rattle.std.proofs.Common.{◌≡◌, ◌≤◌, ◌<◌, inl, inr, ℕ, suc, ◌+◌, ◌^◌, Bool, true, false, List, [], ◌∷◌, ◌++◌, length, Option, Some, None, refl, sym, ap}
-use Rattle.std.proofs.Common.{subst, ◌∙◌, ◌*◌, append-nil, arith, length-append, map}
-use Rattle.std.specs.Prelude.{◌==◌, ◌&&◌, ◌||◌, nat_lt, nat_le, not, filter, if◌then◌else◌, Result}
+use Rattle.std.proofs.Common.{◌≡◌, ◌≤◌, ◌<◌, inl, inr, ℕ, ◌+◌, Bool, true, List, [], ◌∷◌, ◌++◌, length, Option, Some, None, refl, sym}
+use Rattle.std.proofs.Common.{subst, ◌*◌, append-nil, arith, length-append, map}
+use Rattle.std.specs.Prelude.{◌==◌, ◌&&◌, ◌||◌, nat_lt, not, Result}
 use Rattle.std.specs.List.{AllByRecursion}
 use Rattle.std.proofs.lemmas.Bool.{eqb-true, ltb-true}
-use Rattle.std.proofs.lemmas.List.Elements.{filter-append}
 use Rattle.scsi_disk.specs.Disk.{Disk}
 use Rattle.scsi_disk.specs.Plan.{is_read, plan_of, transfer, wanted_length}
 use Rattle.scsi_disk.specs.declared.order.Order.{Order}
 use Rattle.scsi_disk.proofs.PlanLemmas.{IsGiven, IsTaken, given as given_by_plan, taken as taken_by_plan}
-use Rattle.scsi_disk.specs.declared.order.Plan.{Plan}
 use Rattle.scsi_disk.specs.declared.order.Plan.TheVariants as plans
-use Rattle.iscsi_pdu.specs.declared.head.Head.{Head}
-use Rattle.iscsi_pdu.specs.declared.head.Head.TheVariants as heads
-use Rattle.iscsi_pdu.specs.declared.head.scsi_command.ScsiCommand.{ScsiCommand as CommandPdu}
-use Rattle.iscsi_pdu.specs.declared.head.data_out.DataOut.{DataOut as DataPdu}
-use Rattle.iscsi_pdu.specs.Serial.{distance, is_within}
-use Rattle.iscsi_stream.specs.Segment.{segment_bytes}
 use Rattle.iscsi_stream.specs.Stream.{Message}
 use Rattle.iscsi_stream.specs.Canonical.{canon}
-use Rattle.iscsi_login.specs.Held.{first_burst}
-use Rattle.iscsi_login.specs.Stage.{is_closed_phase}
-use Rattle.iscsi_target_session.specs.Session.{Session as SessionState, Reply}
-use Rattle.iscsi_target_session.specs.Rejecting.{reject_and_close, reject}
-use Rattle.iscsi_target_session.specs.Login.{login_step}
 use Rattle.iscsi_target_session.proofs.CaseLemmas.{by_cases}
-use Rattle.iscsi_target.specs.Write.{Write}
 use Rattle.iscsi_target.specs.declared.tasks.Task.{Task}
 use Rattle.iscsi_target.specs.declared.tasks.Task.TheVariants.{Request, Data}
-use Rattle.iscsi_target.specs.State.{Machine, Execution, Stepped, joined_task, left, max_cmd_sn, on, opening, takes_place, unchanged, waiting}
-use Rattle.iscsi_target.specs.Transfer.{is_in_sequence, received, taken, with_data, with_r2t}
-use Rattle.iscsi_target.specs.Execution.{Device, execute}
-use Rattle.iscsi_target.specs.Command.{led_by, order_of, send_r2t, task_by, task_of, task_planned}
-use Rattle.iscsi_target.specs.Machine.{MayAnswer, begun, done_in_turn, having_accepted, is_closed, step_on, then_stepped, with_write, write_of}
-use Rattle.iscsi_target.specs.Laws.{HasCmdSn, FitsNumber, cmd_sn_if, cmd_sn_of}
+use Rattle.iscsi_target.specs.State.{Machine, Execution, Stepped, joined_task, opening}
+use Rattle.iscsi_target.specs.Transfer.{received}
+use Rattle.iscsi_target.specs.Machine.{is_closed}
 use Rattle.iscsi_target_session.specs.Configured.{Settings}
-use Rattle.iscsi_target.proofs.StepPartLemmas.{Accepts, Immediately, InTurn, Parts, step_parts}
-use Rattle.iscsi_target.proofs.TurnLemmas.{Begins, Opens, Turns, Waits, Writes, begins, turns, with_tasks}
-use Rattle.iscsi_target.proofs.AcceptedOrderLaw.{found_tag, same_tasks}
-use Rattle.iscsi_target.proofs.WindowLemmas.{few_more, has_room}
 use Rattle.iscsi_target.specs.declared.fault.TargetFault.{TargetFault}
 use Rattle.iscsi_target.specs.Feed.{Store}
 use Rattle.iscsi_hall.specs.Seats.{Hall, Seat, has_room as has_room_at, may_take_at, seat_at, waiting_at}
-use Rattle.iscsi_hall.specs.Turns.{Event, Comes, Takes, Ends, Goes, IsEnded, IsLeft, Session, TakesTurn, answers_of}
+use Rattle.iscsi_hall.specs.Turns.{Event, Comes, Takes, Syncs, Ends, Goes, IsEnded, IsLeft, Session, TakesTurn, answers_of}
 use Rattle.iscsi_hall.specs.Company.{Group, HaveCount, answers_over}
 use Rattle.iscsi_hall.specs.Bounds.{ExecutesFew, HoldsFew, IsNumbered}
 use Rattle.iscsi_target.proofs.WriteTilingLaws.{IsSound}
@@ -50,7 +29,6 @@ use Rattle.iscsi_target.proofs.QueueLemmas.{AreFew, AlikeIn, AtPdus, nine, no_fe
 use Rattle.iscsi_hall.proofs.CompanyLemmas.{over_sound}
 use Rattle.iscsi_stream.proofs.ReadyLemmas.{and_left, and_right}
 use Rattle.iscsi_target.proofs.JoiningLemmas.{same_place}
-use Rattle.iscsi_target.proofs.TaskPlaceLemmas.{behind_some}
 
 -- ---- a session in company
 
@@ -79,6 +57,9 @@ unfolding Session
 session_few s end [] h all f = record { keeps = subst (λ (x : Machine). AreFew x.tasks) (sym h) f; each = tt }
 session_few s end (Comes k settings ∷ es) h all f = absurd h
 session_few s end (Goes k ∷ es) h all f = absurd h
+session_few s end (Syncs k ∷ es) h all f =
+    let later : InSession es end = session_few s end es h all.1 f in
+    record { keeps = later.keeps; each = (omega arith, later.each) }
 session_few s end (Ends k ∷ es) h all f =
     let later : InSession es end = session_few h.0 end es h.2 all.1 (is_ended_few s h.0 h.1 f) in
     record { keeps = later.keeps; each = (omega arith, later.each) }

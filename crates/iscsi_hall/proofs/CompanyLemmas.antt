@@ -22,7 +22,7 @@ use Rattle.iscsi_target.proofs.ReplyLemmas.{Count}
 use Rattle.iscsi_target.proofs.SendingLemmas.{StepTells, count_append, step_tells}
 use Rattle.iscsi_target.proofs.WriteTilingLaws.{KeepsWrites, answers_sound, step_goes}
 use Rattle.iscsi_target.proofs.WriteTilingLaws.{IsSound}
-use Rattle.iscsi_hall.specs.Turns.{Event, Comes, Takes, Ends, Goes, IsEnded, IsLeft, Session, executed_in}
+use Rattle.iscsi_hall.specs.Turns.{Event, Comes, Takes, Syncs, Ends, Goes, IsEnded, IsLeft, Session, executed_in}
 use Rattle.iscsi_hall.specs.Company.{Group, HaveCount, IsCalm, answers_in, answers_over, groups_in}
 
 -- ---- StatSN and tags
@@ -174,6 +174,7 @@ closed_quiet s end [] e h = (refl, refl, refl)
 closed_quiet s end (Comes k settings ∷ es) e h = absurd h
 closed_quiet s end (Goes k ∷ es) e h = absurd h
 closed_quiet s end (Takes t ∷ es) e h = let f : is_closed s ≡ false = h.1.live in absurd (cc (e, f))
+closed_quiet s end (Syncs k ∷ es) e h = closed_quiet s end es e h
 closed_quiet s end (Ends k ∷ es) e h = elim h.1 [
   | inl same ↦ closed_quiet h.0 end es (ap is_closed same ∙ e) h.2
   | inr over ↦ closed_quiet h.0 end es (ap is_closed over) h.2
@@ -204,6 +205,7 @@ unfolding Session answers_over
 session_answers s end [] h calm disk = refl
 session_answers s end (Comes k settings ∷ es) h calm disk = absurd h
 session_answers s end (Goes k ∷ es) h calm disk = absurd h
+session_answers s end (Syncs k ∷ es) h calm disk = session_answers s end es h calm.1 disk
 session_answers s end (Ends k ∷ es) h calm disk = ended_answers s h.0 end es h.1 h.2 (session_answers h.0 end es h.2 calm.1) disk
 session_answers s end (Takes t ∷ es) h calm disk =
     let r : Stepped = answers s t.before.disk t.messages in

@@ -11,7 +11,6 @@ use Rattle.iscsi_target_session.specs.Session.{opening_session}
 use Rattle.iscsi_target_session.specs.Login.{login_in, login_request, numbered}
 use Rattle.iscsi_target_session.specs.Configured.{Settings}
 use Rattle.iscsi_target.specs.State.{Machine, Stepped, on, opening, shut_down}
-use Rattle.iscsi_target.specs.Execution.{reliable}
 use Rattle.iscsi_target.specs.Machine.{answers, is_closed, is_over_limit, step, then_stepped}
 use Rattle.iscsi_target.specs.Laws.{CountOn, FitsNumber, HasCmdSn, login_cmd_sn, given_number, cmd_sn_of, cmd_sns}
 use Rattle.iscsi_target_session.proofs.CaseLemmas.{by_cases}

@@ -11,7 +11,7 @@ use Rattle.iscsi_target.specs.Feed.{Store}
 use Rattle.iscsi_target.proofs.DiskFoldLemmas.{Does, Goes, step_does, first_does}
 use Rattle.iscsi_target.proofs.FeedInvariant.{may_rise}
 use Rattle.iscsi_target.proofs.ServingLemmas.{runs_rise}
-use Rattle.iscsi_hall.specs.Turns.{Seats, Turn, IsFront, IsOwn, Event, Comes, Takes, Ends, Goes as Leaves, Happens, Runs, executed_of, executed_by, executed_in}
+use Rattle.iscsi_hall.specs.Turns.{Seats, Turn, IsFront, IsOwn, Event, Comes, Takes, Syncs, Ends, Goes as Leaves, Happens, Runs, executed_of, executed_by, executed_in}
 use Rattle.iscsi_hall.specs.Blocks.{Follows}
 
 follow_append : (disk mid last : Disk) (a b : List Execution) → Follows disk a mid → Follows mid b last → Follows disk (a ++ b) last
@@ -93,6 +93,7 @@ happens_rises seats store (Takes t) after last h =
     let b = ap (λ (x : Store). x.failures) h.met in
     let d = ap (λ (x : Store). x.failures) h.last_is in
     omega (arith, a, b, d)
+happens_rises seats store (Syncs k) after last h = h.2
 happens_rises seats store (Ends k) after last h = none_rises store last h.1
 happens_rises seats store (Leaves k) after last h = none_rises store last h.2
 
@@ -101,6 +102,10 @@ unfolding Runs
 runs_rises seats after store last [] r = none_rises store last r.1
 runs_rises seats after store last (e ∷ es) r =
     let a = happens_rises seats store e r.0 r.1 r.2 in let b = runs_rises r.0 after r.1 last es r.3 in omega (arith, a, b)
+
+sync_follows : (store last : Store) → last.disk ≡ store.disk → Follows store.disk [] last.disk
+unfolding Follows
+sync_follows store last e = e
 
 none_follows : (store last : Store) → last ≡ store → Follows store.disk [] last.disk
 unfolding Follows
@@ -114,6 +119,7 @@ happens_follows seats store (Takes t) after last h same =
     let d = ap (λ (x : Store). x.failures) h.last_is in
     subst (λ (x : Store). Follows x.disk (executed_of t) last.disk) h.met
     (subst (λ (x : Store). Follows t.before.disk (executed_of t) x.disk) (sym h.last_is) (own_follows h.machine t h.own (omega (arith, b, d, same))))
+happens_follows seats store (Syncs k) after last h same = sync_follows store last h.1
 happens_follows seats store (Ends k) after last h same = none_follows store last h.1
 happens_follows seats store (Leaves k) after last h same = none_follows store last h.2
 

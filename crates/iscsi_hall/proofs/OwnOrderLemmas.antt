@@ -10,7 +10,7 @@ use Rattle.iscsi_target.specs.State.{Machine, Execution, Stepped, opening}
 use Rattle.iscsi_target.specs.Machine.{answers, is_closed}
 use Rattle.iscsi_target.specs.Feed.{Store}
 use Rattle.iscsi_target.specs.Laws.{AreInOrder, Command, joined_execution, tasks_done, tasks_in}
-use Rattle.iscsi_hall.specs.Turns.{Event, Comes, Takes, Ends, Goes, IsEnded, IsLeft, Runs, Seats, Session, Stays, executed_by, executed_in, events_of, only_if}
+use Rattle.iscsi_hall.specs.Turns.{Event, Comes, Takes, Syncs, Ends, Goes, IsEnded, IsLeft, Runs, Seats, Session, Stays, executed_by, executed_in, events_of, only_if}
 use Rattle.iscsi_hall.specs.Turns.{seat_of}
 use Rattle.iscsi_hall.specs.Company.{Group, IsCalm, answers_over, groups_in}
 use Rattle.iscsi_hall.specs.OwnOrder.{Placed, placed_by, placed_in, executed_for}
@@ -90,6 +90,7 @@ unfolding Session answers_over
 session_executes s end [] h calm disk = refl
 session_executes s end (Comes k settings ∷ es) h calm disk = absurd h
 session_executes s end (Goes k ∷ es) h calm disk = absurd h
+session_executes s end (Syncs k ∷ es) h calm disk = session_executes s end es h calm.1 disk
 session_executes s end (Ends k ∷ es) h calm disk = ended_executes s h.0 end es h.1 h.2 (session_executes h.0 end es h.2 calm.1) disk
 session_executes s end (Takes t ∷ es) h calm disk =
     let r : Stepped = answers s t.before.disk t.messages in

@@ -79,11 +79,12 @@ pub record IsTurn (seats : Seats) (store : Store) (t : Turn) (after : Seats)
 
 -- ---- a hall's life
 
--- What happens in a hall: a session gets a free seat, takes a turn, has its stream ended, or
--- leaves.
+-- What happens in a hall: a session gets a free seat, takes a turn, has the store synced for its
+-- answers, has its stream ended, or leaves.
 pub data Event : Type 0 where
   Comes : ℕ → Settings → Event
   Takes : Turn → Event
+  Syncs : ℕ → Event
   Ends : ℕ → Event
   Goes : ℕ → Event
 
@@ -96,12 +97,14 @@ pub record Moves (seat : ℕ) (seats after : Seats) (P : Machine → Machine →
   pub has : after seat ≡ Some left
   pub others : OthersStay seat seats after
 
--- This happens, and the blocks change by turns alone.
+-- This happens, and the blocks change by turns alone. A sync may count failures.
 abbrev pub Happens : Seats → Store → Event → Seats → Store → Type 0
 Happens seats store (Comes seat settings) after last =
     (seats seat ≡ None) × (after seat ≡ Some (opening settings 1))
     × OthersStay seat seats after × (last ≡ store)
 Happens seats store (Takes t) after last = IsTurn seats store t after last
+Happens seats store (Syncs seat) after last =
+    ((k : ℕ) → after k ≡ seats k) × (last.disk ≡ store.disk) × (store.failures ≤ last.failures)
 Happens seats store (Ends seat) after last = Moves seat seats after IsEnded × (last ≡ store)
 Happens seats store (Goes seat) after last =
     (after seat ≡ None) × OthersStay seat seats after × (last ≡ store)
@@ -127,6 +130,7 @@ executed_in es = flat_map executed_by es
 abbrev pub seat_of : Event → ℕ
 seat_of (Comes seat settings) = seat
 seat_of (Takes t) = t.seat
+seat_of (Syncs seat) = seat
 seat_of (Ends seat) = seat
 seat_of (Goes seat) = seat
 
@@ -146,6 +150,7 @@ unfoldable pub Session : Machine → List Event → Machine → Type 0
 Session s [] last = last ≡ s
 Session s (Takes t ∷ es) last =
     (mid : Machine) × IsOwn s t × IsLeft t.front.machine mid × Session mid es last
+Session s (Syncs seat ∷ es) last = Session s es last
 Session s (Ends seat ∷ es) last = (mid : Machine) × IsEnded s mid × Session mid es last
 Session s (Comes seat settings ∷ es) last = ⊥
 Session s (Goes seat ∷ es) last = ⊥
@@ -154,6 +159,7 @@ Session s (Goes seat ∷ es) last = ⊥
 abbrev pub KeepsSession : Bool → Event → Type 0
 KeepsSession false e = Unit {0}
 KeepsSession true (Takes t) = Unit {0}
+KeepsSession true (Syncs seat) = Unit {0}
 KeepsSession true (Ends seat) = Unit {0}
 KeepsSession true (Comes seat settings) = ⊥
 KeepsSession true (Goes seat) = ⊥

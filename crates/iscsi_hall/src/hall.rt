@@ -8,7 +8,7 @@ ghost use Rattle.iscsi_target.specs.Crash.{CrashesNext};
 ghost use Rattle.iscsi_target.specs.Inside.{store_of};
 ghost use Rattle.iscsi_hall.specs.Seats.{initiator_at, opening_seat, phase_of, may_read_at, may_take_at, most_read, received, with_sent, waiting_at, seat_at, with_seat, Changes, Takes, FinishesAt};
 ghost use Rattle.iscsi_hall.specs.Reinstatement.{takes_place_of};
-ghost use Rattle.iscsi_hall.specs.Turns.{Comes, Ends, Goes, HappensIn, SameMachines, TakesTurn};
+ghost use Rattle.iscsi_hall.specs.Turns.{Comes, Ends, Goes, Happens, HappensIn, SameMachines, Syncs, TakesTurn, machines};
 
 use crate::seat::Seat;
 use iscsi_login::Phase;
@@ -233,6 +233,10 @@ impl Hall {
         ensures crash { Within (S.kept store.old) (S.kept store.new) }
         ensures tells { Tells (S.disk store.old).tells (S.failures store.old) (S.failures store.new)
             (S.untold store.old) (S.untold store.new) result }
+        // Whatever comes of it, it is the event of a sync.
+        ensures syncs { Happens (machines self.now)
+            (store_of (S.disk store.old) (S.failures store.old)) (Syncs seat)
+            (machines self.now) (store_of (S.disk store.new) (S.failures store.new)) }
     {
         store.sync()?;
         Ok(self.waiting(seat))
