@@ -4,12 +4,13 @@
     tools/strangers/floods.py [--seconds S | --hour] [PROGRAM]
 
 PROGRAM is crates/lanthovur/out/lanthovur if none is named; `./lanthovur </dev/null` builds it. All is done on 127.0.0.1. The
-honest peer has one read of a block outstanding, and looks at each byte of its answer. For each kind of flood a row tells its
-median and its slowest read in ms, the bound that is wanted, and memory and descriptors of the service before and behind. A
-median over its bound is a failure. The last line is 'N passed, M failed'. It takes S seconds (4) a kind, or an hour, and some
-seconds more. A flood that has sent all its commands logs in anew.
+honest peer has one read of a block outstanding, of blocks that it wrote before, each with its number in it, and looks at each
+byte of its answer. For each kind of flood a row tells its median and its slowest read in ms, the bound that is wanted, and memory
+and descriptors of the service before and behind. A median over its bound is a failure. The last line is 'N passed, M failed'. It
+takes S seconds (4) a kind, or an hour, and some seconds more. A flood that has sent all its commands logs in anew.
 """
 import argparse
+import functools
 import importlib.util
 import itertools
 import multiprocessing
@@ -19,6 +20,7 @@ import statistics
 import string
 import struct
 import sys
+import tempfile
 import time
 
 TOP = os.path.dirname(os.path.dirname(os.path.dirname(os.path.abspath(__file__))))
@@ -65,17 +67,9 @@ def text(n):
     return pdu(0x04, keys.encode(), p1=b"\x80", p16=number(n), p20=number(0xFFFFFFFF), p24=number(n))
 
 
-# Each kind with the blocks of its commands, what makes one, and the most ms that the median may take beside it.
-KINDS = [
-    ("writes of a block", lambda n: write(n, 1), 20),
-    ("reads of 64 KiB", lambda n: read(n, 128), 20),
-    ("reads of 4 MiB", lambda n: read(n, 8192), None),
-    ("texts", text, None),
-]
-
-
-def flood(port, stream, count, stop):
-    """Some peers that send one stream of commands, and throw away what is answered. A peer that is cut ends all."""
+def flood(make, port, count, stop):
+    """Some peers that send one stream of such commands, and throw away what is answered. A peer that is cut ends all."""
+    stream = b"".join(make(n) for n in range(1, (COMMANDS if len(make(1)) < 1000 else COMMANDS // 10) + 1))
     watched = selectors.DefaultSelector()
 
     def begin(k):
@@ -101,6 +95,93 @@ def flood(port, stream, count, stop):
                 begin(k)
 
 
+def data_out(r2t, segment=8192):
+    """The data that an R2T asks for."""
+    tag, transfer, lun = r2t[16:20], r2t[20:24], r2t[8:16]
+    begin, length = (int.from_bytes(r2t[at:at + 4], "big") for at in (40, 44))
+    made = b""
+    for k, at in enumerate(range(begin, begin + length, segment)):
+        size = min(segment, begin + length - at)
+        last = b"\x80" if at + size == begin + length else b"\0"
+        made += pdu(0x05, b"w" * size, p1=last, p8=lun, p16=tag, p20=transfer, p36=number(k), p40=number(at))
+    return made
+
+
+class Writer:
+    """A peer that sends commands of which the first is a write, and its data as it is asked for them."""
+
+    def __init__(self, port, make, name):
+        self.peer, self.make, self.n, self.due, self.came, self.out = BASE.login(port, name, KEYS), make, 1, 0, b"", b""
+        self.begin()
+
+    def begin(self):
+        sent, count = self.make(self.n)
+        self.out += sent
+        self.n += count
+        self.due = count
+
+    def take(self, data):
+        """Takes what came."""
+        self.came += data
+        while len(self.came) >= 48:
+            size = 48 + (int.from_bytes(self.came[5:8], "big") + 3) // 4 * 4
+            if len(self.came) < size:
+                break
+            head, self.came = self.came[:48], self.came[size:]
+            if head[0] == 0x31:
+                self.out += data_out(head)
+            elif head[0] == 0x21:
+                self.due -= 1
+        if self.due == 0:
+            self.begin()
+
+
+def write_flood(make, port, count, stop):
+    """Some peers that have one write, with what is behind it, done after another."""
+    watched = selectors.DefaultSelector()
+    for k in range(count):
+        writer = Writer(port, make, f"iqn.2026-01.example:{os.getpid()}-{k}")
+        writer.peer.setblocking(False)
+        watched.register(writer.peer, selectors.EVENT_READ | selectors.EVENT_WRITE, writer)
+    while not stop.is_set():
+        for key, events in watched.select(0.1):
+            writer = key.data
+            try:
+                if events & selectors.EVENT_READ:
+                    data = writer.peer.recv(1 << 20)
+                    if not data:
+                        raise OSError("a flood was cut")
+                    writer.take(data)
+                if writer.out:
+                    writer.out = writer.out[writer.peer.send(writer.out[:1 << 18]):]
+            except BlockingIOError:
+                pass
+            wanted = selectors.EVENT_READ | (selectors.EVENT_WRITE if writer.out else 0)
+            if key.events != wanted:
+                watched.modify(writer.peer, wanted, writer)
+
+
+def resets(port, count, stop):
+    """Connections without a byte that are reset, one after another."""
+    while not stop.is_set():
+        BASE.leave_at_once(port)
+
+
+def garbage(port, count, stop):
+    """Connections that send a login of noise, and wait for its end, some at a time."""
+    login = pdu(0x43, os.urandom(4096), p1=b"\x87", p24=number(1))
+    while not stop.is_set():
+        peers = [BASE.connect(port) for _ in range(count)]
+        for peer in peers:
+            try:
+                peer.sendall(login)
+                while peer.recv(4096):
+                    pass
+            except ConnectionError:
+                pass
+            peer.close()
+
+
 def receive(peer, count):
     data = b""
     while len(data) < count:
@@ -118,13 +199,30 @@ def receive_pdu(peer):
     return header[0], receive(peer, length + -length % 4)[:length]
 
 
+# The blocks of the honest peer, and what is in one of them.
+FIRST, BLOCKS = 40000, 16
+
+
+def block(k):
+    return (b"honest block %2d\n" % k) * 32
+
+
+def write_own(peer):
+    """Writes the blocks of the honest peer, and returns the number of its next command."""
+    for k in range(BLOCKS):
+        peer.sendall(command(k + 1, 0x2A, FIRST + k, 1, 0xA1, block(k), 512))
+        if receive_pdu(peer)[0] != 0x21:
+            raise OSError("the honest peer cannot write")
+    return BLOCKS + 1
+
+
 def waits(peer, n, seconds):
     """The ms of each read of the honest peer, whose next command is the n-th, and the number behind the last."""
     found, end = [], time.monotonic() + seconds
     while time.monotonic() < end:
-        begun = time.monotonic()
-        peer.sendall(read(n, 1))
-        if receive_pdu(peer) != (0x25, bytes(512)) or receive_pdu(peer)[0] != 0x21:
+        begun, k = time.monotonic(), n % BLOCKS
+        peer.sendall(command(n, 0x28, FIRST + k, 1, 0xC1, expected=512))
+        if receive_pdu(peer) != (0x25, block(k)) or receive_pdu(peer)[0] != 0x21:
             raise OSError("the honest peer has other answers")
         found.append(1000 * (time.monotonic() - begun))
         n += 1
@@ -145,6 +243,46 @@ def alone(port, make):
     return statistics.median(took)
 
 
+def took(port, make, seconds=1):
+    """The ms that one such command takes alone, with the data that it asks for."""
+    writer, found, end = Writer(port, make, "iqn.2026-01.example:alone"), [], time.monotonic() + seconds
+    while time.monotonic() < end:
+        begun, n = time.monotonic(), writer.n
+        while writer.n == n:
+            writer.peer.sendall(writer.out)
+            writer.out = b""
+            writer.take(writer.peer.recv(1 << 20))
+        found.append(1000 * (time.monotonic() - begun))
+    writer.peer.close()
+    return statistics.median(found)
+
+
+def long_write(n):
+    """A write of 4 MiB, for whose data the target asks, and how many commands that is."""
+    return command(n, 0x2A, 16384, 8192, 0xA1, expected=512 * 8192), 1
+
+
+def write_before_reads(n):
+    """A write of a block, for whose data the target asks, and seven reads of 4 MiB that wait behind it."""
+    reads = b"".join(read(n + k, 8192) for k in range(1, 8))
+    return command(n, 0x2A, 16384, 1, 0xA1, expected=512) + reads, 8
+
+
+# Each kind with its floods, the most ms that the median may take beside it (none: by what one command takes alone), what one
+# command takes alone, and whether the disk is a file.
+KINDS = [
+    ("writes of a block", functools.partial(flood, lambda n: write(n, 1)), 20, None, False),
+    ("writes of a block, to a file", functools.partial(flood, lambda n: write(n, 1)), None, lambda port: alone(port, lambda n: write(n, 1)), True),
+    ("reads of 64 KiB", functools.partial(flood, lambda n: read(n, 128)), 20, None, False),
+    ("reads of 4 MiB", functools.partial(flood, lambda n: read(n, 8192)), None, lambda port: alone(port, lambda n: read(n, 8192)), False),
+    ("writes of 4 MiB", functools.partial(write_flood, long_write), None, lambda port: took(port, long_write), False),
+    ("a write, and 7 reads of 4 MiB", functools.partial(write_flood, write_before_reads), None, lambda port: took(port, write_before_reads), False),
+    ("texts", functools.partial(flood, text), None, lambda port: alone(port, text), False),
+    ("connections that are reset", resets, 20, None, False),
+    ("logins of noise", garbage, 20, None, False),
+]
+
+
 def look(pid):
     """Resident KiB and descriptors of the service."""
     status = open(f"/proc/{pid}/status").read()
@@ -161,33 +299,38 @@ def main():
     failed = 0
     print("| Flood | Median, ms | Slowest, ms | Bound, ms | KiB before, behind | Descriptors before, behind |")
     print("|---|---|---|---|---|---|")
-    for name, make, bound in KINDS:
-        with BASE.Service(os.path.abspath(asked.program), "--blocks", "65536") as service:
+    for name, floods, bound, single, is_file in KINDS:
+        failed += not is_met(os.path.abspath(asked.program), asked.seconds, name, floods, bound, single, is_file)
+    print(f"{len(KINDS) - failed} passed, {failed} failed")
+    sys.exit(1 if failed else 0)
+
+
+def is_met(program, seconds, name, kind, bound, single, is_file):
+    """Prints the row of a kind, and says whether its median is within the bound. A flood that ended early was no flood."""
+    with tempfile.TemporaryDirectory() as folder:
+        words = ["--file", os.path.join(folder, "disk.img"), "--create"] if is_file else []
+        with BASE.Service(program, *words, "--blocks", "65536") as service:
             for peer in service.peers[1:]:
                 peer.close()
-            honest, count = service.peers[0], COMMANDS if len(make(1)) < 1000 else COMMANDS // 10
-            stream = b"".join(make(n) for n in range(1, count + 1))
-            bound = bound or FLOODS * alone(service.port, make) + 10
-            _, n = waits(honest, 1, 0.5)
+            honest = service.peers[0]
+            n = write_own(honest)
+            bound = bound or FLOODS * single(service.port) + 10
+            _, n = waits(honest, n, 0.5)
             before = look(service.pid())
-            stop = multiprocessing.Event()
-            shares = [FLOODS // PROCESSES] * PROCESSES
-            floods = [multiprocessing.Process(target=flood, args=(service.port, stream, share, stop)) for share in shares]
+            stop, share = multiprocessing.Event(), FLOODS // PROCESSES
+            floods = [multiprocessing.Process(target=kind, args=(service.port, share, stop)) for _ in range(PROCESSES)]
             for each in floods:
                 each.start()
             time.sleep(0.5)
-            found, n = waits(honest, n, asked.seconds)
+            found, n = waits(honest, n, seconds)
             stop.set()
             for each in floods:
                 each.join()
             time.sleep(0.5)
             behind = look(service.pid())
-            median, slowest = statistics.median(found), max(found)
-            # A flood that ended early was no flood.
-            failed += median > bound or any(each.exitcode for each in floods)
-            print(f"| {name} | {median:.1f} | {slowest:.0f} | {bound:.0f} | {before[0]}, {behind[0]} | {before[1]}, {behind[1]} |")
-    print(f"{len(KINDS) - failed} passed, {failed} failed")
-    sys.exit(1 if failed else 0)
+    median, slowest = statistics.median(found), max(found)
+    print(f"| {name} | {median:.1f} | {slowest:.0f} | {bound:.0f} | {before[0]}, {behind[0]} | {before[1]}, {behind[1]} |", flush=True)
+    return median <= bound and not any(each.exitcode for each in floods)
 
 
 if __name__ == "__main__":

@@ -4,7 +4,7 @@
     tools/strangers/run.py [PROGRAM]
 
 PROGRAM is crates/lanthovur/out/lanthovur if none is named; `./lanthovur </dev/null` builds it. All is done on 127.0.0.1. Errors
-of calls are put in by strace (Debian: strace), limits are set by prlimit. Most rows begin with two sessions that are logged in,
+of calls are put in by strace (Debian: strace), limits are set by prlimit, and ss (iproute2) tells of keepalive. Most rows begin with two sessions that are logged in,
 and end with pings of both and a login of a third. The last line is 'N passed, M failed'. It takes three minutes.
 """
 import os
@@ -29,6 +29,8 @@ OF_A_CONNECTION = [
     "ECONNABORTED", "EPROTO", "ENETDOWN", "ENOPROTOOPT", "EHOSTDOWN", "ENONET", "EHOSTUNREACH", "EOPNOTSUPP", "ENETUNREACH",
     "EPERM", "EINTR",
 ]
+# Those that a service of one session after another passes over.
+OF_THE_PEER = ["ECONNABORTED", "EPROTO"]
 NO_ROOM = ["EMFILE", "ENFILE", "ENOBUFS", "ENOMEM"]
 NO_ROOM_LINE = b"accept failed: nobody is accepted until a seat is free or a second is over\n"
 
@@ -147,6 +149,60 @@ def fails_to_accept(program, error, lines):
     return True
 
 
+def fails_to_set_up(program):
+    # Of a connection that is accepted the system sets the mode by ioctl, and has no memory for it.
+    with Service(program, "--blocks", "8", before=injected("ioctl", "ENOMEM", 3)) as service:
+        stranger = service.connect()
+        time.sleep(0.2)
+        well = goes_on(service)
+        stranger.close()
+        return well and service.lines() == NO_ROOM_LINE
+
+
+def in_turn(program, *words, before=()):
+    """A service of one session after another, started by these words, and its port."""
+    with socket.create_server(("127.0.0.1", 0)) as other:
+        port = other.getsockname()[1]
+    pipe = subprocess.PIPE
+    words = ["serve", "--port", str(port), "--blocks", "8", *words]
+    process = subprocess.Popen([*before, program, *words], stdin=subprocess.DEVNULL, stdout=pipe, stderr=pipe)
+    if process.stdout.readline() != b"listening\n":
+        raise OSError(f"the service did not start: {process.stderr.read()}")
+    return process, port
+
+
+def passes_over_in_turn(program, error):
+    process, port = in_turn(program, "--sessions", "1", before=injected("accept4", error, 1))
+    peer = login(port, "iqn.2026-01.example:a")
+    well = ping(peer)
+    peer.close()
+    return well and (process.communicate(timeout=SECONDS)[1], process.returncode) == (b"", 0)
+
+
+def ends_in_turn(program):
+    process, port = in_turn(program, before=injected("accept4", "EMFILE", 1))
+    with connect(port):
+        return (process.communicate(timeout=SECONDS)[1], process.returncode) == (b"network failed\n", 4)
+
+
+def refuses_a_pipe(program):
+    with tempfile.TemporaryDirectory() as folder:
+        pipe, calls = os.path.join(folder, "pipe"), os.path.join(folder, "calls")
+        os.mkfifo(pipe)
+        before = ["strace", "-qq", "-f", "-o", calls, "-e", "trace=open,openat,creat"]
+        words = ["serve", "--port", "0", "--at-once", "2", "--file", pipe]
+        done = subprocess.run([*before, program, *words], stdin=subprocess.DEVNULL, capture_output=True, timeout=SECONDS)
+        line = f"{pipe}: is no disk image\n".encode()
+        return (done.stdout, done.stderr, done.returncode) == (b"", line, 4) and pipe not in open(calls).read()
+
+
+def asks_the_silent(program):
+    with Service(program, "--blocks", "8") as service:
+        told = subprocess.run(["ss", "-tnoH", f"sport = :{service.port}"], capture_output=True, text=True, check=True).stdout
+        timers = re.findall(r"timer:\(keepalive,(?:([0-9]+)min)?(?:([0-9]+)(?:\.[0-9]+)?sec)?", told)
+        return len(timers) == 2 and all(50 <= 60 * int(m or 0) + int(s or 0) <= 60 for m, s in timers)
+
+
 def fails_to_watch(program, error):
     # The first calls watch the listener and the two sessions.
     with Service(program, "--blocks", "8", before=injected("epoll_ctl", error, 4)) as service:
@@ -191,6 +247,20 @@ def has_silent_strangers(program):
         is_shut = silent[0].recv(1) == b""
         address = silent[0].getsockname()[1]
         return ping(peer) and is_shut and service.lines() == b"session 3 127.0.0.1:%d: session: made room\n" % address
+
+
+def has_strangers_who_hold(program):
+    # More connections than seats, and more of them all the time: a login still gets a seat, and keeps it.
+    with Service(program, "--blocks", "8") as service:
+        held, guests = [service.connect() for _ in range(200)], []
+        for at in range(10):
+            guests.append(service.login(f"iqn.2026-01.example:guest-{at}"))
+            held += [service.connect() for _ in range(40)]
+            if not all(ping(peer) for peer in [*service.peers, *guests]):
+                return False
+        for stranger in held:
+            stranger.close()
+        return goes_on(service) and service.lines().count(b": session: made room\n") >= 400
 
 
 def has_many_strangers(program):
@@ -247,6 +317,17 @@ def names_sessions(program):
         return service.lines() == line.encode()
 
 
+def escapes_names(program):
+    with Service(program, "--blocks", "8") as service:
+        peer = service.login("iqn.2026-01.example:a\\b~")
+        address = peer.getsockname()[1]
+        peer.sendall(pdu(0x3F))
+        peer.recv(48)
+        time.sleep(0.2)
+        line = f"session 3 127.0.0.1:{address} iqn.2026-01.example:a\\x5cb~: protocol: rule 1\n"
+        return goes_on(service) and service.lines() == line.encode()
+
+
 def write(peer, block, n=1):
     """The status of a write of one block, the n-th command of a session, and the code of its sense."""
     cdb = b"\x2a\0" + number(block) + b"\0\0\1\0"
@@ -274,6 +355,20 @@ def has_a_limit_of_memory(program):
         return seen == [good, good, full, good, full] and write(service.peers[1], 1) == good and goes_on(service)
 
 
+def has_lone_blocks(program):
+    # Each block that stands alone takes 32 KiB; past 256 MiB a write is refused.
+    with Service(program, "--blocks", str(1 << 40)) as service:
+        peer, good = service.peers[0], 0
+        for n in range(1, 20001):
+            status = write(peer, 64 * n, n)[0]
+            if status not in (0, 2):
+                return False
+            good += status == 0
+        taken = int(re.search(r"VmRSS:\s+([0-9]+)", open(f"/proc/{service.pid()}/status").read())[1])
+        print(f"lone blocks: {good} of 20000 writes, {taken} KiB resident")
+        return good == 8192 and taken < 300_000 and goes_on(service)
+
+
 def has_little_memory(program):
     with Service(program, "--blocks", str(1 << 40)) as service:
         taken = int(re.search(r"VmSize:\s+([0-9]+)", open(f"/proc/{service.pid()}/status").read())[1])
@@ -289,7 +384,7 @@ def has_little_memory(program):
             stranger = service.connect()
             stranger.sendall(pdu(0x43, bytes(8188), p1=b"\x44", p24=number(1))[:4000])
             stranger.close()
-        return all(ping(peer) for peer in service.peers)
+        return goes_on(service)
 
 
 def has_urgent_data(program):
@@ -311,13 +406,21 @@ ROWS = [
     *((f"accept: {error}", lambda program, error=error: fails_to_accept(program, error, [b""])) for error in OF_A_CONNECTION),
     *((f"accept: {error}", lambda program, error=error: fails_to_accept(program, error, [NO_ROOM_LINE])) for error in NO_ROOM),
     *((f"epoll_ctl: {error}", lambda program, error=error: fails_to_watch(program, error)) for error in ["ENOSPC", "ENOMEM"]),
+    ("ioctl: ENOMEM", fails_to_set_up),
+    *((f"in turn: {error}", lambda program, error=error: passes_over_in_turn(program, error)) for error in OF_THE_PEER),
+    ("in turn: EMFILE", ends_in_turn),
+    ("a pipe in place of an image", refuses_a_pipe),
+    ("keepalive", asks_the_silent),
     ("fewer descriptors than seats want", wants_more_descriptors),
     ("descriptors that are taken", has_few_descriptors),
     ("64 silent connections", has_silent_strangers),
+    ("strangers who hold on", has_strangers_who_hold),
     ("65,533 connections without a byte", has_many_strangers),
     ("the last login", counts_logins),
     ("a standard error that nobody reads", has_no_reader),
     ("the line of a session", names_sessions),
+    ("a name with a backslash", escapes_names),
+    ("20,000 lone blocks", has_lone_blocks),
     ("a disk that is full", has_a_limit_of_memory),
     ("a peer that takes all memory", has_little_memory),
     ("a limit of file sizes", has_a_limit_of_file_sizes),
@@ -327,7 +430,7 @@ ROWS = [
 
 def main():
     program = os.path.abspath(sys.argv[1]) if len(sys.argv) > 1 else f"{TOP}/crates/lanthovur/out/lanthovur"
-    for tool in ["strace", "prlimit"]:
+    for tool in ["strace", "prlimit", "ss"]:
         if not shutil.which(tool):
             sys.exit(f"{tool} is not installed")
     failed = 0

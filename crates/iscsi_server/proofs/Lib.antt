@@ -1,1 +1,2 @@
 pub mod ExecutedLemmas
+pub mod RoomLemmas

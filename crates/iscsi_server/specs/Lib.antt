@@ -1,5 +1,7 @@
+pub mod Ending
 pub mod Limited
 pub mod Limits
 pub mod Moving
+pub mod Room
 pub mod Service
 pub mod Serving

@@ -12,13 +12,14 @@ mod lines;
 mod numbers;
 mod options;
 mod peer;
+mod room;
 mod server;
 mod service;
 mod session_end;
 mod system;
 
 pub use limited::{LEAST_MEMORY, LimitedStore, MEMORY, MOST_MEMORY};
-pub use limits::{LAST_WRITE, LOGIN_WITHIN, Limits};
+pub use limits::{LOGIN_WITHIN, Limits};
 pub use options::{LONGEST_ASKED, MOST_AT_ONCE, Options, SHORTEST_ASKED};
 pub use server::Server;
 pub use service::{serve_at_once, serve_memory_at_once};

@@ -9,7 +9,7 @@ use iscsi_login::Phase;
 use std::time::Duration;
 
 /// For how many seconds a peer may take none of the last answers of a closed session.
-pub const LAST_WRITE: u64 = 30;
+const LAST_WRITE: u64 = 30;
 
 /// For how many seconds a connection may keep its seat without a login, if no other time is asked for.
 pub const LOGIN_WITHIN: u16 = 30;

@@ -10,7 +10,6 @@ use crate::limits::Limits;
 use crate::session_end::SessionEnd;
 use iscsi_hall::{Hall, MOST_READ};
 use iscsi_login::Phase;
-use iscsi_target::TargetFault;
 use scsi_disk::BlockStore;
 use std::alloc::{AllocError, Global};
 use std::time::Instant;
@@ -207,7 +206,7 @@ impl Peer {
     {
         match hall.take(seat, store) {
             Ok(count) => left.take(count),
-            Err(fault) => self.end_by(SessionEnd::Target(fault)),
+            Err(fault) => self.end_by(SessionEnd::of(fault)),
         }
     }
 
@@ -228,7 +227,7 @@ impl Peer {
         match self.connection.read(buffer, now) {
             Moved::Bytes(count) => match hall.receive(seat, &buffer[..count]) {
                 Ok(()) => Step::Went,
-                Err(_) => self.over(SessionEnd::Target(TargetFault::NoMemory)),
+                Err(_) => self.over(SessionEnd::NoMemory),
             },
             Moved::Nothing => Step::Rests,
             Moved::End => self.finish(hall, seat),
@@ -243,7 +242,7 @@ impl Peer {
     {
         match hall.finish(seat) {
             Ok(()) => Step::Over,
-            Err(fault) => self.over(SessionEnd::Target(fault)),
+            Err(fault) => self.over(SessionEnd::of(fault)),
         }
     }
 

@@ -1,5 +1,8 @@
 //! Why a session of a seat ends, where it has a line.
 
+ghost use Rattle.std.specs.Prelude.{◌≡◌};
+ghost use Rattle.iscsi_server.specs.Ending.{end_of};
+
 use iscsi_target::TargetFault;
 use thiserror::Error;
 
@@ -7,9 +10,12 @@ use thiserror::Error;
 /// service goes on.
 #[derive(Clone, Copy, Debug, PartialEq, Eq, Error)]
 pub enum SessionEnd {
-    /// The target refuses what its initiator sent, or the session had no memory.
+    /// The target refuses what its initiator sent; a want of memory is told apart.
     #[error(transparent)]
     Target(TargetFault),
+    /// The session had no memory.
+    #[error("memory")]
+    NoMemory,
     /// A read of the connection failed.
     #[error("read failed")]
     Read,
@@ -36,4 +42,18 @@ pub enum SessionEnd {
     /// The last login was completed that is to be, and this peer had not logged in.
     #[error("session: no more logins")]
     NoMoreLogins,
+}
+
+impl SessionEnd {
+    /// The end of a session by a fault of its target. A want of memory has a variant of its own.
+    pub fn of(fault: TargetFault) -> SessionEnd
+        ensures { result ≡ end_of fault }
+    {
+        match fault {
+            TargetFault::NoMemory => SessionEnd::NoMemory,
+            TargetFault::Stream(_) | TargetFault::Protocol(_) | TargetFault::Closed => {
+                SessionEnd::Target(fault)
+            }
+        }
+    }
 }

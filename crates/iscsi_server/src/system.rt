@@ -1,13 +1,18 @@
 //! What is asked of the system: a listener, to be told of sockets that are ready, the time.
 
 ghost use Rattle.std.specs.Prelude.{◌≡◌, IfErr};
+ghost use Rattle.libc.specs.Net.{SockOption};
 ghost use Rattle.iscsi_service.specs.Serving.{EndsService};
 
 use iscsi_service::ServeFault;
+use libc::net::{
+    IPPROTO_TCP, SO_KEEPALIVE, SOL_SOCKET, TCP_KEEPCNT, TCP_KEEPIDLE, TCP_KEEPINTVL, setsockopt,
+};
 use libc::types::rlimit;
 use mio::net::{TcpListener, TcpStream};
 use mio::{Interest, Poll, Token};
 use std::net::SocketAddr;
+use std::os::fd::AsRawFd;
 use std::time::Instant;
 
 /// The token of the listener; those of connections are the numbers of their seats.
@@ -16,6 +21,13 @@ pub const LISTENER: Token = Token(usize::MAX);
 /// How many descriptors a service has besides those of its seats: three streams, what tells of sockets,
 /// the listener, an image, and a connection for which another one makes room.
 pub const OTHER_DESCRIPTORS: u64 = 7;
+
+/// After how many seconds of silence the system asks a peer whether it is there.
+const SILENT: i32 = 60;
+/// How many seconds lie between two such questions.
+const BETWEEN: i32 = 10;
+/// How many of them stay without an answer before the connection fails.
+const UNANSWERED: i32 = 6;
 
 /// How many descriptors the process may have; none: the system doesn't tell.
 pub fn most_descriptors() -> Option<u64> {
@@ -52,10 +64,30 @@ pub fn listen(rt: &HostRuntime, address: SocketAddr) -> Result<(Poll, TcpListene
 pub fn watch(poll: &Poll, stream: &mut TcpStream, seat: usize) -> bool {
     // An answer waits for no other one; where the system refuses this, it is only slower.
     let _ = stream.set_nodelay(true);
+    keep_alive(stream);
     let interest = Interest::READABLE | Interest::WRITABLE | Interest::PRIORITY;
     poll.registry()
         .register(stream, Token(seat), interest)
         .is_ok()
+}
+
+// Has the system ask a silent peer whether it is there, so that one whose power failed loses its seat.
+// Where the system refuses this, the limits of time are left.
+fn keep_alive(stream: &TcpStream) {
+    let socket = stream.as_raw_fd();
+    set_option(socket, SOL_SOCKET, SO_KEEPALIVE, 1);
+    set_option(socket, IPPROTO_TCP, TCP_KEEPIDLE, SILENT);
+    set_option(socket, IPPROTO_TCP, TCP_KEEPINTVL, BETWEEN);
+    set_option(socket, IPPROTO_TCP, TCP_KEEPCNT, UNANSWERED);
+}
+
+// Sets an option of a socket to a number, if the system does.
+fn set_option(socket: i32, level: i32, name: i32, number: i32)
+    requires option { SockOption level name }
+{
+    let mut value = [0u8; 16];
+    value[..4].copy_from_slice(&number.to_ne_bytes());
+    let _ = unsafe { setsockopt(socket, level, name, &value, 4) };
 }
 
 /// The time. The only fault is `Network`, where the system doesn't tell it.

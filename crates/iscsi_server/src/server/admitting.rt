@@ -1,0 +1,173 @@
+//! Who is accepted, and gets which seat.
+
+ghost use Rattle.std.specs.Prelude.{◌≡◌, false, length, true};
+ghost use Rattle.iscsi_server.specs.Serving.{has_all};
+
+use super::Server;
+use crate::accepting::AcceptError;
+use crate::configuration::configuration;
+use crate::connection::Connection;
+use crate::numbers::next_number;
+use crate::peer::Peer;
+use crate::room::makes_room;
+use crate::session_end::SessionEnd;
+use crate::system::watch;
+use mio::net::TcpStream;
+use std::alloc::Global;
+use std::io;
+use std::net::SocketAddr;
+use std::time::Instant;
+
+/// What is told if the system has no room for a connection.
+const NO_ROOM: &str = "accept failed: nobody is accepted until a seat is free or a second is over";
+
+// What came of accepting a connection.
+#[derive(Clone, Copy, Debug, PartialEq, Eq)]
+enum Accepted {
+    // One was accepted, and another one may be.
+    One,
+    // The one that waited is gone, and another one may be accepted.
+    Gone,
+    // Nobody is to be accepted in this turn any more.
+    Enough,
+}
+
+impl<'a> Server<'a> {
+    // Whether a connection is to be accepted, if one waits.
+    pub(super) fn may_admit(&self, now: Instant) -> bool
+        ensures open { result ≡ true → has_all self.now.sessions self.now.logins ≡ false }
+    {
+        self.has_place() && self.accepting.is_due(now)
+    }
+
+    // Whether one more connection is to be accepted, and has a seat that is free or can be.
+    pub(super) fn has_place(&self) -> bool
+        ensures open { result ≡ true → has_all self.now.sessions self.now.logins ≡ false }
+    {
+        !self.has_all() && (self.has_free() || makes_room(&self.hall, &self.arrivals).is_some())
+    }
+
+    // Whether a seat is free.
+    fn has_free(&self) -> bool {
+        self.peers.iter().any(|peer| peer.is_none())
+    }
+
+    // Accepts those who wait, as far as there are seats. If as many as there are seats, and one more,
+    // are gone one after another, the error is one that lasts, and counts as a want of room.
+    pub(super) fn admit(&mut self, rt: &HostRuntime, now: Instant)
+        ensures seats { length self.new.hall.seats ≡ length self.old.hall.seats }
+        ensures sessions { self.new.sessions ≡ self.old.sessions }
+        ensures logins { self.new.logins ≡ self.old.logins }
+    {
+        let mut are_gone = true;
+        for _ in 0..=self.peers.len() {
+            match self.accept(rt, now) {
+                Accepted::One => are_gone = false,
+                Accepted::Gone => {}
+                Accepted::Enough => return,
+            }
+        }
+        if are_gone {
+            self.rest(rt, now);
+        }
+    }
+
+    // Accepts one who waits, if there is a seat. Once all are taken nobody else is accepted in this
+    // turn: so whoever came has a turn, to log in, before it may have to make room.
+    fn accept(&mut self, rt: &HostRuntime, now: Instant) -> Accepted
+        ensures seats { length self.new.hall.seats ≡ length self.old.hall.seats }
+        ensures sessions { self.new.sessions ≡ self.old.sessions }
+        ensures logins { self.new.logins ≡ self.old.logins }
+    {
+        if !self.may_admit(now) {
+            return Accepted::Enough;
+        }
+        let Some(listener) = &self.listener else {
+            return Accepted::Enough;
+        };
+        match listener.accept() {
+            Ok((stream, address)) => {
+                self.make_room(rt);
+                self.welcome(rt.alloc(), stream, address, now);
+                if self.has_free() {
+                    Accepted::One
+                } else {
+                    Accepted::Enough
+                }
+            }
+            Err(error) => self.pass_over(rt, &error, now),
+        }
+    }
+
+    // Frees the seat that makes room, if there is one.
+    fn make_room(&mut self, rt: &HostRuntime)
+        ensures seats { length self.new.hall.seats ≡ length self.old.hall.seats }
+        ensures sessions { self.new.sessions ≡ self.old.sessions }
+        ensures logins { self.new.logins ≡ self.old.logins }
+    {
+        if let Some(seat) = makes_room(&self.hall, &self.arrivals) {
+            self.dismiss(rt, seat, Some(SessionEnd::MadeRoom));
+        }
+    }
+
+    // Does what an error of accept asks for.
+    fn pass_over(&mut self, rt: &HostRuntime, error: &io::Error, now: Instant) -> Accepted
+        ensures same { self.new ≡ self.old }
+    {
+        match AcceptError::of(error) {
+            AcceptError::Nobody => {
+                self.accepting.nobody();
+                Accepted::Enough
+            }
+            AcceptError::Gone => Accepted::Gone,
+            AcceptError::NoRoom => {
+                self.rest(rt, now);
+                Accepted::Enough
+            }
+        }
+    }
+
+    // Accepts nobody for a while, and tells it.
+    fn rest(&mut self, rt: &HostRuntime, now: Instant)
+        ensures same { self.new ≡ self.old }
+    {
+        if self.accepting.rest(now) {
+            self.lines.tell(rt, &NO_ROOM);
+        }
+    }
+
+    // Gives a connection a seat, and a number that no other one has, which is the TSIH of its session.
+    // One for which there is no memory, or that the system does not watch, is closed.
+    fn welcome(&mut self, alloc: Global, mut stream: TcpStream, address: SocketAddr, now: Instant)
+        ensures seats { length self.new.hall.seats ≡ length self.old.hall.seats }
+        ensures sessions { self.new.sessions ≡ self.old.sessions }
+        ensures logins { self.new.logins ≡ self.old.logins }
+    {
+        self.accepting.accepted();
+        self.accepted = self.accepted.saturating_add(1);
+        let Some(number) = next_number(self.last_number, &self.numbers) else {
+            return;
+        };
+        self.last_number = number;
+        let options = self.options;
+        let Ok(config) = configuration(alloc, options.name, number, options.preferences) else {
+            return;
+        };
+        let Some(seat) = self.hall.seat(config) else {
+            return;
+        };
+        if !watch(&self.poll, &mut stream, seat) {
+            self.hall.leave(seat);
+            return;
+        }
+        if let Some(place) = self.peers.get_mut(seat) {
+            *place = Some(Peer::new(Connection::new(stream, address, now)));
+        }
+        if let Some(place) = self.numbers.get_mut(seat) {
+            *place = number;
+        }
+        if let Some(place) = self.arrivals.get_mut(seat) {
+            *place = self.accepted;
+        }
+    }
+}

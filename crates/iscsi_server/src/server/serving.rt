@@ -1,0 +1,110 @@
+//! A turn of each seat, and what follows of it.
+
+ghost use Rattle.std.specs.Prelude.{◌≡◌, ◌≤◌, length};
+ghost use Rattle.iscsi_service.specs.Session.{HasExecuted};
+
+use super::Server;
+use crate::budget::Budget;
+use crate::session_end::SessionEnd;
+use iscsi_login::Phase;
+use scsi_disk::BlockStore;
+use std::time::Instant;
+
+impl<'a> Server<'a> {
+    // A turn for each peer.
+    #[tactic(auto, using(crate::proofs::ExecutedLemmas::none_executed))]
+    pub(super) fn serve_peers<S: BlockStore>(
+        &mut self,
+        rt: &HostRuntime,
+        store: &mut S,
+        now: Instant,
+    )
+        ensures blocks { HasExecuted (S.disk store.old) (S.disk store.new) }
+        ensures seats { length self.new.hall.seats ≡ length self.old.hall.seats }
+        ensures sessions { self.new.sessions ≡ self.old.sessions }
+        ensures logins { self.old.logins ≤ self.new.logins }
+    {
+        let taken = self.peers.iter().filter(|peer| peer.is_some()).count();
+        let budget = Budget::of(taken);
+        for seat in 0..self.peers.len() {
+            self.serve_peer(rt, store, seat, now, budget);
+        }
+    }
+
+    // A turn for the peer of a seat, if there is one.
+    #[tactic(auto, using(crate::proofs::ExecutedLemmas::none_executed))]
+    fn serve_peer<S: BlockStore>(
+        &mut self,
+        rt: &HostRuntime,
+        store: &mut S,
+        seat: usize,
+        now: Instant,
+        budget: Budget,
+    )
+        ensures blocks { HasExecuted (S.disk store.old) (S.disk store.new) }
+        ensures seats { length self.new.hall.seats ≡ length self.old.hall.seats }
+        ensures sessions { self.new.sessions ≡ self.old.sessions }
+        ensures logins { self.old.logins ≤ self.new.logins }
+    {
+        let Some(Some(peer)) = self.peers.get_mut(seat) else {
+            return;
+        };
+        let was = self.hall.phase(seat);
+        let is_over = peer.turn(&mut self.hall, store, seat, now, &mut self.buffer, budget)
+            || peer.is_late(&self.options.limits, self.hall.phase(seat), now);
+        let end = peer.end;
+        let phase = self.hall.phase(seat);
+        self.settle(
+            rt,
+            seat,
+            was != phase && phase == Some(Phase::Full),
+            is_over,
+            end,
+        );
+    }
+
+    // What follows of a seat's turn: a login that was completed is counted, and a session that is over
+    // leaves.
+    fn settle(
+        &mut self,
+        rt: &HostRuntime,
+        seat: usize,
+        is_login: bool,
+        is_over: bool,
+        end: Option<SessionEnd>,
+    )
+        ensures seats { length self.new.hall.seats ≡ length self.old.hall.seats }
+        ensures sessions { self.new.sessions ≡ self.old.sessions }
+        ensures logins { self.old.logins ≤ self.new.logins }
+    {
+        if is_login {
+            self.end_older(rt, seat);
+            self.count_login(rt);
+        }
+        if is_over {
+            self.close(rt, seat, end);
+        }
+    }
+
+    // A login was completed. With the last one that is to be, nobody is accepted any more, and
+    // connections that have not logged in are ended.
+    fn count_login(&mut self, rt: &HostRuntime)
+        ensures seats { length self.new.hall.seats ≡ length self.old.hall.seats }
+        ensures sessions { self.new.sessions ≡ self.old.sessions }
+        ensures logins { self.old.logins ≤ self.new.logins }
+    {
+        let Some(most) = self.options.sessions else {
+            if self.logins < u64::MAX {
+                self.logins += 1;
+            }
+            return;
+        };
+        if self.logins < u64::from(most) {
+            self.logins += 1;
+        }
+        if self.logins >= u64::from(most) {
+            self.listener = None;
+            self.dismiss_guests(rt);
+        }
+    }
+}
