@@ -12,3 +12,14 @@ returns-in-Serve g c = record {
     rw c.in-Serve.is (c.serve_storage.ensures.ends, refl, refl),
   );
 }
+
+pub returns-in-Capture : goal.returns-in-Capture
+returns-in-Capture g c = record {
+  runs = (
+    [],
+    c.run_capture.ensures.writes.0,
+    Consumes-nil (g.R.Read.remaining c.args.r.now),
+    c.run_capture.ensures.writes.1,
+    rw c.in-Capture.is ((c.run_capture.result, c.run_capture.ensures.writes.2, c.captured.ensures.outcome), refl),
+  );
+}
