@@ -99,9 +99,9 @@ given_more c taken step old mid new outcomes g h t =
     let first = gives_more (new_pair c) old mid events event outcomes g.gives h in
     let same : outcomes ++ given_in event old ≡ outcomes = ap (λ (x : List Done). outcomes ++ x) (none_given step old) ∙ append-nil outcomes in
     let all = gives_more (new_pair c) mid new (events ++ event ∷ []) Takes outcomes
-        (subst (λ (x : List Done). Gives (new_pair c) (events ++ event ∷ []) mid x) same first) t in
+    (subst (λ (x : List Done). Gives (new_pair c) (events ++ event ∷ []) mid x) same first) t in
     let grown : (events ++ event ∷ []) ++ Takes ∷ [] ≡ events_of (taken ++ step ∷ []) =
-        append_assoc events (event ∷ []) (Takes ∷ []) ∙ sym (flat_map-append with_taking taken (step ∷ [])) in
+    append_assoc events (event ∷ []) (Takes ∷ []) ∙ sym (flat_map-append with_taking taken (step ∷ [])) in
     record {
       gives = subst (λ (x : List Event). Gives (new_pair c) x new (outcomes ++ listed mid.initiator.machine.done)) grown all;
       none_left = ap (λ (w : World). w.initiator.machine.done) t;

@@ -11,8 +11,19 @@ returns-in_err-write_fully-clause-writes g c =
     let text = c.in_ok-text.text.items in
     let canonical : CanonicalOf c.in_ok-bytes.bytes.items text = subst (λ (bytes : List ℕ). CanonicalOf bytes text) c.deref.ensures.value
     c.in_ok-text.ensures.ok in
-    rw (p.1, p.2, front.0) (c.in_ok-bytes.bytes.items, take front.1.0 text, x.0, rw c.deref-2.ensures.value at front.1.1, (text, front.1.0, canonical,
-    omega (arith, c.if-len-gt-LONGEST_TEXT.false, c.len.ensures, c.in_ok-bytes.bytes.ok.0), refl))
+    rw (p.1, p.2, front.0) (
+      c.in_ok-bytes.bytes.items,
+      take front.1.0 text,
+      x.0,
+      rw c.deref-2.ensures.value at front.1.1,
+      (
+        text,
+        front.1.0,
+        canonical,
+        omega (arith, c.if-len-gt-LONGEST_TEXT.false, c.len.ensures, c.in_ok-bytes.bytes.ok.0),
+        refl,
+      ),
+    )
 
 pub returns-clause-writes : goal.returns-clause-writes
 returns-clause-writes g c =
