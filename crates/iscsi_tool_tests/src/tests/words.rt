@@ -525,12 +525,19 @@ const REFUSED: &[(&str, &str)] = &[
 /// What stands in the text of help: each job, words with their defaults, and an example.
 const HELP: &[(&str, &str)] = &[
     ("--help", "Usage: lanthovur <COMMAND>\n\nCommands:\n"),
-    ("--help", "\n  show       Print one line for each PDU"),
-    ("--help", "\n  normalise  Write a stream in canonical form"),
-    ("--help", "\n  compare    Print the first two PDUs in which"),
-    ("--help", "\n  answer     Write a target's responses"),
-    ("--help", "\n  serve      Serve a disk"),
-    ("--help", "\n  loop       Run a script"),
+    ("--help", "\n  show         Print one line for each PDU"),
+    (
+        "--help",
+        "\n  normalise    Write a stream in canonical form",
+    ),
+    (
+        "--help",
+        "\n  compare      Print the first two PDUs in which",
+    ),
+    ("--help", "\n  connections  List the TCP connections"),
+    ("--help", "\n  answer       Write a target's responses"),
+    ("--help", "\n  serve        Serve a disk"),
+    ("--help", "\n  loop         Run a script"),
     ("-h", "\n\nExamples:\n  ./lanthovur serve --size 32M\n"),
     ("show --help", "\n  ./lanthovur show --hex < "),
     ("normalise --help", "\n  ./lanthovur normalise < "),
