@@ -173,7 +173,7 @@ def in_words(condition):
 def shown_words(text, kind):
     """The fields of a kind in the code of `show`, in their order: field, name."""
     body = re.search(rf"^fn {kind}\(.*?^\}}", text, re.M | re.S).group(0)
-    for call, words in re.findall(r"^    (?:let at = )?(\w+)\(line, at, (.*?)\);?$", body, re.M):
+    for call, words in re.findall(r"^    line\.(\w+)\((.*?)\);$", body, re.M):
         fields = re.findall(r"h\.(\w+)", words)
         name = re.match(r'" (\w+)="', words)
         if call == "window":

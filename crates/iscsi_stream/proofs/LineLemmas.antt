@@ -1,33 +1,47 @@
--- A line behind the bytes that there were, cut to its length.
-use Rattle.std.proofs.Common.{◌≡◌, ℕ, ◌+◌, ◌-◌, ◌≤◌, min, List, [], ◌∷◌, ◌++◌, length, take, refl, sym, ap, ◌∙◌, append_assoc, arith}
-use Rattle.std.proofs.lemmas.List.{take_at, take_min, length-append, length-take}
-use Rattle.std.proofs.Math.Seq.{take-append-add, take-length}
-use Rattle.iscsi_stream.specs.Shown.{IsLine}
+-- Bytes without an end of a line: behind one another, digits of hex and decimal.
+use Rattle.std.proofs.Common.{◌≡◌, ℕ, zero, suc, ◌+◌, ◌^◌, ◌<◌, ◌≤◌, ◌/◌, ◌%◌, ◌==◌, not, true, false, List, [], ◌∷◌, ◌++◌, slice_index, Result, Ok, Err, refl, ap, arith}
+use Rattle.std.specs.Fmt.{decimal}
+use Rattle.std.specs.Prelude.{OnOk, OnErr}
+use Rattle.std.specs.Cmp.Derive.{both_true}
+use Rattle.std.proofs.lemmas.Bool.{and_parts}
+use Rattle.std.proofs.lemmas.Fmt.{decimal_by_steps}
+use Rattle.std.proofs.lemmas.Bool.{ne_eqb}
+use Rattle.hex.specs.Hex.{encode_lower, encode_with, lower_digits}
+use Rattle.iscsi_stream.specs.Shown.{has_no_end}
 
-take_more : (old : List ℕ) (n : ℕ) → length old ≤ n → take n old ≡ old
-take_more old n le =
-    let least : min n (length old) ≡ length old = omega arith in
-    sym (take_min n old) ∙ ap (λ (k : ℕ). take k old) least ∙ take-length old
+pub no_end-append : (a b : List ℕ) → has_no_end a ≡ true → has_no_end b ≡ true → has_no_end (a ++ b) ≡ true
+no_end-append [] b p q = q
+no_end-append (x ∷ a) b p q =
+    let parts = and_parts (not (x == 10)) (has_no_end a) p in both_true parts.0 (no_end-append a b parts.1 q)
 
--- more bytes behind those that there were
-pub front_kept : (old more now : List ℕ) (start n : ℕ) → start ≡ length old → now ≡ take (start + n) old ++ more → take start now ≡ old
-front_kept old more now start n s e =
-    let same : take (start + n) old ≡ old = take_more old (start + n) (omega (arith, s)) in
-    ap (take start) (e ∙ ap (λ (front : List ℕ). front ++ more) same) ∙ take_at old more start (sym s)
+no_end-at : (t : List ℕ) (k : ℕ) → has_no_end t ≡ true → not (slice_index t k == 10) ≡ true
+no_end-at [] k p = refl
+no_end-at (x ∷ t) zero p = (and_parts (not (x == 10)) (has_no_end t) p).0
+no_end-at (x ∷ t) (suc k) p = no_end-at t k (and_parts (not (x == 10)) (has_no_end t) p).1
 
--- the bytes from there on, of which n stay
-pub cut_behind : (old now line rest new : List ℕ) (start n k : ℕ) → start ≡ length old → length old ≤ k → take start now ≡ old
-    → new ≡ take (start + n) (take k ((take start now ++ line) ++ rest))
-    → new ≡ old ++ take n (take (k - length old) (line ++ rest))
-cut_behind old now line rest new start n k s le front e =
-    let body : (take start now ++ line) ++ rest ≡ old ++ (line ++ rest) =
-    ap (λ (x : List ℕ). (x ++ line) ++ rest) front ∙ append_assoc old line rest in
-    let sum : k ≡ length old + (k - length old) = omega (arith, le) in
-    let held : take k ((take start now ++ line) ++ rest) ≡ old ++ take (k - length old) (line ++ rest) =
-    ap (take k) body ∙ ap (λ (m : ℕ). take m (old ++ (line ++ rest))) sum ∙ take-append-add old (line ++ rest) (k - length old) in
-    e ∙ ap (take (start + n)) held ∙ ap (λ (m : ℕ). take (m + n) (old ++ take (k - length old) (line ++ rest))) s
-    ∙ take-append-add old (take (k - length old) (line ++ rest)) n
+encoded : (bytes : List ℕ) → has_no_end (encode_with lower_digits bytes) ≡ true
+unfolding encode_with
+encoded [] = refl
+encoded (b ∷ bytes) =
+    both_true (no_end-at lower_digits (b / 16) refl) (both_true (no_end-at lower_digits (b % 16) refl) (encoded bytes))
 
-pub is_line : (n : ℕ) (bytes : List ℕ) → n ≤ 319 → IsLine (take n bytes ++ 10 ∷ [])
-is_line n bytes le =
-    record { text = take n bytes; ended = refl; short = omega (arith, length-append (take n bytes) (10 ∷ []), length-take n bytes, le) }
+-- hex digits
+pub no_end-hex : (bytes digits : List ℕ) → digits ≡ encode_lower bytes → has_no_end digits ≡ true
+no_end-hex bytes digits is = rw is (encoded bytes)
+
+above : (b : ℕ) → 48 ≤ b → not (b == 10) ≡ true
+above b le = ap not (ne_eqb b 10 (omega (arith, le)))
+
+-- a number in decimal
+pub no_end-decimal : (n : ℕ) (text : List ℕ) → n < 2 ^ 64 → text ≡ decimal n → has_no_end text ≡ true
+no_end-decimal n text lt is =
+    rw is (decimal_by_steps (λ (m : ℕ) (ds : List ℕ). has_no_end ds ≡ true)
+    (λ m l. both_true (above (48 + m) (omega arith)) refl)
+    (λ m ds l h. no_end-append ds ((48 + m % 10) ∷ []) h (both_true (above (48 + m % 10) (omega arith)) refl)) n lt)
+
+-- behind the bytes that there were, or not at all
+pub kept : {E V : Type 0} (items : V → List ℕ) (result : Result (Unit {0}) E) (old new : V) (bytes : List ℕ)
+    → OnOk result (items new ≡ items old ++ bytes) → OnErr result (new ≡ old)
+    → has_no_end (items old) ≡ true → has_no_end bytes ≡ true → has_no_end (items new) ≡ true
+kept items (Ok done) old new bytes ok err p q = rw ok (no_end-append (items old) bytes p q)
+kept items (Err fault) old new bytes ok err p q = rw err p

@@ -5,14 +5,12 @@ ghost use Rattle.iscsi_pdu.specs.Meaning.{Fits};
 ghost use Rattle.iscsi_stream.specs.Shown.{IsLine};
 
 mod fields;
+mod writing;
 
-use self::fields::{fields, kind, put};
+use self::fields::{fields, kind};
+use self::writing::Line;
 use iscsi_pdu::Pdu;
-use itoa::Buffer;
 use std::alloc::AllocError;
-
-/// How many bytes a line has at most, its end included; no kind's line is longer.
-const LINE: usize = 320;
 
 /// Appends the line of a PDU: its place in decimal, its kind, its fields that have a value in the
 /// order of the field table, in lower hex, and the length of its segment in decimal. Returns
@@ -23,24 +21,27 @@ pub fn show_line(place: u64, pdu: &Pdu<'_>, out: &mut Vec<u8>) -> Result<(), All
         × (out.new.items ≡ out.old.items ++ line)) }
     ensures err { OnErr result (out.new.items ≡ out.old.items) }
 {
-    let start = out.len();
-    out.resize(start + LINE, 0)?;
-    let end = write_line(&mut out[start..], place, pdu);
-    out.truncate(start + end.min(LINE - 1));
+    let line = line_of(place, pdu);
+    let text = line.text();
+    out.reserve(text.len() + 1)?;
+    let Ok(()) = out.extend_from_slice(text) else {
+        unreachable!()
+    };
     let Ok(()) = out.push(b'\n') else {
         unreachable!()
     };
     Ok(())
 }
 
-// Writes the line of a PDU into room for it, but for its end, and gives the place behind it.
-fn write_line(line: &mut [u8], place: u64, pdu: &Pdu<'_>) -> usize
+// The text of the line of a PDU.
+fn line_of(place: u64, pdu: &Pdu<'_>) -> Line
     requires { Fits pdu.now.head }
 {
-    let mut decimal = Buffer::new();
-    let at = put(line, 0, decimal.format(place).as_bytes());
-    let at = put(line, at, kind(&pdu.head).as_bytes());
-    let at = fields(line, at, &pdu.head);
-    let at = put(line, at, b" data=");
-    put(line, at, decimal.format(pdu.bytes.len()).as_bytes())
+    let mut line = Line::new();
+    line.number(place);
+    line.put(kind(&pdu.head).as_bytes());
+    fields(&mut line, &pdu.head);
+    line.put(b" data=");
+    line.number(pdu.bytes.len() as u64);
+    line
 }

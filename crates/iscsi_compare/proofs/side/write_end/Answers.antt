@@ -1,5 +1,6 @@
 use Rattle.std.proofs.Common.{List, ℕ, [], ◌∷◌, ◌++◌, refl, sym, ap, ◌∙◌, append_assoc, arith}
 use Rattle.std.proofs.lemmas.List.{length-append}
+use Rattle.iscsi_stream.proofs.LineLemmas.{no_end-append, no_end-decimal}
 use Rattle.iscsi_compare.proofs.side.write_end.Goals as goal
 
 pub returns : goal.returns
@@ -14,6 +15,8 @@ returns c =
         record {
           text = place ++ end;
           ended = refl;
+          one = no_end-append place end
+              (no_end-decimal c.args.place place c.ranges.place.fits (c.as_bytes.ensures.value ∙ c.format.ensures.text)) refl;
           short = omega (
             arith,
             length-append (place ++ end) feed,
