@@ -30,7 +30,8 @@ use std::marker::Model;
 /// drops what is moved to it.
 #[derive(Drop)]
 pub struct Pair {
-    ends: Ends,
+    // Boxed, since what owns two machines is dear to move, and to prove.
+    ends: Box<Ends>,
 }
 
 impl Model for Pair {
@@ -38,9 +39,9 @@ impl Model for Pair {
 
     ghost Value = { World };
 
-    ghost view = { λ p. p.ends };
+    ghost view = { λ p. p.ends.value };
 
-    ghost invariant = { λ p. HasCome p.ends };
+    ghost invariant = { λ p. HasCome p.ends.value };
 }
 
 impl Pair {
@@ -69,7 +70,10 @@ impl Pair {
         ensures memory { IfErr result (λ fault. fault ≡ faults.NoMemory) }
     {
         let ends = Ends::new(alloc, initiator, target, first_statsn, store)?;
-        Ok(Pair { ends })
+        match Box::new(alloc, ends) {
+            Ok(ends) => Ok(Pair { ends }),
+            Err(_) => Err(InitiatorFault::NoMemory),
+        }
     }
 
     /// The target's end.
@@ -112,8 +116,9 @@ impl Pair {
         ensures some { IsSome result ↔ (self.now.initiator.machine.stage ≡ stages.Full) }
         ensures both { IsSome result → self.now.target.machine.session.stage ≡ stages.Full }
     {
-        match self.ends.initiator.stage() {
-            Stage::Full => Some((self.ends.target.params(), self.ends.initiator.params())),
+        let ends: &Ends = &self.ends;
+        match ends.initiator.stage() {
+            Stage::Full => Some((ends.target.params(), ends.initiator.params())),
             Stage::Security | Stage::Operational => None,
         }
     }
@@ -144,7 +149,7 @@ impl Pair {
     pub fn into_store(self) -> MemoryStore
         ensures store { result ≡ self.blocks }
     {
-        self.ends.into_store()
+        Box::into_inner(self.ends).into_store()
     }
 
     /// Takes the initiator's outcome, once it is there.

@@ -1,6 +1,9 @@
-use Rattle.iscsi_pair.specs.World.{Takes}
+use Rattle.std.proofs.Common.{sym, subst}
+use Rattle.iscsi_pair.specs.World.{World, HasCome, Takes}
 use Rattle.iscsi_pair.proofs.Run.ComesLemmas.{comes_more}
 use Rattle.iscsi_pair.proofs.pair.Pair.outcome.Goals as goal
 
 pub invariant_of-self : goal.invariant_of-self
-invariant_of-self c = comes_more c.self.inside.ends c.outcome.new.self Takes c.self.invariant c.outcome.ensures.taken
+invariant_of-self c =
+    comes_more c.deref_mut.result.now c.outcome.new.self Takes
+    (subst (λ (w : World). HasCome w) (sym c.deref_mut.ensures.value) c.self.invariant) c.outcome.ensures.taken
