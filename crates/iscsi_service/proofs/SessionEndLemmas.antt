@@ -40,7 +40,7 @@ use Rattle.iscsi_target.proofs.JoiningLemmas.{answers_joined}
 use Rattle.iscsi_target.proofs.FeedingLemmas.{Told, told}
 use Rattle.iscsi_target.proofs.ClosingLemmas.{answers_close}
 use Rattle.iscsi_target.proofs.StreamingLemmas.{goes_on}
-use Rattle.iscsi_service.specs.Session.{Receives, ServesFirst, IsOver, GoesOnBehind, RestFails, EndsBy}
+use Rattle.iscsi_service.specs.Session.{ended_by, Receives, ServesFirst, IsOver, GoesOnBehind, RestFails, EndsBy}
 use Rattle.iscsi_service.specs.declared.session.SessionFault.TheVariants as session
 
 -- memory ran out before anything was read
@@ -287,7 +287,7 @@ end_told settings disk bytes now new disk_now written s live done =
 
 pub finish_told : (fault : TargetFault) (settings : Settings) (disk : Disk) (bytes : List ℕ) (now new : Connection) (disk_now : Disk) (written : List ℕ) →
     Stands settings disk bytes now disk_now written → is_closed now.machine ≡ false
-    → Finishes now (Err fault) new → EndsBy settings disk (Err (session.Target fault)) bytes
+    → Finishes now (Err fault) new → EndsBy settings disk (Err (ended_by fault)) bytes
 finish_told (faults.Stream fault) settings disk bytes now new disk_now written s live fails = (
   receives_all settings bytes s.has.messages now.framing s.has.taken s.bound,
   stands_on settings disk bytes now disk_now written s live,
@@ -323,7 +323,7 @@ fed_rule settings disk bytes piece old new before after out written result s liv
 pub fault_told : (fault : TargetFault) (settings : Settings) (disk : Disk) (bytes piece : List ℕ) (old new : Connection) (before after : Store)
     (out written : List ℕ) → Stands settings disk bytes old before.disk out
     → is_closed old.machine ≡ false → Feeds (scene old before out) piece (Err fault) (scene new after written) → after.failures ≡ before.failures →
-    EndsBy settings disk (Err (session.Target fault)) (bytes ++ piece)
+    EndsBy settings disk (Err (ended_by fault)) (bytes ++ piece)
 fault_told (faults.Stream fault) settings disk bytes piece old new before after out written s live f works =
     let result : Result Phase TargetFault = Err (faults.Stream fault) in
     let t = fed_told settings disk bytes piece old new before after out written result s f f.leaves works in (

@@ -1,6 +1,7 @@
 -- What a session keeps from read to read.
-use Rattle.std.proofs.Common.{◌≡◌, inl, inr, drop, take-append-drop, ℕ, Bool, true, false, List, [], ◌∷◌, ◌++◌, length, ◌≤◌, ◌<◌, take, Option, Result, Ok}
+use Rattle.std.proofs.Common.{◌≡◌, inl, inr, drop, take-append-drop, ℕ, Bool, true, false, List, [], ◌∷◌, ◌++◌, ◌+◌, length, ◌≤◌, ◌<◌, take, Option, Result, Ok}
 use Rattle.std.proofs.Common.{Err, refl, sym, ap, subst, ◌∙◌, arith, append-nil, append_assoc}
+use Rattle.std.proofs.Math.Seq.{take-append-add}
 use Rattle.std.specs.Io.KnownBytes.{Appends, Consumes, Keeps, IsAtEnd}
 use Rattle.std.proofs.KnownBytes.{Appends-trans, Appends-nil, Consumes-trans, Consumes-kept}
 use Rattle.scsi_disk.specs.Disk.{Disk}
@@ -33,7 +34,7 @@ use Rattle.iscsi_target.proofs.FeedInvariant.{may_rise, short_rises}
 use Rattle.iscsi_target.proofs.FailingDiskLemmas.{may_leads, stop_leads, leads_append}
 use Rattle.iscsi_service.specs.declared.session.SessionFault.{SessionFault}
 use Rattle.iscsi_service.specs.declared.session.SessionFault.TheVariants as session
-use Rattle.iscsi_service.specs.Session.{target_settings, HasExecuted, ServesAll, ServesFirst, Serves, IsOver, EndsBy, EndsWell, EndsCut}
+use Rattle.iscsi_service.specs.Session.{target_settings, ended_by, HasExecuted, ServesAll, ServesFirst, ServesFront, Serves, IsOver, EndsBy, EndsWell, EndsCut}
 use Rattle.iscsi_service.specs.SessionSteps.{ServedUpTo, Service, service, Goes, ClosesBy, Tells, Loses, RunsOut, Breaks, HoldsBack, Syncs, IsUncut}
 use Rattle.iscsi_service.specs.Serving.{session_fault, ServesOne}
 use Rattle.iscsi_service.proofs.SessionEndLemmas.{Stands, stands_first, stands_answered, read_told, end_told}
@@ -296,22 +297,51 @@ held_front session.Sync contents now waiting held = (0, subst (λ (x : Option (L
 held_front session.Write contents now waiting held = held
 held_front session.Read contents now waiting held = absurd held
 held_front (session.Target fault) contents now waiting held = absurd held
+held_front session.NoMemory contents now waiting held = absurd held
 
 -- none of them, where it was the sync
 pub held_all : (fault : SessionFault) (contents now : Option (List ℕ)) (waiting : List ℕ) → fault ≡ session.Sync → HoldsBack fault contents now waiting →
     now ≡ contents
 held_all fault contents now waiting is held = subst (λ (f : SessionFault). HoldsBack f contents now waiting) is held
 
+-- all PDUs of what was read are answered, and some answers wait
+all_due : (settings : Settings) (first : Store) (stream : List ℕ) (now : Connection) (store : Store) (w0 w1 : Option (List ℕ)) (waiting : List ℕ)
+    → (up : ServedUpTo settings first stream w0 (service now store w1 waiting))
+    → IsInRange settings.preferences → store.failures ≡ first.failures → ServesAll settings first.disk stream store.disk (up.sent ++ waiting)
+all_due settings first stream now store w0 w1 waiting up range h ms given rest s =
+    fed_any settings 1 first up.pieces now store (up.sent ++ waiting) ms given rest (omega (arith, range.max_recv.1)) (up.fed h)
+    (subst (λ (x : List ℕ). Splits longest_segment x ms given rest) up.whole s)
+
+-- a front of what was due, behind these bytes
+front_due : (settings : Settings) (first : Store) (stream behind : List ℕ) (target : Connection) (store after : Store) (start contents : Option (List ℕ))
+    (waiting : List ℕ) (n : ℕ)
+    → (up : ServedUpTo settings first stream start (service target store contents waiting)) → Syncs store after → IsInRange settings.preferences
+    → after.failures ≡ first.failures → ServesFront settings first.disk (stream ++ behind) after.disk (up.sent ++ take n waiting)
+front_due settings first stream behind target store after start contents waiting n up s range none =
+    let h = none_counted first.failures store.failures after.failures up.rises s.rises none in
+    record {
+      front = stream;
+      behind = behind;
+      whole = refl;
+      due = up.sent ++ waiting;
+      served = inl (subst (λ (d : Disk). ServesAll settings first.disk stream d (up.sent ++ waiting)) (sym s.disk)
+          (all_due settings first stream target store start contents waiting up range h.0));
+      count = length up.sent + n;
+      written_is = sym (take-append-add up.sent waiting n);
+    }
+
 -- a part of them was, or none
-front_out : (settings : Settings) (first : Store) (stream : List ℕ) (target : Connection) (store after : Store) (start contents now : Option (List ℕ))
+front_out : (settings : Settings) (first : Store) (stream behind : List ℕ) (target : Connection) (store after : Store) (start contents now : Option (List ℕ))
     (waiting : List ℕ)
     → ServedUpTo settings first stream start (service target store contents waiting) → Syncs store after → AreBytes waiting →
     WroteFront contents now waiting → (sent : List ℕ) × Appends start now sent × AreBytes sent × HasExecuted first.disk after.disk
-front_out settings first stream target store after start contents now waiting up s are front = (
+    × (IsInRange settings.preferences → after.failures ≡ first.failures → ServesFront settings first.disk (stream ++ behind) after.disk sent)
+front_out settings first stream behind target store after start contents now waiting up s are front = (
   up.sent ++ take front.0 waiting,
   Appends-trans start contents now up.sent (take front.0 waiting) up.appended front.1,
   AreBytes-append up.sent (take front.0 waiting) up.bytes (AreBytes-take front.0 waiting are),
   synced_executed first.disk store after s up.executed,
+  λ range none. front_due settings first stream behind target store after start contents waiting front.0 up s range none,
 )
 
 -- bytes behind the end of a session are dropped
@@ -392,17 +422,78 @@ next_rises old new before after out piece written (Err fault) f =
     fed_rises (is_closed old.machine) old new before after out piece written (Err fault)
     (next_fails (is_closed old.machine) old new before after out piece written fault f)
 
+-- where memory ran out, some first PDUs were answered
+first_due : (settings : Settings) (first : Store) (stream : List ℕ) (old new : Connection) (before store after : Store) (start contents : Option (List ℕ))
+    (out piece written : List ℕ) → (up : ServedUpTo settings first stream start (service old before contents out)) → is_closed old.machine ≡ false
+    → FedNext (scene old before out) piece (Err faults.NoMemory) (scene new store written) → Syncs store after → after.failures ≡ first.failures
+    → ServesFirst settings first.disk (stream ++ piece) after.disk (up.sent ++ written)
+first_due settings first stream old new before store after start contents out piece written up live f s none =
+    let g = next_fails (is_closed old.machine) old new before store out piece written faults.NoMemory f in
+    let rises = next_rises old new before store out piece written (Err faults.NoMemory) f in
+    let low = up.rises in
+    let high = s.rises in
+    let h = none_counted first.failures before.failures store.failures up.rises rises (omega (arith, low, rises, high, none)) in
+    subst (λ (d : Disk). ServesFirst settings first.disk (stream ++ piece) d (up.sent ++ written)) (sym s.disk)
+    (first_told settings first.disk stream piece old new before store (up.sent ++ out) (up.sent ++ written)
+    (stands_up settings first stream old before start contents out up h.0 live)
+    (feeds_live old new before store up.sent piece out written (Err faults.NoMemory) live g) h.1)
+
+-- all PDUs were answered before another fault
+other_front : (settings : Settings) (first : Store) (stream : List ℕ) (old new : Connection) (before store after : Store) (start contents : Option (List ℕ))
+    (out piece written : List ℕ) (n : ℕ) (fault : TargetFault) → ((let r : Result Phase TargetFault = Err fault in r ≡ Err faults.NoMemory) → ⊥)
+    → (up : ServedUpTo settings first stream start (service old before contents out))
+    → FedNext (scene old before out) piece (Err fault) (scene new store written) → Syncs store after → IsInRange settings.preferences
+    → after.failures ≡ first.failures → ServesFront settings first.disk (stream ++ piece) after.disk (up.sent ++ take n written)
+unfolding served_more
+other_front settings first stream old new before store after start contents out piece written n fault well up f s range none =
+    let more : ServedUpTo settings first (stream ++ piece) start (service new store contents written) =
+    served_more settings first stream old new before store start contents out piece written (Err fault) up
+    (next_fails (is_closed old.machine) old new before store out piece written fault f) well in
+    subst (λ (x : List ℕ). ServesFront settings first.disk x after.disk (up.sent ++ take n written)) (append-nil (stream ++ piece))
+    (front_due settings first (stream ++ piece) [] new store after start contents written n more s range none)
+
+-- a front of what was due behind a call of feed_next
+next_front : (settings : Settings) (first : Store) (stream : List ℕ) (old new : Connection) (before store after : Store) (start contents : Option (List ℕ))
+    (out piece written : List ℕ) (n : ℕ) (result : Result (ℕ × Phase) TargetFault)
+    → (up : ServedUpTo settings first stream start (service old before contents out)) → is_closed old.machine ≡ false
+    → FedNext (scene old before out) piece result (scene new store written) → Syncs store after → IsInRange settings.preferences
+    → after.failures ≡ first.failures → ServesFront settings first.disk (stream ++ piece) after.disk (up.sent ++ take n written)
+unfolding served_more
+next_front settings first stream old new before store after start contents out piece written n (Ok done) up live f s range none =
+    let more : ServedUpTo settings first (stream ++ take done.0 piece) start (service new store contents written) =
+    served_more settings first stream old new before store start contents out (take done.0 piece) written (Ok done.1) up
+    (next_is (is_closed old.machine) old new before store out piece written done f) (λ e. cc) in
+    subst (λ (x : List ℕ). ServesFront settings first.disk x after.disk (up.sent ++ take n written))
+    (append_assoc stream (take done.0 piece) (drop done.0 piece) ∙ ap (λ (x : List ℕ). stream ++ x) (take-append-drop done.0 piece))
+    (front_due settings first (stream ++ take done.0 piece) (drop done.0 piece) new store after start contents written n more s range none)
+next_front settings first stream old new before store after start contents out piece written n (Err faults.NoMemory) up live f s range none = record {
+  front = stream ++ piece;
+  behind = [];
+  whole = sym (append-nil (stream ++ piece));
+  due = up.sent ++ written;
+  served = inr (first_due settings first stream old new before store after start contents out piece written up live f s none);
+  count = length up.sent + n;
+  written_is = sym (take-append-add up.sent written n);
+}
+next_front settings first stream old new before store after start contents out piece written n (Err (faults.Stream fault)) up live f s range none =
+    other_front settings first stream old new before store after start contents out piece written n (faults.Stream fault) (λ e. cc) up f s range none
+next_front settings first stream old new before store after start contents out piece written n (Err (faults.Protocol rule)) up live f s range none =
+    other_front settings first stream old new before store after start contents out piece written n (faults.Protocol rule) (λ e. cc) up f s range none
+next_front settings first stream old new before store after start contents out piece written n (Err faults.Closed) up live f s range none =
+    other_front settings first stream old new before store after start contents out piece written n faults.Closed (λ e. cc) up f s range none
+
 -- the answers could not be written, or a part of them alone
 pub write_loses : (old new : Connection) (before store after : Store) (contents now : Option (List ℕ)) (out piece written waiting : List ℕ)
-    (fault : SessionFault) (result : Result (ℕ × Phase) TargetFault)
+    (fault : SessionFault) (result : Result (ℕ × Phase) TargetFault) → is_closed old.machine ≡ false
     → FedNext (scene old before out) piece result (scene new store written) → Syncs store after → AreBytes written → HoldsBack fault contents now written →
-    Loses (service old before contents out) (service new after now waiting)
-write_loses old new before store after contents now out piece written waiting fault result f s are held = λ settings first stream start up.
+    Loses (service old before contents out) piece (service new after now waiting)
+write_loses old new before store after contents now out piece written waiting fault result live f s are held = λ settings first stream start up.
     let front : WroteFront contents now written = held_front fault contents now written held in (
       up.sent ++ take front.0 written,
       Appends-trans start contents now up.sent (take front.0 written) up.appended front.1,
       AreBytes-append up.sent (take front.0 written) up.bytes (AreBytes-take front.0 written are),
       synced_executed first.disk store after s (executed_next first.disk old new before store out piece written result up.executed f),
+      λ range none. next_front settings first stream old new before store after start contents out piece written front.0 result up live f s range none,
     )
 
 fault_served_to : (old new : Connection) (before store after : Store) (contents now : Option (List ℕ)) (out piece written : List ℕ) (fault : TargetFault)
@@ -418,7 +509,7 @@ fault_served_to old new before store after contents now out piece written fault 
 -- why a session ends by a fault that a call of feed_next answers
 fault_tells : (old new : Connection) (before after : Store) (contents : Option (List ℕ)) (out piece written : List ℕ) (fault : TargetFault) →
     is_closed old.machine ≡ false
-    → FedNext (scene old before out) piece (Err fault) (scene new after written) → Tells (service old before contents out) piece (session.Target fault) after
+    → FedNext (scene old before out) piece (Err fault) (scene new after written) → Tells (service old before contents out) piece (ended_by fault) after
 fault_tells old new before after contents out piece written fault live f = λ settings first stream start up none.
     let g = next_fails (is_closed old.machine) old new before after out piece written fault f in
     let h = none_counted first.failures before.failures after.failures up.rises (fed_rises (is_closed old.machine) old new before after out piece written
@@ -430,10 +521,10 @@ fault_tells old new before after contents out piece written fault live f = λ se
 fault_goes : (old new : Connection) (before store after : Store) (contents now : Option (List ℕ)) (out piece written : List ℕ) (fault : TargetFault) →
     (fault ≡ faults.NoMemory → ⊥) → is_closed old.machine ≡ false
     → FedNext (scene old before out) piece (Err fault) (scene new store written) → Syncs store after → AreBytes written → Appends contents now written
-    → Goes (service old before contents out) piece (service new after now []) × Tells (service old before contents out) piece (session.Target fault) after
+    → Goes (service old before contents out) piece (service new after now []) × Tells (service old before contents out) piece (ended_by fault) after
 fault_goes old new before store after contents now out piece written fault some live f s are wrote = (
   fault_served_to old new before store after contents now out piece written fault f (λ e. some (err_is e)) s are wrote,
-  tells_synced (service old before contents out) piece (session.Target fault) store after
+  tells_synced (service old before contents out) piece (ended_by fault) store after
       (next_rises old new before store out piece written (Err fault) f) s
       (fault_tells old new before store contents out piece written fault live f),
 )
@@ -461,22 +552,13 @@ fault_uncut old new before store out piece written fault live f =
 pub fault_breaks : (old new : Connection) (before store after : Store) (contents now : Option (List ℕ)) (out piece written : List ℕ) (fault : TargetFault) →
     is_closed old.machine ≡ false
     → FedNext (scene old before out) piece (Err fault) (scene new store written) → Syncs store after → AreBytes written → Appends contents now written
-    → Breaks (service old before contents out) piece (session.Target fault) (service new after now [])
+    → Breaks (service old before contents out) piece (ended_by fault) (service new after now [])
 fault_breaks old new before store after contents now out piece written faults.NoMemory live f s are wrote = λ settings first stream start up. (
   up.sent ++ written,
   Appends-trans start contents now up.sent written up.appended wrote,
   AreBytes-append up.sent written up.bytes are,
   synced_executed first.disk store after s (executed_next first.disk old new before store out piece written (Err faults.NoMemory) up.executed f),
-  λ none.
-      let g = next_fails (is_closed old.machine) old new before store out piece written faults.NoMemory f in
-      let rises = next_rises old new before store out piece written (Err faults.NoMemory) f in
-      let low = up.rises in
-      let high = s.rises in
-      let h = none_counted first.failures before.failures store.failures up.rises rises (omega (arith, low, rises, high, none)) in
-      subst (λ (d : Disk). ServesFirst settings first.disk (stream ++ piece) d (up.sent ++ written)) (sym s.disk)
-      (first_told settings first.disk stream piece old new before store (up.sent ++ out) (up.sent ++ written)
-      (stands_up settings first stream old before start contents out up h.0 live)
-      (feeds_live old new before store up.sent piece out written (Err faults.NoMemory) live g) h.1),
+  λ none. first_due settings first stream old new before store after start contents out piece written up live f s none,
 )
 fault_breaks old new before store after contents now out piece written (faults.Stream fault) live f s are wrote =
     let g = fault_goes old new before store after contents now out piece written (faults.Stream fault) (λ e. cc) live f s are wrote in
@@ -494,8 +576,15 @@ goes_then old mid new a b p q = λ settings first stream start up.
     subst (λ (x : List ℕ). ServedUpTo settings first x start new) (append_assoc stream a b)
     (q settings first (stream ++ a) start (p settings first stream start up))
 
-loses_then : (old mid new : Service) (a : List ℕ) → Goes old a mid → Loses mid new → Loses old new
-loses_then old mid new a p q = λ settings first stream start up. q settings first (stream ++ a) start (p settings first stream start up)
+loses_then : (old mid new : Service) (a b : List ℕ) → Goes old a mid → Loses mid b new → Loses old (a ++ b) new
+loses_then old mid new a b p q = λ settings first stream start up.
+    let l = q settings first (stream ++ a) start (p settings first stream start up) in (
+      l.0,
+      l.1,
+      l.2,
+      l.3,
+      λ range h. subst (λ (x : List ℕ). ServesFront settings first.disk x new.store.disk l.0) (append_assoc stream a b) (l.4 range h),
+    )
 
 tells_then : (old mid : Service) (a b : List ℕ) (fault : SessionFault) (after : Store) → Goes old a mid → Tells mid b fault after →
     Tells old (a ++ b) fault after
@@ -509,15 +598,16 @@ runs_out_then old mid new a b p q = λ settings first stream start up.
     (l.0, l.1, l.2, l.3, λ h. subst (λ (x : List ℕ). ServesFirst settings first.disk x new.store.disk l.0) (append_assoc stream a b) (l.4 h))
 
 pub breaks_then : (old mid new : Service) (a b : List ℕ) (fault : SessionFault) → Goes old a mid → Breaks mid b fault new → Breaks old (a ++ b) fault new
-breaks_then old mid new a b (session.Target faults.NoMemory) p q = runs_out_then old mid new a b p q
+breaks_then old mid new a b session.NoMemory p q = runs_out_then old mid new a b p q
+breaks_then old mid new a b (session.Target faults.NoMemory) p q = q
 breaks_then old mid new a b (session.Target (faults.Stream fault)) p q =
     (goes_then old mid new a b p q.0, tells_then old mid a b (session.Target (faults.Stream fault)) new.store p q.1, q.2)
 breaks_then old mid new a b (session.Target (faults.Protocol rule)) p q =
     (goes_then old mid new a b p q.0, tells_then old mid a b (session.Target (faults.Protocol rule)) new.store p q.1)
 breaks_then old mid new a b (session.Target faults.Closed) p q = q
 breaks_then old mid new a b session.Read p q = q
-breaks_then old mid new a b session.Sync p q = loses_then old mid new a p q
-breaks_then old mid new a b session.Write p q = loses_then old mid new a p q
+breaks_then old mid new a b session.Sync p q = loses_then old mid new a b p q
+breaks_then old mid new a b session.Write p q = loses_then old mid new a b p q
 
 is_over_more : (settings : Settings) (disk : Disk) (read more : List ℕ) → IsOver settings disk read → IsOver settings disk (read ++ more)
 is_over_more settings disk read more o = (
@@ -546,11 +636,12 @@ goes_written old bytes target store after contents now waiting p s are wrote = �
 
 -- they are held back
 pub breaks_held : (old new : Service) (bytes : List ℕ) (fault : SessionFault) (contents now : Option (List ℕ)) (waiting : List ℕ)
-    → HoldsBack fault contents now waiting → Loses old new → Breaks old bytes fault new
+    → HoldsBack fault contents now waiting → Loses old bytes new → Breaks old bytes fault new
 breaks_held old new bytes session.Sync contents now waiting held lost = lost
 breaks_held old new bytes session.Write contents now waiting held lost = lost
 breaks_held old new bytes session.Read contents now waiting held lost = absurd held
 breaks_held old new bytes (session.Target fault) contents now waiting held lost = absurd held
+breaks_held old new bytes session.NoMemory contents now waiting held lost = absurd held
 
 -- ---- a piece
 
@@ -582,8 +673,15 @@ pub piece_lost : (old : Service) (piece rest : List ℕ) (target : Connection) (
     Breaks old piece fault (service target after now [])
 piece_lost old piece rest target store after contents now waiting fault p s are held =
     breaks_held old (service target after now []) piece fault contents now waiting held (λ settings first stream start up.
-    front_out settings first (stream ++ p.front) target store after start contents now waiting (p.goes settings first stream start up) s are
-    (held_front fault contents now waiting held))
+    let o = front_out settings first (stream ++ p.front) rest target store after start contents now waiting (p.goes settings first stream start up) s are
+    (held_front fault contents now waiting held) in (
+      o.0,
+      o.1,
+      o.2,
+      o.3,
+      λ range h. subst (λ (x : List ℕ). ServesFront settings first.disk x after.disk o.0)
+          (append_assoc stream p.front rest ∙ ap (λ (x : List ℕ). stream ++ x) (sym p.parts)) (o.4 range h),
+    ))
 
 -- the whole piece was served, and the answers that waited were written
 pub piece_done : (old : Service) (piece rest : List ℕ) (target : Connection) (store after : Store) (contents now : Option (List ℕ)) (waiting : List ℕ)
@@ -726,7 +824,7 @@ end_stops settings range first now new store r0 r1 r2 w0 w1 C up left live done 
 
 any_fault : (settings : Settings) (disk : Disk) (fault : TargetFault) (new now : Connection) (read : List ℕ) (disk_now : Disk) (written : List ℕ) →
     is_closed now.machine ≡ false → Finishes now (Err fault) new → ServesAll settings disk read disk_now written
-    → Serves settings disk (Err (session.Target fault)) read disk_now written
+    → Serves settings disk (Err (ended_by fault)) read disk_now written
 any_fault settings disk faults.NoMemory new now read disk_now written live f a = absurd f
 any_fault settings disk (faults.Stream fault) new now read disk_now written live f a = a
 any_fault settings disk (faults.Protocol rule) new now read disk_now written live f a = a
@@ -736,9 +834,9 @@ any_fault settings disk faults.Closed new now read disk_now written live f a = a
 pub finish_stops : (settings : Settings) (range : IsInRange settings.preferences) (fault : TargetFault) (first : Store) (now new : Connection) (store : Store) (r0 r1 r2 w0 w1 : Option (List ℕ))
     (C : List ℕ → Type 0) → (up : ReadUpTo settings (outside first r0 w0) now (outside store r1 w1)) → C up.stream
     → is_closed now.machine ≡ false → Finishes now (Err fault) new → Consumes r1 r2 [] →
-    Leaves r0 r2 w0 w1 (Ended settings first store (Err (session.Target fault))) C
+    Leaves r0 r2 w0 w1 (Ended settings first store (Err (ended_by fault))) C
 finish_stops settings range fault first now new store r0 r1 r2 w0 w1 C up left live fails read =
-    stops settings range (Err (session.Target fault)) first now store r0 r2 w0 w1 C (record {
+    stops settings range (Err (ended_by fault)) first now store r0 r2 w0 w1 C (record {
       stream = up.stream;
       consumed = ended_up settings first now store r0 r1 r2 w0 w1 up read;
       served = up.served;
@@ -766,7 +864,7 @@ pub fault_stops : (settings : Settings) (range : IsInRange settings.preferences)
     (r0 r1 r2 w0 w1 w2 : Option (List ℕ)) (piece : List ℕ) (C : List ℕ → Type 0)
     → (up : ReadUpTo settings (outside first r0 w0) now (outside store r1 w1)) → C (up.stream ++ piece) → Consumes r1 r2 piece
     → Breaks (service now store w1 []) piece fault (service new after w2 []) → Leaves r0 r2 w0 w2 (Ended settings first after (Err fault)) C
-fault_stops settings range (session.Target faults.NoMemory) first now new store after r0 r1 r2 w0 w1 w2 piece C up left read lost =
+fault_stops settings range session.NoMemory first now new store after r0 r1 r2 w0 w1 w2 piece C up left read lost =
     let l = lost settings first up.stream w0 up.served in (
       up.stream ++ piece,
       l.0,
@@ -782,6 +880,7 @@ fault_stops settings range (session.Target (faults.Stream fault)) first now new 
 fault_stops settings range (session.Target (faults.Protocol rule)) first now new store after r0 r1 r2 w0 w1 w2 piece C up left read broken =
     fault_ends settings range (session.Target (faults.Protocol rule)) first now new store after r0 r1 r2 w0 w1 w2 piece C up left read (λ read written a. a)
     broken.0 broken.1
+fault_stops settings range (session.Target faults.NoMemory) first now new store after r0 r1 r2 w0 w1 w2 piece C up left read broken = absurd broken
 fault_stops settings range (session.Target faults.Closed) first now new store after r0 r1 r2 w0 w1 w2 piece C up left read broken = absurd broken
 fault_stops settings range session.Read first now new store after r0 r1 r2 w0 w1 w2 piece C up left read broken = absurd broken
 fault_stops settings range session.Sync first now new store after r0 r1 r2 w0 w1 w2 piece C up left read lost =
@@ -791,7 +890,7 @@ fault_stops settings range session.Sync first now new store after r0 r1 r2 w0 w1
       Consumes-trans r0 r1 r2 up.stream piece up.consumed read,
       l.1,
       l.2,
-      λ h. (tt, tt),
+      λ h. (l.4 range h, tt),
       left,
     )
 fault_stops settings range session.Write first now new store after r0 r1 r2 w0 w1 w2 piece C up left read lost =
@@ -801,12 +900,13 @@ fault_stops settings range session.Write first now new store after r0 r1 r2 w0 w
       Consumes-trans r0 r1 r2 up.stream piece up.consumed read,
       l.1,
       l.2,
-      λ h. (tt, tt),
+      λ h. (l.4 range h, tt),
       left,
     )
 
 -- a PDU is called cut at the end of the stream alone
 pub fault_cut : (old new : Service) (bytes : List ℕ) (fault : SessionFault) (left : Option (List ℕ)) → Breaks old bytes fault new → EndsCut (Err fault) left
+fault_cut old new bytes session.NoMemory left b = tt
 fault_cut old new bytes (session.Target faults.NoMemory) left b = tt
 fault_cut old new bytes (session.Target (faults.Stream (stream.Head fault place))) left b = tt
 fault_cut old new bytes (session.Target (faults.Stream (stream.OverLimit place))) left b = tt
@@ -819,7 +919,7 @@ fault_cut old new bytes session.Read left b = tt
 fault_cut old new bytes session.Sync left b = tt
 fault_cut old new bytes session.Write left b = tt
 
-pub end_cut : (fault : TargetFault) (left : Option (List ℕ)) → IsAtEnd left → EndsCut (Err (session.Target fault)) left
+pub end_cut : (fault : TargetFault) (left : Option (List ℕ)) → IsAtEnd left → EndsCut (Err (ended_by fault)) left
 end_cut faults.NoMemory left end = tt
 end_cut (faults.Stream (stream.Head fault place)) left end = tt
 end_cut (faults.Stream (stream.OverLimit place)) left end = tt
@@ -834,11 +934,12 @@ pub fault_executed : (settings : Settings) (fault : SessionFault) (first : Store
     (r0 r1 w0 w1 w2 : Option (List ℕ)) (piece : List ℕ)
     → ReadUpTo settings (outside first r0 w0) now (outside store r1 w1) → Breaks (service now store w1 []) piece fault (service new after w2 []) →
     HasExecuted first.disk after.disk
-fault_executed settings (session.Target faults.NoMemory) first now new store after r0 r1 w0 w1 w2 piece up lost = (lost settings first up.stream w0 up.served).3
+fault_executed settings session.NoMemory first now new store after r0 r1 w0 w1 w2 piece up lost = (lost settings first up.stream w0 up.served).3
 fault_executed settings (session.Target (faults.Stream fault)) first now new store after r0 r1 w0 w1 w2 piece up broken =
     (broken.0 settings first up.stream w0 up.served).executed
 fault_executed settings (session.Target (faults.Protocol rule)) first now new store after r0 r1 w0 w1 w2 piece up broken =
     (broken.0 settings first up.stream w0 up.served).executed
+fault_executed settings (session.Target faults.NoMemory) first now new store after r0 r1 w0 w1 w2 piece up broken = absurd broken
 fault_executed settings (session.Target faults.Closed) first now new store after r0 r1 w0 w1 w2 piece up broken = absurd broken
 fault_executed settings session.Read first now new store after r0 r1 w0 w1 w2 piece up broken = absurd broken
 fault_executed settings session.Sync first now new store after r0 r1 w0 w1 w2 piece up lost = (lost settings first up.stream w0 up.served).3
@@ -897,13 +998,14 @@ ok_open b e = ap (λ (x : Bool). (let r : Result Bool SessionFault = Ok x in r))
 pub fault_served : (settings : Settings) (disk : Disk) (fault : SessionFault) (read : List ℕ) (disk_now : Disk) (written : List ℕ)
     → Serves settings disk (Err fault) read disk_now written × EndsBy settings disk (Err fault) read →
     ServesOne settings disk (Err (session_fault fault)) read disk_now written
-fault_served settings disk (session.Target faults.NoMemory) read disk_now written a = a.0
+fault_served settings disk session.NoMemory read disk_now written a = a.0
+fault_served settings disk (session.Target faults.NoMemory) read disk_now written a = absurd a.0
 fault_served settings disk (session.Target (faults.Stream fault)) read disk_now written a = a
 fault_served settings disk (session.Target (faults.Protocol rule)) read disk_now written a = a
 fault_served settings disk (session.Target faults.Closed) read disk_now written a = absurd a.0
 fault_served settings disk session.Read read disk_now written a = a
-fault_served settings disk session.Sync read disk_now written a = tt
-fault_served settings disk session.Write read disk_now written a = tt
+fault_served settings disk session.Sync read disk_now written a = a.0
+fault_served settings disk session.Write read disk_now written a = a.0
 
 -- ---- the target of the programs
 

@@ -10,7 +10,7 @@ use Rattle.iscsi_service.specs.declared.session.SessionFault.{SessionFault}
 use Rattle.iscsi_service.specs.declared.session.SessionFault.TheVariants as session
 use Rattle.iscsi_service.specs.declared.fault.ServeFault.{ServeFault}
 use Rattle.iscsi_service.specs.declared.fault.ServeFault.TheVariants as serve
-use Rattle.iscsi_service.specs.Session.{ServesAll, ServesFirst, EndsBy}
+use Rattle.iscsi_service.specs.Session.{ServesAll, ServesFirst, ServesFront, EndsBy}
 
 -- The exit status of a fault: 1 where what came is refused, 3 for memory, 4 for reading, writing,
 -- a sync and the network.
@@ -43,14 +43,14 @@ initiator_fault initiator.Closed = serve.Initiator initiator.Closed
 
 -- A session's fault over a stream; its `NoMemory` is the session's own.
 abbrev pub session_fault : SessionFault → ServeFault
+session_fault session.NoMemory = serve.NoMemory
 session_fault (session.Target fault) = target_fault fault
 session_fault session.Read = serve.Read
 session_fault session.Sync = serve.Sync
 session_fault session.Write = serve.Write
 
 -- What a session over a socket leaves where it ends, and why it ends so: nothing is done where no
--- connection was accepted; where a sync or a write failed, nothing is stated of it. No fault wraps
--- the want of memory.
+-- connection was accepted. No fault wraps the want of memory.
 abbrev pub ServesOne : Settings → Disk → Result (Unit {0}) ServeFault → List ℕ → Disk → List ℕ
     → Type 0
 ServesOne settings disk (Ok done) read disk_now written =
@@ -64,8 +64,10 @@ ServesOne settings disk (Err serve.Read) read disk_now written =
 ServesOne settings disk (Err serve.Network) read disk_now written = disk_now ≡ disk
 ServesOne settings disk (Err serve.NoMemory) read disk_now written =
     ServesFirst settings disk read disk_now written
-ServesOne settings disk (Err serve.Sync) read disk_now written = Unit {0}
-ServesOne settings disk (Err serve.Write) read disk_now written = Unit {0}
+ServesOne settings disk (Err serve.Sync) read disk_now written =
+    ServesFront settings disk read disk_now written
+ServesOne settings disk (Err serve.Write) read disk_now written =
+    ServesFront settings disk read disk_now written
 ServesOne settings disk (Err (serve.Initiator fault)) read disk_now written = ⊥
 ServesOne settings disk (Err (serve.Script line)) read disk_now written = ⊥
 

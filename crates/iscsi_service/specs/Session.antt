@@ -11,6 +11,7 @@ use Rattle.iscsi_stream.specs.Segment.{no_login}
 use Rattle.iscsi_stream.specs.Stream.{Message, ReadsAs, NoPdu, Splits, longest_segment}
 use Rattle.iscsi_stream.specs.Framing.{IsBegun, last_place}
 use Rattle.iscsi_login.specs.Negotiation.{standard}
+use Rattle.iscsi_target.specs.declared.fault.TargetFault.{TargetFault}
 use Rattle.iscsi_target.specs.declared.fault.TargetFault.TheVariants as faults
 use Rattle.iscsi_target_session.specs.Configured.{Settings}
 use Rattle.iscsi_target_session.specs.Session.{limit}
@@ -32,6 +33,13 @@ target_settings = record {
   tsih = 1;
   preferences = standard;
 }
+
+-- A target's fault as the end of its session; its `NoMemory` is the session's own.
+abbrev pub ended_by : TargetFault → SessionFault
+ended_by faults.NoMemory = session.NoMemory
+ended_by (faults.Stream fault) = session.Target (faults.Stream fault)
+ended_by (faults.Protocol rule) = session.Target (faults.Protocol rule)
+ended_by faults.Closed = session.Target faults.Closed
 
 -- Commands that were executed, one after another, lead from one disk to another.
 abbrev pub HasExecuted : Disk → Disk → Type 0
@@ -79,7 +87,20 @@ pub record ServesFirst (settings : Settings) (disk : Disk) (read : List ℕ) (di
   pub disk_is : disk_now ≡ front.disk
   pub output_is : written ≡ canon ((led settings disk read receives).answers ++ front.answers)
 
--- What a session leaves where it ends; where a sync or a write failed, nothing is stated of it.
+-- A front of what was due is written: of the answers to all PDUs of a front of what was read, or to
+-- some first ones of them. The blocks are those that these lead to.
+pub record ServesFront (settings : Settings) (disk : Disk) (read : List ℕ) (disk_now : Disk)
+    (written : List ℕ) : Type 0 where
+  pub front : List ℕ
+  pub behind : List ℕ
+  pub whole : read ≡ front ++ behind
+  pub due : List ℕ
+  pub served : ServesAll settings disk front disk_now due
+      ⊎ ServesFirst settings disk front disk_now due
+  pub count : ℕ
+  pub written_is : written ≡ take count due
+
+-- What a session leaves where it ends; no fault wraps the want of memory.
 abbrev pub Serves : Settings → Disk → Result (Unit {0}) SessionFault → List ℕ → Disk → List ℕ
     → Type 0
 Serves settings disk (Ok done) read disk_now written = ServesAll settings disk read disk_now written
@@ -89,11 +110,14 @@ Serves settings disk (Err (session.Target (faults.Protocol rule))) read disk_now
     ServesAll settings disk read disk_now written
 Serves settings disk (Err session.Read) read disk_now written =
     ServesAll settings disk read disk_now written
-Serves settings disk (Err (session.Target faults.NoMemory)) read disk_now written =
+Serves settings disk (Err session.NoMemory) read disk_now written =
     ServesFirst settings disk read disk_now written
+Serves settings disk (Err (session.Target faults.NoMemory)) read disk_now written = ⊥
 Serves settings disk (Err (session.Target faults.Closed)) read disk_now written = ⊥
-Serves settings disk (Err session.Sync) read disk_now written = Unit {0}
-Serves settings disk (Err session.Write) read disk_now written = Unit {0}
+Serves settings disk (Err session.Sync) read disk_now written =
+    ServesFront settings disk read disk_now written
+Serves settings disk (Err session.Write) read disk_now written =
+    ServesFront settings disk read disk_now written
 
 -- The session was closed by the first PDUs of what was read, and none of them broke a rule: by a
 -- logout or a refused login (RFC 7143, sections 11.13 and 11.14).
@@ -139,7 +163,8 @@ EndsBy settings disk (Err (session.Target (faults.Stream fault))) read =
 EndsBy settings disk (Err session.Read) read =
     (receives : Receives settings read) × GoesOnBehind settings disk read receives
     × IsBegun (limit settings) receives.rest × NoPdu (limit settings) receives.rest
-EndsBy settings disk (Err (session.Target faults.NoMemory)) read = Unit {0}
+EndsBy settings disk (Err session.NoMemory) read = Unit {0}
+EndsBy settings disk (Err (session.Target faults.NoMemory)) read = ⊥
 EndsBy settings disk (Err session.Sync) read = Unit {0}
 EndsBy settings disk (Err session.Write) read = Unit {0}
 EndsBy settings disk (Err (session.Target faults.Closed)) read = ⊥

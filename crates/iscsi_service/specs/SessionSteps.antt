@@ -4,13 +4,14 @@ use Rattle.std.specs.Prelude.{◌≡◌, ◌≤◌, ℕ, List, [], ◌++◌, Opt
 use Rattle.std.specs.Io.KnownBytes.{Appends}
 use Rattle.iscsi_pdu.specs.Meaning.{AreBytes}
 use Rattle.iscsi_stream.specs.Normalising.{WroteFront}
+use Rattle.iscsi_login.specs.Negotiation.{IsInRange}
 use Rattle.iscsi_stream.specs.declared.fault.StreamFault.{StreamFault}
 use Rattle.iscsi_stream.specs.declared.fault.StreamFault.TheVariants as stream
 use Rattle.iscsi_target.specs.declared.fault.TargetFault.TheVariants as faults
 use Rattle.iscsi_target_session.specs.Configured.{Settings}
 use Rattle.iscsi_target.specs.Feed.{Connection, Store, FedAll, opening_connection, stream_of, scene}
 use Rattle.iscsi_target.specs.Crash.{CrashesFed}
-use Rattle.iscsi_service.specs.Session.{HasExecuted, IsOver, EndsBy, ServesFirst, StandsBehind}
+use Rattle.iscsi_service.specs.Session.{HasExecuted, IsOver, EndsBy, ServesFirst, ServesFront, StandsBehind}
 use Rattle.iscsi_service.specs.declared.session.SessionFault.{SessionFault}
 use Rattle.iscsi_service.specs.declared.session.SessionFault.TheVariants as session
 
@@ -56,6 +57,7 @@ pub record Syncs (before after : Store) : Type 0 where
 abbrev pub HoldsBack : SessionFault → Option (List ℕ) → Option (List ℕ) → List ℕ → Type 0
 HoldsBack session.Sync contents now waiting = now ≡ contents
 HoldsBack session.Write contents now waiting = WroteFront contents now waiting
+HoldsBack session.NoMemory contents now waiting = ⊥
 HoldsBack session.Read contents now waiting = ⊥
 HoldsBack (session.Target fault) contents now waiting = ⊥
 
@@ -73,13 +75,16 @@ ClosesBy old bytes after =
     → ServedUpTo settings first stream start old
     → after.failures ≡ first.failures → IsOver settings first.disk (stream ++ bytes)
 
--- Something was sent, and the blocks are those that commands left.
-abbrev pub Loses : Service → Service → Type 0
-Loses old new =
+-- A front of what was due was sent, behind some of these bytes, and the blocks are those that commands
+-- left.
+abbrev pub Loses : Service → List ℕ → Service → Type 0
+Loses old bytes new =
     (settings : Settings) (first : Store) (stream : List ℕ) (start : Option (List ℕ))
     → ServedUpTo settings first stream start old
     → (sent : List ℕ) × Appends start new.contents sent × AreBytes sent
     × HasExecuted first.disk new.store.disk
+    × (IsInRange settings.preferences → new.store.failures ≡ first.failures
+    → ServesFront settings first.disk (stream ++ bytes) new.store.disk sent)
 
 -- These bytes are why the session ends so, where no failure was counted up to this store.
 abbrev pub Tells : Service → List ℕ → SessionFault → Store → Type 0
@@ -119,7 +124,8 @@ IsUncut _ = Unit {0}
 
 -- What is left where a session ends by a fault at these bytes.
 abbrev pub Breaks : Service → List ℕ → SessionFault → Service → Type 0
-Breaks old bytes (session.Target faults.NoMemory) new = RunsOut old bytes new
+Breaks old bytes session.NoMemory new = RunsOut old bytes new
+Breaks old bytes (session.Target faults.NoMemory) new = ⊥
 Breaks old bytes (session.Target (faults.Stream fault)) new =
     Goes old bytes new × Tells old bytes (session.Target (faults.Stream fault)) new.store
     × IsUncut fault
@@ -127,5 +133,5 @@ Breaks old bytes (session.Target (faults.Protocol rule)) new =
     Goes old bytes new × Tells old bytes (session.Target (faults.Protocol rule)) new.store
 Breaks old bytes (session.Target faults.Closed) new = ⊥
 Breaks old bytes session.Read new = ⊥
-Breaks old bytes session.Sync new = Loses old new
-Breaks old bytes session.Write new = Loses old new
+Breaks old bytes session.Sync new = Loses old bytes new
+Breaks old bytes session.Write new = Loses old bytes new

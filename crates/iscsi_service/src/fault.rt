@@ -100,6 +100,7 @@ impl From<SessionFault> for ServeFault {
 
     fn from(fault: SessionFault) -> ServeFault {
         match fault {
+            SessionFault::NoMemory => ServeFault::NoMemory,
             SessionFault::Target(fault) => ServeFault::from(fault),
             SessionFault::Read => ServeFault::Read,
             SessionFault::Sync => ServeFault::Sync,

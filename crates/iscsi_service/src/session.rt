@@ -45,7 +45,10 @@ pub fn configuration(alloc: Global) -> Result<Config, AllocError>
 /// Why a session over a stream ends early.
 #[derive(Clone, Copy, Debug, PartialEq, Eq, Error)]
 pub enum SessionFault {
-    /// The target refuses what its initiator sent, or memory ran out.
+    /// Memory ran out.
+    #[error("memory")]
+    NoMemory,
+    /// The target refuses what its initiator sent; the fault is never `NoMemory`.
     #[error(transparent)]
     Target(TargetFault),
     /// A read failed, or there were 16,777,216 of them.
@@ -58,6 +61,22 @@ pub enum SessionFault {
     /// A write failed, or took no byte.
     #[error("write failed")]
     Write,
+}
+
+impl From<TargetFault> for SessionFault {
+    ghost use Rattle.std.specs.Prelude.{◌≡◌};
+    ghost use Rattle.iscsi_service.specs.Session.{ended_by};
+
+    ghost from_gives = { λ fault e. e ≡ ended_by fault };
+
+    fn from(fault: TargetFault) -> SessionFault {
+        match fault {
+            TargetFault::NoMemory => SessionFault::NoMemory,
+            TargetFault::Stream(_) | TargetFault::Protocol(_) | TargetFault::Closed => {
+                SessionFault::Target(fault)
+            }
+        }
+    }
 }
 
 impl From<ReadFault> for SessionFault {
@@ -79,13 +98,14 @@ impl From<ReadFault> for SessionFault {
 ///
 /// Where the store counted no failure, what is written are the answers to all PDUs of what was
 /// read, and the store has the blocks that they leave; when out of memory those of some first PDUs,
-/// whole, and of some first tasks of the next one. Of a failed sync or write nothing is said, but
-/// that behind a failed sync no answer that waited for it is written. Returns `Ok` where the stream
+/// whole, and of some first tasks of the next one. Behind a failed sync or write it is a front of
+/// these, and behind a failed sync no answer that waited for it. Returns `Ok` where the stream
 /// ends behind a PDU or the session was closed and no rule broken; `Target` with the rule that the
 /// last PDU broke, or with the fault and the place of what follows the PDUs where that is refused,
 /// or begun and not whole at the end of the stream, after the answers that were due; `Read` where a
 /// read fails or 16,777,216 of them did not reach the end, and none of these faults came before;
-/// `Sync` where a sync of the store fails; `Write` where a write fails or takes no byte.
+/// `Sync` where a sync of the store fails; `Write` where a write fails or takes no byte; `NoMemory`
+/// where memory runs out.
 ///
 /// The session is that of RFC 7143, sections 6 and 11; how it is read and written is own rule.
 pub fn serve_stream<S: BlockStore, R: Read, W: Write>(
@@ -186,7 +206,7 @@ pub(crate) fn serve_reads<S: BlockStore, R: Read, W: Write>(
     }
     match target.finish() {
         Ok(()) => Ok(()),
-        Err(fault) => Err(SessionFault::Target(fault)),
+        Err(fault) => Err(SessionFault::from(fault)),
     }
 }
 
@@ -287,7 +307,7 @@ fn serve_next<S: BlockStore, W: Write>(
         }
         Err(fault) => {
             write_out(store, out, w)?;
-            Err(SessionFault::Target(fault))
+            Err(SessionFault::from(fault))
         }
     }
 }

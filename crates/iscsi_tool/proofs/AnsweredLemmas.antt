@@ -28,13 +28,14 @@ done_answered blocks read disk_now written s = (all_answered blocks read disk_no
 pub fault_answered : (fault : SessionFault) (blocks : ℕ) (read : List ℕ) (disk_now : Disk) (written : List ℕ) →
     Serves target_settings (zeros blocks) (Err fault) read disk_now written × EndsBy target_settings (zeros blocks) (Err fault) read
     → AnswersBytes blocks (Err (filter_fault fault)) read written
-fault_answered (session.Target faults.NoMemory) blocks read disk_now written s = (disk_now, s.0)
+fault_answered session.NoMemory blocks read disk_now written s = (disk_now, s.0)
+fault_answered (session.Target faults.NoMemory) blocks read disk_now written s = absurd s.0
 fault_answered (session.Target (faults.Stream fault)) blocks read disk_now written s = (all_answered blocks read disk_now written s.0, s.1)
 fault_answered (session.Target (faults.Protocol rule)) blocks read disk_now written s = (all_answered blocks read disk_now written s.0, s.1)
 fault_answered (session.Target faults.Closed) blocks read disk_now written s = absurd s.0
 fault_answered session.Read blocks read disk_now written s = (all_answered blocks read disk_now written s.0, s.1)
-fault_answered session.Sync blocks read disk_now written s = tt
-fault_answered session.Write blocks read disk_now written s = tt
+fault_answered session.Sync blocks read disk_now written s = (disk_now, s.0)
+fault_answered session.Write blocks read disk_now written s = (disk_now, s.0)
 
 pub no_bytes : IsBytes []
 no_bytes i = omega arith

@@ -29,6 +29,7 @@ stream_at_end tool.NotHex Ended h = tt
 stream_at_end (tool.Protocol rule) Ended h = tt
 
 pub session_at_end : (fault : SessionFault) (left : Option (List ℕ)) → EndsCut (Err fault) left → CutAtEnd (Err (filter_fault fault)) (IsAtEnd left)
+session_at_end session.NoMemory left h = tt
 session_at_end (session.Target faults.NoMemory) left h = tt
 session_at_end (session.Target (faults.Stream (stream.Head f p))) left h = tt
 session_at_end (session.Target (faults.Stream (stream.OverLimit p))) left h = tt

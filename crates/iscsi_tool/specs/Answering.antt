@@ -12,11 +12,12 @@ use Rattle.iscsi_target.specs.State.{opening}
 use Rattle.iscsi_target.specs.Machine.{answers}
 use Rattle.iscsi_service.specs.declared.session.SessionFault.{SessionFault}
 use Rattle.iscsi_service.specs.declared.session.SessionFault.TheVariants as session
-use Rattle.iscsi_service.specs.Session.{target_settings, ServesFirst, EndsBy, EndsWell}
+use Rattle.iscsi_service.specs.Session.{target_settings, ServesFirst, ServesFront, EndsBy, EndsWell}
 use Rattle.iscsi_tool.specs.HexText.{BytesOf, IsNotHex}
 
 -- The fault of a filter for that of its session.
 abbrev pub filter_fault : SessionFault → ToolFault
+filter_fault session.NoMemory = tool.NoMemory
 filter_fault (session.Target faults.NoMemory) = tool.NoMemory
 filter_fault (session.Target (faults.Stream fault)) = tool.Stream fault
 filter_fault (session.Target (faults.Protocol rule)) = tool.Protocol rule
@@ -43,8 +44,12 @@ abbrev pub AnswersFirst : ℕ → List ℕ → List ℕ → Type 0
 AnswersFirst blocks read written =
     (now : Disk) × ServesFirst target_settings (zeros blocks) read now written
 
--- What is written where answering ends, and why it ends so; where a write failed, nothing is stated
--- of it.
+-- A front of such answers is written.
+abbrev pub AnswersFront : ℕ → List ℕ → List ℕ → Type 0
+AnswersFront blocks read written =
+    (now : Disk) × ServesFront target_settings (zeros blocks) read now written
+
+-- What is written where answering ends, and why it ends so.
 abbrev pub AnswersBytes : ℕ → Result (Unit {0}) ToolFault → List ℕ → List ℕ → Type 0
 AnswersBytes blocks (Ok done) read written =
     AnswersAll blocks read written × EndsBy target_settings (zeros blocks) (Ok done) read
@@ -55,7 +60,7 @@ AnswersBytes blocks (Err (tool.Protocol rule)) read written = AnswersAll blocks 
 AnswersBytes blocks (Err tool.Read) read written = AnswersAll blocks read written
     × EndsBy target_settings (zeros blocks) (Err session.Read) read
 AnswersBytes blocks (Err tool.NoMemory) read written = AnswersFirst blocks read written
-AnswersBytes blocks (Err tool.Write) read written = Unit {0}
+AnswersBytes blocks (Err tool.Write) read written = AnswersFront blocks read written
 AnswersBytes blocks (Err (tool.Text fault)) read written = ⊥
 AnswersBytes blocks (Err tool.TextTooLong) read written = ⊥
 AnswersBytes blocks (Err tool.NotHex) read written = ⊥

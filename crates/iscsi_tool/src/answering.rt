@@ -125,7 +125,7 @@ fn filter_fault(fault: SessionFault) -> ToolFault
     ensures fault { result ≡ filter_fault fault }
 {
     match fault {
-        SessionFault::Target(TargetFault::NoMemory) => ToolFault::NoMemory,
+        SessionFault::NoMemory | SessionFault::Target(TargetFault::NoMemory) => ToolFault::NoMemory,
         SessionFault::Target(TargetFault::Stream(fault)) => ToolFault::Stream(fault),
         SessionFault::Target(TargetFault::Protocol(rule)) => ToolFault::Protocol(rule),
         SessionFault::Target(TargetFault::Closed) | SessionFault::Read => ToolFault::Read,

@@ -20,7 +20,7 @@ returns-in_err-write_out-in-Ok-clause-err g c =
     rw (p.1, p.2) (breaks_held (service c.args.target.now before contents c.args.out.now.items) (service c.feed_next.new.self after now [])
     c.args.piece.now c.in_err-write_out-in-Ok.field-0.0 contents now c.feed_next.new.out.items c.in_err-write_out-in-Ok.ensures.err
     (write_loses c.args.target.now c.feed_next.new.self before mid after contents now c.args.out.now.items c.args.piece.now c.feed_next.new.out.items []
-    c.in_err-write_out-in-Ok.field-0.0 c.feed_next.result c.feed_next.ensures.fed c.in_err-write_out-in-Ok.ensures.store c.in_err-write_out-in-Ok.ensures.bytes
+    c.in_err-write_out-in-Ok.field-0.0 c.feed_next.result c.requires.live c.feed_next.ensures.fed c.in_err-write_out-in-Ok.ensures.store c.in_err-write_out-in-Ok.ensures.bytes
     c.in_err-write_out-in-Ok.ensures.err))
 
 pub returns-in_err-write_out-in-Err-clause-err : goal.returns-in_err-write_out-in-Err-clause-err
@@ -34,7 +34,7 @@ returns-in_err-write_out-in-Err-clause-err g c =
     rw (p.1, p.2) (breaks_held (service c.args.target.now before contents c.args.out.now.items) (service c.feed_next.new.self after now [])
     c.args.piece.now c.in_err-write_out-in-Err.field-0.0 contents now c.feed_next.new.out.items c.in_err-write_out-in-Err.ensures.err
     (write_loses c.args.target.now c.feed_next.new.self before mid after contents now c.args.out.now.items c.args.piece.now c.feed_next.new.out.items []
-    c.in_err-write_out-in-Err.field-0.0 c.feed_next.result c.feed_next.ensures.fed c.in_err-write_out-in-Err.ensures.store
+    c.in_err-write_out-in-Err.field-0.0 c.feed_next.result c.requires.live c.feed_next.ensures.fed c.in_err-write_out-in-Err.ensures.store
     c.in_err-write_out-in-Err.ensures.bytes c.in_err-write_out-in-Err.ensures.err))
 
 pub returns-in_ok-write_out-in-Ok-clause-goes : goal.returns-in_ok-write_out-in-Ok-clause-goes
@@ -92,9 +92,9 @@ returns-in_ok-write_out-in-Err-clause-err g c =
     let mid : Store = store_of (g.S.BlockStore.disk c.feed_next.new.store) (g.S.BlockStore.failures c.feed_next.new.store) in
     let after : Store = store_of (g.S.BlockStore.disk c.write_out-in-Err.new.store) (g.S.BlockStore.failures c.write_out-in-Err.new.store) in
     let contents = g.W.Write.contents c.args.w.now in
-    fault_breaks c.args.target.now c.feed_next.new.self before mid after contents (g.W.Write.contents c.write_out-in-Err.new.w) c.args.out.now.items
-    c.args.piece.now c.feed_next.new.out.items c.in-Err.fault c.requires.live c.in-Err.ensures.fed
-    c.in_ok-write_out-in-Err.ensures.store c.in_ok-write_out-in-Err.ensures.bytes c.in_ok-write_out-in-Err.ensures.ok
+    rw c.from.ensures (fault_breaks c.args.target.now c.feed_next.new.self before mid after contents (g.W.Write.contents c.write_out-in-Err.new.w)
+    c.args.out.now.items c.args.piece.now c.feed_next.new.out.items c.in-Err.fault c.requires.live c.in-Err.ensures.fed
+    c.in_ok-write_out-in-Err.ensures.store c.in_ok-write_out-in-Err.ensures.bytes c.in_ok-write_out-in-Err.ensures.ok)
 
 pub returns-in_ok-write_out-in-Ok-clause-open : goal.returns-in_ok-write_out-in-Ok-clause-open
 returns-in_ok-write_out-in-Ok-clause-open g c =

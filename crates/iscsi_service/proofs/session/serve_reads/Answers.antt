@@ -39,10 +39,9 @@ returns-clause-serves g c =
     let w0 = g.W.Write.contents c.args.w.now in
     let due : List ℕ → Type 0 = λ read. CrashesFed (opening_connection c.args.config 1) first read store (g.S.BlockStore.kept c.args.store.now)
     (g.S.BlockStore.kept c.loop-out.store) in
-    finish_stops c.args.config c.requires.range c.in-Err.fault first c.loop-out.target c.finish.new.self store r0 (g.R.Read.remaining c.loop-out.r)
-    (g.R.Read.remaining c.next.new.r) w0 (g.W.Write.contents c.loop-out.w) due c.loop-out.invariant.1.read c.loop-out.invariant.1.crash c.loop-out.invariant.0
-    c.in-Err.ensures.finishes
-    (rw c.in_default.is at c.in_ok-n.ensures.end).1
+    rw c.from.ensures (finish_stops c.args.config c.requires.range c.in-Err.fault first c.loop-out.target c.finish.new.self store r0
+    (g.R.Read.remaining c.loop-out.r) (g.R.Read.remaining c.next.new.r) w0 (g.W.Write.contents c.loop-out.w) due c.loop-out.invariant.1.read
+    c.loop-out.invariant.1.crash c.loop-out.invariant.0 c.in-Err.ensures.finishes (rw c.in_default.is at c.in_ok-n.ensures.end).1)
 
 pub returns-in-Ok-clause-serves : goal.returns-in-Ok-clause-serves
 returns-in-Ok-clause-serves g c =
@@ -214,7 +213,7 @@ returns-in_err-n-clause-cut g c =
     rw (p.1, p.2) tt
 
 pub returns-clause-cut : goal.returns-clause-cut
-returns-clause-cut g c = end_cut c.in-Err.fault (g.R.Read.remaining c.next.new.r) (rw c.in_default.is at c.in_ok-n.ensures.end).0
+returns-clause-cut g c = rw c.from.ensures (end_cut c.in-Err.fault (g.R.Read.remaining c.next.new.r) (rw c.in_default.is at c.in_ok-n.ensures.end).0)
 
 pub returns-in_err-serve_piece-clause-cut : goal.returns-in_err-serve_piece-clause-cut
 returns-in_err-serve_piece-clause-cut g c =
