@@ -22,10 +22,14 @@ pub record AreOffered (preferences : Preferences) : Type 0 where
 abbrev pub AreLimits : Limits → Type 0
 AreLimits limits = IfSome limits.idle (λ s. 0 < s) × IfSome limits.login_within (λ s. 0 < s)
 
+-- A disk in memory takes what one group of blocks does at least, and what 2^40 blocks do at most, in
+-- bytes (own rule).
+abbrev pub IsMemory : ℕ → Type 0
+IsMemory memory = (32768 ≤ memory) × (memory ≤ 562949953421312)
+
 -- 1 to 64 sessions at a time (own rule), and a target's name (RFC 7143, section 4.2.7).
 pub record IsService (options : Options) : Type 0 where
   pub some_seats : 0 < options.at_once
   pub few_seats : options.at_once ≤ 64
   pub name : IsName options.name.now
-  pub limits : AreLimits options.limits
   pub preferences : AreOffered options.preferences

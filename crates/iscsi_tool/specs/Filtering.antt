@@ -11,7 +11,7 @@ use Rattle.iscsi_stream.specs.Normalising.{IsCanonical, WritesUntil}
 use Rattle.iscsi_stream.specs.Shown.{AreLines}
 use Rattle.iscsi_stream.specs.Texts.{CanonicalOf, NormalisesText, TextAtEnd, longest_text}
 use Rattle.iscsi_service.specs.Session.{target_settings, EndsWell}
-use Rattle.iscsi_server.specs.Service.{IsService}
+use Rattle.iscsi_server.specs.Service.{AreLimits, IsMemory, IsService}
 use Rattle.iscsi_tool.specs.declared.filter.Filter.{Filter}
 use Rattle.iscsi_tool.specs.declared.filter.Work.{Work}
 use Rattle.iscsi_tool.specs.declared.filter.Work.TheVariants.{Show, Normalise, Text, Answer}
@@ -101,10 +101,12 @@ abbrev pub HasDisk : Work → Type 0
 HasDisk (Answer blocks) = (0 < blocks) × (blocks ≤ most_blocks)
 HasDisk _ = Unit {0}
 
--- A service of several sessions at a time has from 1 to 64 of them, and a target's name.
+-- A service of several sessions at a time has from 1 to 64 of them, and a target's name. A limit of
+-- time is 1 second at least, and a disk in memory has room for some blocks.
 abbrev pub CanServe : Service → Type 0
 CanServe (service.InTurn port sessions) = Unit {0}
-CanServe (service.AtOnce options) = IsService options
+CanServe (service.AtOnce options) =
+    IsService options × AreLimits options.limits × IsMemory options.memory
 
 -- The disk of a job's target has 1 to 2^40 blocks, but for that of an image that is there, and a piece
 -- 1 to 4096 bytes.

@@ -3,7 +3,7 @@
 
 ghost use Rattle.std.specs.Prelude.{◌≡◌, ◌<◌, ◌≤◌, IfOk, IfSome};
 ghost use Rattle.iscsi_login.specs.Name.{IsName};
-ghost use Rattle.iscsi_server.specs.Service.{AreOffered, longest_asked};
+ghost use Rattle.iscsi_server.specs.Service.{AreOffered, IsMemory, longest_asked};
 ghost use Rattle.iscsi_tool.specs.Filtering.{IsJob};
 ghost use Rattle.iscsi_tool.specs.Storage.{IsStorage};
 
@@ -303,7 +303,9 @@ fn login_within_of(alloc: Global, asked: &ArgMatches<'_>) -> Result<Option<u16>,
 }
 
 // How many bytes of memory the blocks of a disk take, if memory is what it is kept in.
-fn memory_of(alloc: Global, asked: &ArgMatches<'_>) -> Result<u64, LineFault> {
+fn memory_of(alloc: Global, asked: &ArgMatches<'_>) -> Result<u64, LineFault>
+    ensures memory { IfOk result IsMemory }
+{
     let Some(digits) = asked.get_str("memory") else {
         return Ok(MEMORY);
     };
