@@ -14,6 +14,7 @@ use Rattle.iscsi_tool.specs.declared.filter.Filter.{Filter}
 use Rattle.iscsi_tool.specs.declared.filter.Work.TheVariants.{Normalise}
 use Rattle.iscsi_tool.specs.declared.running.Outcome.{Outcome}
 use Rattle.iscsi_tool.specs.declared.running.Outcome.TheVariants as outcome
+use Rattle.iscsi_tool.specs.declared.nbd_storage.NbdFault.{NbdFault}
 use Rattle.iscsi_tool.specs.declared.storage.ImageFault.{ImageFault}
 use Rattle.iscsi_tool.specs.declared.storage.Storage.{Storage}
 use Rattle.iscsi_tool.specs.declared.storage.Storage.TheVariants as storage
@@ -40,6 +41,7 @@ outcome_status (outcome.Words fault) = words_status fault
 outcome_status (outcome.Filter fault) = exit_status fault
 outcome_status (outcome.Session fault) = session_status fault
 outcome_status (outcome.Image image fault) = 4
+outcome_status (outcome.Nbd export fault) = 4
 outcome_status (outcome.Comparison comparison fault) = fault_status fault
 outcome_status (outcome.Capture job fault) = capture_status fault
 
@@ -84,13 +86,17 @@ abbrev pub EndsComparison : Comparison → Outcome → Type 0
 EndsComparison comparison ends =
     (said : Result Verdict ComparisonFault) × (ends ≡ of_comparison comparison said)
 
--- A service ended so: as its sessions did, or since this very image could not be served.
+-- A service ended so: as its sessions did, or since this very image or export could
+-- not be served.
 abbrev pub EndsService : Storage → Outcome → Type 0
 EndsService (storage.Memory blocks) ends =
     (said : Result (Unit {0}) ServeFault) × (ends ≡ of_session said)
 EndsService (storage.Image image) ends =
     ((said : Result (Unit {0}) ServeFault) × (ends ≡ of_session said))
     ⊎ ((fault : ImageFault) × (ends ≡ outcome.Image image fault))
+EndsService (storage.Nbd export) ends =
+    ((said : Result (Unit {0}) ServeFault) × (ends ≡ of_session said))
+    ⊎ ((fault : NbdFault) × (ends ≡ outcome.Nbd export fault))
 
 -- A job ended so, with this read from the standard input and this written to the standard output.
 -- A service touches neither by itself, and a job over a capture reads a file of the process.

@@ -42,7 +42,7 @@ pub(crate) const ANSWER: &str =
 pub(crate) const SERVE: &str =
     "Warning: there is no authentication. Anyone who can reach the port can read and write the disk.\n\
     \n\
-    A disk in memory needs a size, and so does --create. An existing image has its own size.\n\
+    A disk in memory needs a size, and so does --create. An existing image, or an export, has its own.\n\
     'listening' is printed once initiators can connect. The disk is unit 0 (LUN 0) of the target.\n\
     \n\
     Examples:\n  \
@@ -51,7 +51,9 @@ pub(crate) const SERVE: &str =
     ./lanthovur serve --file disk.img --create --size 1G\n      \
     Create the image disk.img of 1 GiB, and serve it\n  \
     ./lanthovur serve --file disk.img --at-once 8 --listen 0.0.0.0\n      \
-    Serve the image again, on all IPv4 addresses, to up to 8 sessions at a time";
+    Serve the image again, on all IPv4 addresses, to up to 8 sessions at a time\n  \
+    ./lanthovur serve --nbd 127.0.0.1:10809/disk\n      \
+    Serve the export 'disk' of an NBD server, such as qemu-nbd";
 
 pub(crate) const LOOP: &str =
     "Each line of the script is a command, such as 'write 0 8 5a' or 'read 0 1'. All commands stand in\n\

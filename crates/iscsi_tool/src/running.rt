@@ -12,6 +12,7 @@ ghost use Rattle.iscsi_tool.specs.Running.{EndsComparison, EndsService, Runs, Ru
 use crate::capture_words::{CaptureJob, run_capture};
 use crate::comparing::{ComparisonFault, compare_bytes, compare_hex};
 use crate::filter::{run_filter, status};
+use crate::nbd_storage::{NbdExport, NbdFault};
 use crate::storage::{Image, ImageFault, Storage};
 use crate::words::{Comparison, Job, LineFault, Service, read_words};
 use iscsi_captures::CapturesFault;
@@ -50,6 +51,8 @@ pub enum Outcome<'a> {
     Session(ServeFault),
     /// The image could not be served.
     Image(Image<'a>, ImageFault),
+    /// The export could not be served.
+    Nbd(NbdExport<'a>, NbdFault),
     /// A comparison stopped.
     Comparison(Comparison<'a>, ComparisonFault),
     /// A job over a capture stopped.
@@ -70,6 +73,7 @@ impl Outcome<'_> {
             Outcome::Filter(fault) => status(fault),
             Outcome::Session(fault) => fault.status(),
             Outcome::Image(_, fault) => fault.status(),
+            Outcome::Nbd(_, fault) => fault.status(),
             Outcome::Comparison(_, fault) => fault.status(),
             Outcome::Capture(_, fault) => fault.status(),
         }
@@ -87,6 +91,7 @@ impl Outcome<'_> {
                 let name = image.path;
                 writeln!(w, "{name}: {fault}")
             }
+            Outcome::Nbd(export, fault) => tell_nbd(*export, *fault, w),
             Outcome::Comparison(comparison, fault) => tell_comparison(*comparison, *fault, w),
             Outcome::Capture(job, fault) => tell_capture(*job, *fault, w),
         }
@@ -109,6 +114,15 @@ fn tell_words<E: Write>(fault: &LineFault, w: &mut E) -> io::Result<()> {
         LineFault::Usage(text) => write!(w, "{text}"),
         LineFault::NoMemory => writeln!(w, "memory"),
     }
+}
+
+// Writes the line of an export that is not served, if it was not written before.
+fn tell_nbd<E: Write>(export: NbdExport<'_>, fault: NbdFault, w: &mut E) -> io::Result<()> {
+    if fault.is_told() {
+        return Ok(());
+    }
+    let word = export.word;
+    writeln!(w, "{word}: {fault}")
 }
 
 // Writes the line of a comparison that stopped.
@@ -322,6 +336,10 @@ fn serve_storage<'a>(rt: &HostRuntime, storage: Storage<'a>, service: Service<'_
         Storage::Image(image) => match image.open(rt) {
             Ok(mut store) => ended(serve_store(rt, service, &mut store)),
             Err(fault) => Outcome::Image(image, fault),
+        },
+        Storage::Nbd(export) => match export.open(rt) {
+            Ok(mut store) => ended(serve_store(rt, service, &mut store)),
+            Err(fault) => Outcome::Nbd(export, fault),
         },
     }
 }
