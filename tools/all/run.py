@@ -7,8 +7,8 @@ Each script has a line with how it ended, its seconds, and its own last line; wh
 line is 'N passed, M failed'. The scripts want the built program: `./lanthovur </dev/null` makes it. A script that takes
 longer than its limit fails; it and the processes that it started are ended.
 
-If this machine lacks a program (QEMU, libiscsi, tgt, tshark), most scripts fail with their own words. Three leave out what
-they can't do and go on: door, many_sessions and lasting. Their parts that were left out are counted, and the last line is
+If this machine lacks a program (QEMU, libiscsi, tgt, tshark), most scripts fail with their own words. Four leave out what
+they can't do and go on: door, many_sessions, lasting and nbd. Their parts that were left out are counted, and the last line is
 then 'N passed, M failed, S parts skipped': those parts were not seen.
 """
 import argparse
@@ -31,6 +31,7 @@ SCRIPTS = [
     ("floods", ["tools/strangers/floods.py"], "a minute", 20),
     ("many_sessions", ["tools/many_sessions/run.py"], "minutes", 30),
     ("lasting", ["tools/lasting/run.py"], "minutes", 60),
+    ("nbd", ["tools/nbd/run.py"], "minutes", 60),
     ("refused_memory", ["tools/refused_memory/run.py"], "15 minutes", 90),
     ("store", ["tools/speed/store.py"], "minutes", 60),
     ("speed", ["tools/speed/run.py"], "half an hour", 120),
