@@ -298,6 +298,17 @@ def sweep(name, words, data, stops=None, run=run):
     return failed
 
 
+def answer_to(peer, data):
+    """What comes at first behind some data, or nothing over a connection that is gone."""
+    try:
+        peer.sendall(data)
+        return peer.recv(4096)
+    except TimeoutError:
+        raise
+    except OSError:
+        return b""
+
+
 def rest_of(peer):
     """What still comes over a connection whose peer is told that no more is sent."""
     came = b""
@@ -340,8 +351,7 @@ def run_company(first, second, fail_at=0):
         if service.stdout.readline() == b"listening\n":
             try:
                 with socket.create_connection(("127.0.0.1", port), timeout=SECONDS) as one:
-                    one.sendall(first[:cut])
-                    came[0] = one.recv(4096)
+                    came[0] = answer_to(one, first[:cut])
                     with socket.create_connection(("127.0.0.1", port), timeout=SECONDS) as other:
                         other.sendall(second)
                         came[1] = rest_of(other)
