@@ -11,7 +11,7 @@ With --unproved the program is the one that `./lanthovur --unproved </dev/null` 
 speed, and those that prove something, are left out then.
 
 If this machine lacks a program (QEMU, libiscsi, tgt, tshark), most scripts fail with their own words. Three leave out what
-they can't do and go on: door, many_sessions and lasting. Their parts that were left out are counted, and the last line is
+they can't do and go on: door, many_sessions and lasting. And pages leaves out the blocks that no script can run. Their parts that were left out are counted, and the last line is
 then 'N passed, M failed, S parts skipped': those parts were not seen.
 """
 import argparse
@@ -55,7 +55,8 @@ SCRIPTS = [
     Script("process", "process/run.py", "seconds", 5, unproved=UNPROVED),
     Script("strangers", "strangers/run.py", "three minutes", 20, unproved=UNPROVED),
     Script("door", "door/run.py", "a minute", 20, unproved=[]),
-    Script("captures", "captures/run.py", "a minute", 20, unproved=[]),
+    Script("pages", "pages/run.py", "two minutes", 30, unproved=[]),
+    Script("captures", "captures/run.py", "a minute", 40, unproved=[]),
     Script("memory, reads", "memory/reads.py", "minutes", 30, MEASURED),
     Script("memory, writes", "memory/writes.py", "minutes", 30, MEASURED),
     Script("floods", "strangers/floods.py", "a minute", 20),
