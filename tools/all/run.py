@@ -119,6 +119,8 @@ def main():
     parser.add_argument("--from", dest="first", choices=names, default=names[0], help="the first script to run")
     parser.add_argument("--without", action="append", choices=names, default=[], help="a script to leave out")
     words = parser.parse_args()
+    # A shell that starts this in the background has it ignore interrupts, and so would the scripts.
+    signal.signal(signal.SIGINT, signal.default_int_handler)
     chosen = [script for script in SCRIPTS[names.index(words.first):] if script.name not in words.without]
     program, how = (UNPROVED[0], "--unproved ") if words.unproved else (PROVED, "")
     if not os.path.isfile(f"{TOP}/{program}"):
