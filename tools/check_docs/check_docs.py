@@ -23,6 +23,7 @@ a line. The last line is 'N looked at, M not so'; the status is 1 where M is not
 import re
 import subprocess
 import sys
+from fnmatch import fnmatch
 from pathlib import Path
 
 TOP = Path(__file__).resolve().parents[2]
@@ -320,7 +321,8 @@ def check_repeated():
 SENTENCE, CELL = 30, 25
 # Pages that keep to both.
 PLAIN = [
-    "README.md", "CONTRIBUTING.md", "docs/RECIPES.md", "docs/STYLE.md", "docs/TESTS.md", "docs/TRUST.md", "docs/session/README.md",
+    "README.md", "CONTRIBUTING.md", "docs/RECIPES.md", "docs/SPEED.md", "docs/STYLE.md", "docs/TESTS.md", "docs/TRUST.md",
+    "docs/session/README.md", "crates/*/README.md",
 ]
 
 
@@ -369,7 +371,7 @@ def check_lengths(pages, is_told):
             print(f"{name}: {counts['sentence']} long sentences, {counts['cell']} long cells")
             for number, kind, text in found:
                 print(f"    {number}: a {kind} of {words_in(text)} words: {text[:90]}")
-        if name in PLAIN:
+        if any(fnmatch(name, plain) for plain in PLAIN):
             look(not found, name, f"{counts['sentence']} sentences over {SENTENCE} words, {counts['cell']} cells over {CELL}")
     print(f"{total['sentence']} sentences over {SENTENCE} words, {total['cell']} cells over {CELL}, in {len(pages)} pages")
 
