@@ -319,7 +319,9 @@ def check_repeated():
 
 # The most words of a sentence, and of a cell of a table.
 SENTENCE, CELL = 30, 25
-# Pages that keep to both.
+# A participle and its verb, before the subject.
+OPENING = re.compile(r"(Proved|Seen|Tried|Wanted|Trusted|Measured|Kept|Taken|Given|Held|Asked|Written|Chosen) (is|are|was|were)\b")
+# Pages that keep to all of that.
 PLAIN = [
     "README.md", "CONTRIBUTING.md", "docs/RECIPES.md", "docs/SPEED.md", "docs/STYLE.md", "docs/TESTS.md", "docs/TRUST.md",
     "docs/session/README.md", "crates/*/README.md",
@@ -348,11 +350,11 @@ def paragraphs_of(text):
 
 
 def long_parts(page):
-    """The line, the kind and the words of each sentence and cell of a page that is too long."""
+    """The line, the kind and the words of each sentence and cell of a page that is too long, or begins as none should."""
     text = page.read_text(encoding="utf8")
     for number, paragraph in paragraphs_of(text):
         for sentence in re.split(r"(?<=[.!?])[)*]*\s+(?=[^a-z])", paragraph):
-            if words_in(sentence) > SENTENCE:
+            if words_in(sentence) > SENTENCE or OPENING.match(sentence):
                 yield number, "sentence", sentence
     for number, line in enumerate(without_code(text).split("\n"), 1):
         for cell in cells_of(line.lstrip()) if is_row(line.lstrip()) else []:
@@ -372,7 +374,7 @@ def check_lengths(pages, is_told):
             for number, kind, text in found:
                 print(f"    {number}: a {kind} of {words_in(text)} words: {text[:90]}")
         if any(fnmatch(name, plain) for plain in PLAIN):
-            look(not found, name, f"{counts['sentence']} sentences over {SENTENCE} words, {counts['cell']} cells over {CELL}")
+            look(not found, name, f"{counts['sentence']} sentences over {SENTENCE} words, {counts['cell']} cells over {CELL}: see --lengths")
     print(f"{total['sentence']} sentences over {SENTENCE} words, {total['cell']} cells over {CELL}, in {len(pages)} pages")
 
 
