@@ -7,9 +7,10 @@ PROGRAM is crates/lanthovur/out/lanthovur if none is named; `./lanthovur </dev/n
 honest peer has one read of a block outstanding, of blocks that it wrote before, each with its number in it, and looks at each
 byte of its answer. For each kind of flood a row tells how many reads it had, its median and its slowest read in ms, the bound
 that is wanted, memory and descriptors of the service at the start and at the end, and the most memory. A kind fails if its median
-is over the bound, if an answer is not as it should be, if a peer is cut, or if there are other descriptors at the end. The last
-line is 'N passed, M failed'. It takes S seconds (4) a kind, or an hour, and some seconds more. A flood that has sent all its
-commands logs in anew. --kind takes the kinds whose name begins so.
+is over the bound, if an answer is not as it should be, if a peer is cut, or if there are other descriptors at the end. A flood
+that has sent all its commands logs in anew. Last come 32 equal peers, each with one read outstanding: the line tells the least and
+the most commands of one, and fails if the most are twice the least. --kind takes the kinds whose name begins so. The last line is
+'N passed, M failed'. It takes S seconds (4) a kind, or an hour, and some seconds more.
 """
 import argparse
 import functools
@@ -301,21 +302,27 @@ def main():
     parser.add_argument("--kind", action="append", help="the kinds whose name begins so; all if left out")
     parser.add_argument("program", nargs="?", default=f"{TOP}/crates/lanthovur/out/lanthovur")
     asked = parser.parse_args()
-    chosen = [row for row in KINDS if not asked.kind or any(row[0].startswith(begin) for begin in asked.kind)]
-    if not chosen:
-        sys.exit("there is no such kind; there are: " + "; ".join(row[0] for row in KINDS))
-    failed = 0
+    def is_chosen(name):
+        return not asked.kind or any(name.startswith(begin) for begin in asked.kind)
+
+    chosen = [row for row in KINDS if is_chosen(row[0])]
+    if not chosen and not is_chosen(EQUAL):
+        sys.exit("there is no such kind; there are: " + "; ".join([*(row[0] for row in KINDS), EQUAL]))
+    program, failed = os.path.abspath(asked.program), 0
     print("| Flood | Reads | Median, ms | Slowest, ms | Bound, ms | KiB at the start, the end, the most | Descriptors at the start, the end |")
     print("|---|---|---|---|---|---|---|", flush=True)
     for name, *kind in chosen:
         try:
-            wrong = faults(os.path.abspath(asked.program), asked.seconds, name, *kind)
+            wrong = faults(program, asked.seconds, name, *kind)
         except OSError as error:
             wrong = [str(error)]
         failed += bool(wrong)
         for fault in wrong:
             print(f"FAILED {name}: {fault}", flush=True)
-    print(f"{len(chosen) - failed} passed, {failed} failed")
+    count = len(chosen)
+    if is_chosen(EQUAL):
+        failed, count = failed + (not are_fair(program, asked.seconds)), count + 1
+    print(f"{count - failed} passed, {failed} failed")
     sys.exit(1 if failed else 0)
 
 
@@ -341,9 +348,48 @@ def faults(program, seconds, name, kind, bound, single, is_file, peers):
     return wrong + (["there are other descriptors at the end"] if start[2] != end[2] else [])
 
 
+EQUAL = "32 equal peers"
+
+
+def answered(port, share, seconds, counts):
+    """Some peers that have one read outstanding each, until their time is over. How many were answered is put into a queue."""
+    watched = selectors.DefaultSelector()
+    for k in range(share):
+        peer = BASE.login(port, f"iqn.2026-01.example:{os.getpid()}-{k}", KEYS)
+        watched.register(peer, selectors.EVENT_READ, [1])
+        peer.sendall(read(1, 1))
+    end = time.monotonic() + seconds
+    while time.monotonic() < end:
+        for key, _ in watched.select(0.1):
+            if receive_pdu(key.fileobj)[0] != 0x25 or receive_pdu(key.fileobj)[0] != 0x21:
+                raise OSError("a peer has other answers")
+            key.data[0] += 1
+            key.fileobj.sendall(read(key.data[0], 1))
+    counts.put([key.data[0] - 1 for key in watched.get_map().values()])
+
+
+def are_fair(program, seconds):
+    """Has 32 equal peers, in four processes, tells the least and the most commands of one, and says whether they are near."""
+    with BASE.Service(program, "--blocks", "65536") as service:
+        for peer in service.peers:
+            peer.close()
+        counts = multiprocessing.Queue()
+        shares = [multiprocessing.Process(target=answered, args=(service.port, 8, seconds, counts)) for _ in range(4)]
+        for each in shares:
+            each.start()
+        for each in shares:
+            each.join()
+        if any(each.exitcode for each in shares):
+            print(f"FAILED {EQUAL}: one was cut")
+            return False
+        found = [count for _ in shares for count in counts.get()]
+    print(f"{EQUAL}: {min(found)} to {max(found)} commands each")
+    return max(found) < 2 * min(found)
+
+
 def settled(pid, descriptors):
-    """A look at the service once it has so many descriptors again, or after half a minute."""
-    for _ in range(60):
+    """A look at the service once it has so many descriptors again, or after two minutes."""
+    for _ in range(240):
         time.sleep(0.5)
         found = look(pid)
         if found[2] == descriptors:
