@@ -1,9 +1,9 @@
 #!/usr/bin/env python3
-"""Runs the commands of README and RECIPES, and compares what they print with what the pages say.
+"""Runs the commands of the pages, and compares what they print with what the pages say.
 
     tools/pages/run.py [--proved] [PAGE]..
 
-PAGE is README.md or docs/RECIPES.md; both if none is named. Each section of a page is run in a folder of its own, by one shell.
+PAGE is such as README.md or docs/RECIPES.md; each one that has commands if none is named. Each section of a page is run in a folder of its own, by one shell.
 A line `$ command` of a block marked `console` has to print the lines behind it, and nothing else; each command of a block
 marked `sh` has to end well. Files that a section takes as given are made first. `./lanthovur` is run with `--unproved`, whose
 one line on standard error is left out; with --proved it is run as the page says. Blocks that this machine cannot run have a
@@ -21,15 +21,21 @@ import tempfile
 from dataclasses import dataclass
 
 TOP = os.path.dirname(os.path.dirname(os.path.dirname(os.path.abspath(__file__))))
-PAGES = ["README.md", "docs/RECIPES.md"]
+PAGES = [
+    "README.md", "docs/RECIPES.md", "crates/lanthovur/README.md", "crates/capture_vectors/README.md", "crates/format_tables/README.md",
+    "docs/session/README.md",
+]
 # A section that takes longer hangs.
 SECONDS = 900
-SAYS_UNPROVED = "lanthovur: nothing is proved of this run"
+# Lines that no page has: of the launcher, of `rt try`, and of the shell.
+OTHERS = re.compile(r"lanthovur: nothing is proved of this run|(interpreter|checked): .*|run=ended .*|\[[0-9]+\].*")
 # What stands before the output of the command with this number, and its status behind it.
 MARK = "\x01"
-# Why a block is not run: the page, the section and the first line of the block.
+# Why a section is not run, or a page.
 SKIPPED = {
     ("docs/RECIPES.md", "A service that a supervisor starts"): "it is the script of a supervisor",
+    ("crates/format_tables/README.md", ""): "it changes the tree",
+    "docs/session/README.md": "it captures a session of tgt, which wants root, and makes other numbers each time",
 }
 # The files that a section takes as given, each with its size in MiB, or with the file of the tree that it is a copy of.
 GIVEN = {
@@ -46,6 +52,7 @@ GIVEN = {
 }
 # Commands that a section needs first, as the page says in words.
 BEFORE = {
+    ("crates/capture_vectors/README.md", ""): "cd crates/capture_vectors",
     ("docs/RECIPES.md", "Hosts with multipath"): "./lanthovur serve --size 1M --sessions 9 & sleep 2; "
     "disk=iscsi://127.0.0.1:3260/iqn.2026-01.example:disk/0",
 }
@@ -135,7 +142,7 @@ def fault_of(command, seen):
     if seen is None:
         return "it was not reached"
     printed, status = seen
-    lines = [line for line in printed.splitlines() if line != SAYS_UNPROVED and not line.startswith("[")]
+    lines = [line for line in printed.splitlines() if not OTHERS.fullmatch(line)]
     if command.due is None:
         return f"status {status}: {lines[-3:]}" if status else None
     return None if lines == command.due else f"it printed {lines}"
@@ -143,8 +150,8 @@ def fault_of(command, seen):
 
 def run_section(page, section, commands, program):
     """Runs a section, and returns how many commands were well, not well, and not run."""
-    if (page, section) in SKIPPED:
-        print(f"skipped {page}, {section}: {SKIPPED[page, section]}", flush=True)
+    if reason := SKIPPED.get((page, section), SKIPPED.get(page)):
+        print(f"skipped {page}, {section or 'its commands'}: {reason}", flush=True)
         return 0, 0, len(commands)
     with tempfile.TemporaryDirectory(prefix="pages-") as folder:
         make_given(folder, GIVEN.get((page, section), {}))
@@ -154,14 +161,14 @@ def run_section(page, section, commands, program):
         if fault := fault_of(command, seen.get(number)):
             failed += 1
             print(f"FAILED {page}, {section}: {command.text}\n    {fault}", flush=True)
-    print(f"{page}, {section}: {len(commands) - failed} of {len(commands)} commands as the page says", flush=True)
+    print(f"{page}, {section or 'its commands'}: {len(commands) - failed} of {len(commands)} commands as the page says", flush=True)
     return len(commands) - failed, failed, 0
 
 
 def main():
     parser = argparse.ArgumentParser(description=__doc__, formatter_class=argparse.RawDescriptionHelpFormatter)
     parser.add_argument("--proved", action="store_true", help="run the proved program")
-    parser.add_argument("page", nargs="*", help="README.md or docs/RECIPES.md")
+    parser.add_argument("page", nargs="*", help="such as README.md")
     asked = parser.parse_args()
     program = "./lanthovur" if asked.proved else "./lanthovur --unproved"
     passed = failed = skipped = 0
