@@ -324,7 +324,7 @@ OPENING = re.compile(r"(Proved|Seen|Tried|Wanted|Trusted|Measured|Kept|Taken|Giv
 # Pages that keep to all of that.
 PLAIN = [
     "README.md", "CONTRIBUTING.md", "docs/RECIPES.md", "docs/SPEED.md", "docs/STYLE.md", "docs/TESTS.md", "docs/TRUST.md",
-    "docs/session/README.md", "crates/*/README.md",
+    "docs/GATE.md", "docs/session/README.md", "crates/*/README.md",
 ]
 
 
