@@ -26,6 +26,7 @@ SCRIPTS = [
     ("strangers", ["tools/strangers/run.py"], "three minutes", 20),
     ("door", ["tools/door/run.py"], "a minute", 20),
     ("captures", ["tools/captures/run.py"], "a minute", 20),
+    ("fields", ["tools/fields/run.py"], "a minute", 10),
     ("memory, reads", ["tools/memory/reads.py"], "minutes", 30),
     ("memory, writes", ["tools/memory/writes.py"], "minutes", 30),
     ("floods", ["tools/strangers/floods.py"], "a minute", 20),
