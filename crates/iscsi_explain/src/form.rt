@@ -4,8 +4,8 @@ ghost use Rattle.std.specs.Prelude.{◌≡◌, ◌++◌, ◌∷◌, [], IfOk, On
 ghost use Rattle.iscsi_pdu.specs.Meaning.{Fits};
 ghost use Rattle.iscsi_explain.specs.Forms.{IsEntry, IsObject, IsText, printable};
 
-use crate::json::object_of;
 use crate::notes::notes_of;
+use crate::objects::object_of;
 use crate::stamp::Stamp;
 use crate::writing::{printed, write_notes};
 use iscsi_pdu::Pdu;

@@ -4,8 +4,8 @@
 mod commands;
 mod form;
 mod iscsi_words;
-mod json;
 mod notes;
+mod objects;
 mod requests;
 mod sense;
 mod stamp;
