@@ -149,13 +149,55 @@ const JOBS: &[(&str, &str)] = &[
         "Capture(CaptureJob { file: \"a\", work: Show(Wanted { connection: 3, end: Target }) })",
     ),
     (
+        "show --capture a",
+        "Capture(CaptureJob { file: \"a\", work: ShowAll { form: Line, only: None } })",
+    ),
+    (
+        "show --capture - --connection 7 --explain",
+        "Capture(CaptureJob { file: \"-\", work: ShowAll { form: Explained, only: Some(7) } })",
+    ),
+    (
+        "show --capture a --connection 3 --from target --json",
+        "Capture(CaptureJob { file: \"a\", work: Tell(Wanted { connection: 3, end: Target }, Json) })",
+    ),
+    (
+        "show --explain --json",
+        "Tell(Telling { form: ExplainedJson, hex: false })",
+    ),
+    (
+        "show --hex --json",
+        "Tell(Telling { form: Json, hex: true })",
+    ),
+    (
+        "answer --capture a --connection 2 --blocks 9",
+        "Capture(CaptureJob { file: \"a\", work: Answer { connection: 2, blocks: 9 } })",
+    ),
+    (
+        "compare --capture a b --connection 1 --from initiator",
+        "CompareCaptures(CaptureComparison { first: \"a\", second: Some(\"b\"), sameness: Meaning, \
+         wanted: Wanted { connection: 1, end: Initiator }, other: Wanted { connection: 1, end: Initiator } })",
+    ),
+    (
+        "compare --same-job --capture a --connection 1,2 --from target",
+        "CompareCaptures(CaptureComparison { first: \"a\", second: None, sameness: Job, \
+         wanted: Wanted { connection: 1, end: Target }, other: Wanted { connection: 2, end: Target } })",
+    ),
+    (
         "normalise --from=initiator --connection=00 --capture=-",
         "Capture(CaptureJob { file: \"-\", work: Normalise(Wanted { connection: 0, end: Initiator }) })",
     ),
 ];
 
-const SHOW: &str = "error: a capture is read with '--capture <FILE> --connection <K> --from \
-    initiator|target', and without '--hex' or '--text'\n\nUsage: lanthovur show";
+const SHOW: &str =
+    "error: a capture is shown with '--capture <FILE>', '--capture <FILE> --connection \
+    <K>' or '--capture <FILE> --connection <K> --from initiator|target', and without '--hex'\n\n\
+    Usage: lanthovur show";
+
+const COMPARE: &str = "error: captures are compared with '--capture <A> [B] --connection <K>[,<L>] \
+    --from initiator|target', and without '--hex'\n\nUsage: lanthovur compare";
+
+const ANSWER: &str = "error: a capture is answered with '--capture <FILE> --connection <K>', and \
+    without '--hex'\n\nUsage: lanthovur answer";
 
 const NORMALISE: &str = "error: a capture is read with '--capture <FILE> --connection <K> --from \
     initiator|target', and without '--hex' or '--text'\n\nUsage: lanthovur normalise";
@@ -379,9 +421,34 @@ const REFUSED: &[(&str, &str)] = &[
         "error: the following required arguments were not provided:\n  <A>\n",
     ),
     ("compare a b c", "error: unexpected argument 'c' found\n"),
-    ("show --capture a", SHOW),
-    ("show --capture a --connection 0", SHOW),
+    ("show --capture a --from target", SHOW),
+    ("show --capture a --connection 0x", SHOW),
+    ("show --connection 0", SHOW),
+    ("show --capture a --json --hex", SHOW),
     ("show --connection 0 --from target", SHOW),
+    ("compare --capture a b", COMPARE),
+    ("compare --capture a b --connection 0", COMPARE),
+    ("compare --connection 0 --from target a b", COMPARE),
+    (
+        "compare --capture a b --connection 0,1,2 --from target",
+        COMPARE,
+    ),
+    (
+        "compare --capture a b --connection 0, --from target",
+        COMPARE,
+    ),
+    (
+        "compare --capture --hex a b --connection 0 --from target",
+        COMPARE,
+    ),
+    ("answer --size 1M --capture a", ANSWER),
+    ("answer --size 1M --connection 0", ANSWER),
+    ("answer --size 1M --hex --capture a --connection 0", ANSWER),
+    ("answer --capture a --connection 0", NO_SIZE),
+    (
+        "normalise --explain",
+        "error: unexpected argument '--explain' found\n",
+    ),
     ("show --capture a --connection +1 --from target", SHOW),
     ("show --capture a --connection 0 --from both", SHOW),
     ("show --hex --capture a --connection 0 --from target", SHOW),
@@ -394,10 +461,6 @@ const REFUSED: &[(&str, &str)] = &[
         "error: the following required arguments were not provided:\n  <FILE>\n",
     ),
     ("connections a b", "error: unexpected argument 'b' found\n"),
-    (
-        "answer --blocks 1 --capture a",
-        "error: unexpected argument '--capture' found\n",
-    ),
     ("--text", "error: unexpected argument '--text' found\n"),
     (
         "normalise --blocks 8",
