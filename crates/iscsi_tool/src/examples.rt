@@ -11,11 +11,13 @@ pub(crate) const PROGRAM: &str =
     ./lanthovur show --hex < docs/session/initiator.hex\n      \
     Print the PDUs of a captured session";
 
-pub(crate) const SHOW: &str = "The stream comes from standard input.\n\
+pub(crate) const SHOW: &str = "The stream comes from standard input, unless a capture is named.\n\
     \n\
     Examples:\n  \
     ./lanthovur show --hex < docs/session/initiator.hex\n  \
-    ./lanthovur show < stream.bin";
+    ./lanthovur show < stream.bin\n  \
+    ./lanthovur show --capture session.pcap --explain\n      \
+    Print both directions of all iSCSI connections of a capture, with notes";
 
 pub(crate) const NORMALISE: &str =
     "The stream comes from standard input. Two streams mean the same exactly if their canonical\n\
@@ -30,10 +32,12 @@ pub(crate) const COMPARE: &str =
     \n\
     Examples:\n  \
     ./lanthovur compare before.bin after.bin\n  \
-    ./lanthovur compare --hex --same-job docs/session/initiator.hex docs/session/second/initiator.hex";
+    ./lanthovur compare --hex --same-job docs/session/initiator.hex docs/session/second/initiator.hex\n  \
+    ./lanthovur compare --same-job --capture a.pcap b.pcap --connection 0 --from target";
 
 pub(crate) const ANSWER: &str =
-    "The stream comes from standard input. The disk is in memory, and is zeros at first.\n\
+    "The stream comes from standard input, unless a capture is named. The disk is in memory,\n\
+    and is zeros at first.\n\
     \n\
     Examples:\n  \
     ./lanthovur answer --size 1M < initiator.bin > target.bin\n  \
